@@ -1,0 +1,31 @@
+//! What follows from the definitions. The functions do nothing: the contract of each is a law.
+
+ghost use Rattle.base.specs.Laws.{SoundStands, RefusedKeeps, FailedStays, OneReply, HasReply, HistoryGrows, AcknowledgedStays, DrawnOnce};
+
+/// Every sound image stands for some history.
+pub fn sound_images_stand()
+    ensures { SoundStands }
+{}
+
+/// A refused step changes nothing, but that a failing device is remembered: then each step is refused.
+pub fn refused_steps_change_nothing()
+    ensures keeps { RefusedKeeps }
+    ensures failed { FailedStays }
+{}
+
+/// What a step may answer is decided, but for want of memory and a failing device.
+pub fn steps_are_decided()
+    ensures one { OneReply }
+    ensures some { HasReply }
+{}
+
+/// The history only grows, and what was acknowledged stays in it.
+pub fn history_grows()
+    ensures grows { HistoryGrows }
+    ensures acknowledged { AcknowledgedStays }
+{}
+
+/// A run draws no timestamp that was drawn before.
+pub fn timestamps_are_drawn_once()
+    ensures { DrawnOnce }
+{}
