@@ -1,10 +1,17 @@
 //! What follows from the definitions. The functions do nothing: the contract of each is a law.
 
-ghost use Rattle.base.specs.Laws.{SoundStands, RefusedKeeps, FailedStays, OneReply, HasReply, HistoryGrows, AcknowledgedStays, DrawnOnce};
+ghost use Rattle.base.specs.Laws.{SoundStands, OneRecord, OneSpelling, FoundRecord, RefusedKeeps, FailedStays, OneReply, HasReply, HistoryGrows, AcknowledgedStays, DrawnOnce};
 
 /// Every sound image stands for some history.
 pub fn sound_images_stand()
     ensures { SoundStands }
+{}
+
+/// A record has one spelling: words hold at most one record, it is written in one way, and it can be found.
+pub fn records_have_one_spelling()
+    ensures one_record { OneRecord }
+    ensures one_spelling { OneSpelling }
+    ensures found { FoundRecord }
 {}
 
 /// A refused step changes nothing, but that a failing device is remembered: then each step is refused.
