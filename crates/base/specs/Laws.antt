@@ -1,5 +1,5 @@
 -- What follows from the definitions. Each law stands here in words that need no proof, and a public function promises it.
-use Rattle.std.specs.Prelude.{ℕ, ◌≡◌, ◌⊎◌, ◌≤◌, ◌<◌, ◌+◌, false, true, List, [], ◌∷◌, ◌++◌, flat_map, IsTrue, Contains, Some}
+use Rattle.std.specs.Prelude.{ℕ, ◌≡◌, ◌⊎◌, ◌≤◌, ◌<◌, ◌+◌, false, true, List, [], ◌∷◌, ◌++◌, flat_map, IsTrue, All, Some, None}
 use Rattle.base.specs.declared.fault.Fault.{Fault}
 use Rattle.base.specs.declared.fault.Fault.TheVariants.{Device, OutOfMemory, Failed}
 use Rattle.base.specs.declared.step.Step.{Step}
@@ -12,6 +12,7 @@ use Rattle.base.specs.Images.{Image, IsSound, ruling}
 use Rattle.base.specs.Stands.{Stands, has_timestamp}
 use Rattle.base.specs.Machine.{State, Stepped, Run, final, refusal}
 use Rattle.base.specs.Replay.{reply_of, state_of}
+use Rattle.base.specs.Lives.{World, IsWorld, Asked, Report, Lives, EndsAs}
 
 -- Images and records
 
@@ -81,3 +82,39 @@ RiseBetween from (t ∷ ts) to = (from ≤ t) × RiseBetween (t + 1) ts to
 abbrev pub DrawnOnce : Type 0
 DrawnOnce = (q : State) (steps : List Step) (replies : List Reply) (states : List State) → Run q steps replies states
     → RiseBetween q.next (drawn_in replies) (final q states).next
+
+-- Lives
+
+-- whatever lives come, what a stop leaves stands for the history that it tells of
+abbrev pub WorldsStand : Type 0
+WorldsStand = (before : World) (asked : List Asked) (reports : List Report) (after : World) → IsWorld before → Lives before asked reports after → IsWorld after
+
+-- the history and the lost timestamps only grow
+pub record LivesGrow (before after : World) : Type 0 where
+  pub history : (more : List Commit) × (after.history ≡ before.history ++ more)
+  pub lost : (more : List ℕ) × (after.lost ≡ before.lost ++ more)
+
+abbrev pub WorldsGrow : Type 0
+WorldsGrow = (before : World) (asked : List Asked) (reports : List Report) (after : World) → IsWorld before → Lives before asked reports after → LivesGrow before after
+
+-- lost timestamps lie below those drawn from now on, and the history has none of them
+pub record StayOut (w : World) : Type 0 where
+  pub below : All (λ t. t < w.next) w.lost
+  pub out : All (λ t. has_timestamp w.history t ≡ false) w.lost
+
+-- what was left out once never returns
+abbrev pub NeverReturns : Type 0
+NeverReturns = (before : World) (asked : List Asked) (reports : List Report) (after : World) → IsWorld before → StayOut before → Lives before asked reports after → StayOut after
+
+-- the timestamps that all lives draw, one after another
+abbrev pub drawn_over : List Report → List ℕ
+drawn_over reports = flat_map (λ report. drawn_in report.replies) reports
+
+-- no timestamp is drawn twice, also over lives
+abbrev pub DrawnOnceOverLives : Type 0
+DrawnOnceOverLives = (before : World) (asked : List Asked) (reports : List Report) (after : World) → IsWorld before → Lives before asked reports after
+    → RiseBetween before.next (drawn_over reports) after.next
+
+-- a close that was asked is told of, unless the device had failed
+abbrev pub CloseTold : Type 0
+CloseTold = (q : State) (lost : List ℕ) (after : World) → q.failed ≡ false → EndsAs q true None lost after → ⊥

@@ -1,6 +1,6 @@
 //! What follows from the definitions. The functions do nothing: the contract of each is a law.
 
-ghost use Rattle.base.specs.Laws.{SoundStands, OneRecord, OneSpelling, FoundRecord, RefusedKeeps, FailedStays, OneReply, HasReply, HistoryGrows, AcknowledgedStays, DrawnOnce};
+ghost use Rattle.base.specs.Laws.{SoundStands, OneRecord, OneSpelling, FoundRecord, RefusedKeeps, FailedStays, OneReply, HasReply, HistoryGrows, AcknowledgedStays, DrawnOnce, WorldsStand, WorldsGrow, NeverReturns, DrawnOnceOverLives, CloseTold};
 
 /// Every sound image stands for some history.
 pub fn sound_images_stand()
@@ -32,7 +32,20 @@ pub fn history_grows()
     ensures acknowledged { AcknowledgedStays }
 {}
 
-/// A run draws no timestamp that was drawn before.
+/// No timestamp is drawn twice, in a run or over lives.
 pub fn timestamps_are_drawn_once()
-    ensures { DrawnOnce }
+    ensures run { DrawnOnce }
+    ensures lives { DrawnOnceOverLives }
+{}
+
+/// Whatever lives come, and wherever each is stopped, the image left stands for a history that only grows.
+pub fn lives_keep_the_history()
+    ensures stand { WorldsStand }
+    ensures grow { WorldsGrow }
+    ensures told { CloseTold }
+{}
+
+/// A commit that some stop left out never returns.
+pub fn lost_commits_never_return()
+    ensures { NeverReturns }
 {}
