@@ -7,8 +7,8 @@ use Rattle.base.specs.declared.step.Step.{Step}
 use Rattle.base.specs.declared.step.Step.TheVariants.{Begin, Get, Put, Draw, Stamp, Poll, End, Commit as CommitTick}
 use Rattle.base.specs.declared.step.Reply.{Reply}
 use Rattle.base.specs.declared.step.Reply.TheVariants.{Refused}
-use Rattle.base.specs.Machine.{State, refusal, next_state, Answers, Stepped, refused, answered, memory_refused, device_failed, Run}
-use Rattle.base.specs.Replay.{answer, reply_on, state_on, reply_of, state_of, replies, states}
+use Rattle.base.specs.Machine.{State, refusal, next_state, Answers, Stepped, refused, answered, memory_refused, device_failed, Run, final}
+use Rattle.base.specs.Replay.{answer, reply_on, state_on, reply_of, state_of, replies, states, end}
 
 accepted : (q : State) (step : Step) → refusal q step ≡ None → Stepped q step (answer q step) (next_state q step)
 accepted q Begin e = answered e refl refl
@@ -56,3 +56,7 @@ decided q step reply q' (refused fault e r s) = inl (r ∙ reply-when q step (So
 decided q step reply q' (answered e a s) = inl (answers-answer q step reply a ∙ reply-when q step None e, s ∙ state-when q step None e)
 decided q step reply q' (memory_refused e m r s) = inr (inl r)
 decided q step reply q' (device_failed e m r s) = inr (inr r)
+
+pub ends : (q : State) (steps : List Step) → final q (states q steps) ≡ end q steps
+ends q [] = refl
+ends q (step ∷ steps) = ends (state_of q step) steps

@@ -1,5 +1,6 @@
 -- What follows from the definitions. Each law stands here in words that need no proof, and a public function promises it.
 use Rattle.std.specs.Prelude.{ℕ, ◌≡◌, ◌⊎◌, ◌≤◌, ◌<◌, ◌+◌, false, true, List, [], ◌∷◌, ◌++◌, flat_map, IsTrue, All, Some, None}
+use Rattle.base.specs.declared.gap.Gap.{Gap}
 use Rattle.base.specs.declared.fault.Fault.{Fault}
 use Rattle.base.specs.declared.fault.Fault.TheVariants.{Device, OutOfMemory, Failed}
 use Rattle.base.specs.declared.step.Step.{Step}
@@ -7,11 +8,12 @@ use Rattle.base.specs.declared.step.Step.TheVariants.{Poll}
 use Rattle.base.specs.declared.step.Reply.{Reply}
 use Rattle.base.specs.declared.step.Reply.TheVariants.{Drawn as DrewAs, Committed, Covered, Refused}
 use Rattle.base.specs.Commits.{Commit}
-use Rattle.base.specs.Records.{Record, IsRecord, record_in, is_record}
+use Rattle.base.specs.Records.{Record, IsRecord, record_in, is_record, is_well_formed, opened_gaps}
 use Rattle.base.specs.Images.{Image, IsSound, ruling}
 use Rattle.base.specs.Stands.{Stands, has_timestamp}
 use Rattle.base.specs.Machine.{State, Stepped, Run, final, refusal}
-use Rattle.base.specs.Replay.{reply_of, state_of}
+use Rattle.base.specs.Openings.{IsOpenedGaps, OpensAs}
+use Rattle.base.specs.Replay.{reply_of, state_of, replies as replies_to, states as states_of, end}
 use Rattle.base.specs.Lives.{World, IsWorld, Asked, Report, Lives, EndsAs}
 
 -- Images and records
@@ -32,6 +34,20 @@ OneSpelling = (version : ℕ) (words words' : List ℕ) (r : Record) → IsRecor
 pub record FoundRecord : Type 0 where
   pub found : (version : ℕ) (words : List ℕ) (r : Record) → IsRecord version words r → IsTrue (is_record version words) × (record_in words ≡ r)
   pub holds : (version : ℕ) (words : List ℕ) → IsTrue (is_record version words) → IsRecord version words (record_in words)
+
+-- Openings
+
+-- the joined gaps of a well formed record are those that an opening has
+abbrev pub OpenedGaps : Type 0
+OpenedGaps = (version : ℕ) (r : Record) → IsTrue (is_well_formed version r) → IsOpenedGaps r (opened_gaps r)
+
+-- and there is no other such list
+abbrev pub OneGapList : Type 0
+OneGapList = (r : Record) (gaps gaps' : List Gap) → IsOpenedGaps r gaps → IsOpenedGaps r gaps' → gaps ≡ gaps'
+
+-- so an opening gives one state
+abbrev pub OneOpening : Type 0
+OneOpening = (image : Image) (history : List Commit) (lost : List ℕ) (q q' : State) → OpensAs image history lost q → OpensAs image history lost q' → q ≡ q'
 
 -- Steps
 
@@ -55,6 +71,10 @@ HasReply = (q : State) (step : Step) → Stepped q step (reply_of q step) (state
 
 -- Runs
 
+-- each list of steps has a run with ample memory and no failing device, and ends in the state that the worked runs show
+abbrev pub HasRun : Type 0
+HasRun = (q : State) (steps : List Step) → Run q steps (replies_to q steps) (states_of q steps) × (final q (states_of q steps) ≡ end q steps)
+
 -- a run only adds to the history
 abbrev pub HistoryGrows : Type 0
 HistoryGrows = (q : State) (steps : List Step) (replies : List Reply) (states : List State) → Run q steps replies states
@@ -70,6 +90,7 @@ abbrev pub drawn_by : Reply → List ℕ
 drawn_by (DrewAs t) = t ∷ []
 drawn_by _ = []
 
+-- the timestamps that a list of replies gives out
 abbrev pub drawn_in : List Reply → List ℕ
 drawn_in replies = flat_map drawn_by replies
 
@@ -94,6 +115,7 @@ pub record LivesGrow (before after : World) : Type 0 where
   pub history : (more : List Commit) × (after.history ≡ before.history ++ more)
   pub lost : (more : List ℕ) × (after.lost ≡ before.lost ++ more)
 
+-- they do so over any number of lives
 abbrev pub WorldsGrow : Type 0
 WorldsGrow = (before : World) (asked : List Asked) (reports : List Report) (after : World) → IsWorld before → Lives before asked reports after → LivesGrow before after
 

@@ -24,6 +24,7 @@ with_words (word ∷ words) image = with_words words (slice_set image word.0 wor
 abbrev pub image_with : Words → Image
 image_with words = with_words ((0, superblock_word) ∷ (1, 1) ∷ (2, 4) ∷ (3, 2) ∷ (4, 8) ∷ (5, 104) ∷ words) (replicate 104 0)
 
+-- the key and the row of the first commit
 abbrev pub key_7 : Key
 key_7 = record { table = 1; key = 7 }
 
@@ -38,12 +39,15 @@ version_words = (74, 7) ∷ (75, 131073) ∷ (76, 25185) ∷ []
 abbrev pub formatted_image : Image
 formatted_image = image_with ((40, 1) ∷ (42, 1) ∷ [])
 
+-- after an opening
 abbrev pub opened_image : Image
 opened_image = with_words ((8, 2) ∷ (10, 9) ∷ []) formatted_image
 
+-- after the first commit was covered
 abbrev pub covered_image : Image
 covered_image = with_words ((72, 1) ∷ (40, 3) ∷ (41, 1) ∷ (42, 10) ∷ version_words) opened_image
 
+-- after the next opening
 abbrev pub opened_again_image : Image
 opened_again_image = with_words ((8, 4) ∷ (9, 9) ∷ (10, 18) ∷ (11, 1) ∷ (12, 2) ∷ (13, 9) ∷ []) covered_image
 
@@ -51,9 +55,11 @@ opened_again_image = with_words ((8, 4) ∷ (9, 9) ∷ (10, 18) ∷ (11, 1) ∷ 
 abbrev pub stamped_image : Image
 stamped_image = with_words ((72, 1) ∷ version_words) opened_image
 
+-- the first commit
 abbrev pub commit_1 : Commit
 commit_1 = record { timestamp = 1; writes = (key_7, Some ab) ∷ [] }
 
+-- a gap, and a record without long commits, in short
 abbrev pub gap : ℕ → ℕ → Gap
 gap first last = record { first = first; last = last }
 
@@ -115,6 +121,7 @@ changed_format =
 abbrev pub one_row_image : Image
 one_row_image = with_words ((41, 1) ∷ (42, 2) ∷ (72, 1) ∷ version_words) formatted_image
 
+-- that image, changed
 abbrev pub changed_row : Table
 changed_row =
     ([], None)
@@ -178,6 +185,7 @@ pub record ReadImages : Type 0 where
 abbrev pub with_long : Record
 with_long = record { gate = 6; persisted = 7; dirty = 16; gaps = []; longs = 5 ∷ [] }
 
+-- its words, the versions that allow it, and what it commits
 pub record LongCommits : Type 0 where
   pub words : map (record_word with_long) (3 ∷ 20 ∷ 21 ∷ []) ≡ 4294967296 ∷ 5 ∷ 0 ∷ []
   pub versions : map (λ version. is_well_formed version with_long) (1 ∷ 2 ∷ []) ≡ false ∷ true ∷ []

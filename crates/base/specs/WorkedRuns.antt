@@ -20,12 +20,15 @@ use Rattle.base.specs.WorkedImages.{with_words, formatted_image, covered_image, 
 abbrev pub numbers : State → List ℕ
 numbers q = q.gate ∷ q.persisted ∷ q.dirty ∷ q.next ∷ []
 
+-- another key
 abbrev pub key_8 : Key
 key_8 = record { table = 1; key = 8 }
 
+-- so many ticks of the committer
 abbrev pub ticks : ℕ → List Step
 ticks n = replicate n CommitTick
 
+-- the last of these replies
 abbrev pub last_reply : List Reply → Reply
 last_reply [] = Done
 last_reply (reply ∷ []) = reply
@@ -43,9 +46,11 @@ start_with_one_slot = record start { layout = record start.layout { slots = 1 } 
 abbrev pub insert : List Step
 insert = Begin ∷ Put 2 key_7 ab ∷ Draw 2 ∷ Stamp 2 ∷ []
 
+-- after that
 abbrev pub inserted : State
 inserted = end start insert
 
+-- after it was covered
 abbrev pub committed : State
 committed = end inserted (ticks 42)
 
@@ -131,9 +136,11 @@ pub record FirstCommitterWins : Type 0 where
 abbrev pub full_window : State
 full_window = record two_writers { next = 9 }
 
+-- the numbers near their limit
 abbrev pub near_limit : State
 near_limit = record two_writers { next = 4611686018427387888; dirty = 4611686018427387896 }
 
+-- a draw is refused at the bound, and not below it
 pub record NoTimestampLeft : Type 0 where
   pub window : (refusal full_window (Draw 2) ≡ Some WindowFull) × (refusal (record full_window { dirty = 10 }) (Draw 2) ≡ None)
   pub limit : (refusal near_limit (Draw 2) ≡ Some TimestampsOut) × (refusal (record near_limit { next = 4611686018427387887 }) (Draw 2) ≡ None)

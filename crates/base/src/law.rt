@@ -1,6 +1,6 @@
 //! What follows from the definitions. The functions do nothing: the contract of each is a law.
 
-ghost use Rattle.base.specs.Laws.{SoundStands, OneRecord, OneSpelling, FoundRecord, RefusedKeeps, FailedStays, OneReply, HasReply, HistoryGrows, AcknowledgedStays, DrawnOnce, WorldsStand, WorldsGrow, NeverReturns, DrawnOnceOverLives, CloseTold};
+ghost use Rattle.base.specs.Laws.{SoundStands, OpenedGaps, OneGapList, OneOpening, HasRun, OneRecord, OneSpelling, FoundRecord, RefusedKeeps, FailedStays, OneReply, HasReply, HistoryGrows, AcknowledgedStays, DrawnOnce, WorldsStand, WorldsGrow, NeverReturns, DrawnOnceOverLives, CloseTold};
 
 /// Every sound image stands for some history.
 pub fn sound_images_stand()
@@ -14,6 +14,13 @@ pub fn records_have_one_spelling()
     ensures found { FoundRecord }
 {}
 
+/// An opening has one list of gaps, and so gives one state.
+pub fn openings_are_decided()
+    ensures gaps { OpenedGaps }
+    ensures one_list { OneGapList }
+    ensures one_state { OneOpening }
+{}
+
 /// A refused step changes nothing, but that a failing device is remembered: then each step is refused.
 pub fn refused_steps_change_nothing()
     ensures keeps { RefusedKeeps }
@@ -24,6 +31,7 @@ pub fn refused_steps_change_nothing()
 pub fn steps_are_decided()
     ensures one { OneReply }
     ensures some { HasReply }
+    ensures run { HasRun }
 {}
 
 /// The history only grows, and what was acknowledged stays in it.

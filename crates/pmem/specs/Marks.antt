@@ -3,6 +3,7 @@ use Rattle.std.specs.Prelude.{◌≡◌, ◌↔◌, ℕ, ◌+◌, ◌-◌, ◌/�
 use Rattle.pmem.specs.Device.{restarted, Survives}
 use Rattle.pmem.specs.Trace.{Operation, store_op, flush_op, fence_op, failure, after}
 
+-- a word: its values, its least index and the marks
 pub record Word : Type 0 where
   pub values : List ℕ  -- the oldest first
   pub least : ℕ  -- the index of the oldest value that a crash may leave
@@ -27,6 +28,7 @@ on_word (flush_op actor line) number word = if (number / 8) == line then with_ma
 on_word (fence_op actor) number word = with_fence actor word
 on_word failure number word = word
 
+-- what these operations, in turn, do to it
 abbrev pub word_after : List Operation → ℕ → Word → Word
 word_after [] number word = word
 word_after (op ∷ ops) number word = word_after ops number (on_word op number word)

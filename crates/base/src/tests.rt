@@ -1,0 +1,82 @@
+//! Each public function once, with values that a person wrote down.
+use crate::actor::Actor;
+use crate::batch::{Batch, Commit};
+use crate::fault::Fault;
+use crate::geometry::Geometry;
+use crate::key::Key;
+use crate::row::Row;
+
+const KEY: Key = Key { table: 1, key: 7 };
+
+#[test]
+fn geometries(rt: HostRuntime) {
+    let Ok(least) = Geometry::new(4, 2, 8) else {
+        panic!(rt; "refused")
+    };
+    assert_eq!(rt; least.words(), 104);
+    let Ok(greatest) = Geometry::new(65_536, 64, 1_024) else {
+        panic!(rt; "refused")
+    };
+    assert_eq!(rt; greatest.words(), 526_344);
+    for (slots, places, window) in [
+        (0, 2, 8),
+        (65_537, 2, 8),
+        (4, 1, 8),
+        (4, 65, 8),
+        (4, 2, 3),
+        (4, 2, 1_025),
+    ] {
+        assert!(rt;
+            matches!(
+                Geometry::new(slots, places, window),
+                Err(Fault::BadGeometry)
+            )
+        );
+    }
+}
+
+#[test]
+fn faults(rt: HostRuntime) {
+    let faults = [
+        (Fault::TooLong, 1, "TooLong"),
+        (Fault::Damaged(3), 5, "Damaged 3"),
+        (Fault::Conflict(KEY), 13, "Conflict 1 7"),
+        (Fault::Shut, 22, "Shut"),
+    ];
+    for (fault, number, text) in faults {
+        assert_eq!(rt; fault.number(), number);
+        let Ok(shown) = format!(in rt.alloc(); "{fault}") else {
+            panic!(rt; "no memory")
+        };
+        assert_eq!(rt; shown.as_str(), text);
+    }
+}
+
+#[test]
+fn commits_and_batches(rt: HostRuntime) {
+    let Ok(writes) = vec![in rt.alloc();
+        (KEY, Some(Row::empty())),
+        (Key { table: 2, key: 1 }, None),
+    ] else {
+        panic!(rt; "no memory")
+    };
+    assert!(rt; writes[0].0.is_below(&writes[1].0));
+    let commit = Commit::new(5, writes);
+    assert_eq!(rt; commit.timestamp(), 5);
+    assert_eq!(rt; commit.writes().len(), 2);
+    let Ok(copy) = commit.clone() else {
+        panic!(rt; "no memory")
+    };
+    let Ok(commits) = vec![in rt.alloc(); commit, copy] else {
+        panic!(rt; "no memory")
+    };
+    let batch = Batch::new(2, 3, 5, commits);
+    assert_eq!(rt; (batch.from(), batch.stamp(), batch.persisted()), (2, 3, 5));
+    assert_eq!(rt; batch.commits().len(), 2);
+    assert_eq!(rt; batch.commits()[1].timestamp(), 5);
+}
+
+#[test]
+fn actors(rt: HostRuntime) {
+    assert_eq!(rt; Actor::new(63).number, 63);
+}
