@@ -43,15 +43,15 @@ pub failed-shrinks : {old new : Device} (word : ℕ) → new ≡ failed old → 
 failed-shrinks {old} {new} word is = subst (λ (d : Device). OnlyShrinks old d word) (sym is) (record { value = refl; survives = λ x s. s; settled = λ s. s; ready = λ actor r. r })
 
 -- the stored word has the value, beside what it had
-pub stored-value : {old new : Device} (word value : ℕ) → new ≡ stored word value old → value_of new word ≡ value
-stored-value {old} {new} word value is = ap (λ (d : Device). value_of d word) is ∙ value-stored_same word value old
+pub stored-value : (old new : Device) (word value : ℕ) → new ≡ stored word value old → value_of new word ≡ value
+stored-value old new word value is = ap (λ (d : Device). value_of d word) is ∙ value-stored_same word value old
 
-pub stored-survives : {old new : Device} (word value : ℕ) → new ≡ stored word value old → (other x : ℕ) → Survives new other x → ((other ≡ word) × (x ≡ value)) ⊎ Survives old other x
-stored-survives {old} {new} word value is other x s = survives-stored word value old other x (subst (λ (d : Device). Survives d other x) is s)
+pub stored-survives : (old new : Device) (word value : ℕ) → new ≡ stored word value old → (other x : ℕ) → Survives new other x → ((other ≡ word) × (x ≡ value)) ⊎ Survives old other x
+stored-survives old new word value is other x s = survives-stored word value old other x (subst (λ (d : Device). Survives d other x) is s)
 
 -- a flush makes the words of its line ready, and a fence settles what is ready for its actor
-pub flushed-ready : {old new : Device} (actor line word : ℕ) → new ≡ flushed actor line old → IsOrderly old → word < old.words → word / 8 ≡ line → IsReady new actor word
-flushed-ready {old} {new} actor line word is orderly within at = subst (λ (d : Device). IsReady d actor word) (sym is) (ready-flushed actor line old word orderly within at)
+pub flushed-ready : (old new : Device) (actor line word : ℕ) → new ≡ flushed actor line old → IsOrderly old → word < old.words → word / 8 ≡ line → IsReady new actor word
+flushed-ready old new actor line word is orderly within at = subst (λ (d : Device). IsReady d actor word) (sym is) (ready-flushed actor line old word orderly within at)
 
-pub fenced-settles : {old new : Device} (actor word : ℕ) → new ≡ fenced actor old → IsReady old actor word → IsSettled new word
-fenced-settles {old} {new} actor word is ready = subst (λ (d : Device). IsSettled d word) (sym is) (settled-ready actor old word ready)
+pub fenced-settles : (old new : Device) (actor word : ℕ) → new ≡ fenced actor old → IsReady old actor word → IsSettled new word
+fenced-settles old new actor word is ready = subst (λ (d : Device). IsSettled d word) (sym is) (settled-ready actor old word ready)
