@@ -1,0 +1,51 @@
+//! What follows from the definitions. The functions do nothing: the contract of each is a law.
+
+ghost use Rattle.base.specs.Laws.{SoundStands, OneRecord, OneSpelling, FoundRecord, RefusedKeeps, FailedStays, OneReply, HasReply, HistoryGrows, AcknowledgedStays, DrawnOnce, WorldsStand, WorldsGrow, NeverReturns, DrawnOnceOverLives, CloseTold};
+
+/// Every sound image stands for some history.
+pub fn sound_images_stand()
+    ensures { SoundStands }
+{}
+
+/// A record has one spelling: words hold at most one record, it is written in one way, and it can be found.
+pub fn records_have_one_spelling()
+    ensures one_record { OneRecord }
+    ensures one_spelling { OneSpelling }
+    ensures found { FoundRecord }
+{}
+
+/// A refused step changes nothing, but that a failing device is remembered: then each step is refused.
+pub fn refused_steps_change_nothing()
+    ensures keeps { RefusedKeeps }
+    ensures failed { FailedStays }
+{}
+
+/// What a step may answer is decided, but for want of memory and a failing device.
+pub fn steps_are_decided()
+    ensures one { OneReply }
+    ensures some { HasReply }
+{}
+
+/// The history only grows, and what was acknowledged stays in it.
+pub fn history_grows()
+    ensures grows { HistoryGrows }
+    ensures acknowledged { AcknowledgedStays }
+{}
+
+/// No timestamp is drawn twice, in a run or over lives.
+pub fn timestamps_are_drawn_once()
+    ensures run { DrawnOnce }
+    ensures lives { DrawnOnceOverLives }
+{}
+
+/// Whatever lives come, and wherever each is stopped, the image left stands for a history that only grows.
+pub fn lives_keep_the_history()
+    ensures stand { WorldsStand }
+    ensures grow { WorldsGrow }
+    ensures told { CloseTold }
+{}
+
+/// A commit that some stop left out never returns.
+pub fn lost_commits_never_return()
+    ensures { NeverReturns }
+{}
