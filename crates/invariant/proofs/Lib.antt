@@ -1,0 +1,15 @@
+pub mod Marks
+pub mod Living
+pub mod Congruence
+pub mod Standing
+pub mod OpenedGaps
+pub mod Moves
+pub mod Lookups
+pub mod Keeping
+pub mod Putting
+pub mod Opening
+pub mod Histories
+pub mod Drawing
+pub mod Stamping
+pub mod Covering
+pub mod Filling

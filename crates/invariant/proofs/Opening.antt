@@ -1,0 +1,464 @@
+-- An opened state keeps what every state keeps, and its slots are as it says.
+use Rattle.std.proofs.Common.{◌≡◌, ◌⊎◌, inl, inr, ℕ, ◌+◌, ◌-◌, ◌*◌, ◌^◌, ◌<◌, ◌≤◌, Bool, true, false, not, ◌&&◌, ◌||◌, List, [], ◌∷◌, length, refl, sym, ◌∙◌, ap, subst, nat_eq, cond, arith}
+use Rattle.std.specs.Prelude.{slice_index, IsTrue, Option, Some, None, unwrap_or, is_some, nat_le, nat_lt, if◌then◌else◌, ◌↔◌}
+use Rattle.std.specs.List.{list_all, range_with_len}
+use Rattle.std.specs.Option.{option_or, option_map}
+use Rattle.std.proofs.lemmas.Nat.{mul-add-lt}
+use Rattle.std.proofs.lemmas.Bool.{and_parts, and_from, and_right, and_cases, or_parts, cases_order, leb-true, leb-false, ltb-true, le-leb, lt-leb, lt-ltb, eqb-true, eq-eqb, not-true, not-false, not_from_true, not_from_false, cond-true, cond-false, cases_Bool, false≢true, true≢false}
+use Rattle.std.proofs.lemmas.List.FromFn.{length-map-range_with_len, get_or-map-range_with_len}
+use Rattle.base.specs.declared.key.Key.{Key}
+use Rattle.base.specs.declared.gap.Gap.{Gap}
+use Rattle.base.specs.declared.fault.Fault.{Fault}
+use Rattle.base.specs.declared.fault.Fault.TheVariants.{BadGeometry, NotFormatted, Damaged, Version as VersionFault, TimestampsOut, GapsFull}
+use Rattle.base.specs.Keys.{key_eq}
+use Rattle.base.specs.Commits.{Commit, after, last_writer}
+use Rattle.base.specs.Layout.{Layout, slot_words, total_words, most_longs, is_between, is_in_limits, is_known_version, opened_version}
+use Rattle.base.specs.Records.{Record, record_word, record_in, is_record, is_in, is_committed, is_well_formed}
+use Rattle.base.specs.Images.{Image, layout_of, key_of, row_of, begin_of, end_of, is_live, ruling, ruling_place, place_words, greatest_gate, is_formatted, has_good_geometry, is_wrong_gate, is_ruled, is_bad_slot, damage, IsSound, opening_fault, needs_sweep}
+use Rattle.base.specs.Stands.{Stands}
+use Rattle.base.specs.Openings.{IsOpenedGaps, opened}
+use Rattle.base.specs.Machine.{State, Version, BySession, ByCommit, present}
+use Rattle.pmem.specs.Device.{Device, Survives, value_of, IsSettled, image_of}
+use Rattle.base.specs.Search.{first_below, first_of, some_if}
+use Rattle.base.proofs.Histories.{first_below-none, key_eq-same, no_bad_slot}
+use Rattle.pmem.proofs.Steps.{only-settled}
+use Rattle.invariant.specs.Slots.{word_of, is_misfit, EachSurvivor, IsNever, IsCounted, is_drawn_on, IsDead, IsLive, Class, Newest, Replaced, HoldsAs, class_of_version, Spells, SlotHolds, SlotsHold}
+use Rattle.invariant.specs.Kept.{IsKept, version_by, newest_of}
+use Rattle.invariant.proofs.Marks.{committed-persisted, passes-last_writer}
+use Rattle.invariant.proofs.Congruence.{some_words, spells-image, spells-same}
+use Rattle.invariant.proofs.OpenedGaps.{record_over, same-committed_over, formed-over, formed-parts}
+use Rattle.invariant.proofs.Standing.{is_second_under, is_bad_under, ShownUnder, size-of, limits-of}
+
+-- ---- the state, by a layout, a record and gaps
+
+abbrev pub held_by : Layout → Record → Image → List Commit → ℕ → Option Version
+held_by a r image history slot =
+    if nat_lt slot a.slots && is_live (is_committed r) image slot
+    then Some (version_by (key_of image slot) (ByCommit (last_writer history (key_of image slot))))
+    else None
+
+abbrev pub opened_under : Layout → Record → Image → List Commit → List ℕ → List Gap → State
+opened_under a r image history lost gaps = record {
+  layout = a;
+  history = history;
+  drawn = [];
+  lost = lost;
+  sessions = λ n. None;
+  gate = r.gate + 1;
+  persisted = r.dirty - 1;
+  dirty = r.dirty + a.window;
+  next = r.dirty;
+  gaps = gaps;
+  longs = [];
+  swept = false;
+  place = 0;
+  failed = false;
+  hand = None;
+  held = held_by a r image history;
+}
+
+-- what an opening finds
+pub record IsOpening (a : Layout) (r : Record) (image : Image) (history : List Commit) (gaps : List Gap) : Type 0 where
+  pub layout : layout_of image ≡ a
+  pub limits : is_in_limits a ≡ true
+  pub size : length image ≡ total_words a
+  pub formed : is_well_formed a.version r ≡ true
+  pub room : r.dirty + 2 * a.window < 2 ^ 62
+  pub good : (slot : ℕ) → slot < a.slots → is_bad_under r image slot ≡ false
+  pub tables : (key : Key) (row : List ℕ) → ShownUnder r image key row ↔ (after history key ≡ Some row)
+  pub covered : list_all (λ commit. is_committed r commit.timestamp) history ≡ true
+  pub gaps_cover : IsOpenedGaps r gaps
+  pub few : length gaps ≤ 8
+
+-- the state is that by what the image says
+known-one : (version : ℕ) → is_known_version version ≡ true → opened_version version ≡ version
+known-one version known =
+    let both = and_parts (nat_le 1 version) (nat_le version 1) known in
+    let from = leb-true 1 version both.0 in
+    let to = leb-true version 1 both.1 in
+    let one : 1 ≡ version = omega (arith, from, to) in
+    subst (λ (v : ℕ). opened_version v ≡ v) one refl
+
+pub same_opened : (image : Image) (history : List Commit) (lost : List ℕ) (gaps : List Gap) → is_known_version (layout_of image).version ≡ true → length gaps ≤ 8
+    → opened_under (layout_of image) (ruling image) image history lost gaps ≡ opened image history lost gaps
+same_opened image history lost gaps known few =
+    ap (λ (v : ℕ). opened_under (record (layout_of image) { version = v }) (ruling image) image history lost gaps) (sym (known-one (layout_of image).version known))
+
+-- ---- one slot
+
+-- what a slot is that isn't bad
+pub record IsGood (r : Record) (image : Image) (slot : ℕ) : Type 0 where
+  pub begin : begin_of image slot < r.dirty
+  pub end : end_of image slot < r.dirty
+  pub fits : is_live (is_committed r) image slot ≡ true → is_misfit image slot ≡ false
+  pub first : is_live (is_committed r) image slot ≡ true → is_second_under r image slot ≡ false
+
+live-parts : (live misfit second : Bool) → (live && (misfit || second)) ≡ false → live ≡ true → (misfit ≡ false) × (second ≡ false)
+live-parts true misfit second e is = or_parts misfit second e
+live-parts false misfit second e is = absurd (false≢true is)
+
+good-slot : (r : Record) (image : Image) (slot : ℕ) → is_bad_under r image slot ≡ false → IsGood r image slot
+good-slot r image slot e =
+    let live : Bool = is_live (is_committed r) image slot in
+    let both = or_parts (nat_le r.dirty (begin_of image slot) || nat_le r.dirty (end_of image slot)) (live && (is_misfit image slot || is_second_under r image slot)) e in
+    let marks = or_parts (nat_le r.dirty (begin_of image slot)) (nat_le r.dirty (end_of image slot)) both.0 in
+    record {
+      begin = leb-false r.dirty (begin_of image slot) marks.0;
+      end = leb-false r.dirty (end_of image slot) marks.1;
+      fits = λ is. (live-parts live (is_misfit image slot) (is_second_under r image slot) both.1 is).0;
+      first = λ is. (live-parts live (is_misfit image slot) (is_second_under r image slot) both.1 is).1;
+    }
+
+not_some : (o : Option ℕ) → is_some o ≡ false → o ≡ None
+not_some None e = refl
+not_some (Some x) e = cc
+
+-- two live slots of a key are one
+one-lower : (r : Record) (image : Image) (lower slot : ℕ) → lower < slot → IsGood r image slot → is_live (is_committed r) image lower ≡ true → is_live (is_committed r) image slot ≡ true
+    → key_of image lower ≡ key_of image slot → ⊥
+one-lower r image lower slot less good live_lower live same =
+    let test : ℕ → Bool = λ l. is_live (is_committed r) image l && key_eq (key_of image l) (key_of image slot) in
+    let none : first_below slot test ≡ None = not_some (first_below slot test) (good.first live) in
+    let keys : key_eq (key_of image lower) (key_of image slot) ≡ true = subst (λ (k : Key). key_eq (key_of image lower) k ≡ true) same (key_eq-same (key_of image lower)) in
+    let both : test lower ≡ true = and_from (is_live (is_committed r) image lower) (key_eq (key_of image lower) (key_of image slot)) live_lower keys in
+    false≢true (sym (first_below-none slot test none lower less) ∙ both)
+
+one-live : (r : Record) (image : Image) (a b : ℕ) → IsGood r image a → IsGood r image b → is_live (is_committed r) image a ≡ true → is_live (is_committed r) image b ≡ true
+    → key_of image a ≡ key_of image b → a ≡ b
+one-live r image a b good_a good_b live_a live_b same = by (cases_order a b)
+  where
+    by : (a ≡ b) ⊎ ((a < b) ⊎ (b < a)) → a ≡ b
+    by (inl is) = is
+    by (inr (inl less)) = absurd (one-lower r image a b less good_b live_a live_b same)
+    by (inr (inr more)) = absurd (one-lower r image b a more good_a live_b live_a (sym same))
+
+-- the version that a live slot is given
+abbrev pub version_in : Image → List Commit → ℕ → Version
+version_in image history slot = version_by (key_of image slot) (ByCommit (last_writer history (key_of image slot)))
+
+-- the slot is live and has this version
+pub record IsHeldAs (r : Record) (image : Image) (history : List Commit) (slot : ℕ) (version : Version) : Type 0 where
+  pub live : is_live (is_committed r) image slot ≡ true
+  pub is : version_in image history slot ≡ version
+
+cond-some : {X : Type 0} (b : Bool) (x y : X) → cond b (Some x) None ≡ Some y → (b ≡ true) × (x ≡ y)
+cond-some true x y e = (refl, cc)
+cond-some false x y e = cc
+
+held-as : (a : Layout) (r : Record) (image : Image) (history : List Commit) (slot : ℕ) (version : Version) → held_by a r image history slot ≡ Some version
+    → IsHeldAs r image history slot version
+held-as a r image history slot version e =
+    let both = cond-some (nat_lt slot a.slots && is_live (is_committed r) image slot) (version_in image history slot) version e in
+    record { live = (and_parts (nat_lt slot a.slots) (is_live (is_committed r) image slot) both.0).1; is = both.1 }
+
+held-live : (a : Layout) (r : Record) (image : Image) (history : List Commit) (slot : ℕ) → slot < a.slots → is_live (is_committed r) image slot ≡ true
+    → held_by a r image history slot ≡ Some (version_in image history slot)
+held-live a r image history slot h live =
+    cond-true (nat_lt slot a.slots && is_live (is_committed r) image slot) (Some (version_in image history slot)) None
+    (and_from (nat_lt slot a.slots) (is_live (is_committed r) image slot) (lt-ltb slot a.slots h) live)
+
+held-none : (a : Layout) (r : Record) (image : Image) (history : List Commit) (slot : ℕ) → is_live (is_committed r) image slot ≡ false
+    → held_by a r image history slot ≡ None
+held-none a r image history slot dead =
+    cond-false (nat_lt slot a.slots && is_live (is_committed r) image slot) (Some (version_in image history slot)) None
+    (and_right (nat_lt slot a.slots) (is_live (is_committed r) image slot) dead)
+
+-- ---- what is kept
+
+by_commit-same : (t u : ℕ) → ByCommit t ≡ ByCommit u → t ≡ u
+by_commit-same t u e = cc
+
+not_session : (t n : ℕ) → ByCommit t ≡ BySession n → ⊥
+not_session t n e = cc
+
+no-row : {X : Type 0} (x : X) → ◌≡◌ {A = Option X} None (Some x) → ⊥
+no-row x e = cc
+
+-- a live slot has a row of the history, and its last writer is persisted
+live-row : (a : Layout) (r : Record) (image : Image) (history : List Commit) (gaps : List Gap) (slot : ℕ) → IsOpening a r image history gaps → slot < a.slots
+    → is_live (is_committed r) image slot ≡ true → after history (key_of image slot) ≡ Some (row_of image slot)
+live-row a r image history gaps slot opening h live =
+    (opening.tables (key_of image slot) (row_of image slot)).0 (slot, subst (λ (l : Layout). slot < l.slots) (sym opening.layout) h, live, refl, refl)
+
+writer-before : (a : Layout) (r : Record) (image : Image) (history : List Commit) (gaps : List Gap) (key : Key) (row : List ℕ) → IsOpening a r image history gaps
+    → after history key ≡ Some row → last_writer history key < r.dirty
+writer-before a r image history gaps key row opening e =
+    let most = committed-persisted r (last_writer history key) (passes-last_writer (is_committed r) key row history opening.covered e) in
+    let less = (formed-parts a.version r opening.formed).persisted in
+    omega (arith, most, less)
+
+covered-over : (r : Record) (window : ℕ) (gaps : List Gap) (history : List Commit) → IsOpenedGaps r gaps → r.persisted < r.dirty
+    → list_all (λ commit. is_committed r commit.timestamp) history ≡ true → list_all (λ commit. is_committed (record_over r window gaps) commit.timestamp) history ≡ true
+covered-over r window gaps [] opened less all = refl
+covered-over r window gaps (commit ∷ history) opened less all =
+    let both = and_parts (is_committed r commit.timestamp) (list_all (λ commit. is_committed r commit.timestamp) history) all in
+    let most = committed-persisted r commit.timestamp both.0 in
+    and_from (is_committed (record_over r window gaps) commit.timestamp) (list_all (λ commit. is_committed (record_over r window gaps) commit.timestamp) history)
+    (same-committed_over r window gaps commit.timestamp opened (omega (arith, most, less)) ∙ both.0) (covered-over r window gaps history opened less both.1)
+
+has-window : (a : Layout) → is_in_limits a ≡ true → 0 < a.window
+has-window a e =
+    let one = and_parts (is_known_version a.version) (is_between 1 65536 a.slots && (is_between 2 64 a.places && is_between 4 1024 a.window)) e in
+    let two = and_parts (is_between 1 65536 a.slots) (is_between 2 64 a.places && is_between 4 1024 a.window) one.1 in
+    let three = and_parts (is_between 2 64 a.places) (is_between 4 1024 a.window) two.1 in
+    let four = leb-true 4 a.window (and_parts (nat_le 4 a.window) (nat_le a.window 1024) three.1).0 in
+    omega (arith, four)
+
+narrower : (dirty window limit : ℕ) → dirty + 2 * window < limit → dirty + window < limit
+narrower dirty window limit h = omega (arith, h)
+
+-- the held version's key and writer
+held-key : (r : Record) (image : Image) (history : List Commit) (slot : ℕ) (version : Version) → IsHeldAs r image history slot version → key_of image slot ≡ version.key
+held-key r image history slot version held = ap (λ (v : Version). v.key) held.is
+
+pub opened-kept_under : (a : Layout) (r : Record) (image : Image) (history : List Commit) (lost : List ℕ) (gaps : List Gap) → IsOpening a r image history gaps
+    → IsKept (opened_under a r image history lost gaps)
+opened-kept_under a r image history lost gaps opening =
+    let formed = formed-parts a.version r opening.formed in
+    let less : r.persisted < r.dirty = formed.persisted in
+    record {
+      layout = opening.limits;
+      formed = formed-over a.version r a.window gaps opening.formed opening.gaps_cover opening.few (has-window a opening.limits) (narrower r.dirty a.window (2 ^ 62) opening.room);
+      persisted = omega (arith, less);
+      reserved = omega arith;
+      no_longs = refl;
+      covered = covered-over r a.window gaps history opening.gaps_cover less opening.covered;
+      drawn = refl;
+      rising = refl;
+      once = λ x y version hx hy ex ey.
+          let held_x = held-as a r image history x version ex in
+          let held_y = held-as a r image history y version ey in
+          one-live r image x y (good-slot r image x (opening.good x hx)) (good-slot r image y (opening.good y hy)) held_x.live held_y.live
+          (held-key r image history x version held_x ∙ sym (held-key r image history y version held_y));
+      owned = λ slot n key h e. absurd (not_session _ n (ap (λ (v : Version). v.writer) (held-as a r image history slot (version_by key (BySession n)) e).is));
+      owns = λ n key row e. absurd (no-row (Some row) e);
+      drew = λ slot t key d h e found. absurd (no-row d found);
+      draws = λ t key d row found e. absurd (no-row d found);
+      before = λ slot t key h e.
+          let held = held-as a r image history slot (version_by key (ByCommit t)) e in
+          let same : last_writer history (key_of image slot) ≡ t = by_commit-same (last_writer history (key_of image slot)) t (ap (λ (v : Version). v.writer) held.is) in
+          let before = writer-before a r image history gaps (key_of image slot) (row_of image slot) opening (live-row a r image history gaps slot opening h held.live) in
+          omega (arith, same, before);
+      rows = λ key row e.
+          let shown = (opening.tables key row).1 e in
+          let within : shown.0 < a.slots = subst (λ (l : Layout). shown.0 < l.slots) opening.layout shown.1 in
+          (shown.0, within, held-live a r image history shown.0 within shown.2 ∙ ap (λ (k : Key). Some (version_by k (ByCommit (last_writer history k)))) shown.3);
+      written = λ key slot h e.
+          let held = held-as a r image history slot (version_by key (ByCommit (last_writer history key))) e in
+          let at : key_of image slot ≡ key = held-key r image history slot (version_by key (ByCommit (last_writer history key))) held in
+          (row_of image slot, subst (λ (k : Key). after history k ≡ Some (row_of image slot)) at (live-row a r image history gaps slot opening h held.live));
+    }
+
+-- ---- what the slots hold
+
+-- a device that rests on the image in each word of each slot
+pub record RestsOn (a : Layout) (device : Device) (image : Image) : Type 0 where
+  pub settled : (slot w : ℕ) → slot < a.slots → w < slot_words a.version → IsSettled device (word_of a slot w)
+  pub holds : (slot w : ℕ) → slot < a.slots → w < slot_words a.version → value_of device (word_of a slot w) ≡ slice_index image (word_of a slot w)
+
+begin-left : (a : Layout) (device : Device) (image : Image) (slot x : ℕ) → layout_of image ≡ a → RestsOn a device image → slot < a.slots → Survives device (word_of a slot 0) x → x ≡ begin_of image slot
+begin-left a device image slot x layout rests h there =
+    only-settled device (word_of a slot 0) x (rests.settled slot 0 h (omega (arith, some_words a.version))) there
+    ∙ (rests.holds slot 0 h (omega (arith, some_words a.version)) ∙ ap (λ (l : Layout). slice_index image (word_of l slot 0)) (sym layout))
+
+end-left : (a : Layout) (device : Device) (image : Image) (slot x : ℕ) → layout_of image ≡ a → RestsOn a device image → slot < a.slots → Survives device (word_of a slot 1) x → x ≡ end_of image slot
+end-left a device image slot x layout rests h there =
+    only-settled device (word_of a slot 1) x (rests.settled slot 1 h (omega (arith, some_words a.version))) there
+    ∙ (rests.holds slot 1 h (omega (arith, some_words a.version)) ∙ ap (λ (l : Layout). slice_index image (word_of l slot 1)) (sym layout))
+
+-- what the opened record doesn't commit, though it lies below the old dirty timestamp, is of no commit
+never-parts : (t persisted : ℕ) (i : Bool) → t ≤ persisted → (nat_le 1 t && nat_le t persisted && not i && not false) ≡ false → (t ≡ 0) ⊎ (i ≡ true)
+never-parts t persisted true h e = inr refl
+never-parts t persisted false h e = inl (by (nat_le 1 t) (nat_le t persisted) refl (le-leb t persisted h) e)
+  where
+    by : (b c : Bool) → nat_le 1 t ≡ b → c ≡ true → (b && c && true && true) ≡ false → t ≡ 0
+    by true true is most e = absurd (true≢false e)
+    by true false is most e = absurd (false≢true most)
+    by false c is most e = let less = leb-false 1 t is in omega (arith, less)
+
+never-over : (r : Record) (window : ℕ) (gaps : List Gap) (t : ℕ) → IsOpenedGaps r gaps → t < r.dirty → is_committed r t ≡ false → (t ≡ 0) ⊎ (is_in gaps t ≡ true)
+never-over r window gaps t opened h e = never-parts t (r.dirty - 1) (is_in gaps t) (omega (arith, h)) (same-committed_over r window gaps t opened h ∙ e)
+
+holds-live : (a : Layout) (r : Record) (image : Image) (history : List Commit) (lost : List ℕ) (gaps : List Gap) (device : Device) (slot : ℕ) → IsOpening a r image history gaps
+    → RestsOn a device image → slot < a.slots → is_live (is_committed r) image slot ≡ true
+    → IsLive (opened_under a r image history lost gaps) device slot (key_of image slot) (unwrap_or (after history (key_of image slot)) [])
+holds-live a r image history lost gaps device slot opening rests h live =
+    let good = good-slot r image slot (opening.good slot h) in
+    let counts = and_parts (is_committed r (begin_of image slot)) (not (is_committed r (end_of image slot))) live in
+    let begin : value_of device (word_of a slot 0) ≡ begin_of image slot =
+    rests.holds slot 0 h (omega (arith, some_words a.version)) ∙ ap (λ (l : Layout). slice_index image (word_of l slot 0)) (sym opening.layout) in
+    let row : unwrap_or (after history (key_of image slot)) [] ≡ row_of image slot = ap (λ (o : Option (List ℕ)). unwrap_or o []) (live-row a r image history gaps slot opening h live) in
+    record {
+      begin = rests.settled slot 0 h (omega (arith, some_words a.version));
+      counted = subst (λ (t : ℕ). is_committed (record_over r a.window gaps) t ≡ true) (sym begin)
+          (same-committed_over r a.window gaps (begin_of image slot) opening.gaps_cover good.begin ∙ counts.0);
+      end = record {
+        each = λ x there. inl (subst (λ (t : ℕ). (t ≡ 0) ⊎ (is_in gaps t ≡ true)) (sym (end-left a device image slot x opening.layout rests h there))
+            (never-over r a.window gaps (end_of image slot) opening.gaps_cover good.end (not-true (is_committed r (end_of image slot)) counts.1)));
+      };
+      settled = λ w from to. rests.settled slot w h to;
+      spells = subst (λ (x : List ℕ). Spells a (value_of device) slot (key_of image slot) x) (sym row)
+          (spells-same a (λ word. slice_index image word) (value_of device) slot (key_of image slot) (row_of image slot)
+          (spells-image a image slot opening.layout opening.size (good.fits live)) (λ w from to. rests.holds slot w h to));
+    }
+
+holds-dead : (a : Layout) (r : Record) (image : Image) (history : List Commit) (lost : List ℕ) (gaps : List Gap) (device : Device) (slot : ℕ) → IsOpening a r image history gaps
+    → RestsOn a device image → slot < a.slots → is_live (is_committed r) image slot ≡ false
+    → IsDead (opened_under a r image history lost gaps) device slot
+holds-dead a r image history lost gaps device slot opening rests h dead = by (and_cases (is_committed r (begin_of image slot)) (not (is_committed r (end_of image slot))) dead)
+  where
+    by : (is_committed r (begin_of image slot) ≡ false) ⊎ (not (is_committed r (end_of image slot)) ≡ false) → IsDead (opened_under a r image history lost gaps) device slot
+    by (inl unbegun) = inl (record {
+      each = λ x there. subst (λ (t : ℕ). (t ≡ 0) ⊎ (is_in gaps t ≡ true)) (sym (begin-left a device image slot x opening.layout rests h there))
+          (never-over r a.window gaps (begin_of image slot) opening.gaps_cover (good-slot r image slot (opening.good slot h)).begin unbegun);
+    })
+    by (inr ended) = inr (record {
+      each = λ x there. subst (λ (t : ℕ). is_committed (record_over r a.window gaps) t ≡ true) (sym (end-left a device image slot x opening.layout rests h there))
+          (same-committed_over r a.window gaps (end_of image slot) opening.gaps_cover (good-slot r image slot (opening.good slot h)).end ∙ not-false (is_committed r (end_of image slot)) ended);
+    })
+
+holds-as : (a : Layout) (r : Record) (image : Image) (history : List Commit) (lost : List ℕ) (gaps : List Gap) (device : Device) (slot : ℕ) → IsOpening a r image history gaps
+    → RestsOn a device image → slot < a.slots → (b : Bool) → is_live (is_committed r) image slot ≡ b
+    → HoldsAs (opened_under a r image history lost gaps) device slot (class_of_version (opened_under a r image history lost gaps) (held_by a r image history slot))
+holds-as a r image history lost gaps device slot opening rests h true live =
+    subst (λ (o : Option Version). HoldsAs (opened_under a r image history lost gaps) device slot (class_of_version (opened_under a r image history lost gaps) o))
+    (sym (held-live a r image history slot h live))
+    (subst (λ (b : Bool). HoldsAs (opened_under a r image history lost gaps) device slot (cond b (Newest (key_of image slot) (unwrap_or (after history (key_of image slot)) [])) Replaced))
+    (sym (eq-eqb (last_writer history (key_of image slot)) (last_writer history (key_of image slot)) refl))
+    (holds-live a r image history lost gaps device slot opening rests h live))
+holds-as a r image history lost gaps device slot opening rests h false dead =
+    subst (λ (o : Option Version). HoldsAs (opened_under a r image history lost gaps) device slot (class_of_version (opened_under a r image history lost gaps) o))
+    (sym (held-none a r image history slot dead)) (holds-dead a r image history lost gaps device slot opening rests h dead)
+
+pub opened-holds_under : (a : Layout) (r : Record) (image : Image) (history : List Commit) (lost : List ℕ) (gaps : List Gap) (device : Device) → IsOpening a r image history gaps
+    → RestsOn a device image → SlotsHold (opened_under a r image history lost gaps) device
+opened-holds_under a r image history lost gaps device opening rests = record {
+  each = λ slot h.
+      let good = good-slot r image slot (opening.good slot h) in
+      record {
+        begin_before = record { each = λ x there. subst (λ (t : ℕ). t < r.dirty) (sym (begin-left a device image slot x opening.layout rests h there)) good.begin };
+        end_before = record { each = λ x there. subst (λ (t : ℕ). t < r.dirty) (sym (end-left a device image slot x opening.layout rests h there)) good.end };
+        as_class = holds-as a r image history lost gaps device slot opening rests h (is_live (is_committed r) image slot) refl;
+      };
+}
+
+-- ---- what the image says
+
+or-none : {X : Type 0} → (a b : Option X) → option_or a b ≡ None → (a ≡ None) × (b ≡ None)
+or-none None b e = (refl, e)
+or-none (Some x) b e = cc
+
+some_if-none : (b : Bool) (fault : Fault) → some_if b fault ≡ None → b ≡ false
+some_if-none true fault e = cc
+some_if-none false fault e = refl
+
+-- the first two
+three-none : (a b c : Option Fault) → first_of (a ∷ b ∷ c ∷ []) ≡ None → (a ≡ None) × (b ≡ None)
+three-none a b c e = let both = or-none a (option_or b (option_or c None)) e in (both.0, (or-none b (option_or c None) both.1).0)
+
+-- the second, the third and the fifth
+six-none : (a b c d e f : Option Fault) → first_of (a ∷ b ∷ c ∷ d ∷ e ∷ f ∷ []) ≡ None → (b ≡ None) × (c ≡ None) × (e ≡ None)
+six-none a b c d e f none =
+    let one = or-none a (option_or b (option_or c (option_or d (option_or e (option_or f None))))) none in
+    let two = or-none b (option_or c (option_or d (option_or e (option_or f None)))) one.1 in
+    let three = or-none c (option_or d (option_or e (option_or f None))) two.1 in
+    let four = or-none d (option_or e (option_or f None)) three.1 in
+    let five = or-none e (option_or f None) four.1 in
+    (two.0, three.0, five.0)
+
+third-part : (x y z : Bool) → (x && y && z) ≡ true → z ≡ true
+third-part x y z e = (and_parts (x && y) z e).1
+
+formed-record : (version : ℕ) (words : List ℕ) → is_record version words ≡ true → is_well_formed version (record_in words) ≡ true
+formed-record version words e =
+    third-part (nat_eq (length words) 32) (list_all (λ w. nat_eq (slice_index words w) (record_word (record_in words) w)) (range_with_len 0 32)) (is_well_formed version (record_in words)) e
+
+-- what the fields of a sound image are
+pub record IsWhole (image : Image) : Type 0 where
+  pub known : is_known_version (layout_of image).version ≡ true
+  pub geometry : has_good_geometry image ≡ true
+  pub ruled : is_ruled image ≡ true
+
+pub whole-of : (image : Image) → IsSound image → IsWhole image
+whole-of image sound =
+    let parts = six-none (some_if (not (is_formatted image)) NotFormatted) (some_if (not (is_known_version (layout_of image).version)) (VersionFault (layout_of image).version))
+    (some_if (not (has_good_geometry image)) BadGeometry) (option_map Damaged (first_below (layout_of image).places (is_wrong_gate image)))
+    (some_if (not (is_ruled image)) (Damaged (ruling_place image)))
+    (option_map (λ slot. Damaged ((layout_of image).places + slot)) (first_below (layout_of image).slots (is_bad_slot image))) sound in
+    record {
+      known = not-false (is_known_version (layout_of image).version) (some_if-none (not (is_known_version (layout_of image).version)) (VersionFault (layout_of image).version) parts.0);
+      geometry = not-false (has_good_geometry image) (some_if-none (not (has_good_geometry image)) BadGeometry parts.1);
+      ruled = not-false (is_ruled image) (some_if-none (not (is_ruled image)) (Damaged (ruling_place image)) parts.2);
+    }
+
+has-room : (image : Image) → opening_fault image ≡ None → (ruling image).dirty + 2 * (layout_of image).window < 2 ^ 62
+has-room image opens =
+    let out : Bool = nat_le (2 ^ 62) ((ruling image).dirty + 2 * (layout_of image).window) in
+    let last : Bool = nat_le (2 ^ 62) ((ruling image).gate + 1) in
+    let none = three-none (damage image) (some_if (out || last) TimestampsOut) (some_if (needs_sweep image) GapsFull) opens in
+    leb-false (2 ^ 62) ((ruling image).dirty + 2 * (layout_of image).window) (or_parts out last (some_if-none (out || last) TimestampsOut none.1)).0
+
+pub opening-of : (image : Image) (history drawn : List Commit) (next : ℕ) (gaps : List Gap) → opening_fault image ≡ None → Stands image history drawn next
+    → IsOpenedGaps (ruling image) gaps → length gaps ≤ 8 → IsOpening (layout_of image) (ruling image) image history gaps
+opening-of image history drawn next gaps opens stands covers few =
+    let whole = whole-of image stands.sound in
+    record {
+      layout = refl;
+      limits = limits-of image whole.geometry;
+      size = size-of (layout_of image) image refl whole.geometry;
+      formed = formed-record (layout_of image).version (place_words image (ruling_place image))
+          (and_parts (not (nat_eq (greatest_gate image) 0)) (is_record (layout_of image).version (place_words image (ruling_place image))) whole.ruled).1;
+      room = has-room image opens;
+      good = λ slot h. no_bad_slot image stands.sound slot h;
+      tables = stands.tables;
+      covered = stands.covered;
+      gaps_cover = covers;
+      few = few;
+    }
+
+-- ---- a device that is the image
+
+word-within : (base words slots slot w : ℕ) → slot < slots → w < words → base + words * slot + w < base + words * slots
+word-within base words slots slot w h hw = omega (arith, mul-add-lt slot words w slots h hw)
+
+value-at : (device : Device) (word : ℕ) → word < device.words → slice_index (image_of device) word ≡ value_of device word
+value-at device word h = get_or-map-range_with_len (value_of device) 0 device.words word word 0 h (omega arith)
+
+-- a device with this image whose slots are settled rests on it
+pub rests_on-image : (device : Device) (image : Image) → IsSound image → image_of device ≡ image
+    → ((slot w : ℕ) → slot < (layout_of image).slots → w < slot_words (layout_of image).version → IsSettled device (word_of (layout_of image) slot w))
+    → RestsOn (layout_of image) device image
+rests_on-image device image sound is settled = record { settled = settled; holds = λ slot w h hw. by (word_of (layout_of image) slot w) (within slot w h hw) }
+  where
+    size : device.words ≡ length image
+    size = sym (length-map-range_with_len (value_of device) 0 device.words) ∙ ap (λ (l : List ℕ). length l) is
+
+    within : (slot w : ℕ) → slot < (layout_of image).slots → w < slot_words (layout_of image).version → word_of (layout_of image) slot w < device.words
+    within slot w h hw =
+        let less : word_of (layout_of image) slot w < total_words (layout_of image) = word-within (8 + 32 * (layout_of image).places) (slot_words (layout_of image).version) (layout_of image).slots slot w h hw in
+        subst (λ (n : ℕ). word_of (layout_of image) slot w < n) (sym (size ∙ size-of (layout_of image) image refl (whole-of image sound).geometry)) less
+
+    by : (word : ℕ) → word < device.words → value_of device word ≡ slice_index image word
+    by word h = sym (value-at device word h) ∙ ap (λ (l : List ℕ). slice_index l word) is
+
+-- ---- the theorems
+
+-- a timestamp that was drawn before is committed under the opened state's record exactly when it was under the one that ruled
+pub same-committed : (image : Image) (history : List Commit) (lost : List ℕ) (gaps : List Gap) (t : ℕ) → IsOpenedGaps (ruling image) gaps → length gaps ≤ 8 → t < (ruling image).dirty
+    → is_committed (present (opened image history lost gaps)).ruled_by t ≡ is_committed (ruling image) t
+same-committed image history lost gaps t covers few h =
+    same-committed_over (ruling image) (layout_of image).window gaps t covers h
+
+-- what an opening gives is kept
+pub opened-kept : (image : Image) (history drawn : List Commit) (next : ℕ) (lost : List ℕ) (gaps : List Gap) → opening_fault image ≡ None → Stands image history drawn next
+    → IsOpenedGaps (ruling image) gaps → length gaps ≤ 8 → IsKept (opened image history lost gaps)
+opened-kept image history drawn next lost gaps opens stands covers few =
+    subst (λ (q : State). IsKept q) (same_opened image history lost gaps (whole-of image stands.sound).known few)
+    (opened-kept_under (layout_of image) (ruling image) image history lost gaps (opening-of image history drawn next gaps opens stands covers few))
+
+-- and where the device's slots rest on the image, they hold what the state says
+pub opened-holds : (image : Image) (history drawn : List Commit) (next : ℕ) (lost : List ℕ) (gaps : List Gap) (device : Device) → opening_fault image ≡ None → Stands image history drawn next
+    → IsOpenedGaps (ruling image) gaps → length gaps ≤ 8 → RestsOn (layout_of image) device image → SlotsHold (opened image history lost gaps) device
+opened-holds image history drawn next lost gaps device opens stands covers few rests =
+    subst (λ (q : State). SlotsHold q device) (same_opened image history lost gaps (whole-of image stands.sound).known few)
+    (opened-holds_under (layout_of image) (ruling image) image history lost gaps device (opening-of image history drawn next gaps opens stands covers few) rests)

@@ -1,0 +1,109 @@
+-- How the device and the state may move under what a slot holds.
+use Rattle.std.specs.Prelude.{◌≡◌, ◌⊎◌, ℕ, ◌^◌, ◌<◌, ◌≤◌, Bool, true, false, List, [], ◌∷◌, IsTrue, Option, Some, None}
+use Rattle.base.specs.declared.key.Key.{Key}
+use Rattle.base.specs.Layout.{Layout, slot_words}
+use Rattle.base.specs.Commits.{after}
+use Rattle.base.specs.Machine.{State, Drawn, Hand}
+use Rattle.pmem.specs.Device.{Device, Survives, value_of, IsSettled}
+use Rattle.invariant.specs.Slots.{word_of, EachSurvivor, IsSettledAt, Spells, IsNever, IsCounted, is_drawn_on, Class, Free, Filled, Begun, Newest, Replaced}
+
+-- ---- the device
+
+-- the word keeps its last value, and no further value may survive in it
+pub record ShrinksWord (old new : Device) (word : ℕ) : Type 0 where
+  pub value : value_of new word ≡ value_of old word
+  pub survives : (x : ℕ) → Survives new word x → Survives old word x
+  pub settled : IsSettled old word → IsSettled new word
+
+-- each word of the slot does so
+pub record ShrinksSlot (a : Layout) (old new : Device) (slot : ℕ) : Type 0 where
+  pub each : (w : ℕ) → w < slot_words a.version → ShrinksWord old new (word_of a slot w)
+
+-- each slot does so
+pub record ShrinksSlots (a : Layout) (old new : Device) : Type 0 where
+  pub each : (slot : ℕ) → slot < a.slots → ShrinksSlot a old new slot
+
+-- each slot but one does so
+pub record ShrinksOthers (a : Layout) (but : ℕ) (old new : Device) : Type 0 where
+  pub each : (slot : ℕ) → slot < a.slots → (slot ≡ but → ⊥) → ShrinksSlot a old new slot
+
+-- only 0 may survive in the slot's begin, and 0 or what survived before in its end
+pub record IsCleared (a : Layout) (old new : Device) (slot : ℕ) : Type 0 where
+  pub begin : IsSettledAt new (word_of a slot 0) 0
+  pub end : EachSurvivor new (word_of a slot 1) (λ x. (x ≡ 0) ⊎ Survives old (word_of a slot 1) x)
+
+-- the same, and the slot has no end and this row under this key
+pub record IsRefilled (a : Layout) (old new : Device) (slot : ℕ) (key : Key) (row : List ℕ) : Type 0 where
+  pub cleared : IsCleared a old new slot
+  pub ended : value_of new (word_of a slot 1) ≡ 0
+  pub spells : Spells a (value_of new) slot key row
+
+-- the slot's begin has t, beside 0 perhaps; its other words are as they were
+pub record IsStampedWith (a : Layout) (old new : Device) (slot t : ℕ) : Type 0 where
+  pub begin : value_of new (word_of a slot 0) ≡ t
+  pub survives : EachSurvivor new (word_of a slot 0) (λ x. (x ≡ 0) ⊎ (x ≡ t))
+  pub others : (w : ℕ) → 1 ≤ w → w < slot_words a.version → ShrinksWord old new (word_of a slot w)
+
+-- a crash leaves each word of the slot with its last value
+pub record IsSlotSettled (a : Layout) (device : Device) (slot : ℕ) : Type 0 where
+  pub each : (w : ℕ) → w < slot_words a.version → IsSettled device (word_of a slot w)
+
+-- ---- the state
+
+-- no record counts it as a begin or an end of the key's versions: it never counts, or is of a drawn commit on the key
+abbrev pub IsHarmless : State → Key → ℕ → Type 0
+IsHarmless q key t = IsNever q t ⊎ IsTrue (is_drawn_on q key t)
+
+-- what each timestamp is in the one state it is in the other
+pub record Carries (q q' : State) : Type 0 where
+  pub next : q.next ≤ q'.next
+  pub never : (t : ℕ) → IsNever q t → IsNever q' t
+  pub counted : (t : ℕ) → IsCounted q t → IsCounted q' t
+  pub failed : q'.failed ≡ false → q.failed ≡ false
+  pub waits : q.failed ≡ true → (key : Key) (t : ℕ) → IsTrue (is_drawn_on q key t) → IsHarmless q' key t
+
+-- the ends that don't count still don't
+abbrev pub EndsCarry : State → State → Class → Type 0
+EndsCarry q q' (Newest key row) = (t : ℕ) → IsTrue (is_drawn_on q key t) → IsHarmless q' key t
+EndsCarry q q' _ = Unit {0}
+
+-- the batch in hand is the one drawn commit, which is stamped and writes one row, on a key that has none
+pub record CoversOne (q : State) (hand : Hand) (d : Drawn) (key : Key) (row : List ℕ) : Type 0 where
+  pub drawn : q.drawn ≡ d ∷ []
+  pub stamped : d.stamped ≡ 1
+  pub writes : d.commit.writes ≡ (key, Some row) ∷ []
+  pub fresh : after q.history key ≡ None
+  pub commits : hand.commits ≡ d.commit ∷ []
+  pub persisted : hand.persisted ≡ d.commit.timestamp
+  pub gaps : hand.gaps ≡ q.gaps
+  pub longs : hand.longs ≡ []
+  pub reserved : q.next ≤ hand.dirty
+  pub fits : hand.dirty < 2 ^ 62
+
+-- the batch in hand has no commits, and its record says what is said now but for the dirty timestamp
+pub record CoversNone (q : State) (hand : Hand) : Type 0 where
+  pub commits : hand.commits ≡ []
+  pub persisted : hand.persisted ≡ q.persisted
+  pub gaps : hand.gaps ≡ q.gaps
+  pub longs : hand.longs ≡ []
+  pub reserved : q.next ≤ hand.dirty
+  pub fits : hand.dirty < 2 ^ 62
+
+-- the state with this layout
+abbrev pub laid_out : Layout → State → State
+laid_out a q = record q { layout = a }
+
+-- the second state, but with all of the first's that slots go by, its sessions' writes aside
+abbrev pub alike : State → State → State
+alike q p = record p {
+  layout = q.layout;
+  history = q.history;
+  drawn = q.drawn;
+  gate = q.gate;
+  persisted = q.persisted;
+  dirty = q.dirty;
+  next = q.next;
+  gaps = q.gaps;
+  longs = q.longs;
+  held = q.held;
+}
