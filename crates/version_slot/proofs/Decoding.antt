@@ -1,0 +1,189 @@
+-- Words and the version that they hold.
+use Rattle.std.proofs.Common.{◌≡◌, ◌⊎◌, inl, inr, ℕ, zero, suc, ◌+◌, ◌-◌, ◌*◌, ◌/◌, ◌%◌, ◌^◌, ◌<◌, ◌≤◌, Bool, cond, eqb, IsTrue, List, [], ◌∷◌, length, get_or, set, take, drop, map, refl, sym, ◌∙◌, ap, subst, arith, lit<}
+use Rattle.std.specs.Int.{byte_at, bytes_low_first, from_le_bytes, to_le_bytes, w64}
+use Rattle.std.specs.List.{range_with_len}
+use Rattle.std.proofs.lemmas.Bool.{cases_eq, cases_lt, ne_eqb}
+use Rattle.std.proofs.lemmas.Bool.Decides.{nat_tests}
+use Rattle.std.proofs.lemmas.List.{get_or-drop, get_or-take, get_or_past, length-drop, length-take-le}
+use Rattle.std.proofs.lemmas.List.Edits.{fill_by_more}
+use Rattle.std.proofs.lemmas.List.FromFn.{get_or-map-range_with_len, length-map-range_with_len}
+use Rattle.std.proofs.lemmas.Nat.{le_bytes_8, mod_below, from_le_bytes-to_le_bytes_8}
+use Rattle.base.specs.Layout.{Layout, slot_words, row_limit, is_in_limits}
+use Rattle.version_slot.specs.declared.words.Version.{Version}
+use Rattle.version_slot.specs.Words.{link_number, row_word, slot_byte, version_word, Fits, IsVersion}
+
+-- eight bytes make the number
+pub same_word : (xs ys : List ℕ) → ((i : ℕ) → i < 8 → get_or xs i 0 ≡ get_or ys i 0) → from_le_bytes w64 xs ≡ from_le_bytes w64 ys
+same_word xs ys same =
+    let e0 = same 0 (lit< tt) in
+    let e1 = same 1 (lit< tt) in
+    let e2 = same 2 (lit< tt) in
+    let e3 = same 3 (lit< tt) in
+    let e4 = same 4 (lit< tt) in
+    let e5 = same 5 (lit< tt) in
+    let e6 = same 6 (lit< tt) in
+    let e7 = same 7 (lit< tt) in
+    cc
+
+-- what eight bytes make gives them back
+bytes_back : (n : ℕ) (f : ℕ → ℕ) → ((i : ℕ) → f i < 256) → n ≡ from_le_bytes w64 (map f (range_with_len 0 8)) → (i : ℕ) → i < 8 → get_or (to_le_bytes w64 n) i 0 ≡ f i
+bytes_back n f small is i lt =
+    ap (λ (l : List ℕ). get_or l i 0) (le_bytes_8 (map f (range_with_len 0 8)) n (length-map-range_with_len f 0 8) below is) ∙ get_or-map-range_with_len f 0 8 i i 0 lt (omega arith)
+  where
+    below : (k : ℕ) → get_or (map f (range_with_len 0 8)) k 0 < 256
+    below k = elim (cases_lt k 8) [
+      | inl lt ↦ subst (λ (x : ℕ). x < 256) (sym (get_or-map-range_with_len f 0 8 k k 0 lt (omega arith))) (small k)
+      | inr le ↦
+          subst (λ (x : ℕ). x < 256) (sym (get_or_past (map f (range_with_len 0 8)) k 0 (omega (arith, length-map-range_with_len f 0 8, le)))) (lit< tt)
+    ]
+
+-- each byte of the row, and 0 after it, stands in the words
+pub row_byte : (row : List ℕ) (words : ℕ → ℕ) (last i : ℕ) → ((k : ℕ) → k < last → words (4 + k) ≡ row_word row k) → ((k : ℕ) → get_or row k 0 < 256) → i / 8 < last → slot_byte words i ≡ get_or row i 0
+row_byte row words last i each small lt =
+    bytes_back (words (4 + i / 8)) (λ j. get_or row (8 * (i / 8) + j) 0) (λ j. small (8 * (i / 8) + j))
+    (each (i / 8) lt
+    ∙ same_word (drop (8 * (i / 8)) row) (map (λ (j : ℕ). get_or row (8 * (i / 8) + j) 0) (range_with_len 0 8)) (λ j j_lt.
+    get_or-drop (8 * (i / 8)) row j 0 ∙ sym (get_or-map-range_with_len (λ (k : ℕ). get_or row (8 * (i / 8) + k) 0) 0 8 j j 0 j_lt (omega arith)))) (i % 8) (omega arith)
+    ∙ ap (λ (k : ℕ). get_or row k 0) (let e : 8 * (i / 8) + i % 8 ≡ i = omega arith in e)
+
+-- a known version of the layout
+pub limits : (a : Layout) → IsTrue (is_in_limits a) → (a.version ≡ 1) × (a.slots ≤ 65536)
+limits a h = grind (arith, nat_tests)
+
+pub word_past : (v : Version) (k : ℕ) → version_word v (4 + k) ≡ row_word v.row k
+word_past v k =
+    ap (λ (b : Bool). cond b v.key.key (cond (eqb (4 + k) 3) (v.key.table + 2 ^ 16 * length v.row + 2 ^ 32 * link_number v.previous) (row_word v.row (4 + k - 4)))) (ne_eqb (4 + k) 2 (λ e. absurd (omega arith)))
+    ∙ ap (λ (b : Bool). cond b (v.key.table + 2 ^ 16 * length v.row + 2 ^ 32 * link_number v.previous) (row_word v.row (4 + k - 4))) (ne_eqb (4 + k) 3 (λ e. absurd (omega arith)))
+    ∙ ap (row_word v.row) (let e : 4 + k - 4 ≡ k = omega arith in e)
+
+-- ---- words that hold a version
+
+module _ (layout : Layout) (words : ℕ → ℕ) (v : Version) (is : IsVersion layout words v) (wide : 8 ≤ slot_words layout.version) where
+  words_3 : words 3 ≡ v.key.table + 2 ^ 16 * length v.row + 2 ^ 32 * link_number v.previous
+  words_3 = is.each 3 (omega arith) (omega arith)
+
+  pub row_words : (k : ℕ) → k + 4 < slot_words layout.version → words (4 + k) ≡ row_word v.row k
+  row_words k lt = is.each (4 + k) (omega arith) (omega arith) ∙ word_past v k
+
+  pub byte_is : (i : ℕ) → i / 8 + 4 < slot_words layout.version → slot_byte words i ≡ get_or v.row i 0
+  byte_is i lt = row_byte v.row words (slot_words layout.version - 4) i (λ k k_lt. row_words k (omega arith)) is.fits.bytes (omega arith)
+
+  pub table_is : words 3 % 2 ^ 16 ≡ v.key.table
+  table_is = omega (arith, words_3, is.fits.table)
+
+  pub link_is : length v.row < 2 ^ 16 → words 3 / 2 ^ 32 ≡ link_number v.previous
+  link_is short = omega (arith, words_3, is.fits.table, short)
+
+  pub length_is : length v.row < 2 ^ 16 → words 3 / 2 ^ 16 % 2 ^ 16 ≡ length v.row
+  length_is short = omega (arith, words_3, is.fits.table, short)
+
+-- ---- a loop that fills a list
+
+pub set_more : (f : ℕ → ℕ) (xs : List ℕ) (i x : ℕ) → i < length xs → x ≡ f i → ((k : ℕ) → k < i → get_or xs k 0 ≡ f k) → (k : ℕ) → k < i + 1 → get_or (set xs i x) k 0 ≡ f k
+set_more f xs i x lt is before k k_lt = ap (λ (y : ℕ). get_or (set xs i y) k 0) is ∙ fill_by_more f xs i 0 lt before k k_lt
+
+pub by_seven : (P : ℕ → Type 0) → P 1 → P 2 → P 3 → P 4 → P 5 → P 6 → P 7 → (w : ℕ) → 1 ≤ w → w < 8 → P w
+by_seven P a b c d e f g w from to = elim (cases_eq w 1) [
+  | inl is ↦ subst P (sym is) a
+  | inr n1 ↦ elim (cases_eq w 2) [
+    | inl is ↦ subst P (sym is) b
+    | inr n2 ↦ elim (cases_eq w 3) [
+      | inl is ↦ subst P (sym is) c
+      | inr n3 ↦ elim (cases_eq w 4) [
+        | inl is ↦ subst P (sym is) d
+        | inr n4 ↦ elim (cases_eq w 5) [
+          | inl is ↦ subst P (sym is) e
+          | inr n5 ↦ elim (cases_eq w 6) [
+            | inl is ↦ subst P (sym is) f
+            | inr n6 ↦ subst P (let is : 7 ≡ w = omega arith in is) g
+          ]
+        ]
+      ]
+    ]
+  ]
+]
+
+-- ---- words read
+
+module _ (words : ℕ → ℕ) (bytes : List ℕ) (n : ℕ) (size : length bytes ≡ 32) (read : (i : ℕ) → i < 32 → get_or bytes i 0 ≡ slot_byte words i) where
+  -- what a version leaves after its row is 0
+  pub zero_after : (layout : Layout) (v : Version) → IsVersion layout words v → 8 ≤ slot_words layout.version → n ≡ length v.row → (i : ℕ) → i < length (drop n bytes) → get_or (drop n bytes) i 0 ≡ 0
+  zero_after layout v is wide n_is i lt =
+      let within : n + i < 32 = omega (arith, length-drop {A = ℕ}, lt, size) in
+      get_or-drop n bytes i 0 ∙ read (n + i) within ∙ byte_is layout words v is wide (n + i) (omega arith) ∙ get_or_past v.row (n + i) 0 (omega arith)
+
+  module _ (layout : Layout) (one : layout.version ≡ 1) (v : Version) (fit : (w : ℕ) → words w < 2 ^ 64) (small : (i : ℕ) → get_or bytes i 0 < 2 ^ 8)
+      (n_is : n ≡ words 3 / 2 ^ 16 % 2 ^ 16) (short : n ≤ 32) (zeros : (i : ℕ) → i < length (drop n bytes) → get_or (drop n bytes) i 0 ≡ 0)
+      (key : v.key.key ≡ words 2) (table : v.key.table ≡ words 3 % 2 ^ 16) (row : v.row ≡ take n bytes) (link : link_number v.previous ≡ words 3 / 2 ^ 32) (linked : words 3 / 2 ^ 32 ≤ layout.slots) where
+    row_size : length v.row ≡ n
+    row_size = ap (length {A = ℕ}) row ∙ length-take-le n bytes (omega arith)
+
+    row_is : (i : ℕ) → i < 32 → get_or v.row i 0 ≡ get_or bytes i 0
+    row_is i lt = elim (cases_lt i n) [
+      | inl below ↦ ap (λ (l : List ℕ). get_or l i 0) row ∙ get_or-take n bytes i 0 below
+      | inr above ↦
+          let at : n + (i - n) ≡ i = omega arith in
+          get_or_past v.row i 0 (omega (arith, row_size)) ∙ sym (zeros (i - n) (omega (arith, length-drop {A = ℕ}, size))) ∙ get_or-drop n bytes (i - n) 0 ∙ ap (λ (k : ℕ). get_or bytes k 0) at
+    ]
+
+    word_is : (k : ℕ) → k < 4 → words (4 + k) ≡ row_word v.row k
+    word_is k lt =
+        sym (from_le_bytes-to_le_bytes_8 (words (4 + k)) (fit (4 + k)))
+        ∙ same_word (to_le_bytes w64 (words (4 + k))) (drop (8 * k) v.row) (λ i i_lt.
+        let place : (8 * k + i) / 8 ≡ k = omega arith in
+        let rest : (8 * k + i) % 8 ≡ i = omega arith in
+        ap (λ (j : ℕ). get_or (to_le_bytes w64 (words (4 + k))) j 0) (sym rest) ∙ ap (λ (j : ℕ). get_or (to_le_bytes w64 (words (4 + j))) ((8 * k + i) % 8) 0) (sym place)
+        ∙ sym (read (8 * k + i) (omega arith)) ∙ sym (row_is (8 * k + i) (omega arith)) ∙ sym (get_or-drop (8 * k) v.row i 0))
+
+    header_is : words 3 ≡ v.key.table + 2 ^ 16 * length v.row + 2 ^ 32 * link_number v.previous
+    header_is = omega (arith, row_size, n_is, table, link, short)
+
+    each : (w : ℕ) → 2 ≤ w → w < 8 → words w ≡ version_word v w
+    each w from to = elim (cases_lt w 4) [
+      | inl low ↦ elim (cases_eq w 2) [
+        | inl is ↦ subst (λ (i : ℕ). words i ≡ version_word v i) (sym is) (sym key)
+        | inr apart ↦ subst (λ (i : ℕ). words i ≡ version_word v i) (let is : 3 ≡ w = omega arith in is) header_is
+      ]
+      | inr high ↦
+          subst (λ (i : ℕ). words i ≡ version_word v i) (let is : 4 + (w - 4) ≡ w = omega arith in is) (word_is (w - 4) (omega arith) ∙ sym (word_past v (w - 4)))
+    ]
+
+    row_small : (i : ℕ) → get_or v.row i 0 < 2 ^ 8
+    row_small i = elim (cases_lt i 32) [
+      | inl within ↦ subst (λ (x : ℕ). x < 2 ^ 8) (sym (row_is i within)) (small i)
+      | inr past ↦ subst (λ (x : ℕ). x < 2 ^ 8) (sym (get_or_past v.row i 0 (omega (arith, row_size)))) (lit< tt)
+    ]
+
+    limit_is : row_limit layout.version ≡ 32
+    limit_is = ap row_limit one
+
+    pub holds : IsVersion layout words v
+    holds = record {
+      each = subst (λ (version : ℕ). (w : ℕ) → 2 ≤ w → w < slot_words version → words w ≡ version_word v w) (sym one) each;
+      fits = record {
+        table = omega (arith, table);
+        row = omega (arith, row_size, limit_is);
+        bytes = row_small;
+        previous = omega (arith, link, linked);
+      };
+    }
+
+-- ---- bytes are small
+
+byte_small : (i n : ℕ) → byte_at i n < 256
+byte_small zero n = mod_below n 256 (lit< tt)
+byte_small (suc i) n = mod_below (n / 256 ^ suc i) 256 (lit< tt)
+
+low_small : (i k n j : ℕ) → get_or (bytes_low_first i k n) j 0 < 256
+low_small i zero n j = lit< tt
+low_small i (suc k) n zero = byte_small i n
+low_small i (suc k) n (suc j) = low_small (suc i) k n j
+
+pub slot_byte_small : (words : ℕ → ℕ) (i : ℕ) → slot_byte words i < 256
+slot_byte_small words i = low_small 0 8 (words (4 + i / 8)) (i % 8)
+
+pub bytes_small : (words : ℕ → ℕ) (bytes : List ℕ) → length bytes ≡ 32 → ((i : ℕ) → i < 32 → get_or bytes i 0 ≡ slot_byte words i) → (i : ℕ) → get_or bytes i 0 < 2 ^ 8
+bytes_small words bytes size read i = elim (cases_lt i 32) [
+  | inl within ↦ subst (λ (x : ℕ). x < 2 ^ 8) (sym (read i within)) (slot_byte_small words i)
+  | inr past ↦ subst (λ (x : ℕ). x < 2 ^ 8) (sym (get_or_past bytes i 0 (omega arith))) (lit< tt)
+]

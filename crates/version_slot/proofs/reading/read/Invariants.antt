@@ -1,0 +1,10 @@
+use Rattle.std.proofs.Common.{◌≡◌, ◌<◌, ℕ, length, slice_index}
+use Rattle.pmem.specs.Device.{value_of}
+use Rattle.version_slot.specs.Words.{slot_at}
+use Rattle.version_slot.proofs.reading.read.Given as goal
+
+abbrev pub invariant-loop-w : goal.invariant-loop-w
+invariant-loop-w g l = record {
+  size : length l.words ≡ 8;
+  loaded : (w : ℕ) → w < l.w → slice_index l.words w ≡ slot_at l.geometry l.slot (value_of (g.D.Pmem.state l.device)) w;
+}

@@ -1,0 +1,36 @@
+use Rattle.std.proofs.Common.{◌≡◌, ◌-◌, ◌≤◌, ℕ, ap, arith}
+use Rattle.std.proofs.lemmas.Result.{on_ok_weaker, on_err_weaker}
+use Rattle.base.specs.Layout.{Layout, row_limit, slot_words}
+use Rattle.pmem.specs.Device.{Device}
+use Rattle.version_slot.specs.Words.{Fits}
+use Rattle.version_slot.proofs.Decoding.{limits}
+use Rattle.version_slot.proofs.Stores.{either, fills_all, fills_part, filled_version, filled_keeps}
+use Rattle.version_slot.proofs.writing.fill.Goals as goal
+
+pub returns-clause-ok : goal.returns-clause-ok
+returns-clause-ok g c =
+    on_ok_weaker c.store_all.result
+    (fills_all c.args.geometry ((limits c.args.geometry c.slot_start.ensures.in_limits).0) c.args.slot c.slot_start.result c.slot_start.ensures.value c.words-words.result c.args.version.now c.words-words.ensures.size c.words-words.ensures.words (g.D.Pmem.state c.args.device.now) (g.D.Pmem.state c.store_all.new.device))
+    c.store_all.ensures.ok
+
+pub returns-clause-version : goal.returns-clause-version
+returns-clause-version g c =
+    let words = c.words-words.ensures in
+    let fits : Fits c.args.geometry c.args.version.now = record { table = words.table; row = omega (arith, words.row, ap row_limit ((limits c.args.geometry c.slot_start.ensures.in_limits).0)); bytes = words.bytes; previous = c.requires.previous } in
+    on_ok_weaker c.store_all.result
+    (filled_version c.args.geometry c.args.slot c.args.version.now 0 (g.D.Pmem.state c.args.device.now) (g.D.Pmem.state c.store_all.new.device) fits)
+    (returns-clause-ok g c)
+
+pub returns-clause-err : goal.returns-clause-err
+returns-clause-err g c =
+    on_err_weaker c.store_all.result
+    (fills_part c.args.geometry ((limits c.args.geometry c.slot_start.ensures.in_limits).0) c.args.slot c.slot_start.result c.slot_start.ensures.value c.words-words.result c.args.version.now c.words-words.ensures.size c.words-words.ensures.words (g.D.Pmem.state c.args.device.now) (g.D.Pmem.state c.store_all.new.device))
+    c.store_all.ensures.err
+
+pub returns-clause-keeps : goal.returns-clause-keeps
+returns-clause-keeps g c =
+    let old = g.D.Pmem.state c.args.device.now in
+    let new = g.D.Pmem.state c.store_all.new.device in
+    let all = slot_words c.args.geometry.version - 1 in
+    either c.store_all.result (returns-clause-ok g c) (returns-clause-err g c) (λ run. filled_keeps c.args.geometry c.args.slot c.args.version.now all 0 old new (omega arith) run)
+    (λ part. filled_keeps c.args.geometry c.args.slot c.args.version.now part.0 1 old new (omega (arith, part.1)) part.2)

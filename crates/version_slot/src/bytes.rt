@@ -1,0 +1,66 @@
+ghost use Rattle.std.specs.Prelude.{◌≡◌, ◌↔◌, ◌+◌, ◌*◌, ◌^◌, ◌<◌, ◌≤◌, ℕ, drop, length, slice_index, EachIndex, IsTrue};
+ghost use Rattle.std.specs.Int.{from_le_bytes, w64};
+ghost use Rattle.version_slot.specs.Words.{link_number, slot_byte};
+
+// The eight bytes from one on as a number, the first lowest, with 0 past the end.
+pub fn word_at(bytes: &[u8], from: usize) -> u64
+    requires { from ≤ 32 }
+    ensures { result ≡ from_le_bytes w64 (drop from bytes.now) }
+{
+    let mut eight = [0; 8];
+    for i in 0..8 {
+        eight[i] = byte_or_zero(bytes, from + i);
+    }
+    u64::from_le_bytes(eight)
+}
+
+fn byte_or_zero(bytes: &[u8], i: usize) -> u8
+    ensures { result ≡ slice_index bytes.now i }
+{
+    if i < bytes.len() { bytes[i] } else { 0 }
+}
+
+// The bytes of a slot's row words, the lowest of each word first.
+pub fn row_bytes(words: &[u64; 8]) -> [u8; 32]
+    ensures size { length result ≡ 32 }
+    ensures bytes { (i : ℕ) → i < 32 → slice_index result i ≡ slot_byte (slice_index words.now) i }
+{
+    let mut bytes = [0; 32];
+    for i in 0..32 {
+        bytes[i] = words[4 + i / 8].to_le_bytes()[i % 8];
+    }
+    bytes
+}
+
+pub fn are_zero(bytes: &[u8]) -> bool
+    ensures { IsTrue result ↔ EachIndex bytes.now (λ i. slice_index bytes.now i ≡ 0) }
+{
+    bytes.iter().all(|byte| *byte == 0)
+}
+
+// A slot's word of the table, the row's length and the link.
+pub fn header(table: u16, length: usize, link: u64) -> u64
+    requires length { length < 2 ^ 8 }
+    requires link { link < 2 ^ 32 }
+    ensures { result ≡ table + 2 ^ 16 * length + 2 ^ 32 * link }
+{
+    u64::from(table) + ((length as u64) << 16) + (link << 32)
+}
+
+// The number that stands for the previous slot.
+pub fn link_of(previous: Option<u64>) -> u64
+    requires { link_number previous < 2 ^ 32 }
+    ensures { result ≡ link_number previous }
+{
+    match previous {
+        Some(slot) => slot + 1,
+        None => 0,
+    }
+}
+
+// The previous slot that the number stands for.
+pub fn previous_of(link: u64) -> Option<u64>
+    ensures { link_number result ≡ link }
+{
+    link.checked_sub(1)
+}

@@ -1,0 +1,41 @@
+ghost use Rattle.std.specs.Prelude.{◌≡◌, ◌<◌, IfSome, IfNone};
+ghost use Rattle.base.specs.Layout.{slot_start, total_words};
+ghost use Rattle.pmem.specs.Device.{value_of};
+ghost use Rattle.version_slot.specs.Words.{IsSlot, slot_at};
+
+use crate::words::Slot;
+use base::geometry::Geometry;
+use pmem::Pmem;
+
+/// What the last values of a slot's words hold.
+pub fn read<D: Pmem>(device: &D, geometry: Geometry, slot: u64) -> Option<Slot>
+    requires slot { slot < geometry.slots }
+    requires device { (D.state device.now).words ≡ total_words geometry }
+    ensures some { IfSome result (IsSlot geometry (slot_at geometry slot (value_of (D.state device.now)))) }
+    ensures none { IfNone result ((found : Slot) → ¬ IsSlot geometry (slot_at geometry slot (value_of (D.state device.now))) found) }
+{
+    let start = geometry.slot_start(slot);
+    let mut words = [0; 8];
+    for w in 0..8 {
+        words[w] = device.load(start + w);
+    }
+    Slot::from_words(&words, geometry)
+}
+
+/// The timestamp in a slot's begin.
+pub fn begin<D: Pmem>(device: &D, geometry: Geometry, slot: u64) -> u64
+    requires slot { slot < geometry.slots }
+    requires device { (D.state device.now).words ≡ total_words geometry }
+    ensures { result ≡ slot_at geometry slot (value_of (D.state device.now)) 0 }
+{
+    device.load(geometry.slot_start(slot))
+}
+
+/// The timestamp in a slot's end.
+pub fn end<D: Pmem>(device: &D, geometry: Geometry, slot: u64) -> u64
+    requires slot { slot < geometry.slots }
+    requires device { (D.state device.now).words ≡ total_words geometry }
+    ensures { result ≡ slot_at geometry slot (value_of (D.state device.now)) 1 }
+{
+    device.load(geometry.slot_start(slot) + 1)
+}

@@ -1,0 +1,85 @@
+use crate::bytes::{are_zero, header, link_of, previous_of, row_bytes, word_at};
+use base::geometry::Geometry;
+use base::key::Key;
+use base::row::Row;
+
+/// One version of a row.
+#[derive(Clone, Copy, Debug, PartialEq, Eq)]
+pub struct Version {
+    pub key: Key,
+    pub row: Row,
+    /// The slot of the version before it, if it has one.
+    pub previous: Option<u64>,
+}
+
+/// What the words of a slot hold: a version, the timestamp of the commit that wrote it, and that of the commit that
+/// replaced it. A timestamp that isn't there is 0.
+#[derive(Clone, Copy, Debug, PartialEq, Eq)]
+pub struct Slot {
+    pub begin: u64,
+    pub end: u64,
+    pub version: Version,
+}
+
+impl Slot {
+    ghost use Rattle.std.specs.Prelude.{slice_index, IfSome, IfNone};
+    ghost use Rattle.version_slot.specs.Words.{IsSlot};
+
+    /// What these words hold. They hold nothing where the row's length, an unused bit, a byte past the row's end or
+    /// the previous slot isn't as it should be.
+    pub fn from_words(words: &[u64; 8], geometry: Geometry) -> Option<Slot>
+        ensures some { IfSome result (IsSlot geometry (slice_index words.now)) }
+        ensures none { IfNone result ((slot : Slot) → ¬ IsSlot geometry (slice_index words.now) slot) }
+    {
+        let header = words[3];
+        let length = (header >> 16) % 65_536;
+        let link = header >> 32;
+        if length > Row::LIMIT as u64 || link > geometry.slots() {
+            return None;
+        }
+        let bytes = row_bytes(words);
+        let (row, padding) = bytes.split_at(length as usize);
+        if !are_zero(padding) {
+            return None;
+        }
+        Some(Slot {
+            begin: words[0],
+            end: words[1],
+            version: Version {
+                key: Key {
+                    table: (header % 65_536) as u16,
+                    key: words[2],
+                },
+                row: Row::new(row).unwrap(),
+                previous: previous_of(link),
+            },
+        })
+    }
+}
+
+impl Version {
+    ghost use Rattle.std.specs.Prelude.{◌≡◌, ◌≤◌, ◌<◌, ◌^◌, ℕ, length, slice_index};
+    ghost use Rattle.version_slot.specs.Words.{filled_word, link_number};
+
+    // The words of a slot that is filled with it, with 0 for the first.
+    pub fn words(&self) -> [u64; 8]
+        requires { link_number self.now.previous < 2 ^ 32 }
+        ensures size { length result ≡ 8 }
+        ensures words { (w : ℕ) → 1 ≤ w → w < 8 → slice_index result w ≡ filled_word self.now w }
+        ensures table { self.now.key.table < 2 ^ 16 }
+        ensures row { length self.now.row ≤ 32 }
+        ensures bytes { (i : ℕ) → slice_index self.now.row i < 2 ^ 8 }
+    {
+        let bytes = self.row.as_bytes();
+        [
+            0,
+            0,
+            self.key.key,
+            header(self.key.table, bytes.len(), link_of(self.previous)),
+            word_at(bytes, 0),
+            word_at(bytes, 8),
+            word_at(bytes, 16),
+            word_at(bytes, 24),
+        ]
+    }
+}

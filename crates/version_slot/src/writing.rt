@@ -1,0 +1,80 @@
+ghost use Rattle.std.specs.Prelude.{◌≡◌, ◌+◌, ◌-◌, ◌^◌, ◌<◌, ◌≤◌, ℕ, length, slice_index, IfErr, OnErr, OnOk};
+ghost use Rattle.base.specs.Layout.{slot_start, slot_words, total_words};
+ghost use Rattle.pmem.specs.Device.{value_of, Keeps};
+ghost use Rattle.version_slot.specs.Filling.{Fills, OldOrFilled, SameBeside, Stamps, StoresRun};
+ghost use Rattle.version_slot.specs.Words.{IsVersion, link_number, slot_at};
+
+use crate::words::Version;
+use base::fault::Fault;
+use base::geometry::Geometry;
+use pmem::Pmem;
+
+/// Stores 0 in a slot's end and then a version in the words after it. The begin stays.
+pub fn fill<D: Pmem>(
+    device: &mut D,
+    geometry: Geometry,
+    slot: u64,
+    version: &Version,
+) -> Result<(), Fault>
+    requires slot { slot < geometry.slots }
+    requires previous { link_number version.now.previous ≤ geometry.slots }
+    requires device { (D.state device.old).words ≡ total_words geometry }
+    ensures ok { OnOk result (Fills geometry slot version.now (slot_words geometry.version - 1) 0 (D.state device.old) (D.state device.new)) }
+    ensures version { OnOk result (IsVersion geometry (slot_at geometry slot (value_of (D.state device.new))) version.now) }
+    ensures err { OnErr result ((n : ℕ) × (n < slot_words geometry.version - 1) × Fills geometry slot version.now n 1 (D.state device.old) (D.state device.new)) }
+    ensures fault { IfErr result (λ fault. fault ≡ Fault.Device) }
+    ensures others { SameBeside geometry slot (D.state device.old) (D.state device.new) }
+    ensures keeps { Keeps (D.state device.old) (D.state device.new) (OldOrFilled (D.state device.old) geometry slot version.now) }
+{
+    let words = version.words();
+    store_all(device, geometry.slot_start(slot) + 1, &words[1..])
+}
+
+/// Stores the timestamp of the commit that wrote the slot's version.
+pub fn stamp_begin<D: Pmem>(
+    device: &mut D,
+    geometry: Geometry,
+    slot: u64,
+    timestamp: u64,
+) -> Result<(), Fault>
+    requires slot { slot < geometry.slots }
+    requires device { (D.state device.old).words ≡ total_words geometry }
+    ensures ok { OnOk result (Stamps (slot_start geometry slot) timestamp 1 0 (D.state device.old) (D.state device.new)) }
+    ensures err { OnErr result (Stamps (slot_start geometry slot) timestamp 0 1 (D.state device.old) (D.state device.new)) }
+    ensures fault { IfErr result (λ fault. fault ≡ Fault.Device) }
+{
+    store_all(device, geometry.slot_start(slot), &[timestamp])
+}
+
+/// Stores the timestamp of the commit that replaced the slot's version.
+pub fn stamp_end<D: Pmem>(
+    device: &mut D,
+    geometry: Geometry,
+    slot: u64,
+    timestamp: u64,
+) -> Result<(), Fault>
+    requires slot { slot < geometry.slots }
+    requires device { (D.state device.old).words ≡ total_words geometry }
+    ensures ok { OnOk result (Stamps (slot_start geometry slot + 1) timestamp 1 0 (D.state device.old) (D.state device.new)) }
+    ensures err { OnErr result (Stamps (slot_start geometry slot + 1) timestamp 0 1 (D.state device.old) (D.state device.new)) }
+    ensures fault { IfErr result (λ fault. fault ≡ Fault.Device) }
+{
+    store_all(device, geometry.slot_start(slot) + 1, &[timestamp])
+}
+
+// Stores the values in the words from one on, in order, up to the first that fails.
+fn store_all<D: Pmem>(device: &mut D, first: usize, values: &[u64]) -> Result<(), Fault>
+    requires fits { first + length values.now < 2 ^ 64 }
+    requires device { first + length values.now ≤ (D.state device.old).words }
+    ensures ok { OnOk result (StoresRun first (slice_index values.now) (length values.now) 0 (D.state device.old) (D.state device.new)) }
+    ensures err { OnErr result ((n : ℕ) × (n < length values.now) × StoresRun first (slice_index values.now) n 1 (D.state device.old) (D.state device.new)) }
+    ensures fault { IfErr result (λ fault. fault ≡ Fault.Device) }
+{
+    for (k, value) in values.iter().enumerate() {
+        match device.store(first + k, *value) {
+            Ok(()) => {}
+            Err(fault) => return Err(fault),
+        }
+    }
+    Ok(())
+}
