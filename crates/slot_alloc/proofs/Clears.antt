@@ -1,5 +1,5 @@
 -- Clearing a word, operation by operation.
-use Rattle.std.proofs.Common.{◌≡◌, ◌≢◌, ◌⊎◌, inl, inr, ℕ, ◌+◌, ◌/◌, ◌<◌, ◌≤◌, List, [], ◌∷◌, refl, sym, ◌∙◌, ap, subst, arith}
+use Rattle.std.proofs.Common.{◌≡◌, ◌≢◌, ◌⊎◌, inl, inr, ℕ, ◌+◌, ◌/◌, ◌<◌, ◌≤◌, List, [], ◌∷◌, Result, Ok, Err, OnErr, refl, sym, ◌∙◌, ap, subst, arith}
 use Rattle.pmem.specs.Device.{Device, survivors_in, stored, flushed, fenced, failed, Survives, value_of, IsSettled, IsReady, IsOrderly, Keeps}
 use Rattle.pmem.proofs.Steps.{value-stored_same, value-stored_other, value-flushed, value-fenced, survives-stored, survives-flushed, survives-fenced, settled-stored, settled-flushed, settled-fenced, settled-ready, ready-flushed, ready-stored, ready-flushed_by, ready-fenced}
 use Rattle.pmem.proofs.Runs.{keeps_none, keeps-stored, keeps-flushed, keeps-fenced, keeps-failed}
@@ -144,3 +144,7 @@ cleared word actor old one two three orderly within is1 is2 is3 =
     let zero_2 : value_of two word ≡ 0 = ap (λ (d : Device). value_of d word) is2 ∙ value-flushed actor (word / 8) one word ∙ zero_1 in
     let zero_3 : value_of (fenced actor two) word ≡ 0 = value-fenced actor two word ∙ zero_2 in
     ap (λ (d : Device). survivors_in (d.history word)) is3 ∙ settled-ready actor two word ready ∙ ap (λ (n : ℕ). n ∷ []) zero_3
+
+pub on_err : {T E P : Type 0} (r : Result T E) → P → OnErr r P
+on_err (Ok x) p = tt
+on_err (Err e) p = p

@@ -18,15 +18,15 @@ lowest_found n (suc m) test lt none passes = elim (cases_eq n m) [
 ]
 
 -- it lies below the bound
+below_by : (n slot : ℕ) (o : Option ℕ) (b : Bool) → ((k : ℕ) → o ≡ Some k → k < n) → option_or o (cond b (Some n) None) ≡ Some slot → slot < suc n
+below_by n slot (Some k) b within e =
+    let same : k ≡ slot = cc in
+    omega (arith, within k refl)
+below_by n slot None true within e =
+    let same : n ≡ slot = cc in
+    omega arith
+below_by n slot None false within e = absurd (cc)
+
 pub lowest_below : (n slot : ℕ) (test : ℕ → Bool) → first_below n test ≡ Some slot → slot < n
-lowest_below zero slot test is = absurd (cc is)
-lowest_below (suc n) slot test is = by_first (first_below n test) refl (test n) is
-  where
-    by_first : (o : Option ℕ) → first_below n test ≡ o → (b : Bool) → option_or o (cond b (Some n) None) ≡ Some slot → slot < suc n
-    by_first (Some k) at b e =
-        let same : k ≡ slot = cc e in
-        omega (arith, lowest_below n k test at)
-    by_first None at true e =
-        let same : n ≡ slot = cc e in
-        omega arith
-    by_first None at false e = absurd (cc e)
+lowest_below zero slot test is = absurd (cc)
+lowest_below (suc n) slot test is = below_by n slot (first_below n test) (test n) (λ k at. lowest_below n k test at) is
