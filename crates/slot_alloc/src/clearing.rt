@@ -13,6 +13,7 @@ pub fn clear<D: Pmem>(device: &mut D, actor: Actor, word: usize) -> Result<(), F
     ensures cleared { OnOk result (survivors_in ((D.state device.new).history word) ≡ 0 ∷ []) }
     ensures err { OnErr result ((stores : ℕ) × (flushes : ℕ) × (stores ≤ 1) × (flushes ≤ stores) × HasMade stores flushes 0 1 (D.state device.old) (D.state device.new)) }
     ensures fault { IfErr result (λ fault. fault ≡ Fault.Device) }
+    ensures size { (D.state device.new).words ≡ (D.state device.old).words }
     ensures others { (other : ℕ) → other ≢ word → IsNotStored (D.state device.old) (D.state device.new) other }
     ensures keeps { Keeps (D.state device.old) (D.state device.new) (OldOrZero (D.state device.old) word) }
 {

@@ -91,6 +91,7 @@ impl SlotAlloc {
         ensures failed { result ≡ Err Device → (stores : ℕ) × (flushes : ℕ) × (stores ≤ 1) × (flushes ≤ stores) × HasMade stores flushes 0 1 (D.state device.old) (D.state device.new) }
 
         // No word but the begin of the lowest free slot is stored.
+        ensures size { (D.state device.new).words ≡ (D.state device.old).words }
         ensures others { (word : ℕ) → ¬ IsBeginOfLowest geometry self.old word → IsNotStored (D.state device.old) (D.state device.new) word }
         ensures keeps { Keeps (D.state device.old) (D.state device.new) (OldOrCleared (D.state device.old) geometry self.old) }
     {
