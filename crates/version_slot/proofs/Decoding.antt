@@ -59,7 +59,7 @@ word_past v k =
 -- ---- words that hold a version
 
 module _ (layout : Layout) (words : ℕ → ℕ) (v : Version) (is : IsVersion layout words v) (wide : 8 ≤ slot_words layout.version) where
-  words_3 : words 3 ≡ v.key.table + 2 ^ 16 * length v.row + 2 ^ 32 * link_number v.previous
+  pub words_3 : words 3 ≡ v.key.table + 2 ^ 16 * length v.row + 2 ^ 32 * link_number v.previous
   words_3 = is.each 3 (omega arith) (omega arith)
 
   pub row_words : (k : ℕ) → k + 4 < slot_words layout.version → words (4 + k) ≡ row_word v.row k

@@ -1,2 +1,3 @@
 pub mod Stores
 pub mod Decoding
+pub mod ImageSlots

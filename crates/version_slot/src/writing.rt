@@ -23,6 +23,7 @@ pub fn fill<D: Pmem>(
     ensures version { OnOk result (IsVersion geometry (slot_at geometry slot (value_of (D.state device.new))) version.now) }
     ensures err { OnErr result ((n : ℕ) × (n < slot_words geometry.version - 1) × Fills geometry slot version.now n 1 (D.state device.old) (D.state device.new)) }
     ensures fault { IfErr result (λ fault. fault ≡ Fault.Device) }
+    ensures size { (D.state device.new).words ≡ (D.state device.old).words }
     ensures others { SameBeside geometry slot (D.state device.old) (D.state device.new) }
     ensures keeps { Keeps (D.state device.old) (D.state device.new) (OldOrFilled (D.state device.old) geometry slot version.now) }
 {
@@ -42,6 +43,7 @@ pub fn stamp_begin<D: Pmem>(
     ensures ok { OnOk result (Stamps (slot_start geometry slot) timestamp 1 0 (D.state device.old) (D.state device.new)) }
     ensures err { OnErr result (Stamps (slot_start geometry slot) timestamp 0 1 (D.state device.old) (D.state device.new)) }
     ensures fault { IfErr result (λ fault. fault ≡ Fault.Device) }
+    ensures size { (D.state device.new).words ≡ (D.state device.old).words }
 {
     store_all(device, geometry.slot_start(slot), &[timestamp])
 }
@@ -58,6 +60,7 @@ pub fn stamp_end<D: Pmem>(
     ensures ok { OnOk result (Stamps (slot_start geometry slot + 1) timestamp 1 0 (D.state device.old) (D.state device.new)) }
     ensures err { OnErr result (Stamps (slot_start geometry slot + 1) timestamp 0 1 (D.state device.old) (D.state device.new)) }
     ensures fault { IfErr result (λ fault. fault ≡ Fault.Device) }
+    ensures size { (D.state device.new).words ≡ (D.state device.old).words }
 {
     store_all(device, geometry.slot_start(slot) + 1, &[timestamp])
 }
@@ -69,6 +72,7 @@ fn store_all<D: Pmem>(device: &mut D, first: usize, values: &[u64]) -> Result<()
     ensures ok { OnOk result (StoresRun first (slice_index values.now) (length values.now) 0 (D.state device.old) (D.state device.new)) }
     ensures err { OnErr result ((n : ℕ) × (n < length values.now) × StoresRun first (slice_index values.now) n 1 (D.state device.old) (D.state device.new)) }
     ensures fault { IfErr result (λ fault. fault ≡ Fault.Device) }
+    ensures size { (D.state device.new).words ≡ (D.state device.old).words }
 {
     for (k, value) in values.iter().enumerate() {
         match device.store(first + k, *value) {

@@ -1,0 +1,109 @@
+use crate::clearing::clear;
+use base::actor::Actor;
+use base::fault::Fault;
+use base::geometry::Geometry;
+use pmem::Pmem;
+use std::marker::Model;
+
+/// Which slots are free. Contracts see a truth value for each slot.
+#[derive(Drop)]
+pub struct SlotAlloc {
+    free: Vec<bool>,
+}
+
+impl Model for SlotAlloc {
+    ghost use Rattle.std.specs.Prelude.{Bool, List};
+
+    ghost Value = { List Bool };
+
+    ghost view = { λ s. s.free.items };
+}
+
+impl SlotAlloc {
+    ghost use Rattle.std.specs.Prelude.{◌≡◌, ◌≢◌, ◌⊎◌, ◌↔◌, ◌+◌, ◌<◌, ◌≤◌, [], ◌∷◌, true, false, ℕ, length, slice_set, count_by, Err, None, Some, IfErr, IfOk, IsErrOf, OnErr, OnOk};
+    ghost use Rattle.base.specs.Layout.{slot_start, total_words};
+    ghost use Rattle.pmem.specs.Device.{survivors_in, Keeps};
+    ghost use Rattle.slot_alloc.specs.Clearing.{HasMade, IsNotStored};
+    ghost use Rattle.slot_alloc.specs.Free.{is_free, lowest_free, IsBeginOfLowest, OldOrCleared};
+    ghost use Rattle.base.specs.declared.fault.Fault.TheVariants.{Device, SlotsOut};
+
+    /// The slots that are free, by their numbers.
+    pub fn new(free: Vec<bool>) -> SlotAlloc
+        ensures { result ≡ free.items }
+    {
+        SlotAlloc { free }
+    }
+
+    pub fn is_free(&self, slot: u64) -> bool
+        requires { slot < length self.now }
+        ensures { result ≡ is_free self.now slot }
+    {
+        self.free[slot as usize]
+    }
+
+    /// How many slots are free.
+    pub fn free_count(&self) -> u64
+        ensures { result ≡ count_by (λ free. free) self.now }
+    {
+        self.free.iter().filter(|free| **free).count() as u64
+    }
+
+    /// The slot that `take` would take.
+    pub fn lowest(&self) -> Option<u64>
+        ensures { result ≡ lowest_free self.now }
+    {
+        for (slot, free) in self.free.iter().enumerate() {
+            if *free {
+                return Some(slot as u64);
+            }
+        }
+        None
+    }
+
+    /// Makes a slot free.
+    pub fn give(&mut self, slot: u64)
+        requires { slot < length self.old }
+        ensures { self.new ≡ slice_set self.old slot true }
+    {
+        self.free[slot as usize] = true;
+    }
+
+    /// Takes the lowest free slot, once 0 in its begin is sure to outlive a crash.
+    pub fn take<D: Pmem>(
+        &mut self,
+        device: &mut D,
+        geometry: Geometry,
+        actor: Actor,
+    ) -> Result<u64, Fault>
+        requires slots { length self.old ≡ geometry.slots }
+        requires device { (D.state device.old).words ≡ total_words geometry }
+
+        ensures lowest { IfOk result (λ slot. lowest_free self.old ≡ Some slot) }
+        ensures taken { IfOk result (λ slot. self.new ≡ slice_set self.old slot false) }
+        ensures cleared { IfOk result (λ slot. survivors_in ((D.state device.new).history (slot_start geometry slot)) ≡ 0 ∷ []) }
+        ensures made { OnOk result (HasMade 1 1 1 0 (D.state device.old) (D.state device.new)) }
+
+        // At an error the free slots are as before. With no free slot nothing is done.
+        ensures err { OnErr result (self.new ≡ self.old) }
+        ensures out { (result ≡ Err SlotsOut) ↔ (lowest_free self.old ≡ None) }
+        ensures unmoved { result ≡ Err SlotsOut → D.state device.new ≡ D.state device.old }
+        ensures fault { IfErr result (λ fault. (fault ≡ SlotsOut) ⊎ (fault ≡ Device)) }
+        ensures failed { result ≡ Err Device → (stores : ℕ) × (flushes : ℕ) × (stores ≤ 1) × (flushes ≤ stores) × HasMade stores flushes 0 1 (D.state device.old) (D.state device.new) }
+
+        // No word but the begin of the lowest free slot is stored.
+        ensures size { (D.state device.new).words ≡ (D.state device.old).words }
+        ensures others { (word : ℕ) → ¬ IsBeginOfLowest geometry self.old word → IsNotStored (D.state device.old) (D.state device.new) word }
+        ensures keeps { Keeps (D.state device.old) (D.state device.new) (OldOrCleared (D.state device.old) geometry self.old) }
+    {
+        let slot = match self.lowest() {
+            Some(slot) => slot,
+            None => return Err(Fault::SlotsOut),
+        };
+        match clear(device, actor, geometry.slot_start(slot)) {
+            Ok(()) => {}
+            Err(fault) => return Err(fault),
+        }
+        self.free[slot as usize] = false;
+        Ok(slot)
+    }
+}

@@ -1,0 +1,187 @@
+-- What the words of a slot hold, in the words of the definition of a sound image.
+use Rattle.std.proofs.Common.{◌≡◌, ◌⊎◌, inl, inr, ℕ, zero, suc, ◌+◌, ◌-◌, ◌*◌, ◌/◌, ◌%◌, ◌^◌, ◌<◌, ◌≤◌, Bool, true, false, cond, eqb, ◌&&◌, ◌||◌, not, nat_eq, nat_lt, nat_le, Option, Some, None, List, [], ◌∷◌, length, get_or, take, drop, refl, sym, ◌∙◌, ap, subst, arith}
+use Rattle.std.proofs.Math.Nat.{mul-le-mul_left}
+use Rattle.std.specs.Int.{to_le_bytes, w64}
+use Rattle.std.specs.List.{list_all, flat_map, slice_range}
+use Rattle.std.proofs.lemmas.Bool.{cases_lt, cases_eq, eqb-true, ltb-false, le-ltb, eq-eqb}
+use Rattle.std.proofs.lemmas.List.{get_or-drop, get_or-take, get_or_past, length-append, length-drop, length-take, length-take-le, ext_get_or}
+use Rattle.std.proofs.lemmas.List.Concat.{get_or-flat_map}
+use Rattle.base.specs.declared.key.Key.{Key}
+use Rattle.base.specs.Layout.{Layout, row_limit, slot_start, slot_words, total_words}
+use Rattle.base.specs.Images.{Image, layout_of, slot_word, begin_of, end_of, key_of, len_of, link_of, bytes_of, row_of, ruling, is_live, is_second, is_bad_slot}
+use Rattle.base.specs.Records.{is_committed}
+use Rattle.version_slot.specs.declared.words.Version.{Version}
+use Rattle.version_slot.specs.declared.words.Slot.{Slot}
+use Rattle.version_slot.specs.Words.{link_number, slot_byte, IsVersion, IsSlot}
+use Rattle.version_slot.proofs.Decoding.{words_3, byte_is, table_is, link_is, length_is, zero_after, bytes_small, holds}
+
+-- ---- slots by their words
+
+wide : (version : ℕ) → 8 ≤ slot_words version
+wide version = by_test (eqb version 3)
+  where
+    by_test : (b : Bool) → 8 ≤ cond b 16 8
+    by_test true = omega arith
+    by_test false = omega arith
+
+flat_length : (xs : List ℕ) → length (flat_map (to_le_bytes w64) xs) ≡ 8 * length xs
+flat_length [] = refl
+flat_length (x ∷ xs) = omega (arith, flat_length xs)
+
+flat_byte : (xs : List ℕ) (i : ℕ) → i / 8 < length xs → get_or (flat_map (to_le_bytes w64) xs) i 0 ≡ get_or (to_le_bytes w64 (get_or xs (i / 8) 0)) (i % 8) 0
+flat_byte xs i lt =
+    let before : length (flat_map (to_le_bytes w64) (take (i / 8) xs)) ≡ 8 * (i / 8) = omega (arith, flat_length (take (i / 8) xs), length-take-le (i / 8) xs (omega arith)) in
+    let place : i ≡ length (flat_map (to_le_bytes w64) (take (i / 8) xs)) + i % 8 = omega arith in
+    ap (λ (k : ℕ). get_or (flat_map (to_le_bytes w64) xs) k 0) place ∙ get_or-flat_map (to_le_bytes w64) xs (i / 8) (i % 8) 0 0 lt (omega arith)
+
+module _ (image : Image) (slot : ℕ) (within : slot < (layout_of image).slots) (whole : total_words (layout_of image) ≤ length image) where
+  fits : slot_start (layout_of image) (slot + 1) ≤ length image
+  fits = omega (arith, mul-le-mul_left {m = slot + 1} {n = (layout_of image).slots} (slot_words (layout_of image).version) (omega arith), whole)
+
+  range_word : (k : ℕ) → k < slot_words (layout_of image).version - 4
+      → get_or (slice_range image (slot_start (layout_of image) slot + 4) (slot_start (layout_of image) (slot + 1))) k 0 ≡ slot_word image slot (4 + k)
+  range_word k lt =
+      let from = slot_start (layout_of image) slot + 4 in
+      let to = slot_start (layout_of image) (slot + 1) in
+      let count : k < to - from = omega arith in
+      let place : from + k ≡ slot_start (layout_of image) slot + (4 + k) = omega arith in
+      get_or-take (to - from) (drop from image) k 0 count ∙ get_or-drop from image k 0 ∙ ap (λ (i : ℕ). get_or image i 0) place
+
+  range_length : length (slice_range image (slot_start (layout_of image) slot + 4) (slot_start (layout_of image) (slot + 1))) ≡ slot_words (layout_of image).version - 4
+  range_length =
+      let from = slot_start (layout_of image) slot + 4 in
+      let to = slot_start (layout_of image) (slot + 1) in
+      omega (arith, length-take-le (to - from) (drop from image) (omega (arith, length-drop {A = ℕ} from image, fits)), wide (layout_of image).version)
+
+  pub bytes_length : length (bytes_of image slot) ≡ 8 * (slot_words (layout_of image).version - 4)
+  bytes_length = flat_length _ ∙ ap (λ (n : ℕ). 8 * n) range_length
+
+  -- a byte of the slot's row words
+  pub byte_of : (i : ℕ) → i / 8 < slot_words (layout_of image).version - 4 → get_or (bytes_of image slot) i 0 ≡ slot_byte (slot_word image slot) i
+  byte_of i lt = flat_byte _ i (omega (arith, range_length, lt)) ∙ ap (λ (n : ℕ). get_or (to_le_bytes w64 n) (i % 8) 0) (range_word (i / 8) lt)
+
+-- ---- what is wrong with the words of a live slot, but that another one shows its key
+
+abbrev pub is_malformed : Image → ℕ → Bool
+is_malformed image slot =
+    nat_lt (row_limit (layout_of image).version) (len_of image slot)
+    || not (nat_eq (slot_word image slot 3 / 2 ^ 24 % 2 ^ 8) 0)
+    || not (list_all (nat_eq 0) (drop (len_of image slot) (bytes_of image slot)))
+    || nat_lt (layout_of image).slots (link_of image slot)
+
+-- the rest of what makes a slot a bad one
+pub bad_slot : (image : Image) (slot : ℕ) → is_bad_slot image slot
+    ≡ (nat_le (ruling image).dirty (begin_of image slot) || nat_le (ruling image).dirty (end_of image slot)
+    || (is_live (is_committed (ruling image)) image slot && (is_malformed image slot || is_second image slot)))
+bad_slot image slot = refl
+
+limits_of : (version : ℕ) → (row_limit version ≤ 96) × (row_limit version ≤ 8 * (slot_words version - 4))
+limits_of version = by_test (eqb version 3)
+  where
+    by_test : (b : Bool) → (cond b 96 32 ≤ 96) × (cond b 96 32 ≤ 8 * (cond b 16 8 - 4))
+    by_test true = (omega arith, omega arith)
+    by_test false = (omega arith, omega arith)
+
+all_zero : (xs : List ℕ) → ((i : ℕ) → i < length xs → get_or xs i 0 ≡ 0) → list_all (nat_eq 0) xs ≡ true
+all_zero [] each = refl
+all_zero (x ∷ xs) each = λ i. eq-eqb 0 x (sym (each 0 (omega arith))) i && all_zero xs (λ k lt. each (suc k) (omega arith)) i
+
+and_true : (a b : Bool) → (a && b) ≡ true → (a ≡ true) × (b ≡ true)
+and_true true b e = (refl, e)
+and_true false b e = absurd (cc e)
+
+zero_all : (xs : List ℕ) → list_all (nat_eq 0) xs ≡ true → (k : ℕ) → k < length xs → get_or xs k 0 ≡ 0
+zero_all [] all k lt = refl
+zero_all (x ∷ xs) all zero lt = sym (eqb-true 0 x (and_true _ _ all).0)
+zero_all (x ∷ xs) all (suc k) lt = zero_all xs (and_true _ _ all).1 k (omega arith)
+
+or_false : (a b : Bool) → (a || b) ≡ false → (a ≡ false) × (b ≡ false)
+or_false true b e = absurd (cc e)
+or_false false b e = (refl, e)
+
+not_false : (a : Bool) → not a ≡ false → a ≡ true
+not_false true e = refl
+not_false false e = absurd (cc e)
+
+module _ (image : Image) (slot : ℕ) (within : slot < (layout_of image).slots) (whole : total_words (layout_of image) ≤ length image) where
+  -- ---- a version that the words hold
+
+  module _ (v : Version) (is : IsVersion (layout_of image) (slot_word image slot) v) where
+    third : slot_word image slot 3 ≡ v.key.table + 2 ^ 16 * length v.row + 2 ^ 32 * link_number v.previous
+    third = words_3 (layout_of image) (slot_word image slot) v is (wide (layout_of image).version)
+
+    short : length v.row < 2 ^ 8
+    short = omega (arith, is.fits.row, (limits_of (layout_of image).version).0)
+
+    pub len_is : len_of image slot ≡ length v.row
+    len_is = omega (arith, third, is.fits.table, short)
+
+    pub link_of_is : link_of image slot ≡ link_number v.previous
+    link_of_is = omega (arith, third, is.fits.table, short)
+
+    pub key_is : key_of image slot ≡ v.key
+    key_is =
+        let table : slot_word image slot 3 % 2 ^ 16 ≡ v.key.table = omega (arith, third, is.fits.table) in
+        let key : slot_word image slot 2 ≡ v.key.key = is.each 2 (omega arith) (omega (arith, wide (layout_of image).version)) in
+        λ i. record { table = table i; key = key i }
+
+    byte_of_row : (i : ℕ) → i / 8 < slot_words (layout_of image).version - 4 → get_or (bytes_of image slot) i 0 ≡ get_or v.row i 0
+    byte_of_row i lt = byte_of image slot within whole i lt ∙ byte_is (layout_of image) (slot_word image slot) v is (wide (layout_of image).version) i (omega arith)
+
+    pub row_is_of : row_of image slot ≡ v.row
+    row_is_of =
+        let size : length (row_of image slot) ≡ length v.row =
+        length-take-le (len_of image slot) (bytes_of image slot) (omega (arith, len_is, bytes_length image slot within whole, is.fits.row, (limits_of (layout_of image).version).1)) ∙ len_is in
+        ext_get_or 0 (row_of image slot) v.row size (λ i lt.
+        get_or-take (len_of image slot) (bytes_of image slot) i 0 (omega (arith, lt, size, len_is))
+        ∙ byte_of_row i (omega (arith, lt, size, is.fits.row, (limits_of (layout_of image).version).1)))
+
+    zeros : (i : ℕ) → i < length (drop (len_of image slot) (bytes_of image slot)) → get_or (drop (len_of image slot) (bytes_of image slot)) i 0 ≡ 0
+    zeros i lt =
+        get_or-drop (len_of image slot) (bytes_of image slot) i 0
+        ∙ byte_of_row (len_of image slot + i) (omega (arith, lt, length-drop {A = ℕ} (len_of image slot) (bytes_of image slot), bytes_length image slot within whole))
+        ∙ get_or_past v.row (len_of image slot + i) 0 (omega (arith, len_is))
+
+    pub well_formed : is_malformed image slot ≡ false
+    well_formed =
+        let row : nat_lt (row_limit (layout_of image).version) (len_of image slot) ≡ false = le-ltb (row_limit (layout_of image).version) (len_of image slot) (omega (arith, len_is, is.fits.row)) in
+        let unused : not (nat_eq (slot_word image slot 3 / 2 ^ 24 % 2 ^ 8) 0) ≡ false = ap not (eq-eqb (slot_word image slot 3 / 2 ^ 24 % 2 ^ 8) 0 (omega (arith, third, is.fits.table, short))) in
+        let padding : not (list_all (nat_eq 0) (drop (len_of image slot) (bytes_of image slot))) ≡ false = ap not (all_zero (drop (len_of image slot) (bytes_of image slot)) zeros) in
+        let linked : nat_lt (layout_of image).slots (link_of image slot) ≡ false = le-ltb (layout_of image).slots (link_of image slot) (omega (arith, link_of_is, is.fits.previous)) in
+        λ i. row i || unused i || padding i || linked i
+
+-- ---- the version of well-formed words
+
+abbrev pub previous_in : ℕ → Option ℕ
+previous_in zero = None
+previous_in (suc slot) = Some slot
+
+abbrev pub version_of : Image → ℕ → Version
+version_of image slot = record { key = key_of image slot; row = row_of image slot; previous = previous_in (link_of image slot) }
+
+link-previous_in : (n : ℕ) → link_number (previous_in n) ≡ n
+link-previous_in zero = refl
+link-previous_in (suc n) = omega arith
+
+module _ (image : Image) (slot : ℕ) (within : slot < (layout_of image).slots) (whole : total_words (layout_of image) ≤ length image) (one : (layout_of image).version ≡ 1)
+    (fit : (w : ℕ) → get_or image w 0 < 2 ^ 64) (well : is_malformed image slot ≡ false) where
+  parts : (is_malformed image slot ≡ false) × (nat_lt (row_limit (layout_of image).version) (len_of image slot) ≡ false) × (not (nat_eq (slot_word image slot 3 / 2 ^ 24 % 2 ^ 8) 0) ≡ false)
+      × (not (list_all (nat_eq 0) (drop (len_of image slot) (bytes_of image slot))) ≡ false) × (nat_lt (layout_of image).slots (link_of image slot) ≡ false)
+  parts =
+      let linked = or_false _ _ well in
+      let padding = or_false _ _ linked.0 in
+      let unused = or_false _ _ padding.0 in
+      (well, unused.0, unused.1, padding.1, linked.1)
+
+  pub holds_version : IsVersion (layout_of image) (slot_word image slot) (version_of image slot)
+  holds_version =
+      let limit : row_limit (layout_of image).version ≡ 32 = ap row_limit one in
+      let short : len_of image slot ≤ 32 = omega (arith, ltb-false (row_limit (layout_of image).version) (len_of image slot) parts.1, limit) in
+      let unused : slot_word image slot 3 / 2 ^ 24 % 2 ^ 8 ≡ 0 = eqb-true (slot_word image slot 3 / 2 ^ 24 % 2 ^ 8) 0 (not_false _ parts.2) in
+      let zeros = zero_all (drop (len_of image slot) (bytes_of image slot)) (not_false _ parts.3) in
+      let linked : link_of image slot ≤ (layout_of image).slots = ltb-false (layout_of image).slots (link_of image slot) parts.4 in
+      let size : length (bytes_of image slot) ≡ 32 = bytes_length image slot within whole ∙ ap (λ (version : ℕ). 8 * (slot_words version - 4)) one in
+      let count : slot_words (layout_of image).version ≡ 8 = ap slot_words one in
+      let read : (i : ℕ) → i < 32 → get_or (bytes_of image slot) i 0 ≡ slot_byte (slot_word image slot) i = λ i lt. byte_of image slot within whole i (omega (arith, lt, count)) in
+      holds (slot_word image slot) (bytes_of image slot) (len_of image slot) size read (layout_of image) one (version_of image slot) (λ w. fit (slot_start (layout_of image) slot + w)) (bytes_small (slot_word image slot) (bytes_of image slot) size read)
+      (omega (arith, unused)) short zeros refl refl refl (link-previous_in (link_of image slot)) linked
