@@ -1,0 +1,7 @@
+use Rattle.std.proofs.Common.{◌*◌}
+use Rattle.pmem_model.specs.Sim.{device_of}
+use Rattle.bench.specs.Counted.{IsMore}
+use Rattle.bench.proofs.rounds.make_rounds.Given as goal
+
+abbrev pub invariant-loop-round : goal.invariant-loop-round
+invariant-loop-round l = IsMore (10 * l.round) l.round l.round (device_of l.initial.device) (device_of l.device)
