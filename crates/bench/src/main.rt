@@ -23,9 +23,10 @@ fn main(rt: HostRuntime) -> Result<(), Error> {
         let start = Instant::now(&rt)?;
         make_rounds(&mut device)?;
         let elapsed = start.elapsed(&rt)?;
-        let (stores, flushes, fences) = (device.stores(), device.flushes(), device.fences());
+        let made = device.operations();
         println!(rt;
-            "words {words} rounds {ROUNDS} stores {stores} flushes {flushes} fences {fences}"
+            "words {words} rounds {ROUNDS} stores {} flushes {} fences {}",
+            made.stores, made.flushes, made.fences
         )?;
         if timed {
             println!(rt;

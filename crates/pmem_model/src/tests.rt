@@ -1,4 +1,4 @@
-use crate::{Choice, SimPmem};
+use crate::{Choice, Operations, SimPmem};
 use base::actor::Actor;
 use base::fault::Fault;
 use pmem::Pmem;
@@ -44,8 +44,12 @@ fn crashed(rt: &impl Abort, device: &SimPmem, choice: Choice) -> Result<Vec<u64>
     let after = device.crash(&choice)?;
     assert!(rt; after.at_rest());
     assert_eq!(rt;
-        (after.stores(), after.flushes(), after.fences()),
-        (0, 0, 0)
+        after.operations(),
+        Operations {
+            stores: 0,
+            flushes: 0,
+            fences: 0
+        }
     );
     after.image()
 }
@@ -107,8 +111,12 @@ fn loads_and_counts(rt: HostRuntime) -> Result<(), Fail> {
     );
     assert_eq!(rt; device.image()?.as_slice(), [11, 20].as_slice());
     assert_eq!(rt;
-        (device.stores(), device.flushes(), device.fences()),
-        (3, 2, 1)
+        device.operations(),
+        Operations {
+            stores: 3,
+            flushes: 2,
+            fences: 1
+        }
     );
     Ok(())
 }
