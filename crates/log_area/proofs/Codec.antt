@@ -23,13 +23,15 @@ record_word-last r k h = let at : (5 + 2 * k - 4) / 2 ≡ k = omega arith in gri
 record_word-long : (r : Record) (k : ℕ) → record_word r (20 + k) ≡ get_or r.longs k 0
 record_word-long r k =
     let at : 20 + k - 20 ≡ k = omega arith in
-    past (nat_eq (20 + k) 0) (nat_eq (20 + k) 1) (nat_eq (20 + k) 2) (nat_eq (20 + k) 3) (nat_lt (20 + k) 20)
-    (ne_eqb (20 + k) 0 (λ e. omega (arith, e))) (ne_eqb (20 + k) 1 (λ e. omega (arith, e))) (ne_eqb (20 + k) 2 (λ e. omega (arith, e))) (ne_eqb (20 + k) 3 (λ e. omega (arith, e))) (le-ltb (20 + k) 20 (omega arith))
+    let not_0 : nat_eq (20 + k) 0 ≡ false = ne_eqb (20 + k) 0 (λ e. omega (arith, e)) in
+    let not_1 : nat_eq (20 + k) 1 ≡ false = ne_eqb (20 + k) 1 (λ e. omega (arith, e)) in
+    let not_2 : nat_eq (20 + k) 2 ≡ false = ne_eqb (20 + k) 2 (λ e. omega (arith, e)) in
+    let not_3 : nat_eq (20 + k) 3 ≡ false = ne_eqb (20 + k) 3 (λ e. omega (arith, e)) in
+    let past : nat_lt (20 + k) 20 ≡ false = le-ltb (20 + k) 20 (omega arith) in
+    (λ i.
+    cond (not_0 i) r.gate (cond (not_1 i) r.persisted (cond (not_2 i) r.dirty (cond (not_3 i) (length r.gaps + 2 ^ 32 * length r.longs)
+    (cond (past i) (cond (nat_eq ((20 + k) % 2) 0) (get_or r.gaps ((20 + k - 4) / 2) no_gap).first (get_or r.gaps ((20 + k - 4) / 2) no_gap).last) (get_or r.longs (20 + k - 20) 0))))))
     ∙ ap (λ (j : ℕ). get_or r.longs j 0) at
-  where
-    past : (a b c d e : Bool) → a ≡ false → b ≡ false → c ≡ false → d ≡ false → e ≡ false → {x y z u v w : ℕ}
-        → cond a x (cond b y (cond c z (cond d u (cond e v w)))) ≡ w
-    past a b c d e a-is b-is c-is d-is e-is {x} {y} {z} {u} {v} {w} = λ i. cond (a-is i) x (cond (b-is i) y (cond (c-is i) z (cond (d-is i) u (cond (e-is i) v w))))
 
 pub gap_none : (r : Record) (w : ℕ) → 4 ≤ w → w < 20 → slice_get r.gaps ((w - 4) / 2) ≡ None → 0 ≡ record_word r w
 gap_none r w low high none =
@@ -106,10 +108,10 @@ module _ (words : List ℕ) (r : Record) (is : IsRecord newest_version words r) 
 
 -- ---- the record in the words
 
-get_or-range : (words : List ℕ) (i j k : ℕ) → i + k < j → get_or (slice_range words i j) k 0 ≡ get_or words (i + k) 0
+pub get_or-range : (words : List ℕ) (i j k : ℕ) → i + k < j → get_or (slice_range words i j) k 0 ≡ get_or words (i + k) 0
 get_or-range words i j k h = ap (λ (l : List ℕ). get_or l k 0) (between_is words i j) ∙ get_or-drop i (take j words) k 0 ∙ get_or-take j words (i + k) 0 h
 
-length-range : (words : List ℕ) (i j : ℕ) → j ≤ length words → length (slice_range words i j) ≡ j - i
+pub length-range : (words : List ℕ) (i j : ℕ) → j ≤ length words → length (slice_range words i j) ≡ j - i
 length-range words i j h = ap (length {A = ℕ}) (between_is words i j) ∙ length-drop i (take j words) ∙ ap (λ (n : ℕ). n - i) (length-take-le j words h)
 
 length-pairs : (n : ℕ) (words : List ℕ) → length words ≡ 2 * n → length (pairs_of words) ≡ n
