@@ -3,5 +3,9 @@
 
 mod order;
 mod record;
+mod stage;
+mod writing;
 
 pub use record::Record;
+pub use stage::WritingStage;
+pub use writing::Writing;

@@ -1,0 +1,129 @@
+use crate::{Record, WritingStage};
+use base::actor::Actor;
+use base::fault::Fault;
+use base::geometry::Geometry;
+use base::step::Stage;
+use pmem::Pmem;
+use std::marker::Model;
+
+/// The writing of a record into its place, by the committer, one device operation a tick: 31 stores of the body,
+/// 4 flushes, a fence, the store of the gate, the flush of its line and a fence.
+#[derive(Clone, Copy)]
+pub struct Writing {
+    geometry: Geometry,
+    target: Record,
+    stage: WritingStage,
+}
+
+impl Model for Writing {
+    ghost use Rattle.log_area.specs.Stages.{IsStage};
+    ghost use Rattle.log_area.specs.Writings.{Progress};
+
+    ghost Value = { Progress };
+
+    ghost view = { λ w. record { layout = w.geometry; target = w.target; stage = w.stage } };
+
+    ghost invariant = { λ w. IsStage w.stage };
+
+    ghost inverse = { λ p. record { geometry = p.layout; target = p.target; stage = p.stage } };
+}
+
+impl Writing {
+    ghost use Rattle.std.specs.Prelude.{◌≡◌, ◌≢◌, ◌+◌, ◌^◌, ◌<◌, ◌≤◌, ℕ, IsTrue, IfOk, IfErr, OnOk, OnErr};
+    ghost use Rattle.base.specs.Layout.{total_words};
+    ghost use Rattle.base.specs.Records.{Record as Value};
+    ghost use Rattle.pmem.specs.Device.{LeavesOnly, failed};
+    ghost use Rattle.pmem.specs.Trace.{applied};
+    ghost use Rattle.log_area.specs.Rulings.{HoldsRecord, IsKept, gate_word};
+    ghost use Rattle.log_area.specs.Stages.{reached_by};
+    ghost use Rattle.log_area.specs.Writings.{begun, advanced, start_of, operation_of, IsWriting, IsReplacing, IsRuledMeanwhile, IsOutside, IsLeftOutside};
+
+    /// Nothing is stored yet.
+    pub fn new(geometry: Geometry, target: Record) -> Writing
+        ensures { result ≡ begun geometry target }
+    {
+        Writing {
+            geometry,
+            target,
+            stage: WritingStage::StoreBody(1),
+        }
+    }
+
+    pub fn stage(&self) -> WritingStage
+        ensures { result ≡ self.now.stage }
+    {
+        self.stage
+    }
+
+    /// The record that is written.
+    pub fn target(&self) -> Record
+        ensures { result ≡ self.now.target }
+    {
+        self.target
+    }
+
+    /// The next operation, and the stage that the committer reaches by it. If the device fails, the next tick tries
+    /// the operation again.
+    pub fn tick<D: Pmem>(&mut self, device: &mut D) -> Result<Option<Stage>, Fault>
+        requires unfinished { self.old.stage ≢ WritingStage.Done }
+        requires size { (D.state device.old).words ≡ total_words self.old.layout }
+
+        ensures reached { IfOk result (λ stage. stage ≡ reached_by self.old.stage) }
+        ensures ok { OnOk result (self.new ≡ advanced self.old) }
+        ensures err { OnErr result (self.new ≡ self.old) }
+        ensures fault { IfErr result (λ fault. fault ≡ Fault.Device) }
+
+        // One operation, the stage's.
+        ensures operation { OnOk result (D.state device.new ≡ applied (operation_of self.old) (D.state device.old)) }
+        ensures failure { OnErr result (D.state device.new ≡ failed (D.state device.old)) }
+
+        // What it makes of the place's words, and of the others.
+        ensures place { (before : ℕ) → IsWriting before self.old (D.state device.old) → IsWriting before self.new (D.state device.new) }
+        ensures outside { (word : ℕ) → IsOutside self.old word → IsKept (D.state device.old) (D.state device.new) word }
+        ensures left { LeavesOnly (D.state device.old) (D.state device.new) (IsLeftOutside self.old (D.state device.old)) }
+
+        // Where a record ruled before, it or the new one rules whatever a crash leaves.
+        ensures replaces { (old : Value) → IsReplacing old self.old (D.state device.old) → IsReplacing old self.new (D.state device.new) }
+        ensures images { (old : Value) → IsReplacing old self.old (D.state device.old)
+            → LeavesOnly (D.state device.old) (D.state device.new) (IsRuledMeanwhile old self.new) }
+        ensures done { (old : Value) → IsReplacing old self.old (D.state device.old) → self.new.stage ≡ WritingStage.Done
+            → HoldsRecord self.new.layout self.new.target (D.state device.new) }
+    {
+        self.operate(device)?;
+        let reached = self.stage.reached();
+        self.stage = self.stage.next();
+        Ok(reached)
+    }
+
+    fn operate<D: Pmem>(&self, device: &mut D) -> Result<(), Fault>
+        requires unfinished { self.now.stage ≢ WritingStage.Done }
+        requires size { (D.state device.old).words ≡ total_words self.now.layout }
+        ensures ok { OnOk result (D.state device.new ≡ applied (operation_of self.now) (D.state device.old)) }
+        ensures err { OnErr result (D.state device.new ≡ failed (D.state device.old)) }
+        ensures fault { IfErr result (λ fault. fault ≡ Fault.Device) }
+    {
+        let start = self.gate_word();
+        match self.stage {
+            WritingStage::StoreBody(word) => {
+                device.store(start + word as usize, self.target.word(word as usize))
+            }
+            WritingStage::FlushBody(line) => {
+                device.flush(Actor::new(0), start / 8 + line as usize)
+            }
+            WritingStage::FenceBody => device.fence(Actor::new(0)),
+            WritingStage::StoreGate => device.store(start, self.target.gate()),
+            WritingStage::FlushGate => device.flush(Actor::new(0), start / 8),
+            WritingStage::FenceGate => device.fence(Actor::new(0)),
+            WritingStage::Done => Ok(()),
+        }
+    }
+
+    fn gate_word(&self) -> usize
+        ensures word { result ≡ start_of self.now }
+        ensures within { result + 32 ≤ total_words self.now.layout }
+        ensures low { result < 2 ^ 32 }
+    {
+        let place = self.target.gate() % self.geometry.places();
+        8 + 32 * place as usize
+    }
+}
