@@ -12,8 +12,8 @@ use Rattle.pmem.proofs.Images.{leaves-stored, leaves-flushed, leaves-fenced, lea
 use Rattle.log_area.specs.declared.stage.WritingStage.{WritingStage}
 use Rattle.log_area.specs.declared.stage.WritingStage.TheVariants.{StoreBody, FlushBody, FenceBody, StoreGate, FlushGate, FenceGate, Done}
 use Rattle.log_area.specs.Stages.{IsStage, next_stage, is_gate_stored}
-use Rattle.log_area.specs.Rulings.{Holds, HasRecord, HoldsRecord, HasEarlierGate, IsEarlierGate, IsKept, IsRecordFor, IsRuledBy, place_of, gate_word, superblock_words}
-use Rattle.log_area.specs.Writings.{Progress, begun, advanced, start_of, operation_of, HoldsBody, HasEitherGate, IsAt, IsWriting, IsReplacing, IsRuledMeanwhile, IsOutside, IsLeftOutside}
+use Rattle.log_area.specs.Rulings.{Holds, HasRecord, HoldsRecord, HasEarlierGate, IsEarlierGate, IsKept, HasOldWords, Spares, IsRecordFor, IsRuledBy, place_of, gate_word, superblock_words}
+use Rattle.log_area.specs.Writings.{Progress, begun, advanced, start_of, operation_of, HoldsBody, HasEitherGate, IsAt, IsWriting, IsReplacing, IsRuledMeanwhile, IsOutside, IsRuledByEither, IsNextRecord}
 use Rattle.log_area.proofs.Kept.{kept-failed, holds_kept, gate_kept, record_kept}
 use Rattle.log_area.proofs.Rulings.{HasWords, ruled_by, some_places, place_below, log_within}
 use Rattle.log_area.proofs.Ticks.{outside_kept, writing_next, same_words}
@@ -140,20 +140,20 @@ ruled_meanwhile old p device is image left = by_stage p.stage refl
 
 -- ---- the beginning and the end
 
-pub replacing_begun : (layout : Layout) (old new : Record) (device : Device) → HoldsRecord layout old device → new.gate ≡ old.gate + 1 → IsRecordFor layout new → IsReplacing old (begun layout new) device
-replacing_begun layout old new device holds next fits =
-    let below = place_below layout new fits.limits in
-    let gate = holds.gates (place_of layout new) below in
+pub replacing_begun : (layout : Layout) (old new : Record) (device : Device) → IsNextRecord layout old new device → IsReplacing old (begun layout new) device
+replacing_begun layout old new device follows =
+    let below = place_below layout new follows.fits.limits in
+    let gate = follows.holds.gates (place_of layout new) below in
     record {
-      stands = holds.stands;
-      next = next;
-      fits = fits;
-      others = λ place h apart. holds.gates place h;
+      stands = follows.holds.stands;
+      next = follows.next;
+      fits = follows.fits;
+      others = λ place h apart. follows.holds.gates place h;
       before = value_of device (gate_word layout new);
       earlier = gate.earlier;
       writing = record {
-        size = holds.stands.size;
-        limits = fits.limits;
+        size = follows.holds.stands.size;
+        limits = follows.fits.limits;
         at = (omega arith, omega arith, record { settled = gate.settled; holds = refl }, λ w low high. absurd (omega (arith, low, high)));
       };
     }
@@ -196,14 +196,13 @@ module _ (before after : Device) (orderly : IsOrderly before) (orderly' : IsOrde
   leaves_applied P (fence_op actor) made here there = leaves-fenced P actor orderly orderly' made here there
   leaves_applied P failure made here there = leaves-failed P orderly orderly' made here
 
-  pub left_next : (p : Progress) → IsStage p.stage → after ≡ applied (operation_of p) before → LeavesOnly before after (IsLeftOutside p before)
-  left_next p staged made =
-      leaves_applied (IsLeftOutside p before) (operation_of p) made
-      (λ image left word h outside. left.each word h)
-      (λ image left word h outside. (outside_kept p staged made word outside).survivors (get_or image word 0) (left.each word (omega (arith, h, same_words p before after made))))
-
-  pub left_failed : (p : Progress) → after ≡ failed before → LeavesOnly before after (IsLeftOutside p before)
-  left_failed p made = leaves-failed (IsLeftOutside p before) orderly orderly' made (λ image left word h outside. left.each word h)
+  pub spares_next : (p : Progress) → IsStage p.stage → after ≡ applied (operation_of p) before → Spares (IsOutside p) before after
+  spares_next p staged made = record {
+    kept = outside_kept p staged made;
+    left = leaves_applied (HasOldWords (IsOutside p) before) (operation_of p) made
+        (λ image left word h outside. left.each word h)
+        (λ image left word h outside. (outside_kept p staged made word outside).survivors (get_or image word 0) (left.each word (omega (arith, h, same_words p before after made))));
+  }
 
 module _ (old : Record) (p : Progress) (before after : Device) (orderly : IsOrderly before) (orderly' : IsOrderly after) where
   pub replacing_next : IsStage p.stage → p.stage ≢ Done → after ≡ applied (operation_of p) before → IsReplacing old p before → IsReplacing old (advanced p) after

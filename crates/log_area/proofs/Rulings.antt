@@ -125,4 +125,5 @@ module _ (layout : Layout) (r : Record) (image : Image) (fits : IsRecordFor layo
     well_ruled = and_from (not (nat_eq (greatest_gate image) 0)) _ (not_from_false _ not_none)
         ((λ i. is_record (laid_out i).version (place_words image (at_place i))) ∙ is_record-is layout.version (place_words image (place_of layout r)) r holds_record);
     by_record = ap (λ (place : ℕ). record_in (place_words image place)) at_place ∙ record_in-is layout.version (place_words image (place_of layout r)) r holds_record;
+    at_place = at_place;
   }

@@ -4,12 +4,16 @@ use Rattle.base.specs.declared.fault.Fault.{Fault}
 use Rattle.base.specs.Layout.{Layout, place_start, total_words, is_in_limits}
 use Rattle.base.specs.Records.{Record, record_word, is_well_formed}
 use Rattle.base.specs.Search.{first_below, first_of}
-use Rattle.base.specs.Images.{Image, superblock_word, layout_of, is_formatted, has_good_geometry, is_wrong_gate, is_ruled, ruling, faults_of}
-use Rattle.pmem.specs.Device.{Device, Survives, value_of, IsSettled, IsReady}
+use Rattle.base.specs.Images.{Image, superblock_word, layout_of, is_formatted, has_good_geometry, is_wrong_gate, is_ruled, ruling, ruling_place, faults_of}
+use Rattle.pmem.specs.Device.{Device, Survives, value_of, IsSettled, IsReady, LeavesOnly}
 
 -- what is wrong with an image, the slots aside
 abbrev pub log_damage : Image → Option Fault
 log_damage image = first_of (take 5 (faults_of image))
+
+-- a record's place is its number modulo the number of places
+abbrev pub place_of : Layout → Record → ℕ
+place_of layout r = r.gate % layout.places
 
 -- the image has this layout, its gates are right, and this record rules it
 pub record IsRuledBy (layout : Layout) (r : Record) (image : Image) : Type 0 where
@@ -19,15 +23,12 @@ pub record IsRuledBy (layout : Layout) (r : Record) (image : Image) : Type 0 whe
   pub gates : first_below layout.places (is_wrong_gate image) ≡ None
   pub well_ruled : IsTrue (is_ruled image)
   pub by_record : ruling image ≡ r
+  pub at_place : ruling_place image ≡ place_of layout r
 
 -- the superblock's words
 abbrev pub superblock_words : Layout → List ℕ
 superblock_words layout =
     superblock_word ∷ layout.version ∷ layout.slots ∷ layout.places ∷ layout.window ∷ total_words layout ∷ 0 ∷ 0 ∷ []
-
--- a record's place is its number modulo the number of places
-abbrev pub place_of : Layout → Record → ℕ
-place_of layout r = r.gate % layout.places
 
 -- the first word of the record's place, its gate
 abbrev pub gate_word : Layout → Record → ℕ
@@ -73,3 +74,19 @@ pub record IsKept (old new : Device) (word : ℕ) : Type 0 where
   pub survivors : (x : ℕ) → Survives new word x → Survives old word x
   pub settled : IsSettled old word → IsSettled new word
   pub ready : (actor : ℕ) → IsReady old actor word → IsReady new actor word
+
+-- each of these words has a survivor that it had on the device
+abbrev pub HasOldWords : (ℕ → Type 0) → Device → Image → Type 0
+HasOldWords spared device image = (word : ℕ) → word < device.words → spared word → Survives device word (slice_index image word)
+
+-- these words are kept, and so is what a crash leaves in them meanwhile
+pub record Spares (spared : ℕ → Type 0) (old new : Device) : Type 0 where
+  pub kept : (word : ℕ) → spared word → IsKept old new word
+  pub left : LeavesOnly old new (HasOldWords spared old)
+
+-- so many operations succeeded, and none failed
+pub record Makes (stores flushes fences : ℕ) (old new : Device) : Type 0 where
+  pub stores_made : new.stores ≡ old.stores + stores
+  pub flushes_made : new.flushes ≡ old.flushes + flushes
+  pub fences_made : new.fences ≡ old.fences + fences
+  pub no_failures : new.failures ≡ old.failures

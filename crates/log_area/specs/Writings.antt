@@ -1,5 +1,5 @@
 -- What a device holds while a record is written.
-use Rattle.std.specs.Prelude.{◌≡◌, ◌≢◌, ◌⊎◌, ℕ, ◌+◌, ◌*◌, ◌/◌, ◌%◌, ◌^◌, ◌<◌, ◌≤◌, slice_index, IsTrue}
+use Rattle.std.specs.Prelude.{◌≡◌, ◌≢◌, ◌⊎◌, ℕ, ◌+◌, ◌*◌, ◌/◌, ◌<◌, ◌≤◌, IsTrue}
 use Rattle.base.specs.Layout.{Layout, total_words, is_in_limits}
 use Rattle.base.specs.Records.{Record, record_word}
 use Rattle.base.specs.Images.{Image}
@@ -8,7 +8,7 @@ use Rattle.pmem.specs.Trace.{Operation, store_op, flush_op, fence_op, failure}
 use Rattle.log_area.specs.declared.stage.WritingStage.{WritingStage}
 use Rattle.log_area.specs.declared.stage.WritingStage.TheVariants.{StoreBody, FlushBody, FenceBody, StoreGate, FlushGate, FenceGate, Done}
 use Rattle.log_area.specs.Stages.{next_stage, is_gate_stored}
-use Rattle.log_area.specs.Rulings.{Holds, HasRecord, HasEarlierGate, IsEarlierGate, IsRecordFor, IsRuledBy, place_of, gate_word}
+use Rattle.log_area.specs.Rulings.{Holds, HasRecord, HoldsRecord, HasEarlierGate, IsEarlierGate, IsRecordFor, IsRuledBy, place_of, gate_word}
 
 -- the record that is written, and how far that is
 pub record Progress : Type 0 where
@@ -18,6 +18,9 @@ pub record Progress : Type 0 where
 
 abbrev pub begun : Layout → Record → Progress
 begun layout r = record { layout = layout; target = r; stage = StoreBody 1 }
+
+abbrev pub finished : Layout → Record → Progress
+finished layout r = record { layout = layout; target = r; stage = Done }
 
 abbrev pub advanced : Progress → Progress
 advanced p = record p { stage = next_stage p.stage }
@@ -95,6 +98,12 @@ IsRuledMeanwhile old p image =
 abbrev pub IsOutside : Progress → ℕ → Type 0
 IsOutside p word = (word < start_of p) ⊎ (start_of p + 32 ≤ word)
 
--- each word outside has a survivor that it had on the device
-abbrev pub IsLeftOutside : Progress → Device → Image → Type 0
-IsLeftOutside p device image = (word : ℕ) → word < device.words → IsOutside p word → Survives device word (slice_index image word)
+-- one of two records rules the image
+abbrev pub IsRuledByEither : Layout → Record → Record → Image → Type 0
+IsRuledByEither layout old new image = IsRuledBy layout old image ⊎ IsRuledBy layout new image
+
+-- the device holds a record, and this is the next one
+pub record IsNextRecord (layout : Layout) (old new : Record) (device : Device) : Type 0 where
+  pub holds : HoldsRecord layout old device
+  pub next : new.gate ≡ old.gate + 1
+  pub fits : IsRecordFor layout new

@@ -4,8 +4,10 @@
 mod order;
 mod record;
 mod stage;
+mod write;
 mod writing;
 
 pub use record::Record;
 pub use stage::WritingStage;
+pub use write::write_record;
 pub use writing::Writing;

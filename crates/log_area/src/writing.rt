@@ -29,14 +29,14 @@ impl Model for Writing {
 }
 
 impl Writing {
-    ghost use Rattle.std.specs.Prelude.{◌≡◌, ◌≢◌, ◌+◌, ◌^◌, ◌<◌, ◌≤◌, ℕ, IsTrue, IfOk, IfErr, OnOk, OnErr};
+    ghost use Rattle.std.specs.Prelude.{◌≡◌, ◌≢◌, ◌↔◌, ◌+◌, ◌^◌, ◌<◌, ◌≤◌, ℕ, IsTrue, IfOk, IfErr, OnOk, OnErr};
     ghost use Rattle.base.specs.Layout.{total_words};
     ghost use Rattle.base.specs.Records.{Record as Value};
     ghost use Rattle.pmem.specs.Device.{LeavesOnly, failed};
     ghost use Rattle.pmem.specs.Trace.{applied};
-    ghost use Rattle.log_area.specs.Rulings.{HoldsRecord, IsKept, gate_word};
-    ghost use Rattle.log_area.specs.Stages.{reached_by};
-    ghost use Rattle.log_area.specs.Writings.{begun, advanced, start_of, operation_of, IsWriting, IsReplacing, IsRuledMeanwhile, IsOutside, IsLeftOutside};
+    ghost use Rattle.log_area.specs.Rulings.{HoldsRecord, Spares};
+    ghost use Rattle.log_area.specs.Stages.{IsStage, reached_by};
+    ghost use Rattle.log_area.specs.Writings.{begun, advanced, start_of, operation_of, IsWriting, IsReplacing, IsRuledMeanwhile, IsOutside};
 
     /// Nothing is stored yet.
     pub fn new(geometry: Geometry, target: Record) -> Writing
@@ -53,6 +53,14 @@ impl Writing {
         ensures { result ≡ self.now.stage }
     {
         self.stage
+    }
+
+    /// Was its last operation made?
+    pub fn is_done(&self) -> bool
+        ensures done { IsTrue result ↔ (self.now.stage ≡ WritingStage.Done) }
+        ensures staged { IsStage self.now.stage }
+    {
+        matches!(self.stage, WritingStage::Done)
     }
 
     /// The record that is written.
@@ -79,8 +87,7 @@ impl Writing {
 
         // What it makes of the place's words, and of the others.
         ensures place { (before : ℕ) → IsWriting before self.old (D.state device.old) → IsWriting before self.new (D.state device.new) }
-        ensures outside { (word : ℕ) → IsOutside self.old word → IsKept (D.state device.old) (D.state device.new) word }
-        ensures left { LeavesOnly (D.state device.old) (D.state device.new) (IsLeftOutside self.old (D.state device.old)) }
+        ensures outside { Spares (IsOutside self.old) (D.state device.old) (D.state device.new) }
 
         // Where a record ruled before, it or the new one rules whatever a crash leaves.
         ensures replaces { (old : Value) → IsReplacing old self.old (D.state device.old) → IsReplacing old self.new (D.state device.new) }

@@ -3,10 +3,11 @@ use Rattle.pmem.specs.Device.{Device, LeavesOnly}
 use Rattle.log_area.specs.declared.stage.WritingStage.{WritingStage}
 use Rattle.log_area.specs.Stages.{next_stage}
 use Rattle.log_area.specs.Rulings.{HoldsRecord}
-use Rattle.log_area.specs.Writings.{Progress, advanced, IsWriting, IsReplacing, IsRuledMeanwhile}
+use Rattle.log_area.specs.Writings.{Progress, advanced, IsWriting, IsReplacing, IsRuledMeanwhile, IsOutside}
 use Rattle.log_area.proofs.Kept.{replacing_failed}
-use Rattle.log_area.proofs.Ticks.{moved, staged_too, outside_kept, writing_next}
-use Rattle.log_area.proofs.Replacing.{replacing_next, replacing_done, images_next, left_next, images_failed}
+use Rattle.log_area.proofs.Runs.{spares-failed}
+use Rattle.log_area.proofs.Ticks.{moved, staged_too, writing_next}
+use Rattle.log_area.proofs.Replacing.{replacing_next, replacing_done, images_next, spares_next, images_failed}
 use Rattle.log_area.proofs.writing.Writing.tick.Goals as goal
 
 pub returns-in_err-operate-clause-replaces : goal.returns-in_err-operate-clause-replaces
@@ -26,6 +27,14 @@ returns-in_err-operate-clause-images g c old replacing =
     let made = c.in_err-operate.ensures.err in
     let orderly = g.met.D.Pmem.orderly in
     images_failed old p was is (orderly c.args.device.now) (orderly c.operate.new.device) made replacing
+
+pub returns-in_err-operate-clause-outside : goal.returns-in_err-operate-clause-outside
+returns-in_err-operate-clause-outside g c =
+    let p = c.args.self.now in
+    let was = g.D.Pmem.state c.args.device.now in
+    let is = g.D.Pmem.state c.operate.new.device in
+    let orderly = g.met.D.Pmem.orderly in
+    spares-failed (IsOutside p) was is (orderly c.args.device.now) (orderly c.operate.new.device) c.in_err-operate.ensures.err
 
 pub returns-clause-place : goal.returns-clause-place
 returns-clause-place g c before writing =
@@ -49,19 +58,7 @@ returns-clause-outside g c =
     let staged = staged_too p q c.self.view_is c.self.invariant in
     let here = moved p q c.next-self-inside.result c.self.view_is c.next-self-inside.ensures in
     let orderly = g.met.D.Pmem.orderly in
-    outside_kept p staged made
-
-pub returns-clause-left : goal.returns-clause-left
-returns-clause-left g c =
-    let p = c.args.self.now in
-    let q : Progress = record { layout = c.self.inside.geometry; target = c.self.inside.target; stage = c.self.inside.stage } in
-    let was = g.D.Pmem.state c.args.device.now in
-    let is = g.D.Pmem.state c.operate.new.device in
-    let made = c.in_ok-operate.ensures.ok in
-    let staged = staged_too p q c.self.view_is c.self.invariant in
-    let here = moved p q c.next-self-inside.result c.self.view_is c.next-self-inside.ensures in
-    let orderly = g.met.D.Pmem.orderly in
-    left_next was is (orderly c.args.device.now) (orderly c.operate.new.device) p staged made
+    spares_next was is (orderly c.args.device.now) (orderly c.operate.new.device) p staged made
 
 pub returns-clause-replaces : goal.returns-clause-replaces
 returns-clause-replaces g c old replacing =
