@@ -1,0 +1,102 @@
+-- Which command a line spells.
+use Rattle.std.specs.Prelude.{ℕ, List, [], ◌∷◌, Bool, not, Option, Some, None, length, ◌==◌, ◌||◌, ◌-◌, ◌^◌, slice_index, codes, map, if◌then◌else◌, option_map, option_and_then, nat_le}
+use Rattle.std.specs.Borrow.{Bor}
+use Rattle.std.specs.List.{slice_split, filter}
+use Rattle.std.specs.Str.{bytes_eq}
+use Rattle.base.specs.declared.key.Key.{Key}
+use Rattle.command_line.specs.Numbers.{Text, number_below}
+use Rattle.command_line.specs.Rows.{row_of}
+use Rattle.command_line.specs.declared.command.Command.{Command}
+use Rattle.command_line.specs.declared.command.Command.TheVariants.{Begin, Get, Put, Draw, Stamp, Poll, End, Commit, Cycle, Crash}
+use Rattle.command_line.specs.declared.command.Survivor.{Survivor}
+use Rattle.command_line.specs.declared.command.Survivor.TheVariants.{Oldest, Newest}
+
+-- the texts behind references
+abbrev pub texts : List (Bor Text) → List Text
+texts = map (λ s. s.now)
+
+-- the word is this one
+abbrev pub is_word : Text → Text → Bool
+is_word = bytes_eq
+
+-- what stands between the spaces of a line
+abbrev pub words_of : Text → List Text
+words_of line = filter (λ word. not (length word == 0)) (slice_split (λ byte. byte == 32) line)
+
+-- a table and a number in it
+abbrev pub key_of : Text → Text → Option Key
+key_of table key =
+    option_and_then (λ t. option_map (λ k. record { table = t; key = k }) (number_below (2 ^ 64) key)) (number_below (2 ^ 16) table)
+
+-- `begin` or `cycle`
+abbrev pub bare_command : Text → Option Command
+bare_command name =
+    if is_word name (codes "begin") then Some Begin
+    else if is_word name (codes "cycle") then Some Cycle
+    else None
+
+-- `draw`, `stamp`, `poll` or `end` of a session
+abbrev pub session_command : Text → ℕ → Option Command
+session_command name session =
+    if is_word name (codes "draw") then Some (Draw session)
+    else if is_word name (codes "stamp") then Some (Stamp session)
+    else if is_word name (codes "poll") then Some (Poll session)
+    else if is_word name (codes "end") then Some (End session)
+    else None
+
+-- so many ticks, at least one
+abbrev pub commit_of : ℕ → Option Command
+commit_of ticks = if ticks == 0 then None else Some (Commit ticks)
+
+-- a crash that keeps the oldest or the newest
+abbrev pub crash_of : Text → Option Command
+crash_of keeps =
+    if is_word keeps (codes "oldest") then Some (Crash Oldest)
+    else if is_word keeps (codes "newest") then Some (Crash Newest)
+    else None
+
+-- a command with one word after its name
+abbrev pub one_word_command : Text → Text → Option Command
+one_word_command name word =
+    if is_word name (codes "commit") then option_and_then commit_of (number_below (2 ^ 64) word)
+    else if is_word name (codes "crash") then crash_of word
+    else option_and_then (session_command name) (number_below (2 ^ 8) word)
+
+-- `get` of a session, a table and a key
+abbrev pub get_command : Text → Text → Text → Text → Option Command
+get_command name session table key =
+    if is_word name (codes "get")
+    then option_and_then (λ s. option_map (Get s) (key_of table key)) (number_below (2 ^ 8) session)
+    else None
+
+-- `put` of a session, a table, a key and a row
+abbrev pub put_command : Text → Text → Text → Text → Text → Option Command
+put_command name session table key row =
+    if is_word name (codes "put")
+    then option_and_then (λ s. option_and_then (λ k. option_map (Put s k) (row_of row)) (key_of table key)) (number_below (2 ^ 8) session)
+    else None
+
+-- the command that some words spell, where they spell one
+abbrev pub command_of : List Text → Option Command
+command_of [] = None
+command_of (name ∷ []) = bare_command name
+command_of (name ∷ word ∷ []) = one_word_command name word
+command_of (name ∷ a ∷ b ∷ []) = None
+command_of (name ∷ session ∷ table ∷ key ∷ []) = get_command name session table key
+command_of (name ∷ session ∷ table ∷ key ∷ row ∷ []) = put_command name session table key row
+command_of (name ∷ a ∷ b ∷ c ∷ d ∷ e ∷ more) = None
+
+-- a space stands before the first word or after the last
+abbrev pub has_outer_space : Text → Bool
+has_outer_space line = slice_index line 0 == 32 || slice_index line (length line - 1) == 32
+
+-- the line is empty or begins with `#`
+abbrev pub is_skipped : Text → Bool
+is_skipped line = length line == 0 || slice_index line 0 == 35
+
+-- what a line is read as: `None` where it is no command, `Some None` where it is skipped
+abbrev pub line_of : Text → Option (Option Command)
+line_of line =
+    if is_skipped line then Some None
+    else if has_outer_space line then None
+    else option_map (λ command. Some command) (command_of (words_of line))

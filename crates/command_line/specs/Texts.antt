@@ -1,0 +1,113 @@
+-- The lines that are printed, as bytes and without their line feed.
+use Rattle.std.specs.Prelude.{ℕ, List, [], ◌∷◌, ◌++◌, codes, decimal}
+use Rattle.std.specs.List.{flat_map}
+use Rattle.base.specs.declared.fault.Fault.{Fault}
+use Rattle.base.specs.declared.fault.Fault.TheVariants as fault
+use Rattle.base.specs.declared.gap.Gap.{Gap}
+use Rattle.base.specs.declared.key.Key.{Key}
+use Rattle.command_line.specs.Numbers.{Text}
+use Rattle.command_line.specs.Rows.{row_text}
+use Rattle.command_line.specs.declared.command.Survivor.{Survivor}
+use Rattle.command_line.specs.declared.command.Survivor.TheVariants.{Oldest, Newest}
+use Rattle.command_line.specs.declared.printed.Printed.{Printed}
+use Rattle.command_line.specs.declared.printed.Printed.TheVariants as printed
+
+-- the number of a fault
+abbrev pub fault_number : Fault → ℕ
+fault_number fault.TooLong = 1
+fault_number fault.BadGeometry = 2
+fault_number fault.Device = 3
+fault_number fault.NotFormatted = 4
+fault_number (fault.Damaged place) = 5
+fault_number (fault.Version version) = 6
+fault_number fault.GapsFull = 7
+fault_number fault.SlotsOut = 8
+fault_number fault.NoSession = 9
+fault_number fault.WrongState = 10
+fault_number fault.SessionsFull = 11
+fault_number fault.WriteSetFull = 12
+fault_number (fault.Conflict key) = 13
+fault_number fault.WindowFull = 14
+fault_number fault.TimestampsOut = 15
+fault_number fault.OutOfMemory = 16
+fault_number fault.Failed = 17
+fault_number fault.TooOld = 18
+fault_number fault.NotYet = 19
+fault_number fault.ReadersOut = 20
+fault_number fault.NoThread = 21
+fault_number fault.Shut = 22
+
+-- the name of a fault
+abbrev pub fault_name : Fault → Text
+fault_name fault.TooLong = codes "TooLong"
+fault_name fault.BadGeometry = codes "BadGeometry"
+fault_name fault.Device = codes "Device"
+fault_name fault.NotFormatted = codes "NotFormatted"
+fault_name (fault.Damaged place) = codes "Damaged"
+fault_name (fault.Version version) = codes "Version"
+fault_name fault.GapsFull = codes "GapsFull"
+fault_name fault.SlotsOut = codes "SlotsOut"
+fault_name fault.NoSession = codes "NoSession"
+fault_name fault.WrongState = codes "WrongState"
+fault_name fault.SessionsFull = codes "SessionsFull"
+fault_name fault.WriteSetFull = codes "WriteSetFull"
+fault_name (fault.Conflict key) = codes "Conflict"
+fault_name fault.WindowFull = codes "WindowFull"
+fault_name fault.TimestampsOut = codes "TimestampsOut"
+fault_name fault.OutOfMemory = codes "OutOfMemory"
+fault_name fault.Failed = codes "Failed"
+fault_name fault.TooOld = codes "TooOld"
+fault_name fault.NotYet = codes "NotYet"
+fault_name fault.ReadersOut = codes "ReadersOut"
+fault_name fault.NoThread = codes "NoThread"
+fault_name fault.Shut = codes "Shut"
+
+-- what a fault names, a space before each
+abbrev pub fault_details : Fault → Text
+fault_details (fault.Damaged place) = codes " " ++ decimal place
+fault_details (fault.Version version) = codes " " ++ decimal version
+fault_details (fault.Conflict key) = codes " " ++ (decimal key.table ++ (codes " " ++ decimal key.key))
+fault_details _ = []
+
+-- a refusal
+abbrev pub refused_text : Fault → Text
+refused_text f =
+    codes "refused " ++ (decimal (fault_number f) ++ (codes " " ++ (fault_name f ++ fault_details f)))
+
+-- a gap, after a space
+abbrev pub gap_text : Gap → Text
+gap_text gap = codes " " ++ (decimal gap.first ++ (codes "-" ++ decimal gap.last))
+
+-- the gaps, a space before each
+abbrev pub gaps_text : List Gap → Text
+gaps_text [] = codes " -"
+gaps_text (gap ∷ gaps) = flat_map gap_text (gap ∷ gaps)
+
+-- the name of what a crash keeps
+abbrev pub survivor_text : Survivor → Text
+survivor_text Oldest = codes "oldest"
+survivor_text Newest = codes "newest"
+
+-- a printed line
+abbrev pub text_of : Printed → Text
+text_of (printed.Opened gate persisted drawn next gaps) =
+    codes "opened gate " ++ (decimal gate ++ (codes " p " ++ (decimal persisted ++ (codes " d " ++ (decimal drawn ++ (codes " next " ++ (decimal next ++ (codes " gaps" ++ gaps_text gaps.now))))))))
+text_of (printed.Closed gate persisted drawn) =
+    codes "closed gate " ++ (decimal gate ++ (codes " p " ++ (decimal persisted ++ (codes " d " ++ decimal drawn))))
+text_of (printed.Formatted words) = codes "formatted " ++ (decimal words ++ codes " words")
+text_of (printed.Session session) = codes "session " ++ decimal session
+text_of (printed.Row bytes) = codes "row " ++ row_text bytes.now
+text_of printed.NoRow = codes "none"
+text_of printed.Done = codes "done"
+text_of (printed.Drawn timestamp) = codes "drawn " ++ decimal timestamp
+text_of printed.More = codes "more"
+text_of printed.Stamped = codes "stamped"
+text_of printed.Waiting = codes "waiting"
+text_of (printed.Committed timestamp) = codes "committed " ++ decimal timestamp
+text_of printed.Idle = codes "idle"
+text_of printed.Tick = codes "tick"
+text_of (printed.Covered gate) = codes "covered " ++ decimal gate
+text_of (printed.Stopped keeps) = codes "stopped " ++ survivor_text keeps
+text_of (printed.Refused f) = refused_text f
+text_of (printed.NotACommand line) = codes "line " ++ (decimal line ++ codes ": not a command")
+text_of printed.FileFault = codes "file fault"

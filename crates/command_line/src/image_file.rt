@@ -1,0 +1,40 @@
+ghost use Rattle.std.specs.Prelude.{◌≡◌, ◌⊎◌, ◌*◌, ◌^◌, ◌<◌, IfOk, IfErr, length, true, false};
+ghost use Rattle.command_line.specs.ImageFile.{HoldsWords, is_image_length, bytes_of_words};
+ghost use Rattle.base.specs.declared.fault.Fault.TheVariants.{BadGeometry, OutOfMemory};
+
+use base::fault::Fault;
+use byteorder::{ByteOrder, LittleEndian};
+use std::alloc::{AllocError, Global};
+
+/// The bytes of the longest image.
+pub const MOST_FILE_BYTES: usize = 4_210_752;
+
+const WORD_BYTES: usize = 8;
+
+/// The words of a file, which holds them in order, 8 bytes each, the lowest byte first.
+/// `BadGeometry` where the length is no multiple of 8 or over `MOST_FILE_BYTES`.
+pub fn words_of_file(alloc: Global, file: &[u8]) -> Result<Vec<u64>, Fault>
+    ensures ok { IfOk result (λ words. HoldsWords file.now words.items) }
+    ensures length { IfOk result (λ _. is_image_length (length file.now) ≡ true) }
+    ensures fault { IfErr result (λ fault. (fault ≡ OutOfMemory) ⊎ (fault ≡ BadGeometry)) }
+    ensures geometry { result ≡ Err BadGeometry → is_image_length (length file.now) ≡ false }
+{
+    if file.len() % WORD_BYTES != 0 || file.len() > MOST_FILE_BYTES {
+        return Err(Fault::BadGeometry);
+    }
+    let Ok(mut words) = Vec::from_elem(alloc, 0, file.len() / WORD_BYTES) else {
+        return Err(Fault::OutOfMemory);
+    };
+    LittleEndian::read_u64_into(file, words.as_mut_slice());
+    Ok(words)
+}
+
+/// The bytes of a file that holds these words.
+pub fn file_of_words(alloc: Global, words: &[u64]) -> Result<Vec<u8>, AllocError>
+    requires { 8 * length words.now < 2 ^ 64 }
+    ensures { IfOk result (λ file. file.items ≡ bytes_of_words words.now) }
+{
+    let mut file = Vec::from_elem(alloc, 0, WORD_BYTES * words.len())?;
+    LittleEndian::write_u64_into(words, file.as_mut_slice());
+    Ok(file)
+}

@@ -1,0 +1,12 @@
+//! The words of the command line, the lines of its scripts, the lines that it prints, and the bytes
+//! of its files.
+#![tactic(auto)]
+
+pub mod command;
+pub mod image_file;
+pub mod line;
+pub mod number;
+pub mod printed;
+pub mod row_text;
+#[cfg(test)]
+mod tests;

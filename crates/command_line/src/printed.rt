@@ -1,0 +1,220 @@
+ghost use Rattle.std.specs.Prelude.{◌≡◌, ◌++◌, ◌∷◌, [], IfOk, OnOk, codes, decimal};
+ghost use Rattle.std.specs.String.{string_bytes};
+ghost use Rattle.std.specs.Io.KnownBytes.{Appends};
+ghost use Rattle.command_line.specs.Rows.{row_text};
+ghost use Rattle.command_line.specs.Texts.{fault_details, fault_name, fault_number, gaps_text, refused_text, survivor_text, text_of};
+
+use crate::command::Survivor;
+use base::fault::Fault;
+use base::gap::Gap;
+use std::alloc::{AllocError, Global};
+use std::io;
+use std::io::Write;
+
+/// A line that the program prints.
+#[derive(Clone, Copy)]
+pub enum Printed<'a> {
+    /// An image was opened: its ruling gate, persisted and dirty timestamp, the next timestamp and
+    /// the gaps.
+    Opened {
+        gate: u64,
+        persisted: u64,
+        drawn: u64,
+        next: u64,
+        gaps: &'a [Gap],
+    },
+    /// The image that a close leaves.
+    Closed {
+        gate: u64,
+        persisted: u64,
+        drawn: u64,
+    },
+    Formatted {
+        words: u64,
+    },
+    Session(u8),
+    Row(&'a [u8]),
+    NoRow,
+    Done,
+    Drawn(u64),
+    More,
+    Stamped,
+    Waiting,
+    Committed(u64),
+    Idle,
+    Tick,
+    Covered(u64),
+    Stopped(Survivor),
+    Refused(Fault),
+    /// The number of a line that is no command, from 1.
+    NotACommand {
+        line: u64,
+    },
+    FileFault,
+}
+
+/// Writes the line and a line feed.
+pub fn print<W: Write>(alloc: Global, out: &mut W, line: &Printed) -> io::Result<()>
+    ensures { OnOk result (Appends (W.contents out.old) (W.contents out.new) (text_of line.now ++ 10 ∷ [])) }
+{
+    let mut text = text(alloc, line)?;
+    text.push('\n')?;
+    out.write_all(text.as_bytes())
+}
+
+/// The line, without a line feed.
+pub fn text(alloc: Global, line: &Printed) -> Result<String, AllocError>
+    ensures { IfOk result (λ text. string_bytes text ≡ text_of line.now) }
+{
+    match *line {
+        Printed::Opened {
+            gate,
+            persisted,
+            drawn,
+            next,
+            gaps,
+        } => {
+            let gaps = gaps_text(alloc, gaps)?;
+            format!(in alloc; "opened gate {gate} p {persisted} d {drawn} next {next} gaps{gaps}")
+        }
+        Printed::Closed {
+            gate,
+            persisted,
+            drawn,
+        } => format!(in alloc; "closed gate {gate} p {persisted} d {drawn}"),
+        Printed::Formatted { words } => format!(in alloc; "formatted {words} words"),
+        Printed::Session(session) => format!(in alloc; "session {session}"),
+        Printed::Row(bytes) => row_line(alloc, bytes),
+        Printed::NoRow => String::from_str(alloc, "none"),
+        Printed::Done => String::from_str(alloc, "done"),
+        Printed::Drawn(timestamp) => format!(in alloc; "drawn {timestamp}"),
+        Printed::More => String::from_str(alloc, "more"),
+        Printed::Stamped => String::from_str(alloc, "stamped"),
+        Printed::Waiting => String::from_str(alloc, "waiting"),
+        Printed::Committed(timestamp) => format!(in alloc; "committed {timestamp}"),
+        Printed::Idle => String::from_str(alloc, "idle"),
+        Printed::Tick => String::from_str(alloc, "tick"),
+        Printed::Covered(gate) => format!(in alloc; "covered {gate}"),
+        Printed::Stopped(keeps) => stopped_line(alloc, keeps),
+        Printed::Refused(fault) => refused_line(alloc, fault),
+        Printed::NotACommand { line } => format!(in alloc; "line {line}: not a command"),
+        Printed::FileFault => String::from_str(alloc, "file fault"),
+    }
+}
+
+fn row_line(alloc: Global, bytes: &[u8]) -> Result<String, AllocError>
+    ensures { IfOk result (λ text. string_bytes text ≡ codes "row " ++ row_text bytes.now) }
+{
+    if bytes.is_empty() {
+        return String::from_str(alloc, "row -");
+    }
+    let digits = hex::encode(alloc, bytes)?;
+    format!(in alloc; "row {digits}")
+}
+
+fn stopped_line(alloc: Global, keeps: Survivor) -> Result<String, AllocError>
+    ensures { IfOk result (λ text. string_bytes text ≡ codes "stopped " ++ survivor_text keeps) }
+{
+    match keeps {
+        Survivor::Oldest => String::from_str(alloc, "stopped oldest"),
+        Survivor::Newest => String::from_str(alloc, "stopped newest"),
+    }
+}
+
+fn gaps_text(alloc: Global, gaps: &[Gap]) -> Result<String, AllocError>
+    ensures { IfOk result (λ text. string_bytes text ≡ gaps_text gaps.now) }
+{
+    if gaps.is_empty() {
+        return String::from_str(alloc, " -");
+    }
+    let mut text = String::new(alloc);
+    for gap in gaps {
+        let first = gap.first;
+        let last = gap.last;
+        let next = format!(in alloc; " {first}-{last}")?;
+        text.push_str(next.as_str())?;
+    }
+    Ok(text)
+}
+
+fn refused_line(alloc: Global, fault: Fault) -> Result<String, AllocError>
+    ensures { IfOk result (λ text. string_bytes text ≡ refused_text fault) }
+{
+    let number = number(fault);
+    let name = name(fault);
+    let details = details(alloc, fault)?;
+    format!(in alloc; "refused {number} {name}{details}")
+}
+
+fn details(alloc: Global, fault: Fault) -> Result<String, AllocError>
+    ensures { IfOk result (λ text. string_bytes text ≡ fault_details fault) }
+{
+    match fault {
+        Fault::Damaged(place) => format!(in alloc; " {place}"),
+        Fault::Version(version) => format!(in alloc; " {version}"),
+        Fault::Conflict(key) => {
+            let table = key.table;
+            let number = key.key;
+            format!(in alloc; " {table} {number}")
+        }
+        _ => Ok(String::new(alloc)),
+    }
+}
+
+fn number(fault: Fault) -> u8
+    ensures { result ≡ fault_number fault }
+{
+    match fault {
+        Fault::TooLong => 1,
+        Fault::BadGeometry => 2,
+        Fault::Device => 3,
+        Fault::NotFormatted => 4,
+        Fault::Damaged(_) => 5,
+        Fault::Version(_) => 6,
+        Fault::GapsFull => 7,
+        Fault::SlotsOut => 8,
+        Fault::NoSession => 9,
+        Fault::WrongState => 10,
+        Fault::SessionsFull => 11,
+        Fault::WriteSetFull => 12,
+        Fault::Conflict(_) => 13,
+        Fault::WindowFull => 14,
+        Fault::TimestampsOut => 15,
+        Fault::OutOfMemory => 16,
+        Fault::Failed => 17,
+        Fault::TooOld => 18,
+        Fault::NotYet => 19,
+        Fault::ReadersOut => 20,
+        Fault::NoThread => 21,
+        Fault::Shut => 22,
+    }
+}
+
+fn name(fault: Fault) -> &'static str
+    ensures { result.now ≡ fault_name fault }
+{
+    match fault {
+        Fault::TooLong => "TooLong",
+        Fault::BadGeometry => "BadGeometry",
+        Fault::Device => "Device",
+        Fault::NotFormatted => "NotFormatted",
+        Fault::Damaged(_) => "Damaged",
+        Fault::Version(_) => "Version",
+        Fault::GapsFull => "GapsFull",
+        Fault::SlotsOut => "SlotsOut",
+        Fault::NoSession => "NoSession",
+        Fault::WrongState => "WrongState",
+        Fault::SessionsFull => "SessionsFull",
+        Fault::WriteSetFull => "WriteSetFull",
+        Fault::Conflict(_) => "Conflict",
+        Fault::WindowFull => "WindowFull",
+        Fault::TimestampsOut => "TimestampsOut",
+        Fault::OutOfMemory => "OutOfMemory",
+        Fault::Failed => "Failed",
+        Fault::TooOld => "TooOld",
+        Fault::NotYet => "NotYet",
+        Fault::ReadersOut => "ReadersOut",
+        Fault::NoThread => "NoThread",
+        Fault::Shut => "Shut",
+    }
+}

@@ -1,0 +1,34 @@
+ghost use Rattle.std.specs.Prelude.{◌≡◌, IfOk, IfErr};
+ghost use Rattle.std.specs.Char.{is_ascii_uppercase};
+ghost use Rattle.std.specs.List.{list_any};
+ghost use Rattle.command_line.specs.Rows.{row_of};
+ghost use Rattle.command_line.specs.declared.line.LineFault.TheVariants.{NotACommand};
+
+use crate::command::RowBytes;
+use crate::line::LineFault;
+use hex::FromHexError;
+use std::alloc::Global;
+
+/// The bytes of a row, written as two lower case hex digits each, or as `-` where there are none.
+pub fn row(alloc: Global, word: &[u8]) -> Result<RowBytes, LineFault>
+    ensures ok { IfOk result (λ row. row_of word.now ≡ Some row) }
+    ensures refused { IfErr result (λ fault. fault ≡ NotACommand → row_of word.now ≡ None) }
+{
+    if word == b"-".as_slice() {
+        return Ok(RowBytes::new(Vec::new(alloc)));
+    }
+    if word.is_empty() || has_upper_case(word) {
+        return Err(LineFault::NotACommand);
+    }
+    match hex::decode(alloc, word) {
+        Ok(bytes) => Ok(RowBytes::new(bytes)),
+        Err(FromHexError::OutOfMemory) => Err(LineFault::OutOfMemory),
+        Err(_) => Err(LineFault::NotACommand),
+    }
+}
+
+fn has_upper_case(word: &[u8]) -> bool
+    ensures { result ≡ list_any is_ascii_uppercase word.now }
+{
+    word.iter().any(|byte| byte.is_ascii_uppercase())
+}
