@@ -1,6 +1,6 @@
 -- What reading the words of a file leaves.
-use Rattle.std.proofs.Common.{◌≡◌, ℕ, ◌*◌, ◌∙◌, arith, List, ◌++◌, length, take, drop, rules}
-use Rattle.std.proofs.lemmas.List.{take-append-le, length-take-le}
+use Rattle.std.proofs.Common.{◌≡◌, ℕ, ◌*◌, ◌∙◌, arith, List, ◌++◌, length, take, drop}
+use Rattle.std.proofs.lemmas.List.{take-append-le}
 use Rattle.std.proofs.Math.Seq.{take-length}
 use Rattle.byteorder.specs.Endian.{IsRead, little_number}
 use Rattle.command_line.specs.ImageFile.{HoldsWords}

@@ -1,5 +1,5 @@
 -- Word counts that no command has.
-use Rattle.std.proofs.Common.{◌≡◌, ℕ, ◌<◌, ◌≤◌, List, [], ◌∷◌, length, None, refl, arith}
+use Rattle.std.proofs.Common.{◌≡◌, ◌<◌, ◌≤◌, List, [], ◌∷◌, length, None, refl, arith}
 use Rattle.command_line.specs.Numbers.{Text}
 use Rattle.command_line.specs.Lines.{command_of}
 

@@ -1,13 +1,12 @@
 -- What the reading of a number keeps.
-use Rattle.std.proofs.Common.{◌≡◌, ℕ, ◌+◌, ◌*◌, ◌^◌, ◌<◌, ◌≤◌, List, [], ◌∷◌, length, true, false, Some, None, drop, refl, sym, ◌∙◌, arith, rules, nat_lt, ap}
+use Rattle.std.proofs.Common.{◌≡◌, ℕ, ◌+◌, ◌*◌, ◌<◌, ◌≤◌, List, [], ◌∷◌, length, true, Some, None, drop, sym, ◌∙◌, arith, ap}
 use Rattle.std.proofs.Common.{get_or, suc}
 use Rattle.std.proofs.Math.Seq.{drop-cons}
-use Rattle.std.proofs.lemmas.Grind.{common_steps}
 use Rattle.std.proofs.lemmas.Bool.Decides.{nat_tests}
 use Rattle.std.specs.Char.{digit_value}
 use Rattle.std.specs.Str.{all_ascii_digits}
 use Rattle.std.specs.Str.Parse.{digits_value, digits_value_after}
-use Rattle.command_line.specs.Numbers.{Text, number_below, is_number_text}
+use Rattle.command_line.specs.Numbers.{Text, number_below}
 
 -- more digits make no smaller number
 pub le-digits_value_after : (n : ℕ) (ds : List ℕ) → n ≤ digits_value_after 10 n ds

@@ -3,3 +3,5 @@ pub mod Rows
 pub mod Lines
 pub mod ImageFile
 pub mod Texts
+pub mod Words
+pub mod Given

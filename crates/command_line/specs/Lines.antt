@@ -1,5 +1,5 @@
 -- Which command a line spells.
-use Rattle.std.specs.Prelude.{ℕ, List, [], ◌∷◌, Bool, not, Option, Some, None, length, ◌==◌, ◌||◌, ◌-◌, ◌^◌, slice_index, codes, map, if◌then◌else◌, option_map, option_and_then, nat_le}
+use Rattle.std.specs.Prelude.{ℕ, List, [], ◌∷◌, Bool, not, Option, Some, None, length, ◌==◌, ◌||◌, ◌-◌, ◌^◌, slice_index, codes, map, if◌then◌else◌, option_map, option_and_then}
 use Rattle.std.specs.Borrow.{Bor}
 use Rattle.std.specs.List.{slice_split, filter}
 use Rattle.std.specs.Str.{bytes_eq}
@@ -8,7 +8,6 @@ use Rattle.command_line.specs.Numbers.{Text, number_below}
 use Rattle.command_line.specs.Rows.{row_of}
 use Rattle.command_line.specs.declared.command.Command.{Command}
 use Rattle.command_line.specs.declared.command.Command.TheVariants.{Begin, Get, Put, Draw, Stamp, Poll, End, Commit, Cycle, Crash}
-use Rattle.command_line.specs.declared.command.Survivor.{Survivor}
 use Rattle.command_line.specs.declared.command.Survivor.TheVariants.{Oldest, Newest}
 
 -- the texts behind references

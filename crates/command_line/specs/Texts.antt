@@ -4,7 +4,6 @@ use Rattle.std.specs.List.{flat_map}
 use Rattle.base.specs.declared.fault.Fault.{Fault}
 use Rattle.base.specs.declared.fault.Fault.TheVariants as fault
 use Rattle.base.specs.declared.gap.Gap.{Gap}
-use Rattle.base.specs.declared.key.Key.{Key}
 use Rattle.command_line.specs.Numbers.{Text}
 use Rattle.command_line.specs.Rows.{row_text}
 use Rattle.command_line.specs.declared.command.Survivor.{Survivor}

@@ -3,10 +3,13 @@
 #![tactic(auto)]
 
 pub mod command;
+mod given;
 pub mod image_file;
 pub mod line;
 pub mod number;
+pub mod orders;
 pub mod printed;
 pub mod row_text;
 #[cfg(test)]
 mod tests;
+pub mod words;

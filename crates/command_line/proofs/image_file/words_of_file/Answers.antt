@@ -1,4 +1,4 @@
-use Rattle.std.proofs.Common.{arith, rules}
+use Rattle.std.proofs.Common.{arith}
 use Rattle.std.proofs.lemmas.Grind.{common_steps}
 use Rattle.command_line.proofs.ImageFiles.{holds_words}
 use Rattle.command_line.proofs.image_file.words_of_file.Goals as goal

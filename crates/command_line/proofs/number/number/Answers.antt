@@ -1,7 +1,6 @@
-use Rattle.std.proofs.Common.{rules, arith, ◌≡◌, ◌^◌, ℕ, ◌+◌, ◌-◌, ◌*◌, ◌<◌, ◌≤◌, length, drop, List, [], ◌∷◌, ◌∙◌, sym, get_or, ap, Some, None}
+use Rattle.std.proofs.Common.{rules, arith, ◌≡◌, ◌∙◌, sym, get_or}
 use Rattle.std.proofs.lemmas.Grind.{common_steps}
 use Rattle.std.specs.Char.{digit_value}
-use Rattle.std.specs.Str.Parse.{digits_value, digits_value_after}
 use Rattle.command_line.proofs.Numbers.{next-le-digits_value, number_below-large, number_below-digits}
 use Rattle.command_line.proofs.number.number.Goals as goal
 

@@ -1,0 +1,143 @@
+ghost use Rattle.std.specs.Prelude.{◌≡◌, ◌∷◌, ◌++◌, IfSome, IfOk};
+ghost use Rattle.command_line.specs.Lines.{texts};
+ghost use Rattle.command_line.specs.Words.{Gives, GivesFormat, option_word};
+ghost use Rattle.command_line.specs.Given.{AreGiven, SetsFile, SetsNumber};
+
+use crate::number::number;
+use crate::orders::{Choice, Order};
+use base::geometry::Geometry;
+
+/// What the words after `format` give, before defaults.
+#[derive(Clone, Copy)]
+pub(crate) struct Given<'a> {
+    pub(crate) file: Option<&'a str>,
+    pub(crate) slots: Option<u64>,
+    pub(crate) places: Option<u64>,
+    pub(crate) window: Option<u64>,
+}
+
+const DEFAULT_SLOTS: u64 = 1024;
+
+const DEFAULT_PLACES: u64 = 4;
+
+const DEFAULT_WINDOW: u64 = 64;
+
+/// The order that some words give, read by themselves.
+pub(crate) fn spelled_order<'a>(words: &[&'a str]) -> Option<Order<'a>>
+    ensures { IfSome result (λ order. Gives (texts words.now) order) }
+{
+    let (name, rest) = words.split_first()?;
+    if *name == "format" {
+        return spelled_format(rest);
+    }
+    if *name != "run" {
+        return None;
+    }
+    match rest {
+        [file] => Some(Order::Run { file }),
+        _ => None,
+    }
+}
+
+fn spelled_format<'a>(words: &[&'a str]) -> Option<Order<'a>>
+    ensures { IfSome result (λ order. GivesFormat (texts words.now) order) }
+{
+    let given = read_format(words)?;
+    let file = given.file?;
+    let slots = given.slots.unwrap_or(DEFAULT_SLOTS);
+    let places = given.places.unwrap_or(DEFAULT_PLACES);
+    let window = given.window.unwrap_or(DEFAULT_WINDOW);
+    if Geometry::new(slots, places, window).is_err() {
+        return None;
+    }
+    Some(Order::Format {
+        file,
+        slots,
+        places,
+        window,
+    })
+}
+
+fn read_format<'a>(words: &[&'a str]) -> Option<Given<'a>>
+    ensures { IfSome result (λ given. AreGiven (texts words.now) given) }
+{
+    let Some((first, rest)) = words.split_first() else {
+        return Some(Given {
+            file: None,
+            slots: None,
+            places: None,
+            window: None,
+        });
+    };
+    if let Some(choice) = spaced_choice(first) {
+        let (value, rest) = rest.split_first()?;
+        return with_number(read_format(rest)?, choice, value);
+    }
+    if let Some((choice, value)) = joined_choice(first) {
+        return with_number(read_format(rest)?, choice, value);
+    }
+    with_file(read_format(rest)?, first)
+}
+
+fn spaced_choice(word: &str) -> Option<Choice>
+    ensures { IfSome result (λ choice. word.now ≡ option_word choice) }
+{
+    if word == "--slots" {
+        Some(Choice::Slots)
+    } else if word == "--places" {
+        Some(Choice::Places)
+    } else if word == "--window" {
+        Some(Choice::Window)
+    } else {
+        None
+    }
+}
+
+fn joined_choice(word: &str) -> Option<(Choice, &str)>
+    ensures { IfSome result (λ given. word.now ≡ option_word given.0 ++ 61 ∷ given.1.now) }
+{
+    let (name, value) = word.split_once('=')?;
+    let choice = spaced_choice(name)?;
+    Some((choice, value))
+}
+
+fn with_file<'a>(given: Given<'a>, word: &'a str) -> Option<Given<'a>>
+    ensures { IfSome result (λ now. SetsFile given.entry word.now now) }
+{
+    if given.file.is_some() || word.starts_with('-') {
+        return None;
+    }
+    Some(Given {
+        file: Some(word),
+        slots: given.slots,
+        places: given.places,
+        window: given.window,
+    })
+}
+
+fn with_number<'a>(given: Given<'a>, choice: Choice, value: &str) -> Option<Given<'a>>
+    ensures { IfSome result (λ now. SetsNumber given.entry choice value.now now) }
+{
+    let number = number(value.as_bytes())?;
+    match choice {
+        Choice::Slots if given.slots.is_none() => Some(Given {
+            file: given.file,
+            slots: Some(number),
+            places: given.places,
+            window: given.window,
+        }),
+        Choice::Places if given.places.is_none() => Some(Given {
+            file: given.file,
+            slots: given.slots,
+            places: Some(number),
+            window: given.window,
+        }),
+        Choice::Window if given.window.is_none() => Some(Given {
+            file: given.file,
+            slots: given.slots,
+            places: given.places,
+            window: Some(number),
+        }),
+        _ => None,
+    }
+}

@@ -1,0 +1,39 @@
+use std::alloc::AllocError;
+use thiserror::Error;
+
+/// What the words of the command line ask for.
+#[derive(Clone, Copy, Debug, PartialEq, Eq)]
+pub enum Order<'a> {
+    /// A new image is written into the file.
+    Format {
+        file: &'a str,
+        slots: u64,
+        places: u64,
+        window: u64,
+    },
+    /// The image in the file is opened, and lines of commands are obeyed.
+    Run {
+        file: &'a str,
+    },
+}
+
+/// An option of `format`.
+#[derive(Clone, Copy, Debug, PartialEq, Eq)]
+pub enum Choice {
+    Slots,
+    Places,
+    Window,
+}
+
+/// Why the words give no order. Each carries the text for the user.
+#[derive(Debug, Drop, Error)]
+pub enum WordFault {
+    /// Help was asked for: its text goes to the standard output, and the exit status is 0.
+    #[error("{0}")]
+    Help(String),
+    /// The words are bad: the text goes to the standard error, and the exit status is 2.
+    #[error("{0}")]
+    BadWords(String),
+    #[error("error: out of memory\n")]
+    OutOfMemory(#[from(alloc)] AllocError),
+}

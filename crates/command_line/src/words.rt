@@ -1,0 +1,124 @@
+ghost use Rattle.std.specs.Prelude.{IfOk};
+ghost use Rattle.command_line.specs.Lines.{texts};
+ghost use Rattle.command_line.specs.Words.{Gives};
+
+use crate::given::spelled_order;
+use crate::orders::{Order, WordFault};
+use clap::error::ErrorKind;
+use clap::{Arg, ArgAction, ArgMatches, Command, value_parser};
+use std::alloc::{AllocError, Global};
+
+/// What the words after the program's name ask for: a subcommand, a file, and numbers that have
+/// defaults.
+pub fn order<'a>(alloc: Global, words: &'a [&'a str]) -> Result<Order<'a>, WordFault>
+    ensures { IfOk result (λ order. Gives (texts words.now) order) }
+{
+    let mut command = command_line(alloc)?;
+    let matches = match command.try_get_matches_from_mut(words) {
+        Ok(matches) => matches,
+        Err(error) => return Err(word_fault(alloc, &error)),
+    };
+    let found = found_order(&matches);
+    match spelled_order(words) {
+        Some(order) if found == Some(order) => Ok(order),
+        _ => {
+            let error = command.error(ErrorKind::InvalidValue, UNUSUAL_WORDS)?;
+            Err(word_fault(alloc, &error))
+        }
+    }
+}
+
+const UNUSUAL_WORDS: &str =
+    "a number is written in digits alone, and a file whose name begins with '-' as ./-NAME";
+
+fn word_fault(alloc: Global, error: &clap::Error) -> WordFault {
+    match error.to_string(alloc) {
+        Ok(text) if error.use_stderr() => WordFault::BadWords(text),
+        Ok(text) => WordFault::Help(text),
+        Err(error) => WordFault::OutOfMemory(error),
+    }
+}
+
+fn found_order<'a>(matches: &ArgMatches<'a>) -> Option<Order<'a>> {
+    let (name, given) = matches.subcommand()?;
+    let file = given.get_str("FILE")?;
+    if name == "run" {
+        return Some(Order::Run { file });
+    }
+    let slots = given.get_one::<u64>("slots")?;
+    let places = given.get_one::<u64>("places")?;
+    let window = given.get_one::<u64>("window")?;
+    Some(Order::Format {
+        file,
+        slots,
+        places,
+        window,
+    })
+}
+
+fn command_line<'a>(alloc: Global) -> Result<Command<'a>, AllocError> {
+    let format = format_command(alloc)?;
+    let run = run_command(alloc)?;
+    let command = Command::new(alloc, "wbl")
+        .no_binary_name(true)
+        .bin_name("wbl")?
+        .about(
+            "A row engine with write-behind logging, over an image of persistent memory in a file.",
+        )
+        .subcommand_required(true)
+        .subcommand(format)?
+        .subcommand(run)?;
+    Ok(command)
+}
+
+fn format_command<'a>(alloc: Global) -> Result<Command<'a>, AllocError> {
+    let slots = number_option(alloc, "slots", "1024")
+        .value_parser(value_parser!(u64).range(1..=65_536))
+        .help("How many versions of rows there is room for, 1 to 65536");
+    let places = number_option(alloc, "places", "4")
+        .value_parser(value_parser!(u64).range(2..=64))
+        .help("How many places there are for commit records, 2 to 64");
+    let window = number_option(alloc, "window", "64")
+        .value_parser(value_parser!(u64).range(4..=1024))
+        .help("How many timestamps a commit record leaves for later commits, 4 to 1024");
+    Command::new(alloc, "format")
+        .about("Writes a new, empty image into FILE")
+        .after_help(
+            "Example: wbl format db.img --slots 4 --places 2 --window 8\nprints: formatted 104 words",
+        )
+        .arg(file_argument(alloc))?
+        .arg(slots)?
+        .arg(places)?
+        .arg(window)
+}
+
+fn run_command<'a>(alloc: Global) -> Result<Command<'a>, AllocError> {
+    Command::new(alloc, "run")
+        .about("Opens the image in FILE and obeys the lines of standard input")
+        .after_help(RUN_EXAMPLE)
+        .arg(file_argument(alloc))
+}
+
+const RUN_EXAMPLE: &str = "Example: wbl run db.img, with the lines
+  begin
+  put 2 1 7 6162
+  draw 2
+  stamp 2
+  cycle
+  poll 2
+puts the row 6162 under key 7 of table 1, and commits it. At the end of the input the image is
+closed and written back.";
+
+fn file_argument<'a>(alloc: Global) -> Arg<'a> {
+    Arg::new(alloc, "FILE")
+        .required(true)
+        .action(ArgAction::Set)
+        .help("The file that holds the image")
+}
+
+fn number_option<'a>(alloc: Global, name: &'a str, default: &'a str) -> Arg<'a> {
+    Arg::new(alloc, name)
+        .long(name)
+        .value_name("N")
+        .default_value(default)
+}
