@@ -1,5 +1,5 @@
 -- The version in a slot is that of its words from the third on.
-use Rattle.std.proofs.Common.{◌≡◌, ℕ, ◌+◌, ◌-◌, ◌*◌, ◌/◌, ◌%◌, ◌^◌, ◌<◌, ◌≤◌, Bool, true, false, not, ◌||◌, List, length, take, drop, refl, sym, ◌∙◌, ap, subst, get_or, min, arith, nat_eq, cond}
+use Rattle.std.proofs.Common.{◌≡◌, ℕ, ◌+◌, ◌-◌, ◌*◌, ◌/◌, ◌%◌, ◌^◌, ◌<◌, ◌≤◌, Bool, true, false, not, ◌||◌, List, length, take, drop, sym, ◌∙◌, ap, subst, get_or, min, arith, nat_eq, cond}
 use Rattle.std.specs.Prelude.{slice_index, slice_range, nat_lt, flat_map}
 use Rattle.std.specs.List.{list_all}
 use Rattle.std.specs.Int.{to_le_bytes, w64}
@@ -7,7 +7,7 @@ use Rattle.std.proofs.lemmas.List.{length-take, length-drop, get_or-take, get_or
 use Rattle.std.proofs.lemmas.Grind.{same_number_lists}
 use Rattle.base.specs.declared.key.Key.{Key}
 use Rattle.base.specs.Layout.{Layout, slot_start, slot_words, total_words, row_limit}
-use Rattle.base.specs.Images.{Image, layout_of, key_of, row_of, bytes_of}
+use Rattle.base.specs.Images.{Image, layout_of, key_of, row_of}
 use Rattle.invariant.specs.Slots.{word_of, is_misfit, HasVersion, Spells}
 
 -- ---- ranges

@@ -1,22 +1,22 @@
 -- A batch of one commit of one row, on a key without one, is covered.
-use Rattle.std.proofs.Common.{◌≡◌, ◌≢◌, ◌⊎◌, inl, inr, ℕ, suc, ◌+◌, ◌^◌, ◌<◌, ◌≤◌, Bool, true, false, cond, not, ◌&&◌, ◌||◌, List, [], ◌∷◌, ◌++◌, map, filter, length, take, refl, sym, ◌∙◌, ap, subst, arith, Option, Some, None, find, is_some, append-nil}
+use Rattle.std.proofs.Common.{◌||◌, ◌≡◌, ◌≢◌, ◌⊎◌, inl, inr, ℕ, ◌+◌, ◌^◌, ◌<◌, ◌≤◌, Bool, true, false, cond, not, ◌&&◌, List, [], ◌∷◌, ◌++◌, filter, length, take, refl, sym, ◌∙◌, ap, subst, arith, Option, Some, None, find, is_some, append-nil}
 use Rattle.std.specs.Prelude.{nat_eq, nat_lt, nat_le, unwrap_or, IsTrue}
 use Rattle.std.specs.List.{list_any, list_all}
-use Rattle.std.proofs.lemmas.Bool.{cases_eq, cases_Bool, eq-eqb, eqb-true, ne_eqb, and_parts, and_from, lt-ltb, ltb-true, leb-true, le-leb, lt-leb, or_cases}
+use Rattle.std.proofs.lemmas.Bool.{cases_eq, eq-eqb, eqb-true, ne_eqb, and_parts, and_from, lt-ltb, leb-true, le-leb, lt-leb, or_cases}
 use Rattle.base.specs.declared.key.Key.{Key}
 use Rattle.base.specs.declared.gap.Gap.{Gap}
 use Rattle.base.specs.Keys.{key_eq, lookup_key}
 use Rattle.base.specs.Commits.{Writes, Commit, after, writes_key, last_writer}
-use Rattle.base.specs.Layout.{slot_words, most_longs}
+use Rattle.base.specs.Layout.{most_longs}
 use Rattle.base.specs.Records.{Record, is_in, is_committed, are_apart, are_rising, is_well_formed}
 use Rattle.base.specs.Stands.{has_timestamp}
-use Rattle.base.specs.Machine.{State, Drawn, Hand, Version, Writer, BySession, ByCommit, drawn_at, writes_of, present, state_covered}
-use Rattle.pmem.specs.Device.{Device, value_of}
-use Rattle.invariant.specs.Slots.{word_of, EachSurvivor, IsNever, is_drawn_on, Class, Free, Filled, Begun, Newest, Replaced, row_in, is_key_stamped, class_of_drawn, class_by, class_of_version, class_of, HoldsAs, IsLive, IsFilled, IsStamped, SlotHolds, SlotsHold}
+use Rattle.base.specs.Machine.{State, Drawn, Hand, Version, Writer, BySession, ByCommit, drawn_at, present, state_covered}
+use Rattle.pmem.specs.Device.{Device}
+use Rattle.invariant.specs.Slots.{word_of, is_drawn_on, Filled, Begun, Newest, Replaced, row_in, is_key_stamped, class_of_drawn, class_by, class_of_version, class_of, HoldsAs, IsLive, IsFilled, IsStamped, SlotHolds, SlotsHold}
 use Rattle.invariant.specs.Kept.{IsKept, version_by, newest_of}
 use Rattle.invariant.specs.Moves.{IsHarmless, Carries, EndsCarry, IsSlotSettled, CoversOne, CoversNone}
 use Rattle.invariant.proofs.Moves.{within-slot, each-settled, each-weaken, ends-carry, class-alike, slot-carries, shrinks-slot_refl}
-use Rattle.invariant.proofs.Lookups.{same-keys, key_eq-refl, key_eq-apart, cases-keys}
+use Rattle.invariant.proofs.Lookups.{key_eq-refl, key_eq-apart, cases-keys}
 use Rattle.invariant.proofs.Histories.{all-weaken, all-one_more, none-any, committed-further, after-append_one, last_writer-append_one, drawn_at-bounds}
 
 -- the state in which the commit is covered

@@ -1,26 +1,24 @@
 -- A draw.
-use Rattle.std.proofs.Common.{◌≡◌, ◌≢◌, ◌⊎◌, inl, inr, ℕ, ◌+◌, ◌<◌, ◌≤◌, Bool, true, false, cond, ◌&&◌, ◌||◌, List, [], ◌∷◌, ◌++◌, map, refl, sym, ◌∙◌, ap, subst, arith, Option, Some, None, find, true≢false}
-use Rattle.std.specs.Prelude.{nat_eq, nat_lt, unwrap_or, IsTrue}
-use Rattle.std.specs.List.{list_any, list_all}
+use Rattle.std.proofs.Common.{◌≡◌, ◌≢◌, ◌⊎◌, inl, inr, ℕ, ◌+◌, ◌<◌, Bool, true, false, cond, ◌&&◌, List, [], ◌∷◌, ◌++◌, map, refl, sym, ◌∙◌, ap, subst, arith, Option, Some, None, find}
+use Rattle.std.specs.Prelude.{is_none, nat_eq, nat_lt}
 use Rattle.std.specs.Option.{option_or}
 use Rattle.std.proofs.lemmas.Bool.{cases_eq, eq-eqb, eqb-true, eqb-false, ne_eqb, and_parts, and_from, lt-ltb, ltb-true}
 use Rattle.std.proofs.lemmas.List.{map-append}
 use Rattle.std.proofs.lemmas.List.Folds.{find-append, list_all-map}
 use Rattle.base.specs.declared.key.Key.{Key}
 use Rattle.base.specs.declared.step.Step.TheVariants.{Draw}
-use Rattle.base.specs.Keys.{key_eq, lookup_key}
-use Rattle.base.specs.Commits.{Writes, Commit, after, writes_key, last_writer}
+use Rattle.base.specs.Keys.{lookup_key}
+use Rattle.base.specs.Commits.{Writes, after, writes_key, last_writer}
 use Rattle.base.specs.Records.{are_rising}
-use Rattle.base.specs.Machine.{State, Session, Drew, WroteNothing, Drawn, Version, Writer, BySession, ByCommit, replaced, drawn_at, writes_of, with_session, is_by, by_commit, state_drawn, next_state}
+use Rattle.base.specs.Machine.{State, Drew, WroteNothing, Drawn, Version, Writer, BySession, ByCommit, replaced, drawn_at, writes_of, is_by, by_commit, state_drawn, next_state}
 use Rattle.pmem.specs.Device.{Device}
-use Rattle.invariant.specs.Slots.{is_drawn_on, Class, Filled, row_in, class_of_drawn, class_by, class_of_version, SlotsHold}
+use Rattle.invariant.specs.Slots.{Filled, row_in, class_of_drawn, class_by, class_of_version, SlotsHold}
 use Rattle.invariant.specs.Kept.{IsKept, version_by, newest_of}
-use Rattle.invariant.specs.Moves.{IsHarmless, Carries}
+use Rattle.invariant.specs.Moves.{Carries}
 use Rattle.invariant.proofs.Moves.{ends-carry, slot-carries, shrinks-slot_refl}
 use Rattle.invariant.proofs.Lookups.{replaced-same, replaced-other}
-use Rattle.invariant.proofs.Putting.{same-version, apart-writers}
 use Rattle.invariant.proofs.Keeping.{kept-with_session, slots-with_session}
-use Rattle.invariant.proofs.Histories.{all-weaken, all-one_more, any-one_more, rising-one_more, last_writer-covered, drawn_at-bounds, drawn_at-next}
+use Rattle.invariant.proofs.Histories.{all-weaken, all-one_more, any-one_more, rising-one_more, last_writer-covered, drawn_at-next}
 
 -- the commit that is drawn
 abbrev drawn_now : State → Writes → Drawn
@@ -67,11 +65,16 @@ held-drawn : (n t : ℕ) (o : Option Version) (w : Version) → by_commit n t o 
 held-drawn n t None w e = absurd (cc e)
 held-drawn n t (Some v) w e = turned n t v.key v.writer w e
 
-held-stays : (n t : ℕ) (o : Option Version) (w : Version) → o ≡ Some w → is_by n w.writer ≡ false → by_commit n t o ≡ Some w
+pub held-stays : (n t : ℕ) (o : Option Version) (w : Version) → o ≡ Some w → is_by n w.writer ≡ false → by_commit n t o ≡ Some w
 held-stays n t o w e other = ap (by_commit n t) e ∙ ap (λ (b : Bool). Some (version_by w.key (cond b (ByCommit t) w.writer))) other
 
-held-turns : (n t : ℕ) (o : Option Version) (k : Key) → o ≡ Some (version_by k (BySession n)) → by_commit n t o ≡ Some (version_by k (ByCommit t))
+pub held-turns : (n t : ℕ) (o : Option Version) (k : Key) → o ≡ Some (version_by k (BySession n)) → by_commit n t o ≡ Some (version_by k (ByCommit t))
 held-turns n t o k e = ap (by_commit n t) e ∙ ap (λ (b : Bool). Some (version_by k (cond b (ByCommit t) (BySession n)))) (eq-eqb n n refl)
+
+-- a draw takes no slot and frees none
+pub free-drawn : (n t : ℕ) (o : Option Version) → is_none (by_commit n t o) ≡ is_none o
+free-drawn n t None = refl
+free-drawn n t (Some v) = refl
 
 -- ---- the sessions after it
 

@@ -1,15 +1,14 @@
 -- A slot is taken, filled and stamped, one operation after the other.
-use Rattle.std.proofs.Common.{◌≡◌, ◌≢◌, ◌⊎◌, inl, inr, ℕ, ◌+◌, ◌*◌, ◌/◌, ◌<◌, ◌≤◌, Bool, true, false, List, [], ◌∷◌, refl, sym, ◌∙◌, ap, subst, arith, Option, Some, None}
-use Rattle.std.proofs.lemmas.Bool.{cases_eq}
+use Rattle.std.proofs.Common.{◌≡◌, ◌⊎◌, inl, inr, ℕ, ◌+◌, ◌*◌, ◌/◌, ◌<◌, ◌≤◌, true, false, ◌∙◌, ap, subst, arith, Option, Some, None}
 use Rattle.base.specs.declared.key.Key.{Key}
 use Rattle.base.specs.Layout.{Layout, slot_words}
 use Rattle.base.specs.Machine.{State, Drawn, Version, BySession, ByCommit, drawn_at, writes_of}
-use Rattle.pmem.specs.Device.{Device, Survives, value_of, IsSettled, IsReady, IsOrderly, stored, flushed, fenced}
+use Rattle.pmem.specs.Device.{Device, Survives, IsReady, IsOrderly, stored, flushed, fenced}
 use Rattle.pmem.proofs.Steps.{value-stored_same, value-stored_other, survives-stored, only-settled, settled-stored, settled-ready, ready-flushed}
 use Rattle.invariant.specs.Slots.{word_of, EachSurvivor, IsSettledAt, row_in, is_key_stamped, class_of_version, HoldsAs, IsWaiting, SlotHolds, SlotsHold}
 use Rattle.invariant.specs.Kept.{IsKept, version_by}
 use Rattle.invariant.specs.Moves.{ShrinksWord, ShrinksSlot, ShrinksOthers, IsCleared, IsStampedWith, IsSlotSettled}
-use Rattle.invariant.proofs.Moves.{within-slot, words-apart_within, shrinks-word_stored, shrinks-word_trans, shrinks-slot_refl, each-shrinks, slot-shrink, slot-failed, slots-but_one, slots-failed, slot-taking, slot-filling, slot-refilling}
+use Rattle.invariant.proofs.Moves.{within-slot, words-apart_within, shrinks-word_stored, shrinks-word_trans, each-shrinks, slots-but_one, slots-failed, slot-taking, slot-filling, slot-refilling}
 use Rattle.invariant.proofs.Stamping.{waits-unstamped, slot-stamping}
 
 -- ---- the begin is made 0

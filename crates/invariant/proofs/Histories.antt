@@ -1,14 +1,13 @@
 -- Histories, timestamps and drawn commits.
-use Rattle.std.proofs.Common.{◌≡◌, ◌≢◌, ◌⊎◌, inl, inr, ℕ, zero, suc, ◌+◌, ◌<◌, ◌≤◌, Bool, true, false, cond, not, ◌&&◌, ◌||◌, List, [], ◌∷◌, ◌++◌, map, fold, take, refl, sym, ◌∙◌, ap, subst, arith, Option, Some, None, find, option_map, true≢false, is_some, unwrap_or, slice_get}
-use Rattle.std.specs.Prelude.{nat_eq, nat_lt, nat_le, IsTrue}
+use Rattle.std.proofs.Common.{◌||◌, ◌≡◌, ℕ, zero, suc, ◌<◌, ◌≤◌, Bool, true, false, cond, not, ◌&&◌, List, [], ◌∷◌, ◌++◌, fold, take, refl, ◌∙◌, ap, arith, Option, Some, None, find, unwrap_or, slice_get}
+use Rattle.std.specs.Prelude.{nat_eq, nat_lt, nat_le}
 use Rattle.std.specs.List.{list_any, list_all}
-use Rattle.std.specs.Option.{option_or}
-use Rattle.std.proofs.lemmas.Bool.{eq-eqb, eqb-true, ne_eqb, cases_Bool, and_parts, and_from, cases_eq, lt-ltb, ltb-true, leb-true, le-leb, or_cases, or_left, or_right}
-use Rattle.std.proofs.lemmas.List.Folds.{find-append, list_all-append, list_any-append}
+use Rattle.std.proofs.lemmas.Bool.{eqb-true, and_parts, and_from, ltb-true, leb-true, le-leb, or_left, or_right}
+use Rattle.std.proofs.lemmas.List.Folds.{list_all-append, list_any-append}
 use Rattle.base.specs.declared.key.Key.{Key}
 use Rattle.base.specs.declared.gap.Gap.{Gap}
-use Rattle.base.specs.Keys.{key_eq, lookup_key}
-use Rattle.base.specs.Commits.{Writes, Commit, Tables, overlaid, laid, after, writes_key, last_writer}
+use Rattle.base.specs.Keys.{lookup_key}
+use Rattle.base.specs.Commits.{Commit, Tables, overlaid, laid, after, writes_key, last_writer}
 use Rattle.base.specs.Records.{Record, is_in, is_committed, are_rising}
 use Rattle.base.specs.Machine.{State, Drawn, drawn_at, present}
 use Rattle.invariant.specs.Kept.{IsKept}

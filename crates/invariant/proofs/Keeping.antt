@@ -1,14 +1,14 @@
 -- The state moves in what no slot goes by, and the device stays.
-use Rattle.std.proofs.Common.{◌≡◌, ◌≢◌, ◌⊎◌, inl, inr, ℕ, Bool, true, false, cond, List, [], ◌∷◌, refl, sym, ◌∙◌, ap, subst, arith, Option, Some, None}
+use Rattle.std.proofs.Common.{◌+◌, ◌≡◌, ◌≢◌, ◌⊎◌, inl, inr, ℕ, Bool, true, false, cond, [], refl, sym, ◌∙◌, ap, subst, arith, Option, Some, None}
 use Rattle.std.proofs.lemmas.Bool.{cases_eq}
-use Rattle.base.specs.declared.key.Key.{Key}
 use Rattle.base.specs.Keys.{lookup_key}
 use Rattle.base.specs.Commits.{Writes}
-use Rattle.base.specs.Machine.{State, Session, Active, Hand, replaced, writes_of, with_session, session_numbers, free_session, next_state}
-use Rattle.base.specs.declared.step.Step.TheVariants.{Begin, End}
+use Rattle.base.specs.Machine.{State, Session, Active, Hand, replaced, writes_of, with_session, session_numbers, free_session, is_idle, taken_in_hand, next_stage, state_ticked, state_ticked_on, next_state}
+use Rattle.base.specs.declared.step.Step.TheVariants.{Begin, End, Commit as CommitTick}
+use Rattle.base.specs.declared.step.Stage.{Stage}
 use Rattle.std.specs.Prelude.{length, is_none, unwrap_or}
 use Rattle.pmem.specs.Device.{Device}
-use Rattle.invariant.specs.Slots.{SlotHolds, SlotsHold}
+use Rattle.invariant.specs.Slots.{SlotsHold}
 use Rattle.invariant.specs.Kept.{IsKept}
 use Rattle.invariant.specs.Moves.{Carries, alike}
 use Rattle.invariant.proofs.Moves.{ends-carry, class-alike, slot-carries, shrinks-slot_refl}
@@ -94,3 +94,27 @@ kept-end q n none kept = kept-with_session q n None (sym none) kept
 
 pub slots-end : (q : State) (n : ℕ) (device : Device) → writes_of (q.sessions n) ≡ [] → SlotsHold q device → SlotsHold (next_state q (End n)) device
 slots-end q n device none h = slots-with_session q n None device (sym none) h
+
+-- a tick that chooses a batch, or finds none to choose
+pub kept-choosing : (q : State) → q.hand ≡ None → IsKept q → IsKept (next_state q CommitTick)
+kept-choosing q none kept = subst (λ (hand : Option Hand). IsKept (state_ticked q hand)) (sym none) (by_test (is_idle q))
+  where
+    by_test : (b : Bool) → IsKept (cond b q (record q { hand = Some (taken_in_hand q) }))
+    by_test true = kept
+    by_test false = kept-with_hand q (Some (taken_in_hand q)) kept
+
+pub slots-choosing : (q : State) (device : Device) → q.hand ≡ None → SlotsHold q device → SlotsHold (next_state q CommitTick) device
+slots-choosing q device none h = subst (λ (hand : Option Hand). SlotsHold (state_ticked q hand) device) (sym none) (by_test (is_idle q))
+  where
+    by_test : (b : Bool) → SlotsHold (cond b q (record q { hand = Some (taken_in_hand q) })) device
+    by_test true = h
+    by_test false = slots-with_hand q (Some (taken_in_hand q)) device h
+
+-- a tick that only counts
+pub kept-ticking : (q : State) (hand : Hand) (stage : Stage) → q.hand ≡ Some hand → next_stage q hand ≡ Some stage → IsKept q → IsKept (next_state q CommitTick)
+kept-ticking q hand stage is next kept =
+    subst (λ (o : Option Hand). IsKept (state_ticked q o)) (sym is) (subst (λ (o : Option Stage). IsKept (state_ticked_on q hand o)) (sym next) (kept-with_hand q (Some (record hand { ticks = hand.ticks + 1 })) kept))
+
+pub slots-ticking : (q : State) (hand : Hand) (stage : Stage) (device : Device) → q.hand ≡ Some hand → next_stage q hand ≡ Some stage → SlotsHold q device → SlotsHold (next_state q CommitTick) device
+slots-ticking q hand stage device is next h =
+    subst (λ (o : Option Hand). SlotsHold (state_ticked q o) device) (sym is) (subst (λ (o : Option Stage). SlotsHold (state_ticked_on q hand o) device) (sym next) (slots-with_hand q (Some (record hand { ticks = hand.ticks + 1 })) device h))

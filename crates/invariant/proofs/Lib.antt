@@ -3,13 +3,14 @@ pub mod Living
 pub mod Congruence
 pub mod Standing
 pub mod OpenedGaps
+pub mod Opening
 pub mod Moves
 pub mod Lookups
 pub mod Keeping
 pub mod Putting
-pub mod Opening
 pub mod Histories
 pub mod Drawing
 pub mod Stamping
 pub mod Covering
 pub mod Filling
+pub mod Covers

@@ -1,9 +1,9 @@
 -- Keys, writes and searches.
-use Rattle.std.proofs.Common.{◌≡◌, ◌≢◌, ◌⊎◌, inl, inr, ℕ, zero, suc, ◌<◌, ◌≤◌, Bool, true, false, cond, ◌&&◌, List, [], ◌∷◌, refl, sym, ◌∙◌, ap, subst, arith, Option, Some, None, find, true≢false}
+use Rattle.std.proofs.Common.{◌≡◌, ◌≢◌, ◌⊎◌, inl, inr, ℕ, zero, suc, ◌<◌, Bool, true, false, cond, List, [], ◌∷◌, refl, sym, ◌∙◌, ap, subst, arith, Option, Some, None, find, true≢false}
 use Rattle.std.specs.Prelude.{nat_eq}
 use Rattle.std.specs.List.{list_all}
 use Rattle.std.specs.Option.{option_or}
-use Rattle.std.proofs.lemmas.Bool.{eq-eqb, eqb-true, ne_eqb, cases_Bool, and_parts, and_from, cases_eq, false_from_ne_true}
+use Rattle.std.proofs.lemmas.Bool.{eq-eqb, eqb-true, ne_eqb, cases_Bool, and_parts, and_from, cases_eq, cases_order, false_from_ne_true}
 use Rattle.base.specs.declared.key.Key.{Key}
 use Rattle.base.specs.Keys.{key_eq, key_lt, lookup_key}
 use Rattle.base.specs.Commits.{Writes, with_write}
@@ -87,6 +87,35 @@ first_below-none (suc n) test e k lt = by_cases (first_below n test) refl (test 
         by_place : (k ≡ n) ⊎ (k ≡ n → ⊥) → test k ≡ false
         by_place (inl same) = ap test same ∙ t
         by_place (inr apart) = rest is k (omega arith)
+
+-- below what is found nothing passes
+pub first_below-earlier : (n : ℕ) (test : ℕ → Bool) (s k : ℕ) → first_below n test ≡ Some s → k < s → test k ≡ false
+first_below-earlier zero test s k e lt = absurd (cc e)
+first_below-earlier (suc n) test s k e lt = by_cases (first_below n test) refl (test n) (first_below-earlier n test s k) e
+  where
+    by_cases : (o : Option ℕ) → first_below n test ≡ o → (b : Bool) → (first_below n test ≡ Some s → k < s → test k ≡ false) → option_or o (cond b (Some n) None) ≡ Some s → test k ≡ false
+    by_cases (Some j) is b rest found = rest (is ∙ found) lt
+    by_cases None is true rest found = let same : n ≡ s = cc in first_below-none n test is k (omega arith)
+    by_cases None is false rest found = absurd (cc found)
+
+pub first_below-lowest : (n : ℕ) (test : ℕ → Bool) (s : ℕ) → s < n → test s ≡ true → ((k : ℕ) → k < s → test k ≡ false) → first_below n test ≡ Some s
+first_below-lowest n test s lt this lower = by_case (first_below n test) refl
+  where
+    by_case : (o : Option ℕ) → first_below n test ≡ o → o ≡ Some s
+    by_case None none = absurd (true≢false (sym this ∙ first_below-none n test none s lt))
+    by_case (Some k) found = ap (λ (j : ℕ). Some j) (by_order (cases_order k s))
+      where
+        by_order : (k ≡ s) ⊎ ((k < s) ⊎ (s < k)) → k ≡ s
+        by_order (inl same) = same
+        by_order (inr (inl below)) = absurd (true≢false (sym (first_below-some n test k found).1 ∙ lower k below))
+        by_order (inr (inr above)) = absurd (true≢false (sym this ∙ first_below-earlier n test k s found above))
+
+pub first_below-nowhere : (n : ℕ) (test : ℕ → Bool) → ((k : ℕ) → k < n → test k ≡ false) → first_below n test ≡ None
+first_below-nowhere n test nowhere = by_case (first_below n test) refl
+  where
+    by_case : (o : Option ℕ) → first_below n test ≡ o → o ≡ None
+    by_case None none = refl
+    by_case (Some k) found = let at = first_below-some n test k found in absurd (true≢false (sym at.1 ∙ nowhere k at.0))
 
 -- what is found passes the test
 pub find-passes : {X : Type 0} (test : X → Bool) (xs : List X) (x : X) → find test xs ≡ Some x → test x ≡ true

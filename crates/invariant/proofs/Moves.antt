@@ -3,13 +3,14 @@ use Rattle.std.proofs.Common.{◌≡◌, ◌≢◌, ◌⊎◌, inl, inr, ℕ, �
 use Rattle.std.specs.Prelude.{nat_eq, unwrap_or}
 use Rattle.std.proofs.lemmas.Bool.{cases_order, cases_eq}
 use Rattle.base.specs.declared.key.Key.{Key}
-use Rattle.base.specs.Layout.{Layout, slot_start, slot_words}
+use Rattle.base.specs.Layout.{Layout, slot_start, slot_words, total_words}
 use Rattle.base.specs.Keys.{lookup_key}
 use Rattle.base.specs.Machine.{State, Drawn, Version, Writer, BySession, ByCommit, drawn_at, writes_of}
-use Rattle.pmem.specs.Device.{Entry, Device, newest, survivors_in, IsAmong, Survives, value_of, IsSettled, stored, flushed, fenced, failed}
+use Rattle.pmem.specs.Device.{Entry, Device, newest, survivors_in, IsAmong, Survives, MayLeave, stored, flushed, fenced, failed}
 use Rattle.pmem.proofs.Steps.{history-stored_other, value-flushed, value-fenced, survives-flushed, survives-fenced, only-settled, settled-flushed, settled-fenced}
-use Rattle.invariant.specs.Slots.{word_of, EachSurvivor, IsSettledAt, Spells, IsNever, IsCounted, is_drawn_on, Class, Free, Filled, Begun, Newest, Replaced, row_in, class_of_drawn, class_by, class_of_version, class_of, IsDead, IsFilled, IsWaiting, IsLive, IsStamped, HoldsAs, SlotHolds, SlotsHold}
+use Rattle.invariant.specs.Slots.{word_of, EachSurvivor, IsSettledAt, Spells, IsNever, IsCounted, is_drawn_on, Class, Free, Filled, Begun, Newest, Replaced, row_in, class_of_drawn, class_by, class_of_version, class_of, IsDead, IsFilled, IsWaiting, HoldsAs, SlotHolds, SlotsHold}
 use Rattle.invariant.specs.Kept.{IsKept, version_by}
+use Rattle.invariant.specs.Theorem.{SlotsSurvive}
 use Rattle.invariant.specs.Moves.{ShrinksWord, ShrinksSlot, ShrinksSlots, ShrinksOthers, IsCleared, IsHarmless, Carries, EndsCarry, laid_out}
 
 -- ---- places
@@ -34,6 +35,14 @@ words-apart a s t w v apart lt_w lt_v e = by_order (cases_order s t)
     by_order (inl same) = apart same
     by_order (inr (inl lt)) = omega (arith, below (slot_words a.version) s t w lt lt_w, e)
     by_order (inr (inr lt)) = omega (arith, below (slot_words a.version) t s v lt lt_v, e)
+
+-- each word of a slot is on the device
+pub word-within : (a : Layout) (slot w : ℕ) → slot < a.slots → w < slot_words a.version → word_of a slot w < total_words a
+word-within a slot w lt lt_w = omega (arith, below (slot_words a.version) slot a.slots w lt lt_w)
+
+-- what a crash leaves has in the words of the slots what survived there
+pub slots-survive : {a : Layout} {device : Device} {image : List ℕ} → device.words ≡ total_words a → MayLeave device image → SlotsSurvive a device image
+slots-survive {a} size left = record { each = λ slot w lt lt_w. left.each (word_of a slot w) (omega (arith, word-within a slot w lt lt_w, size)) }
 
 -- the log area lies before the slots
 pub word-above_log : (a : Layout) (slot w word : ℕ) → word < slot_start a 0 → word_of a slot w ≢ word

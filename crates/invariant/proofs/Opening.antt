@@ -1,10 +1,10 @@
 -- An opened state keeps what every state keeps, and its slots are as it says.
 use Rattle.std.proofs.Common.{◌≡◌, ◌⊎◌, inl, inr, ℕ, ◌+◌, ◌-◌, ◌*◌, ◌^◌, ◌<◌, ◌≤◌, Bool, true, false, not, ◌&&◌, ◌||◌, List, [], ◌∷◌, length, refl, sym, ◌∙◌, ap, subst, nat_eq, cond, arith}
-use Rattle.std.specs.Prelude.{slice_index, IsTrue, Option, Some, None, unwrap_or, is_some, nat_le, nat_lt, if◌then◌else◌, ◌↔◌}
+use Rattle.std.specs.Prelude.{slice_index, Option, Some, None, unwrap_or, is_some, nat_le, nat_lt, if◌then◌else◌, ◌↔◌}
 use Rattle.std.specs.List.{list_all, range_with_len}
 use Rattle.std.specs.Option.{option_or, option_map}
 use Rattle.std.proofs.lemmas.Nat.{mul-add-lt}
-use Rattle.std.proofs.lemmas.Bool.{and_parts, and_from, and_right, and_cases, or_parts, cases_order, leb-true, leb-false, ltb-true, le-leb, lt-leb, lt-ltb, eqb-true, eq-eqb, not-true, not-false, not_from_true, not_from_false, cond-true, cond-false, cases_Bool, false≢true, true≢false}
+use Rattle.std.proofs.lemmas.Bool.{and_parts, and_from, and_right, and_cases, or_parts, cases_order, leb-true, leb-false, le-leb, lt-ltb, eq-eqb, not-true, not-false, cond-true, cond-false, false≢true, true≢false}
 use Rattle.std.proofs.lemmas.List.FromFn.{length-map-range_with_len, get_or-map-range_with_len}
 use Rattle.base.specs.declared.key.Key.{Key}
 use Rattle.base.specs.declared.gap.Gap.{Gap}
@@ -12,7 +12,7 @@ use Rattle.base.specs.declared.fault.Fault.{Fault}
 use Rattle.base.specs.declared.fault.Fault.TheVariants.{BadGeometry, NotFormatted, Damaged, Version as VersionFault, TimestampsOut, GapsFull}
 use Rattle.base.specs.Keys.{key_eq}
 use Rattle.base.specs.Commits.{Commit, after, last_writer}
-use Rattle.base.specs.Layout.{Layout, slot_words, total_words, most_longs, is_between, is_in_limits, is_known_version, opened_version}
+use Rattle.base.specs.Layout.{Layout, slot_words, total_words, is_between, is_in_limits, is_known_version, opened_version}
 use Rattle.base.specs.Records.{Record, record_word, record_in, is_record, is_in, is_committed, is_well_formed}
 use Rattle.base.specs.Images.{Image, layout_of, key_of, row_of, begin_of, end_of, is_live, ruling, ruling_place, place_words, greatest_gate, is_formatted, has_good_geometry, is_wrong_gate, is_ruled, is_bad_slot, damage, IsSound, opening_fault, needs_sweep}
 use Rattle.base.specs.Stands.{Stands}
@@ -22,8 +22,8 @@ use Rattle.pmem.specs.Device.{Device, Survives, value_of, IsSettled, image_of}
 use Rattle.base.specs.Search.{first_below, first_of, some_if}
 use Rattle.base.proofs.Histories.{first_below-none, key_eq-same, no_bad_slot}
 use Rattle.pmem.proofs.Steps.{only-settled}
-use Rattle.invariant.specs.Slots.{word_of, is_misfit, EachSurvivor, IsNever, IsCounted, is_drawn_on, IsDead, IsLive, Class, Newest, Replaced, HoldsAs, class_of_version, Spells, SlotHolds, SlotsHold}
-use Rattle.invariant.specs.Kept.{IsKept, version_by, newest_of}
+use Rattle.invariant.specs.Slots.{word_of, is_misfit, IsDead, IsLive, Newest, Replaced, HoldsAs, class_of_version, Spells, SlotsHold}
+use Rattle.invariant.specs.Kept.{IsKept, version_by}
 use Rattle.invariant.proofs.Marks.{committed-persisted, passes-last_writer}
 use Rattle.invariant.proofs.Congruence.{some_words, spells-image, spells-same}
 use Rattle.invariant.proofs.OpenedGaps.{record_over, same-committed_over, formed-over, formed-parts}

@@ -1,26 +1,26 @@
 -- A put.
-use Rattle.std.proofs.Common.{◌≡◌, ◌≢◌, ◌⊎◌, inl, inr, ℕ, ◌<◌, ◌≤◌, Bool, true, false, cond, ◌&&◌, List, [], ◌∷◌, refl, sym, ◌∙◌, ap, subst, arith, Option, Some, None, is_none, true≢false}
+use Rattle.std.proofs.Common.{◌≡◌, ◌≢◌, ◌⊎◌, inl, inr, ℕ, ◌<◌, true, false, ◌&&◌, List, [], refl, sym, ◌∙◌, ap, subst, arith, Option, Some, None, is_none, true≢false}
 use Rattle.std.specs.Prelude.{nat_eq, unwrap_or}
 use Rattle.std.proofs.lemmas.Bool.{cases_eq, eq-eqb, eqb-true, and_parts, and_from}
 use Rattle.base.specs.declared.key.Key.{Key}
 use Rattle.base.specs.declared.step.Step.TheVariants.{Put}
 use Rattle.base.specs.Keys.{key_eq, lookup_key}
-use Rattle.base.specs.Commits.{Writes, with_write}
+use Rattle.base.specs.Commits.{with_write}
 use Rattle.base.specs.Machine.{State, Session, Active, Version, Writer, BySession, ByCommit, replaced, held_at, held_with, held_after_put, writes_of, begun_of, with_session, is_by, is_own_at, own_slot, free_slot, next_state}
 use Rattle.pmem.specs.Device.{Device}
-use Rattle.invariant.specs.Slots.{word_of, row_in, class_of_version, class_of, HoldsAs, IsWaiting, SlotHolds, SlotsHold}
+use Rattle.invariant.specs.Slots.{class_of_version, HoldsAs, IsWaiting, SlotHolds, SlotsHold}
 use Rattle.invariant.specs.Kept.{IsKept, version_by}
 use Rattle.invariant.specs.Moves.{ShrinksSlot, ShrinksOthers, IsRefilled, Carries}
 use Rattle.invariant.proofs.Moves.{each-settled, each-weaken, cleared-begin_before, cleared-end_before, ends-carry, class-alike, slot-carries}
-use Rattle.invariant.proofs.Lookups.{same-keys, key_eq-refl, cases-keys, lookup-with_write_same, lookup-with_write_other, first_below-some, first_below-none, replaced-same, replaced-other}
+use Rattle.invariant.proofs.Lookups.{same-keys, key_eq-refl, cases-keys, lookup-with_write_same, lookup-with_write_other, first_below-some, first_below-none, first_below-lowest, first_below-nowhere, replaced-same, replaced-other}
 
 abbrev with_put : State → ℕ → Key → List ℕ → (ℕ → Option Version) → State
 with_put q n key row held = record (with_session n (Some (Active (begun_of (q.sessions n)) (with_write key (Some row) (writes_of (q.sessions n))))) q) { held = held }
 
 -- ---- versions
 
-pub same-version : {k l : Key} {m n : ℕ} → version_by k (BySession m) ≡ version_by l (BySession n) → (m ≡ n) × (k ≡ l)
-same-version {k} {l} {m} {n} e =
+pub version-parts : {k l : Key} {m n : ℕ} → version_by k (BySession m) ≡ version_by l (BySession n) → (m ≡ n) × (k ≡ l)
+version-parts {k} {l} {m} {n} e =
     let writers : BySession m ≡ BySession n = ap (λ (v : Version). v.writer) e in
     (cc writers, ap (λ (v : Version). v.key) e)
 
@@ -59,6 +59,40 @@ free_slot-some q slot found =
     by_version : (o : Option Version) → is_none o ≡ true → o ≡ None
     by_version None none = refl
     by_version (Some v) none = absurd (cc none)
+
+-- the slots of a room's session are those that the state says it has
+
+pub own_slot-held : (q : State) (n : ℕ) (key : Key) (slot : ℕ) → IsKept q → slot < q.layout.slots → q.held slot ≡ Some (version_by key (BySession n)) → own_slot q n key ≡ Some slot
+own_slot-held q n key slot kept lt own = by_case (own_slot q n key) refl
+  where
+    by_case : (o : Option ℕ) → own_slot q n key ≡ o → o ≡ Some slot
+    by_case None none = absurd (own_slot-none q n key none slot lt own)
+    by_case (Some other) found = let at = own_slot-some q n key other found in ap (λ (s : ℕ). Some s) (kept.once other slot _ at.0 lt at.1 own)
+
+pub own_slot-absent : (q : State) (n : ℕ) (key : Key) → IsKept q → lookup_key (writes_of (q.sessions n)) key ≡ None → own_slot q n key ≡ None
+own_slot-absent q n key kept absent = by_case (own_slot q n key) refl
+  where
+    by_case : (o : Option ℕ) → own_slot q n key ≡ o → o ≡ None
+    by_case None none = refl
+    by_case (Some other) found =
+        let at = own_slot-some q n key other found in
+        let has = kept.owned other n key at.0 at.1 in
+        let both : None ≡ Some (Some has.0) = sym absent ∙ has.1 in
+        absurd (cc both)
+
+pub free_slot-lowest : (q : State) (slot : ℕ) → slot < q.layout.slots → q.held slot ≡ None → ((s : ℕ) → s < slot → q.held s ≡ None → ⊥) → free_slot q ≡ Some slot
+free_slot-lowest q slot lt free lower = first_below-lowest q.layout.slots (λ s. is_none (q.held s)) slot lt (ap (λ (o : Option Version). is_none o) free) (λ s below. taken (q.held s) (lower s below))
+  where
+    taken : (o : Option Version) → (o ≡ None → ⊥) → is_none o ≡ false
+    taken None never = absurd (never refl)
+    taken (Some v) never = refl
+
+pub free_slot-nowhere : (q : State) → ((s : ℕ) → s < q.layout.slots → q.held s ≡ None → ⊥) → free_slot q ≡ None
+free_slot-nowhere q never = first_below-nowhere q.layout.slots (λ s. is_none (q.held s)) (λ s lt. taken (q.held s) (never s lt))
+  where
+    taken : (o : Option Version) → (o ≡ None → ⊥) → is_none o ≡ false
+    taken None never = absurd (never refl)
+    taken (Some v) never = refl
 
 -- ---- the writes of sessions after a put
 
@@ -144,7 +178,7 @@ taken-kept q n key row taken lt_taken free not_own kept = record {
         → ((slot ≡ taken) × (version_by key (BySession n) ≡ version_by k (BySession m))) ⊎ ((slot ≢ taken) × (q.held slot ≡ Some (version_by k (BySession m))))
         → (r : List ℕ) × (lookup_key (writes_of ((with_put q n key row (replaced taken (Some (version_by key (BySession n))) q.held)).sessions m)) k ≡ Some (Some r))
     owned slot m k lt (inl new) =
-        let same : (n ≡ m) × (key ≡ k) = same-version new.1 in
+        let same : (n ≡ m) × (key ≡ k) = version-parts new.1 in
         (row, own-lookup q n key row (replaced taken (Some (version_by key (BySession n))) q.held) m k (sym same.0) (sym same.1))
     owned slot m k lt (inr old) =
         let was = kept.owned slot m k lt old.1 in
@@ -163,7 +197,7 @@ taken-kept q n key row taken lt_taken free not_own kept = record {
         let old = kept.owns m k r (sym (lookup-put_other q n key row (replaced taken (Some (version_by key (BySession n))) q.held) m k apart) ∙ is) in
         (old.0, old.1, held-stays q taken (version_by key (BySession n)) old.0 (version_by k (BySession m)) free old.2)
 
-held-taken : (q : State) (n : ℕ) (key : Key) (taken : ℕ) → own_slot q n key ≡ None → free_slot q ≡ Some taken → held_after_put q n key ≡ replaced taken (Some (version_by key (BySession n))) q.held
+pub held-taken : (q : State) (n : ℕ) (key : Key) (taken : ℕ) → own_slot q n key ≡ None → free_slot q ≡ Some taken → held_after_put q n key ≡ replaced taken (Some (version_by key (BySession n))) q.held
 held-taken q n key taken none free =
     ap (held_with q (version_by key (BySession n))) none ∙ ap (λ (o : Option ℕ). held_at o (version_by key (BySession n)) q.held) free
 
@@ -205,6 +239,9 @@ own-kept q n key row own lt_own at_own kept = record {
         → (slot : ℕ) × (slot < q.layout.slots) × (q.held slot ≡ Some (version_by k (BySession m)))
     owns m k r is (inl same) = (own, lt_own, at_own ∙ ap (λ (j : ℕ). Some (version_by key (BySession j))) (sym same.0) ∙ ap (λ (j : Key). Some (version_by j (BySession m))) (sym same.1))
     owns m k r is (inr apart) = kept.owns m k r (sym (lookup-put_other q n key row q.held m k apart) ∙ is)
+
+pub held-own : (q : State) (n : ℕ) (key : Key) (own : ℕ) → own_slot q n key ≡ Some own → held_after_put q n key ≡ q.held
+held-own q n key own found = ap (held_with q (version_by key (BySession n))) found
 
 pub kept-put_own : (q : State) (n : ℕ) (key : Key) (row : List ℕ) (slot : ℕ) → own_slot q n key ≡ Some slot → IsKept q → IsKept (next_state q (Put n key row))
 kept-put_own q n key row slot found kept =

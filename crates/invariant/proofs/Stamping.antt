@@ -1,20 +1,19 @@
 -- A stamp of a version.
-use Rattle.std.proofs.Common.{◌≡◌, ◌≢◌, ◌⊎◌, inl, inr, ℕ, suc, ◌+◌, ◌<◌, ◌≤◌, Bool, true, false, cond, ◌&&◌, ◌||◌, List, [], ◌∷◌, map, take, refl, sym, ◌∙◌, ap, subst, arith, Option, Some, None, find, option_map, slice_get, add-one, is_some}
-use Rattle.std.specs.Prelude.{nat_eq, nat_lt, unwrap_or, IsTrue}
-use Rattle.std.specs.List.{list_any, list_all}
-use Rattle.std.proofs.lemmas.Bool.{cases_eq, eq-eqb, eqb-true, ne_eqb}
+use Rattle.std.proofs.Common.{◌||◌, ◌≡◌, ◌≢◌, ◌⊎◌, inl, inr, ℕ, ◌+◌, ◌<◌, Bool, true, false, cond, ◌&&◌, List, [], ◌∷◌, map, take, refl, sym, ◌∙◌, ap, subst, arith, Option, Some, None, find, option_map, slice_get, add-one, is_some}
+use Rattle.std.specs.Prelude.{nat_eq, nat_lt, IsTrue}
+use Rattle.std.specs.List.{list_any}
+use Rattle.std.proofs.lemmas.Bool.{cases_eq, eq-eqb, ne_eqb}
 use Rattle.std.proofs.lemmas.List.Folds.{list_all-map}
 use Rattle.base.specs.declared.key.Key.{Key}
 use Rattle.base.specs.declared.step.Step.TheVariants.{Stamp}
 use Rattle.base.specs.Keys.{key_eq, lookup_key}
 use Rattle.base.specs.Commits.{Writes, Commit, writes_key}
 use Rattle.base.specs.Records.{are_rising}
-use Rattle.base.specs.Machine.{State, Session, Drew, Drawn, Version, Writer, BySession, ByCommit, drawn_at, timestamp_of, counted, next_state}
+use Rattle.base.specs.Machine.{State, Drawn, Version, Writer, BySession, ByCommit, drawn_at, timestamp_of, counted, next_state}
 use Rattle.pmem.specs.Device.{Device}
-use Rattle.invariant.specs.Slots.{word_of, EachSurvivor, is_drawn_on, Class, Filled, Begun, row_in, is_key_stamped, class_of_drawn, class_by, class_of_version, class_of, HoldsAs, IsWaiting, IsFilled, SlotHolds, SlotsHold}
+use Rattle.invariant.specs.Slots.{word_of, EachSurvivor, is_drawn_on, Filled, Begun, row_in, is_key_stamped, class_of_drawn, class_by, class_of_version, class_of, HoldsAs, IsWaiting, SlotHolds, SlotsHold}
 use Rattle.invariant.specs.Kept.{IsKept, version_by}
-use Rattle.invariant.specs.Moves.{ShrinksWord, ShrinksSlot, ShrinksOthers, IsStampedWith, IsHarmless, Carries}
-use Rattle.base.specs.Layout.{slot_words}
+use Rattle.invariant.specs.Moves.{ShrinksWord, ShrinksOthers, IsStampedWith, IsHarmless, Carries}
 use Rattle.invariant.proofs.Moves.{within-slot, each-shrinks, each-weaken, filled-carries, ends-carry, slot-carries}
 use Rattle.invariant.proofs.Lookups.{key_eq-refl, key_eq-apart}
 use Rattle.invariant.proofs.Histories.{all-weaken, find-any, any-take_more, drawn_at-bounds}
@@ -257,3 +256,9 @@ slots-stamp_one q old new slot d key row lt held drawn writes unstamped up kept 
     (ap (slice_get d.commit.writes) unstamped ∙ ap (λ (ws : Writes). slice_get ws 0) writes)
     (ap (λ (i : ℕ). list_any (λ write. key_eq write.0 key) (take i d.commit.writes)) unstamped)
     up kept others stamp h
+
+pub slots-stamp : (q : State) (n : ℕ) (old new : Device) (slot : ℕ) (d : Drawn) (key : Key) (row : List ℕ) → timestamp_of (q.sessions n) ≡ d.commit.timestamp → slot < q.layout.slots → q.held slot ≡ Some (version_by key (ByCommit d.commit.timestamp))
+    → q.drawn ≡ d ∷ [] → d.commit.writes ≡ (key, Some row) ∷ [] → d.stamped ≡ 0 → q.failed ≡ false
+    → IsKept q → ShrinksOthers q.layout slot old new → IsStampedWith q.layout old new slot d.commit.timestamp → SlotsHold q old → SlotsHold (next_state q (Stamp n)) new
+slots-stamp q n old new slot d key row its lt held drawn writes unstamped up kept others stamp h =
+    subst (λ (t : ℕ). SlotsHold (with_stamp q t) new) (sym its) (slots-stamp_one q old new slot d key row lt held drawn writes unstamped up kept others stamp h)

@@ -1,11 +1,11 @@
 -- How the device and the state may move under what a slot holds.
-use Rattle.std.specs.Prelude.{◌≡◌, ◌⊎◌, ℕ, ◌^◌, ◌<◌, ◌≤◌, Bool, true, false, List, [], ◌∷◌, IsTrue, Option, Some, None}
+use Rattle.std.specs.Prelude.{◌≡◌, ◌⊎◌, ℕ, ◌^◌, ◌<◌, ◌≤◌, true, false, List, [], ◌∷◌, IsTrue, Some, None}
 use Rattle.base.specs.declared.key.Key.{Key}
 use Rattle.base.specs.Layout.{Layout, slot_words}
 use Rattle.base.specs.Commits.{after}
 use Rattle.base.specs.Machine.{State, Drawn, Hand}
 use Rattle.pmem.specs.Device.{Device, Survives, value_of, IsSettled}
-use Rattle.invariant.specs.Slots.{word_of, EachSurvivor, IsSettledAt, Spells, IsNever, IsCounted, is_drawn_on, Class, Free, Filled, Begun, Newest, Replaced}
+use Rattle.invariant.specs.Slots.{word_of, EachSurvivor, IsSettledAt, Spells, IsNever, IsCounted, is_drawn_on, Class, Newest}
 
 -- ---- the device
 
