@@ -1,6 +1,6 @@
 -- What was left out by a stop never returns, and no timestamp is drawn twice over lives.
-use Rattle.std.proofs.Common.{◌≡◌, ℕ, ◌+◌, ◌<◌, ◌≤◌, Bool, true, false, cond, not, ◌||◌, ◌&&◌, nat_eq, nat_le, List, [], ◌∷◌, ◌++◌, refl, sym, ◌∙◌, ap, subst, append-nil, append_assoc, arith, ◌⊎◌, inl, inr, map, get_or}
-use Rattle.std.specs.Prelude.{Option, Some, None, All, Contains, Result, Ok, Err, flat_map, filter, take}
+use Rattle.std.proofs.Common.{◌≡◌, ℕ, ◌+◌, ◌<◌, ◌≤◌, Bool, true, false, cond, not, ◌||◌, ◌&&◌, nat_eq, nat_le, List, [], ◌∷◌, ◌++◌, refl, sym, ◌∙◌, ap, subst, append-nil, append_assoc, arith, inl, inr, map, get_or}
+use Rattle.std.specs.Prelude.{Option, Some, None, All, Result, Ok, Err, filter}
 use Rattle.std.specs.Option.{option_map_or}
 use Rattle.std.proofs.lemmas.Bool.{ne_eqb}
 use Rattle.std.proofs.lemmas.List.Elements.{All-nil, All-cons, All-append, All-take, All-map, All-filter, All-weaker, All-contains, All-same, All-head, All-tail, filter_passes}
@@ -10,9 +10,8 @@ use Rattle.base.specs.declared.step.Step.TheVariants.{Begin, Get, Put, Draw, Sta
 use Rattle.base.specs.declared.step.Stage.{Stage}
 use Rattle.base.specs.declared.step.Reply.{Reply}
 use Rattle.base.specs.Commits.{Commit, Writes}
-use Rattle.base.specs.Stands.{Stands, has_timestamp}
+use Rattle.base.specs.Stands.{has_timestamp}
 use Rattle.base.specs.Machine.{State, Drawn, Hand, Stepped, refused, answered, memory_refused, device_failed, Run, final, next_state, state_ticked, state_ticked_on, state_drawn, next_stage, is_idle, writes_of, counted, drawn_of, in_hand, uncovered, is_stamped, end_of_run, timestamp_of, chosen, taken_in_hand, Cover, covers_at, of_hand, present, covers_closing, closed}
-use Rattle.base.specs.Openings.{OpensAs, opened}
 use Rattle.base.specs.Restrictions.{most_in_batch}
 use Rattle.base.specs.Lives.{World, IsWorld, Opening, Opens, Fails, Numbers, Asked, Report, StopsAt, EndsAs, LifeAs, Lives, RunsUp, left_out}
 use Rattle.base.specs.Laws.{RiseBetween, drawn_in, drawn_over, StayOut}

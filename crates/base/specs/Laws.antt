@@ -4,10 +4,11 @@ use Rattle.base.specs.declared.gap.Gap.{Gap}
 use Rattle.base.specs.declared.fault.Fault.{Fault}
 use Rattle.base.specs.declared.fault.Fault.TheVariants.{Device, OutOfMemory, Failed}
 use Rattle.base.specs.declared.step.Step.{Step}
-use Rattle.base.specs.declared.step.Step.TheVariants.{Poll}
+use Rattle.base.specs.declared.step.Step.TheVariants.{Poll, Commit as CommitTick}
 use Rattle.base.specs.declared.step.Reply.{Reply}
 use Rattle.base.specs.declared.step.Reply.TheVariants.{Drawn as DrewAs, Committed, Covered, Refused}
 use Rattle.base.specs.Commits.{Commit}
+use Rattle.base.specs.Batches.{Batch}
 use Rattle.base.specs.Records.{Record, IsRecord, record_in, is_record, is_well_formed, opened_gaps}
 use Rattle.base.specs.Images.{Image, IsSound, ruling}
 use Rattle.base.specs.Stands.{Stands, has_timestamp}
@@ -84,6 +85,11 @@ HistoryGrows = (q : State) (steps : List Step) (replies : List Reply) (states : 
 abbrev pub AcknowledgedStays : Type 0
 AcknowledgedStays = (q : State) (session t : ℕ) (q' : State) (steps : List Step) (replies : List Reply) (states : List State)
     → Stepped q (Poll session) (Committed t) q' → Run q' steps replies states → IsTrue (has_timestamp (final q' states).history t)
+
+-- a tick that covers a batch puts its commits at the end of the history, under the record that it names
+abbrev pub CoveredIsKept : Type 0
+CoveredIsKept = (q : State) (batch : Batch) (q' : State) → Stepped q CommitTick (Covered batch) q'
+    → (q'.history ≡ q.history ++ batch.commits) × (batch.from ≡ q.gate) × (batch.stamp ≡ q'.gate) × (batch.persisted ≡ q'.persisted)
 
 -- the timestamp that a reply gives out
 abbrev pub drawn_by : Reply → List ℕ

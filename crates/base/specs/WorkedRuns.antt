@@ -1,16 +1,12 @@
 -- Worked runs of the plain machine, with four slots, two places and a window of eight unless said.
-use Rattle.std.specs.Prelude.{ℕ, ◌≡◌, ◌+◌, Bool, true, false, List, [], ◌∷◌, ◌++◌, map, replicate, Option, Some, None}
+use Rattle.std.specs.Prelude.{ℕ, ◌≡◌, true, List, [], ◌∷◌, ◌++◌, map, replicate, Some, None}
 use Rattle.base.specs.declared.key.Key.{Key}
-use Rattle.base.specs.declared.gap.Gap.{Gap}
 use Rattle.base.specs.declared.fault.Fault.TheVariants.{Device, Failed, Conflict, WindowFull, SlotsOut, SessionsFull, WriteSetFull, NoSession, WrongState, TimestampsOut}
 use Rattle.base.specs.declared.step.Step.{Step}
 use Rattle.base.specs.declared.step.Step.TheVariants.{Begin, Get, Put, Draw, Stamp, Poll, End, Commit as CommitTick}
 use Rattle.base.specs.declared.step.Stage.TheVariants.{Chosen, LineFlushed, LinesFenced, BodyStored, BodyFlushed, BodyFenced, GateStored, GateFlushed}
 use Rattle.base.specs.declared.step.Reply.{Reply}
 use Rattle.base.specs.declared.step.Reply.TheVariants.{Began, Row, Done, Drawn as DrewAs, Stamped, Waiting, Committed, Idle, Ticked, Covered, Refused}
-use Rattle.base.specs.Commits.{Commit}
-use Rattle.base.specs.Records.{Record}
-use Rattle.base.specs.Images.{Image}
 use Rattle.base.specs.Machine.{State, Active, BySession, ByCommit, replaced, Stepped, most_operations, refusal, present, closed}
 use Rattle.base.specs.Openings.{opened}
 use Rattle.base.specs.Replay.{replies, end}

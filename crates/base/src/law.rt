@@ -1,6 +1,6 @@
 //! What follows from the definitions. The functions do nothing: the contract of each is a law.
 
-ghost use Rattle.base.specs.Laws.{SoundStands, OpenedGaps, OneGapList, OneOpening, HasRun, OneRecord, OneSpelling, FoundRecord, RefusedKeeps, FailedStays, OneReply, HasReply, HistoryGrows, AcknowledgedStays, DrawnOnce, WorldsStand, WorldsGrow, NeverReturns, DrawnOnceOverLives, CloseTold};
+ghost use Rattle.base.specs.Laws.{SoundStands, OpenedGaps, OneGapList, OneOpening, HasRun, OneRecord, OneSpelling, FoundRecord, RefusedKeeps, FailedStays, OneReply, HasReply, HistoryGrows, AcknowledgedStays, CoveredIsKept, DrawnOnce, WorldsStand, WorldsGrow, NeverReturns, DrawnOnceOverLives, CloseTold};
 
 /// Every sound image stands for some history.
 pub fn sound_images_stand()
@@ -38,6 +38,7 @@ pub fn steps_are_decided()
 pub fn history_grows()
     ensures grows { HistoryGrows }
     ensures acknowledged { AcknowledgedStays }
+    ensures covered { CoveredIsKept }
 {}
 
 /// No timestamp is drawn twice, in a run or over lives.

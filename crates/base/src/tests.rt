@@ -2,6 +2,7 @@
 use crate::actor::Actor;
 use crate::batch::{Batch, Commit};
 use crate::fault::Fault;
+use crate::gap::{Gap, Gaps};
 use crate::geometry::Geometry;
 use crate::key::Key;
 use crate::row::Row;
@@ -14,6 +15,16 @@ fn geometries(rt: HostRuntime) {
         panic!(rt; "refused")
     };
     assert_eq!(rt; least.words(), 104);
+    assert_eq!(rt;
+        (
+            least.version(),
+            least.slots(),
+            least.places(),
+            least.window()
+        ),
+        (1, 4, 2, 8)
+    );
+    assert_eq!(rt; least.slot_start(1), 80);
     let Ok(greatest) = Geometry::new(65_536, 64, 1_024) else {
         panic!(rt; "refused")
     };
@@ -79,4 +90,28 @@ fn commits_and_batches(rt: HostRuntime) {
 #[test]
 fn actors(rt: HostRuntime) {
     assert_eq!(rt; Actor::new(63).number, 63);
+}
+
+#[test]
+fn rows(rt: HostRuntime) {
+    let Ok(row) = Row::new(b"ab") else {
+        panic!(rt; "refused")
+    };
+    assert_eq!(rt; row.as_bytes(), b"ab".as_slice());
+    assert_eq!(rt;
+        (row.len(), row.is_empty(), Row::empty().is_empty()),
+        (2, false, true)
+    );
+    assert!(rt; Row::new(&[255; 32]).is_ok());
+    assert!(rt; matches!(Row::new(&[0; 33]), Err(Fault::TooLong)));
+}
+
+#[test]
+fn gaps(rt: HostRuntime) {
+    let mut gaps = Gaps::none();
+    gaps.push(Gap { first: 2, last: 9 });
+    assert_eq!(rt; gaps.len(), 1);
+    assert_eq!(rt; gaps.get(0), Some(Gap { first: 2, last: 9 }));
+    assert!(rt; gaps.get(1).is_none());
+    assert_eq!(rt; gaps.as_slice().len(), 1);
 }

@@ -1,7 +1,7 @@
 ghost use Rattle.std.specs.Prelude.{◌≡◌, IfOk, IfErr};
 ghost use Rattle.std.specs.Char.{is_ascii_uppercase};
 ghost use Rattle.std.specs.List.{list_any};
-ghost use Rattle.command_line.specs.Rows.{row_of};
+ghost use Rattle.command_line.specs.Rows.{IsNoRow, row_of, row_text};
 ghost use Rattle.command_line.specs.declared.line.LineFault.TheVariants.{NotACommand};
 
 use crate::command::RowBytes;
@@ -11,7 +11,18 @@ use std::alloc::Global;
 
 /// The bytes of a row, written as two lower case hex digits each, or as `-` where there are none.
 pub fn row(alloc: Global, word: &[u8]) -> Result<RowBytes, LineFault>
-    ensures ok { IfOk result (λ row. row_of word.now ≡ Some row) }
+    ensures value { IfOk result (λ row. row_of word.now ≡ Some row) }
+    ensures spelled { IfOk result (λ row. word.now ≡ row_text row) }
+
+    // No row is written so.
+    ensures refused { IfErr result (λ fault. fault ≡ NotACommand → row_of word.now ≡ None) }
+    ensures unspelled { IfErr result (λ fault. fault ≡ NotACommand → IsNoRow word.now) }
+{
+    decoded(alloc, word)
+}
+
+fn decoded(alloc: Global, word: &[u8]) -> Result<RowBytes, LineFault>
+    ensures value { IfOk result (λ row. row_of word.now ≡ Some row) }
     ensures refused { IfErr result (λ fault. fault ≡ NotACommand → row_of word.now ≡ None) }
 {
     if word == b"-".as_slice() {

@@ -1,8 +1,8 @@
 -- Histories with flushed and kept entries say the same as least indices and marks.
-use Rattle.std.proofs.Common.{◌≡◌, ◌⊎◌, inl, inr, ℕ, zero, suc, ◌+◌, ◌-◌, ◌/◌, ◌<◌, ◌≤◌, max, Bool, true, false, cond, ◌||◌, List, [], ◌∷◌, ◌++◌, Option, Some, None, is_some, nat_lt, ◌==◌, length, get_or, refl, sym, ◌∙◌, ap, subst, arith, length-append}
+use Rattle.std.proofs.Common.{◌≡◌, ◌⊎◌, inl, inr, ℕ, suc, ◌+◌, ◌-◌, ◌/◌, ◌<◌, ◌≤◌, max, Bool, true, false, cond, ◌||◌, List, [], ◌∷◌, ◌++◌, Some, is_some, nat_lt, ◌==◌, length, get_or, refl, sym, ◌∙◌, ap, arith, length-append}
 use Rattle.std.proofs.lemmas.Bool.{lt-ltb, cases_lt}
 use Rattle.std.proofs.lemmas.List.{get_or_append_left, get_or-append_right}
-use Rattle.pmem.specs.Device.{Entry, Device, survivors_in, IsAmong, fresh, flushed_by, marked, kept_from, persisted, stored, flushed, fenced, failed, restarted, Survives}
+use Rattle.pmem.specs.Device.{Entry, Device, survivors_in, IsAmong, fresh, marked, kept_from, persisted, restarted, Survives}
 use Rattle.pmem.specs.Trace.{Operation, store_op, flush_op, fence_op, failure, applied, after}
 use Rattle.pmem.specs.Marks.{Word, with_value, with_mark, with_fence, on_word, word_after, word_at_rest, MaySurvive}
 

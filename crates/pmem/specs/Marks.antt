@@ -1,5 +1,5 @@
 -- The device in the plainest words: of each word its values and the least index that survives, and a mark of each actor.
-use Rattle.std.specs.Prelude.{◌≡◌, ◌↔◌, ℕ, ◌+◌, ◌-◌, ◌/◌, ◌<◌, ◌≤◌, max, List, [], ◌∷◌, ◌++◌, length, slice_index, if◌then◌else◌, ◌==◌}
+use Rattle.std.specs.Prelude.{◌≡◌, ◌↔◌, ℕ, ◌-◌, ◌/◌, ◌<◌, ◌≤◌, max, List, [], ◌∷◌, ◌++◌, length, slice_index, if◌then◌else◌, ◌==◌}
 use Rattle.pmem.specs.Device.{restarted, Survives}
 use Rattle.pmem.specs.Trace.{Operation, store_op, flush_op, fence_op, failure, after}
 

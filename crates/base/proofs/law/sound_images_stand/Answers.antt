@@ -1,4 +1,3 @@
-use Rattle.base.specs.Images.{ruling}
 use Rattle.base.proofs.Histories.{history_in, sound-stands}
 use Rattle.base.proofs.law.sound_images_stand.Goals as goal
 

@@ -1,0 +1,161 @@
+-- A row's text reads as the row, and no other text does.
+use Rattle.std.proofs.Common.{◌≡◌, ◌≢◌, ℕ, zero, suc, ◌+◌, ◌*◌, ◌/◌, ◌%◌, ◌<◌, Bool, true, false, not, ◌&&◌, ◌||◌, ◌==◌, List, [], ◌∷◌, Option, Some, None, Result, Ok, Err, length, slice_index, codes, refl, sym, ◌∙◌, ap, arith, inl, inr, is_some, unwrap_or, if◌then◌else◌}
+use Rattle.std.proofs.lemmas.Bool.{cases_eq, eqb-true}
+use Rattle.std.proofs.lemmas.Slice.Eq.{bytes_eq-Decides}
+use Rattle.std.specs.Char.{is_ascii_uppercase}
+use Rattle.std.specs.List.{list_any}
+use Rattle.std.specs.Result.{result_ok, result_unwrap_or}
+use Rattle.std.specs.Str.{bytes_eq}
+use Rattle.hex.specs.declared.error.FromHexError.{FromHexError}
+use Rattle.hex.specs.Hex.{IsBytes, decode_of, decode_pairs, digit_or_error, encode_lower, encode_with, hex_digit_value, lower_digits, pair_value, value_at, ◌>>=◌}
+use Rattle.hex.proofs.HexLemmas.{decode_of-encode_lower, decode_of-even, decode_of-ok, length-encode_with}
+use Rattle.command_line.specs.Numbers.{Text}
+use Rattle.command_line.specs.Rows.{IsNoRow, row_of, row_text}
+
+-- a test of all numbers below n
+abbrev all_below : ℕ → (ℕ → Bool) → Bool
+all_below zero p = true
+all_below (suc n) p = p n && all_below n p
+
+both : (a b : Bool) → (a && b) ≡ true → (a ≡ true) × (b ≡ true)
+both true b h = (refl, h)
+both false b h = cc h
+
+all_below-at : (n : ℕ) (p : ℕ → Bool) (k : ℕ) → k < n → all_below n p ≡ true → p k ≡ true
+all_below-at zero p k lt h = absurd (omega arith)
+all_below-at (suc n) p k lt h =
+    let parts = both (p n) (all_below n p) h in
+    elim (cases_eq k n) [
+      | inl same ↦ rw same parts.0
+      | inr other ↦ all_below-at n p k (omega arith) parts.1
+    ]
+
+-- the digit of a value is the character that has it, unless that is in upper case
+abbrev is_digit_back : ℕ → Bool
+is_digit_back c =
+    if is_ascii_uppercase c then true
+    else (if is_some (hex_digit_value c) then slice_index lower_digits (unwrap_or (hex_digit_value c) 0) == c else true)
+
+digit_back : (c v : ℕ) → hex_digit_value c ≡ Some v → is_ascii_uppercase c ≡ false → slice_index lower_digits v ≡ c
+digit_back c v h low =
+    let small : c < 103 = grind (arith) in
+    let test : is_digit_back c ≡ true = all_below-at 103 is_digit_back c small refl in
+    let narrowed : (if is_some (hex_digit_value c) then slice_index lower_digits (unwrap_or (hex_digit_value c) 0) == c else true) ≡ true = rw low at test in
+    let same : (slice_index lower_digits v == c) ≡ true = rw h at narrowed in
+    eqb-true (slice_index lower_digits v) c same
+
+abbrev is_lower_digit_at : ℕ → Bool
+is_lower_digit_at d = not (is_ascii_uppercase (slice_index lower_digits d))
+
+not_true : (b : Bool) → not b ≡ true → b ≡ false
+not_true false h = refl
+not_true true h = cc h
+
+digit_is_lower : (d : ℕ) → d < 16 → is_ascii_uppercase (slice_index lower_digits d) ≡ false
+digit_is_lower d lt = not_true _ (all_below-at 16 is_lower_digit_at d lt refl)
+
+bind_ok : {A B : Type 0} (r : Result A FromHexError) (f : A → Result B FromHexError) (y : B)
+    → (r >>= f) ≡ Ok y → (x : A) × (r ≡ Ok x) × (f x ≡ Ok y)
+bind_ok (Ok x) f y h = (x, refl, h)
+bind_ok (Err e) f y h = cc h
+
+digit_read : (c i : ℕ) (o : Option ℕ) (v : ℕ) → digit_or_error c i o ≡ Ok v → o ≡ Some v
+digit_read c i (Some w) v h = ap Some (ap (λ (r : Result ℕ FromHexError). result_unwrap_or r 0) h)
+digit_read c i None v h = cc h
+
+digit-small : (c v : ℕ) → hex_digit_value c ≡ Some v → v < 16
+digit-small c v h = grind (arith)
+
+neither : (a b : Bool) → (a || b) ≡ false → (a ≡ false) × (b ≡ false)
+neither false b h = (refl, h)
+neither true b h = cc h
+
+-- lower case digits are those of the bytes that they decode to
+encode-decode_pairs : (i : ℕ) (s bytes : List ℕ) → decode_pairs i s ≡ Ok bytes → list_any is_ascii_uppercase s ≡ false → encode_lower bytes ≡ s
+unfolding decode_pairs encode_with
+encode-decode_pairs i [] bytes h low =
+    let e : [] ≡ bytes = ap (λ (r : Result (List ℕ) FromHexError). result_unwrap_or r []) h in
+    rw (← e) refl
+encode-decode_pairs i (a ∷ []) bytes h low = cc h
+encode-decode_pairs i (a ∷ b ∷ rest) bytes h low =
+    let p0 = bind_ok (pair_value a b i) _ bytes h in
+    let p1 = bind_ok (value_at a i) _ p0.0 p0.1 in
+    let p2 = bind_ok (value_at b (i + 1)) _ p0.0 p1.2 in
+    let p3 = bind_ok (decode_pairs (i + 2) rest) _ bytes p0.2 in
+    let e : p0.0 ∷ p3.0 ≡ bytes = ap (λ (r : Result (List ℕ) FromHexError). result_unwrap_or r []) p3.2 in
+    let l0 = neither (is_ascii_uppercase a) _ low in
+    let l1 = neither (is_ascii_uppercase b) _ l0.1 in
+    let ih = encode-decode_pairs (i + 2) rest p3.0 p3.1 l1.1 in
+    let va = digit_read a i (hex_digit_value a) p1.0 p1.1 in
+    let vb = digit_read b (i + 1) (hex_digit_value b) p2.0 p2.1 in
+    let byte : p1.0 * 16 + p2.0 ≡ p0.0 = ap (λ (r : Result ℕ FromHexError). result_unwrap_or r 0) p2.2 in
+    let sa = digit-small a p1.0 va in
+    let sb = digit-small b p2.0 vb in
+    let high : p0.0 / 16 ≡ p1.0 = omega arith in
+    let low_half : p0.0 % 16 ≡ p2.0 = omega arith in
+    let da : slice_index lower_digits (p0.0 / 16) ≡ a = rw high (digit_back a p1.0 va l0.0) in
+    let db : slice_index lower_digits (p0.0 % 16) ≡ b = rw low_half (digit_back b p2.0 vb l1.0) in
+    rw (← e) (ap (λ x. x ∷ slice_index lower_digits (p0.0 % 16) ∷ encode_lower p3.0) da ∙ (ap (λ x. a ∷ x ∷ encode_lower p3.0) db ∙ ap (λ xs. a ∷ b ∷ xs) ih))
+
+encode-decode : (s bytes : List ℕ) → decode_of s ≡ Ok bytes → list_any is_ascii_uppercase s ≡ false → encode_lower bytes ≡ s
+encode-decode s bytes h low =
+    encode-decode_pairs 0 s bytes (sym (decode_of-even s (decode_of-ok s bytes h).0) ∙ h) low
+
+result_was : (r : Result (List ℕ) FromHexError) (bytes : List ℕ) → result_ok r ≡ Some bytes → r ≡ Ok bytes
+result_was (Ok x) bytes h = ap Ok (ap (λ o. unwrap_or o []) h)
+result_was (Err e) bytes h = cc h
+
+text_of_digits : (text bytes : List ℕ) → length text ≢ 0 → decode_of text ≡ Ok bytes → list_any is_ascii_uppercase text ≡ false → text ≡ row_text bytes
+text_of_digits text [] some h low = let size = (decode_of-ok text [] h).2 in absurd (some (omega (arith, size)))
+text_of_digits text (byte ∷ bytes) some h low = sym (encode-decode text (byte ∷ bytes) h low)
+
+spelled_by : (text bytes : List ℕ) (dash bad : Bool) → (dash ≡ true → text ≡ codes "-")
+    → (bad ≡ false → (length text ≢ 0) × (list_any is_ascii_uppercase text ≡ false))
+    → (if dash then Some [] else if bad then None else result_ok (decode_of text)) ≡ Some bytes → text ≡ row_text bytes
+spelled_by text bytes true bad d b h =
+    let e : [] ≡ bytes = ap (λ o. unwrap_or o []) h in
+    rw (← e) (d refl)
+spelled_by text bytes false true d b h = cc h
+spelled_by text bytes false false d b h =
+    let good = b refl in
+    text_of_digits text bytes good.0 (result_was (decode_of text) bytes h) good.1
+
+-- the row that is read is the one that is written
+pub row_of-spelled : (text bytes : List ℕ) → row_of text ≡ Some bytes → text ≡ row_text bytes
+row_of-spelled text bytes h =
+    spelled_by text bytes (bytes_eq text (codes "-")) (length text == 0 || list_any is_ascii_uppercase text)
+    (bytes_eq-Decides text (codes "-")).0
+    (λ n. let parts = neither (length text == 0) (list_any is_ascii_uppercase text) n in
+    (λ zero_length. let yes : (length text == 0) ≡ true = rw zero_length refl in cc (yes, parts.0), parts.1))
+    h
+
+no_upper_case : (bytes : List ℕ) → IsBytes bytes → list_any is_ascii_uppercase (encode_lower bytes) ≡ false
+unfolding encode_with
+no_upper_case [] h = refl
+no_upper_case (b ∷ rest) h =
+    let fits : b < 256 = h 0 in
+    let high : is_ascii_uppercase (slice_index lower_digits (b / 16)) ≡ false = digit_is_lower (b / 16) (omega arith) in
+    let low : is_ascii_uppercase (slice_index lower_digits (b % 16)) ≡ false = digit_is_lower (b % 16) (omega arith) in
+    let ih = no_upper_case rest (λ k. h (suc k)) in
+    rw (high, low, ih) refl
+
+never_true : (b : Bool) → (b ≡ true → ⊥) → b ≡ false
+never_true false h = refl
+never_true true h = absurd (h refl)
+
+-- the text of a row is read as the row
+pub row_of-row_text : (bytes : List ℕ) → IsBytes bytes → row_of (row_text bytes) ≡ Some bytes
+row_of-row_text [] h = refl
+row_of-row_text (b ∷ rest) h =
+    let t : Text = encode_lower (b ∷ rest) in
+    let size : length t ≡ 2 * length (b ∷ rest) = length-encode_with lower_digits (b ∷ rest) in
+    let dash : bytes_eq t (codes "-") ≡ false = never_true _ (λ yes. let e = ap length ((bytes_eq-Decides t (codes "-")).0 yes) in omega (arith, e, size)) in
+    let some : (length t == 0) ≡ false = never_true _ (λ yes. let e = eqb-true (length t) 0 yes in omega (arith, e, size)) in
+    let low : list_any is_ascii_uppercase t ≡ false = no_upper_case (b ∷ rest) h in
+    let read : decode_of t ≡ Ok (b ∷ rest) = decode_of-encode_lower (b ∷ rest) h in
+    rw (dash, some, low, read) refl
+
+pub no_row : (text : Text) → row_of text ≡ None → IsNoRow text
+no_row text none bytes h e =
+    let read : row_of text ≡ Some bytes = rw e (row_of-row_text bytes h) in
+    cc
