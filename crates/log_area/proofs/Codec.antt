@@ -1,16 +1,16 @@
 -- What the words of a place say of the record in it.
-use Rattle.std.proofs.Common.{◌≡◌, ◌⊎◌, inl, inr, ℕ, zero, suc, ◌+◌, ◌-◌, ◌*◌, ◌/◌, ◌%◌, ◌^◌, ◌<◌, ◌≤◌, Bool, true, false, cond, ◌&&◌, List, [], ◌∷◌, length, get_or, take, drop, refl, sym, ◌∙◌, ap, subst, arith, not, lit<, nat_eq, nat_lt, nat_le, unwrap_or, slice_range, slice_get}
-use Rattle.std.specs.Prelude.{IsTrue, Some, None}
+use Rattle.std.proofs.Common.{◌≡◌, ℕ, zero, suc, ◌+◌, ◌-◌, ◌*◌, ◌/◌, ◌%◌, ◌^◌, ◌<◌, ◌≤◌, Bool, true, false, cond, ◌&&◌, List, [], ◌∷◌, length, get_or, take, drop, refl, sym, ◌∙◌, ap, subst, arith, not, lit<, nat_eq, nat_lt, nat_le, unwrap_or, slice_range, slice_get}
+use Rattle.std.specs.Prelude.{None}
 use Rattle.std.specs.List.{list_all, range_with_len}
 use Rattle.std.proofs.lemmas.Bool.{and_parts, and_from, leb-true, le-leb, le-ltb, ne_eqb, eq-eqb, eqb-true}
 use Rattle.std.proofs.lemmas.Bool.Decides.{nat_tests}
-use Rattle.std.proofs.lemmas.List.{nil_from_length, ext_get_or, get_or_past, get_or-take, get_or-drop, length-drop, length-take, length-take-le, drop_more}
+use Rattle.std.proofs.lemmas.List.{nil_from_length, ext_get_or, get_or-take, get_or-drop, length-drop, length-take-le, drop_more}
 use Rattle.std.proofs.lemmas.Slice.{between_is}
 use Rattle.std.proofs.lemmas.Option.{unwrap_or-slice_get}
 use Rattle.base.specs.declared.gap.Gap.{Gap}
 use Rattle.base.specs.Layout.{newest_version, most_longs}
 use Rattle.base.specs.Records.{Record, IsRecord, record_word, record_in, is_record, is_well_formed, no_gap, pairs_of, is_in, are_apart, are_rising}
-use Rattle.log_area.specs.Codec.{IsReadFrom, FillsWords, are_within}
+use Rattle.log_area.specs.Codec.{IsReadFrom, are_within}
 
 -- ---- words of a record
 

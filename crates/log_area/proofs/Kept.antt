@@ -1,15 +1,14 @@
 -- What leaves a word as it is.
-use Rattle.std.proofs.Common.{◌≡◌, ◌≢◌, ◌⊎◌, inl, inr, ℕ, ◌+◌, ◌*◌, ◌/◌, ◌%◌, ◌<◌, ◌≤◌, true, List, refl, sym, ◌∙◌, ap, subst, arith}
-use Rattle.std.proofs.lemmas.Bool.{cases_eq}
-use Rattle.base.specs.Layout.{Layout, place_start, total_words, is_in_limits}
+use Rattle.std.proofs.Common.{◌≡◌, ◌≢◌, inl, inr, ℕ, ◌+◌, ◌*◌, ◌<◌, ◌≤◌, true, refl, sym, ◌∙◌, ap, subst, arith}
+use Rattle.base.specs.Layout.{Layout, place_start, is_in_limits}
 use Rattle.base.specs.Records.{Record, record_word}
-use Rattle.pmem.specs.Device.{Device, Survives, value_of, IsSettled, IsReady, stored, flushed, fenced, failed}
+use Rattle.pmem.specs.Device.{Device, value_of, IsReady, stored, flushed, fenced, failed}
 use Rattle.pmem.proofs.Steps.{value-stored_other, value-flushed, value-fenced, survives-stored, survives-flushed, survives-fenced, settled-stored, settled-flushed, settled-fenced, ready-stored, ready-flushed_by, ready-fenced}
 use Rattle.log_area.specs.declared.stage.WritingStage.{WritingStage}
 use Rattle.log_area.specs.declared.stage.WritingStage.TheVariants.{StoreBody, FlushBody, FenceBody, StoreGate, FlushGate, FenceGate, Done}
-use Rattle.log_area.specs.Rulings.{Holds, HasRecord, HoldsRecord, HasEarlierGate, IsEarlierGate, IsKept, IsRecordFor, place_of, gate_word}
+use Rattle.log_area.specs.Rulings.{Holds, HasRecord, HoldsRecord, HasEarlierGate, IsEarlierGate, IsKept, gate_word}
 use Rattle.log_area.specs.Writings.{Progress, start_of, HoldsBody, HasEitherGate, IsAt, IsWriting, IsReplacing}
-use Rattle.log_area.proofs.Rulings.{place_below, log_within}
+use Rattle.log_area.proofs.Rulings.{place_below}
 
 -- ---- operations
 

@@ -5,3 +5,6 @@ pub mod Runs
 pub mod Ticks
 pub mod Replacing
 pub mod Whole
+pub mod Heads
+pub mod Finding
+pub mod AtRest

@@ -1,21 +1,21 @@
 -- Which record rules while one replaces another.
-use Rattle.std.proofs.Common.{◌≡◌, ◌≢◌, ◌⊎◌, inl, inr, ℕ, zero, suc, ◌+◌, ◌-◌, ◌*◌, ◌/◌, ◌%◌, ◌^◌, ◌<◌, ◌≤◌, Bool, true, List, length, get_or, refl, sym, ◌∙◌, ap, subst, arith}
+use Rattle.std.proofs.Common.{◌≡◌, ◌≢◌, ◌⊎◌, inl, inr, ℕ, zero, suc, ◌+◌, ◌*◌, ◌/◌, ◌%◌, ◌<◌, ◌≤◌, true, List, get_or, refl, sym, ◌∙◌, ap, subst, arith}
 use Rattle.std.proofs.Math.Nat.{mul-le-mul_left}
 use Rattle.std.proofs.lemmas.Bool.{cases_lt, cases_eq}
 use Rattle.base.specs.Layout.{Layout, place_start, total_words, is_in_limits}
 use Rattle.base.specs.Records.{Record, record_word}
 use Rattle.base.specs.Images.{gate_at}
-use Rattle.pmem.specs.Device.{Device, Survives, value_of, IsOrderly, MayLeave, LeavesOnly, stored, flushed, fenced, failed}
+use Rattle.pmem.specs.Device.{Device, Survives, value_of, IsOrderly, MayLeave, LeavesOnly, failed}
 use Rattle.pmem.specs.Trace.{Operation, store_op, flush_op, fence_op, failure, applied}
 use Rattle.pmem.proofs.Steps.{only-settled}
 use Rattle.pmem.proofs.Images.{leaves-stored, leaves-flushed, leaves-fenced, leaves-failed}
 use Rattle.log_area.specs.declared.stage.WritingStage.{WritingStage}
 use Rattle.log_area.specs.declared.stage.WritingStage.TheVariants.{StoreBody, FlushBody, FenceBody, StoreGate, FlushGate, FenceGate, Done}
 use Rattle.log_area.specs.Stages.{IsStage, next_stage, is_gate_stored}
-use Rattle.log_area.specs.Rulings.{Holds, HasRecord, HoldsRecord, HasEarlierGate, IsEarlierGate, IsKept, HasOldWords, Spares, IsRecordFor, IsRuledBy, place_of, gate_word, superblock_words}
-use Rattle.log_area.specs.Writings.{Progress, begun, advanced, start_of, operation_of, HoldsBody, HasEitherGate, IsAt, IsWriting, IsReplacing, IsRuledMeanwhile, IsOutside, IsRuledByEither, IsNextRecord}
-use Rattle.log_area.proofs.Kept.{kept-failed, holds_kept, gate_kept, record_kept}
-use Rattle.log_area.proofs.Rulings.{HasWords, ruled_by, some_places, place_below, log_within}
+use Rattle.log_area.specs.Rulings.{Holds, HoldsRecord, HasEarlierGate, IsEarlierGate, HasOldWords, Spares, IsRuledBy, place_of, gate_word, superblock_words}
+use Rattle.log_area.specs.Writings.{Progress, begun, advanced, start_of, operation_of, HoldsBody, HasEitherGate, IsAt, IsReplacing, IsRuledMeanwhile, IsOutside, IsNextRecord}
+use Rattle.log_area.proofs.Kept.{gate_kept, record_kept}
+use Rattle.log_area.proofs.Rulings.{ruled_by, some_places, place_below, log_within}
 use Rattle.log_area.proofs.Ticks.{outside_kept, writing_next, same_words}
 
 -- ---- words of an image
@@ -243,4 +243,3 @@ module _ (old : Record) (p : Progress) (before after : Device) (orderly : IsOrde
   -- a failed one changes nothing
   pub images_failed : after ≡ failed before → IsReplacing old p before → LeavesOnly before after (IsRuledMeanwhile old p)
   images_failed made is = leaves-failed (IsRuledMeanwhile old p) orderly orderly' made (ruled_meanwhile old p before is)
-

@@ -1,13 +1,13 @@
 -- Which record rules an image, from the image's words.
-use Rattle.std.proofs.Common.{◌≡◌, ◌⊎◌, inl, inr, ℕ, zero, suc, ◌+◌, ◌-◌, ◌*◌, ◌/◌, ◌%◌, ◌^◌, ◌<◌, ◌≤◌, max, Bool, true, false, cond, not, ◌&&◌, ◌||◌, List, [], ◌∷◌, length, map, fold, get_or, refl, sym, ◌∙◌, ap, subst, arith, lit<, lit≤, nat_eq, nat_lt, nat_le, slice_range}
-use Rattle.std.specs.Prelude.{IsTrue, Option, Some, None}
+use Rattle.std.proofs.Common.{◌≡◌, ◌⊎◌, inl, inr, ℕ, zero, suc, ◌+◌, ◌*◌, ◌%◌, ◌^◌, ◌<◌, ◌≤◌, max, Bool, true, false, cond, not, ◌||◌, length, map, fold, get_or, refl, sym, ◌∙◌, ap, subst, arith, lit<, nat_eq, nat_le}
+use Rattle.std.specs.Prelude.{Some, None}
 use Rattle.std.specs.Option.{option_or}
 use Rattle.std.specs.List.{range_with_len}
-use Rattle.std.proofs.lemmas.Bool.{and_parts, and_from, and_left, and_right, leb-true, le-leb, lt-leb, le-ltb, ne_eqb, eq-eqb, eqb-true, not_from_true, not_from_false}
-use Rattle.base.specs.Layout.{Layout, place_start, slot_start, slot_words, total_words, is_in_limits, is_between, is_known_version}
+use Rattle.std.proofs.lemmas.Bool.{and_parts, and_from, and_left, and_right, leb-true, le-leb, lt-leb, ne_eqb, eq-eqb, not_from_true, not_from_false}
+use Rattle.base.specs.Layout.{Layout, place_start, total_words, is_in_limits, is_between, is_known_version}
 use Rattle.base.specs.Records.{Record, IsRecord, record_word, record_in, is_record}
 use Rattle.base.specs.Search.{first_below}
-use Rattle.base.specs.Images.{Image, superblock_word, layout_of, is_formatted, has_good_geometry, gate_at, place_words, is_wrong_gate, greatest_gate, ruling_place, is_ruled, ruling}
+use Rattle.base.specs.Images.{Image, superblock_word, layout_of, has_good_geometry, gate_at, place_words, is_wrong_gate, greatest_gate, ruling_place}
 use Rattle.log_area.specs.Rulings.{IsRuledBy, IsEarlierGate, IsRecordFor, superblock_words, place_of, gate_word}
 use Rattle.log_area.proofs.Codec.{get_or-range, length-range, record_in-is, is_record-is}
 
@@ -24,7 +24,7 @@ greatest-start : (f : ℕ → ℕ) (a n b : ℕ) → b ≤ fold max b (map f (ra
 greatest-start f a zero b = omega arith
 greatest-start f a (suc n) b = omega (arith, greatest-start f (a + 1) n (max b (f a)))
 
-greatest-each : (f : ℕ → ℕ) (a n b k : ℕ) → k < n → f (a + k) ≤ fold max b (map f (range_with_len a n))
+pub greatest-each : (f : ℕ → ℕ) (a n b k : ℕ) → k < n → f (a + k) ≤ fold max b (map f (range_with_len a n))
 greatest-each f a zero b k h = absurd (omega (arith, h))
 greatest-each f a (suc n) b zero h = let here : a + 0 ≡ a = omega arith in omega (arith, ap f here, greatest-start f (a + 1) n (max b (f a)))
 greatest-each f a (suc n) b (suc k) h = let up : a + suc k ≡ a + 1 + k = omega arith in omega (arith, ap f up, greatest-each f (a + 1) n (max b (f a)) k (omega (arith, h)))

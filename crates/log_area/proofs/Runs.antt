@@ -1,6 +1,6 @@
 -- Runs of operations that spare some words, and how many they are.
-use Rattle.std.proofs.Common.{◌≡◌, ◌≢◌, ◌⊎◌, ℕ, ◌+◌, ◌<◌, ◌≤◌, List, get_or, refl, sym, ◌∙◌, ap, subst, arith}
-use Rattle.pmem.specs.Device.{Device, IsOrderly, MayLeave, MightHaveLeft, LeavesOnly, stored, flushed, fenced, failed}
+use Rattle.std.proofs.Common.{◌≡◌, ◌≢◌, ℕ, List, get_or, refl, ap, arith}
+use Rattle.pmem.specs.Device.{Device, IsOrderly, MayLeave, LeavesOnly, stored, flushed, fenced, failed}
 use Rattle.pmem.proofs.Images.{leaves_refl, leaves_trans, leaves_weaken, leaves-stored, leaves-flushed, leaves-fenced, leaves-failed}
 use Rattle.log_area.specs.Rulings.{IsKept, HasOldWords, Spares, Makes}
 use Rattle.log_area.proofs.Kept.{kept_refl, kept_trans, kept-stored, kept-flushed, kept-fenced, kept-failed}

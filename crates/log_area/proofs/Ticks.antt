@@ -1,17 +1,17 @@
 -- What each operation of a writing makes of the device.
-use Rattle.std.proofs.Common.{◌≡◌, ◌≢◌, ◌⊎◌, inl, inr, ℕ, ◌+◌, ◌-◌, ◌*◌, ◌/◌, ◌%◌, ◌^◌, ◌<◌, ◌≤◌, Bool, true, false, cond, List, get_or, nat_lt, refl, sym, ◌∙◌, ap, subst, arith}
+use Rattle.std.proofs.Common.{◌≡◌, ◌≢◌, ◌⊎◌, inl, inr, ℕ, ◌+◌, ◌*◌, ◌/◌, ◌%◌, ◌<◌, ◌≤◌, Bool, cond, refl, sym, ◌∙◌, ap, subst, arith}
 use Rattle.std.proofs.lemmas.Bool.{cases_lt, cases_eq, lt-ltb, le-ltb}
-use Rattle.base.specs.Layout.{Layout, place_start, total_words, is_in_limits}
+use Rattle.base.specs.Layout.{Layout}
 use Rattle.base.specs.Records.{Record, record_word}
-use Rattle.pmem.specs.Device.{Device, Survives, value_of, IsSettled, IsReady, IsOrderly, MayLeave, Continues, LeavesOnly, stored, flushed, fenced, failed}
-use Rattle.pmem.specs.Trace.{Operation, store_op, flush_op, fence_op, failure, applied}
-use Rattle.pmem.proofs.Steps.{value-stored_same, value-flushed, value-fenced, survives-stored, only-settled, settled-ready, ready-flushed}
+use Rattle.pmem.specs.Device.{Device, Survives, value_of, IsSettled, IsReady, IsOrderly, stored, flushed, fenced}
+use Rattle.pmem.specs.Trace.{applied}
+use Rattle.pmem.proofs.Steps.{value-stored_same, survives-stored, only-settled, settled-ready, ready-flushed}
 use Rattle.log_area.specs.declared.stage.WritingStage.{WritingStage}
 use Rattle.log_area.specs.declared.stage.WritingStage.TheVariants.{StoreBody, FlushBody, FenceBody, StoreGate, FlushGate, FenceGate, Done}
 use Rattle.log_area.specs.Stages.{next_stage, IsStage}
 use Rattle.log_area.specs.Rulings.{Holds, IsKept}
 use Rattle.log_area.specs.Writings.{Progress, begun, advanced, start_of, operation_at, operation_of, HasBodyTo, IsReadyTo, HoldsBody, HasEitherGate, IsAt, IsWriting, IsOutside}
-use Rattle.log_area.proofs.Kept.{kept_refl, kept-stored, kept-flushed, kept-fenced, kept-failed, holds_kept}
+use Rattle.log_area.proofs.Kept.{kept-stored, kept-flushed, kept-fenced, kept-failed, holds_kept}
 use Rattle.log_area.proofs.Rulings.{place_below, log_within}
 
 module _ (start : ℕ) (r : Record) (before : ℕ) (old new : Device) (aligned : start % 8 ≡ 0) (within : start + 32 ≤ old.words) (orderly : IsOrderly old) where

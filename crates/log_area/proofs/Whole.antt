@@ -1,9 +1,9 @@
 -- A writing from its first operation on.
-use Rattle.std.proofs.Common.{◌≡◌, ◌≢◌, ◌⊎◌, inl, inr, ℕ, ◌+◌, ◌-◌, ◌<◌, ◌≤◌, Bool, cond, List, nat_lt, refl, sym, ◌∙◌, ap, subst, arith}
+use Rattle.std.proofs.Common.{◌≡◌, ◌≢◌, ◌⊎◌, inl, inr, ℕ, ◌+◌, ◌-◌, ◌<◌, ◌≤◌, Bool, cond, List, refl, sym, ◌∙◌, ap, subst, arith}
 use Rattle.std.proofs.lemmas.Bool.{cases_lt, lt-ltb, le-ltb}
 use Rattle.base.specs.Layout.{Layout}
 use Rattle.base.specs.Records.{Record}
-use Rattle.pmem.specs.Device.{Device, IsOrderly, LeavesOnly, failed}
+use Rattle.pmem.specs.Device.{Device, IsOrderly, LeavesOnly}
 use Rattle.pmem.specs.Trace.{applied}
 use Rattle.pmem.proofs.Images.{leaves_refl, leaves_trans, leaves_weaken}
 use Rattle.log_area.specs.declared.stage.WritingStage.{WritingStage}

@@ -1,5 +1,5 @@
 -- Which record rules an image, and which one a device holds.
-use Rattle.std.specs.Prelude.{◌≡◌, ◌⊎◌, ℕ, ◌+◌, ◌*◌, ◌%◌, ◌^◌, ◌<◌, ◌≤◌, Bool, List, [], ◌∷◌, take, slice_index, IsTrue, Option, None}
+use Rattle.std.specs.Prelude.{◌≡◌, ◌⊎◌, ℕ, ◌+◌, ◌%◌, ◌^◌, ◌<◌, ◌≤◌, List, [], ◌∷◌, length, take, slice_index, IsTrue, Option, None}
 use Rattle.base.specs.declared.fault.Fault.{Fault}
 use Rattle.base.specs.Layout.{Layout, place_start, total_words, is_in_limits}
 use Rattle.base.specs.Records.{Record, record_word, is_well_formed}
@@ -10,6 +10,22 @@ use Rattle.pmem.specs.Device.{Device, Survives, value_of, IsSettled, IsReady, Le
 -- what is wrong with an image, the slots aside
 abbrev pub log_damage : Image → Option Fault
 log_damage image = first_of (take 5 (faults_of image))
+
+-- what is wrong with its superblock
+abbrev pub layout_damage : Image → Option Fault
+layout_damage image = first_of (take 3 (faults_of image))
+
+-- the superblock is right, and gives this layout
+pub record IsLaidOut (layout : Layout) (image : Image) : Type 0 where
+  pub formatted : IsTrue (is_formatted image)
+  pub geometry : IsTrue (has_good_geometry image)
+  pub laid_out : layout_of image ≡ layout
+
+-- an image of so many words that begins with these eight
+pub record IsHead (words : List ℕ) (count : ℕ) (image : Image) : Type 0 where
+  pub size : length image ≡ count
+  pub enough : 8 ≤ count
+  pub same : (word : ℕ) → word < 8 → slice_index image word ≡ slice_index words word
 
 -- a record's place is its number modulo the number of places
 abbrev pub place_of : Layout → Record → ℕ
@@ -90,3 +106,7 @@ pub record Makes (stores flushes fences : ℕ) (old new : Device) : Type 0 where
   pub flushes_made : new.flushes ≡ old.flushes + flushes
   pub fences_made : new.fences ≡ old.fences + fences
   pub no_failures : new.failures ≡ old.failures
+
+-- one of the word's survivors, or the value in the word that it is stored in
+abbrev pub OldOrStored : Device → ℕ → ℕ → ℕ → ℕ → Type 0
+OldOrStored device stored value word x = Survives device word x ⊎ ((word ≡ stored) × (x ≡ value))

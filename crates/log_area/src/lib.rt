@@ -2,12 +2,18 @@
 #![tactic(auto)]
 
 mod order;
+mod reading;
 mod record;
+mod ruling;
 mod stage;
+mod superblock;
 mod write;
 mod writing;
 
+pub use reading::latest;
 pub use record::Record;
+pub use ruling::Ruling;
 pub use stage::WritingStage;
+pub use superblock::{FORMATTED, read_geometry, set_word, write_geometry};
 pub use write::write_record;
 pub use writing::Writing;

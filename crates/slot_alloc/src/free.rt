@@ -20,9 +20,9 @@ impl Model for SlotAlloc {
 }
 
 impl SlotAlloc {
-    ghost use Rattle.std.specs.Prelude.{◌≡◌, ◌≢◌, ◌⊎◌, ◌↔◌, ◌+◌, ◌<◌, ◌≤◌, [], ◌∷◌, true, false, ℕ, length, slice_set, count_by, Err, None, Some, IfErr, IfOk, IsErrOf, OnErr, OnOk};
+    ghost use Rattle.std.specs.Prelude.{◌≡◌, ◌≢◌, ◌⊎◌, ◌↔◌, ◌+◌, ◌/◌, ◌<◌, ◌≤◌, [], ◌∷◌, true, false, ℕ, length, slice_set, count_by, Err, None, Some, IfErr, IfOk, IsErrOf, OnErr, OnOk};
     ghost use Rattle.base.specs.Layout.{slot_start, total_words};
-    ghost use Rattle.pmem.specs.Device.{survivors_in, Keeps};
+    ghost use Rattle.pmem.specs.Device.{fenced, flushed, stored, survivors_in, Keeps};
     ghost use Rattle.slot_alloc.specs.Clearing.{HasMade, IsNotStored};
     ghost use Rattle.slot_alloc.specs.Free.{is_free, lowest_free, IsBeginOfLowest, OldOrCleared};
     ghost use Rattle.base.specs.declared.fault.Fault.TheVariants.{Device, SlotsOut};
@@ -81,6 +81,8 @@ impl SlotAlloc {
         ensures lowest { IfOk result (λ slot. lowest_free self.old ≡ Some slot) }
         ensures taken { IfOk result (λ slot. self.new ≡ slice_set self.old slot false) }
         ensures cleared { IfOk result (λ slot. survivors_in ((D.state device.new).history (slot_start geometry slot)) ≡ 0 ∷ []) }
+        ensures run { IfOk result (λ slot. D.state device.new
+            ≡ fenced actor.number (flushed actor.number (slot_start geometry slot / 8) (stored (slot_start geometry slot) 0 (D.state device.old)))) }
         ensures made { OnOk result (HasMade 1 1 1 0 (D.state device.old) (D.state device.new)) }
 
         // At an error the free slots are as before. With no free slot nothing is done.

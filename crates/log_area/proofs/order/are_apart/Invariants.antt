@@ -1,4 +1,4 @@
-use Rattle.std.proofs.Common.{◌≡◌, ◌-◌, ◌≤◌, drop}
+use Rattle.std.proofs.Common.{◌≡◌, ◌-◌, drop}
 use Rattle.base.specs.Records.{are_apart}
 use Rattle.log_area.proofs.order.are_apart.Given as goal
 

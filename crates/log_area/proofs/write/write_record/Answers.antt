@@ -1,7 +1,4 @@
-use Rattle.std.proofs.Common.{◌≡◌, refl}
 use Rattle.std.proofs.lemmas.Bool.{iff_false}
-use Rattle.log_area.specs.Writings.{IsOutside, begun}
-use Rattle.log_area.proofs.Runs.{spares-failed}
 use Rattle.log_area.proofs.Replacing.{replacing_begun}
 use Rattle.log_area.proofs.Whole.{run_none, run_next, spares_on, images_on, run_place, run_holds}
 use Rattle.log_area.proofs.write.write_record.Goals as goal

@@ -1,4 +1,5 @@
-use Rattle.std.proofs.Common.{◌/◌, arith}
+use Rattle.std.proofs.Common.{◌/◌, ◌∙◌, ap, arith}
+use Rattle.pmem.specs.Device.{fenced, flushed}
 use Rattle.slot_alloc.proofs.Clears.{clearing_none, clearing-stored, clearing-flushed, clearing-fenced, clearing-failed, on_err}
 use Rattle.slot_alloc.proofs.clearing.clear.Goals as goal
 
@@ -58,3 +59,7 @@ returns-clause-keeps g c =
     let stored = clearing-stored c.args.word old old one (orderly c.args.device.now) (orderly c.store.new.self) begun c.in_ok-store.ensures.ok in
     let flushed = clearing-flushed c.args.word old one two (orderly c.store.new.self) (orderly c.flush.new.self) c.args.actor.number (c.args.word / 8) stored c.in_ok-flush.ensures.ok in
     (clearing-fenced c.args.word old two three (orderly c.flush.new.self) (orderly c.fence.new.self) c.args.actor.number flushed c.in_ok-fence.ensures.ok).keeps
+
+pub returns-clause-run : goal.returns-clause-run
+returns-clause-run g c =
+    c.in_ok-fence.ensures.ok ∙ ap (fenced c.args.actor.number) (c.in_ok-flush.ensures.ok ∙ ap (flushed c.args.actor.number (c.args.word / 8)) c.in_ok-store.ensures.ok)

@@ -1,5 +1,4 @@
-use Rattle.std.proofs.Common.{◌≡◌, sym, ap, ◌∙◌, ◌/◌, ◌-◌, slice_get, List}
-use Rattle.base.specs.declared.gap.Gap.{Gap}
+use Rattle.std.proofs.Common.{sym, ap, ◌∙◌, ◌/◌, ◌-◌, slice_get}
 use Rattle.base.specs.Records.{Record}
 use Rattle.log_area.proofs.Codec.{gap_none}
 use Rattle.log_area.proofs.record.Record.gap_word.Goals as goal

@@ -1,4 +1,4 @@
-use Rattle.std.proofs.Common.{◌+◌, ◌<◌, subst, arith}
+use Rattle.std.proofs.Common.{subst, arith}
 use Rattle.log_area.specs.declared.stage.WritingStage.TheVariants.{StoreBody}
 use Rattle.log_area.specs.Stages.{IsStage}
 use Rattle.log_area.proofs.writing.Writing.operate.Goals as goal

@@ -1,9 +1,6 @@
-use Rattle.std.proofs.Common.{◌≡◌, ◌∙◌, ap, subst}
-use Rattle.pmem.specs.Device.{Device, LeavesOnly}
-use Rattle.log_area.specs.declared.stage.WritingStage.{WritingStage}
-use Rattle.log_area.specs.Stages.{next_stage}
-use Rattle.log_area.specs.Rulings.{HoldsRecord}
-use Rattle.log_area.specs.Writings.{Progress, advanced, IsWriting, IsReplacing, IsRuledMeanwhile, IsOutside}
+use Rattle.std.proofs.Common.{subst}
+use Rattle.pmem.specs.Device.{LeavesOnly}
+use Rattle.log_area.specs.Writings.{Progress, IsWriting, IsReplacing, IsRuledMeanwhile, IsOutside}
 use Rattle.log_area.proofs.Kept.{replacing_failed}
 use Rattle.log_area.proofs.Runs.{spares-failed}
 use Rattle.log_area.proofs.Ticks.{moved, staged_too, writing_next}

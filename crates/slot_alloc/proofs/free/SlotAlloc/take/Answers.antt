@@ -1,4 +1,5 @@
-use Rattle.std.proofs.Common.{◌≡◌, ◌<◌, ℕ, length, sym, ◌∙◌, arith}
+use Rattle.std.proofs.Common.{◌≡◌, ◌/◌, ◌<◌, subst, ℕ, length, sym, ◌∙◌, arith}
+use Rattle.pmem.specs.Device.{fenced, flushed, stored}
 use Rattle.slot_alloc.specs.Free.{is_free}
 use Rattle.slot_alloc.proofs.Lowest.{lowest_below}
 use Rattle.slot_alloc.proofs.free.SlotAlloc.take.Goals as goal
@@ -13,3 +14,10 @@ returns-in-Err-clause-others g c = λ word not_begin.
 pub returns-clause-others : goal.returns-clause-others
 returns-clause-others g c = λ word not_begin.
     c.in-Ok.ensures.others word (λ is. not_begin (c.in-Some.slot, sym c.in-Some.ensures, is ∙ c.slot_start.ensures.value))
+
+pub returns-clause-run : goal.returns-clause-run
+returns-clause-run g c =
+    let a = c.args.actor.number in
+    let old = g.D.Pmem.state c.args.device.now in
+    let new = g.D.Pmem.state c.clear.new.device in
+    subst (λ (w : ℕ). new ≡ fenced a (flushed a (w / 8) (stored w 0 old))) c.slot_start.ensures.value c.in-Ok.ensures.run
