@@ -63,6 +63,12 @@ impl Writing {
         matches!(self.stage, WritingStage::Done)
     }
 
+    pub fn geometry(&self) -> Geometry
+        ensures { result ≡ self.now.layout }
+    {
+        self.geometry
+    }
+
     /// The record that is written.
     pub fn target(&self) -> Record
         ensures { result ≡ self.now.target }

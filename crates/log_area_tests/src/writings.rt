@@ -49,7 +49,7 @@ fn half_written_record_is_not_read(rt: HostRuntime) -> Result<(), Fail> {
         let mut last = Some(Stage::Chosen);
         for _ in 0..ticks {
             assert!(rt; !writing.is_done());
-            assert_eq!(rt; device.words() as u64, geometry.words());
+            assert_eq!(rt; device.words() as u64, writing.geometry().words());
             last = writing.tick(&mut device)?;
         }
         assert_eq!(rt; last.is_none(), ticks == 39);
