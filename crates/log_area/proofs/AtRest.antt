@@ -7,7 +7,7 @@ use Rattle.base.specs.declared.fault.Fault.TheVariants.{NotFormatted, Version, B
 use Rattle.base.specs.Layout.{Layout, place_start, total_words, is_in_limits}
 use Rattle.base.specs.Records.{Record, IsRecord, record_word}
 use Rattle.base.specs.Search.{first_below, first_of, some_if}
-use Rattle.base.specs.Histories.{first_below-none}
+use Rattle.base.proofs.Histories.{first_below-none}
 use Rattle.base.specs.Images.{Image, superblock_word, layout_of, gate_at, place_words, is_wrong_gate, greatest_gate, ruling_place, is_bad_slot, damage}
 use Rattle.pmem.specs.Device.{Device, image_of, IsAtRest}
 use Rattle.log_area.specs.Rulings.{Holds, IsLaidOut, IsRuledBy, IsEarlierGate, IsRecordFor, HoldsRecord, superblock_words, place_of, gate_word}

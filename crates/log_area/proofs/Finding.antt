@@ -12,7 +12,7 @@ use Rattle.base.specs.declared.fault.Fault.TheVariants.{NotFormatted, Version, B
 use Rattle.base.specs.Layout.{Layout, place_start, newest_version, is_known_version}
 use Rattle.base.specs.Records.{Record, IsRecord, record_in, is_record}
 use Rattle.base.specs.Search.{first_below, first_of, some_if}
-use Rattle.base.specs.Histories.{first_below-none}
+use Rattle.base.proofs.Histories.{first_below-none}
 use Rattle.base.specs.Images.{Image, layout_of, is_formatted, has_good_geometry, gate_at, place_words, is_wrong_gate, greatest_gate, ruling_place, is_ruled}
 use Rattle.log_area.specs.Codec.{NoneFits}
 use Rattle.log_area.specs.Rulings.{IsLaidOut, IsRuledBy, layout_damage, log_damage}
