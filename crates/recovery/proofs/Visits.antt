@@ -1,0 +1,292 @@
+-- Visiting the slots one after another.
+use Rattle.std.proofs.Common.{◌≡◌, ◌⊎◌, inl, inr, ℕ, zero, suc, ◌+◌, ◌<◌, ◌≤◌, Bool, true, false, cond, not, ◌&&◌, ◌||◌, List, [], ◌∷◌, ◌++◌, refl, sym, ◌∙◌, ap, subst, arith, add-one, nat_eq, nat_le, map, ◌*◌, ◌^◌, length, get_or, lit<}
+use Rattle.std.specs.Prelude.{Option, Some, None, is_some}
+use Rattle.std.specs.Option.{option_or, option_map}
+use Rattle.std.specs.List.{range_with_len}
+use Rattle.std.specs.declared.cmp.Ordering.{Ordering}
+use Rattle.std.specs.declared.cmp.Ordering.TheVariants.{Less, Equal, Greater}
+use Rattle.std.specs.Ordering.{nat_cmp, ordering_then, is_eq}
+use Rattle.std.specs.BTreeMap.{is_at}
+use Rattle.std.proofs.lemmas.Bool.Decides.{nat_tests}
+use Rattle.std.proofs.Math.Nat.{mul-le-mul_left}
+use Rattle.std.proofs.lemmas.Bool.{cases_lt, le-leb, lt-leb}
+use Rattle.std.proofs.lemmas.List.{get_or_past}
+use Rattle.std.proofs.lemmas.List.FromFn.{map-range_with_len_more, length-map-range_with_len, get_or-map-range_with_len}
+use Rattle.base.specs.declared.key.Key.{Key}
+use Rattle.base.specs.declared.fault.Fault.{Fault}
+use Rattle.base.specs.declared.fault.Fault.TheVariants.{Damaged, OutOfMemory}
+use Rattle.base.specs.Keys.{key_eq}
+use Rattle.base.specs.Layout.{Layout, slot_start, slot_words, total_words}
+use Rattle.base.specs.Records.{Record, is_committed}
+use Rattle.base.specs.Search.{first_below}
+use Rattle.base.specs.Images.{Image, layout_of, ruling, slot_word, begin_of, end_of, key_of, is_bad_slot, is_second}
+use Rattle.pmem.specs.Device.{Device, value_of, image_of, IsOrderly}
+use Rattle.version_slot.specs.declared.words.Slot.{Slot}
+use Rattle.version_slot.specs.Words.{Fits, IsVersion, IsSlot, slot_at}
+use Rattle.version_slot.proofs.ImageSlots.{version_of, holds_version, well_formed, key_is}
+use Rattle.recovery.specs.declared.slots.Found.{Found}
+use Rattle.recovery.specs.declared.slots.Found.TheVariants.{Bad, Live, Free}
+use Rattle.recovery.specs.Slots.{IsUnder, HasKeys, IsVisitFault, IsSlotsFault, found_in, free_below, bad_below, is_bad, is_free, key_cmp, is_ahead, is_shown, is_ill_formed}
+
+-- ---- keys
+
+is_eq-then : (o p : Ordering) → is_eq (ordering_then o p) ≡ (is_eq o && is_eq p)
+is_eq-then Less p = refl
+is_eq-then Equal p = refl
+is_eq-then Greater p = refl
+
+is_eq-nat : (a b : ℕ) → is_eq (nat_cmp a b) ≡ nat_eq a b
+is_eq-nat a b = grind (arith, nat_tests)
+
+-- the order tells two keys apart exactly where they differ
+pub is_at-key : (key other : Key) → is_at (key_cmp key) other ≡ key_eq key other
+is_at-key key other =
+    is_eq-then (nat_cmp key.table other.table) (nat_cmp key.key other.key)
+    ∙ (λ i. is_eq-nat key.table other.table i && is_eq-nat key.key other.key i)
+
+-- ---- one slot
+
+-- what a slot that isn't live tells
+pub found-free : (image : Image) (slot : ℕ) → Free ≡ found_in image slot → (is_free image slot ≡ true) × (is_bad image slot ≡ false)
+unfolding found_in is_free is_bad
+found-free image slot found = by (is_ahead image slot) (is_shown image slot) (is_ill_formed image slot) found
+  where
+    by : (ahead shown ill : Bool) → Free ≡ cond ahead Bad (cond shown (cond ill Bad (Live (key_of image slot))) Free)
+        → (not shown ≡ true) × ((ahead || (shown && (ill || is_second image slot))) ≡ false)
+    by true shown ill found = absurd (cc found)
+    by false true true found = absurd (cc found)
+    by false true false found = absurd (cc found)
+    by false false ill found = (refl, refl)
+
+pub found-live : (image : Image) (slot : ℕ) (key : Key) → Live key ≡ found_in image slot
+    → (is_free image slot ≡ false) × (is_shown image slot ≡ true) × (key ≡ key_of image slot) × (is_bad image slot ≡ is_second image slot)
+unfolding found_in is_free is_bad
+found-live image slot key found = by (is_ahead image slot) (is_shown image slot) (is_ill_formed image slot) found
+  where
+    by : (ahead shown ill : Bool) → Live key ≡ cond ahead Bad (cond shown (cond ill Bad (Live (key_of image slot))) Free)
+        → (not shown ≡ false) × (shown ≡ true) × (key ≡ key_of image slot) × ((ahead || (shown && (ill || is_second image slot))) ≡ is_second image slot)
+    by true shown ill found = absurd (cc found)
+    by false true true found = absurd (cc found)
+    by false true false found = (refl, refl, cc found, refl)
+    by false false ill found = absurd (cc found)
+
+pub found-bad : (image : Image) (slot : ℕ) → Bad ≡ found_in image slot → is_bad image slot ≡ true
+unfolding found_in is_bad
+found-bad image slot found = by (is_ahead image slot) (is_shown image slot) (is_ill_formed image slot) found
+  where
+    by : (ahead shown ill : Bool) → Bad ≡ cond ahead Bad (cond shown (cond ill Bad (Live (key_of image slot))) Free)
+        → (ahead || (shown && (ill || is_second image slot))) ≡ true
+    by true shown ill found = refl
+    by false true true found = refl
+    by false true false found = absurd (cc found)
+    by false false ill found = absurd (cc found)
+
+-- ---- the keys seen
+
+step-some : (o : Option ℕ) (b : Bool) (n : ℕ) → is_some (option_or o (cond b (Some n) None)) ≡ (is_some o || b)
+step-some None true n = refl
+step-some None false n = refl
+step-some (Some k) b n = refl
+
+pub keys-none : (image : Image) (has : Key → Bool) → ((key : Key) → has key ≡ false) → HasKeys image 0 has
+unfolding HasKeys
+keys-none image has none key = none key
+
+pub keys-free : (image : Image) (slot : ℕ) (has : Key → Bool) → is_free image slot ≡ true → HasKeys image slot has → HasKeys image (slot + 1) has
+unfolding HasKeys is_free
+keys-free image slot has free keys key =
+    keys key
+    ∙ sym (ap (λ (n : ℕ). is_some (first_below n (λ lower. is_shown image lower && key_eq (key_of image lower) key))) (add-one slot)
+    ∙ step-some (first_below slot (λ lower. is_shown image lower && key_eq (key_of image lower) key)) (is_shown image slot && key_eq (key_of image slot) key) slot
+    ∙ by (is_shown image slot) (is_some (first_below slot (λ lower. is_shown image lower && key_eq (key_of image lower) key))) free)
+  where
+    by : (shown some : Bool) → not shown ≡ true → (some || (shown && key_eq (key_of image slot) key)) ≡ some
+    by true some e = absurd (cc e)
+    by false true e = refl
+    by false false e = refl
+
+pub keys-live : (image : Image) (slot : ℕ) (has has' : Key → Bool) → is_shown image slot ≡ true
+    → ((key : Key) → has' key ≡ cond (is_at (key_cmp (key_of image slot)) key) true (has key)) → HasKeys image slot has → HasKeys image (slot + 1) has'
+unfolding HasKeys
+keys-live image slot has has' shown more keys key =
+    more key ∙ ap (λ (b : Bool). cond b true (has key)) (is_at-key (key_of image slot) key)
+    ∙ sym (ap (λ (n : ℕ). is_some (first_below n (λ lower. is_shown image lower && key_eq (key_of image lower) key))) (add-one slot)
+    ∙ step-some (first_below slot (λ lower. is_shown image lower && key_eq (key_of image lower) key)) (is_shown image slot && key_eq (key_of image slot) key) slot
+    ∙ by (is_shown image slot) (key_eq (key_of image slot) key) shown (is_some (first_below slot (λ lower. is_shown image lower && key_eq (key_of image lower) key))) (has key) (keys key))
+  where
+    by : (shown same : Bool) → shown ≡ true → (some had : Bool) → had ≡ some → (some || (shown && same)) ≡ cond same true had
+    by true true e true had is = refl
+    by true true e false had is = refl
+    by true false e true had is = sym is
+    by true false e false had is = sym is
+    by false same e some had is = absurd (cc e)
+
+-- a key seen before makes a second slot
+pub second-seen : (image : Image) (slot : ℕ) (has : Key → Bool) → HasKeys image slot has → is_second image slot ≡ has (key_of image slot)
+unfolding HasKeys
+second-seen image slot has keys = sym (keys (key_of image slot))
+
+-- ---- all slots
+
+pub free-none : (image : Image) → free_below image 0 ≡ []
+unfolding free_below
+free-none image = refl
+
+pub free-more : (image : Image) (slot : ℕ) → free_below image (slot + 1) ≡ free_below image slot ++ is_free image slot ∷ []
+unfolding free_below is_free
+free-more image slot = map-range_with_len_more (λ lower. not (is_shown image lower)) 0 slot slot (omega arith)
+
+pub bad-none : (image : Image) → bad_below image 0 ≡ None
+unfolding bad_below
+bad-none image = refl
+
+pub bad-more : (image : Image) (slot : ℕ) → bad_below image slot ≡ None → is_bad image slot ≡ false → bad_below image (slot + 1) ≡ None
+unfolding bad_below is_bad
+bad-more image slot none good = ap (λ (n : ℕ). first_below n (is_bad_slot image)) (add-one slot) ∙ (λ i. option_or (none i) (cond (good i) (Some slot) None))
+
+split : (k n : ℕ) → k < suc n → (k < n) ⊎ (k ≡ n)
+split zero zero h = inr refl
+split zero (suc n) h = inl (omega arith)
+split (suc k) zero h = absurd (omega (arith, h))
+split (suc k) (suc n) h = elim (split k n (omega (arith, h))) [ inl less ↦ inl (omega (arith, less)) | inr same ↦ inr (ap suc same) ]
+
+first_below-is : (n : ℕ) (test : ℕ → Bool) (k : ℕ) → k < n → first_below k test ≡ None → test k ≡ true → first_below n test ≡ Some k
+first_below-is zero test k h none passes = absurd (omega (arith, h))
+first_below-is (suc n) test k h none passes = elim (split k n h) [
+  | inl less ↦ let rest : first_below n test ≡ Some k = first_below-is n test k less none passes in rw rest refl
+  | inr same ↦ subst (λ (m : ℕ). option_or (first_below m test) (cond (test m) (Some m) None) ≡ Some k) same (λ i. option_or (none i) (cond (passes i) (Some k) None))
+]
+
+pub slots-memory : (layout : Layout) (image : Image) → IsSlotsFault layout image OutOfMemory
+unfolding IsSlotsFault
+slots-memory layout image = inl refl
+
+-- the lowest bad slot is told
+pub slots-visit : (layout : Layout) (image : Image) (slot : ℕ) (fault : Fault) → slot < layout.slots → bad_below image slot ≡ None → IsVisitFault image layout.places slot fault → IsSlotsFault layout image fault
+unfolding IsSlotsFault bad_below is_bad
+slots-visit layout image slot fault h none (inl memory) = inl memory
+slots-visit layout image slot fault h none (inr bad) =
+    inr (ap (option_map (λ s. Damaged (layout.places + s))) (first_below-is layout.slots (is_bad_slot image) slot h none bad.0) ∙ ap Some (sym bad.1))
+
+-- ---- what a device's words tell
+
+module _ (device : Device) (layout : Layout) (r : Record) (slot : ℕ) (size : device.words ≡ total_words layout) (under : IsUnder layout r (image_of device)) (h : slot < layout.slots) where
+  laid-out : layout_of (image_of device) ≡ layout
+  unfolding IsUnder
+  laid-out = under.0
+
+  one : layout.version ≡ 1
+  unfolding IsUnder
+  one = under.2
+
+  ruled : ruling (image_of device) ≡ r
+  unfolding IsUnder
+  ruled = under.1
+
+  pub no-long : r.longs ≡ []
+  unfolding IsUnder
+  no-long = under.3
+
+  length-image : length (image_of device) ≡ device.words
+  length-image = length-map-range_with_len (value_of device) 0 device.words
+
+  word-at : (word : ℕ) → word < device.words → get_or (image_of device) word 0 ≡ value_of device word
+  word-at word lt = get_or-map-range_with_len (value_of device) 0 device.words word word 0 lt (omega arith)
+
+  in-slot : (w : ℕ) → w < 8 → slot_start layout slot + w < device.words
+  in-slot w lt =
+      let wide : slot_words layout.version ≡ 8 = ap slot_words one in
+      let product : slot_words layout.version * (slot + 1) ≤ slot_words layout.version * layout.slots = mul-le-mul_left {m = slot + 1} {n = layout.slots} (slot_words layout.version) (omega arith) in
+      omega (arith, size, product, wide, lt)
+
+  pub word-same : (w : ℕ) → w < 8 → slot_word (image_of device) slot w ≡ slot_at layout slot (value_of device) w
+  word-same w lt = ap (λ (l : Layout). get_or (image_of device) (slot_start l slot + w) 0) laid-out ∙ word-at (slot_start layout slot + w) (in-slot w lt)
+
+  abbrev of_image : ℕ → ℕ
+  of_image = slot_word (image_of device) slot
+
+  wide-image : slot_words (layout_of (image_of device)).version ≡ 8
+  wide-image = ap (λ (l : Layout). slot_words l.version) laid-out ∙ ap slot_words one
+
+  within : slot < (layout_of (image_of device)).slots
+  within = omega (arith, h, ap (λ (l : Layout). l.slots) laid-out)
+
+  whole : total_words (layout_of (image_of device)) ≤ length (image_of device)
+  whole = omega (arith, length-image, size, ap total_words laid-out)
+
+  -- a version that the device's words hold is one that the image's words hold
+  held : (s : Slot) → IsSlot layout (slot_at layout slot (value_of device)) s → IsVersion (layout_of (image_of device)) (slot_word (image_of device) slot) s.version
+  held s is = record {
+    each = λ w low high.
+        let lt : w < 8 = omega (arith, high, wide-image) in
+        word-same w lt ∙ is.version.each w low (omega (arith, lt, ap slot_words one));
+    fits = subst (λ (l : Layout). Fits l s.version) (sym laid-out) is.version.fits;
+  }
+
+  fits-words : IsOrderly device → (w : ℕ) → get_or (image_of device) w 0 < 2 ^ 64
+  fits-words orderly w = by (cases_lt w device.words)
+    where
+      by : (w < device.words) ⊎ (device.words ≤ w) → get_or (image_of device) w 0 < 2 ^ 64
+      by (inl lt) = subst (λ (n : ℕ). n < 2 ^ 64) (sym (word-at w lt)) (orderly.fits w (value_of device w) (orderly.some w lt))
+      by (inr ge) = subst (λ (n : ℕ). n < 2 ^ 64) (sym (get_or_past (image_of device) w 0 (omega (arith, ge, length-image)))) (lit< tt)
+
+  -- where nothing can be read, the words hold no version
+  none-held : IsOrderly device → ((s : Slot) → IsSlot layout (slot_at layout slot (value_of device)) s → ⊥) → is_ill_formed (image_of device) slot ≡ true
+  none-held orderly none = by (is_ill_formed (image_of device) slot) refl
+    where
+      by : (b : Bool) → is_ill_formed (image_of device) slot ≡ b → is_ill_formed (image_of device) slot ≡ true
+      by true is = is
+      by false is =
+          let image = image_of device in
+          let version = holds_version image slot within whole (ap (λ (l : Layout). l.version) laid-out ∙ one) (fits-words orderly) is in
+          absurd (none (record { begin = slot_at layout slot (value_of device) 0; end = slot_at layout slot (value_of device) 1; version = version_of image slot })
+          (record {
+            begin = refl;
+            end = refl;
+            version = record {
+              each = λ w low high.
+                  let lt : w < 8 = omega (arith, high, ap slot_words one) in
+                  sym (word-same w lt) ∙ version.each w low (omega (arith, lt, wide-image));
+              fits = subst (λ (l : Layout). Fits l (version_of image slot)) laid-out version.fits;
+            };
+          }))
+
+  choose : (ahead shown ill : Bool) (key : Key) → is_ahead (image_of device) slot ≡ ahead → is_shown (image_of device) slot ≡ shown → is_ill_formed (image_of device) slot ≡ ill → key_of (image_of device) slot ≡ key
+      → found_in (image_of device) slot ≡ cond ahead Bad (cond shown (cond ill Bad (Live key)) Free)
+  unfolding found_in
+  choose ahead shown ill key a s i k = λ j. cond (a j) Bad (cond (s j) (cond (i j) Bad (Live (k j))) Free)
+
+  module _ (begin end : ℕ) (begin-is : begin ≡ slot_at layout slot (value_of device) 0) (end-is : end ≡ slot_at layout slot (value_of device) 1) where
+    begin-same : begin_of (image_of device) slot ≡ begin
+    begin-same = word-same 0 (lit< tt) ∙ sym begin-is
+
+    end-same : end_of (image_of device) slot ≡ end
+    end-same = word-same 1 (lit< tt) ∙ sym end-is
+
+    ahead-is : is_ahead (image_of device) slot ≡ (nat_le r.dirty begin || nat_le r.dirty end)
+    ahead-is = λ i. nat_le (ruled i).dirty (begin-same i) || nat_le (ruled i).dirty (end-same i)
+
+    shown-is : is_shown (image_of device) slot ≡ (is_committed r begin && not (is_committed r end))
+    shown-is = λ i. is_committed (ruled i) (begin-same i) && not (is_committed (ruled i) (end-same i))
+
+    pub look-ahead : (r.dirty ≤ begin) ⊎ (r.dirty ≤ end) → Bad ≡ found_in (image_of device) slot
+    look-ahead far = sym (choose true _ _ _ (ahead-is ∙ by (nat_le r.dirty begin) (nat_le r.dirty end) far refl refl) refl refl refl)
+      where
+        by : (a b : Bool) → (r.dirty ≤ begin) ⊎ (r.dirty ≤ end) → nat_le r.dirty begin ≡ a → nat_le r.dirty end ≡ b → (a || b) ≡ true
+        by true b far ea eb = refl
+        by false true far ea eb = refl
+        by false false (inl le) ea eb = sym ea ∙ le-leb r.dirty begin le
+        by false false (inr le) ea eb = sym eb ∙ le-leb r.dirty end le
+
+    near : begin < r.dirty → end < r.dirty → is_ahead (image_of device) slot ≡ false
+    near b e = ahead-is ∙ (λ i. lt-leb r.dirty begin b i || lt-leb r.dirty end e i)
+
+    pub look-free : begin < r.dirty → end < r.dirty → (is_committed r begin && not (is_committed r end)) ≡ false → Free ≡ found_in (image_of device) slot
+    look-free b e not_shown = sym (choose false false _ _ (near b e) (shown-is ∙ not_shown) refl refl)
+
+    pub look-live : begin < r.dirty → end < r.dirty → (is_committed r begin && not (is_committed r end)) ≡ true → (s : Slot) → IsSlot layout (slot_at layout slot (value_of device)) s → Live s.version.key ≡ found_in (image_of device) slot
+    look-live b e shown s is =
+        sym (choose false true false s.version.key (near b e) (shown-is ∙ shown) (well_formed (image_of device) slot within whole s.version (held s is)) (key_is (image_of device) slot within whole s.version (held s is)))
+
+    pub look-bad : IsOrderly device → begin < r.dirty → end < r.dirty → (is_committed r begin && not (is_committed r end)) ≡ true → ((s : Slot) → IsSlot layout (slot_at layout slot (value_of device)) s → ⊥) → Bad ≡ found_in (image_of device) slot
+    look-bad orderly b e shown none = sym (choose false true true _ (near b e) (shown-is ∙ shown) (none-held orderly none) refl)

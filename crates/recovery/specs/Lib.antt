@@ -1,0 +1,4 @@
+pub mod Gaps
+pub mod Slots
+pub mod Opened
+pub mod Fresh

@@ -1,0 +1,65 @@
+-- The record that an opening writes, what it leaves alone, and what an opening gives.
+use Rattle.std.specs.Prelude.{◌≡◌, ◌⊎◌, ℕ, ◌+◌, ◌-◌, ◌*◌, ◌<◌, ◌≤◌, Bool, not, List, [], length, map, slice_index, Option, Some, None}
+use Rattle.std.specs.List.{range_with_len}
+use Rattle.base.specs.declared.gap.Gap.{Gap}
+use Rattle.base.specs.declared.fault.Fault.{Fault}
+use Rattle.base.specs.declared.fault.Fault.TheVariants.{OutOfMemory, Device as DeviceFault}
+use Rattle.base.specs.Layout.{Layout}
+use Rattle.base.specs.Records.{Record, opened_gaps}
+use Rattle.base.specs.Images.{Image, layout_of, ruling, opening_fault}
+use Rattle.pmem.specs.Device.{Device, value_of, image_of}
+use Rattle.log_area.specs.Rulings.{IsRuledBy, HoldsRecord, Holds, Makes}
+use Rattle.recovery.specs.Slots.{is_shown, free_below}
+
+-- the record that follows at an opening: what was drawn above the persisted timestamp is left out for good
+abbrev pub opened_record : Layout → Record → Record
+opened_record layout r = record {
+  gate = r.gate + 1;
+  persisted = r.dirty - 1;
+  dirty = r.dirty + layout.window;
+  gaps = opened_gaps r;
+  longs = [];
+}
+
+-- the words after the log area are the same
+pub record HasSlotsOf (before image : Image) : Type 0 where
+  pub size : length image ≡ length before
+  pub laid_out : layout_of image ≡ layout_of before
+  pub same : (word : ℕ) → 8 + 32 * (layout_of before).places ≤ word → slice_index image word ≡ slice_index before word
+
+-- the first fault, or want of memory
+unfoldable pub Refuses : Image → Fault → Type 0
+Refuses image fault = (opening_fault image ≡ Some fault) ⊎ (fault ≡ OutOfMemory)
+
+-- what is learnt of an image that opens
+pub record IsExamined (image : Image) (layout : Layout) (r : Record) (gaps : List Gap) (free : List Bool) : Type 0 where
+  pub opens : opening_fault image ≡ None
+  pub rules : IsRuledBy layout r image
+  pub gaps_are : gaps ≡ opened_gaps r
+  pub free_are : free ≡ free_below image layout.slots
+
+unfoldable pub Examined : Image → Layout → Record → List Gap → List Bool → Type 0
+Examined image layout r gaps free = IsExamined image layout r gaps free
+
+-- which slots are free at an opening: those that aren't live
+abbrev pub free_in : Image → List Bool
+free_in image = map (λ slot. not (is_shown image slot)) (range_with_len 0 (layout_of image).slots)
+
+-- The old device, at rest, was opened, and the new one is what that made of it: this record rules it, the slots are as
+-- they were, the next timestamp is the dirty one of the record that ruled before, and these slots are free
+pub record HasOpened (old new : Device) (layout : Layout) (r : Record) (next : ℕ) (free : List Bool) : Type 0 where
+  pub opens : opening_fault (image_of old) ≡ None
+  pub layout_is : layout ≡ layout_of (image_of old)
+  pub record_is : r ≡ opened_record (layout_of (image_of old)) (ruling (image_of old))
+  pub next_is : next ≡ (ruling (image_of old)).dirty
+  pub free_is : free ≡ free_in (image_of old)
+  pub holds : HoldsRecord layout r new
+  pub slots : (word : ℕ) → 8 + 32 * layout.places ≤ word → word < old.words → Holds new word (value_of old word)
+  pub made : Makes 32 5 2 old new
+
+-- Why an opening is refused: for its own reason or for want of memory, and then nothing was done to the device; or
+-- because an operation failed, where nothing spoke against it
+abbrev pub IsRefusal : Option Fault → Device → Device → Fault → Type 0
+IsRefusal reason old new fault =
+    (((reason ≡ Some fault) ⊎ (fault ≡ OutOfMemory)) × (new ≡ old))
+    ⊎ ((reason ≡ None) × (fault ≡ DeviceFault) × (old.failures < new.failures))

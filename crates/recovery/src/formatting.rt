@@ -1,0 +1,54 @@
+ghost use Rattle.std.specs.Prelude.{◌≡◌, ◌+◌, ◌/◌, ◌<◌, ℕ, IsTrue, IfErr, OnOk, OnErr};
+ghost use Rattle.base.specs.Layout.{is_in_limits, total_words};
+ghost use Rattle.pmem.specs.Device.{LeavesOnly, image_of};
+ghost use Rattle.log_area.specs.Rulings.{Holds, Makes};
+ghost use Rattle.recovery.specs.Fresh.{first_record, fresh_word, fresh_image, IsFormatting, IsFormatRefusal};
+
+use crate::clearing::clear;
+use base::fault::Fault;
+use base::gap::Gaps;
+use base::geometry::Geometry;
+use log_area::{FORMATTED, Record, set_word, write_geometry, write_record};
+use pmem::Pmem;
+
+/// Makes a new image of a device. A format that is stopped leaves what a crash before it could have left, an image that
+/// isn't formatted, or the new one.
+pub fn format<D: Pmem>(device: &mut D, geometry: Geometry) -> Result<(), Fault>
+    ensures refusal { IfErr result (IsFormatRefusal geometry (D.state device.old) (D.state device.new)) }
+    ensures made { OnOk result (Makes (total_words geometry + 33) (total_words geometry / 8 + 7) 6 (D.state device.old) (D.state device.new)) }
+    ensures settled { OnOk result ((word : ℕ) → word < total_words geometry → Holds (D.state device.new) word (fresh_word geometry word)) }
+    ensures image { OnOk result (image_of (D.state device.new) ≡ fresh_image geometry) }
+    ensures images { LeavesOnly (D.state device.old) (D.state device.new) (IsFormatting (D.state device.old) geometry) }
+{
+    if device.words() as u64 != geometry.words() {
+        return Err(Fault::BadGeometry);
+    }
+    match write_fresh(device, geometry) {
+        Ok(()) => Ok(()),
+        Err(fault) => Err(fault),
+    }
+}
+
+// The operations of a format, up to the first that fails.
+fn write_fresh<D: Pmem>(device: &mut D, geometry: Geometry) -> Result<(), Fault>
+    requires size { (D.state device.old).words ≡ total_words geometry }
+    requires limits { IsTrue (is_in_limits geometry) }
+    ensures fault { IfErr result (λ fault. fault ≡ Fault.Device) }
+    ensures failed { OnErr result ((D.state device.new).failures ≡ (D.state device.old).failures + 1) }
+    ensures made { OnOk result (Makes (total_words geometry + 33) (total_words geometry / 8 + 7) 6 (D.state device.old) (D.state device.new)) }
+    ensures settled { OnOk result ((word : ℕ) → word < total_words geometry → Holds (D.state device.new) word (fresh_word geometry word)) }
+    ensures images { LeavesOnly (D.state device.old) (D.state device.new) (IsFormatting (D.state device.old) geometry) }
+{
+    set_word(device, 0, 0)?;
+    clear(device)?;
+    write_record(device, geometry, first_record())?;
+    write_geometry(device, geometry)?;
+    let done = set_word(device, 0, FORMATTED)?;
+    Ok(done)
+}
+
+fn first_record() -> Record
+    ensures { result ≡ first_record }
+{
+    Record::new(1, 0, 1, Gaps::none())
+}

@@ -1,0 +1,14 @@
+//! Recovery: what an image that was found holds, how it is opened, and how a device is formatted.
+#![tactic(auto)]
+
+mod clearing;
+mod committed;
+mod examine;
+mod formatting;
+mod gaps;
+mod opening;
+mod slots;
+
+pub use formatting::format;
+pub use gaps::opened_gaps;
+pub use opening::{Life, Opened, open, open_device};

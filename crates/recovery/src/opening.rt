@@ -1,0 +1,127 @@
+ghost use Rattle.std.specs.Prelude.{◌≡◌, ◌+◌, ◌-◌, ◌*◌, ◌^◌, ◌<◌, ◌≤◌, ℕ, List, [], IfOk, IfErr, MatchResult};
+ghost use Rattle.base.specs.Commits.{Commit};
+ghost use Rattle.base.specs.Images.{opening_fault};
+ghost use Rattle.base.specs.Stands.{Stands};
+ghost use Rattle.base.specs.Openings.{StandsOpening};
+ghost use Rattle.pmem.specs.Device.{LeavesOnly, IsAtRest, image_of};
+ghost use Rattle.recovery.specs.Opened.{HasOpened, IsRefusal};
+
+use crate::examine::{Examined, examine};
+use base::fault::Fault;
+use base::gap::Gaps;
+use base::geometry::Geometry;
+use log_area::{Record, write_record};
+use pmem::Pmem;
+use std::alloc::Global;
+use std::thread::Threads;
+
+/// A device that was opened.
+#[derive(Drop)]
+pub struct Opened<D: Pmem> {
+    pub device: D,
+    pub geometry: Geometry,
+    /// The record that rules now.
+    pub ruling: Record,
+    /// The next timestamp to be drawn.
+    pub next: u64,
+    /// Whether each slot is free.
+    pub free: Vec<bool>,
+}
+
+/// Opens a device at rest, and gives it back where it is refused.
+pub fn open<R: Threads + Sync, D: Pmem + Drop + Send + Sync>(
+    rt: &R,
+    alloc: Global,
+    device: D,
+) -> Result<Opened<D>, (Fault, D)>
+    requires at_rest { IsAtRest (D.state device) }
+    ensures ok { IfOk result (λ opened. HasOpened (D.state device) (D.state opened.device) opened.geometry opened.ruling opened.next opened.free.items) }
+    ensures fault { IfErr result (λ e. IsRefusal (opening_fault (image_of (D.state device))) (D.state device) (D.state e.1) e.0) }
+
+    // A crash at any moment leaves the same history, under the record that ruled or the one that the opening writes.
+    // What was drawn and not covered is left out.
+    ensures images { (history drawn : List Commit) (next : ℕ) → Stands (image_of (D.state device)) history drawn next
+        → MatchResult result
+        (λ opened. LeavesOnly (D.state device) (D.state opened.device) (StandsOpening (image_of (D.state device)) history next))
+        (λ e. LeavesOnly (D.state device) (D.state e.1) (StandsOpening (image_of (D.state device)) history next)) }
+{
+    let mut device = device;
+    match open_device(alloc, &mut device) {
+        Ok(
+            Life {
+                geometry,
+                ruling,
+                next,
+                free,
+            },
+        ) => Ok(Opened {
+            device,
+            geometry,
+            ruling,
+            next,
+            free,
+        }),
+        Err(fault) => Err((fault, device)),
+    }
+}
+
+/// What an opening gives beside the device.
+#[derive(Drop)]
+pub struct Life {
+    pub geometry: Geometry,
+    pub ruling: Record,
+    pub next: u64,
+    pub free: Vec<bool>,
+}
+
+/// The same, of a device that stays where it is.
+pub fn open_device<D: Pmem>(alloc: Global, device: &mut D) -> Result<Life, Fault>
+    requires { IsAtRest (D.state device.old) }
+    ensures ok { IfOk result (λ life. HasOpened (D.state device.old) (D.state device.new) life.geometry life.ruling life.next life.free.items) }
+    ensures fault { IfErr result (IsRefusal (opening_fault (image_of (D.state device.old))) (D.state device.old) (D.state device.new)) }
+    ensures images { (history drawn : List Commit) (next : ℕ) → Stands (image_of (D.state device.old)) history drawn next
+        → LeavesOnly (D.state device.old) (D.state device.new) (StandsOpening (image_of (D.state device.old)) history next) }
+{
+    let found = match examine(alloc, device) {
+        Ok(found) => found,
+        Err(fault) => return Err(fault),
+    };
+    let target = next_record(found.geometry, found.ruling, found.gaps);
+    match write_record(device, found.geometry, target) {
+        Ok(()) => Ok(begun(found, target)),
+        Err(fault) => Err(fault),
+    }
+}
+
+fn begun(found: Examined, target: Record) -> Life
+    ensures { result ≡ record { geometry = found.geometry; ruling = target; next = found.ruling.dirty; free = found.free } }
+{
+    let next = found.ruling.dirty();
+    let Examined {
+        geometry,
+        ruling: _,
+        gaps: _,
+        free,
+    } = found;
+    Life {
+        geometry,
+        ruling: target,
+        next,
+        free,
+    }
+}
+
+// The record with which a life begins.
+fn next_record(geometry: Geometry, ruling: Record, gaps: Gaps) -> Record
+    requires dirty { 1 ≤ ruling.dirty }
+    requires limit { ruling.dirty + 2 * geometry.window < 2 ^ 62 }
+    requires gate { ruling.gate + 1 < 2 ^ 62 }
+    ensures { result ≡ record { gate = ruling.gate + 1; persisted = ruling.dirty - 1; dirty = ruling.dirty + geometry.window; gaps = gaps; longs = [] } }
+{
+    Record::new(
+        ruling.gate() + 1,
+        ruling.dirty() - 1,
+        ruling.dirty() + geometry.window(),
+        gaps,
+    )
+}
