@@ -1,0 +1,15 @@
+pub mod Refusals
+pub mod Steps
+pub mod Sessions
+pub mod Quiet
+pub mod Drawing
+pub mod Standing
+pub mod Committing
+pub mod Ticking
+pub mod Choosing
+pub mod Storing
+pub mod Stamped
+pub mod Placed
+pub mod Opening
+pub mod Finding
+pub mod Getting

@@ -1,0 +1,29 @@
+use Rattle.std.proofs.Common.{List, Bool, length, refl, ◌∙◌, ap}
+use Rattle.room.proofs.Opening.{shows-opened, free-counted, next-numbered}
+use Rattle.room.proofs.room.Room.open.Goals as goal
+
+pub invariant_of-result-in-Ok : goal.invariant_of-result-in-Ok
+invariant_of-result-in-Ok g c = record {
+  whole = c.in-Ok.ensures.ok.holds.stands.size;
+  counted = ap (λ (l : List Bool). length l) c.new.ensures ∙ free-counted _ _ _ _ _ _ c.in-Ok.ensures.ok;
+  fits = refl;
+  in_hand = refl;
+}
+
+pub returns-in-Ok-clause-ok : goal.returns-in-Ok-clause-ok
+returns-in-Ok-clause-ok g c = λ history drawn next lost stands. shows-opened g.D.Pmem.state _ _ _ history drawn next lost c.in-Ok.ensures.ok c.new.ensures refl refl refl refl stands
+
+pub returns-in-Ok-clause-may_open : goal.returns-in-Ok-clause-may_open
+returns-in-Ok-clause-may_open g c = c.in-Ok.ensures.ok.opens
+
+pub returns-in-Ok-clause-no_failure : goal.returns-in-Ok-clause-no_failure
+returns-in-Ok-clause-no_failure g c = c.in-Ok.ensures.ok.made.no_failures
+
+pub returns-in-Ok-clause-images : goal.returns-in-Ok-clause-images
+returns-in-Ok-clause-images g c = c.in-Ok.ensures.images
+
+pub returns-in-Err-clause-fault : goal.returns-in-Err-clause-fault
+returns-in-Err-clause-fault g c = c.in-Err.ensures.fault
+
+pub returns-in-Err-clause-images : goal.returns-in-Err-clause-images
+returns-in-Err-clause-images g c = c.in-Err.ensures.images

@@ -1,0 +1,45 @@
+use Rattle.std.proofs.Common.{◌≡◌, refl, sym, ◌∙◌}
+use Rattle.std.specs.Prelude.{Option, Some, None}
+use Rattle.base.specs.declared.step.Stage.{Stage}
+use Rattle.log_area.specs.Stages.{reached_by}
+use Rattle.room.proofs.Ticking.{MakesTick, writes, covers-last, tick-refused, under_way-of}
+use Rattle.room.proofs.room.Room.write_record.Goals as goal
+
+pub returns-in-Ok-Some : goal.returns-in-Ok-Some
+returns-in-Ok-Some g c = record {
+  step = λ q shown.
+      let made : MakesTick c.args.cycle.writing c.tick.new.self (g.D.Pmem.state c.args.self.now.device) (g.D.Pmem.state c.tick.new.device) = record {
+        under_way = under_way-of c.args.self.now.numbers.geometry c.args.self.now.cycle c.args.cycle c.args.self.now.in_hand c.requires.in_hand;
+        advances = c.in-Ok-Some.ensures.ok;
+        operation = c.in-Ok-Some.ensures.operation;
+        outside = c.tick.ensures.outside.kept;
+        replaces = c.tick.ensures.replaces;
+        done = c.tick.ensures.done;
+      } in
+      let reached : ◌≡◌ {A = Option Stage} (Some c.in-Ok-Some.stage) (reached_by c.args.cycle.writing.stage) = sym c.in-Ok-Some.field-0-is ∙ c.in-Ok-Some.ensures.reached in
+      writes g.D.Pmem.state c.args.self.now _ q c.args.cycle c.tick.new.self c.in-Ok-Some.stage (g.met.D.Pmem.orderly _) (g.met.D.Pmem.orderly _) shown c.requires.works c.requires.in_hand c.requires.stage
+      made reached refl refl refl refl refl refl;
+}
+
+pub returns-in-Ok-None : goal.returns-in-Ok-None
+returns-in-Ok-None g c = record {
+  step = λ q shown.
+      let made : MakesTick c.args.cycle.writing c.tick.new.self (g.D.Pmem.state c.args.self.now.device) (g.D.Pmem.state c.tick.new.device) = record {
+        under_way = under_way-of c.args.self.now.numbers.geometry c.args.self.now.cycle c.args.cycle c.args.self.now.in_hand c.requires.in_hand;
+        advances = c.in-Ok-None.ensures.ok;
+        operation = c.in-Ok-None.ensures.operation;
+        outside = c.tick.ensures.outside.kept;
+        replaces = c.tick.ensures.replaces;
+        done = c.tick.ensures.done;
+      } in
+      let reached : ◌≡◌ {A = Option Stage} None (reached_by c.args.cycle.writing.stage) = sym c.in-Ok-None.field-0-is ∙ c.in-Ok-None.ensures.reached in
+      covers-last g.D.Pmem.state c.args.self.now _ c.cover.new.self q c.args.cycle c.tick.new.self c.cover.result (g.met.D.Pmem.orderly _) (g.met.D.Pmem.orderly _) shown c.requires.works c.requires.in_hand c.requires.stage
+      made reached refl refl refl refl c.target.result c.target.ensures c.cover.ensures.room c.cover.ensures.reply;
+}
+
+pub returns-in-Err : goal.returns-in-Err
+returns-in-Err g c = record {
+  step = λ q shown.
+      tick-refused g.D.Pmem.state c.args.self.now _ c.fail.new.self q c.args.cycle c.fail.result (g.met.D.Pmem.orderly _) (g.met.D.Pmem.orderly _) shown c.requires.works c.requires.in_hand
+      c.in-Err.ensures.failure refl c.fail.ensures.room c.fail.ensures.reply;
+}

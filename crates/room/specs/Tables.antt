@@ -1,0 +1,20 @@
+-- What a lookup in the slots takes for granted.
+use Rattle.std.specs.Prelude.{◌≡◌, ℕ, Some}
+use Rattle.base.specs.declared.key.Key.{Key}
+use Rattle.base.specs.Layout.{Layout}
+use Rattle.base.specs.Records.{Record}
+use Rattle.base.specs.Machine.{State, present}
+use Rattle.pmem.specs.Device.{Device}
+use Rattle.invariant.specs.Kept.{IsKept, newest_of}
+use Rattle.invariant.specs.Slots.{SlotsHold}
+
+-- the state has this layout and this record, and the device's slots hold what it covers
+pub record HoldsTables (a : Layout) (ruling : Record) (device : Device) (q : State) : Type 0 where
+  pub layout : q.layout ≡ a
+  pub ruled : (present q).ruled_by ≡ ruling
+  pub kept : IsKept q
+  pub slots : SlotsHold q device
+
+-- the slot is that of the newest covered version of the key
+abbrev pub HasNewest : State → ℕ → Key → Type 0
+HasNewest q slot key = q.held slot ≡ Some (newest_of q key)

@@ -1,0 +1,79 @@
+ghost use Rattle.std.specs.Prelude.{◌≡◌, ◌^◌, ◌<◌, ◌≤◌, ◌&&◌, nat_le};
+ghost use Rattle.base.specs.Records.{is_in};
+
+use base::Ts;
+use base::gap::{Gap, Gaps};
+use base::geometry::Geometry;
+use log_area::Record;
+
+/// Timestamps and record numbers are below it.
+const LIMIT: u64 = 1 << 62;
+
+/// The layout, the record that rules, and the timestamp that is drawn next.
+#[derive(Clone, Copy)]
+pub struct Numbers {
+    pub geometry: Geometry,
+    pub record: Record,
+    pub next: Ts,
+    ghost countable: { next ≤ 2 ^ 62 },
+    ghost numbered: { record.gate < 2 ^ 62 },
+}
+
+impl Numbers {
+    ghost use Rattle.std.specs.Prelude.{◌+◌, ◌*◌, [], nat_eq};
+    ghost use Rattle.base.specs.Records.{is_committed};
+
+    /// Is no timestamp left that the record reserves?
+    pub fn is_window_full(&self) -> bool
+        ensures { result ≡ nat_eq self.now.next self.now.record.dirty }
+    {
+        self.next == self.record.dirty()
+    }
+
+    /// Would the window after the next one reach past the last timestamp?
+    pub fn is_near_limit(&self) -> bool
+        ensures { result ≡ nat_le (2 ^ 62) (self.now.next + 2 * self.now.geometry.window) }
+    {
+        LIMIT <= self.next + 2 * self.geometry.window()
+    }
+
+    /// Is the record that rules the last one that has a number?
+    pub fn is_last_record(&self) -> bool
+        ensures { result ≡ nat_le (2 ^ 62) (self.now.record.gate + 1) }
+    {
+        LIMIT <= self.record.gate() + 1
+    }
+
+    /// Does the ruling record commit the timestamp?
+    pub fn commits(&self, timestamp: Ts) -> bool
+        ensures { self.now.record.longs ≡ [] → result ≡ is_committed self.now.record timestamp }
+    {
+        1 <= timestamp
+            && timestamp <= self.record.persisted()
+            && !is_in(self.record.gaps(), timestamp)
+    }
+
+    /// The next record, which persists up to this timestamp and reserves a window.
+    pub fn record_after(&self, persisted: Ts) -> Record
+        ensures { result ≡ record { gate = self.now.record.gate + 1; persisted = persisted; dirty = self.now.next + self.now.geometry.window; gaps = self.now.record.gaps; longs = [] } }
+    {
+        Record::new(
+            self.record.gate() + 1,
+            persisted,
+            self.next + self.geometry.window(),
+            self.record.gaps(),
+        )
+    }
+}
+
+fn is_in(gaps: Gaps, timestamp: Ts) -> bool
+    ensures { result ≡ is_in gaps timestamp }
+{
+    gaps.as_slice().iter().any(|gap| holds(*gap, timestamp))
+}
+
+fn holds(gap: Gap, timestamp: Ts) -> bool
+    ensures { result ≡ (nat_le gap.first timestamp && nat_le timestamp gap.last) }
+{
+    gap.first <= timestamp && timestamp <= gap.last
+}
