@@ -1,0 +1,127 @@
+use base::fault::Fault;
+use base::gap::Gap;
+use base::geometry::Geometry;
+use base::key::Key;
+use base::row::Row;
+use base::step::{Note, Reply, Stage, Step};
+use pmem::Pmem;
+use pmem_model::SimPmem;
+use recovery::format;
+use room::Room;
+use std::alloc::Global;
+use std::process::Abort;
+use std::thread::Threads;
+
+/// The key of the worked images.
+pub const KEY: Key = Key { table: 1, key: 7 };
+
+/// A device that was formatted with 4 slots, 2 places and a window of 8.
+pub fn formatted(alloc: Global) -> Result<SimPmem, Fault> {
+    let geometry = Geometry::new(4, 2, 8)?;
+    let mut device = SimPmem::from_words(alloc, &[0; 104])?;
+    format(&mut device, geometry)?;
+    Ok(device)
+}
+
+/// The same after a restart: no operation is counted.
+pub fn fresh(alloc: Global) -> Result<SimPmem, Fault> {
+    SimPmem::from_words(alloc, &formatted(alloc)?.image()?)
+}
+
+/// The room of a device that is at rest.
+pub fn opened<R: Threads + Sync + Abort>(
+    rt: &R,
+    alloc: Global,
+    device: SimPmem,
+) -> Result<Room<SimPmem>, Fault> {
+    assert!(rt; device.at_rest());
+    match Room::open(rt, alloc, device) {
+        Ok(room) => Ok(room),
+        Err((fault, _device)) => Err(fault),
+    }
+}
+
+/// How many operations the device made.
+pub fn operations(device: &SimPmem) -> u128 {
+    let made = device.operations();
+    made.stores as u128 + made.flushes as u128 + made.fences as u128
+}
+
+pub fn word(rt: &impl Abort, device: &SimPmem, word: usize) -> u64 {
+    assert!(rt; word < device.words());
+    device.load(word)
+}
+
+/// The gate, the persisted, the dirty and the next timestamp, and the gaps.
+pub fn assert_numbers(
+    rt: &impl Abort,
+    room: &Room<SimPmem>,
+    numbers: (u64, u64, u64, u64),
+    gaps: &[Gap],
+) {
+    let status = room.status();
+    assert_eq!(rt;
+        (status.gate, status.persisted, status.dirty, status.next),
+        numbers
+    );
+    assert_eq!(rt; status.gaps.as_slice(), gaps);
+}
+
+/// Makes a step, and notes its reply.
+pub fn step(room: &mut Room<SimPmem>, step: Step) -> Note {
+    match room.step(step) {
+        Reply::Began(session) => Note::Began(session),
+        Reply::Row(row) => Note::Row(row),
+        Reply::Done => Note::Done,
+        Reply::Drawn(timestamp) => Note::Drawn(timestamp),
+        Reply::More => Note::More,
+        Reply::Stamped => Note::Stamped,
+        Reply::Waiting => Note::Waiting,
+        Reply::Committed(timestamp) => Note::Committed(timestamp),
+        Reply::Idle => Note::Idle,
+        Reply::Ticked(stage) => Note::Ticked(stage),
+        Reply::Covered(batch) => Note::Covered(batch.stamp()),
+        Reply::Refused(fault) => Note::Refused(fault),
+    }
+}
+
+/// A transaction that writes the row, up to its stamp.
+pub fn stamp(rt: &impl Abort, room: &mut Room<SimPmem>, key: Key, row: Row, timestamp: u64) {
+    let session = 2;
+    assert_eq!(rt; step(room, Step::Begin), Note::Began(2));
+    assert_eq!(rt; step(room, Step::Put { session, key, row }), Note::Done);
+    assert_eq!(rt; step(room, Step::Draw { session }), Note::Drawn(timestamp));
+    assert_eq!(rt; step(room, Step::Stamp { session }), Note::Stamped);
+}
+
+/// The first tick of a cycle takes the commit, and each of the others up to that many goes on.
+pub fn tick(rt: &impl Abort, room: &mut Room<SimPmem>, ticks: usize) {
+    assert_eq!(rt; step(room, Step::Commit), Note::Ticked(Stage::Chosen));
+    for made in 1..ticks {
+        let note = step(room, Step::Commit);
+        assert!(rt; matches!(note, Note::Ticked(_)), "tick {made}");
+    }
+}
+
+/// A cycle of 42 ticks, that covers with this stamp, and the end of the session.
+pub fn cover(rt: &impl Abort, room: &mut Room<SimPmem>, stamp: u64, timestamp: u64) {
+    let session = 2;
+    tick(rt, room, 41);
+    assert_eq!(rt; step(room, Step::Commit), Note::Covered(stamp));
+    for _ in 0..2 {
+        assert_eq!(rt;
+            step(room, Step::Poll { session }),
+            Note::Committed(timestamp)
+        );
+    }
+    assert_eq!(rt; step(room, Step::End { session }), Note::Done);
+}
+
+/// What a new session reads.
+pub fn assert_row(rt: &impl Abort, room: &mut Room<SimPmem>, key: Key, row: Option<Row>) {
+    let session = 2;
+    assert_eq!(rt; step(room, Step::Begin), Note::Began(2));
+    assert_eq!(rt; step(room, Step::Get { session, key }), Note::Row(row));
+    assert_eq!(rt; step(room, Step::Draw { session }), Note::Done);
+    assert_eq!(rt; step(room, Step::End { session }), Note::Done);
+}
