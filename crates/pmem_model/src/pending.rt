@@ -1,4 +1,4 @@
-ghost use Rattle.std.specs.Prelude.{◌≡◌, ◌≢◌, ℕ, ◌+◌, ◌*◌, ◌/◌, ◌<◌, ◌≤◌, true, if◌then◌else◌, nat_le, IsTrue, IfOk, length, slice_index, vec_len};
+ghost use Rattle.std.specs.Prelude.{◌≡◌, ◌≢◌, ℕ, ◌*◌, ◌/◌, ◌<◌, true, if◌then◌else◌, nat_le, IsTrue, IfOk, length, slice_index, vec_len};
 ghost use Rattle.pmem_model.specs.Listing.{IsListing, IsTracked, is_listed, is_pending};
 ghost use Rattle.pmem.specs.Device.{persisted};
 ghost use Rattle.pmem_model.specs.Log.{history_in, room_in};
@@ -74,6 +74,7 @@ impl Pending {
 
     /// Nothing is pending for the actor any more.
     pub fn clear(&mut self, actor: Actor)
+        ensures cleared { slice_index self.new.counts actor.number ≡ 0 }
         ensures others { (other : ℕ) (at : ℕ) → other ≢ actor.number
             → is_pending self.old.room self.old.counts self.old.listed.items other at ≡ true
             → is_pending self.new.room self.new.counts self.new.listed.items other at ≡ true }
