@@ -4,7 +4,7 @@ use Rattle.std.specs.Prelude.{Option, Some, None, IsTrue, if◌then◌else◌}
 use Rattle.base.specs.declared.fault.Fault.{Fault}
 use Rattle.base.specs.declared.fault.Fault.TheVariants.{Device}
 use Rattle.base.specs.declared.step.Step.{Step}
-use Rattle.base.specs.declared.step.Step.TheVariants.{Begin, Get, Put, Draw, Stamp, Poll, End, Commit as CommitTick}
+use Rattle.base.specs.declared.step.Step.TheVariants.{Begin, Get, Put, Delete, Draw, Stamp, Poll, Abort, End, Commit as CommitTick}
 use Rattle.base.specs.declared.step.Stage.{Stage}
 use Rattle.base.specs.declared.step.Stage.TheVariants.{Chosen}
 use Rattle.base.specs.declared.step.Reply.{Reply}
@@ -58,9 +58,11 @@ extends-next : (q : State) (step : Step) → Extends q.history (next_state q ste
 extends-next q Begin = ([], none_more q.history)
 extends-next q (Get n key) = ([], none_more q.history)
 extends-next q (Put n key row) = ([], none_more q.history)
+extends-next q (Delete n key) = ([], none_more q.history)
 extends-next q (Draw n) = extends-drawn q n (writes_of (q.sessions n))
 extends-next q (Stamp n) = ([], none_more q.history)
 extends-next q (Poll n) = ([], none_more q.history)
+extends-next q (Abort n) = ([], none_more q.history)
 extends-next q (End n) = ([], none_more q.history)
 extends-next q CommitTick = extends-ticked q q.hand
 
@@ -165,9 +167,11 @@ next-rise : (q : State) (step : Step) (reply : Reply) → Answers q step reply �
 next-rise q Begin reply a = along q reply _ (next_state q Begin) a (omega arith)
 next-rise q (Get n key) reply a = along q reply _ (next_state q (Get n key)) a (omega arith)
 next-rise q (Put n key row) reply a = along q reply _ (next_state q (Put n key row)) a (omega arith)
+next-rise q (Delete n key) reply a = along q reply _ (next_state q (Delete n key)) a (omega arith)
 next-rise q (Draw n) reply a = along q reply _ (next_state q (Draw n)) a (drawn-rise q n (writes_of (q.sessions n)))
 next-rise q (Stamp n) reply a = along q reply _ (next_state q (Stamp n)) a (same-rise q _ (next_state q (Stamp n)) (either_none (is_last_stamp q n) Stamped More refl refl, refl))
 next-rise q (Poll n) reply a = along q reply _ q a (same-rise q _ q (polled_none q (q.sessions n), refl))
+next-rise q (Abort n) reply a = along q reply _ (next_state q (Abort n)) a (omega arith)
 next-rise q (End n) reply a = along q reply _ (next_state q (End n)) a (omega arith)
 next-rise q CommitTick reply a = along q reply _ (next_state q CommitTick) a (same-rise q _ (next_state q CommitTick) (ticked-same q q.hand))
 

@@ -4,7 +4,7 @@ use Rattle.std.specs.Prelude.{Option, Some, None}
 use Rattle.base.specs.declared.fault.Fault.{Fault}
 use Rattle.base.specs.declared.fault.Fault.TheVariants.{OutOfMemory, Device}
 use Rattle.base.specs.declared.step.Step.{Step}
-use Rattle.base.specs.declared.step.Step.TheVariants.{Begin, Get, Put, Draw, Stamp, Poll, End, Commit as CommitTick}
+use Rattle.base.specs.declared.step.Step.TheVariants.{Begin, Get, Put, Delete, Draw, Stamp, Poll, Abort, End, Commit as CommitTick}
 use Rattle.base.specs.declared.step.Reply.{Reply}
 use Rattle.base.specs.declared.step.Reply.TheVariants.{Refused}
 use Rattle.base.specs.Machine.{State, refusal, next_state, Answers, Stepped, refused, answered, memory_refused, device_failed, Run, final}
@@ -14,9 +14,11 @@ accepted : (q : State) (step : Step) → refusal q step ≡ None → Stepped q s
 accepted q Begin e = answered e refl refl
 accepted q (Get n key) e = answered e refl refl
 accepted q (Put n key row) e = answered e refl refl
+accepted q (Delete n key) e = answered e refl refl
 accepted q (Draw n) e = answered e refl refl
 accepted q (Stamp n) e = answered e refl refl
 accepted q (Poll n) e = answered e refl refl
+accepted q (Abort n) e = answered e refl refl
 accepted q (End n) e = answered e refl refl
 accepted q CommitTick e = answered e refl refl
 
@@ -38,9 +40,11 @@ answers-answer : (q : State) (step : Step) (reply : Reply) → Answers q step re
 answers-answer q Begin reply a = a
 answers-answer q (Get n key) reply a = a
 answers-answer q (Put n key row) reply a = a
+answers-answer q (Delete n key) reply a = a
 answers-answer q (Draw n) reply a = a
 answers-answer q (Stamp n) reply a = a
 answers-answer q (Poll n) reply a = a
+answers-answer q (Abort n) reply a = a
 answers-answer q (End n) reply a = a
 answers-answer q CommitTick reply a = a
 

@@ -6,7 +6,7 @@ use Rattle.std.proofs.lemmas.Bool.{ne_eqb}
 use Rattle.std.proofs.lemmas.List.Elements.{All-nil, All-cons, All-append, All-take, All-map, All-filter, All-weaker, All-contains, All-same, All-head, All-tail, filter_passes}
 use Rattle.base.specs.declared.fault.Fault.{Fault}
 use Rattle.base.specs.declared.step.Step.{Step}
-use Rattle.base.specs.declared.step.Step.TheVariants.{Begin, Get, Put, Draw, Stamp, Poll, End, Commit as CommitTick}
+use Rattle.base.specs.declared.step.Step.TheVariants.{Begin, Get, Put, Delete, Draw, Stamp, Poll, Abort, End, Commit as CommitTick}
 use Rattle.base.specs.declared.step.Stage.{Stage}
 use Rattle.base.specs.declared.step.Reply.{Reply}
 use Rattle.base.specs.Commits.{Commit, Writes}
@@ -101,6 +101,7 @@ unfolding Kept
 kept-next from q Begin f = (record { le = f.le; drawn = f.drawn; hand = f.hand }, ([], sym (append-nil q.history), All-nil (Within from q.next)))
 kept-next from q (Get n key) f = (f, none_more from q)
 kept-next from q (Put n key row) f = (record { le = f.le; drawn = f.drawn; hand = f.hand }, ([], sym (append-nil q.history), All-nil (Within from q.next)))
+kept-next from q (Delete n key) f = (record { le = f.le; drawn = f.drawn; hand = f.hand }, ([], sym (append-nil q.history), All-nil (Within from q.next)))
 kept-next from q (Draw n) f = by (writes_of (q.sessions n))
   where
     by : (writes : Writes) → Fresh from (state_drawn q n writes) × Grows from q (state_drawn q n writes)
@@ -116,6 +117,7 @@ kept-next from q (Stamp n) f =
       ([], sym (append-nil q.history), All-nil (Within from q.next)),
     )
 kept-next from q (Poll n) f = (f, none_more from q)
+kept-next from q (Abort n) f = (record { le = f.le; drawn = f.drawn; hand = f.hand }, ([], sym (append-nil q.history), All-nil (Within from q.next)))
 kept-next from q (End n) f = (record { le = f.le; drawn = f.drawn; hand = f.hand }, ([], sym (append-nil q.history), All-nil (Within from q.next)))
 kept-next from q CommitTick f = kept-ticked from q q.hand f f.hand
 

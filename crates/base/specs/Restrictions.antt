@@ -7,10 +7,6 @@ use Rattle.base.specs.declared.gap.Gap.{Gap}
 abbrev pub most_sessions : ℕ
 most_sessions = 1
 
--- how many keys a transaction may write; 32 from the stage of version slots on
-abbrev pub most_writes : ℕ
-most_writes = 1
-
 -- how many commits a batch takes; as many as follow one another from the stage of group commit on
 abbrev pub most_in_batch : ℕ
 most_in_batch = 1

@@ -1,13 +1,15 @@
 -- Worked runs of the plain machine, with four slots, two places and a window of eight unless said.
-use Rattle.std.specs.Prelude.{ℕ, ◌≡◌, true, List, [], ◌∷◌, ◌++◌, map, replicate, Some, None}
+use Rattle.std.specs.Prelude.{ℕ, ◌≡◌, true, false, List, [], ◌∷◌, ◌++◌, map, replicate, Some, None}
+use Rattle.std.specs.List.{range_with_len}
 use Rattle.base.specs.declared.key.Key.{Key}
 use Rattle.base.specs.declared.fault.Fault.TheVariants.{Device, Failed, Conflict, WindowFull, SlotsOut, SessionsFull, WriteSetFull, NoSession, WrongState, TimestampsOut}
 use Rattle.base.specs.declared.step.Step.{Step}
-use Rattle.base.specs.declared.step.Step.TheVariants.{Begin, Get, Put, Draw, Stamp, Poll, End, Commit as CommitTick}
+use Rattle.base.specs.declared.step.Step.TheVariants.{Begin, Get, Put, Delete, Draw, Stamp, Poll, Abort, End, Commit as CommitTick}
 use Rattle.base.specs.declared.step.Stage.TheVariants.{Chosen, LineFlushed, LinesFenced, BodyStored, BodyFlushed, BodyFenced, GateStored, GateFlushed}
 use Rattle.base.specs.declared.step.Reply.{Reply}
-use Rattle.base.specs.declared.step.Reply.TheVariants.{Began, Row, Done, Drawn as DrewAs, Stamped, Waiting, Committed, Idle, Ticked, Covered, Refused}
-use Rattle.base.specs.Machine.{State, Active, BySession, ByCommit, replaced, Stepped, most_operations, refusal, present, closed}
+use Rattle.base.specs.declared.step.Reply.TheVariants.{Began, Row, Done, Drawn as DrewAs, More, Stamped, Waiting, Committed, Idle, Ticked, Covered, Refused}
+use Rattle.base.specs.Commits.{after}
+use Rattle.base.specs.Machine.{State, Active, BySession, ByCommit, replaced, Stepped, most_operations, operates, refusal, present, closed}
 use Rattle.base.specs.Openings.{opened}
 use Rattle.base.specs.Replay.{replies, end}
 use Rattle.base.specs.WorkedImages.{with_words, formatted_image, covered_image, stamped_image, half_written_image, key_7, ab, commit_1, gap, record_of}
@@ -105,12 +107,57 @@ pub record CloseThenOpen : Type 0 where
   pub covers_hand : (closed (end inserted (ticks 20))) ≡ record { ruled_by = record_of 4 1 2 []; commits = commit_1 ∷ [] }
   pub opens : numbers (opened (with_words ((8, 4) ∷ (9, 1) ∷ (10, 2) ∷ []) covered_image) (commit_1 ∷ []) [] []) ≡ 5 ∷ 1 ∷ 10 ∷ 2 ∷ []
 
--- what the first stages refuse: a second session, a second key, and a key that has a row
+-- an update of key 7, which is there
+abbrev pub updated : State
+updated = end committed (End 2 ∷ Begin ∷ Put 2 key_7 [] ∷ Draw 2 ∷ Stamp 2 ∷ [])
+
+-- a commit that deletes key 7 and inserts key 8
+abbrev pub two_keys : State
+two_keys = end committed (End 2 ∷ Begin ∷ Put 2 key_8 ab ∷ Delete 2 key_7 ∷ Draw 2 ∷ Stamp 2 ∷ Stamp 2 ∷ [])
+
+-- a key of another table
+abbrev pub numbered_key : ℕ → Key
+numbered_key n = record { table = 2; key = n }
+
+-- a session that has deleted thirty-two keys
+abbrev pub with_32_keys : State
+with_32_keys = end start (Begin ∷ map (λ n. Delete 2 (numbered_key n)) (range_with_len 0 32))
+
+-- what the first stages refuse: a second session
 pub record Restricted : Type 0 where
   pub one_session : replies start (Begin ∷ Begin ∷ Get 3 key_7 ∷ Stamp 2 ∷ End 2 ∷ Draw 2 ∷ Begin ∷ End 2 ∷ Begin ∷ [])
       ≡ Began 2 ∷ Refused SessionsFull ∷ Refused NoSession ∷ Refused WrongState ∷ Refused WrongState ∷ Done ∷ Refused SessionsFull ∷ Done ∷ Began 2 ∷ []
-  pub one_key : replies start (Begin ∷ Put 2 key_7 [] ∷ Put 2 key_8 [] ∷ Put 2 key_7 ab ∷ Get 2 key_7 ∷ []) ≡ Began 2 ∷ Done ∷ Refused WriteSetFull ∷ Done ∷ Row (Some ab) ∷ []
-  pub no_row : replies committed (End 2 ∷ Begin ∷ Put 2 key_7 [] ∷ Put 2 key_8 [] ∷ Put 2 key_7 [] ∷ []) ≡ Done ∷ Began 2 ∷ Refused WrongState ∷ Done ∷ Refused WrongState ∷ []
+
+-- a transaction sees what it wrote and what it deleted; a deletion of what never was is a commit, without a slot or a line
+pub record OwnWrites : Type 0 where
+  pub sees : replies start (Begin ∷ Put 2 key_7 ab ∷ Get 2 key_7 ∷ Delete 2 key_7 ∷ Get 2 key_7 ∷ Draw 2 ∷ Stamp 2 ∷ []) ≡ Began 2 ∷ Done ∷ Row (Some ab) ∷ Done ∷ Row None ∷ DrewAs 1 ∷ Stamped ∷ []
+  pub gives_back : (end start (Begin ∷ Put 2 key_7 ab ∷ Delete 2 key_7 ∷ [])).held 0 ≡ None
+  pub operations : operates (end start (Begin ∷ Delete 2 key_7 ∷ Draw 2 ∷ [])) (Stamp 2) ≡ false
+  pub covers : last_reply (replies start (Begin ∷ Delete 2 key_7 ∷ Draw 2 ∷ Stamp 2 ∷ ticks 41))
+      ≡ Covered (record { from = 2; stamp = 3; persisted = 1; commits = record { timestamp = 1; writes = (key_7, None) ∷ [] } ∷ [] })
+
+-- an update takes a slot of its own, and the version that it replaces keeps its slot; its cycle has two lines
+pub record Update : Type 0 where
+  pub puts : replies committed (End 2 ∷ Begin ∷ Put 2 key_7 [] ∷ Get 2 key_7 ∷ Draw 2 ∷ Stamp 2 ∷ []) ≡ Done ∷ Began 2 ∷ Done ∷ Row (Some []) ∷ DrewAs 2 ∷ Stamped ∷ []
+  pub takes_slot_1 : updated.held 1 ≡ Some (record { key = key_7; writer = ByCommit 2 })
+  pub keeps_slot_0 : (end updated (ticks 43)).held 0 ≡ Some (record { key = key_7; writer = ByCommit 1 })
+  pub covers : (numbers (end updated (ticks 43)) ≡ 4 ∷ 2 ∷ 11 ∷ 3 ∷ []) × (after (end updated (ticks 43)).history key_7 ≡ Some [])
+
+-- two keys in one commit, a deletion and an insertion, stamped one by one in order of the keys
+pub record TwoKeys : Type 0 where
+  pub stamps : replies committed (End 2 ∷ Begin ∷ Put 2 key_8 ab ∷ Delete 2 key_7 ∷ Draw 2 ∷ Stamp 2 ∷ Stamp 2 ∷ Stamp 2 ∷ []) ≡ Done ∷ Began 2 ∷ Done ∷ Done ∷ DrewAs 2 ∷ More ∷ Stamped ∷ Refused WrongState ∷ []
+  pub covers : last_reply (replies two_keys (ticks 43)) ≡ Covered (record { from = 3; stamp = 4; persisted = 2; commits = record { timestamp = 2; writes = (key_7, None) ∷ (key_8, Some ab) ∷ [] } ∷ [] })
+  pub reads : replies (end two_keys (ticks 43)) (End 2 ∷ Begin ∷ Get 2 key_7 ∷ Get 2 key_8 ∷ []) ≡ Done ∷ Began 2 ∷ Row None ∷ Row (Some ab) ∷ []
+
+-- an abort gives back the slots and the number
+pub record AbortedWrites : Type 0 where
+  pub aborts : replies start (Begin ∷ Put 2 key_7 ab ∷ Put 2 key_8 ab ∷ Abort 2 ∷ Get 2 key_7 ∷ Begin ∷ Get 2 key_7 ∷ []) ≡ Began 2 ∷ Done ∷ Done ∷ Done ∷ Refused NoSession ∷ Began 2 ∷ Row None ∷ []
+  pub gives_back : map (end start (Begin ∷ Put 2 key_7 ab ∷ Put 2 key_8 ab ∷ Abort 2 ∷ [])).held (0 ∷ 1 ∷ []) ≡ None ∷ None ∷ []
+  pub drawn : replies start (Begin ∷ Put 2 key_7 ab ∷ Draw 2 ∷ Abort 2 ∷ []) ≡ Began 2 ∷ Done ∷ DrewAs 1 ∷ Refused WrongState ∷ []
+
+-- thirty-two keys, and no more; one of them may be written again
+pub record FullWriteSet : Type 0 where
+  pub refuses : replies with_32_keys (Put 2 key_8 ab ∷ Delete 2 key_8 ∷ Delete 2 (numbered_key 3) ∷ Get 2 (numbered_key 3) ∷ []) ≡ Refused WriteSetFull ∷ Refused WriteSetFull ∷ Done ∷ Row None ∷ []
 
 -- no slot is left
 pub record NoSlotLeft : Type 0 where

@@ -1,7 +1,7 @@
 //! Worked examples as theorems. The functions do nothing: the contract of each says what its title promises.
 
 ghost use Rattle.base.specs.WorkedImages.{FirstRunImages, DamagedImages, ReadImages, LongCommits};
-ghost use Rattle.base.specs.WorkedRuns.{FirstCommit, FailedFence, LostCommit, EmptyWriteSet, HalfWritten, CloseThenOpen, Restricted, NoSlotLeft, FirstCommitterWins, NoTimestampLeft};
+ghost use Rattle.base.specs.WorkedRuns.{FirstCommit, FailedFence, LostCommit, EmptyWriteSet, HalfWritten, CloseThenOpen, Restricted, OwnWrites, Update, TwoKeys, AbortedWrites, FullWriteSet, NoSlotLeft, FirstCommitterWins, NoTimestampLeft};
 
 /// The words of the images of a first run, and what they stand for.
 pub fn first_run_images()
@@ -56,6 +56,31 @@ pub fn close_then_open()
 /// What the first stages refuse.
 pub fn first_stage_limits()
     ensures { Restricted }
+{}
+
+/// A transaction sees what it wrote and deleted.
+pub fn own_writes()
+    ensures { OwnWrites }
+{}
+
+/// An update takes a slot of its own and leaves the version that it replaces in place.
+pub fn updated_row()
+    ensures { Update }
+{}
+
+/// A commit that deletes one key and inserts another.
+pub fn two_keys_in_one_commit()
+    ensures { TwoKeys }
+{}
+
+/// An abort gives back the slots and the session's number.
+pub fn aborted_transaction()
+    ensures { AbortedWrites }
+{}
+
+/// A transaction writes thirty-two keys, and no more.
+pub fn full_write_set()
+    ensures { FullWriteSet }
 {}
 
 /// A put without a free slot is refused and changes nothing.
