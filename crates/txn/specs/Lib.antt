@@ -1,0 +1,2 @@
+pub mod WriteSets
+pub mod Fixed
