@@ -12,9 +12,9 @@ use Rattle.base.specs.Commits.{Writes, after, writes_key, last_writer}
 use Rattle.base.specs.Records.{are_rising}
 use Rattle.base.specs.Machine.{State, Drew, WroteNothing, Drawn, Version, Writer, BySession, ByCommit, replaced, drawn_at, writes_of, is_by, by_commit, state_drawn, next_state}
 use Rattle.pmem.specs.Device.{Device}
-use Rattle.invariant.specs.Slots.{Filled, row_in, class_of_drawn, class_by, class_of_version, SlotsHold}
+use Rattle.invariant.specs.Slots.{Filled, row_in, is_key_stamped, class_of_drawn, class_by, class_of_version, SlotsHold}
 use Rattle.invariant.specs.Kept.{IsKept, version_by, newest_of}
-use Rattle.invariant.specs.Moves.{Carries}
+use Rattle.invariant.specs.Moves.{Carries, IsStampedBy, EndCarries}
 use Rattle.invariant.proofs.Moves.{ends-carry, slot-carries, shrinks-slot_refl}
 use Rattle.invariant.proofs.Lookups.{replaced-same, replaced-other}
 use Rattle.invariant.proofs.Keeping.{kept-with_session, slots-with_session}
@@ -196,6 +196,21 @@ carries-drawn q n write writes = record {
   waits = λ down key t drawn. inr (any-one_more (λ d. nat_eq d.commit.timestamp t && writes_key key d.commit) q.drawn (drawn_now q (write ∷ writes)) drawn);
 }
 
+-- it has stamped nothing
+end-drawn : (q : State) (n : ℕ) (write : Key × Option (List ℕ)) (writes : Writes) → IsKept q → (key : Key) → EndCarries q (state_drawn q n (write ∷ writes)) key
+end-drawn q n write writes kept key = record {
+  harmless = λ t drawn. inr (any-one_more (λ d. nat_eq d.commit.timestamp t && writes_key key d.commit) q.drawn (drawn_now q (write ∷ writes)) drawn);
+  stamped = λ t is. by_timestamp t is (cases_eq t q.next);
+}
+  where
+    by_timestamp : (t : ℕ) → IsStampedBy (state_drawn q n (write ∷ writes)) key t → (t ≡ q.next) ⊎ (t ≢ q.next) → IsStampedBy q key t
+    by_timestamp t is (inl same) =
+        let this : Some (drawn_now q (write ∷ writes)) ≡ Some is.0 = sym (ap (λ (u : ℕ). drawn_at (state_drawn q n (write ∷ writes)) u) same ∙ found-new q (write ∷ writes) kept) ∙ is.1 in
+        let d : drawn_now q (write ∷ writes) ≡ is.0 = cc this in
+        let not_yet : false ≡ true = ap (λ (d : Drawn). is_key_stamped d key) d ∙ is.2 in
+        absurd (cc not_yet)
+    by_timestamp t is (inr apart) = (is.0, sym (found-old q (write ∷ writes) t apart) ∙ is.1, is.2)
+
 class-drawn : (q : State) (n : ℕ) (write : Key × Option (List ℕ)) (writes : Writes) (o : Option Version) → writes_of (q.sessions n) ≡ write ∷ writes → IsKept q
     → ((t : ℕ) (k : Key) → o ≡ Some (version_by k (ByCommit t)) → t < q.next)
     → class_of_version (state_drawn q n (write ∷ writes)) (by_commit n q.next o) ≡ class_of_version q o
@@ -224,7 +239,7 @@ drawn-slots : (q : State) (n : ℕ) (write : Key × Option (List ℕ)) (writes :
 drawn-slots q n write writes device has_writes kept h = record {
   each = λ slot lt.
       slot-carries q (state_drawn q n (write ∷ writes)) device device slot (carries-drawn q n write writes)
-      (ends-carry q (state_drawn q n (write ∷ writes)) _ (carries-drawn q n write writes) (λ key t drawn. inr (any-one_more (λ d. nat_eq d.commit.timestamp t && writes_key key d.commit) q.drawn (drawn_now q (write ∷ writes)) drawn)))
+      (ends-carry q (state_drawn q n (write ∷ writes)) _ (λ key row is. end-drawn q n write writes kept key))
       (class-drawn q n write writes (q.held slot) has_writes kept (λ t k at. kept.before slot t k lt at))
       (shrinks-slot_refl q.layout device slot) (h.each slot lt);
 }

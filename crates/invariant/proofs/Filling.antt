@@ -8,7 +8,7 @@ use Rattle.pmem.proofs.Steps.{value-stored_same, value-stored_other, survives-st
 use Rattle.invariant.specs.Slots.{word_of, EachSurvivor, IsSettledAt, row_in, is_key_stamped, class_of_version, HoldsAs, IsWaiting, SlotHolds, SlotsHold}
 use Rattle.invariant.specs.Kept.{IsKept, version_by}
 use Rattle.invariant.specs.Moves.{ShrinksWord, ShrinksSlot, ShrinksOthers, IsCleared, IsStampedWith, IsSlotSettled}
-use Rattle.invariant.proofs.Moves.{within-slot, words-apart_within, shrinks-word_stored, shrinks-word_trans, each-shrinks, slots-but_one, slots-failed, slot-taking, slot-filling, slot-refilling}
+use Rattle.invariant.proofs.Moves.{within-slot, words-apart_within, shrinks-word_stored, each-shrinks, slots-but_one, slots-failed, slot-taking, slot-filling, slot-refilling}
 use Rattle.invariant.proofs.Stamping.{waits-unstamped, slot-stamping}
 
 -- ---- the begin is made 0
@@ -65,13 +65,6 @@ stamped-stored a device slot t begin = record {
     by_case : (x : ℕ) → ((word_of a slot 0 ≡ word_of a slot 0) × (x ≡ t)) ⊎ Survives device (word_of a slot 0) x → (x ≡ 0) ⊎ (x ≡ t)
     by_case x (inl new) = inr new.1
     by_case x (inr there) = inl (only-settled device (word_of a slot 0) x begin.settled there ∙ begin.holds)
-
-pub stamped-shrinks : {a : Layout} {old mid new : Device} {slot t : ℕ} → IsStampedWith a old mid slot t → ShrinksSlot a mid new slot → IsStampedWith a old new slot t
-stamped-shrinks {a} stamp shrinks = record {
-  begin = (shrinks.each 0 (within-slot a.version 0 (omega arith))).value ∙ stamp.begin;
-  survives = each-shrinks (shrinks.each 0 (within-slot a.version 0 (omega arith))) (λ x is. is) stamp.survives;
-  others = λ w one lt. shrinks-word_trans (stamp.others w one lt) (shrinks.each w lt);
-}
 
 -- ---- the begin of a version that waits is 0
 

@@ -1,8 +1,8 @@
 -- Histories, timestamps and drawn commits.
-use Rattle.std.proofs.Common.{◌||◌, ◌≡◌, ℕ, zero, suc, ◌<◌, ◌≤◌, Bool, true, false, cond, not, ◌&&◌, List, [], ◌∷◌, ◌++◌, fold, take, refl, ◌∙◌, ap, arith, Option, Some, None, find, unwrap_or, slice_get}
+use Rattle.std.proofs.Common.{◌||◌, ◌≡◌, ℕ, zero, suc, ◌<◌, ◌≤◌, Bool, true, false, cond, not, ◌&&◌, List, [], ◌∷◌, ◌++◌, filter, fold, take, refl, ◌∙◌, ap, arith, Option, Some, None, find, unwrap_or, slice_get}
 use Rattle.std.specs.Prelude.{nat_eq, nat_lt, nat_le}
 use Rattle.std.specs.List.{list_any, list_all}
-use Rattle.std.proofs.lemmas.Bool.{eqb-true, and_parts, and_from, ltb-true, leb-true, le-leb, or_left, or_right}
+use Rattle.std.proofs.lemmas.Bool.{eqb-true, and_parts, and_from, ltb-true, lt-ltb, leb-true, le-leb, or_left, or_right}
 use Rattle.std.proofs.lemmas.List.Folds.{list_all-append, list_any-append}
 use Rattle.base.specs.declared.key.Key.{Key}
 use Rattle.base.specs.declared.gap.Gap.{Gap}
@@ -20,6 +20,19 @@ all-weaken p r [] up all = refl
 all-weaken p r (x ∷ xs) up all =
     let both : (p x ≡ true) × (list_all p xs ≡ true) = and_parts (p x) (list_all p xs) all in
     and_from (r x) (list_all r xs) (up x both.0) (all-weaken p r xs up both.1)
+
+pub all-both : {X : Type 0} (p r : X → Bool) (xs : List X) → list_all p xs ≡ true → list_all r xs ≡ true → list_all (λ x. p x && r x) xs ≡ true
+all-both p r [] one other = refl
+all-both p r (x ∷ xs) one other =
+    let a : (p x ≡ true) × (list_all p xs ≡ true) = and_parts (p x) (list_all p xs) one in
+    let b : (r x ≡ true) × (list_all r xs ≡ true) = and_parts (r x) (list_all r xs) other in
+    and_from (p x && r x) (list_all (λ x. p x && r x) xs) (and_from (p x) (r x) a.0 b.0) (all-both p r xs a.1 b.1)
+
+pub filter-all : {X : Type 0} (p : X → Bool) (xs : List X) → list_all p xs ≡ true → filter p xs ≡ xs
+filter-all p [] all = refl
+filter-all p (x ∷ xs) all =
+    let both : (p x ≡ true) × (list_all p xs ≡ true) = and_parts (p x) (list_all p xs) all in
+    ap (λ b. cond b (x ∷ filter p xs) (filter p xs)) both.0 ∙ ap (λ ys. x ∷ ys) (filter-all p xs both.1)
 
 pub all-one_more : {X : Type 0} (p : X → Bool) (xs : List X) (x : X) → list_all p xs ≡ true → p x ≡ true → list_all p (xs ++ x ∷ []) ≡ true
 all-one_more p xs x all this = list_all-append p xs (x ∷ []) ∙ and_from (list_all p xs) (p x && true) all (and_from (p x) true this refl)
@@ -50,6 +63,18 @@ rising-one_more (a ∷ b ∷ ts) t rising below =
     let both : (nat_lt a b ≡ true) × (are_rising (b ∷ ts) ≡ true) = and_parts (nat_lt a b) (are_rising (b ∷ ts)) rising in
     let rest : (nat_lt a t ≡ true) × (list_all (λ x. nat_lt x t) (b ∷ ts) ≡ true) = and_parts (nat_lt a t) (list_all (λ x. nat_lt x t) (b ∷ ts)) below in
     and_from (nat_lt a b) (are_rising ((b ∷ ts) ++ t ∷ [])) both.0 (rising-one_more (b ∷ ts) t both.1 rest.1)
+
+-- what follows in a rising list is above its first
+pub rising-above : (t : ℕ) (ts : List ℕ) → are_rising (t ∷ ts) ≡ true → list_all (nat_lt t) ts ≡ true
+rising-above t [] rising = refl
+rising-above t (u ∷ ts) rising =
+    let both : (nat_lt t u ≡ true) × (are_rising (u ∷ ts) ≡ true) = and_parts (nat_lt t u) (are_rising (u ∷ ts)) rising in
+    and_from (nat_lt t u) (list_all (nat_lt t) ts) both.0
+    (all-weaken (nat_lt u) (nat_lt t) ts (λ x above. lt-ltb t x (omega (arith, ltb-true t u both.0, ltb-true u x above))) (rising-above u ts both.1))
+
+pub rising-rest : (t : ℕ) (ts : List ℕ) → are_rising (t ∷ ts) ≡ true → are_rising ts ≡ true
+rising-rest t [] rising = refl
+rising-rest t (u ∷ ts) rising = (and_parts (nat_lt t u) (are_rising (u ∷ ts)) rising).1
 
 -- one more of the first elements
 pub any-take_more : {X : Type 0} (p : X → Bool) (xs : List X) (i : ℕ) (x : X) → slice_get xs i ≡ Some x → list_any p (take (suc i) xs) ≡ (list_any p (take i xs) || p x)

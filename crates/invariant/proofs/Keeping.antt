@@ -11,7 +11,7 @@ use Rattle.pmem.specs.Device.{Device}
 use Rattle.invariant.specs.Slots.{SlotsHold}
 use Rattle.invariant.specs.Kept.{IsKept}
 use Rattle.invariant.specs.Moves.{Carries, alike}
-use Rattle.invariant.proofs.Moves.{ends-carry, class-alike, slot-carries, shrinks-slot_refl}
+use Rattle.invariant.proofs.Moves.{ends-stay, class-alike, slot-carries, shrinks-slot_refl}
 use Rattle.invariant.proofs.Lookups.{find-passes, replaced-same, replaced-other}
 
 pub kept-alike : (q p : State) → ((n : ℕ) → writes_of (p.sessions n) ≡ writes_of (q.sessions n)) → IsKept q → IsKept (alike q p)
@@ -40,7 +40,7 @@ carries-alike q p up = record { next = omega arith; never = λ t never. never; c
 pub slots-alike : (q p : State) (device : Device) → ((n : ℕ) → writes_of (p.sessions n) ≡ writes_of (q.sessions n)) → (p.failed ≡ false → q.failed ≡ false) → SlotsHold q device → SlotsHold (alike q p) device
 slots-alike q p device same up h = record {
   each = λ slot lt.
-      slot-carries q (alike q p) device device slot (carries-alike q p up) (ends-carry q (alike q p) _ (carries-alike q p up) (λ key t drawn. inr drawn))
+      slot-carries q (alike q p) device device slot (carries-alike q p up) (ends-stay q (alike q p) _)
       (class-alike q (alike q p) (q.held slot) (λ n key is. ap (λ (writes : Writes). lookup_key writes key) (same n)))
       (shrinks-slot_refl q.layout device slot) (h.each slot lt);
 }

@@ -10,7 +10,11 @@ pub mod Keeping
 pub mod Putting
 pub mod Histories
 pub mod Drawing
+pub mod Ending
 pub mod Stamping
+pub mod Reaching
+pub mod Stamps
 pub mod Covering
 pub mod Filling
 pub mod Covers
+pub mod Giving

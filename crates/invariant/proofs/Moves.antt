@@ -1,17 +1,18 @@
 -- The device moves and the state stays, or only fails.
 use Rattle.std.proofs.Common.{◌≡◌, ◌≢◌, ◌⊎◌, inl, inr, ℕ, ◌+◌, ◌*◌, ◌<◌, ◌≤◌, Bool, true, false, cond, List, [], ◌∷◌, refl, sym, ◌∙◌, ap, subst, arith, IsTrue, Option, Some, None, mul-le-mul_left, true≢false}
 use Rattle.std.specs.Prelude.{nat_eq, unwrap_or}
-use Rattle.std.proofs.lemmas.Bool.{cases_order, cases_eq}
+use Rattle.std.proofs.lemmas.Bool.{cases_order, cases_eq, eqb-true}
 use Rattle.base.specs.declared.key.Key.{Key}
 use Rattle.base.specs.Layout.{Layout, slot_start, slot_words, total_words}
 use Rattle.base.specs.Keys.{lookup_key}
+use Rattle.base.specs.Commits.{after, last_writer}
 use Rattle.base.specs.Machine.{State, Drawn, Version, Writer, BySession, ByCommit, drawn_at, writes_of}
 use Rattle.pmem.specs.Device.{Entry, Device, newest, survivors_in, IsAmong, Survives, MayLeave, stored, flushed, fenced, failed}
 use Rattle.pmem.proofs.Steps.{history-stored_other, value-flushed, value-fenced, survives-flushed, survives-fenced, only-settled, settled-flushed, settled-fenced}
-use Rattle.invariant.specs.Slots.{word_of, EachSurvivor, IsSettledAt, Spells, IsNever, IsCounted, is_drawn_on, Class, Free, Filled, Begun, Newest, Replaced, row_in, class_of_drawn, class_by, class_of_version, class_of, IsDead, IsFilled, IsWaiting, HoldsAs, SlotHolds, SlotsHold}
-use Rattle.invariant.specs.Kept.{IsKept, version_by}
+use Rattle.invariant.specs.Slots.{word_of, EachSurvivor, IsSettledAt, Spells, IsNever, IsCounted, is_drawn_on, Class, Free, Filled, Begun, Newest, Replaced, row_in, is_key_stamped, class_of_drawn, class_by, class_of_version, class_of, IsDead, IsFilled, IsWaiting, HoldsAs, SlotHolds, SlotsHold}
+use Rattle.invariant.specs.Kept.{IsKept, version_by, newest_of}
 use Rattle.invariant.specs.Theorem.{SlotsSurvive}
-use Rattle.invariant.specs.Moves.{ShrinksWord, ShrinksSlot, ShrinksSlots, ShrinksOthers, IsCleared, IsHarmless, Carries, EndsCarry, laid_out}
+use Rattle.invariant.specs.Moves.{ShrinksWord, ShrinksSlot, ShrinksSlots, ShrinksOthers, IsCleared, IsHarmless, Carries, EndCarries, EndsCarry, laid_out}
 
 -- ---- places
 
@@ -221,7 +222,8 @@ as_class-carries q p old new slot (Begun t key row) on ends shrinks h = (
 as_class-carries q p old new slot (Newest key row) on ends shrinks h = record {
   begin = first.settled h.begin;
   counted = subst (λ (t : ℕ). IsCounted (laid_out q.layout p) t) (sym first.value) (on.counted _ h.counted);
-  end = each-shrinks (shrinks.each 1 (within-slot q.layout.version 1 (omega arith))) harmless h.end;
+  end = each-shrinks second harmless h.end;
+  ended = λ t d found is. let was = ends.stamped t (d, found, is) in (second.value ∙ h.ended t was.0 was.1 was.2);
   settled = λ w two lt. (shrinks.each w lt).settled (h.settled w two lt);
   spells = spells-same (λ w two lt. (shrinks.each w lt).value) h.spells;
 }
@@ -229,9 +231,12 @@ as_class-carries q p old new slot (Newest key row) on ends shrinks h = record {
     first : ShrinksWord old new (word_of q.layout slot 0)
     first = shrinks.each 0 (within-slot q.layout.version 0 (omega arith))
 
+    second : ShrinksWord old new (word_of q.layout slot 1)
+    second = shrinks.each 1 (within-slot q.layout.version 1 (omega arith))
+
     harmless : (x : ℕ) → IsNever q x ⊎ IsTrue (is_drawn_on q key x) → IsHarmless (laid_out q.layout p) key x
     harmless x (inl never) = inl (on.never x never)
-    harmless x (inr drawn) = ends x drawn
+    harmless x (inr drawn) = ends.harmless x drawn
 as_class-carries q p old new slot Replaced on ends shrinks h = each-shrinks (shrinks.each 1 (within-slot q.layout.version 1 (omega arith))) on.counted h
 
 pub slot-carries : (q p : State) (old new : Device) (slot : ℕ) → Carries q (laid_out q.layout p) → EndsCarry q (laid_out q.layout p) (class_of q slot) → class_of (laid_out q.layout p) slot ≡ class_of q slot → ShrinksSlot q.layout old new slot → SlotHolds q old slot → SlotHolds (laid_out q.layout p) new slot
@@ -244,13 +249,42 @@ slot-carries q p old new slot on ends same shrinks h = record {
     sooner : (x : ℕ) → x < q.next → x < p.next
     sooner x lt = omega (arith, on.next)
 
+-- only a newest version's end matters
+pub ends-carry : (q p : State) (c : Class) → ((key : Key) (row : List ℕ) → c ≡ Newest key row → EndCarries q (laid_out q.layout p) key) → EndsCarry q (laid_out q.layout p) c
+ends-carry q p Free each = tt
+ends-carry q p (Filled key row) each = tt
+ends-carry q p (Begun t key row) each = tt
+ends-carry q p (Newest key row) each = each key row refl
+ends-carry q p Replaced each = tt
+
+-- the slot of a newest version is held by its key's last writer
+pub newest-held : (q : State) (o : Option Version) (key : Key) (row : List ℕ) → class_of_version q o ≡ Newest key row → o ≡ Some (newest_of q key)
+newest-held q None key row is = absurd (cc is)
+newest-held q (Some v) key row is = by_writer v.writer refl is
+  where
+    by_test : (b : Bool) (t : ℕ) (r : List ℕ) → cond b (Begun t v.key r) (Filled v.key r) ≡ Newest key row → ⊥
+    by_test true t r e = cc e
+    by_test false t r e = cc e
+
+    by_last : (b : Bool) (t : ℕ) → v.writer ≡ ByCommit t → nat_eq (last_writer q.history v.key) t ≡ b → cond b (Newest v.key (unwrap_or (after q.history v.key) [])) Replaced ≡ Newest key row → Some v ≡ Some (newest_of q key)
+    by_last true t by last e =
+        let same : v.key ≡ key = cc e in
+        ap (λ (w : Writer). Some (version_by v.key w)) by
+        ∙ ap (λ (u : ℕ). Some (version_by v.key (ByCommit u))) (sym (eqb-true (last_writer q.history v.key) t last))
+        ∙ ap (λ (k : Key). Some (newest_of q k)) same
+    by_last false t by last e = absurd (cc e)
+
+    by_drawn : (o : Option Drawn) (t : ℕ) → v.writer ≡ ByCommit t → class_of_drawn q v.key t o ≡ Newest key row → Some v ≡ Some (newest_of q key)
+    by_drawn (Some d) t by e = absurd (by_test (is_key_stamped d v.key) t (row_in d.commit.writes v.key) e)
+    by_drawn None t by e = by_last (nat_eq (last_writer q.history v.key) t) t by refl e
+
+    by_writer : (w : Writer) → v.writer ≡ w → class_by q v.key w ≡ Newest key row → Some v ≡ Some (newest_of q key)
+    by_writer (BySession n) by e = absurd (cc e)
+    by_writer (ByCommit t) by e = by_drawn (drawn_at q t) t by e
+
 -- with the same drawn commits every class's ends stay
-pub ends-carry : (q p : State) (c : Class) → Carries q (laid_out q.layout p) → ((key : Key) (t : ℕ) → IsTrue (is_drawn_on q key t) → IsHarmless (laid_out q.layout p) key t) → EndsCarry q (laid_out q.layout p) c
-ends-carry q p Free on each = tt
-ends-carry q p (Filled key row) on each = tt
-ends-carry q p (Begun t key row) on each = tt
-ends-carry q p (Newest key row) on each = each key
-ends-carry q p Replaced on each = tt
+pub ends-stay : (q p : State) (c : Class) → EndsCarry q (record p { layout = q.layout; drawn = q.drawn }) c
+ends-stay q p c = ends-carry q (record p { drawn = q.drawn }) c (λ key row is. record { harmless = λ t drawn. inr drawn; stamped = λ t is. is })
 
 pub carries_refl : (q : State) → Carries q q
 carries_refl q = record { next = omega arith; never = λ t never. never; counted = λ t counted. counted; failed = λ up. up; waits = λ down key t drawn. inr drawn }
@@ -258,7 +292,7 @@ carries_refl q = record { next = omega arith; never = λ t never. never; counted
 -- ---- only the device moves
 
 pub slot-shrink : {q : State} {old new : Device} {slot : ℕ} → SlotHolds q old slot → ShrinksSlot q.layout old new slot → SlotHolds q new slot
-slot-shrink {q} {old} {new} {slot} h shrinks = slot-carries q q old new slot (carries_refl q) (ends-carry q q (class_of q slot) (carries_refl q) (λ key t drawn. inr drawn)) refl shrinks h
+slot-shrink {q} {old} {new} {slot} h shrinks = slot-carries q q old new slot (carries_refl q) (ends-stay q q (class_of q slot)) refl shrinks h
 
 pub slots-shrink : {q : State} {old new : Device} → SlotsHold q old → ShrinksSlots q.layout old new → SlotsHold q new
 slots-shrink h shrinks = record { each = λ slot lt. slot-shrink (h.each slot lt) (shrinks.each slot lt) }
@@ -297,7 +331,7 @@ class_by-failed q version = class-alike q (record q { failed = true }) version (
 
 pub slot-failed : (q : State) (device : Device) (slot : ℕ) → SlotHolds q device slot → SlotHolds (record q { failed = true }) device slot
 slot-failed q device slot h =
-    slot-carries q (record q { failed = true }) device device slot (carries-failed q) (ends-carry q (record q { failed = true }) (class_of q slot) (carries-failed q) (λ key t drawn. inr drawn)) (class_by-failed q (q.held slot)) (shrinks-slot_refl q.layout device slot) h
+    slot-carries q (record q { failed = true }) device device slot (carries-failed q) (ends-stay q (record q { failed = true }) (class_of q slot)) (class_by-failed q (q.held slot)) (shrinks-slot_refl q.layout device slot) h
 
 pub slots-failed : (q : State) (device : Device) → SlotsHold q device → SlotsHold (record q { failed = true }) device
 slots-failed q device h = record { each = λ slot lt. slot-failed q device slot (h.each slot lt) }

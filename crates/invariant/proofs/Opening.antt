@@ -296,6 +296,7 @@ holds-live a r image history lost gaps device slot opening rests h live =
         each = λ x there. inl (subst (λ (t : ℕ). (t ≡ 0) ⊎ (is_in gaps t ≡ true)) (sym (end-left a device image slot x opening.layout rests h there))
             (never-over r a.window gaps (end_of image slot) opening.gaps_cover good.end (not-true (is_committed r (end_of image slot)) counts.1)));
       };
+      ended = λ t d found is. absurd (no-row d found);
       settled = λ w from to. rests.settled slot w h to;
       spells = subst (λ (x : List ℕ). Spells a (value_of device) slot (key_of image slot) x) (sym row)
           (spells-same a (λ word. slice_index image word) (value_of device) slot (key_of image slot) (row_of image slot)

@@ -11,7 +11,7 @@ use Rattle.pmem.specs.Device.{Device}
 use Rattle.invariant.specs.Slots.{class_of_version, HoldsAs, IsWaiting, SlotHolds, SlotsHold}
 use Rattle.invariant.specs.Kept.{IsKept, version_by}
 use Rattle.invariant.specs.Moves.{ShrinksSlot, ShrinksOthers, IsRefilled, Carries}
-use Rattle.invariant.proofs.Moves.{each-settled, each-weaken, cleared-begin_before, cleared-end_before, ends-carry, class-alike, slot-carries}
+use Rattle.invariant.proofs.Moves.{each-settled, each-weaken, cleared-begin_before, cleared-end_before, ends-stay, class-alike, slot-carries}
 use Rattle.invariant.proofs.Lookups.{same-keys, key_eq-refl, cases-keys, lookup-with_write_same, lookup-with_write_other, first_below-some, first_below-none, first_below-lowest, first_below-nowhere, replaced-same, replaced-other}
 
 abbrev with_put : State → ℕ → Key → List ℕ → (ℕ → Option Version) → State
@@ -31,20 +31,20 @@ apart-writers {k} {l} {t} {n} e =
 
 -- ---- slots that a session holds
 
+pub own-at : (n : ℕ) (key : Key) (o : Option Version) → is_own_at n key o ≡ true → o ≡ Some (version_by key (BySession n))
+own-at n key None own = absurd (cc own)
+own-at n key (Some v) own = by_writer v.writer own
+  where
+    by_writer : (w : Writer) → (is_by n w && key_eq v.key key) ≡ true → Some (version_by v.key w) ≡ Some (version_by key (BySession n))
+    by_writer (BySession m) own =
+        let both : (nat_eq m n ≡ true) × (key_eq v.key key ≡ true) = and_parts (nat_eq m n) (key_eq v.key key) own in
+        ap (λ (j : ℕ). Some (version_by v.key (BySession j))) (eqb-true m n both.0) ∙ ap (λ (j : Key). Some (version_by j (BySession n))) (same-keys v.key key both.1)
+    by_writer (ByCommit t) own = absurd (cc own)
+
 pub own_slot-some : (q : State) (n : ℕ) (key : Key) (slot : ℕ) → own_slot q n key ≡ Some slot → (slot < q.layout.slots) × (q.held slot ≡ Some (version_by key (BySession n)))
 own_slot-some q n key slot found =
     let at : (slot < q.layout.slots) × (is_own_at n key (q.held slot) ≡ true) = first_below-some q.layout.slots (λ s. is_own_at n key (q.held s)) slot found in
-    (at.0, by_version (q.held slot) at.1)
-  where
-    by_writer : (k : Key) (w : Writer) → (is_by n w && key_eq k key) ≡ true → Some (version_by k w) ≡ Some (version_by key (BySession n))
-    by_writer k (BySession m) own =
-        let both : (nat_eq m n ≡ true) × (key_eq k key ≡ true) = and_parts (nat_eq m n) (key_eq k key) own in
-        ap (λ (j : ℕ). Some (version_by k (BySession j))) (eqb-true m n both.0) ∙ ap (λ (j : Key). Some (version_by j (BySession n))) (same-keys k key both.1)
-    by_writer k (ByCommit t) own = absurd (cc own)
-
-    by_version : (o : Option Version) → is_own_at n key o ≡ true → o ≡ Some (version_by key (BySession n))
-    by_version None own = absurd (cc own)
-    by_version (Some v) own = by_writer v.key v.writer own
+    (at.0, own-at n key (q.held slot) at.1)
 
 pub own_slot-none : (q : State) (n : ℕ) (key : Key) → own_slot q n key ≡ None → (slot : ℕ) → slot < q.layout.slots → q.held slot ≡ Some (version_by key (BySession n)) → ⊥
 own_slot-none q n key none slot lt own =
@@ -259,7 +259,7 @@ other-put : (q : State) (n : ℕ) (key : Key) (row : List ℕ) (held : ℕ → O
     → ShrinksSlot q.layout old new slot → SlotHolds q old slot → SlotHolds (with_put q n key row held) new slot
 other-put q n key row held old new slot same not_own shrinks h =
     slot-carries q (with_put q n key row held) old new slot (carries-put q n key row held)
-    (ends-carry q (with_put q n key row held) _ (carries-put q n key row held) (λ key t drawn. inr drawn))
+    (ends-stay q (with_put q n key row held) _)
     (ap (class_of_version (with_put q n key row held)) same
     ∙ class-alike q (with_put q n key row held) (q.held slot) (λ m k is. lookup-put_other q n key row held m k (λ e f. not_own (is ∙ ap (λ (j : ℕ). Some (version_by k (BySession j))) e ∙ ap (λ (j : Key). Some (version_by j (BySession n))) f))))
     shrinks h

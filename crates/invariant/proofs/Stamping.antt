@@ -1,5 +1,5 @@
 -- A stamp of a version.
-use Rattle.std.proofs.Common.{◌||◌, ◌≡◌, ◌≢◌, ◌⊎◌, inl, inr, ℕ, ◌+◌, ◌<◌, Bool, true, false, cond, ◌&&◌, List, [], ◌∷◌, map, take, refl, sym, ◌∙◌, ap, subst, arith, Option, Some, None, find, option_map, slice_get, add-one, is_some}
+use Rattle.std.proofs.Common.{◌||◌, ◌≡◌, ◌≢◌, ◌⊎◌, inl, inr, ℕ, ◌+◌, ◌<◌, Bool, true, false, cond, ◌&&◌, List, [], ◌∷◌, map, take, refl, sym, ◌∙◌, ap, subst, arith, Option, Some, None, find, option_map, slice_get, add-one, is_some, unwrap_or, true≢false}
 use Rattle.std.specs.Prelude.{nat_eq, nat_lt, IsTrue}
 use Rattle.std.specs.List.{list_any}
 use Rattle.std.proofs.lemmas.Bool.{cases_eq, eq-eqb, ne_eqb}
@@ -7,16 +7,19 @@ use Rattle.std.proofs.lemmas.List.Folds.{list_all-map}
 use Rattle.base.specs.declared.key.Key.{Key}
 use Rattle.base.specs.declared.step.Step.TheVariants.{Stamp}
 use Rattle.base.specs.Keys.{key_eq, lookup_key}
-use Rattle.base.specs.Commits.{Writes, Commit, writes_key}
+use Rattle.base.specs.Commits.{Writes, Commit, after, last_writer, writes_key}
 use Rattle.base.specs.Records.{are_rising}
 use Rattle.base.specs.Machine.{State, Drawn, Version, Writer, BySession, ByCommit, drawn_at, timestamp_of, counted, next_state}
-use Rattle.pmem.specs.Device.{Device}
-use Rattle.invariant.specs.Slots.{word_of, EachSurvivor, is_drawn_on, Filled, Begun, row_in, is_key_stamped, class_of_drawn, class_by, class_of_version, class_of, HoldsAs, IsWaiting, SlotHolds, SlotsHold}
-use Rattle.invariant.specs.Kept.{IsKept, version_by}
-use Rattle.invariant.specs.Moves.{ShrinksWord, ShrinksOthers, IsStampedWith, IsHarmless, Carries}
-use Rattle.invariant.proofs.Moves.{within-slot, each-shrinks, each-weaken, filled-carries, ends-carry, slot-carries}
-use Rattle.invariant.proofs.Lookups.{key_eq-refl, key_eq-apart}
-use Rattle.invariant.proofs.Histories.{all-weaken, find-any, any-take_more, drawn_at-bounds}
+use Rattle.pmem.specs.Device.{Device, Survives}
+use Rattle.invariant.specs.Slots.{word_of, EachSurvivor, IsCounted, is_drawn_on, Filled, Begun, Newest, Replaced, row_in, is_key_stamped, class_of_drawn, class_by, class_of_version, class_of, HoldsAs, IsWaiting, IsLive, SlotHolds, SlotsHold}
+use Rattle.invariant.specs.Kept.{IsKept, version_by, newest_of}
+use Rattle.invariant.specs.Moves.{ShrinksWord, ShrinksOthers, IsStampedWith, IsEndedWith, HasStamps, IsHeldAt, StampsNext, IsHarmless, Carries, IsStampedBy, EndCarries}
+use Rattle.invariant.proofs.Moves.{within-slot, each-shrinks, each-weaken, spells-same, filled-carries, ends-carry, newest-held, slot-carries, slot-shrink, slot-failed}
+use Rattle.invariant.proofs.Marks.{none-found}
+use Rattle.invariant.proofs.Lookups.{key_eq-refl, key_eq-apart, lookup-of_write}
+use Rattle.invariant.proofs.Histories.{all-weaken, find-any, any-take_more, last_writer-covered, drawn_at-bounds}
+use Rattle.invariant.proofs.Stamps.{stamped-writes}
+use Rattle.invariant.proofs.Ending.{cases-at, stamps-begun}
 
 abbrev with_stamp : State → ℕ → State
 with_stamp q t = record q { drawn = map (counted t) q.drawn }
@@ -172,6 +175,29 @@ class-stamped_this q t d key row found at kept =
     ∙ ap (λ (w : Drawn). class_of_drawn (with_stamp q t) key t (Some w)) (counted-this t d (drawn_at-bounds q t d kept found).0)
     ∙ ap (λ (b : Bool). cond b (Begun t key (row_in d.commit.writes key)) (Filled key (row_in d.commit.writes key))) (stamped-this key row d at)
 
+-- a key that isn't stamped now was stamped before if it is after
+end-stamped : (q : State) (t : ℕ) (d : Drawn) (key : Key) (row : Option (List ℕ)) (k : Key)
+    → drawn_at q t ≡ Some d → slice_get d.commit.writes d.stamped ≡ Some (key, row) → IsKept q → key ≢ k
+    → EndCarries q (with_stamp q t) k
+end-stamped q t d key row k found at kept apart = record {
+  harmless = λ u drawn. inr (any-counted t (λ c. nat_eq c.timestamp u && writes_key k c) q.drawn ∙ drawn);
+  stamped = λ u is. by_found u (drawn_at q u) refl is.0 (sym (found-counted t u q.drawn) ∙ is.1) is.2;
+}
+  where
+    by_timestamp : (u : ℕ) (was now : Drawn) → drawn_at q u ≡ Some was → counted t was ≡ now → is_key_stamped now k ≡ true → (u ≡ t) ⊎ (u ≢ t) → IsStampedBy q k u
+    by_timestamp u was now is same stamped (inl this) =
+        let one : Some was ≡ Some d = sym is ∙ ap (drawn_at q) this ∙ found in
+        let drew : was ≡ d = cc one in
+        let more : now ≡ record { commit = d.commit; stamped = d.stamped + 1 } = sym same ∙ ap (counted t) drew ∙ counted-this t d (drawn_at-bounds q t d kept found).0 in
+        (was, is, ap (λ (w : Drawn). is_key_stamped w k) drew ∙ sym (stamped-other key k row d at apart) ∙ sym (ap (λ (w : Drawn). is_key_stamped w k) more) ∙ stamped)
+    by_timestamp u was now is same stamped (inr ne) =
+        let other : was ≡ now = sym (counted-other t was (λ e. ne (sym (drawn_at-bounds q u was kept is).0 ∙ e))) ∙ same in
+        (was, is, ap (λ (w : Drawn). is_key_stamped w k) other ∙ stamped)
+
+    by_found : (u : ℕ) (o : Option Drawn) → drawn_at q u ≡ o → (now : Drawn) → option_map (counted t) o ≡ Some now → is_key_stamped now k ≡ true → IsStampedBy q k u
+    by_found u None is now e stamped = absurd (cc e)
+    by_found u (Some was) is now e stamped = let same : counted t was ≡ now = cc e in by_timestamp u was now is same stamped (cases_eq u t)
+
 -- before its stamp a drawn version waits
 pub waits-unstamped : (q : State) (device : Device) (slot t : ℕ) (d : Drawn) (key : Key) → q.held slot ≡ Some (version_by key (ByCommit t)) → drawn_at q t ≡ Some d → is_key_stamped d key ≡ false
     → SlotHolds q device slot → IsWaiting q device slot key (row_in d.commit.writes key)
@@ -201,19 +227,167 @@ this-stamped q old new slot t d key row lt held found at not_yet up kept stamp h
       filled-carries q (with_stamp q t) old new slot key (row_in d.commit.writes key) stamp.others ((waits-unstamped q old slot t d key held found not_yet h).filled up),
     )
 
-pub slots-stamped : (q : State) (old new : Device) (slot t : ℕ) (d : Drawn) (key : Key) (row : Option (List ℕ)) → slot < q.layout.slots → q.held slot ≡ Some (version_by key (ByCommit t))
-    → drawn_at q t ≡ Some d → slice_get d.commit.writes d.stamped ≡ Some (key, row) → is_key_stamped d key ≡ false → q.failed ≡ false
-    → IsKept q → ShrinksOthers q.layout slot old new → IsStampedWith q.layout old new slot t → SlotsHold q old → SlotsHold (record q { drawn = map (counted t) q.drawn }) new
-slots-stamped q old new slot t d key row lt_slot held found at not_yet up kept others stamp h = record { each = λ s lt. by_place s lt (cases_eq s slot) }
+-- the slot of the key's newest version, which ends
+ended-live : (q : State) (drawn : List Drawn) (down : Bool) (old new : Device) (slot t : ℕ) (key : Key) (row : List ℕ) → IsEndedWith q.layout old new slot t
+    → ((x : ℕ) → IsTrue (is_drawn_on q key x) → IsTrue (is_drawn_on (record q { drawn = drawn; failed = down }) key x))
+    → IsTrue (is_drawn_on (record q { drawn = drawn; failed = down }) key t)
+    → ((u : ℕ) → IsStampedBy (record q { drawn = drawn; failed = down }) key u → u ≡ t)
+    → IsLive q old slot key row → IsLive (record q { drawn = drawn; failed = down }) new slot key row
+ended-live q drawn down old new slot t key row ends still this only live = record {
+  begin = first.settled live.begin;
+  counted = subst (IsCounted q) (sym first.value) live.counted;
+  end = each-weaken survivor ends.survives;
+  ended = λ u d found is. ends.end ∙ sym (only u (d, found, is));
+  settled = λ w two lt. (ends.others w lt (λ e. omega (arith, e, two))).settled (live.settled w two lt);
+  spells = spells-same (λ w two lt. (ends.others w lt (λ e. omega (arith, e, two))).value) live.spells;
+}
   where
-    by_place : (s : ℕ) → s < q.layout.slots → (s ≡ slot) ⊎ (s ≢ slot) → SlotHolds (with_stamp q t) new s
-    by_place s lt (inl is) =
-        subst (SlotHolds (with_stamp q t) new) (sym is) (this-stamped q old new slot t d key row lt_slot held found at not_yet up kept stamp (h.each slot lt_slot))
-    by_place s lt (inr apart) =
+    first : ShrinksWord old new (word_of q.layout slot 0)
+    first = ends.others 0 (within-slot q.layout.version 0 (omega arith)) (λ e. absurd (cc e))
+
+    harmless : (x : ℕ) → IsHarmless q key x → IsHarmless (record q { drawn = drawn; failed = down }) key x
+    harmless x (inl never) = inl never
+    harmless x (inr there) = inr (still x there)
+
+    survivor : (x : ℕ) → Survives old (word_of q.layout slot 1) x ⊎ (x ≡ t) → IsHarmless (record q { drawn = drawn; failed = down }) key x
+    survivor x (inl there) = harmless x (live.end.each x there)
+    survivor x (inr is) = inr (subst (λ (y : ℕ). IsTrue (is_drawn_on (record q { drawn = drawn; failed = down }) key y)) (sym is) this)
+
+-- the newest version of a key is of no drawn commit
+undrawn-newest : (q : State) (key : Key) → IsKept q → drawn_at q (last_writer q.history key) ≡ None
+undrawn-newest q key kept = none-found q.persisted q.next (last_writer q.history key) q.drawn kept.drawn (last_writer-covered q key kept)
+
+class-newest : (q : State) (key : Key) → drawn_at q (last_writer q.history key) ≡ None → class_of_version q (Some (newest_of q key)) ≡ Newest key (unwrap_or (after q.history key) [])
+class-newest q key none =
+    ap (class_of_drawn q key (last_writer q.history key)) none
+    ∙ ap (λ (b : Bool). cond b (Newest key (unwrap_or (after q.history key) [])) Replaced) (eq-eqb (last_writer q.history key) (last_writer q.history key) refl)
+
+ended-holds : (q : State) (drawn : List Drawn) (down : Bool) (old new : Device) (slot t : ℕ) (key : Key) → q.held slot ≡ Some (newest_of q key)
+    → drawn_at (record q { drawn = drawn; failed = down }) (last_writer q.history key) ≡ None → t < q.next → IsKept q → IsEndedWith q.layout old new slot t
+    → ((x : ℕ) → IsTrue (is_drawn_on q key x) → IsTrue (is_drawn_on (record q { drawn = drawn; failed = down }) key x))
+    → IsTrue (is_drawn_on (record q { drawn = drawn; failed = down }) key t)
+    → ((u : ℕ) → IsStampedBy (record q { drawn = drawn; failed = down }) key u → u ≡ t)
+    → SlotHolds q old slot → SlotHolds (record q { drawn = drawn; failed = down }) new slot
+ended-holds q drawn down old new slot t key held none lt kept ends still this only h = record {
+  begin_before = each-shrinks (ends.others 0 (within-slot q.layout.version 0 (omega arith)) (λ e. absurd (cc e))) (λ x lt. lt) h.begin_before;
+  end_before = each-weaken before ends.survives;
+  as_class = subst (HoldsAs (record q { drawn = drawn; failed = down }) new slot)
+      (sym (ap (class_of_version (record q { drawn = drawn; failed = down })) held ∙ class-newest (record q { drawn = drawn; failed = down }) key none))
+      (ended-live q drawn down old new slot t key (unwrap_or (after q.history key) []) ends still this only live);
+}
+  where
+    before : (x : ℕ) → Survives old (word_of q.layout slot 1) x ⊎ (x ≡ t) → x < q.next
+    before x (inl there) = h.end_before.each x there
+    before x (inr is) = omega arith
+
+    live : IsLive q old slot key (unwrap_or (after q.history key) [])
+    live = subst (HoldsAs q old slot) (ap (class_of_version q) held ∙ class-newest q key (undrawn-newest q key kept)) h.as_class
+
+-- ---- the slots that a stamp stores in
+
+-- what a slot holds, nothing else holds
+pub held-there : (q : State) (version : Version) (slot : ℕ) → IsKept q → slot < q.layout.slots → q.held slot ≡ Some version → IsHeldAt q version (Some slot)
+held-there q version slot kept lt held = record {
+  held = λ s e. let same : slot ≡ s = cc e in (omega arith, ap q.held (sym same) ∙ held);
+  only = λ s lt_s at. ap (λ (k : ℕ). Some k) (kept.once slot s version lt lt_s held at);
+}
+
+-- a deletion holds no slot
+pub deletion-nowhere : (q : State) (t : ℕ) (d : Drawn) (key : Key) → IsKept q → drawn_at q t ≡ Some d → lookup_key d.commit.writes key ≡ Some None → IsHeldAt q (version_by key (ByCommit t)) None
+deletion-nowhere q t d key kept found deleted = record {
+  held = λ s e. absurd (cc e);
+  only = λ s lt at. let has = kept.drew s t key d lt at found in let both : Some None ≡ Some (Some has.0) = sym deleted ∙ has.1 in absurd (cc both);
+}
+
+-- nor does the newest version of a key without a row
+pub absent-nowhere : (q : State) (key : Key) → IsKept q → after q.history key ≡ None → IsHeldAt q (newest_of q key) None
+absent-nowhere q key kept absent = record {
+  held = λ s e. absurd (cc e);
+  only = λ s lt at. let has = kept.written key s lt at in let both : None ≡ Some has.0 = sym absent ∙ has.1 in absurd (cc both);
+}
+
+-- a version that is stamped isn't the one that it replaces
+pub apart-newest : (q : State) (t : ℕ) (d : Drawn) (key : Key) (slot : ℕ) → IsKept q → drawn_at q t ≡ Some d → q.held slot ≡ Some (version_by key (ByCommit t)) → q.held slot ≡ Some (newest_of q key) → ⊥
+apart-newest q t d key slot kept found new replaces =
+    let both : Some (version_by key (ByCommit t)) ≡ Some (newest_of q key) = sym new ∙ replaces in
+    let versions : version_by key (ByCommit t) ≡ newest_of q key = cc both in
+    let writers : ByCommit t ≡ ByCommit (last_writer q.history key) = ap (λ (v : Version). v.writer) versions in
+    let same : t ≡ last_writer q.history key = cc writers in
+    omega (arith, same, last_writer-covered q key kept, (drawn_at-bounds q t d kept found).1)
+
+drawn_on-next : (q : State) (t : ℕ) (d : Drawn) (key : Key) (row : Option (List ℕ)) → StampsNext q t d key row → IsTrue (is_drawn_on q key t)
+drawn_on-next q t d key row next = find-any (λ d. nat_eq d.commit.timestamp t) (λ d. writes_key key d.commit) q.drawn d next.found (lookup-of_write key row d.commit.writes d.stamped next.write)
+
+unstamped-next : (q : State) (t : ℕ) (d : Drawn) (key : Key) (row : Option (List ℕ)) → StampsNext q t d key row → is_key_stamped d key ≡ false
+unstamped-next q t d key row next = by_test (is_key_stamped d key) refl
+  where
+    by_test : (b : Bool) → is_key_stamped d key ≡ b → is_key_stamped d key ≡ false
+    by_test true is = absurd (next.nobody t (d, next.found, is))
+    by_test false is = is
+
+-- after the stamp only the stamped commit has stamped its key
+stamped-only : (q : State) (t : ℕ) (d : Drawn) (key : Key) (row : Option (List ℕ)) → StampsNext q t d key row → IsKept q → (u : ℕ) → IsStampedBy (with_stamp q t) key u → u ≡ t
+stamped-only q t d key row next kept u is = by_found (drawn_at q u) refl (sym (found-counted t u q.drawn) ∙ is.1) (cases_eq u t)
+  where
+    by_found : (o : Option Drawn) → drawn_at q u ≡ o → option_map (counted t) o ≡ Some is.0 → (u ≡ t) ⊎ (u ≢ t) → u ≡ t
+    by_found None was e case = absurd (cc e)
+    by_found (Some before) was e (inl same) = same
+    by_found (Some before) was e (inr ne) =
+        let now : counted t before ≡ is.0 = cc e in
+        let other : before ≡ is.0 = sym (counted-other t before (λ same. ne (sym (drawn_at-bounds q u before kept was).0 ∙ same))) ∙ now in
+        absurd (next.nobody u (before, was, ap (λ (w : Drawn). is_key_stamped w key) other ∙ is.2))
+
+-- where no other drawn commit writes its key
+pub next-of : (q : State) (t : ℕ) (d : Drawn) (key : Key) (row : Option (List ℕ)) → drawn_at q t ≡ Some d → slice_get d.commit.writes d.stamped ≡ Some (key, row) → is_key_stamped d key ≡ false
+    → ((u : ℕ) (e : Drawn) → u ≢ t → drawn_at q u ≡ Some e → writes_key key e.commit ≡ false) → StampsNext q t d key row
+next-of q t d key row found write not_yet others = record {
+  found = found;
+  write = write;
+  nobody = λ u is. by_timestamp u is.0 is.1 is.2 (cases_eq u t);
+}
+  where
+    by_timestamp : (u : ℕ) (e : Drawn) → drawn_at q u ≡ Some e → is_key_stamped e key ≡ true → (u ≡ t) ⊎ (u ≢ t) → ⊥
+    by_timestamp u e at is (inl same) =
+        let both : Some e ≡ Some d = sym at ∙ ap (drawn_at q) same ∙ found in
+        let one : e ≡ d = cc both in
+        true≢false (sym is ∙ ap (λ (w : Drawn). is_key_stamped w key) one ∙ not_yet)
+    by_timestamp u e at is (inr apart) = true≢false (sym (stamped-writes key e.stamped e.commit.writes is) ∙ others u e apart at)
+
+-- and where it is drawn alone
+pub next-alone : (q : State) (d : Drawn) (key : Key) (row : Option (List ℕ)) → q.drawn ≡ d ∷ [] → slice_get d.commit.writes d.stamped ≡ Some (key, row) → is_key_stamped d key ≡ false → StampsNext q d.commit.timestamp d key row
+next-alone q d key row drawn write not_yet =
+    next-of q d.commit.timestamp d key row
+    (ap (find (λ (e : Drawn). nat_eq e.commit.timestamp d.commit.timestamp)) drawn ∙ ap (λ (b : Bool). cond b (Some d) None) (eq-eqb d.commit.timestamp d.commit.timestamp refl))
+    write not_yet
+    (λ u e apart at. none u e (sym (ap (λ (b : Bool). cond b (Some d) None) (ne_eqb d.commit.timestamp u (λ same. apart (sym same)))) ∙ sym (ap (find (λ (e : Drawn). nat_eq e.commit.timestamp u)) drawn) ∙ at))
+  where
+    none : (u : ℕ) (e : Drawn) → None ≡ Some e → writes_key key e.commit ≡ false
+    none u e is = absurd (cc is)
+
+pub slots-stamped : (q : State) (old new : Device) (begun ended : Option ℕ) (t : ℕ) (d : Drawn) (key : Key) (row : Option (List ℕ)) → StampsNext q t d key row
+    → IsHeldAt q (version_by key (ByCommit t)) begun → IsHeldAt q (newest_of q key) ended → q.failed ≡ false → IsKept q
+    → HasStamps q.layout old new begun ended t → SlotsHold q old → SlotsHold (record q { drawn = map (counted t) q.drawn }) new
+slots-stamped q old new begun ended t d key row next this replaces up kept has h = record { each = λ s lt. by_place s lt (cases-at begun s) (cases-at ended s) }
+  where
+    still : (x : ℕ) → is_drawn_on (with_stamp q t) key x ≡ is_drawn_on q key x
+    still x = any-counted t (λ c. nat_eq c.timestamp x && writes_key key c) q.drawn
+
+    unlike : (s : ℕ) → s < q.layout.slots → (ended ≡ Some s → ⊥) → (k : Key) (r : List ℕ) → class_of q s ≡ Newest k r → key ≢ k
+    unlike s lt not_ended k r is same = not_ended (replaces.only s lt (newest-held q (q.held s) k r is ∙ ap (λ (j : Key). Some (newest_of q j)) (sym same)))
+
+    by_place : (s : ℕ) → s < q.layout.slots → (begun ≡ Some s) ⊎ (begun ≡ Some s → ⊥) → (ended ≡ Some s) ⊎ (ended ≡ Some s → ⊥) → SlotHolds (with_stamp q t) new s
+    by_place s lt (inl is) case =
+        this-stamped q old new s t d key row lt (this.held s is).1 next.found next.write (unstamped-next q t d key row next) up kept (has.begins s lt is) (h.each s lt)
+    by_place s lt (inr not_begun) (inl is) =
+        ended-holds q (map (counted t) q.drawn) q.failed old new s t key (replaces.held s is).1
+        (found-counted t (last_writer q.history key) q.drawn ∙ ap (option_map (counted t)) (undrawn-newest q key kept))
+        (drawn_at-bounds q t d kept next.found).2 kept (has.ends s lt is)
+        (λ x drawn. still x ∙ drawn) (still t ∙ drawn_on-next q t d key row next) (stamped-only q t d key row next kept) (h.each s lt)
+    by_place s lt (inr not_begun) (inr not_ended) =
         slot-carries q (with_stamp q t) old new s (carries-stamped q t)
-        (ends-carry q (with_stamp q t) _ (carries-stamped q t) (λ key u drawn. inr (any-counted t (λ c. nat_eq c.timestamp u && writes_key key c) q.drawn ∙ drawn)))
-        (class-stamped_other q t d key row (q.held s) found at kept (λ same. apart (kept.once s slot _ lt lt_slot same held)))
-        (others.each s lt apart) (h.each s lt)
+        (ends-carry q (with_stamp q t) _ (λ k r is. end-stamped q t d key row k next.found next.write kept (unlike s lt not_ended k r is)))
+        (class-stamped_other q t d key row (q.held s) next.found next.write kept (λ same. not_begun (this.only s lt same)))
+        (has.others s lt not_begun not_ended) (h.each s lt)
 
 -- a device that fails within a stamp leaves the slot waiting
 pub slot-stamping : (q : State) (old new : Device) (slot t : ℕ) (d : Drawn) (key : Key) → slot < q.layout.slots → q.held slot ≡ Some (version_by key (ByCommit t))
@@ -244,21 +418,46 @@ slot-stamping q old new slot t d key lt held found not_yet kept begin end h = re
     waits : IsWaiting (record q { failed = true }) new slot key (row_in d.commit.writes key)
     waits = record { begin = each-weaken by_case begin; cleared = λ up. absurd (cc up); filled = λ up. absurd (cc up) }
 
+-- the device fails within a stamp, whatever of it was stored
+pub slots-stamping_any : (q : State) (old new : Device) (begun ended : Option ℕ) (t : ℕ) (d : Drawn) (key : Key) (row : Option (List ℕ)) → StampsNext q t d key row
+    → ((slot : ℕ) → begun ≡ Some slot → q.held slot ≡ Some (version_by key (ByCommit t)))
+    → ((slot : ℕ) → ended ≡ Some slot → q.held slot ≡ Some (newest_of q key))
+    → IsKept q → HasStamps q.layout old new begun ended t → SlotsHold q old → SlotsHold (record q { failed = true }) new
+slots-stamping_any q old new begun ended t d key row next this replaces kept has h = record { each = λ s lt. by_place s lt (cases-at begun s) (cases-at ended s) }
+  where
+    by_place : (s : ℕ) → s < q.layout.slots → (begun ≡ Some s) ⊎ (begun ≡ Some s → ⊥) → (ended ≡ Some s) ⊎ (ended ≡ Some s → ⊥) → SlotHolds (record q { failed = true }) new s
+    by_place s lt (inl is) case =
+        let stamp = has.begins s lt is in
+        slot-stamping q old new s t d key lt (this s is) next.found (unstamped-next q t d key row next) kept stamp.survives
+        (stamp.others 1 (omega arith) (within-slot q.layout.version 1 (omega arith))) (h.each s lt)
+    by_place s lt (inr not_begun) (inl is) =
+        ended-holds q q.drawn true old new s t key (replaces s is) (undrawn-newest q key kept) (drawn_at-bounds q t d kept next.found).2 kept (has.ends s lt is)
+        (λ x drawn. drawn) (drawn_on-next q t d key row next) (λ u is. absurd (next.nobody u is)) (h.each s lt)
+    by_place s lt (inr not_begun) (inr not_ended) = slot-failed q new s (slot-shrink (h.each s lt) (has.others s lt not_begun not_ended))
+
 -- ---- a commit of one row
 
 -- its one stamp
 pub slots-stamp_one : (q : State) (old new : Device) (slot : ℕ) (d : Drawn) (key : Key) (row : List ℕ) → slot < q.layout.slots → q.held slot ≡ Some (version_by key (ByCommit d.commit.timestamp))
-    → q.drawn ≡ d ∷ [] → d.commit.writes ≡ (key, Some row) ∷ [] → d.stamped ≡ 0 → q.failed ≡ false
+    → q.drawn ≡ d ∷ [] → d.commit.writes ≡ (key, Some row) ∷ [] → d.stamped ≡ 0 → after q.history key ≡ None → q.failed ≡ false
     → IsKept q → ShrinksOthers q.layout slot old new → IsStampedWith q.layout old new slot d.commit.timestamp → SlotsHold q old → SlotsHold (record q { drawn = map (counted d.commit.timestamp) q.drawn }) new
-slots-stamp_one q old new slot d key row lt held drawn writes unstamped up kept others stamp h =
-    slots-stamped q old new slot d.commit.timestamp d key (Some row) lt held
-    (ap (find (λ (e : Drawn). nat_eq e.commit.timestamp d.commit.timestamp)) drawn ∙ ap (λ (b : Bool). cond b (Some d) None) (eq-eqb d.commit.timestamp d.commit.timestamp refl))
-    (ap (slice_get d.commit.writes) unstamped ∙ ap (λ (ws : Writes). slice_get ws 0) writes)
-    (ap (λ (i : ℕ). list_any (λ write. key_eq write.0 key) (take i d.commit.writes)) unstamped)
-    up kept others stamp h
+slots-stamp_one q old new slot d key row lt held drawn writes unstamped fresh up kept others stamp h =
+    slots-stamped q old new (Some slot) None d.commit.timestamp d key (Some row)
+    (next-alone q d key (Some row) drawn (ap (slice_get d.commit.writes) unstamped ∙ ap (λ (ws : Writes). slice_get ws 0) writes)
+    (ap (λ (i : ℕ). list_any (λ write. key_eq write.0 key) (take i d.commit.writes)) unstamped))
+    (held-there q (version_by key (ByCommit d.commit.timestamp)) slot kept lt held) (absent-nowhere q key kept fresh) up kept
+    (stamps-begun slot d.commit.timestamp others stamp) h
 
 pub slots-stamp : (q : State) (n : ℕ) (old new : Device) (slot : ℕ) (d : Drawn) (key : Key) (row : List ℕ) → timestamp_of (q.sessions n) ≡ d.commit.timestamp → slot < q.layout.slots → q.held slot ≡ Some (version_by key (ByCommit d.commit.timestamp))
-    → q.drawn ≡ d ∷ [] → d.commit.writes ≡ (key, Some row) ∷ [] → d.stamped ≡ 0 → q.failed ≡ false
+    → q.drawn ≡ d ∷ [] → d.commit.writes ≡ (key, Some row) ∷ [] → d.stamped ≡ 0 → after q.history key ≡ None → q.failed ≡ false
     → IsKept q → ShrinksOthers q.layout slot old new → IsStampedWith q.layout old new slot d.commit.timestamp → SlotsHold q old → SlotsHold (next_state q (Stamp n)) new
-slots-stamp q n old new slot d key row its lt held drawn writes unstamped up kept others stamp h =
-    subst (λ (t : ℕ). SlotsHold (with_stamp q t) new) (sym its) (slots-stamp_one q old new slot d key row lt held drawn writes unstamped up kept others stamp h)
+slots-stamp q n old new slot d key row its lt held drawn writes unstamped fresh up kept others stamp h =
+    subst (λ (t : ℕ). SlotsHold (with_stamp q t) new) (sym its) (slots-stamp_one q old new slot d key row lt held drawn writes unstamped fresh up kept others stamp h)
+
+-- ---- a session's stamp of any write
+
+pub slots-stamp_any : (q : State) (n : ℕ) (old new : Device) (begun ended : Option ℕ) (t : ℕ) (d : Drawn) (key : Key) (row : Option (List ℕ)) → timestamp_of (q.sessions n) ≡ t → StampsNext q t d key row
+    → IsHeldAt q (version_by key (ByCommit t)) begun → IsHeldAt q (newest_of q key) ended → q.failed ≡ false → IsKept q
+    → HasStamps q.layout old new begun ended t → SlotsHold q old → SlotsHold (next_state q (Stamp n)) new
+slots-stamp_any q n old new begun ended t d key row its next this replaces up kept has h =
+    subst (λ (u : ℕ). SlotsHold (with_stamp q u) new) (sym its) (slots-stamped q old new begun ended t d key row next this replaces up kept has h)

@@ -1,9 +1,9 @@
 -- What every plain state that a room shows keeps.
-use Rattle.std.specs.Prelude.{◌≡◌, ℕ, ◌+◌, ◌<◌, ◌≤◌, ◌^◌, Bool, true, ◌&&◌, nat_lt, List, [], map, IsTrue, Option, Some, None}
+use Rattle.std.specs.Prelude.{◌≡◌, ℕ, ◌<◌, ◌≤◌, ◌&&◌, nat_lt, List, [], map, IsTrue, Some}
 use Rattle.std.specs.List.{list_all}
 use Rattle.base.specs.declared.key.Key.{Key}
 use Rattle.base.specs.Keys.{lookup_key}
-use Rattle.base.specs.Commits.{Commit, after, last_writer}
+use Rattle.base.specs.Commits.{after, last_writer}
 use Rattle.base.specs.Layout.{is_in_limits}
 use Rattle.base.specs.Records.{is_committed, is_well_formed, are_rising}
 use Rattle.base.specs.Machine.{State, Drawn, Version, Writer, BySession, ByCommit, drawn_at, writes_of, present}

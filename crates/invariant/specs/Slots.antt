@@ -3,7 +3,7 @@ use Rattle.std.specs.Prelude.{◌≡◌, ◌⊎◌, ℕ, ◌+◌, ◌/◌, ◌%�
 use Rattle.std.specs.List.{list_any, list_all}
 use Rattle.base.specs.declared.key.Key.{Key}
 use Rattle.base.specs.Keys.{key_eq, lookup_key}
-use Rattle.base.specs.Commits.{Writes, Commit, after, last_writer, writes_key}
+use Rattle.base.specs.Commits.{Writes, after, last_writer, writes_key}
 use Rattle.base.specs.Layout.{Layout, slot_start, slot_words, total_words, row_limit}
 use Rattle.base.specs.Records.{is_in, is_committed}
 use Rattle.base.specs.Images.{Image, layout_of, key_of, row_of, len_of, link_of, bytes_of, slot_word}
@@ -118,11 +118,13 @@ pub record IsWaiting (q : State) (device : Device) (slot : ℕ) (key : Key) (row
   pub cleared : q.failed ≡ false → IsSettledAt device (word_of q.layout slot 0) 0
   pub filled : q.failed ≡ false → IsFilled q device slot key row
 
--- the version is there to stay, and nothing ends it that counts
+-- the version is there to stay, and nothing ends it that counts; its end is the timestamp of a drawn commit that has
+-- stamped its key
 pub record IsLive (q : State) (device : Device) (slot : ℕ) (key : Key) (row : List ℕ) : Type 0 where
   pub begin : IsSettled device (word_of q.layout slot 0)
   pub counted : IsCounted q (value_of device (word_of q.layout slot 0))
   pub end : EachSurvivor device (word_of q.layout slot 1) (λ x. IsNever q x ⊎ IsTrue (is_drawn_on q key x))
+  pub ended : (t : ℕ) (d : Drawn) → drawn_at q t ≡ Some d → is_key_stamped d key ≡ true → value_of device (word_of q.layout slot 1) ≡ t
   pub settled : (w : ℕ) → 2 ≤ w → w < slot_words q.layout.version → IsSettled device (word_of q.layout slot w)
   pub spells : Spells q.layout (value_of device) slot key row
 

@@ -1,6 +1,6 @@
 -- Every image stands.
-use Rattle.std.specs.Prelude.{◌≡◌, ℕ, ◌+◌, ◌<◌, ◌≤◌, ◌*◌, false, true, List, length, slice_index, IsTrue, None}
-use Rattle.base.specs.Layout.{Layout, total_words, slot_words, is_known_version}
+use Rattle.std.specs.Prelude.{◌≡◌, ℕ, ◌<◌, true, slice_index, None}
+use Rattle.base.specs.Layout.{Layout, slot_words, is_known_version}
 use Rattle.base.specs.Records.{Record}
 use Rattle.base.specs.Search.{first_below}
 use Rattle.base.specs.Images.{Image, is_formatted, layout_of, has_good_geometry, is_wrong_gate, is_ruled, ruling}
