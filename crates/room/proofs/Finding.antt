@@ -21,7 +21,7 @@ use Rattle.version_slot.specs.declared.words.Version.{Version}
 use Rattle.version_slot.specs.Words.{Fits, IsVersion, IsSlot, slot_at}
 use Rattle.version_slot.proofs.Decoding.{limits}
 use Rattle.version_slot.proofs.ImageSlots.{key_is, row_is_of, version_of, holds_version}
-use Rattle.room.specs.Tables.{HoldsTables, HasNewest}
+use Rattle.room.specs.Tables.{HoldsTables, HasNewest, IsNewestAt}
 
 -- an image with this layout and the device's other words
 abbrev laid_image : Layout → Device → Image
@@ -173,17 +173,22 @@ module _ (q : State) (a : Layout) (r : Record) (device : Device) (slot : ℕ) (k
       let live = live-of held in
       key-read a device slot size limited-here h key live.0 (spells-here live.0 key live.1) s is
 
-  row-of : (s : Slot) → IsSlot a (slot_at a slot (value_of device)) s → s.version.key ≡ key → (k : Key) (row : List ℕ) → IsLiving q device slot k row → after q.history key ≡ Some s.version.row
+  row-of : (s : Slot) → IsSlot a (slot_at a slot (value_of device)) s → s.version.key ≡ key → (k : Key) (row : List ℕ) → IsLiving q device slot k row → IsNewestAt q key slot s.version.row
   row-of s is at k row living =
       let same : k ≡ key = sym (key-read a device slot size limited-here h k row (spells-here row k living.live) s is) ∙ at in
-      let w = tables.kept.written k slot (omega (arith, h, ap (λ (l : Layout). l.slots) tables.layout)) living.held in
+      let within : slot < q.layout.slots = omega (arith, h, ap (λ (l : Layout). l.slots) tables.layout) in
+      let w = tables.kept.written k slot within living.held in
       let read : s.version.row ≡ row = row-read a device slot size limited-here h k row (spells-here row k living.live) s is in
       let shown : row ≡ w.0 = living.is ∙ ap (λ (o : Option (List ℕ)). unwrap_or o []) w.1 in
-      subst (λ (x : Key). after q.history x ≡ Some s.version.row) same (w.1 ∙ ap Some (sym (read ∙ shown)))
+      record {
+        within = within;
+        newest = subst (HasNewest q slot) same living.held;
+        has = subst (λ (x : Key). after q.history x ≡ Some s.version.row) same (w.1 ∙ ap Some (sym (read ∙ shown)));
+      }
 
   -- what a live slot says is the row
   pub live-row : (b e : Bool) → IsOrderly device → b ≡ is_committed r (slot_at a slot (value_of device) 0) → b ≡ true → e ≡ is_committed r (slot_at a slot (value_of device) 1) → e ≡ false
-      → (s : Slot) → IsSlot a (slot_at a slot (value_of device)) s → s.version.key ≡ key → after q.history key ≡ Some s.version.row
+      → (s : Slot) → IsSlot a (slot_at a slot (value_of device)) s → s.version.key ≡ key → IsNewestAt q key slot s.version.row
   live-row b e orderly begin-is counts end-is lasts s is at = by (outcome q device slot tables.kept slot_holds)
     where
       true-false : (c : Bool) → c ≡ true → c ≡ false → ⊥
@@ -193,16 +198,16 @@ module _ (q : State) (a : Layout) (r : Record) (device : Device) (slot : ℕ) (k
       out (unbegun each) = true-false _ (commits-same _ ∙ ap (is_committed r) (place-same 0) ∙ sym begin-is ∙ counts) (each.each _ (orderly.some (word_of q.layout slot 0) (within-words 0 (lit< tt))))
       out (ended each) = true-false _ (each.each _ (orderly.some (word_of q.layout slot 1) (within-words 1 (lit< tt)))) (commits-same _ ∙ ap (is_committed r) (place-same 1) ∙ sym end-is ∙ lasts)
 
-      by : Outcome q device slot → after q.history key ≡ Some s.version.row
+      by : Outcome q device slot → IsNewestAt q key slot s.version.row
       by (inl (k, row, living)) = row-of s is at k row living
       by (inr o) = absurd (out o)
 
 -- where no slot has the newest version, there is no row
-pub none-after : (q : State) (a : Layout) (r : Record) (device : Device) (key : Key) → HoldsTables a r device q → ((slot : ℕ) → slot < a.slots → HasNewest q slot key → ⊥) → None ≡ after q.history key
+pub none-after : (q : State) (a : Layout) (r : Record) (device : Device) (key : Key) → HoldsTables a r device q → ((slot : ℕ) → slot < a.slots → HasNewest q slot key → ⊥) → after q.history key ≡ None
 none-after q a r device key tables none = by (after q.history key) refl
   where
-    by : (o : Option (List ℕ)) → after q.history key ≡ o → None ≡ after q.history key
-    by None is = sym is
+    by : (o : Option (List ℕ)) → after q.history key ≡ o → after q.history key ≡ None
+    by None is = is
     by (Some row) is =
         let slot = tables.kept.rows key row is in
         absurd (none slot.0 (omega (arith, slot.1, ap (λ (l : Layout). l.slots) tables.layout)) slot.2)

@@ -1,6 +1,7 @@
 -- The step that reads a row.
 use Rattle.std.proofs.Common.{◌≡◌, ℕ, Bool, true, false, cond, List, [], ◌∷◌, length, take, refl, sym, ◌∙◌, ap, subst, nat_eq, ◌&&◌}
 use Rattle.std.specs.Prelude.{Option, Some, None, unwrap_or}
+use Rattle.std.specs.Option.{option_map}
 use Rattle.std.proofs.Math.Seq.{take-length}
 use Rattle.base.specs.declared.key.Key.{Key}
 use Rattle.base.specs.declared.fault.Fault.TheVariants.{WrongState}
@@ -16,8 +17,10 @@ use Rattle.pmem.specs.declared.device.Pmem.{Ghosts}
 use Rattle.room.specs.declared.room.Room.{Room}
 use Rattle.room.specs.declared.session.Session.{Session}
 use Rattle.room.specs.declared.session.Session.TheVariants.{Active, Drawn, Covered, ReadOnly}
-use Rattle.room.specs.declared.session.Write.{Write}
-use Rattle.room.specs.Agrees.{plain_session}
+use Rattle.txn.specs.declared.write.Write.{Write}
+use Rattle.txn.specs.WriteSets.{write_of, plain_writes}
+use Rattle.txn.proofs.Plain.{lookup_key-plain_writes}
+use Rattle.room.specs.Sessions.{plain_session}
 use Rattle.room.specs.Room.{Shows}
 use Rattle.room.specs.Tables.{HoldsTables}
 use Rattle.room.proofs.Refusals.{refusal-get, refusal-get_misplaced}
@@ -33,26 +36,17 @@ seen-reading q n key writes found =
     ap (λ (s : Option PlainSession). overlaid (writes_of s) (after (take (begun_of s) q.history)) key) found
     ∙ ap (λ (l : List Commit). unwrap_or (lookup_key writes key) (after l key)) (take-length q.history)
 
--- the session's own write comes first
-pub get-own : (q : State) (n : ℕ) (key : Key) (write : Write) (same : Bool) → q.failed ≡ false → q.sessions n ≡ Some (plain_session (length q.history) (Active (Some write)))
-    → same ≡ (nat_eq write.key.table key.table && nat_eq write.key.key key.key) → same ≡ true → Stepped q (Get n key) (Row (Some write.row)) q
-get-own q n key write same works found is own =
-    answered (refusal-get q n key (plain_session (length q.history) (Active (Some write))) works found refl)
-    (ap (λ (o : Option (List ℕ)). Row o) (sym (seen-reading q n key ((write.key, Some write.row) ∷ []) found
-    ∙ ap (λ (b : Bool). unwrap_or (cond b (Some (Some write.row)) None) (after q.history key)) (sym is ∙ own)))) refl
-
--- the tables come next
-pub get-other : (q : State) (n : ℕ) (key : Key) (write : Write) (same : Bool) (row : Option (List ℕ)) → q.failed ≡ false → q.sessions n ≡ Some (plain_session (length q.history) (Active (Some write)))
-    → same ≡ (nat_eq write.key.table key.table && nat_eq write.key.key key.key) → same ≡ false → row ≡ after q.history key → Stepped q (Get n key) (Row row) q
-get-other q n key write same row works found is other shown =
-    answered (refusal-get q n key (plain_session (length q.history) (Active (Some write))) works found refl)
-    (ap (λ (o : Option (List ℕ)). Row o) (shown ∙ sym (seen-reading q n key ((write.key, Some write.row) ∷ []) found
-    ∙ ap (λ (b : Bool). unwrap_or (cond b (Some (Some write.row)) None) (after q.history key)) (sym is ∙ other)))) refl
-
-pub get-unwritten : (q : State) (n : ℕ) (key : Key) (row : Option (List ℕ)) → q.failed ≡ false → q.sessions n ≡ Some (plain_session (length q.history) (Active None)) → row ≡ after q.history key → Stepped q (Get n key) (Row row) q
-get-unwritten q n key row works found shown =
-    answered (refusal-get q n key (plain_session (length q.history) (Active None)) works found refl)
-    (ap (λ (o : Option (List ℕ)). Row o) (shown ∙ sym (seen-reading q n key [] found))) refl
+-- the session's own write comes first, and the tables come next
+pub get-seen : (q : State) (n : ℕ) (key : Key) (writes : List Write) (row : Option (List ℕ)) → q.failed ≡ false → q.sessions n ≡ Some (plain_session (length q.history) (Active writes))
+    → ((write : Write) → write_of key writes ≡ Some write → row ≡ write.row) → (write_of key writes ≡ None → row ≡ after q.history key) → Stepped q (Get n key) (Row row) q
+get-seen q n key writes row works found own committed =
+    answered (refusal-get q n key (plain_session (length q.history) (Active writes)) works found refl)
+    (ap (λ (o : Option (List ℕ)). Row o) (sees (write_of key writes) refl ∙ sym (seen-reading q n key (plain_writes writes) found
+    ∙ ap (λ (o : Option (Option (List ℕ))). unwrap_or o (after q.history key)) (lookup_key-plain_writes writes key)))) refl
+  where
+    sees : (o : Option Write) → write_of key writes ≡ o → row ≡ unwrap_or (option_map (λ (w : Write). w.row) (write_of key writes)) (after q.history key)
+    sees (Some write) is = own write is ∙ sym (ap (λ (o : Option Write). unwrap_or (option_map (λ (w : Write). w.row) o) (after q.history key)) is)
+    sees None is = committed is ∙ sym (ap (λ (o : Option Write). unwrap_or (option_map (λ (w : Write). w.row) o) (after q.history key)) is)
 
 -- a session that doesn't read
 drew-barred : (n : ℕ) (key : Key) (b c : Bool) → allows (Get n key) (cond b IsCovered (cond c IsStamped IsDrawn)) ≡ false

@@ -7,7 +7,7 @@ use Rattle.std.proofs.lemmas.Bool.{or_parts, leb-false, ltb-false, lt-ltb, false
 use Rattle.std.proofs.lemmas.Option.{slice_get-get_or}
 use Rattle.std.proofs.lemmas.List.FromFn.{length-map-range_with_len, get_or-map-range_with_len}
 use Rattle.base.specs.declared.gap.Gap.{Gap}
-use Rattle.base.specs.Batches.{Batch}
+use Rattle.room.specs.declared.cycle.InHand.{InHand}
 use Rattle.base.specs.Commits.{Commit}
 use Rattle.base.specs.Layout.{Layout, slot_words, total_words}
 use Rattle.base.specs.Records.{Record, opened_gaps}
@@ -31,7 +31,8 @@ use Rattle.recovery.proofs.Opens.{or-none, faultless, formed-ruling}
 use Rattle.room.specs.declared.cycle.Cycle.{Cycle}
 use Rattle.room.specs.declared.session.Session.{Session}
 use Rattle.room.specs.declared.room.Room.{Room}
-use Rattle.room.specs.Agrees.{Works, HasFree, Agrees, plain_session, session_at}
+use Rattle.room.specs.Agrees.{Works, HasFree, Agrees}
+use Rattle.room.specs.Sessions.{plain_session, session_at}
 use Rattle.room.specs.Room.{Shows}
 use Rattle.room.proofs.Standing.{word-within, stands-works}
 
@@ -165,7 +166,7 @@ shows-opened {D} {G} state old room free history drawn next lost opened same_fre
     let works : Works q device room.session room.cycle room.batch room.slots =
     subst (λ (s : Option Session). Works q device s room.cycle room.batch room.slots) (sym no_session)
     (subst (λ (c : Option Cycle). Works q device None c room.batch room.slots) (sym no_cycle)
-    (subst (λ (b : Option Batch). Works q device None None b room.slots) (sym no_batch)
+    (subst (λ (b : Option InHand). Works q device None None b room.slots) (sym no_batch)
     (subst (λ (f : List Bool). Works q device None None None f) (sym same_free) none))) in (
       q,
       opens-as old device room.numbers.geometry room.numbers.record room.numbers.next free opened history drawn next lost stands,

@@ -13,9 +13,10 @@ use Rattle.pmem.specs.declared.device.Pmem.{Ghosts}
 use Rattle.invariant.specs.Kept.{IsKept}
 use Rattle.room.specs.declared.session.Session.{Session}
 use Rattle.room.specs.declared.session.Session.TheVariants.{Active, Drawn, Covered, ReadOnly}
-use Rattle.room.specs.declared.session.Write.{Write}
+use Rattle.txn.specs.declared.write.Write.{Write}
 use Rattle.room.specs.declared.room.Room.{Room}
-use Rattle.room.specs.Agrees.{Works, session_at, plain_session, drawn_by}
+use Rattle.room.specs.Agrees.{Works}
+use Rattle.room.specs.Sessions.{session_at, plain_session, drawn_by}
 
 -- the plain session of a number, where the room's is known
 pub session-found : {D : Type 0} {G : Ghosts D} (state : D → Device) (room : Room D G) (q : State) (n : ℕ) (found : Option Session) → Works q (state room.device) room.session room.cycle room.batch room.slots → session_at room.session n ≡ found
@@ -43,3 +44,7 @@ not-covered r (commit ∷ history) t all later = by (not-covered r history t) (i
     by more true true in_it same rest = let le = committed-within r commit.timestamp in_it in absurd (grind (arith, nat_tests))
     by more true false in_it same rest = more rest later
     by more false c in_it same rest = cc
+
+-- the session's number finds it
+pub found-at : (session : Option Session) (n : ℕ) (there found : Session) → n ≡ 2 → session ≡ Some there → there ≡ found → session_at session n ≡ Some found
+found-at session n there found two is same = ap (λ (k : ℕ). session_at session k) two ∙ is ∙ ap (λ (s : Session). Some s) same

@@ -5,7 +5,7 @@ use Rattle.std.specs.List.{list_all}
 use Rattle.std.proofs.lemmas.Bool.{and_parts, and_from, or_left, or_right}
 use Rattle.std.proofs.lemmas.Nat.{mul-add-lt}
 use Rattle.std.proofs.lemmas.List.Folds.{list_any-append}
-use Rattle.base.specs.Batches.{Batch}
+use Rattle.room.specs.declared.cycle.InHand.{InHand}
 use Rattle.base.specs.Commits.{Commit}
 use Rattle.base.specs.Layout.{Layout, total_words, slot_words, is_in_limits, is_known_version, is_between}
 use Rattle.base.specs.Records.{Record, is_committed}
@@ -22,10 +22,11 @@ use Rattle.invariant.specs.Slots.{SlotsHold, word_of}
 use Rattle.invariant.proofs.Standing.{every-image-stands, limits-of}
 use Rattle.room.specs.declared.cycle.Cycle.{Cycle}
 use Rattle.room.specs.declared.cycle.CycleStage.{CycleStage}
-use Rattle.room.specs.declared.cycle.CycleStage.TheVariants.{FlushLine, FenceLine, WriteRecord}
+use Rattle.room.specs.declared.cycle.CycleStage.TheVariants.{FlushLines, WriteRecord}
 use Rattle.room.specs.declared.session.Session.{Session}
 use Rattle.room.specs.declared.session.Session.TheVariants.{Active, Drawn, Covered, ReadOnly}
-use Rattle.room.specs.declared.session.Write.{Write}
+use Rattle.txn.specs.declared.write.Write.{Write}
+use Rattle.room.specs.Sessions.{lines_in}
 use Rattle.room.specs.Agrees.{Works, HoldsLog, HoldsStage, IsCycleOf, IsCovering, hand_of}
 
 -- each word of a slot lies on the device
@@ -52,34 +53,33 @@ as_ruled a r image ruled = record {
   ruling = ruled.by_record;
 }
 
--- under the state's own record
+-- under the state's own record, where the words of the slots survive
+pub stands-survived : (q : State) (device : Device) (image : Image) → IsKept q → SlotsHold q device → SlotsSurvive q.layout device image → IsRuled q.layout (present q).ruled_by image → StandsUnder q (present q) image
+stands-survived q device image kept slots words ruled = every-image-stands q device image kept slots words (as_ruled q.layout (present q).ruled_by image ruled)
+
+-- where a crash may leave the image
 pub stands-ruled : (q : State) (device : Device) (image : Image) → device.words ≡ total_words q.layout → IsKept q → SlotsHold q device → MayLeave device image → IsRuled q.layout (present q).ruled_by image → StandsUnder q (present q) image
-stands-ruled q device image size kept slots may ruled = every-image-stands q device image kept slots (survive q.layout device image size may) (as_ruled q.layout (present q).ruled_by image ruled)
+stands-ruled q device image size kept slots may ruled = stands-survived q device image kept slots (survive q.layout device image size may) ruled
 
 -- a timestamp of the batch is one of the history with the batch
 pub has-batch : (history batch : List Commit) (t : ℕ) → has_timestamp batch t ≡ true → has_timestamp (history ++ batch) t ≡ true
 has-batch history batch t has =
     list_any-append (λ (c : Commit). nat_eq c.timestamp t) history batch ∙ or_right (has_timestamp history t) (has_timestamp batch t) has
 
--- what is left out once a batch is covered, and the batch, are what was drawn before
-left_out-covered : (r : Record) (history batch : List Commit) (drawn : List DrawnCommit)
-    → list_all (λ (c : Commit). has_timestamp (history ++ batch) c.timestamp || not (is_committed r c.timestamp)) (map (λ (d : DrawnCommit). d.commit) (filter (λ (d : DrawnCommit). not (has_timestamp batch d.commit.timestamp)) drawn)) ≡ true
-    → list_all (λ (c : Commit). has_timestamp (history ++ batch) c.timestamp || not (is_committed r c.timestamp)) (map (λ (d : DrawnCommit). d.commit) drawn) ≡ true
-left_out-covered r history batch [] all = refl
-left_out-covered r history batch (d ∷ drawn) all = by (has_timestamp batch d.commit.timestamp) refl (left_out-covered r history batch drawn) all
+-- what all have that a filter leaves, and each that it drops, all have
+pub all-left_out : (p : Commit → Bool) (dropped : DrawnCommit → Bool) (drawn : List DrawnCommit) → ((d : DrawnCommit) → dropped d ≡ true → p d.commit ≡ true)
+    → list_all p (map (λ (d : DrawnCommit). d.commit) (filter (λ (d : DrawnCommit). not (dropped d)) drawn)) ≡ true → list_all p (map (λ (d : DrawnCommit). d.commit) drawn) ≡ true
+all-left_out p dropped [] has all = refl
+all-left_out p dropped (d ∷ drawn) has all = by (dropped d) refl (all-left_out p dropped drawn has) all
   where
-    by : (b : Bool) → has_timestamp batch d.commit.timestamp ≡ b
-        → (list_all (λ (c : Commit). has_timestamp (history ++ batch) c.timestamp || not (is_committed r c.timestamp)) (map (λ (d : DrawnCommit). d.commit) (filter (λ (d : DrawnCommit). not (has_timestamp batch d.commit.timestamp)) drawn)) ≡ true
-        → list_all (λ (c : Commit). has_timestamp (history ++ batch) c.timestamp || not (is_committed r c.timestamp)) (map (λ (d : DrawnCommit). d.commit) drawn) ≡ true)
-        → list_all (λ (c : Commit). has_timestamp (history ++ batch) c.timestamp || not (is_committed r c.timestamp)) (map (λ (d : DrawnCommit). d.commit) (cond (not b) (d ∷ filter (λ (d : DrawnCommit). not (has_timestamp batch d.commit.timestamp)) drawn) (filter (λ (d : DrawnCommit). not (has_timestamp batch d.commit.timestamp)) drawn))) ≡ true
-        → (has_timestamp (history ++ batch) d.commit.timestamp || not (is_committed r d.commit.timestamp)) && list_all (λ (c : Commit). has_timestamp (history ++ batch) c.timestamp || not (is_committed r c.timestamp)) (map (λ (d : DrawnCommit). d.commit) drawn) ≡ true
-    by true has rest left =
-        and_from (has_timestamp (history ++ batch) d.commit.timestamp || not (is_committed r d.commit.timestamp)) (list_all (λ (c : Commit). has_timestamp (history ++ batch) c.timestamp || not (is_committed r c.timestamp)) (map (λ (d : DrawnCommit). d.commit) drawn))
-        (or_left (has_timestamp (history ++ batch) d.commit.timestamp) (not (is_committed r d.commit.timestamp)) (has-batch history batch d.commit.timestamp has)) (rest left)
-    by false has rest left =
-        let both = and_parts (has_timestamp (history ++ batch) d.commit.timestamp || not (is_committed r d.commit.timestamp)) (list_all (λ (c : Commit). has_timestamp (history ++ batch) c.timestamp || not (is_committed r c.timestamp)) (map (λ (d : DrawnCommit). d.commit) (filter (λ (d : DrawnCommit). not (has_timestamp batch d.commit.timestamp)) drawn))) left in
-        and_from (has_timestamp (history ++ batch) d.commit.timestamp || not (is_committed r d.commit.timestamp)) (list_all (λ (c : Commit). has_timestamp (history ++ batch) c.timestamp || not (is_committed r c.timestamp)) (map (λ (d : DrawnCommit). d.commit) drawn))
-        both.0 (rest both.1)
+    by : (b : Bool) → dropped d ≡ b
+        → (list_all p (map (λ (d : DrawnCommit). d.commit) (filter (λ (d : DrawnCommit). not (dropped d)) drawn)) ≡ true → list_all p (map (λ (d : DrawnCommit). d.commit) drawn) ≡ true)
+        → list_all p (map (λ (d : DrawnCommit). d.commit) (cond (not b) (d ∷ filter (λ (d : DrawnCommit). not (dropped d)) drawn) (filter (λ (d : DrawnCommit). not (dropped d)) drawn))) ≡ true
+        → p d.commit && list_all p (map (λ (d : DrawnCommit). d.commit) drawn) ≡ true
+    by true is rest left = and_from (p d.commit) (list_all p (map (λ (d : DrawnCommit). d.commit) drawn)) (has d is) (rest left)
+    by false is rest left =
+        let both = and_parts (p d.commit) (list_all p (map (λ (d : DrawnCommit). d.commit) (filter (λ (d : DrawnCommit). not (dropped d)) drawn))) left in
+        and_from (p d.commit) (list_all p (map (λ (d : DrawnCommit). d.commit) drawn)) both.0 (rest both.1)
 
 -- under the record of the batch in hand: as the state in which it is covered says
 pub stands-covered : (q : State) (hand : Hand) (image : Image) → StandsUnder (state_covered q hand) (present (state_covered q hand)) image
@@ -89,7 +89,9 @@ stands-covered q hand image s = record {
     sound = s.stands.sound;
     tables = s.stands.tables;
     covered = s.stands.covered;
-    left_out = left_out-covered (ruling image) q.history hand.commits q.drawn s.stands.left_out;
+    left_out = all-left_out (λ (c : Commit). has_timestamp (q.history ++ hand.commits) c.timestamp || not (is_committed (ruling image) c.timestamp)) (λ (d : DrawnCommit). has_timestamp hand.commits d.commit.timestamp) q.drawn
+        (λ d in_batch. or_left (has_timestamp (q.history ++ hand.commits) d.commit.timestamp) (not (is_committed (ruling image) d.commit.timestamp)) (has-batch q.history hand.commits d.commit.timestamp in_batch))
+        s.stands.left_out;
     reserved = s.stands.reserved;
   };
   ruled = s.ruled;
@@ -111,9 +113,9 @@ stands-held q device kept slots holds image may =
     stands-first q (of_hand q q.hand) image (stands-ruled q device image holds.stands.size kept slots may (holds_ruled q.layout (present q).ruled_by device holds image may))
 
 -- the record of the batch in hand is being written
-pub stands-covering : (q : State) (device : Device) (cycle : Cycle) (batch : Option Batch) (t : ℕ) (write : Write) → IsKept q → SlotsHold q device → IsCycleOf q cycle batch t write
-    → IsCovering q (state_covered q (hand_of q cycle t write)) device cycle.writing → (image : Image) → MayLeave device image → StandsAt q image
-stands-covering q device cycle batch t write kept slots of covering image may = by (ruled_meanwhile (present q).ruled_by cycle.writing device covering.replaces image may)
+pub stands-covering : (q : State) (device : Device) (cycle : Cycle) (batch : Option InHand) (t : ℕ) (writes : List Write) → IsKept q → SlotsHold q device → IsCycleOf q cycle batch t writes
+    → IsCovering q (state_covered q (hand_of q cycle t writes)) device cycle.writing → (image : Image) → MayLeave device image → StandsAt q image
+stands-covering q device cycle batch t writes kept slots of covering image may = by (ruled_meanwhile (present q).ruled_by cycle.writing device covering.replaces image may)
   where
     size : device.words ≡ total_words q.layout
     size = covering.replaces.stands.size ∙ ap (λ (a : Layout). total_words a) of.layout
@@ -123,26 +125,24 @@ stands-covering q device cycle batch t write kept slots of covering image may = 
         stands-first q (of_hand q q.hand) image
         (stands-ruled q device image size kept slots may (subst (λ (a : Layout). IsRuled a (present q).ruled_by image) of.layout old))
     by (inr new) =
-        let covered : State = state_covered q (hand_of q cycle t write) in
+        let covered : State = state_covered q (hand_of q cycle t writes) in
         let ruled : IsRuled q.layout (present covered).ruled_by image =
         subst (λ (r : Record). IsRuled q.layout r image) of.target (subst (λ (a : Layout). IsRuled a cycle.writing.target image) of.layout new.1) in
-        stands-second q (hand_of q cycle t write) image of.in_hand
-        (stands-covered q (hand_of q cycle t write) image (stands-ruled covered device image size covering.keeps covering.slots may ruled))
+        stands-second q (hand_of q cycle t writes) image of.in_hand
+        (stands-covered q (hand_of q cycle t writes) image (stands-ruled covered device image size covering.keeps covering.slots may ruled))
 
 -- at each instant between two steps
-pub stands-works : (q : State) (device : Device) (session : Option Session) (cycle : Option Cycle) (batch : Option Batch) (free : List Bool) → Works q device session cycle batch free → (image : Image) → MayLeave device image → StandsAt q image
+pub stands-works : (q : State) (device : Device) (session : Option Session) (cycle : Option Cycle) (batch : Option InHand) (free : List Bool) → Works q device session cycle batch free → (image : Image) → MayLeave device image → StandsAt q image
 stands-works q device session cycle batch free works image may = by session cycle works.log
   where
-    at_stage : (cycle : Cycle) (t : ℕ) (write : Write) (stage : CycleStage) → IsCycleOf q cycle batch t write → HoldsStage q device cycle t write stage → StandsAt q image
-    at_stage cycle t write FlushLine of holds = stands-held q device works.kept works.slots holds.0 image may
-    at_stage cycle t write FenceLine of holds = stands-held q device works.kept works.slots holds.0 image may
-    at_stage cycle t write WriteRecord of holds = stands-covering q device cycle batch t write works.kept works.slots of holds image may
+    at_stage : (cycle : Cycle) (t : ℕ) (writes : List Write) (stage : CycleStage) → IsCycleOf q cycle batch t writes → HoldsStage q device cycle (lines_in batch) t writes stage → StandsAt q image
+    at_stage cycle t writes (FlushLines flushed) of holds = stands-held q device works.kept works.slots holds.0 image may
+    at_stage cycle t writes WriteRecord of holds = stands-covering q device cycle batch t writes works.kept works.slots of holds image may
 
     by : (session : Option Session) (cycle : Option Cycle) → HoldsLog q device session cycle batch → StandsAt q image
     by session None log = stands-held q device works.kept works.slots log.1 image may
-    by (Some (Drawn t write true)) (Some cycle) log = at_stage cycle t write cycle.stage log.0 log.1
-    by (Some (Drawn t write false)) (Some cycle) log = absurd log
-    by (Some (Active write)) (Some cycle) log = absurd log
+    by (Some (Drawn t writes stamped)) (Some cycle) log = at_stage cycle t writes cycle.stage log.1 log.2
+    by (Some (Active writes)) (Some cycle) log = absurd log
     by (Some (Covered t)) (Some cycle) log = absurd log
     by (Some ReadOnly) (Some cycle) log = absurd log
     by None (Some cycle) log = absurd log

@@ -1,25 +1,23 @@
 -- What storing in one slot leaves on the device, by its words.
-use Rattle.std.proofs.Common.{◌≡◌, ◌≢◌, ◌⊎◌, inl, inr, ℕ, ◌+◌, ◌-◌, ◌*◌, ◌<◌, ◌≤◌, Bool, cond, List, [], ◌∷◌, length, refl, sym, ◌∙◌, ap, subst, arith, get_or, mul-le-mul_left}
-use Rattle.std.specs.Prelude.{Option, Some, None}
+use Rattle.std.proofs.Common.{◌≡◌, ◌≢◌, ◌⊎◌, inl, inr, ℕ, ◌+◌, ◌-◌, ◌*◌, ◌<◌, ◌≤◌, Bool, List, [], ◌∷◌, length, refl, sym, ◌∙◌, ap, subst, arith, get_or, mul-le-mul_left}
+use Rattle.std.specs.Prelude.{Some}
 use Rattle.std.proofs.lemmas.Bool.{cases_lt, cases_eq, cases_order}
-use Rattle.base.specs.declared.key.Key.{Key}
 use Rattle.base.specs.Images.{Image, layout_of, slot_word}
 use Rattle.base.specs.Layout.{Layout, slot_start, slot_words, total_words}
 use Rattle.base.specs.Records.{Record}
-use Rattle.pmem.specs.Device.{Entry, Device, newest, survivors_in, IsAmong, IsReadyIn, MayLeave, MightHaveLeft, LeavesOnly, Survives, value_of, IsSettled, Keeps, stored}
+use Rattle.pmem.specs.Device.{Entry, Device, newest, survivors_in, IsAmong, IsReadyIn, MayLeave, LeavesOnly, Survives, value_of, Keeps, stored}
 use Rattle.pmem.proofs.Steps.{history-stored_other, survivors-stored_same}
 use Rattle.slot_alloc.specs.Clearing.{IsNotStored}
-use Rattle.slot_alloc.specs.Free.{lowest_free, IsBeginOfLowest, OldOrCleared}
+use Rattle.slot_alloc.specs.Free.{lowest_free, OldOrCleared}
 use Rattle.version_slot.specs.declared.words.Version.{Version}
-use Rattle.version_slot.specs.Filling.{OldOrRun, StoresRun, Fills, Stamps}
+use Rattle.version_slot.specs.Filling.{OldOrRun, StoresRun, Fills}
 use Rattle.version_slot.specs.Words.{filled_word, IsVersion, slot_at}
 use Rattle.version_slot.proofs.ImageSlots.{key_is, row_is_of, well_formed}
 use Rattle.log_area.specs.Rulings.{HoldsRecord, IsKept as IsKeptWord}
 use Rattle.log_area.proofs.Kept.{KeepsLog, holds_record_kept}
-use Rattle.invariant.specs.Moves.{ShrinksWord, ShrinksSlot, ShrinksOthers, IsCleared, IsRefilled, IsStampedWith}
-use Rattle.invariant.specs.Slots.{word_of, EachSurvivor, IsSettledAt, Spells, HasVersion}
-use Rattle.invariant.proofs.Moves.{within-slot, each-settled}
-use Rattle.room.specs.Storing.{first_version}
+use Rattle.invariant.specs.Moves.{ShrinksWord, ShrinksOthers, IsCleared, IsRefilled}
+use Rattle.invariant.specs.Slots.{word_of, IsSettledAt, Spells, HasVersion}
+use Rattle.invariant.proofs.Moves.{within-slot}
 
 -- ---- a word with the history that it had
 
@@ -87,7 +85,7 @@ log-stored a word value old high r = holds_record_kept a old (stored word value 
 -- ---- what may be left meanwhile
 
 module _ (first : ℕ) (value : ℕ → ℕ) (n failed : ℕ) (old new : Device) (run : StoresRun first value n failed old new) where
-  survives_still : (word x : ℕ) → Survives old word x → Survives new word x
+  pub survives_still : (word x : ℕ) → Survives old word x → Survives new word x
   survives_still word x there = by_place (cases_lt word first) (cases_lt word (first + n))
     where
       by_place : (word < first) ⊎ (first ≤ word) → (word < first + n) ⊎ (first + n ≤ word) → Survives new word x
@@ -149,15 +147,15 @@ kept-not_stored is = record { value = is.value; survivors = is.survivors; settle
 
 -- ---- the row that is stored is there to be read
 
-pub spells-version : (a : Layout) (slot : ℕ) (value : ℕ → ℕ) (key : Key) (row : List ℕ) → slot < a.slots → IsVersion a (slot_at a slot value) (first_version key row) → Spells a value slot key row
-spells-version a slot value key row lt is = record { read = λ image laid size words. read image laid size words }
+pub spells-version : (a : Layout) (slot : ℕ) (value : ℕ → ℕ) (v : Version) → slot < a.slots → IsVersion a (slot_at a slot value) v → Spells a value slot v.key v.row
+spells-version a slot value v lt is = record { read = λ image laid size words. read image laid size words }
   where
     read : (image : Image) → layout_of image ≡ a → length image ≡ total_words a
-        → ((w : ℕ) → 2 ≤ w → w < slot_words a.version → get_or image (word_of a slot w) 0 ≡ value (word_of a slot w)) → HasVersion image slot key row
+        → ((w : ℕ) → 2 ≤ w → w < slot_words a.version → get_or image (word_of a slot w) 0 ≡ value (word_of a slot w)) → HasVersion image slot v.key v.row
     read image laid size words = record {
-      at = key_is image slot within whole (first_version key row) here;
-      is = row_is_of image slot within whole (first_version key row) here;
-      fits = well_formed image slot within whole (first_version key row) here;
+      at = key_is image slot within whole v here;
+      is = row_is_of image slot within whole v here;
+      fits = well_formed image slot within whole v here;
     }
       where
         within : slot < (layout_of image).slots
@@ -166,13 +164,13 @@ spells-version a slot value key row lt is = record { read = λ image laid size w
         whole : total_words (layout_of image) ≤ length image
         whole = subst (λ (b : Layout). total_words b ≤ length image) (sym laid) (omega (arith, size))
 
-        here : IsVersion (layout_of image) (slot_word image slot) (first_version key row)
-        here = subst (λ (b : Layout). IsVersion b (λ w. get_or image (slot_start b slot + w) 0) (first_version key row)) (sym laid)
+        here : IsVersion (layout_of image) (slot_word image slot) v
+        here = subst (λ (b : Layout). IsVersion b (λ w. get_or image (slot_start b slot + w) 0) v) (sym laid)
             (record { each = λ w two below. words w two below ∙ is.each w two below; fits = is.fits })
 
 -- ---- filling
 
-module _ (a : Layout) (slot n failed : ℕ) (key : Key) (row : List ℕ) (old new : Device) (le : n ≤ slot_words a.version - 1) (run : Fills a slot (first_version key row) n failed old new) where
+module _ (a : Layout) (slot n failed : ℕ) (v : Version) (old new : Device) (le : n ≤ slot_words a.version - 1) (run : Fills a slot v n failed old new) where
   first_at : slot_start a slot + 1 ≡ word_of a slot 1
   first_at = refl
 
@@ -180,62 +178,30 @@ module _ (a : Layout) (slot n failed : ℕ) (key : Key) (row : List ℕ) (old ne
   fits_slot = omega (arith, le, within-slot a.version 0 (omega arith))
 
   pub filling_others : ShrinksOthers a slot old new
-  filling_others = run_others a slot 1 n failed (slot_start a slot + 1) first_at fits_slot (λ k. filled_word (first_version key row) (k + 1)) old new run
+  filling_others = run_others a slot 1 n failed (slot_start a slot + 1) first_at fits_slot (λ k. filled_word v (k + 1)) old new run
 
   pub filling_record : (r : Record) → HoldsRecord a r old → HoldsRecord a r new
-  filling_record = run_record a slot 1 n failed (slot_start a slot + 1) first_at fits_slot (λ k. filled_word (first_version key row) (k + 1)) old new run
+  filling_record = run_record a slot 1 n failed (slot_start a slot + 1) first_at fits_slot (λ k. filled_word v (k + 1)) old new run
 
-  end_word : (x : ℕ) → OldOrRun old (slot_start a slot + 1) (λ k. filled_word (first_version key row) (k + 1)) n (word_of a slot 1) x → (x ≡ 0) ⊎ Survives old (word_of a slot 1) x
+  end_word : (x : ℕ) → OldOrRun old (slot_start a slot + 1) (λ k. filled_word v (k + 1)) n (word_of a slot 1) x → (x ≡ 0) ⊎ Survives old (word_of a slot 1) x
   end_word x (inl there) = inr there
   end_word x (inr part) =
       let zero : part.0 ≡ 0 = omega (arith, part.2) in
-      inl (part.3 ∙ ap (λ (k : ℕ). filled_word (first_version key row) (k + 1)) zero)
+      inl (part.3 ∙ ap (λ (k : ℕ). filled_word v (k + 1)) zero)
 
   pub filling_cleared : IsSettledAt old (word_of a slot 0) 0 → IsCleared a old new slot
   filling_cleared begin = record {
-    begin = settled_at-same (word_of a slot 0) 0 (shrinks-same (word_of a slot 0) (run_before a slot 1 n failed (slot_start a slot + 1) first_at fits_slot (λ k. filled_word (first_version key row) (k + 1)) old new run 0 (omega arith))) begin;
+    begin = settled_at-same (word_of a slot 0) 0 (shrinks-same (word_of a slot 0) (run_before a slot 1 n failed (slot_start a slot + 1) first_at fits_slot (λ k. filled_word v (k + 1)) old new run 0 (omega arith))) begin;
     end = record { each = λ x there. end_word x (run.keeps.now (word_of a slot 1) x there) };
   }
 
-pub filling_refilled : (a : Layout) (slot failed : ℕ) (key : Key) (row : List ℕ) (old new : Device) → slot < a.slots → Fills a slot (first_version key row) (slot_words a.version - 1) failed old new
-    → IsVersion a (slot_at a slot (value_of new)) (first_version key row) → IsSettledAt old (word_of a slot 0) 0 → IsRefilled a old new slot key row
-filling_refilled a slot failed key row old new lt run version begin = record {
-  cleared = filling_cleared a slot (slot_words a.version - 1) failed key row old new (omega arith) run begin;
+pub filling_refilled : (a : Layout) (slot failed : ℕ) (v : Version) (old new : Device) → slot < a.slots → Fills a slot v (slot_words a.version - 1) failed old new
+    → IsVersion a (slot_at a slot (value_of new)) v → IsSettledAt old (word_of a slot 0) 0 → IsRefilled a old new slot v.key v.row
+filling_refilled a slot failed v old new lt run version begin = record {
+  cleared = filling_cleared a slot (slot_words a.version - 1) failed v old new (omega arith) run begin;
   ended = ap (value_of new) (place (slot_start a slot)) ∙ run.values 0 (omega (arith, within-slot a.version 1 (omega arith)));
-  spells = spells-version a slot (value_of new) key row lt version;
+  spells = spells-version a slot (value_of new) v lt version;
 }
   where
     place : (start : ℕ) → start + 1 ≡ start + 1 + 0
     place start = omega arith
-
--- ---- stamping
-
-module _ (a : Layout) (slot t n failed : ℕ) (old new : Device) (le : n ≤ 1) (run : Stamps (slot_start a slot) t n failed old new) where
-  begin_at : slot_start a slot ≡ word_of a slot 0
-  begin_at = omega arith
-
-  fits_begin : 0 + n ≤ slot_words a.version
-  fits_begin = omega (arith, le, within-slot a.version 0 (omega arith))
-
-  pub stamping_others : ShrinksOthers a slot old new
-  stamping_others = run_others a slot 0 n failed (slot_start a slot) begin_at fits_begin (λ k. t) old new run
-
-  pub stamping_record : (r : Record) → HoldsRecord a r old → HoldsRecord a r new
-  stamping_record = run_record a slot 0 n failed (slot_start a slot) begin_at fits_begin (λ k. t) old new run
-
-  pub stamping_word : (w : ℕ) → 1 ≤ w → ShrinksWord old new (word_of a slot w)
-  stamping_word w one = shrinks-same (word_of a slot w) (run_after a slot 0 n failed (slot_start a slot) begin_at fits_begin (λ k. t) old new run w (omega (arith, one, le)))
-
-  begin_word : IsSettledAt old (word_of a slot 0) 0 → (x : ℕ) → OldOrRun old (slot_start a slot) (λ k. t) n (word_of a slot 0) x → (x ≡ 0) ⊎ (x ≡ t)
-  begin_word begin x (inl there) = inl ((each-settled begin).each x there)
-  begin_word begin x (inr part) = inr part.3
-
-  pub stamping_begin : IsSettledAt old (word_of a slot 0) 0 → EachSurvivor new (word_of a slot 0) (λ x. (x ≡ 0) ⊎ (x ≡ t))
-  stamping_begin begin = record { each = λ x there. begin_word begin x (run.keeps.now (word_of a slot 0) x there) }
-
-pub stamping_stamped : (a : Layout) (slot t : ℕ) (old new : Device) → Stamps (slot_start a slot) t 1 0 old new → IsSettledAt old (word_of a slot 0) 0 → IsStampedWith a old new slot t
-stamping_stamped a slot t old new run begin = record {
-  begin = run.values 0 (omega arith);
-  survives = stamping_begin a slot t 1 0 old new (omega arith) run begin;
-  others = λ w one lt. stamping_word a slot t 1 0 old new (omega arith) run w one;
-}

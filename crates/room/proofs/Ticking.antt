@@ -1,8 +1,10 @@
 -- The committer's ticks, over what a working room holds.
 use Rattle.std.proofs.Common.{◌≡◌, inl, inr, ℕ, ◌+◌, ◌/◌, ◌^◌, ◌<◌, ◌≤◌, Bool, true, false, cond, not, ◌||◌, ◌&&◌, List, [], ◌∷◌, ◌++◌, length, refl, sym, ◌∙◌, ap, subst, arith}
-use Rattle.std.specs.Prelude.{Option, Some, None, is_some, IsTrue, nat_eq, nat_lt, nat_le, filter, slice_get, Contains}
+use Rattle.std.specs.Prelude.{Option, Some, None, is_some, IsTrue, nat_eq, nat_lt, nat_le, filter, slice_get, Contains, IsPermutation}
 use Rattle.std.specs.Option.{option_map}
-use Rattle.std.proofs.lemmas.Bool.{and_parts, eq-eqb, leb-true, or_left}
+use Rattle.std.proofs.lemmas.Bool.{and_parts, eq-eqb, leb-true, ltb-true, ltb-false, or_left}
+use Rattle.std.proofs.lemmas.Option.{slice_get-get_or, slice_get_within}
+use Rattle.std.proofs.lemmas.List.Sorted.{Contains-permutation, length_permutation}
 use Rattle.std.proofs.lemmas.List.Elements.{Contains-append_left, Contains-append_right, Contains-append_cases}
 use Rattle.base.specs.declared.fault.Fault.TheVariants.{Device as DeviceFault}
 use Rattle.base.specs.declared.step.Step.{Step}
@@ -12,17 +14,18 @@ use Rattle.base.specs.declared.step.Stage.TheVariants.{LineFlushed, LinesFenced}
 use Rattle.base.specs.declared.step.Reply.{Reply}
 use Rattle.base.specs.declared.step.Reply.TheVariants.{Refused, Ticked, Covered as CoveredReply}
 use Rattle.base.specs.Batches.{Batch}
+use Rattle.room.specs.declared.cycle.InHand.{InHand}
 use Rattle.base.specs.Layout.{Layout, total_words, slot_words, slot_start, is_in_limits, is_known_version, is_between}
 use Rattle.base.specs.Records.{Record}
 use Rattle.base.specs.Stands.{has_timestamp}
 use Rattle.base.specs.Images.{Image}
-use Rattle.base.specs.Machine.{State, answered, device_failed, Hand, Drawn as DrawnCommit, present, of_hand, covers_at, state_covered, refusal, operates, most_operations, ticked, ticked_on, state_ticked, state_ticked_on, next_stage, stages, batch_of, StandsUnder, StandsAsOne, StandsAt, StandsWithin}
+use Rattle.base.specs.Machine.{State, ByCommit, answered, device_failed, Hand, Drawn as DrawnCommit, present, of_hand, covers_at, state_covered, refusal, operates, most_operations, ticked, ticked_on, state_ticked, state_ticked_on, next_stage, stages, batch_of, StandsUnder, StandsAsOne, StandsAt, StandsWithin}
 use Rattle.base.proofs.Runs.{StandsAt-within}
 use Rattle.pmem.specs.Device.{Device, IsOrderly, MayLeave, Continues, IsSettled, IsReady, stored, flushed, fenced, failed}
 use Rattle.pmem.specs.declared.device.Pmem.{Ghosts}
 use Rattle.pmem.specs.Trace.{applied}
 use Rattle.pmem.proofs.Images.{leaves_one, leaves-failed, continues-stored, continues-flushed, continues-fenced}
-use Rattle.pmem.proofs.Steps.{settled-ready, ready-flushed}
+use Rattle.pmem.proofs.Steps.{settled-ready, ready-flushed, ready-flushed_by}
 use Rattle.log_area.specs.declared.stage.WritingStage.{WritingStage}
 use Rattle.log_area.specs.declared.stage.WritingStage.TheVariants.{StoreBody, FlushBody, FenceBody, StoreGate, FlushGate, FenceGate, Done}
 use Rattle.log_area.specs.Rulings.{HoldsRecord, IsRecordFor, IsKept as IsKeptWord}
@@ -33,32 +36,27 @@ use Rattle.log_area.proofs.Replacing.{replacing_begun, holds_ruled}
 use Rattle.log_area.proofs.Rulings.{place_below}
 use Rattle.invariant.specs.Kept.{IsKept}
 use Rattle.invariant.specs.Slots.{SlotsHold, word_of}
-use Rattle.invariant.specs.Moves.{ShrinksSlots, IsSlotSettled, CoversOne}
-use Rattle.invariant.proofs.Moves.{slots-shrink, shrinks-by_flush, shrinks-by_fence}
+use Rattle.invariant.specs.Moves.{ShrinksSlots, IsCommitSettled, CoversCommit}
+use Rattle.invariant.proofs.Moves.{within-slot, slots-shrink, shrinks-by_flush, shrinks-by_fence}
 use Rattle.invariant.proofs.Keeping.{kept-with_hand, slots-with_hand}
-use Rattle.invariant.proofs.Covering.{kept-cover_one, slots-cover_one}
+use Rattle.invariant.proofs.Covering.{kept-cover_commit, slots-cover_commit}
 use Rattle.room.specs.declared.cycle.Cycle.{Cycle}
 use Rattle.room.specs.declared.cycle.CycleStage.{CycleStage}
-use Rattle.room.specs.declared.cycle.CycleStage.TheVariants.{FlushLine, FenceLine, WriteRecord}
+use Rattle.room.specs.declared.cycle.CycleStage.TheVariants.{FlushLines, WriteRecord}
 use Rattle.room.specs.declared.session.Session.{Session}
 use Rattle.room.specs.declared.session.Session.TheVariants.{Active, Drawn, Covered, ReadOnly}
-use Rattle.room.specs.declared.session.Write.{Write}
+use Rattle.txn.specs.declared.write.Write.{Write}
+use Rattle.txn.specs.WriteSets.{touched}
 use Rattle.room.specs.declared.numbers.Numbers.{Numbers}
 use Rattle.room.specs.declared.room.Room.{Room}
-use Rattle.room.specs.Agrees.{Works, HoldsLog, HoldsStage, HoldsSession, IsCycleOf, IsCovering, IsLineFlushed, plain_session, session_at, commit_of, hand_of, ticks_of}
+use Rattle.room.specs.Agrees.{Works, HoldsLog, HoldsStage, IsCycleOf, IsCovering, IsLineFlushed, AreFlushed, hand_of, ticks_of}
+use Rattle.room.specs.Sessions.{plain_session, session_at, commit_of, lines_in}
 use Rattle.room.specs.Fits.{is_under_way, fits_cycle}
 use Rattle.room.specs.Room.{Shows, StepsTo, HasFailed, HasCovered, covering, operations_of}
-use Rattle.room.proofs.Standing.{stands-works, stands-ruled, stands-covered, stands-second, word-within, known-version, has-batch}
-use Rattle.room.proofs.Committing.{stamped_one, lines-one, stage-reached, operations-next, done-next, word-line}
-
--- ---- what a working room shows
-
-pub shows-works : {D : Type 0} {G : Ghosts D} (state : D → Device) (room : Room D G) (q : State) → q.layout ≡ room.numbers.geometry → (present q).ruled_by ≡ room.numbers.record → q.next ≡ room.numbers.next → q.swept ≡ false → q.failed ≡ room.failed
-    → Works q (state room.device) room.session room.cycle room.batch room.slots → Shows state room q
-shows-works state room q layout ruled next swept failed works = record {
-  stands = stands-works q (state room.device) room.session room.cycle room.batch room.slots works;
-  agrees = record { layout = layout; ruled = ruled; next = next; swept = swept; failed = failed; works = λ up. works };
-}
+use Rattle.room.proofs.Standing.{stands-ruled, stands-covered, stands-second, word-within, known-version, has-batch}
+use Rattle.room.proofs.Working.{shows-works, works-along, holds-session}
+use Rattle.room.proofs.Touching.{past-end, touches-own, touches-ended}
+use Rattle.room.proofs.Committing.{stamped_whole, is_stamped-whole, lines-taken, stage-line, stage-fence, stage-reached, operations-next, done-next, word-line}
 
 -- ---- one operation
 
@@ -185,21 +183,27 @@ covers state old new q hand reply orderly orderly' shown one up in_hand next tol
 
 -- ---- what stays while the batch is in hand
 
-holds-session : (q : State) (hand : Option Hand) (t : ℕ) (write : Write) (stamped : Bool) → HoldsSession q (Some (Drawn t write stamped)) → HoldsSession (record q { hand = hand }) (Some (Drawn t write stamped))
-holds-session q hand t write stamped h = (record { within = h.0.within; absent = h.0.absent }, h.1, h.2, h.3, h.4)
-
-pub works-ticked : (q : State) (hand : Option Hand) (device device' : Device) (t : ℕ) (write : Write) (cycle cycle' : Option Cycle) (batch batch' : Option Batch) (free : List Bool)
-    → Works q device (Some (Drawn t write true)) cycle batch free → SlotsHold q device' → HoldsLog (record q { hand = hand }) device' (Some (Drawn t write true)) cycle' batch'
-    → Works (record q { hand = hand }) device' (Some (Drawn t write true)) cycle' batch' free
-works-ticked q hand device device' t write cycle cycle' batch batch' free works slots log = record {
+pub works-ticked : (q : State) (hand : Option Hand) (device device' : Device) (t : ℕ) (writes : List Write) (cycle cycle' : Option Cycle) (batch batch' : Option InHand) (free : List Bool)
+    → Works q device (Some (Drawn t writes (length writes))) cycle batch free → SlotsHold q device' → HoldsLog (record q { hand = hand }) device' (Some (Drawn t writes (length writes))) cycle' batch'
+    → Works (record q { hand = hand }) device' (Some (Drawn t writes (length writes))) cycle' batch' free
+works-ticked q hand device device' t writes cycle cycle' batch batch' free works slots log = record {
   sessions = works.sessions;
   drawn = works.drawn;
-  holds = holds-session q hand t write true works.holds;
+  holds = holds-session q (record q { hand = hand }) (Some (Drawn t writes (length writes))) refl refl refl refl refl works.holds;
   free_slots = record { size = works.free_slots.size; each = works.free_slots.each };
   kept = kept-with_hand q hand works.kept;
   slots = slots-with_hand q hand device' slots;
   log = log;
 }
+
+-- the room shows the state after the tick
+pub shows-ticked : {D : Type 0} {G : Ghosts D} (state : D → Device) (old new : Room D G) (q : State) (hand' : Hand) (t : ℕ) (writes : List Write) (cycle' : Cycle) (batch' : Option InHand) → Shows state old q
+    → new.numbers ≡ old.numbers → new.session ≡ Some (Drawn t writes (length writes)) → new.cycle ≡ Some cycle' → new.batch ≡ batch' → new.slots ≡ old.slots → new.failed ≡ old.failed
+    → Works (record q { hand = Some hand' }) (state new.device) (Some (Drawn t writes (length writes))) (Some cycle') batch' old.slots → Shows state new (record q { hand = Some hand' })
+shows-ticked state old new q hand' t writes cycle' batch' shown numbers session cycle_is batch slots down works =
+    shows-works state new (record q { hand = Some hand' })
+    (shown.agrees.layout ∙ ap (λ (n : Numbers). n.geometry) (sym numbers)) (shown.agrees.ruled ∙ ap (λ (n : Numbers). n.record) (sym numbers)) (shown.agrees.next ∙ ap (λ (n : Numbers). n.next) (sym numbers)) shown.agrees.swept (shown.agrees.failed ∙ sym down)
+    (works-along (record q { hand = Some hand' }) (state new.device) (Some (Drawn t writes (length writes))) new.session (Some cycle') new.cycle batch' new.batch old.slots new.slots session cycle_is batch slots works)
 
 -- the only version
 pub version-one : (a : Layout) → is_in_limits a ≡ true → a.version ≡ 1
@@ -208,49 +212,51 @@ version-one a limits =
     omega (arith, leb-true 1 a.version between.0, leb-true a.version 1 between.1)
 
 -- the cycle with the next stage
-cycle-ticked : (q : State) (cycle cycle' : Cycle) (batch : Option Batch) (t : ℕ) (write : Write) → IsCycleOf q cycle batch t write → cycle'.slot ≡ cycle.slot → cycle'.writing.layout ≡ cycle.writing.layout → cycle'.writing.target ≡ cycle.writing.target
-    → IsCycleOf (record q { hand = Some (hand_of q cycle' t write) }) cycle' batch t write
-cycle-ticked q cycle cycle' batch t write of slot layout target = record {
-  slot = slot ∙ of.slot;
+cycle-ticked : (q : State) (cycle cycle' : Cycle) (batch : Option InHand) (t : ℕ) (writes : List Write) → IsCycleOf q cycle batch t writes → cycle'.writing.layout ≡ cycle.writing.layout → cycle'.writing.target ≡ cycle.writing.target
+    → IsCycleOf (record q { hand = Some (hand_of q cycle' t writes) }) cycle' batch t writes
+cycle-ticked q cycle cycle' batch t writes of layout target = record {
   layout = layout ∙ of.layout;
   target = target ∙ of.target;
-  covers = of.covers;
+  covers = (of.covers.0, of.covers.1, record { batch = of.covers.2.batch; lines = of.covers.2.lines });
   numbered = of.numbered;
   in_hand = refl;
 }
 
 -- the stage that the next tick reaches
-stage-next : (q : State) (cycle : Cycle) (t : ℕ) (write : Write) (device : Device) (cycle_ : Option Cycle) (batch : Option Batch) (free : List Bool) (stage : Option Stage)
-    → Works q device (Some (Drawn t write true)) cycle_ batch free → slice_get (stages 1) (ticks_of cycle cycle.stage) ≡ stage → next_stage q (hand_of q cycle t write) ≡ stage
-stage-next q cycle t write device cycle_ batch free stage works is =
-    ap (λ (lines : ℕ). slice_get (stages lines) (ticks_of cycle cycle.stage)) (lines-one q t write (version-one q.layout works.kept.layout) works.holds.0.absent) ∙ is
+stage-next : (q : State) (cycle : Cycle) (t : ℕ) (writes : List Write) (device : Device) (cycle_ : Option Cycle) (batch : Option InHand) (free : List Bool) (stage : Option Stage)
+    → Works q device (Some (Drawn t writes (length writes))) cycle_ batch free → slice_get (stages (length (touched writes))) (ticks_of (length (touched writes)) cycle cycle.stage) ≡ stage → next_stage q (hand_of q cycle t writes) ≡ stage
+stage-next q cycle t writes device cycle_ batch free stage works is =
+    ap (λ (lines : ℕ). slice_get (stages lines) (ticks_of (length (touched writes)) cycle cycle.stage)) (lines-taken q (ByCommit t) t writes (version-one q.layout works.kept.layout) works.kept works.holds.0.placed) ∙ is
+
+-- the lines in hand are those that the commit touches
+lines-in_hand : (q : State) (cycle : Cycle) (batch : Option InHand) (t : ℕ) (writes : List Write) → IsCycleOf q cycle batch t writes → IsPermutation (touched writes) (lines_in batch)
+lines-in_hand q cycle batch t writes of = subst (λ (b : Option InHand). IsPermutation (touched writes) (lines_in b)) (sym of.covers.1) of.covers.2.lines
 
 -- ---- what the room has in hand
 
-pub record IsInHand (q : State) (device : Device) (session : Option Session) (cycle : Cycle) (batch : Option Batch) (free : List Bool) : Type 0 where
+pub record IsInHand (q : State) (device : Device) (session : Option Session) (cycle : Cycle) (batch : Option InHand) (free : List Bool) : Type 0 where
   pub timestamp : ℕ
-  pub write : Write
-  pub is : session ≡ Some (Drawn timestamp write true)
-  pub of : IsCycleOf q cycle batch timestamp write
-  pub holds : HoldsStage q device cycle timestamp write cycle.stage
-  pub works : Works q device (Some (Drawn timestamp write true)) (Some cycle) batch free
+  pub writes : List Write
+  pub is : session ≡ Some (Drawn timestamp writes (length writes))
+  pub of : IsCycleOf q cycle batch timestamp writes
+  pub holds : HoldsStage q device cycle (lines_in batch) timestamp writes cycle.stage
+  pub works : Works q device (Some (Drawn timestamp writes (length writes))) (Some cycle) batch free
 
-pub in_hand : (q : State) (device : Device) (session : Option Session) (cycle : Cycle) (batch : Option Batch) (free : List Bool) → Works q device session (Some cycle) batch free → IsInHand q device session cycle batch free
-in_hand q device (Some (Drawn t write true)) cycle batch free works = record { timestamp = t; write = write; is = refl; of = works.log.0; holds = works.log.1; works = works }
-in_hand q device (Some (Drawn t write false)) cycle batch free works = absurd works.log
-in_hand q device (Some (Active write)) cycle batch free works = absurd works.log
+pub in_hand : (q : State) (device : Device) (session : Option Session) (cycle : Cycle) (batch : Option InHand) (free : List Bool) → Works q device session (Some cycle) batch free → IsInHand q device session cycle batch free
+in_hand q device (Some (Drawn t writes stamped)) cycle batch free works = record {
+  timestamp = t;
+  writes = writes;
+  is = ap (λ (n : ℕ). let s : Option Session = Some (Drawn t writes n) in s) works.log.0;
+  of = works.log.1;
+  holds = works.log.2;
+  works = subst (λ (n : ℕ). Works q device (Some (Drawn t writes n)) (Some cycle) batch free) works.log.0 works;
+}
+in_hand q device (Some (Active writes)) cycle batch free works = absurd works.log
 in_hand q device (Some (Covered t)) cycle batch free works = absurd works.log
 in_hand q device (Some ReadOnly) cycle batch free works = absurd works.log
 in_hand q device None cycle batch free works = absurd works.log
 
-pub works-along : (q : State) (device : Device) (s s' : Option Session) (c c' : Option Cycle) (b b' : Option Batch) (f f' : List Bool) → s' ≡ s → c' ≡ c → b' ≡ b → f' ≡ f → Works q device s c b f → Works q device s' c' b' f'
-works-along q device s s' c c' b b' f f' same_s same_c same_b same_f works =
-    subst (λ (x : List Bool). Works q device s' c' b' x) (sym same_f)
-    (subst (λ (x : Option Batch). Works q device s' c' x f) (sym same_b)
-    (subst (λ (x : Option Cycle). Works q device s' x b f) (sym same_c)
-    (subst (λ (x : Option Session). Works q device x c b f) (sym same_s) works)))
-
-found-in_hand : {D : Type 0} {G : Ghosts D} (state : D → Device) (old : Room D G) (q : State) (cycle : Cycle) → Shows state old q → old.failed ≡ false → old.cycle ≡ Some cycle → IsInHand q (state old.device) old.session cycle old.batch old.slots
+pub found-in_hand : {D : Type 0} {G : Ghosts D} (state : D → Device) (old : Room D G) (q : State) (cycle : Cycle) → Shows state old q → old.failed ≡ false → old.cycle ≡ Some cycle → IsInHand q (state old.device) old.session cycle old.batch old.slots
 found-in_hand state old q cycle shown up is =
     in_hand q (state old.device) old.session cycle old.batch old.slots (subst (λ (c : Option Cycle). Works q (state old.device) old.session c old.batch old.slots) is (shown.agrees.works up))
 
@@ -259,54 +265,81 @@ pub tick-fails : {D : Type 0} {G : Ghosts D} (state : D → Device) (old new : R
     → state new.device ≡ failed (state old.device) → new.numbers ≡ old.numbers → new.failed ≡ true → StepsTo state old new CommitTick (Refused DeviceFault) q (record q { failed = true })
 tick-fails state old new q cycle orderly orderly' shown up is made numbers down =
     let h = found-in_hand state old q cycle shown up is in
-    let hand = hand_of q cycle h.timestamp h.write in
+    let hand = hand_of q cycle h.timestamp h.writes in
     fails state old new q CommitTick orderly orderly' shown made numbers down (refusal-in_hand q hand (shown.agrees.failed ∙ up) h.of.in_hand) (operates-in_hand q hand h.of.in_hand)
 
--- ---- the flush of the line
+-- ---- the flush of a line
 
-line-flushed : (q : State) (device device' : Device) (t : ℕ) (write : Write) (cycle : Cycle) (batch : Option Batch) (free : List Bool) (line : ℕ)
-    → IsOrderly device → Works q device (Some (Drawn t write true)) (Some cycle) batch free → cycle.slot ≡ write.slot → device.words ≡ total_words q.layout → device' ≡ flushed 0 line device → line ≡ slot_start q.layout cycle.slot / 8
-    → IsLineFlushed (record q { hand = Some (hand_of q (record cycle { stage = FenceLine }) t write) }) device' cycle.slot
-line-flushed q device device' t write cycle batch free line orderly works slot size made at = record { each = each }
+line-flushed : (q : State) (hand : Option Hand) (device device' : Device) (slot line : ℕ) → IsOrderly device → q.layout.version ≡ 1 → slot < q.layout.slots → device.words ≡ total_words q.layout → device' ≡ flushed 0 line device
+    → line ≡ slot_start q.layout slot / 8 → IsLineFlushed (record q { hand = hand }) device' slot
+line-flushed q hand device device' slot line orderly version lt size made at = record { each = each }
   where
-    each : (w : ℕ) → w < slot_words q.layout.version → IsReady device' 0 (word_of q.layout cycle.slot w)
+    each : (w : ℕ) → w < slot_words q.layout.version → IsReady device' 0 (word_of q.layout slot w)
     each w below =
-        let lt : cycle.slot < q.layout.slots = omega (arith, slot, works.holds.0.within) in
-        subst (λ (d : Device). IsReady d 0 (word_of q.layout cycle.slot w)) (sym made)
-        (ready-flushed 0 line device (word_of q.layout cycle.slot w) orderly (subst (λ (n : ℕ). word_of q.layout cycle.slot w < n) (sym size) (word-within q.layout cycle.slot w lt below))
-        (word-line q.layout cycle.slot w (version-one q.layout works.kept.layout) below ∙ sym at))
+        subst (λ (d : Device). IsReady d 0 (word_of q.layout slot w)) (sym made)
+        (ready-flushed 0 line device (word_of q.layout slot w) orderly (subst (λ (n : ℕ). word_of q.layout slot w < n) (sym size) (word-within q.layout slot w lt below))
+        (word-line q.layout slot w version below ∙ sym at))
 
-pub flushes : {D : Type 0} {G : Ghosts D} (state : D → Device) (old new : Room D G) (q : State) (cycle : Cycle) (line : ℕ) → IsOrderly (state old.device) → IsOrderly (state new.device) → Shows state old q → old.failed ≡ false → old.cycle ≡ Some cycle → cycle.stage ≡ FlushLine
-    → line ≡ slot_start old.numbers.geometry cycle.slot / 8 → state new.device ≡ flushed 0 line (state old.device)
-    → new.numbers ≡ old.numbers → new.session ≡ old.session → new.cycle ≡ Some (record cycle { stage = FenceLine }) → new.batch ≡ old.batch → new.slots ≡ old.slots → new.failed ≡ old.failed
-    → (q' : State) × StepsTo state old new CommitTick (Ticked (LineFlushed 0)) q q'
-flushes state old new q cycle line orderly orderly' shown up is stage at made numbers session cycle_is batch slots down =
+-- a line that waits goes on waiting
+pub line-waits : (q : State) (hand : Option Hand) (device device' : Device) (slot line : ℕ) → device' ≡ flushed 0 line device → IsLineFlushed q device slot → IsLineFlushed (record q { hand = hand }) device' slot
+line-waits q hand device device' slot line made waits = record {
+  each = λ w below. subst (λ (d : Device). IsReady d 0 (word_of q.layout slot w)) (sym made) (ready-flushed_by 0 line device 0 (word_of q.layout slot w) (waits.each w below));
+}
+
+-- one line more is flushed
+one-more : (q : State) (hand : Option Hand) (device device' : Device) (lines : List ℕ) (count slot line : ℕ) → IsOrderly device → q.layout.version ≡ 1 → slot < q.layout.slots → device.words ≡ total_words q.layout → device' ≡ flushed 0 line device
+    → line ≡ slot_start q.layout slot / 8 → slice_get lines count ≡ Some slot → AreFlushed q device count lines → AreFlushed (record q { hand = hand }) device' (count + 1) lines
+one-more q hand device device' lines count slot line orderly version lt size made at here before = record { within = omega (arith, slice_get_within lines count slot here); each = each }
+  where
+    each : (i s : ℕ) → i < count + 1 → slice_get lines i ≡ Some s → IsLineFlushed (record q { hand = hand }) device' s
+    each i s less is = by (nat_lt i count) refl
+      where
+        by : (b : Bool) → nat_lt i count ≡ b → IsLineFlushed (record q { hand = hand }) device' s
+        by true earlier = line-waits q hand device device' s line made (before.each i s (ltb-true i count earlier) is)
+        by false last =
+            let same : i ≡ count = omega (arith, less, ltb-false i count last) in
+            let both : Some s ≡ Some slot = sym is ∙ ap (λ (n : ℕ). slice_get lines n) same ∙ here in
+            let this : s ≡ slot = cc both in
+            subst (λ (n : ℕ). IsLineFlushed (record q { hand = hand }) device' n) (sym this) (line-flushed q hand device device' slot line orderly version lt size made at)
+
+pub flushes : {D : Type 0} {G : Ghosts D} (state : D → Device) (old new : Room D G) (q : State) (cycle : Cycle) (count slot line : ℕ) → IsOrderly (state old.device) → IsOrderly (state new.device) → Shows state old q → old.failed ≡ false → old.cycle ≡ Some cycle
+    → cycle.stage ≡ FlushLines count → slice_get (lines_in old.batch) count ≡ Some slot → slot < old.numbers.geometry.slots
+    → line ≡ slot_start old.numbers.geometry slot / 8 → state new.device ≡ flushed 0 line (state old.device)
+    → new.numbers ≡ old.numbers → new.session ≡ old.session → new.cycle ≡ Some (record cycle { stage = FlushLines (count + 1) }) → new.batch ≡ old.batch → new.slots ≡ old.slots → new.failed ≡ old.failed
+    → (q' : State) × StepsTo state old new CommitTick (Ticked (LineFlushed count)) q q'
+flushes state old new q cycle count slot line orderly orderly' shown up is stage here lt at made numbers session cycle_is batch slots down =
     let h = found-in_hand state old q cycle shown up is in
     let t = h.timestamp in
-    let write = h.write in
+    let writes = h.writes in
     let device = state old.device in
     let device' = state new.device in
-    let cycle' : Cycle = record cycle { stage = FenceLine } in
-    let hand = hand_of q cycle t write in
-    let hand' = hand_of q cycle' t write in
+    let lines = length (touched writes) in
+    let cycle' : Cycle = record cycle { stage = FlushLines (count + 1) } in
+    let hand = hand_of q cycle t writes in
+    let hand' = hand_of q cycle' t writes in
     let q' : State = record q { hand = Some hand' } in
-    let holds : HoldsStage q device cycle t write FlushLine = subst (λ (s : CycleStage). HoldsStage q device cycle t write s) stage h.holds in
-    let next : next_stage q hand ≡ Some (LineFlushed 0) = stage-next q cycle t write device (Some cycle) old.batch old.slots (Some (LineFlushed 0)) h.works (ap (λ (s : CycleStage). slice_get (stages 1) (ticks_of cycle s)) stage) in
-    let same : (record hand { ticks = hand.ticks + 1 }) ≡ hand' = ap (λ (s : CycleStage). record hand { ticks = ticks_of cycle s + 1 }) stage in
+    let holds : HoldsStage q device cycle (lines_in old.batch) t writes (FlushLines count) = subst (λ (s : CycleStage). HoldsStage q device cycle (lines_in old.batch) t writes s) stage h.holds in
+    let all : length (lines_in old.batch) ≡ lines = length_permutation (touched writes) (lines_in old.batch) (lines-in_hand q cycle old.batch t writes h.of) in
+    let within : count < lines = omega (arith, slice_get_within (lines_in old.batch) count slot here) in
+    let next : next_stage q hand ≡ Some (LineFlushed count) =
+    stage-next q cycle t writes device (Some cycle) old.batch old.slots (Some (LineFlushed count)) h.works (ap (λ (s : CycleStage). slice_get (stages lines) (ticks_of lines cycle s)) stage ∙ stage-line lines count within) in
+    let one : 1 + count + 1 ≡ 1 + (count + 1) = omega arith in
+    let ticks_are : ticks_of lines cycle cycle.stage + 1 ≡ 1 + (count + 1) = ap (λ (s : CycleStage). ticks_of lines cycle s + 1) stage ∙ one in
+    let same : (record hand { ticks = hand.ticks + 1 }) ≡ hand' = ap (λ (n : ℕ). record hand { ticks = n }) ticks_are in
     let size : device'.words ≡ device.words = ap (λ (d : Device). d.words) made in
-    let line_is : line ≡ slot_start q.layout cycle.slot / 8 = at ∙ ap (λ (a : Layout). slot_start a cycle.slot / 8) (sym shown.agrees.layout) in
-    let ready = line-flushed q device device' t write cycle old.batch old.slots line orderly h.works h.of.slot holds.0.stands.size made line_is in
-    let log : HoldsLog q' device' (Some (Drawn t write true)) (Some cycle') old.batch = (
-      cycle-ticked q cycle cycle' old.batch t write h.of refl refl refl,
+    let line_is : line ≡ slot_start q.layout slot / 8 = at ∙ ap (λ (a : Layout). slot_start a slot / 8) (sym shown.agrees.layout) in
+    let lt_q : slot < q.layout.slots = subst (λ (a : Layout). slot < a.slots) (sym shown.agrees.layout) lt in
+    let ready = one-more q (Some hand') device device' (lines_in old.batch) count slot line orderly (version-one q.layout h.works.kept.layout) lt_q holds.0.stands.size made line_is here holds.2 in
+    let log : HoldsLog q' device' (Some (Drawn t writes (length writes))) (Some cycle') old.batch = (
+      refl,
+      cycle-ticked q cycle cycle' old.batch t writes h.of refl refl,
       (holds_record_kept q.layout device device' size (keeps_log-flushed q.layout 0 line made) (present q).ruled_by holds.0, holds.1, ready),
     ) in
-    let works = works-ticked q (Some hand') device device' t write (Some cycle) (Some cycle') old.batch old.batch old.slots h.works (slots-shrink h.works.slots (shrinks-by_flush q.layout 0 line made)) log in
-    let works' : Works q' device' new.session new.cycle new.batch new.slots =
-    works-along q' device' (Some (Drawn t write true)) new.session (Some cycle') new.cycle old.batch new.batch old.slots new.slots (session ∙ h.is) cycle_is batch slots works in
-    let shown' = shows-works state new q' (shown.agrees.layout ∙ ap (λ (n : Numbers). n.geometry) (sym numbers)) (shown.agrees.ruled ∙ ap (λ (n : Numbers). n.record) (sym numbers)) (shown.agrees.next ∙ ap (λ (n : Numbers). n.next) (sym numbers)) shown.agrees.swept (shown.agrees.failed ∙ sym down) works' in
-    (q', ticks state old new q hand hand' (LineFlushed 0) orderly orderly' shown (one-by_flush 0 line device device' made) (shown.agrees.failed ∙ up) h.of.in_hand next same shown')
+    let works = works-ticked q (Some hand') device device' t writes (Some cycle) (Some cycle') old.batch old.batch old.slots h.works (slots-shrink h.works.slots (shrinks-by_flush q.layout 0 line made)) log in
+    let shown' = shows-ticked state old new q hand' t writes cycle' old.batch shown numbers (session ∙ h.is) cycle_is batch slots down works in
+    (q', ticks state old new q hand hand' (LineFlushed count) orderly orderly' shown (one-by_flush 0 line device device' made) (shown.agrees.failed ∙ up) h.of.in_hand next same shown')
 
--- ---- the fence after it
+-- ---- the fence after the last
 
 window-four : (a : Layout) → is_in_limits a ≡ true → 4 ≤ a.window
 window-four a limits =
@@ -317,83 +350,106 @@ window-four a limits =
     leb-true 4 a.window (and_parts (nat_le 4 a.window) (nat_le a.window 1024) (and_parts places window (and_parts slots (places && window) (and_parts known (slots && (places && window)) limits).1).1).1).0
 
 -- the batch in hand covers the one drawn commit
-covers-one : (q : State) (device : Device) (t : ℕ) (write : Write) (cycle : Cycle) (batch : Option Batch) (free : List Bool) → Works q device (Some (Drawn t write true)) (Some cycle) batch free
-    → CoversOne q (hand_of q cycle t write) (stamped_one t write) write.key write.row
-covers-one q device t write cycle batch free works = record {
+covers-whole : (q : State) (device : Device) (t : ℕ) (writes : List Write) (cycle : Cycle) (batch : Option InHand) (free : List Bool) → Works q device (Some (Drawn t writes (length writes))) (Some cycle) batch free
+    → CoversCommit q (hand_of q cycle t writes) (stamped_whole t writes)
+covers-whole q device t writes cycle batch free works = record {
+  others = [];
   drawn = works.drawn;
-  stamped = refl;
-  writes = refl;
-  fresh = works.holds.0.absent;
+  stamped = is_stamped-whole t writes;
+  alone = λ key has. refl;
   commits = refl;
   persisted = refl;
   gaps = refl;
   longs = refl;
   reserved = omega arith;
-  fits = omega (arith, window-four q.layout works.kept.layout, works.holds.3, works.holds.4);
+  fits = omega (arith, window-four q.layout works.kept.layout, works.holds.1.next, works.holds.1.early);
 }
 
--- the version persists: the state in which the batch is covered may be shown too
-covering-begun : (q : State) (device device' : Device) (t : ℕ) (write : Write) (cycle : Cycle) (batch : Option Batch) (free : List Bool) → q.failed ≡ false → Works q device (Some (Drawn t write true)) (Some cycle) batch free → IsCycleOf q cycle batch t write
-    → HoldsStage q device cycle t write FenceLine → device' ≡ fenced 0 device → IsCovering q (state_covered q (hand_of q cycle t write)) device' cycle.writing
-covering-begun q device device' t write cycle batch free up works of holds made = record { replaces = replaces; keeps = keeps; slots = covered_slots }
+-- where all lines are flushed, the fence settles each slot that the writes touch
+settled-touched : (q : State) (device device' : Device) (writes : List Write) (lines : List ℕ) (count slot w : ℕ) → IsPermutation (touched writes) lines → slice_get lines count ≡ None → AreFlushed q device count lines → device' ≡ fenced 0 device
+    → Contains (touched writes) slot → w < slot_words q.layout.version → IsSettled device' (word_of q.layout slot w)
+settled-touched q device device' writes lines count slot w touches past flushed_all made has below =
+    let at = Contains-permutation (touched writes) lines slot touches has in
+    let within : at.0 < count = omega (arith, past-end lines count past, at.1) in
+    let is : slice_get lines at.0 ≡ Some slot = slice_get-get_or lines at.0 slot at.1 ∙ ap (λ (n : ℕ). Some n) at.2 in
+    subst (λ (d : Device). IsSettled d (word_of q.layout slot w)) (sym made) (settled-ready 0 device (word_of q.layout slot w) ((flushed_all.each at.0 slot within is).each w below))
+
+settled-whole : (q : State) (device device' : Device) (t : ℕ) (writes : List Write) (cycle : Cycle) (batch : Option InHand) (free : List Bool) (count : ℕ) → Works q device (Some (Drawn t writes (length writes))) (Some cycle) batch free
+    → IsPermutation (touched writes) (lines_in batch) → slice_get (lines_in batch) count ≡ None → AreFlushed q device count (lines_in batch) → device' ≡ fenced 0 device → IsCommitSettled q device' (stamped_whole t writes)
+settled-whole q device device' t writes cycle batch free count works touches past flushed_all made = record {
+  own = λ slot key lt held. record {
+    each = λ w below. settled-touched q device device' writes (lines_in batch) count slot w touches past flushed_all made (touches-own q t writes slot key works.kept works.drawn works.holds.0 lt held) below;
+  };
+  ended = λ slot key lt has held.
+      settled-touched q device device' writes (lines_in batch) count slot 1 touches past flushed_all made (touches-ended q t writes slot key works.kept works.holds.0 lt has held) (within-slot q.layout.version 1 (omega arith));
+}
+
+-- the lines persist: the state in which the batch is covered may be shown too
+covering-begun : (q : State) (device device' : Device) (t : ℕ) (writes : List Write) (cycle : Cycle) (batch : Option InHand) (free : List Bool) (count : ℕ) → q.failed ≡ false → Works q device (Some (Drawn t writes (length writes))) (Some cycle) batch free
+    → IsCycleOf q cycle batch t writes → slice_get (lines_in batch) count ≡ None → HoldsStage q device cycle (lines_in batch) t writes (FlushLines count) → device' ≡ fenced 0 device
+    → IsCovering q (state_covered q (hand_of q cycle t writes)) device' cycle.writing
+covering-begun q device device' t writes cycle batch free count up works of past holds made = record { replaces = replaces; keeps = keeps; slots = covered_slots }
   where
-    one : CoversOne q (hand_of q cycle t write) (stamped_one t write) write.key write.row
-    one = covers-one q device t write cycle batch free works
+    covers_it : CoversCommit q (hand_of q cycle t writes) (stamped_whole t writes)
+    covers_it = covers-whole q device t writes cycle batch free works
 
-    keeps : IsKept (state_covered q (hand_of q cycle t write))
-    keeps = kept-cover_one q (hand_of q cycle t write) (stamped_one t write) write.key write.row one works.kept
+    keeps : IsKept (state_covered q (hand_of q cycle t writes))
+    keeps = kept-cover_commit q (hand_of q cycle t writes) (stamped_whole t writes) covers_it works.kept
 
-    settled : IsSlotSettled q.layout device' cycle.slot
-    settled = record { each = λ w below. subst (λ (d : Device). IsSettled d (word_of q.layout cycle.slot w)) (sym made) (settled-ready 0 device (word_of q.layout cycle.slot w) (holds.2.each w below)) }
-
-    covered_slots : SlotsHold (state_covered q (hand_of q cycle t write)) device'
+    covered_slots : SlotsHold (state_covered q (hand_of q cycle t writes)) device'
     covered_slots =
-        slots-cover_one q (hand_of q cycle t write) (stamped_one t write) write.key write.row cycle.slot device' one up works.kept (omega (arith, of.slot, works.holds.0.within))
-        (ap q.held of.slot ∙ works.holds.1) settled (slots-shrink works.slots (shrinks-by_fence q.layout 0 made))
+        slots-cover_commit q (hand_of q cycle t writes) (stamped_whole t writes) device' covers_it up works.kept
+        (settled-whole q device device' t writes cycle batch free count works (lines-in_hand q cycle batch t writes of) past holds.2 made) (slots-shrink works.slots (shrinks-by_fence q.layout 0 made))
 
-    fits : IsRecordFor q.layout (present (state_covered q (hand_of q cycle t write))).ruled_by
+    fits : IsRecordFor q.layout (present (state_covered q (hand_of q cycle t writes))).ruled_by
     fits = record { limits = works.kept.layout; well_formed = keeps.formed; numbered = omega arith; in_range = of.numbered }
 
-    writing : cycle.writing ≡ begun q.layout (present (state_covered q (hand_of q cycle t write))).ruled_by
+    writing : cycle.writing ≡ begun q.layout (present (state_covered q (hand_of q cycle t writes))).ruled_by
     writing = λ i. record { layout = of.layout i; target = of.target i; stage = holds.1 i }
 
     replaces : IsReplacing (present q).ruled_by cycle.writing device'
     replaces =
         subst (λ (p : Progress). IsReplacing (present q).ruled_by p device') (sym writing)
-        (replacing_begun q.layout (present q).ruled_by (present (state_covered q (hand_of q cycle t write))).ruled_by device'
+        (replacing_begun q.layout (present q).ruled_by (present (state_covered q (hand_of q cycle t writes))).ruled_by device'
         (record {
           holds = holds_record_kept q.layout device device' (ap (λ (d : Device). d.words) made) (keeps_log-fenced q.layout 0 made) (present q).ruled_by holds.0;
           next = refl;
           fits = fits;
         }))
 
-pub fences : {D : Type 0} {G : Ghosts D} (state : D → Device) (old new : Room D G) (q : State) (cycle : Cycle) → IsOrderly (state old.device) → IsOrderly (state new.device) → Shows state old q → old.failed ≡ false → old.cycle ≡ Some cycle → cycle.stage ≡ FenceLine
-    → state new.device ≡ fenced 0 (state old.device)
+pub fences : {D : Type 0} {G : Ghosts D} (state : D → Device) (old new : Room D G) (q : State) (cycle : Cycle) (count : ℕ) → IsOrderly (state old.device) → IsOrderly (state new.device) → Shows state old q → old.failed ≡ false → old.cycle ≡ Some cycle
+    → cycle.stage ≡ FlushLines count → slice_get (lines_in old.batch) count ≡ None → state new.device ≡ fenced 0 (state old.device)
     → new.numbers ≡ old.numbers → new.session ≡ old.session → new.cycle ≡ Some (record cycle { stage = WriteRecord }) → new.batch ≡ old.batch → new.slots ≡ old.slots → new.failed ≡ old.failed
     → (q' : State) × StepsTo state old new CommitTick (Ticked LinesFenced) q q'
-fences state old new q cycle orderly orderly' shown up is stage made numbers session cycle_is batch slots down =
+fences state old new q cycle count orderly orderly' shown up is stage past made numbers session cycle_is batch slots down =
     let h = found-in_hand state old q cycle shown up is in
     let t = h.timestamp in
-    let write = h.write in
+    let writes = h.writes in
     let device = state old.device in
     let device' = state new.device in
+    let lines = length (touched writes) in
     let cycle' : Cycle = record cycle { stage = WriteRecord } in
-    let hand = hand_of q cycle t write in
-    let hand' = hand_of q cycle' t write in
+    let hand = hand_of q cycle t writes in
+    let hand' = hand_of q cycle' t writes in
     let q' : State = record q { hand = Some hand' } in
-    let holds : HoldsStage q device cycle t write FenceLine = subst (λ (s : CycleStage). HoldsStage q device cycle t write s) stage h.holds in
-    let next : next_stage q hand ≡ Some LinesFenced = stage-next q cycle t write device (Some cycle) old.batch old.slots (Some LinesFenced) h.works (ap (λ (s : CycleStage). slice_get (stages 1) (ticks_of cycle s)) stage) in
-    let same : (record hand { ticks = hand.ticks + 1 }) ≡ hand' =
-    ap (λ (s : CycleStage). record hand { ticks = ticks_of cycle s + 1 }) stage ∙ sym (ap (λ (s : WritingStage). record hand { ticks = 3 + operations_before s }) holds.1) in
-    let c = covering-begun q device device' t write cycle old.batch old.slots (shown.agrees.failed ∙ up) h.works h.of holds made in
-    let log : HoldsLog q' device' (Some (Drawn t write true)) (Some cycle') old.batch = (
-      cycle-ticked q cycle cycle' old.batch t write h.of refl refl refl,
+    let holds : HoldsStage q device cycle (lines_in old.batch) t writes (FlushLines count) = subst (λ (s : CycleStage). HoldsStage q device cycle (lines_in old.batch) t writes s) stage h.holds in
+    let all : length (lines_in old.batch) ≡ lines = length_permutation (touched writes) (lines_in old.batch) (lines-in_hand q cycle old.batch t writes h.of) in
+    let whole : count ≡ lines = omega (arith, past-end (lines_in old.batch) count past, holds.2.within) in
+    let next : next_stage q hand ≡ Some LinesFenced =
+    stage-next q cycle t writes device (Some cycle) old.batch old.slots (Some LinesFenced) h.works
+    (ap (λ (s : CycleStage). slice_get (stages lines) (ticks_of lines cycle s)) stage ∙ ap (λ (n : ℕ). slice_get (stages lines) (1 + n)) whole ∙ stage-fence lines) in
+    let one : 1 + count + 1 ≡ 2 + lines + 0 = omega (arith, whole) in
+    let ticks_are : ticks_of lines cycle cycle.stage + 1 ≡ 2 + lines + operations_before cycle.writing.stage =
+    ap (λ (s : CycleStage). ticks_of lines cycle s + 1) stage ∙ one ∙ sym (ap (λ (s : WritingStage). 2 + lines + operations_before s) holds.1) in
+    let same : (record hand { ticks = hand.ticks + 1 }) ≡ hand' = ap (λ (n : ℕ). record hand { ticks = n }) ticks_are in
+    let c = covering-begun q device device' t writes cycle old.batch old.slots count (shown.agrees.failed ∙ up) h.works h.of past holds made in
+    let log : HoldsLog q' device' (Some (Drawn t writes (length writes))) (Some cycle') old.batch = (
+      refl,
+      cycle-ticked q cycle cycle' old.batch t writes h.of refl refl,
       record { replaces = c.replaces; keeps = c.keeps; slots = c.slots },
     ) in
-    let works = works-ticked q (Some hand') device device' t write (Some cycle) (Some cycle') old.batch old.batch old.slots h.works (slots-shrink h.works.slots (shrinks-by_fence q.layout 0 made)) log in
-    let works' : Works q' device' new.session new.cycle new.batch new.slots =
-    works-along q' device' (Some (Drawn t write true)) new.session (Some cycle') new.cycle old.batch new.batch old.slots new.slots (session ∙ h.is) cycle_is batch slots works in
-    let shown' = shows-works state new q' (shown.agrees.layout ∙ ap (λ (n : Numbers). n.geometry) (sym numbers)) (shown.agrees.ruled ∙ ap (λ (n : Numbers). n.record) (sym numbers)) (shown.agrees.next ∙ ap (λ (n : Numbers). n.next) (sym numbers)) shown.agrees.swept (shown.agrees.failed ∙ sym down) works' in
+    let works = works-ticked q (Some hand') device device' t writes (Some cycle) (Some cycle') old.batch old.batch old.slots h.works (slots-shrink h.works.slots (shrinks-by_fence q.layout 0 made)) log in
+    let shown' = shows-ticked state old new q hand' t writes cycle' old.batch shown numbers (session ∙ h.is) cycle_is batch slots down works in
     (q', ticks state old new q hand hand' LinesFenced orderly orderly' shown (one-by_fence 0 device device' made) (shown.agrees.failed ∙ up) h.of.in_hand next same shown')
 
 -- ---- the record's writing
@@ -407,24 +463,28 @@ staged-at FlushGate start r before device at = tt
 staged-at FenceGate start r before device at = tt
 staged-at Done start r before device at = tt
 
-add-three : (n m : ℕ) → m ≡ n + 1 → 3 + m ≡ 3 + n + 1
-add-three n m is = omega arith
+add-two : (lines n m : ℕ) → m ≡ n + 1 → 2 + lines + m ≡ 2 + lines + n + 1
+add-two lines n m is = omega arith
 
--- the writing keeps the slots
-shrinks-outside : (a : Layout) (p : Progress) (old new : Device) → p.layout ≡ a → is_in_limits p.layout ≡ true → ((word : ℕ) → IsOutside p word → IsKeptWord old new word) → ShrinksSlots a old new
-shrinks-outside a p old new same limits kept = record {
-  each = λ slot lt. record {
-    each = λ w below.
-        let k = kept (word_of a slot w) (inr (above slot w)) in
-        record { value = k.value; survives = k.survivors; settled = k.settled };
-  };
-}
+-- no slot lies in the place that is written
+pub slot-outside : (a : Layout) (p : Progress) (slot w : ℕ) → p.layout ≡ a → is_in_limits p.layout ≡ true → IsOutside p (word_of a slot w)
+slot-outside a p slot w same limits = inr above
   where
     places : p.layout.places ≡ a.places
     places = ap (λ (l : Layout). l.places) same
 
-    above : (slot w : ℕ) → start_of p + 32 ≤ word_of a slot w
-    above slot w = omega (arith, place_below p.layout p.target limits, places)
+    above : start_of p + 32 ≤ word_of a slot w
+    above = omega (arith, place_below p.layout p.target limits, places)
+
+-- the writing keeps the slots
+pub shrinks-outside : (a : Layout) (p : Progress) (old new : Device) → p.layout ≡ a → is_in_limits p.layout ≡ true → ((word : ℕ) → IsOutside p word → IsKeptWord old new word) → ShrinksSlots a old new
+shrinks-outside a p old new same limits kept = record {
+  each = λ slot lt. record {
+    each = λ w below.
+        let k = kept (word_of a slot w) (slot-outside a p slot w same limits) in
+        record { value = k.value; survives = k.survivors; settled = k.settled };
+  };
+}
 
 -- what one operation of the writing makes of the device
 pub record MakesTick (p p' : Progress) (old new : Device) : Type 0 where
@@ -442,61 +502,60 @@ covering-ticked q q' p p' old new layout same covering made = record {
   slots = slots-shrink covering.slots (shrinks-outside q'.layout p old new (sym layout ∙ sym same) covering.replaces.writing.limits made.outside);
 }
 
-pub writes : {D : Type 0} {G : Ghosts D} (state : D → Device) (old new : Room D G) (q : State) (cycle : Cycle) (p' : Progress) (reached : Stage) → IsOrderly (state old.device) → IsOrderly (state new.device) → Shows state old q → old.failed ≡ false → old.cycle ≡ Some cycle → cycle.stage ≡ WriteRecord
-    → MakesTick cycle.writing p' (state old.device) (state new.device) → Some reached ≡ reached_by cycle.writing.stage
+pub writes_on : {D : Type 0} {G : Ghosts D} (state : D → Device) (old new : Room D G) (q : State) (cycle : Cycle) (p' : Progress) (reached : Stage) → IsOrderly (state old.device) → IsOrderly (state new.device) → Shows state old q → old.failed ≡ false → old.cycle ≡ Some cycle
+    → cycle.stage ≡ WriteRecord → MakesTick cycle.writing p' (state old.device) (state new.device) → Some reached ≡ reached_by cycle.writing.stage
     → new.numbers ≡ old.numbers → new.session ≡ old.session → new.cycle ≡ Some (record cycle { writing = p' }) → new.batch ≡ old.batch → new.slots ≡ old.slots → new.failed ≡ old.failed
     → (q' : State) × StepsTo state old new CommitTick (Ticked reached) q q'
-writes state old new q cycle p' reached orderly orderly' shown up is stage made reaches numbers session cycle_is batch slots down =
+writes_on state old new q cycle p' reached orderly orderly' shown up is stage made reaches numbers session cycle_is batch slots down =
     let h = found-in_hand state old q cycle shown up is in
     let t = h.timestamp in
-    let write = h.write in
+    let writes = h.writes in
     let device = state old.device in
     let device' = state new.device in
+    let lines = length (touched writes) in
     let cycle' : Cycle = record cycle { writing = p' } in
-    let hand = hand_of q cycle t write in
-    let hand' = hand_of q cycle' t write in
+    let hand = hand_of q cycle t writes in
+    let hand' = hand_of q cycle' t writes in
     let q' : State = record q { hand = Some hand' } in
-    let covering : IsCovering q (state_covered q hand) device cycle.writing = subst (λ (s : CycleStage). HoldsStage q device cycle t write s) stage h.holds in
+    let covering : IsCovering q (state_covered q hand) device cycle.writing = subst (λ (s : CycleStage). HoldsStage q device cycle (lines_in old.batch) t writes s) stage h.holds in
     let staged : IsStage cycle.writing.stage = staged-at cycle.writing.stage (start_of cycle.writing) cycle.writing.target covering.replaces.before device covering.replaces.writing.at in
     let next : next_stage q hand ≡ Some reached =
-    stage-next q cycle t write device (Some cycle) old.batch old.slots (Some reached) h.works
-    (ap (λ (s : CycleStage). slice_get (stages 1) (ticks_of cycle s)) stage ∙ stage-reached cycle.writing.stage staged made.under_way ∙ sym reaches) in
-    let count : ticks_of cycle cycle.stage + 1 ≡ ticks_of cycle' cycle.stage =
-    ap (λ (s : CycleStage). ticks_of cycle s + 1) stage
-    ∙ sym (add-three (operations_before cycle.writing.stage) (operations_before p'.stage) (ap (λ (p : Progress). operations_before p.stage) made.advances ∙ operations-next cycle.writing.stage staged made.under_way))
-    ∙ sym (ap (λ (s : CycleStage). ticks_of cycle' s) stage) in
+    stage-next q cycle t writes device (Some cycle) old.batch old.slots (Some reached) h.works
+    (ap (λ (s : CycleStage). slice_get (stages lines) (ticks_of lines cycle s)) stage ∙ stage-reached lines cycle.writing.stage staged made.under_way ∙ sym reaches) in
+    let count : ticks_of lines cycle cycle.stage + 1 ≡ ticks_of lines cycle' cycle.stage =
+    ap (λ (s : CycleStage). ticks_of lines cycle s + 1) stage
+    ∙ sym (add-two lines (operations_before cycle.writing.stage) (operations_before p'.stage) (ap (λ (p : Progress). operations_before p.stage) made.advances ∙ operations-next cycle.writing.stage staged made.under_way))
+    ∙ sym (ap (λ (s : CycleStage). ticks_of lines cycle' s) stage) in
     let same : (record hand { ticks = hand.ticks + 1 }) ≡ hand' = ap (λ (n : ℕ). record hand { ticks = n }) count in
     let shrinks = shrinks-outside q.layout cycle.writing device device' h.of.layout covering.replaces.writing.limits made.outside in
     let c = covering-ticked q (state_covered q hand) cycle.writing p' device device' (sym h.of.layout) refl covering made in
     let layout : p'.layout ≡ cycle.writing.layout = ap (λ (p : Progress). p.layout) made.advances in
     let target : p'.target ≡ cycle.writing.target = ap (λ (p : Progress). p.target) made.advances in
-    let holds : HoldsStage q' device' cycle' t write cycle.stage =
-    subst (λ (s : CycleStage). HoldsStage q' device' cycle' t write s) (sym stage) (record { replaces = c.replaces; keeps = c.keeps; slots = c.slots }) in
-    let log : HoldsLog q' device' (Some (Drawn t write true)) (Some cycle') old.batch = (cycle-ticked q cycle cycle' old.batch t write h.of refl layout target, holds) in
-    let works = works-ticked q (Some hand') device device' t write (Some cycle) (Some cycle') old.batch old.batch old.slots h.works (slots-shrink h.works.slots shrinks) log in
-    let works' : Works q' device' new.session new.cycle new.batch new.slots =
-    works-along q' device' (Some (Drawn t write true)) new.session (Some cycle') new.cycle old.batch new.batch old.slots new.slots (session ∙ h.is) cycle_is batch slots works in
-    let shown' = shows-works state new q' (shown.agrees.layout ∙ ap (λ (n : Numbers). n.geometry) (sym numbers)) (shown.agrees.ruled ∙ ap (λ (n : Numbers). n.record) (sym numbers)) (shown.agrees.next ∙ ap (λ (n : Numbers). n.next) (sym numbers)) shown.agrees.swept (shown.agrees.failed ∙ sym down) works' in
+    let holds : HoldsStage q' device' cycle' (lines_in old.batch) t writes cycle.stage =
+    subst (λ (s : CycleStage). HoldsStage q' device' cycle' (lines_in old.batch) t writes s) (sym stage) (record { replaces = c.replaces; keeps = c.keeps; slots = c.slots }) in
+    let log : HoldsLog q' device' (Some (Drawn t writes (length writes))) (Some cycle') old.batch = (refl, cycle-ticked q cycle cycle' old.batch t writes h.of layout target, holds) in
+    let works = works-ticked q (Some hand') device device' t writes (Some cycle) (Some cycle') old.batch old.batch old.slots h.works (slots-shrink h.works.slots shrinks) log in
+    let shown' = shows-ticked state old new q hand' t writes cycle' old.batch shown numbers (session ∙ h.is) cycle_is batch slots down works in
     (q', ticks state old new q hand hand' reached orderly orderly' shown (one-by_tick cycle.writing device device' made.under_way made.operation) (shown.agrees.failed ∙ up) h.of.in_hand next same shown')
 
 -- ---- the batch is covered
 
-sessions-covered : (q : State) (more t n : ℕ) (write : Write) → option_map (plain_session (length q.history)) (session_at (Some (Drawn t write true)) n) ≡ option_map (plain_session more) (session_at (Some (Covered t)) n)
-sessions-covered q more t n write = by (nat_eq n 2)
+sessions-covered : (q : State) (more t n stamped : ℕ) (writes : List Write) → option_map (plain_session (length q.history)) (session_at (Some (Drawn t writes stamped)) n) ≡ option_map (plain_session more) (session_at (Some (Covered t)) n)
+sessions-covered q more t n stamped writes = by (nat_eq n 2)
   where
-    by : (b : Bool) → option_map (plain_session (length q.history)) (cond b (Some (Drawn t write true)) None) ≡ option_map (plain_session more) (cond b (Some (Covered t)) None)
+    by : (b : Bool) → option_map (plain_session (length q.history)) (cond b (Some (Drawn t writes stamped)) None) ≡ option_map (plain_session more) (cond b (Some (Covered t)) None)
     by true = refl
     by false = refl
 
-works-covered : (q : State) (device device' : Device) (t : ℕ) (write : Write) (cycle : Cycle) (batch batch' : Option Batch) (free : List Bool) → Works q device (Some (Drawn t write true)) (Some cycle) batch free
-    → IsKept (state_covered q (hand_of q cycle t write)) → SlotsHold (state_covered q (hand_of q cycle t write)) device' → HoldsRecord q.layout (present (state_covered q (hand_of q cycle t write))).ruled_by device'
-    → Works (state_covered q (hand_of q cycle t write)) device' (Some (Covered t)) None batch' free
-works-covered q device device' t write cycle batch batch' free works kept slots holds = record {
-  sessions = λ n. works.sessions n ∙ sessions-covered q (length (q.history ++ commit_of t write ∷ [])) t n write;
+works-covered : (q : State) (device device' : Device) (t : ℕ) (writes : List Write) (cycle : Cycle) (batch batch' : Option InHand) (free : List Bool) → Works q device (Some (Drawn t writes (length writes))) (Some cycle) batch free
+    → IsKept (state_covered q (hand_of q cycle t writes)) → SlotsHold (state_covered q (hand_of q cycle t writes)) device' → HoldsRecord q.layout (present (state_covered q (hand_of q cycle t writes))).ruled_by device'
+    → Works (state_covered q (hand_of q cycle t writes)) device' (Some (Covered t)) None batch' free
+works-covered q device device' t writes cycle batch batch' free works kept slots holds = record {
+  sessions = λ n. works.sessions n ∙ sessions-covered q (length (q.history ++ commit_of t writes ∷ [])) t n (length writes) writes;
   drawn =
-      ap (filter (λ (d : DrawnCommit). not (has_timestamp (commit_of t write ∷ []) d.commit.timestamp))) works.drawn
-      ∙ ap (λ (b : Bool). cond (not (b || false)) (stamped_one t write ∷ []) []) (eq-eqb t t refl);
-  holds = (has-batch q.history (commit_of t write ∷ []) t (or_left (nat_eq t t) false (eq-eqb t t refl)), works.holds.3);
+      ap (filter (λ (d : DrawnCommit). not (has_timestamp (commit_of t writes ∷ []) d.commit.timestamp))) works.drawn
+      ∙ ap (λ (b : Bool). cond (not (b || false)) (stamped_whole t writes ∷ []) []) (eq-eqb t t refl);
+  holds = (has-batch q.history (commit_of t writes ∷ []) t (or_left (nat_eq t t) false (eq-eqb t t refl)), works.holds.1.next);
   free_slots = record { size = works.free_slots.size; each = works.free_slots.each };
   kept = kept;
   slots = slots;
@@ -511,17 +570,18 @@ covers-last state old mid new q cycle p' reply orderly orderly' shown up is stag
     let room : HasCovered p'.target mid new = subst (λ (r : Record). HasCovered r mid new) targeted room_ruling in
     let h = found-in_hand state old q cycle shown up is in
     let t = h.timestamp in
-    let write = h.write in
+    let writes = h.writes in
     let device = state old.device in
     let device' = state new.device in
+    let lines = length (touched writes) in
     let made : MakesTick cycle.writing p' device device' = subst (λ (d : Device). MakesTick cycle.writing p' device d) (sym (ap state room.device)) made_mid in
-    let hand = hand_of q cycle t write in
+    let hand = hand_of q cycle t writes in
     let q' : State = state_covered q hand in
-    let covering_q : IsCovering q q' device cycle.writing = subst (λ (s : CycleStage). HoldsStage q device cycle t write s) stage h.holds in
+    let covering_q : IsCovering q q' device cycle.writing = subst (λ (s : CycleStage). HoldsStage q device cycle (lines_in old.batch) t writes s) stage h.holds in
     let staged : IsStage cycle.writing.stage = staged-at cycle.writing.stage (start_of cycle.writing) cycle.writing.target covering_q.replaces.before device covering_q.replaces.writing.at in
     let next : next_stage q hand ≡ None =
-    stage-next q cycle t write device (Some cycle) old.batch old.slots None h.works
-    (ap (λ (s : CycleStage). slice_get (stages 1) (ticks_of cycle s)) stage ∙ stage-reached cycle.writing.stage staged made.under_way ∙ sym reaches) in
+    stage-next q cycle t writes device (Some cycle) old.batch old.slots None h.works
+    (ap (λ (s : CycleStage). slice_get (stages lines) (ticks_of lines cycle s)) stage ∙ stage-reached lines cycle.writing.stage staged made.under_way ∙ sym reaches) in
     let done : p'.stage ≡ Done = ap (λ (p : Progress). p.stage) made.advances ∙ ap (λ (s : WritingStage). after_stage s) (done-next cycle.writing.stage made.under_way (sym reaches)) in
     let layout : p'.layout ≡ q.layout = ap (λ (p : Progress). p.layout) made.advances ∙ h.of.layout in
     let target : p'.target ≡ (present q').ruled_by = ap (λ (p : Progress). p.target) made.advances ∙ h.of.target in
@@ -531,12 +591,12 @@ covers-last state old mid new q cycle p' reply orderly orderly' shown up is stag
     let session : new.session ≡ Some (Covered t) = room.session ∙ ap (λ (r : Record). let s : Option Session = Some (Covered r.persisted) in s) target in
     let works : Works q' device' new.session new.cycle new.batch new.slots =
     works-along q' device' (Some (Covered t)) new.session None new.cycle new.batch new.batch old.slots new.slots session room.cycle refl (room.slots ∙ slots)
-    (works-covered q device device' t write cycle old.batch new.batch old.slots h.works c.keeps c.slots holds) in
+    (works-covered q device device' t writes cycle old.batch new.batch old.slots h.works c.keeps c.slots holds) in
     let shown' : Shows state new q' =
     shows-works state new q' (shown.agrees.layout ∙ ap (λ (n : Numbers). n.geometry) (sym numbers) ∙ sym room.geometry) (sym target ∙ sym room.rules) (shown.agrees.next ∙ ap (λ (n : Numbers). n.next) (sym numbers) ∙ sym room.next)
     shown.agrees.swept (shown.agrees.failed ∙ sym down ∙ sym room.failed) works in
     let one : IsOneOperation device device' = one-by_tick cycle.writing device device' made.under_way made.operation in
-    let reply_is : reply ≡ CoveredReply (batch_of q hand) = told ∙ ap covering (batch ∙ h.of.covers) in (
+    let reply_is : reply ≡ CoveredReply (batch_of q hand) = told ∙ ap covering (batch ∙ h.of.covers.1) ∙ ap (λ (b : Batch). CoveredReply b) h.of.covers.2.batch in (
       q',
       covers state old new q hand reply orderly orderly' shown one (shown.agrees.failed ∙ up) h.of.in_hand next reply_is
           (λ image may. stands-ruled q' device' image holds.stands.size c.keeps c.slots may (holds_ruled q.layout (present q').ruled_by device' holds image may)) shown',
@@ -557,9 +617,8 @@ tick-refused state old mid new q cycle reply orderly orderly' shown up is made n
 
 pub under_way-of : (a : Layout) (found : Option Cycle) (cycle : Cycle) → fits_cycle a found ≡ true → found ≡ Some cycle → is_under_way cycle.writing.stage ≡ true
 under_way-of a found cycle fits is =
-    let slot : Bool = nat_lt cycle.slot a.slots in
     let size : Bool = nat_eq (total_words cycle.writing.layout) (total_words a) in
     let under : Bool = is_under_way cycle.writing.stage in
     let numbered : Bool = nat_lt cycle.writing.target.gate (2 ^ 62) in
     let all : fits_cycle a (Some cycle) ≡ true = subst (λ (c : Option Cycle). fits_cycle a c ≡ true) is fits in
-    (and_parts (slot && size) under (and_parts (slot && size && under) numbered all).0).1
+    (and_parts size under (and_parts (size && under) numbered all).0).1

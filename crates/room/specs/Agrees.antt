@@ -1,14 +1,13 @@
 -- How the fields of a room agree with a plain state.
-use Rattle.std.specs.Prelude.{◌≡◌, ◌≢◌, ◌⊎◌, ℕ, ◌+◌, ◌-◌, ◌*◌, ◌^◌, ◌<◌, ◌≤◌, Bool, true, false, nat_eq, if◌then◌else◌, List, [], ◌∷◌, length, IsTrue, Option, Some, None, is_none, slice_get}
+use Rattle.std.specs.Prelude.{◌≡◌, ℕ, ◌+◌, ◌*◌, ◌^◌, ◌<◌, ◌≤◌, Bool, true, false, List, [], ◌∷◌, length, Option, Some, None, is_none, slice_get, Contains, IsPermutation}
 use Rattle.std.specs.Option.{option_map}
-use Rattle.base.specs.Batches.{Batch}
-use Rattle.base.specs.Commits.{Commit, after}
 use Rattle.base.specs.Layout.{slot_words}
-use Rattle.base.specs.Records.{Record}
 use Rattle.base.specs.Stands.{has_timestamp}
-use Rattle.base.specs.Machine.{State, Drawn as DrawnCommit, Hand, Session as PlainSession, Active as IsReading, Drew, WroteNothing, BySession, ByCommit, present, state_covered}
+use Rattle.base.specs.Machine.{State, Hand, Version, Writer, BySession, ByCommit, is_nil, present, state_covered}
 use Rattle.pmem.specs.Device.{Device, IsReady}
 use Rattle.pmem.specs.declared.device.Pmem.{Ghosts}
+use Rattle.txn.specs.declared.write.Write.{Write}
+use Rattle.txn.specs.WriteSets.{IsRising, touched}
 use Rattle.log_area.specs.declared.stage.WritingStage.TheVariants.{StoreBody}
 use Rattle.log_area.specs.Rulings.{HoldsRecord}
 use Rattle.log_area.specs.Stages.{operations_before}
@@ -17,81 +16,78 @@ use Rattle.invariant.specs.Kept.{IsKept, version_by}
 use Rattle.invariant.specs.Slots.{SlotsHold, word_of}
 use Rattle.room.specs.declared.cycle.Cycle.{Cycle}
 use Rattle.room.specs.declared.cycle.CycleStage.{CycleStage}
-use Rattle.room.specs.declared.cycle.CycleStage.TheVariants.{FlushLine, FenceLine, WriteRecord}
+use Rattle.room.specs.declared.cycle.CycleStage.TheVariants.{FlushLines, WriteRecord}
+use Rattle.room.specs.declared.cycle.InHand.{InHand}
 use Rattle.room.specs.declared.session.Session.{Session}
 use Rattle.room.specs.declared.session.Session.TheVariants.{Active, Drawn, Covered, ReadOnly}
-use Rattle.room.specs.declared.session.Write.{Write}
 use Rattle.room.specs.declared.room.Room.{Room}
+use Rattle.room.specs.Sessions.{session_at, commit_of, plain_session, drawn_by, lines_in}
+use Rattle.room.specs.Tables.{Replaces}
 
 -- ---- sessions
 
--- the commit that writes this alone
-abbrev pub commit_of : ℕ → Write → Commit
-commit_of t write = record { timestamp = t; writes = (write.key, Some write.row) ∷ [] }
+-- a write with a row has a slot, which its writer holds; one without has none
+abbrev pub HasOwnSlot : State → Version → Option (List ℕ) → Option ℕ → Type 0
+HasOwnSlot q version None None = Unit {0}
+HasOwnSlot q version (Some row) (Some slot) = (slot < q.layout.slots) × (q.held slot ≡ Some version)
+HasOwnSlot q version _ _ = ⊥
 
--- the session in the plain state, where so many commits are covered
-abbrev pub plain_session : ℕ → Session → PlainSession
-plain_session seen (Active None) = IsReading seen []
-plain_session seen (Active (Some write)) = IsReading seen ((write.key, Some write.row) ∷ [])
-plain_session seen (Drawn t write stamped) = Drew t
-plain_session seen (Covered t) = Drew t
-plain_session seen ReadOnly = WroteNothing
+-- the write's slot is its writer's, and what it replaces is the newest version of its key
+pub record IsPlaced (q : State) (writer : Writer) (write : Write) : Type 0 where
+  pub own : HasOwnSlot q (version_by write.key writer) write.row write.slot
+  pub replaces : Replaces q write.key write.replaces
 
--- the session with this number, which is 2 if it is any
-abbrev pub session_at : Option Session → ℕ → Option Session
-session_at session n = if nat_eq n 2 then session else None
+-- the writes of a transaction: at most 32, by rising key, each in its place
+pub record HoldsWrites (q : State) (writer : Writer) (writes : List Write) : Type 0 where
+  pub rising : IsRising writes
+  pub few : length writes ≤ 32
+  pub placed : (write : Write) → Contains writes write → IsPlaced q writer write
 
--- what is drawn and not covered
-abbrev pub drawn_by : Option Session → List DrawnCommit
-drawn_by (Some (Drawn t write stamped)) = record { commit = commit_of t write; stamped = if stamped then 1 else 0 } ∷ []
-drawn_by _ = []
+-- its commit has the timestamp after the persisted one, and the next is the one after that
+pub record HoldsDrawn (q : State) (t : ℕ) (writes : List Write) (stamped : ℕ) : Type 0 where
+  pub writes_some : is_nil writes ≡ false
+  pub stamps : stamped ≤ length writes
+  pub follows : t ≡ q.persisted + 1
+  pub next : q.next ≡ t + 1
+  pub early : t + 2 * q.layout.window < 2 ^ 62
 
--- whether the session's commit is stamped and not covered
-abbrev pub awaits : Option Session → Bool
-awaits (Some (Drawn t write true)) = true
-awaits _ = false
-
--- the session's slot is its own, of a key that has no row
-pub record IsInserting (q : State) (write : Write) : Type 0 where
-  pub within : write.slot < q.layout.slots
-  pub absent : after q.history write.key ≡ None
-
--- what holds of the session's slot and of the timestamps: nothing else is drawn
+-- what holds of the session's writes and of the timestamps: nothing else is drawn
 abbrev pub HoldsSession : State → Option Session → Type 0
-HoldsSession q (Some (Active (Some write))) =
-    IsInserting q write × (q.held write.slot ≡ Some (version_by write.key (BySession 2))) × (q.next ≡ q.persisted + 1)
-HoldsSession q (Some (Drawn t write stamped)) =
-    IsInserting q write × (q.held write.slot ≡ Some (version_by write.key (ByCommit t))) × (t ≡ q.persisted + 1) × (q.next ≡ t + 1) × (t + 2 * q.layout.window < 2 ^ 62)
+HoldsSession q (Some (Active writes)) = HoldsWrites q (BySession 2) writes × (q.next ≡ q.persisted + 1)
+HoldsSession q (Some (Drawn t writes stamped)) = HoldsWrites q (ByCommit t) writes × HoldsDrawn q t writes stamped
 HoldsSession q (Some (Covered t)) = (has_timestamp q.history t ≡ true) × (q.next ≡ q.persisted + 1)
 HoldsSession q _ = q.next ≡ q.persisted + 1
 
 -- ---- the committer
 
--- the ticks made for the batch in hand
-abbrev pub ticks_of : Cycle → CycleStage → ℕ
-ticks_of cycle FlushLine = 1
-ticks_of cycle FenceLine = 2
-ticks_of cycle WriteRecord = 3 + operations_before cycle.writing.stage
+-- the ticks made for the batch in hand, which touches so many lines
+abbrev pub ticks_of : ℕ → Cycle → CycleStage → ℕ
+ticks_of lines cycle (FlushLines flushed) = 1 + flushed
+ticks_of lines cycle WriteRecord = 2 + lines + operations_before cycle.writing.stage
 
 -- the batch in hand: the one drawn commit
-abbrev pub hand_of : State → Cycle → ℕ → Write → Hand
-hand_of q cycle t write = record {
-  commits = commit_of t write ∷ [];
+abbrev pub hand_of : State → Cycle → ℕ → List Write → Hand
+hand_of q cycle t writes = record {
+  commits = commit_of t writes ∷ [];
   persisted = t;
   dirty = q.next + q.layout.window;
   gaps = q.gaps;
   longs = [];
-  ticks = ticks_of cycle cycle.stage;
+  ticks = ticks_of (length (touched writes)) cycle cycle.stage;
 }
 
+-- the batch is the one drawn commit, with the lines that it touches
+pub record IsTaken (q : State) (in_hand : InHand) (t : ℕ) (writes : List Write) : Type 0 where
+  pub batch : in_hand.batch ≡ record { from = q.gate; stamp = q.gate + 1; persisted = t; commits = commit_of t writes ∷ [] }
+  pub lines : IsPermutation (touched writes) in_hand.lines.items
+
 -- the record that is written covers the drawn commit alone
-pub record IsCycleOf (q : State) (cycle : Cycle) (batch : Option Batch) (t : ℕ) (write : Write) : Type 0 where
-  pub slot : cycle.slot ≡ write.slot
+pub record IsCycleOf (q : State) (cycle : Cycle) (batch : Option InHand) (t : ℕ) (writes : List Write) : Type 0 where
   pub layout : cycle.writing.layout ≡ q.layout
   pub target : cycle.writing.target ≡ record { gate = q.gate + 1; persisted = t; dirty = q.next + q.layout.window; gaps = q.gaps; longs = [] }
-  pub covers : batch ≡ Some (record { from = q.gate; stamp = q.gate + 1; persisted = t; commits = commit_of t write ∷ [] })
+  pub covers : (in_hand : InHand) × (batch ≡ Some in_hand) × IsTaken q in_hand t writes
   pub numbered : q.gate + 1 < 2 ^ 62
-  pub in_hand : q.hand ≡ Some (hand_of q cycle t write)
+  pub in_hand : q.hand ≡ Some (hand_of q cycle t writes)
 
 -- every word of the slot waits for the committer's fence alone
 pub record IsLineFlushed (q : State) (device : Device) (slot : ℕ) : Type 0 where
@@ -103,16 +99,22 @@ pub record IsCovering (q q' : State) (device : Device) (writing : Progress) : Ty
   pub keeps : IsKept q'
   pub slots : SlotsHold q' device
 
+-- the first lines of these slots wait for the committer's fence
+pub record AreFlushed (q : State) (device : Device) (flushed : ℕ) (lines : List ℕ) : Type 0 where
+  pub within : flushed ≤ length lines
+  pub each : (i slot : ℕ) → i < flushed → slice_get lines i ≡ Some slot → IsLineFlushed q device slot
+
 -- what the committer has come to on the device
-abbrev pub HoldsStage : State → Device → Cycle → ℕ → Write → CycleStage → Type 0
-HoldsStage q device cycle t write FlushLine = HoldsRecord q.layout (present q).ruled_by device × (cycle.writing.stage ≡ StoreBody 1)
-HoldsStage q device cycle t write FenceLine = HoldsRecord q.layout (present q).ruled_by device × (cycle.writing.stage ≡ StoreBody 1) × IsLineFlushed q device cycle.slot
-HoldsStage q device cycle t write WriteRecord = IsCovering q (state_covered q (hand_of q cycle t write)) device cycle.writing
+abbrev pub HoldsStage : State → Device → Cycle → List ℕ → ℕ → List Write → CycleStage → Type 0
+HoldsStage q device cycle lines t writes (FlushLines flushed) =
+    HoldsRecord q.layout (present q).ruled_by device × (cycle.writing.stage ≡ StoreBody 1) × AreFlushed q device flushed lines
+HoldsStage q device cycle lines t writes WriteRecord = IsCovering q (state_covered q (hand_of q cycle t writes)) device cycle.writing
 
 -- with nothing in hand the state's record rules alone
-abbrev pub HoldsLog : State → Device → Option Session → Option Cycle → Option Batch → Type 0
+abbrev pub HoldsLog : State → Device → Option Session → Option Cycle → Option InHand → Type 0
 HoldsLog q device session None batch = (q.hand ≡ None) × HoldsRecord q.layout (present q).ruled_by device
-HoldsLog q device (Some (Drawn t write true)) (Some cycle) batch = IsCycleOf q cycle batch t write × HoldsStage q device cycle t write cycle.stage
+HoldsLog q device (Some (Drawn t writes stamped)) (Some cycle) batch =
+    (stamped ≡ length writes) × IsCycleOf q cycle batch t writes × HoldsStage q device cycle (lines_in batch) t writes cycle.stage
 HoldsLog q device _ (Some cycle) batch = ⊥
 
 -- ---- the room
@@ -123,7 +125,7 @@ pub record HasFree (q : State) (free : List Bool) : Type 0 where
   pub each : (slot : ℕ) → slot < q.layout.slots → slice_get free slot ≡ Some (is_none (q.held slot))
 
 -- what holds while the device has not failed
-pub record Works (q : State) (device : Device) (session : Option Session) (cycle : Option Cycle) (batch : Option Batch) (free : List Bool) : Type 0 where
+pub record Works (q : State) (device : Device) (session : Option Session) (cycle : Option Cycle) (batch : Option InHand) (free : List Bool) : Type 0 where
   pub sessions : (n : ℕ) → q.sessions n ≡ option_map (plain_session (length q.history)) (session_at session n)
   pub drawn : q.drawn ≡ drawn_by session
   pub holds : HoldsSession q session

@@ -1,6 +1,7 @@
-pub mod Fits
 pub mod Sessions
-pub mod Agrees
+pub mod Fits
 pub mod Tables
+pub mod Agrees
 pub mod Room
 pub mod Storing
+pub mod Closing

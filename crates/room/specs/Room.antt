@@ -5,13 +5,13 @@ use Rattle.base.specs.declared.fault.Fault.TheVariants.{Device as DeviceFault}
 use Rattle.base.specs.declared.step.Step.{Step}
 use Rattle.base.specs.declared.step.Reply.{Reply}
 use Rattle.base.specs.declared.step.Reply.TheVariants.{Refused, Idle, Covered as CoveredReply}
-use Rattle.base.specs.Batches.{Batch}
 use Rattle.base.specs.Records.{Record}
 use Rattle.base.specs.Images.{Image}
 use Rattle.base.specs.Machine.{State, Stepped, most_operations, Run, final, StandsAt, StandsWithin, StandsAlong}
 use Rattle.pmem.specs.Device.{Device, MayLeave, LeavesOnly}
 use Rattle.pmem.specs.declared.device.Pmem.{Ghosts}
 use Rattle.room.specs.Agrees.{Agrees}
+use Rattle.room.specs.declared.cycle.InHand.{InHand}
 use Rattle.room.specs.declared.room.Room.{Room}
 use Rattle.room.specs.declared.session.Session.TheVariants.{Covered}
 use Rattle.room.specs.declared.status.Status.{Status}
@@ -44,8 +44,8 @@ pub record HasCovered {D : Type 0} {G : Ghosts D} (r : Record) (old new : Room D
   pub failed : new.failed ≡ old.failed
 
 -- the reply once the batch in hand is covered
-abbrev pub covering : Option Batch → Reply
-covering (Some batch) = CoveredReply batch
+abbrev pub covering : Option InHand → Reply
+covering (Some in_hand) = CoveredReply in_hand.batch
 covering None = Idle
 
 -- a failing device is told exactly where an operation failed

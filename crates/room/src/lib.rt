@@ -2,14 +2,17 @@
 #![tactic(auto)]
 
 mod cycle;
+mod giving;
 mod numbers;
 mod room;
 mod session;
+mod stamping;
 mod status;
 mod tables;
 
-use cycle::{Cycle, CycleStage};
+use cycle::{Cycle, CycleStage, InHand};
 use numbers::Numbers;
 pub use room::Room;
-use session::{Session, Write};
+use session::Session;
 pub use status::Status;
+use tables::Found;

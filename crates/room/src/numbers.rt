@@ -20,7 +20,7 @@ pub struct Numbers {
 }
 
 impl Numbers {
-    ghost use Rattle.std.specs.Prelude.{◌+◌, ◌*◌, [], nat_eq};
+    ghost use Rattle.std.specs.Prelude.{◌+◌, ◌-◌, ◌*◌, [], nat_eq};
     ghost use Rattle.base.specs.Records.{is_committed};
 
     /// Is no timestamp left that the record reserves?
@@ -44,6 +44,14 @@ impl Numbers {
         LIMIT <= self.record.gate() + 1
     }
 
+    /// Is no number left for the record that follows after so many?
+    pub fn lacks_records(&self, records: u64) -> bool
+        requires { records < 2 ^ 62 }
+        ensures { result ≡ nat_le (2 ^ 62) (self.now.record.gate + records) }
+    {
+        LIMIT <= self.record.gate() + records
+    }
+
     /// Does the ruling record commit the timestamp?
     pub fn commits(&self, timestamp: Ts) -> bool
         ensures { self.now.record.longs ≡ [] → result ≡ is_committed self.now.record timestamp }
@@ -57,12 +65,21 @@ impl Numbers {
     pub fn record_after(&self, persisted: Ts) -> Record
         ensures { result ≡ record { gate = self.now.record.gate + 1; persisted = persisted; dirty = self.now.next + self.now.geometry.window; gaps = self.now.record.gaps; longs = [] } }
     {
-        Record::new(
-            self.record.gate() + 1,
-            persisted,
-            self.next + self.geometry.window(),
-            self.record.gaps(),
-        )
+        self.next_record(persisted, self.next + self.geometry.window())
+    }
+
+    /// The next record, which persists all that is drawn and reserves nothing.
+    pub fn closing_record(&self) -> Record
+        ensures { result ≡ record { gate = self.now.record.gate + 1; persisted = self.now.next - 1; dirty = self.now.next; gaps = self.now.record.gaps; longs = [] } }
+    {
+        self.next_record(self.next.saturating_sub(1), self.next)
+    }
+
+    // The record of the next number, with the gaps of the one that rules.
+    fn next_record(&self, persisted: Ts, dirty: Ts) -> Record
+        ensures { result ≡ record { gate = self.now.record.gate + 1; persisted = persisted; dirty = dirty; gaps = self.now.record.gaps; longs = [] } }
+    {
+        Record::new(self.record.gate() + 1, persisted, dirty, self.record.gaps())
     }
 }
 

@@ -1,25 +1,28 @@
 ghost use Rattle.std.specs.Prelude.{◌≡◌, ◌<◌, ◌^◌, IsTrue, false, true, length};
 ghost use Rattle.base.specs.Layout.{total_words};
-ghost use Rattle.room.specs.Fits.{fits_session, fits_cycle};
+ghost use Rattle.room.specs.Fits.{fits_session, fits_cycle, fits_lines};
 
-use crate::cycle::{Cycle, CycleStage, batch_of_one};
+use crate::cycle::{Cycle, CycleStage, InHand, batch_of_one};
+use crate::giving::give_back;
 use crate::numbers::Numbers;
-use crate::session::{Session, Write};
+use crate::session::Session;
+use crate::stamping::stamp_write;
 use crate::status::Status;
-use crate::tables::find;
+use crate::tables::{Found, find};
 use base::actor::Actor;
-use base::batch::Batch;
 use base::fault::Fault;
 use base::key::Key;
 use base::row::Row;
 use base::step::{Reply, Stage, Step};
-use log_area::{Record, Writing};
+use base::{SlotNo, Ts};
+use log_area::{Record, Writing, write_record};
 use pmem::Pmem;
 use recovery::Opened;
 use slot_alloc::SlotAlloc;
 use std::alloc::Global;
 use std::thread::Threads;
-use version_slot::{Version, fill, stamp_begin};
+use txn::{Write, WriteSet};
+use version_slot::{Version, fill};
 
 /// A device that was opened, and all that is kept of it.
 #[derive(Drop)]
@@ -29,13 +32,14 @@ pub struct Room<D: Pmem> {
     numbers: Numbers,
     session: Option<Session>,
     cycle: Option<Cycle>,
-    batch: Option<Batch>,
+    batch: Option<InHand>,
     slots: SlotAlloc,
     failed: bool,
     ghost whole: { (D.state device).words ≡ total_words numbers.geometry },
     ghost counted: { length slots ≡ numbers.geometry.slots },
     ghost fits: { IsTrue (fits_session numbers.geometry session) },
     ghost in_hand: { IsTrue (fits_cycle numbers.geometry cycle) },
+    ghost touches: { IsTrue (fits_lines numbers.geometry batch) },
 }
 
 /// The number of the one session that may be open, and of the actor that stores for it.
@@ -106,17 +110,25 @@ impl<D: Pmem + Drop + Send + Sync> Room<D> {
 }
 
 impl<D: Pmem + Drop> Room<D> {
-    ghost use Rattle.std.specs.Prelude.{None, Some, IfSome, IfNone};
-    ghost use Rattle.base.specs.Machine.{State};
-    ghost use Rattle.base.specs.declared.step.Step.TheVariants.{Begin, Get, Put, Draw, Stamp, Poll, End, Commit};
-    ghost use Rattle.std.specs.Prelude.{◌<◌, ◌≤◌, ◌⊎◌, false};
+    ghost use Rattle.std.specs.Prelude.{ℕ, ◌+◌, ◌^◌, None, Some, IfSome, IfNone, IfOk, IfErr, OnOk, OnErr, MatchResult};
+    ghost use Rattle.base.specs.Images.{Image};
+    ghost use Rattle.base.specs.Machine.{State, StandsClosing, StandsClosed, closing_gate, closing_fault};
+    ghost use Rattle.pmem.specs.Device.{LeavesOnly, MayLeave};
+    ghost use Rattle.recovery.specs.Opened.{IsRefusal};
+    ghost use Rattle.base.specs.declared.step.Step.TheVariants.{Begin, Get, Put, Delete, Draw, Stamp, Poll, Abort, End, Commit};
+    ghost use Rattle.txn.specs.WriteSets.{HasRoomFor, write_of};
+    ghost use Rattle.room.specs.declared.cycle.CycleStage.TheVariants.{FlushLines};
+    ghost use Rattle.std.specs.Prelude.{◌<◌, ◌≤◌, ◌≢◌, ◌⊎◌, [], false, true, nat_le, slice_get};
     ghost use Rattle.base.specs.Commits.{after};
     ghost use Rattle.base.specs.declared.step.Reply.TheVariants.{Refused};
     ghost use Rattle.room.specs.declared.session.Session.TheVariants.{Active, Drawn};
-    ghost use Rattle.room.specs.Agrees.{session_at, awaits};
-    ghost use Rattle.room.specs.Tables.{HoldsTables};
-    ghost use Rattle.room.specs.Room.{Shows, device_of, StepsTo, ShowsStatus, HasFailed, HasCovered, covering};
-    ghost use Rattle.room.specs.Storing.{TellsOfDevice, HasFilled, FailsFilling, HasStamped, FailsStamping};
+    ghost use Rattle.room.specs.Fits.{fits_slot, fits_write, fits_writes};
+    ghost use Rattle.room.specs.Sessions.{session_at, awaits, lines_in, HasNoSlot, IsActiveAt, is_active_at, inactive_fault};
+    ghost use Rattle.room.specs.Tables.{HoldsTables, IsNewestAt, Replaces};
+    ghost use Rattle.room.specs.Room.{Shows, device_of, StepsTo, ShowsStatus, HasFailed, HasCovered, HasNoFailure, covering};
+    ghost use Rattle.invariant.specs.Moves.{IsSlotSettled};
+    ghost use Rattle.room.specs.Closing.{GoesOn, IsDonePart, IsFailedPart, IsFlushPart, KeepsAllButDevice, IsSlotReady, AreReadyAt, IsReadyFor, AreReadyFor, HasPersisted, is_all_stamped, drawn_writes};
+    ghost use Rattle.room.specs.Storing.{TellsOfDevice, HasFilled, FailsFilling, HasDeleted, HasStamped, FailsStamping};
 
     /// One step. A crash within it leaves the history before it or after it, or with the batch in hand.
     pub fn step(&mut self, step: Step) -> Reply
@@ -126,9 +138,11 @@ impl<D: Pmem + Drop> Room<D> {
             Step::Begin => self.begin(),
             Step::Get { session, key } => self.get(session, key),
             Step::Put { session, key, row } => self.put(session, key, row),
+            Step::Delete { session, key } => self.delete(session, key),
             Step::Draw { session } => self.draw(session),
             Step::Stamp { session } => self.stamp(session),
             Step::Poll { session } => self.poll(session),
+            Step::Abort { session } => self.abort(session),
             Step::End { session } => self.end(session),
             Step::Commit => self.commit(),
         }
@@ -154,7 +168,7 @@ impl<D: Pmem + Drop> Room<D> {
         match self.session {
             Some(_) => Reply::Refused(Fault::SessionsFull),
             None => {
-                self.session = Some(Session::Active(None));
+                self.session = Some(Session::Active(WriteSet::new()));
                 Reply::Began(SESSION)
             }
         }
@@ -163,22 +177,41 @@ impl<D: Pmem + Drop> Room<D> {
     fn get(&mut self, session: u8, key: Key) -> Reply
         ensures step { (q : State) → Shows D.state self.old q → (q' : State) × StepsTo D.state self.old self.new (Get session key) result q q' }
     {
-        if self.failed {
-            return Reply::Refused(Fault::Failed);
+        match self.active(session) {
+            Ok(writes) => Reply::Row(self.seen(writes, key)),
+            Err(fault) => Reply::Refused(fault),
         }
-        match self.session_at(session) {
-            None => Reply::Refused(Fault::NoSession),
-            Some(Session::Active(None)) => Reply::Row(self.committed(key)),
-            Some(Session::Active(Some(write))) => {
-                if write.key == key {
-                    Reply::Row(Some(write.row))
-                } else {
-                    Reply::Row(self.committed(key))
-                }
-            }
-            Some(Session::Drawn { .. }) => Reply::Refused(Fault::WrongState),
-            Some(Session::Covered(_)) => Reply::Refused(Fault::WrongState),
-            Some(Session::ReadOnly) => Reply::Refused(Fault::WrongState),
+    }
+
+    // What the session of this number has written, where it is Active.
+    fn active(&self, number: u8) -> Result<WriteSet, Fault>
+        ensures ok { IfOk result (λ writes. IsActiveAt self.now.failed self.now.session number writes) }
+        ensures inactive { IfErr result (λ fault. is_active_at self.now.failed self.now.session number ≡ false) }
+        ensures fault { IfErr result (λ fault. fault ≡ inactive_fault self.now.failed self.now.session number) }
+    {
+        if self.failed {
+            return Err(Fault::Failed);
+        }
+        if number != SESSION {
+            return Err(Fault::NoSession);
+        }
+        match self.session {
+            None => Err(Fault::NoSession),
+            Some(Session::Active(writes)) => Ok(writes),
+            Some(Session::Drawn { .. }) => Err(Fault::WrongState),
+            Some(Session::Covered(_)) => Err(Fault::WrongState),
+            Some(Session::ReadOnly) => Err(Fault::WrongState),
+        }
+    }
+
+    // The row of the key for a session that has written this.
+    fn seen(&self, writes: WriteSet, key: Key) -> Option<Row>
+        ensures own { (write : Write) → write_of key writes ≡ Some write → result ≡ write.row }
+        ensures committed { write_of key writes ≡ None → (q : State) → HoldsTables self.now.numbers.geometry self.now.numbers.record (D.state self.now.device) q → result ≡ after q.history key }
+    {
+        match writes.find(key) {
+            Some(write) => write.row,
+            None => self.committed(key),
         }
     }
 
@@ -186,51 +219,73 @@ impl<D: Pmem + Drop> Room<D> {
     fn committed(&self, key: Key) -> Option<Row>
         ensures { (q : State) → HoldsTables self.now.numbers.geometry self.now.numbers.record (D.state self.now.device) q → result ≡ after q.history key }
     {
+        match self.newest(key) {
+            Some(found) => Some(found.row),
+            None => None,
+        }
+    }
+
+    // The slot of the newest committed version of the key.
+    fn replaced(&self, key: Key) -> Option<SlotNo>
+        ensures slot { IfSome result (λ slot. slot < self.now.numbers.geometry.slots) }
+        ensures held { (q : State) → HoldsTables self.now.numbers.geometry self.now.numbers.record (D.state self.now.device) q → Replaces q key result }
+    {
+        match self.newest(key) {
+            Some(found) => Some(found.slot),
+            None => None,
+        }
+    }
+
+    // The newest committed version of the key.
+    fn newest(&self, key: Key) -> Option<Found>
+        ensures slot { IfSome result (λ found. found.slot < self.now.numbers.geometry.slots) }
+        ensures some { IfSome result (λ found. (q : State) → HoldsTables self.now.numbers.geometry self.now.numbers.record (D.state self.now.device) q → IsNewestAt q key found.slot found.row) }
+        ensures none { IfNone result ((q : State) → HoldsTables self.now.numbers.geometry self.now.numbers.record (D.state self.now.device) q → after q.history key ≡ None) }
+    {
         find(&self.device, self.numbers, key)
     }
 
     fn put(&mut self, session: u8, key: Key, row: Row) -> Reply
         ensures step { (q : State) → Shows D.state self.old q → (q' : State) × StepsTo D.state self.old self.new (Put session key row) result q q' }
     {
-        if self.failed {
-            return Reply::Refused(Fault::Failed);
-        }
-        match self.session_at(session) {
-            None => Reply::Refused(Fault::NoSession),
-            Some(Session::Active(written)) => self.put_active(written, key, row),
-            Some(Session::Drawn { .. }) => Reply::Refused(Fault::WrongState),
-            Some(Session::Covered(_)) => Reply::Refused(Fault::WrongState),
-            Some(Session::ReadOnly) => Reply::Refused(Fault::WrongState),
+        match self.active(session) {
+            Ok(writes) => self.put_active(writes, key, row),
+            Err(fault) => Reply::Refused(fault),
         }
     }
 
     // A put of the session that has written this.
-    fn put_active(&mut self, written: Option<Write>, key: Key, row: Row) -> Reply
+    fn put_active(&mut self, writes: WriteSet, key: Key, row: Row) -> Reply
         requires works { self.old.failed ≡ false }
-        requires session { self.old.session ≡ Some (Active written) }
+        requires session { self.old.session ≡ Some (Active writes) }
         ensures step { (q : State) → Shows D.state self.old q → (q' : State) × StepsTo D.state self.old self.new (Put 2 key row) result q q' }
     {
         let len = row.len();
         prove!(len <= Row::LIMIT);
-        if self.committed(key).is_some() {
-            return Reply::Refused(Fault::WrongState);
-        }
-        match written {
-            None => self.insert(key, row),
-            Some(write) => {
-                if write.key == key {
-                    self.store_version(write.slot, key, row)
-                } else {
-                    Reply::Refused(Fault::WriteSetFull)
+        match writes.find(key) {
+            Some(write) => match write.slot {
+                Some(slot) => self.store_version(writes, slot, key, row, write.replaces),
+                None => self.insert(writes, key, row, write.replaces),
+            },
+            None => {
+                if writes.is_full() {
+                    return Reply::Refused(Fault::WriteSetFull);
                 }
+                let replaces = self.replaced(key);
+                self.insert(writes, key, row, replaces)
             }
         }
     }
 
-    // The first put of a transaction takes a slot.
-    fn insert(&mut self, key: Key, row: Row) -> Reply
+    // A put for which the transaction has no slot takes one.
+    fn insert(&mut self, writes: WriteSet, key: Key, row: Row, replaces: Option<SlotNo>) -> Reply
+        requires works { self.old.failed ≡ false }
+        requires session { self.old.session ≡ Some (Active writes) }
+        requires fits { HasRoomFor key writes }
+        requires unheld { HasNoSlot writes key }
+        requires slots { IsTrue (fits_slot self.old.numbers.geometry.slots replaces) }
         requires row { length row ≤ 32 }
-        ensures step { (q : State) → Shows D.state self.old q → self.old.failed ≡ false → self.old.session ≡ Some (Active None) → after q.history key ≡ None
+        ensures step { (q : State) → Shows D.state self.old q → Replaces q key replaces
             → (q' : State) × StepsTo D.state self.old self.new (Put 2 key row) result q q' }
     {
         let geometry = self.numbers.geometry;
@@ -238,7 +293,7 @@ impl<D: Pmem + Drop> Room<D> {
             .slots
             .take(&mut self.device, geometry, Actor::new(SESSION))
         {
-            Ok(slot) => self.store_version(slot, key, row),
+            Ok(slot) => self.store_version(writes, slot, key, row, replaces),
             Err(fault) => match fault {
                 Fault::SlotsOut => Reply::Refused(Fault::SlotsOut),
                 _ => self.fail(),
@@ -247,22 +302,110 @@ impl<D: Pmem + Drop> Room<D> {
     }
 
     // Stores the session's version in its slot.
-    fn store_version(&mut self, slot: u64, key: Key, row: Row) -> Reply
-        requires { slot < self.old.numbers.geometry.slots }
-        ensures stored { HasFilled D.state self.old self.new slot key row result ⊎ FailsFilling D.state self.old self.new slot key row result }
+    fn store_version(
+        &mut self,
+        writes: WriteSet,
+        slot: SlotNo,
+        key: Key,
+        row: Row,
+        replaces: Option<SlotNo>,
+    ) -> Reply
+        requires slot { slot < self.old.numbers.geometry.slots }
+        requires fits { HasRoomFor key writes }
+        requires slots { IsTrue (fits_writes self.old.numbers.geometry.slots writes) }
+        requires replaces { IsTrue (fits_slot self.old.numbers.geometry.slots replaces) }
+        ensures stored { HasFilled D.state self.old self.new writes slot key row replaces result ⊎ FailsFilling D.state self.old self.new slot key row replaces result }
     {
         let version = Version {
             key,
             row,
-            previous: None,
+            previous: replaces,
         };
         match fill(&mut self.device, self.numbers.geometry, slot, &version) {
             Ok(()) => {
-                self.session = Some(Session::Active(Some(Write { key, row, slot })));
+                let mut writes = writes;
+                writes.put(Write {
+                    key,
+                    row: Some(row),
+                    slot: Some(slot),
+                    replaces,
+                });
+                self.session = Some(Session::Active(writes));
                 Reply::Done
             }
             Err(_) => self.fail(),
         }
+    }
+
+    fn delete(&mut self, session: u8, key: Key) -> Reply
+        ensures step { (q : State) → Shows D.state self.old q → (q' : State) × StepsTo D.state self.old self.new (Delete session key) result q q' }
+    {
+        match self.active(session) {
+            Ok(writes) => self.delete_active(writes, key),
+            Err(fault) => Reply::Refused(fault),
+        }
+    }
+
+    // A deletion by the session that has written this. A slot of its own for the key is given back.
+    fn delete_active(&mut self, writes: WriteSet, key: Key) -> Reply
+        requires works { self.old.failed ≡ false }
+        requires session { self.old.session ≡ Some (Active writes) }
+        ensures step { (q : State) → Shows D.state self.old q → (q' : State) × StepsTo D.state self.old self.new (Delete 2 key) result q q' }
+    {
+        match writes.find(key) {
+            Some(write) => match write.slot {
+                Some(slot) => {
+                    self.slots.give(slot);
+                    self.note_deletion(writes, key, write.replaces)
+                }
+                None => self.note_deletion(writes, key, write.replaces),
+            },
+            None => {
+                if writes.is_full() {
+                    return Reply::Refused(Fault::WriteSetFull);
+                }
+                let replaces = self.replaced(key);
+                self.note_deletion(writes, key, replaces)
+            }
+        }
+    }
+
+    // Keeps a deletion in the write set.
+    fn note_deletion(&mut self, writes: WriteSet, key: Key, replaces: Option<SlotNo>) -> Reply
+        requires fits { HasRoomFor key writes }
+        requires slots { IsTrue (fits_writes self.old.numbers.geometry.slots writes) }
+        requires replaces { IsTrue (fits_slot self.old.numbers.geometry.slots replaces) }
+        ensures { HasDeleted self.old self.new writes key replaces result }
+    {
+        let mut writes = writes;
+        writes.put(Write {
+            key,
+            row: None,
+            slot: None,
+            replaces,
+        });
+        self.session = Some(Session::Active(writes));
+        Reply::Done
+    }
+
+    fn abort(&mut self, session: u8) -> Reply
+        ensures step { (q : State) → Shows D.state self.old q → (q' : State) × StepsTo D.state self.old self.new (Abort session) result q q' }
+    {
+        match self.active(session) {
+            Ok(writes) => self.abort_active(writes),
+            Err(fault) => Reply::Refused(fault),
+        }
+    }
+
+    // An abort of the session that has written this. Its slots are given back.
+    fn abort_active(&mut self, writes: WriteSet) -> Reply
+        requires works { self.old.failed ≡ false }
+        requires session { self.old.session ≡ Some (Active writes) }
+        ensures step { (q : State) → Shows D.state self.old q → (q' : State) × StepsTo D.state self.old self.new (Abort 2) result q q' }
+    {
+        give_back(&mut self.slots, writes);
+        self.session = None;
+        Reply::Done
     }
 
     // The device failed.
@@ -279,37 +422,30 @@ impl<D: Pmem + Drop> Room<D> {
     fn draw(&mut self, session: u8) -> Reply
         ensures step { (q : State) → Shows D.state self.old q → (q' : State) × StepsTo D.state self.old self.new (Draw session) result q q' }
     {
-        if self.failed {
-            return Reply::Refused(Fault::Failed);
-        }
-        match self.session_at(session) {
-            None => Reply::Refused(Fault::NoSession),
-            Some(Session::Active(written)) => self.draw_active(written),
-            Some(Session::Drawn { .. }) => Reply::Refused(Fault::WrongState),
-            Some(Session::Covered(_)) => Reply::Refused(Fault::WrongState),
-            Some(Session::ReadOnly) => Reply::Refused(Fault::WrongState),
+        match self.active(session) {
+            Ok(writes) => self.draw_active(writes),
+            Err(fault) => Reply::Refused(fault),
         }
     }
 
     // A draw of the session that has written this.
-    fn draw_active(&mut self, written: Option<Write>) -> Reply
+    fn draw_active(&mut self, writes: WriteSet) -> Reply
         requires works { self.old.failed ≡ false }
-        requires session { self.old.session ≡ Some (Active written) }
+        requires session { self.old.session ≡ Some (Active writes) }
         ensures step { (q : State) → Shows D.state self.old q → (q' : State) × StepsTo D.state self.old self.new (Draw 2) result q q' }
     {
-        match written {
-            None => {
-                self.session = Some(Session::ReadOnly);
-                Reply::Done
-            }
-            Some(write) => self.draw_timestamp(write),
+        if writes.is_empty() {
+            self.session = Some(Session::ReadOnly);
+            return Reply::Done;
         }
+        self.draw_timestamp(writes)
     }
 
     // Draws the next timestamp for the commit that writes this.
-    fn draw_timestamp(&mut self, write: Write) -> Reply
+    fn draw_timestamp(&mut self, writes: WriteSet) -> Reply
         requires works { self.old.failed ≡ false }
-        requires session { self.old.session ≡ Some (Active (Some write)) }
+        requires session { self.old.session ≡ Some (Active writes) }
+        requires some { writes ≢ [] }
         ensures step { (q : State) → Shows D.state self.old q → (q' : State) × StepsTo D.state self.old self.new (Draw 2) result q q' }
     {
         if self.numbers.is_window_full() {
@@ -322,8 +458,8 @@ impl<D: Pmem + Drop> Room<D> {
         self.numbers.next = timestamp + 1;
         self.session = Some(Session::Drawn {
             timestamp,
-            write,
-            is_stamped: false,
+            writes,
+            stamped: 0,
         });
         Reply::Drawn(timestamp)
     }
@@ -334,45 +470,54 @@ impl<D: Pmem + Drop> Room<D> {
         if self.failed {
             return Reply::Refused(Fault::Failed);
         }
-        match self.session_at(session) {
-            None => Reply::Refused(Fault::NoSession),
-            Some(
-                Session::Drawn {
-                    timestamp,
-                    write,
-                    is_stamped: false,
-                },
-            ) => self.stamp_version(timestamp, write),
-            Some(
-                Session::Drawn {
-                    is_stamped: true,
-                    ..
-                },
-            ) => Reply::Refused(Fault::WrongState),
-            Some(Session::Active(_)) => Reply::Refused(Fault::WrongState),
-            Some(Session::Covered(_)) => Reply::Refused(Fault::WrongState),
-            Some(Session::ReadOnly) => Reply::Refused(Fault::WrongState),
+        let open = match self.session_at(session) {
+            Some(open) => open,
+            None => return Reply::Refused(Fault::NoSession),
+        };
+        match open {
+            Session::Drawn {
+                timestamp,
+                writes,
+                stamped,
+            } => self.stamp_drawn(timestamp, writes, stamped),
+            Session::Active(_) => Reply::Refused(Fault::WrongState),
+            Session::Covered(_) => Reply::Refused(Fault::WrongState),
+            Session::ReadOnly => Reply::Refused(Fault::WrongState),
         }
     }
 
-    // Stores the timestamp in the begin of the session's version.
-    fn stamp_version(&mut self, timestamp: u64, write: Write) -> Reply
-        requires { write.slot < self.old.numbers.geometry.slots }
-        ensures stored { HasStamped D.state self.old self.new timestamp write result ⊎ FailsStamping D.state self.old self.new timestamp write result }
+    // A stamp of the session whose commit has so many writes stamped.
+    fn stamp_drawn(&mut self, timestamp: Ts, writes: WriteSet, stamped: usize) -> Reply
+        requires works { self.old.failed ≡ false }
+        requires session { self.old.session ≡ Some (Drawn timestamp writes stamped) }
+        ensures step { (q : State) → Shows D.state self.old q → (q' : State) × StepsTo D.state self.old self.new (Stamp 2) result q q' }
     {
-        match stamp_begin(
-            &mut self.device,
-            self.numbers.geometry,
-            write.slot,
-            timestamp,
-        ) {
+        match writes.get(stamped) {
+            Some(write) => self.stamp_next(timestamp, writes, stamped, write),
+            None => Reply::Refused(Fault::WrongState),
+        }
+    }
+
+    // Stamps the next write of the session's commit.
+    fn stamp_next(&mut self, timestamp: Ts, writes: WriteSet, stamped: usize, write: Write) -> Reply
+        requires slots { IsTrue (fits_writes self.old.numbers.geometry.slots writes) }
+        requires next { slice_get writes stamped ≡ Some write }
+        ensures stored { HasStamped D.state self.old self.new timestamp writes stamped write result ⊎ FailsStamping D.state self.old self.new timestamp write result }
+    {
+        let count = writes.len();
+        match stamp_write(&mut self.device, self.numbers.geometry, write, timestamp) {
             Ok(()) => {
+                let stamped = stamped + 1;
                 self.session = Some(Session::Drawn {
                     timestamp,
-                    write,
-                    is_stamped: true,
+                    writes,
+                    stamped,
                 });
-                Reply::Stamped
+                if stamped == count {
+                    Reply::Stamped
+                } else {
+                    Reply::More
+                }
             }
             Err(_) => self.fail(),
         }
@@ -419,11 +564,23 @@ impl<D: Pmem + Drop> Room<D> {
         }
         match self.cycle {
             None => self.choose(),
-            Some(cycle) => match cycle.stage {
-                CycleStage::FlushLine => self.flush_line(cycle),
-                CycleStage::FenceLine => self.fence_line(cycle),
-                CycleStage::WriteRecord => self.write_record(cycle),
+            Some(cycle) => self.tick(cycle),
+        }
+    }
+
+    // Makes the next operation for the batch in hand.
+    fn tick(&mut self, cycle: Cycle) -> Reply
+        requires works { self.old.failed ≡ false }
+        requires in_hand { self.old.cycle ≡ Some cycle }
+        ensures step { (q : State) → Shows D.state self.old q → (q' : State) × StepsTo D.state self.old self.new Commit result q q' }
+        ensures goes_on { GoesOn D.state cycle self.old self.new }
+    {
+        match cycle.stage {
+            CycleStage::FlushLines(flushed) => match self.line(flushed) {
+                Some(slot) => self.flush_line(cycle, flushed, slot),
+                None => self.fence_lines(cycle, flushed),
             },
+            CycleStage::WriteRecord => self.write_record(cycle),
         }
     }
 
@@ -434,14 +591,14 @@ impl<D: Pmem + Drop> Room<D> {
         ensures step { (q : State) → Shows D.state self.old q → (q' : State) × StepsTo D.state self.old self.new Commit result q q' }
     {
         match self.waiting() {
-            Some((timestamp, write)) => self.choose_commit(timestamp, write),
+            Some((timestamp, writes)) => self.choose_commit(timestamp, writes),
             None => Reply::Idle,
         }
     }
 
     // The commit that is stamped and not covered.
-    fn waiting(&self) -> Option<(u64, Write)>
-        ensures some { IfSome result (λ found. self.now.session ≡ Some (Drawn found.0 found.1 true)) }
+    fn waiting(&self) -> Option<(Ts, WriteSet)>
+        ensures some { IfSome result (λ found. self.now.session ≡ Some (Drawn found.0 found.1 (length found.1))) }
         ensures none { IfNone result (awaits self.now.session ≡ false) }
     {
         match self.session {
@@ -451,40 +608,38 @@ impl<D: Pmem + Drop> Room<D> {
             Some(Session::ReadOnly) => None,
             Some(
                 Session::Drawn {
-                    is_stamped: false,
-                    ..
-                },
-            ) => None,
-            Some(
-                Session::Drawn {
                     timestamp,
-                    write,
-                    is_stamped: true,
+                    writes,
+                    stamped,
                 },
-            ) => Some((timestamp, write)),
+            ) => {
+                if stamped == writes.len() {
+                    Some((timestamp, writes))
+                } else {
+                    None
+                }
+            }
         }
     }
 
-    fn choose_commit(&mut self, timestamp: u64, write: Write) -> Reply
+    fn choose_commit(&mut self, timestamp: Ts, writes: WriteSet) -> Reply
         requires works { self.old.failed ≡ false }
         requires rests { self.old.cycle ≡ None }
-        requires stamped { self.old.session ≡ Some (Drawn timestamp write true) }
+        requires stamped { self.old.session ≡ Some (Drawn timestamp writes (length writes)) }
+        requires slots { IsTrue (fits_writes self.old.numbers.geometry.slots writes) }
         ensures step { (q : State) → Shows D.state self.old q → (q' : State) × StepsTo D.state self.old self.new Commit result q q' }
     {
         let numbers = self.numbers;
         if numbers.is_last_record() {
             return Reply::Refused(Fault::TimestampsOut);
         }
-        let slot = write.slot;
-        let geometry = numbers.geometry;
         let record = numbers.record_after(timestamp);
-        let writing = Writing::new(geometry, record);
-        match batch_of_one(self.alloc, numbers, timestamp, write) {
+        let writing = Writing::new(numbers.geometry, record);
+        match batch_of_one(self.alloc, numbers, timestamp, writes) {
             Ok(batch) => {
                 self.batch = Some(batch);
                 self.cycle = Some(Cycle {
-                    slot,
-                    stage: CycleStage::FlushLine,
+                    stage: CycleStage::FlushLines(0),
                     writing,
                 });
                 Reply::Ticked(Stage::Chosen)
@@ -493,32 +648,48 @@ impl<D: Pmem + Drop> Room<D> {
         }
     }
 
-    // Flushes the line of the version in hand.
-    fn flush_line(&mut self, cycle: Cycle) -> Reply
+    // The slot of this line of the batch in hand.
+    fn line(&self, index: usize) -> Option<SlotNo>
+        ensures slot { result ≡ slice_get (lines_in self.now.batch) index }
+        ensures within { IfSome result (λ slot. slot < self.now.numbers.geometry.slots) }
+    {
+        match &self.batch {
+            Some(in_hand) => in_hand.lines.get(index).copied(),
+            None => None,
+        }
+    }
+
+    // Flushes a line of the batch in hand.
+    fn flush_line(&mut self, cycle: Cycle, flushed: usize, slot: SlotNo) -> Reply
         requires works { self.old.failed ≡ false }
         requires in_hand { self.old.cycle ≡ Some cycle }
-        requires stage { cycle.stage ≡ CycleStage.FlushLine }
+        requires stage { cycle.stage ≡ FlushLines flushed }
+        requires line { slice_get (lines_in self.old.batch) flushed ≡ Some slot }
+        requires slot { slot < self.old.numbers.geometry.slots }
         ensures step { (q : State) → Shows D.state self.old q → (q' : State) × StepsTo D.state self.old self.new Commit result q q' }
+        ensures goes_on { GoesOn D.state cycle self.old self.new }
     {
-        let line = self.numbers.geometry.slot_start(cycle.slot) / 8;
+        let line = self.numbers.geometry.slot_start(slot) / 8;
         match self.device.flush(Actor::new(COMMITTER), line) {
             Ok(()) => {
                 self.cycle = Some(Cycle {
-                    stage: CycleStage::FenceLine,
+                    stage: CycleStage::FlushLines(flushed + 1),
                     ..cycle
                 });
-                Reply::Ticked(Stage::LineFlushed(0))
+                Reply::Ticked(Stage::LineFlushed(flushed as u64))
             }
             Err(_) => self.fail(),
         }
     }
 
-    // Waits until the version in hand persists.
-    fn fence_line(&mut self, cycle: Cycle) -> Reply
+    // Waits until the lines of the batch in hand persist.
+    fn fence_lines(&mut self, cycle: Cycle, flushed: usize) -> Reply
         requires works { self.old.failed ≡ false }
         requires in_hand { self.old.cycle ≡ Some cycle }
-        requires stage { cycle.stage ≡ CycleStage.FenceLine }
+        requires stage { cycle.stage ≡ FlushLines flushed }
+        requires all { slice_get (lines_in self.old.batch) flushed ≡ None }
         ensures step { (q : State) → Shows D.state self.old q → (q' : State) × StepsTo D.state self.old self.new Commit result q q' }
+        ensures goes_on { GoesOn D.state cycle self.old self.new }
     {
         match self.device.fence(Actor::new(COMMITTER)) {
             Ok(()) => {
@@ -538,6 +709,7 @@ impl<D: Pmem + Drop> Room<D> {
         requires in_hand { self.old.cycle ≡ Some cycle }
         requires stage { cycle.stage ≡ CycleStage.WriteRecord }
         ensures step { (q : State) → Shows D.state self.old q → (q' : State) × StepsTo D.state self.old self.new Commit result q q' }
+        ensures goes_on { GoesOn D.state cycle self.old self.new }
     {
         let mut writing = cycle.writing;
         match writing.tick(&mut self.device) {
@@ -560,9 +732,230 @@ impl<D: Pmem + Drop> Room<D> {
         self.session = Some(Session::Covered(ruling.persisted()));
         self.cycle = None;
         match self.batch.take() {
-            Some(batch) => Reply::Covered(batch),
+            Some(in_hand) => Reply::Covered(in_hand.batch),
             None => Reply::Idle,
         }
+    }
+
+    /// Covers all that is drawn, and gives the device back.
+    pub fn close(mut self) -> Result<D, (Fault, D)>
+        // A crash meanwhile leaves what was covered, with the batch in hand, or with all that was drawn; and after it that last.
+        ensures images { (q : State) → Shows D.state self q → MatchResult result
+            (λ device. LeavesOnly (device_of D.state self) (D.state device) (StandsClosing q))
+            (λ e. LeavesOnly (device_of D.state self) (D.state e.1) (StandsClosing q)) }
+        ensures ok { IfOk result (λ device. (q : State) → Shows D.state self q → (image : Image) → MayLeave (D.state device) image → StandsClosed q image) }
+
+        // It closes exactly where nothing speaks against it, a failing device aside.
+        ensures may_close { IfOk result (λ device. (q : State) → Shows D.state self q → closing_fault q ≡ None) }
+        ensures no_failure { IfOk result (λ device. HasNoFailure (device_of D.state self) (D.state device)) }
+        ensures fault { IfErr result (λ e. (q : State) → Shows D.state self q → IsRefusal (closing_fault q) (device_of D.state self) (D.state e.1) e.0) }
+    {
+        match self.cover_all() {
+            Ok(()) => Ok(self.device),
+            Err(fault) => Err((fault, self.device)),
+        }
+    }
+
+    // Covers all that is drawn, under a record that reserves no timestamp.
+    fn cover_all(&mut self) -> Result<(), Fault>
+        ensures images { (q : State) → Shows D.state self.old q → LeavesOnly (device_of D.state self.old) (device_of D.state self.new) (StandsClosing q) }
+        ensures ok { OnOk result ((q : State) → Shows D.state self.old q → (image : Image) → MayLeave (device_of D.state self.new) image → StandsClosed q image) }
+        ensures may_close { OnOk result ((q : State) → Shows D.state self.old q → closing_fault q ≡ None) }
+        ensures no_failure { OnOk result (HasNoFailure (device_of D.state self.old) (device_of D.state self.new)) }
+        ensures fault { IfErr result (λ fault. (q : State) → Shows D.state self.old q → IsRefusal (closing_fault q) (device_of D.state self.old) (device_of D.state self.new) fault) }
+    {
+        if self.failed {
+            return Err(Fault::Failed);
+        }
+        if self.is_past_last_record() {
+            return Err(Fault::TimestampsOut);
+        }
+        self.finish_cycle()?;
+        self.stamp_rest()?;
+        self.persist_drawn()?;
+        self.write_last()
+    }
+
+    // Is there no number for the record that a close would write last?
+    fn is_past_last_record(&self) -> bool
+        ensures { (q : State) → Shows D.state self.now q → self.now.failed ≡ false → result ≡ nat_le (2 ^ 62) (closing_gate q) }
+    {
+        let records = if self.cycle.is_some() { 2 } else { 1 };
+        self.numbers.lacks_records(records)
+    }
+
+    // Makes the ticks that are left of the cycle.
+    fn finish_cycle(&mut self) -> Result<(), Fault>
+        requires works { self.old.failed ≡ false }
+        ensures ok { OnOk result (IsDonePart D.state self.old self.new) }
+        ensures rests { OnOk result (self.new.cycle ≡ None) }
+        ensures err { IfErr result (IsFailedPart D.state self.old self.new) }
+    {
+        while let Some(cycle) = self.cycle {
+            self.tick(cycle);
+            if self.failed {
+                return Err(Fault::Device);
+            }
+        }
+        Ok(())
+    }
+
+    // Stamps what is drawn and isn't stamped.
+    fn stamp_rest(&mut self) -> Result<(), Fault>
+        requires works { self.old.failed ≡ false }
+        requires rests { self.old.cycle ≡ None }
+        ensures ok { OnOk result (IsDonePart D.state self.old self.new) }
+        ensures rests { OnOk result (self.new.cycle ≡ None) }
+        ensures stamped { OnOk result (is_all_stamped self.new.session ≡ true) }
+        ensures err { IfErr result (IsFailedPart D.state self.old self.new) }
+    {
+        while let Some(next) = self.unstamped() {
+            self.stamp_next(next.0, next.1, next.2, next.3);
+            if self.failed {
+                return Err(Fault::Device);
+            }
+        }
+        Ok(())
+    }
+
+    // The drawn commit, how many of its writes are stamped, and the one that is stamped next.
+    fn unstamped(&self) -> Option<(Ts, WriteSet, usize, Write)>
+        ensures session { IfSome result (λ found. self.now.session ≡ Some (Drawn found.0 found.1 found.2)) }
+        ensures next { IfSome result (λ found. slice_get found.1 found.2 ≡ Some found.3) }
+        ensures none { IfNone result (is_all_stamped self.now.session ≡ true) }
+    {
+        match self.session {
+            None => None,
+            Some(Session::Active(_)) => None,
+            Some(Session::Covered(_)) => None,
+            Some(Session::ReadOnly) => None,
+            Some(
+                Session::Drawn {
+                    timestamp,
+                    writes,
+                    stamped,
+                },
+            ) => match writes.get(stamped) {
+                Some(write) => Some((timestamp, writes, stamped, write)),
+                None => None,
+            },
+        }
+    }
+
+    // Waits until what is drawn and stamped persists.
+    fn persist_drawn(&mut self) -> Result<(), Fault>
+        requires works { self.old.failed ≡ false }
+        requires rests { self.old.cycle ≡ None }
+        requires stamped { is_all_stamped self.old.session ≡ true }
+        ensures ok { OnOk result (IsDonePart D.state self.old self.new) }
+        ensures rests { OnOk result (self.new.cycle ≡ None) }
+        ensures stamped { OnOk result (is_all_stamped self.new.session ≡ true) }
+        ensures persisted { OnOk result (HasPersisted self.new.numbers.geometry (device_of D.state self.new) self.new.session) }
+        ensures err { IfErr result (IsFailedPart D.state self.old self.new) }
+    {
+        let writes = self.drawn_writes();
+        self.flush_writes(writes)?;
+        self.fence()
+    }
+
+    // What the session's drawn commit writes.
+    fn drawn_writes(&self) -> WriteSet
+        ensures writes { result ≡ drawn_writes self.now.session }
+        ensures slots { IsTrue (fits_writes self.now.numbers.geometry.slots result) }
+    {
+        match self.session {
+            None => WriteSet::new(),
+            Some(Session::Active(_)) => WriteSet::new(),
+            Some(Session::Covered(_)) => WriteSet::new(),
+            Some(Session::ReadOnly) => WriteSet::new(),
+            Some(Session::Drawn { writes, .. }) => writes,
+        }
+    }
+
+    // Flushes the lines that the writes touch.
+    fn flush_writes(&mut self, writes: WriteSet) -> Result<(), Fault>
+        requires works { self.old.failed ≡ false }
+        requires rests { self.old.cycle ≡ None }
+        requires slots { IsTrue (fits_writes self.old.numbers.geometry.slots writes) }
+        ensures ok { OnOk result (IsFlushPart D.state self.old self.new) }
+        ensures ready { OnOk result (AreReadyFor self.old.numbers.geometry (device_of D.state self.new) (length writes) writes) }
+        ensures err { IfErr result (IsFailedPart D.state self.old self.new) }
+    {
+        for write in writes.as_slice() {
+            self.flush_write(*write)?;
+        }
+        Ok(())
+    }
+
+    // Flushes the lines that the write touches.
+    fn flush_write(&mut self, write: Write) -> Result<(), Fault>
+        requires works { self.old.failed ≡ false }
+        requires rests { self.old.cycle ≡ None }
+        requires slots { IsTrue (fits_write self.old.numbers.geometry.slots write) }
+        ensures ok { OnOk result (IsFlushPart D.state self.old self.new) }
+        ensures ready { OnOk result (IsReadyFor self.old.numbers.geometry (device_of D.state self.new) write) }
+        ensures err { IfErr result (IsFailedPart D.state self.old self.new) }
+    {
+        self.flush_at(write.slot)?;
+        self.flush_at(write.replaces)
+    }
+
+    // Flushes the line of the slot, if there is one.
+    fn flush_at(&mut self, slot: Option<SlotNo>) -> Result<(), Fault>
+        requires works { self.old.failed ≡ false }
+        requires rests { self.old.cycle ≡ None }
+        requires slot { IsTrue (fits_slot self.old.numbers.geometry.slots slot) }
+        ensures ok { OnOk result (IsFlushPart D.state self.old self.new) }
+        ensures ready { OnOk result (AreReadyAt self.old.numbers.geometry (device_of D.state self.new) slot) }
+        ensures err { IfErr result (IsFailedPart D.state self.old self.new) }
+    {
+        match slot {
+            Some(slot) => self.flush_slot(slot),
+            None => Ok(()),
+        }
+    }
+
+    // Flushes the line of a slot.
+    fn flush_slot(&mut self, slot: SlotNo) -> Result<(), Fault>
+        requires works { self.old.failed ≡ false }
+        requires rests { self.old.cycle ≡ None }
+        requires slot { slot < self.old.numbers.geometry.slots }
+        ensures ok { OnOk result (IsFlushPart D.state self.old self.new) }
+        ensures ready { OnOk result (IsSlotReady self.old.numbers.geometry (device_of D.state self.new) slot) }
+        ensures err { IfErr result (IsFailedPart D.state self.old self.new) }
+    {
+        let first = self.numbers.geometry.slot_start(slot);
+        self.device.flush(Actor::new(COMMITTER), first / 8)
+    }
+
+    // Waits until what the committer has flushed persists.
+    fn fence(&mut self) -> Result<(), Fault>
+        requires works { self.old.failed ≡ false }
+        requires rests { self.old.cycle ≡ None }
+        ensures ok { OnOk result (IsDonePart D.state self.old self.new) }
+        ensures same { KeepsAllButDevice self.old self.new }
+        ensures settled { OnOk result ((slot : ℕ) → IsSlotReady self.old.numbers.geometry (device_of D.state self.old) slot
+            → IsSlotSettled self.new.numbers.geometry (device_of D.state self.new) slot) }
+        ensures err { IfErr result (IsFailedPart D.state self.old self.new) }
+    {
+        self.device.fence(Actor::new(COMMITTER))
+    }
+
+    // Writes the record under which all that is drawn is covered.
+    fn write_last(&mut self) -> Result<(), Fault>
+        requires works { self.old.failed ≡ false }
+        requires rests { self.old.cycle ≡ None }
+        requires stamped { is_all_stamped self.old.session ≡ true }
+        requires persisted { HasPersisted self.old.numbers.geometry (device_of D.state self.old) self.old.session }
+        ensures images { (q : State) → Shows D.state self.old q → closing_gate q < 2 ^ 62 → LeavesOnly (device_of D.state self.old) (device_of D.state self.new) (StandsClosing q) }
+        ensures ok { OnOk result ((q : State) → Shows D.state self.old q → closing_gate q < 2 ^ 62 → (image : Image) → MayLeave (device_of D.state self.new) image → StandsClosed q image) }
+        ensures no_failure { OnOk result (HasNoFailure (device_of D.state self.old) (device_of D.state self.new)) }
+        ensures failure { OnErr result ((device_of D.state self.old).failures < (device_of D.state self.new).failures) }
+        ensures fault { IfErr result (λ fault. fault ≡ Fault.Device) }
+    {
+        let geometry = self.numbers.geometry;
+        let target = self.numbers.closing_record();
+        write_record(&mut self.device, geometry, target)
     }
 
     /// The device as it is.

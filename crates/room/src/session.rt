@@ -1,27 +1,18 @@
 ghost use Rattle.std.specs.Prelude.{◌≡◌};
 
 use base::Ts;
-use base::key::Key;
-use base::row::Row;
-
-/// What a transaction writes: a row under a key, and the slot that the version lies in.
-#[derive(Clone, Copy, Debug)]
-pub struct Write {
-    pub key: Key,
-    pub row: Row,
-    pub slot: u64,
-}
+use txn::WriteSet;
 
 /// The state of the open session.
-#[derive(Clone, Copy, Debug)]
+#[derive(Clone, Copy)]
 pub enum Session {
     /// It reads, and may have written.
-    Active(Option<Write>),
-    /// Its commit has its timestamp, and waits to be covered.
+    Active(WriteSet),
+    /// Its commit has its timestamp and so many keys stamped, and waits to be covered.
     Drawn {
         timestamp: Ts,
-        write: Write,
-        is_stamped: bool,
+        writes: WriteSet,
+        stamped: usize,
     },
     /// Its commit is covered.
     Covered(Ts),

@@ -1,5 +1,7 @@
-use Rattle.std.proofs.Common.{◌∙◌, refl, subst}
-use Rattle.std.specs.Prelude.{Option}
+use Rattle.std.proofs.Common.{◌∙◌, List, refl, sym, subst}
+use Rattle.std.specs.Prelude.{Option, Some}
+use Rattle.txn.specs.declared.write.Write.{Write}
+use Rattle.room.specs.declared.session.Session.TheVariants.{Active}
 use Rattle.room.specs.declared.session.Session.{Session}
 use Rattle.room.specs.Agrees.{Works}
 use Rattle.base.specs.declared.fault.Fault.TheVariants.{Failed, SessionsFull}
@@ -36,7 +38,7 @@ returns-in-None g c = record {
               next = shown.agrees.next;
               swept = shown.agrees.swept;
               failed = shown.agrees.failed;
-              works = λ ok. works-begun q _ _ _ _ none (subst (λ (s : Option Session). Works q (g.D.Pmem.state c.args.self.now.device) s c.args.self.now.cycle c.args.self.now.batch c.args.self.now.slots) c.in-None.is (shown.agrees.works c.if-self.false));
+              works = λ ok. subst (λ (writes : List Write). Works (next_state q Begin) (g.D.Pmem.state c.args.self.now.device) (Some (Active writes)) c.args.self.now.cycle c.args.self.now.batch c.args.self.now.slots) (sym c.new.ensures) (works-begun q _ _ _ _ none (subst (λ (s : Option Session). Works q (g.D.Pmem.state c.args.self.now.device) s c.args.self.now.cycle c.args.self.now.batch c.args.self.now.slots) c.in-None.is (shown.agrees.works c.if-self.false)));
             };
           };
           images = same-images (g.D.Pmem.state c.args.self.now.device) q (next_state q Begin) (g.met.D.Pmem.orderly _) shown.stands;

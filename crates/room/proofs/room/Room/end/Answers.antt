@@ -5,7 +5,8 @@ use Rattle.base.specs.declared.step.Step.TheVariants.{End}
 use Rattle.base.specs.declared.step.Reply.TheVariants.{Done}
 use Rattle.base.specs.Machine.{next_state}
 use Rattle.room.specs.declared.session.Session.{Session}
-use Rattle.room.specs.Agrees.{Works, session_at}
+use Rattle.room.specs.Agrees.{Works}
+use Rattle.room.specs.Sessions.{session_at}
 use Rattle.room.proofs.Refusals.{refusal-failed, refusal-end_absent}
 use Rattle.room.proofs.Steps.{refuses, same-images, same-failures, same-operations, stands-alike}
 use Rattle.room.proofs.Quiet.{plain-found, over-is, early-is, end-early, end-over, ends}

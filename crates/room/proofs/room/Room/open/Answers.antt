@@ -8,6 +8,7 @@ invariant_of-result-in-Ok g c = record {
   counted = ap (λ (l : List Bool). length l) c.new.ensures ∙ free-counted _ _ _ _ _ _ c.in-Ok.ensures.ok;
   fits = refl;
   in_hand = refl;
+  touches = refl;
 }
 
 pub returns-in-Ok-clause-ok : goal.returns-in-Ok-clause-ok

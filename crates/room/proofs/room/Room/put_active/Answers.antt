@@ -1,50 +1,46 @@
-use Rattle.std.proofs.Common.{◌≡◌, ◌∙◌, refl, sym, ap, arith, Option, Some, None, true, false, is_some}
-use Rattle.base.specs.Commits.{after}
-use Rattle.base.specs.declared.fault.Fault.TheVariants.{WrongState, WriteSetFull}
+use Rattle.std.proofs.Common.{refl, sym, arith}
+use Rattle.base.specs.declared.fault.Fault.TheVariants.{WriteSetFull}
 use Rattle.base.specs.declared.step.Step.TheVariants.{Put}
 use Rattle.room.proofs.Steps.{refuses}
-use Rattle.room.specs.declared.session.Session.TheVariants.{Active}
-use Rattle.room.specs.declared.session.Write.{Write}
-use Rattle.room.proofs.Placed.{none-by, slot-fits, put-own_steps, put-replacing_refused, put-full_refused}
-use Rattle.invariant.proofs.Lookups.{same-keys}
-use Rattle.room.proofs.Getting.{tables-of}
+use Rattle.room.proofs.Placed.{put-own_steps, put-full_refused}
+use Rattle.room.proofs.Wrote.{fits-found, fits-own, fits-replaced, fits-active, found-replaces}
 use Rattle.room.proofs.room.Room.put_active.Goals as goal
 
-pub returns-then-is_some : goal.returns-then-is_some
-returns-then-is_some g c = record {
-  step = λ q shown.
-      let has : is_some (after q.history c.args.key) ≡ true = cc (c.committed.ensures q (tables-of g.D.Pmem.state c.args.self.now q shown c.requires.works), c.is_some.ensures, c.if-is_some.true) in (
-        q,
-        refuses g.D.Pmem.state c.args.self.now q (Put 2 c.args.key c.args.row) WrongState (g.met.D.Pmem.orderly _) shown
-            (put-replacing_refused g.D.Pmem.state c.args.self.now q c.args.key c.args.row shown c.requires.works c.args.written c.requires.session has) (λ told. cc),
-      );
+pub store_version-requires-clause-slot : goal.store_version-requires-clause-slot
+store_version-requires-clause-slot g c =
+    fits-own c.args.self.now.numbers.geometry.slots c.in-Some.write c.in-Some-slot.slot
+    (fits-found c.args.self.now.numbers.geometry.slots c.args.key c.args.writes c.in-Some.write (fits-active c.args.self.now.numbers.geometry c.args.self.now.session c.args.writes c.args.self.now.fits c.requires.session) (sym c.in-Some.ensures))
+    c.in-Some-slot.is
+
+pub store_version-requires-clause-replaces : goal.store_version-requires-clause-replaces
+store_version-requires-clause-replaces g c =
+    fits-replaced c.args.self.now.numbers.geometry.slots c.in-Some.write
+    (fits-found c.args.self.now.numbers.geometry.slots c.args.key c.args.writes c.in-Some.write (fits-active c.args.self.now.numbers.geometry c.args.self.now.session c.args.writes c.args.self.now.fits c.requires.session) (sym c.in-Some.ensures))
+
+pub insert-requires-clause-slots : goal.insert-requires-clause-slots
+insert-requires-clause-slots g c =
+    fits-replaced c.args.self.now.numbers.geometry.slots c.in-Some.write
+    (fits-found c.args.self.now.numbers.geometry.slots c.args.key c.args.writes c.in-Some.write (fits-active c.args.self.now.numbers.geometry c.args.self.now.session c.args.writes c.args.self.now.fits c.requires.session) (sym c.in-Some.ensures))
+
+pub returns-then-is_full : goal.returns-then-is_full
+returns-then-is_full g c = record {
+  step = λ q shown. (
+    q,
+    refuses g.D.Pmem.state c.args.self.now q (Put 2 c.args.key c.args.row) WriteSetFull (g.met.D.Pmem.orderly _) shown
+        (put-full_refused g.D.Pmem.state c.args.self.now q c.args.key c.args.row c.args.writes shown c.requires.works c.requires.session (omega (arith, c.len-len.ensures.value, c.len-len.ensures.limit))
+        (sym c.in-None.ensures) (c.if-is_full.ensures.full.0 refl)) (λ told. cc told),
+  );
 }
 
-pub returns-in-None : goal.returns-in-None
-returns-in-None g c = record {
+pub returns-in-Some-slot : goal.returns-in-Some-slot
+returns-in-Some-slot g c = record {
   step = λ q shown.
-      let lacks : is_some (after q.history c.args.key) ≡ false = cc (c.committed.ensures q (tables-of g.D.Pmem.state c.args.self.now q shown c.requires.works), c.is_some.ensures, c.if-is_some.false) in
-      c.insert.ensures.step q shown c.requires.works (c.requires.session ∙ ap (λ (o : Option Write). Some (Active o)) c.in-None.is) (none-by (after q.history c.args.key) lacks);
+      put-own_steps g.D.Pmem.state c.args.self.now q c.args.key c.args.row c.args.writes shown c.requires.works c.requires.session (omega (arith, c.len-len.ensures.value, c.len-len.ensures.limit))
+      _ c.in-Some.write c.in-Some-slot.slot _ (g.met.D.Pmem.orderly _) (sym c.in-Some.ensures) c.in-Some-slot.is c.store_version.ensures.stored;
 }
 
-pub store_version-requires : goal.store_version-requires
-store_version-requires g c =
-    slot-fits c.args.self.now.numbers.geometry c.args.self.now.session c.in-Some.write c.args.self.now.fits (c.requires.session ∙ ap (λ (o : Option Write). Some (Active o)) c.in-Some.is)
-
-pub returns-then-eq : goal.returns-then-eq
-returns-then-eq g c = record {
+pub returns-in-None-slot : goal.returns-in-None-slot
+returns-in-None-slot g c = record {
   step = λ q shown.
-      put-own_steps g.D.Pmem.state c.args.self.now _ q c.args.key c.args.row c.in-Some.write _ shown c.requires.works (c.requires.session ∙ ap (λ (o : Option Write). Some (Active o)) c.in-Some.is)
-      (omega (arith, c.len-len.ensures.value, c.len-len.ensures.limit)) (same-keys _ _ (sym c.eq.ensures ∙ c.if-eq.true)) c.store_version.ensures.stored;
-}
-
-pub returns-else-eq : goal.returns-else-eq
-returns-else-eq g c = record {
-  step = λ q shown.
-      let lacks : is_some (after q.history c.args.key) ≡ false = cc (c.committed.ensures q (tables-of g.D.Pmem.state c.args.self.now q shown c.requires.works), c.is_some.ensures, c.if-is_some.false) in (
-        q,
-        refuses g.D.Pmem.state c.args.self.now q (Put 2 c.args.key c.args.row) WriteSetFull (g.met.D.Pmem.orderly _) shown
-            (put-full_refused g.D.Pmem.state c.args.self.now q c.args.key c.args.row shown c.requires.works c.in-Some.write (c.requires.session ∙ ap (λ (o : Option Write). Some (Active o)) c.in-Some.is)
-            (none-by (after q.history c.args.key) lacks) (omega (arith, c.len-len.ensures.value, c.len-len.ensures.limit)) (sym c.eq.ensures ∙ c.if-eq.false)) (λ told. cc),
-      );
+      c.insert.ensures.step q shown (found-replaces g.D.Pmem.state c.args.self.now q c.args.key c.args.writes c.in-Some.write shown c.requires.works c.requires.session (sym c.in-Some.ensures));
 }
