@@ -15,17 +15,24 @@ use std::thread::Threads;
 /// The key of the worked images.
 pub const KEY: Key = Key { table: 1, key: 7 };
 
-/// A device that was formatted with 4 slots, 2 places and a window of 8.
-pub fn formatted(alloc: Global) -> Result<SimPmem, Fault> {
-    let geometry = Geometry::new(4, 2, 8)?;
-    let mut device = SimPmem::from_words(alloc, &[0; 104])?;
+/// A device of this geometry that was formatted.
+pub fn formatted(alloc: Global, geometry: Geometry) -> Result<SimPmem, Fault> {
+    let Ok(zeros) = vec![in alloc; 0; geometry.words() as usize] else {
+        return Err(Fault::OutOfMemory);
+    };
+    let mut device = SimPmem::from_words(alloc, &zeros)?;
     format(&mut device, geometry)?;
     Ok(device)
 }
 
 /// The same after a restart: no operation is counted.
+pub fn fresh_of(alloc: Global, geometry: Geometry) -> Result<SimPmem, Fault> {
+    SimPmem::from_words(alloc, &formatted(alloc, geometry)?.image()?)
+}
+
+/// A device of the worked images: 4 slots, 2 places and a window of 8.
 pub fn fresh(alloc: Global) -> Result<SimPmem, Fault> {
-    SimPmem::from_words(alloc, &formatted(alloc)?.image()?)
+    fresh_of(alloc, Geometry::new(4, 2, 8)?)
 }
 
 /// The room of a device that is at rest.
@@ -52,6 +59,13 @@ pub fn word(rt: &impl Abort, device: &SimPmem, word: usize) -> u64 {
     device.load(word)
 }
 
+/// The device has these words from this one on.
+pub fn assert_words(rt: &impl Abort, device: &SimPmem, first: usize, words: &[u64]) {
+    for (at, want) in (first..device.words()).zip(words.iter()) {
+        assert_eq!(rt; word(rt, device, at), *want, "word {at}");
+    }
+}
+
 /// The gate, the persisted, the dirty and the next timestamp, and the gaps.
 pub fn assert_numbers(
     rt: &impl Abort,
@@ -65,6 +79,13 @@ pub fn assert_numbers(
         numbers
     );
     assert_eq!(rt; status.gaps.as_slice(), gaps);
+}
+
+/// Makes these steps one after another, each with the reply that is wanted.
+pub fn assert_replies(rt: &impl Abort, room: &mut Room<SimPmem>, steps: &[(Step, Note)]) {
+    for (at, (made, want)) in steps.iter().enumerate() {
+        assert_eq!(rt; step(room, *made), *want, "step {at}");
+    }
 }
 
 /// Makes a step, and notes its reply.
@@ -105,8 +126,19 @@ pub fn tick(rt: &impl Abort, room: &mut Room<SimPmem>, ticks: usize) {
 
 /// A cycle of 42 ticks, that covers with this stamp, and the end of the session.
 pub fn cover(rt: &impl Abort, room: &mut Room<SimPmem>, stamp: u64, timestamp: u64) {
+    cover_lines(rt, room, 1, stamp, timestamp);
+}
+
+/// A cycle of 41 ticks and one for each line, that covers with this stamp, and the end of the session.
+pub fn cover_lines(
+    rt: &impl Abort,
+    room: &mut Room<SimPmem>,
+    lines: u8,
+    stamp: u64,
+    timestamp: u64,
+) {
     let session = 2;
-    tick(rt, room, 41);
+    tick(rt, room, 40 + lines as usize);
     assert_eq!(rt; step(room, Step::Commit), Note::Covered(stamp));
     for _ in 0..2 {
         assert_eq!(rt;

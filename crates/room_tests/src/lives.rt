@@ -4,6 +4,7 @@ use crate::fixture::{
 };
 use base::fault::Fault;
 use base::gap::Gap;
+use base::geometry::Geometry;
 use base::row::Row;
 use base::step::{Note, Step};
 use pmem_model::Choice;
@@ -11,7 +12,7 @@ use std::test::Fail;
 
 #[test]
 fn fresh_image_opens(rt: HostRuntime) -> Result<(), Fail> {
-    let device = formatted(rt.alloc())?;
+    let device = formatted(rt.alloc(), Geometry::new(4, 2, 8)?)?;
     assert_eq!(rt; operations(&device), 163);
     let device = fresh(rt.alloc())?;
     assert_eq!(rt; operations(&device), 0);
