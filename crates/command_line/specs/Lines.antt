@@ -7,7 +7,7 @@ use Rattle.base.specs.declared.key.Key.{Key}
 use Rattle.command_line.specs.Numbers.{Text, number_below}
 use Rattle.command_line.specs.Rows.{row_of}
 use Rattle.command_line.specs.declared.command.Command.{Command}
-use Rattle.command_line.specs.declared.command.Command.TheVariants.{Begin, Get, Put, Draw, Stamp, Poll, End, Commit, Cycle, Crash}
+use Rattle.command_line.specs.declared.command.Command.TheVariants.{Begin, Get, Put, Delete, Draw, Stamp, Poll, Abort, End, Commit, Cycle, Crash}
 use Rattle.command_line.specs.declared.command.Survivor.TheVariants.{Oldest, Newest}
 
 -- the texts behind references
@@ -34,12 +34,13 @@ bare_command name =
     else if is_word name (codes "cycle") then Some Cycle
     else None
 
--- `draw`, `stamp`, `poll` or `end` of a session
+-- `draw`, `stamp`, `poll`, `abort` or `end` of a session
 abbrev pub session_command : Text → ℕ → Option Command
 session_command name session =
     if is_word name (codes "draw") then Some (Draw session)
     else if is_word name (codes "stamp") then Some (Stamp session)
     else if is_word name (codes "poll") then Some (Poll session)
+    else if is_word name (codes "abort") then Some (Abort session)
     else if is_word name (codes "end") then Some (End session)
     else None
 
@@ -61,12 +62,17 @@ one_word_command name word =
     else if is_word name (codes "crash") then crash_of word
     else option_and_then (session_command name) (number_below (2 ^ 8) word)
 
--- `get` of a session, a table and a key
-abbrev pub get_command : Text → Text → Text → Text → Option Command
-get_command name session table key =
-    if is_word name (codes "get")
-    then option_and_then (λ s. option_map (Get s) (key_of table key)) (number_below (2 ^ 8) session)
+-- `get` or `delete` of a session and a key
+abbrev pub key_command : Text → ℕ → Key → Option Command
+key_command name session key =
+    if is_word name (codes "get") then Some (Get session key)
+    else if is_word name (codes "delete") then Some (Delete session key)
     else None
+
+-- the same, of a session, a table and a key that are spelled
+abbrev pub spelled_key_command : Text → Text → Text → Text → Option Command
+spelled_key_command name session table key =
+    option_and_then (λ s. option_and_then (key_command name s) (key_of table key)) (number_below (2 ^ 8) session)
 
 -- `put` of a session, a table, a key and a row
 abbrev pub put_command : Text → Text → Text → Text → Text → Option Command
@@ -81,7 +87,7 @@ command_of [] = None
 command_of (name ∷ []) = bare_command name
 command_of (name ∷ word ∷ []) = one_word_command name word
 command_of (name ∷ a ∷ b ∷ []) = None
-command_of (name ∷ session ∷ table ∷ key ∷ []) = get_command name session table key
+command_of (name ∷ session ∷ table ∷ key ∷ []) = spelled_key_command name session table key
 command_of (name ∷ session ∷ table ∷ key ∷ row ∷ []) = put_command name session table key row
 command_of (name ∷ a ∷ b ∷ c ∷ d ∷ e ∷ more) = None
 

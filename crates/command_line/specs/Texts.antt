@@ -3,6 +3,7 @@ use Rattle.std.specs.Prelude.{ℕ, List, [], ◌∷◌, ◌++◌, codes, decimal
 use Rattle.std.specs.List.{flat_map}
 use Rattle.base.specs.declared.fault.Fault.{Fault}
 use Rattle.base.specs.declared.fault.Fault.TheVariants as fault
+use Rattle.base.specs.Faults.{number_of}
 use Rattle.base.specs.declared.gap.Gap.{Gap}
 use Rattle.command_line.specs.Numbers.{Text}
 use Rattle.command_line.specs.Rows.{row_text}
@@ -10,31 +11,6 @@ use Rattle.command_line.specs.declared.command.Survivor.{Survivor}
 use Rattle.command_line.specs.declared.command.Survivor.TheVariants.{Oldest, Newest}
 use Rattle.command_line.specs.declared.printed.Printed.{Printed}
 use Rattle.command_line.specs.declared.printed.Printed.TheVariants as printed
-
--- the number of a fault
-abbrev pub fault_number : Fault → ℕ
-fault_number fault.TooLong = 1
-fault_number fault.BadGeometry = 2
-fault_number fault.Device = 3
-fault_number fault.NotFormatted = 4
-fault_number (fault.Damaged place) = 5
-fault_number (fault.Version version) = 6
-fault_number fault.GapsFull = 7
-fault_number fault.SlotsOut = 8
-fault_number fault.NoSession = 9
-fault_number fault.WrongState = 10
-fault_number fault.SessionsFull = 11
-fault_number fault.WriteSetFull = 12
-fault_number (fault.Conflict key) = 13
-fault_number fault.WindowFull = 14
-fault_number fault.TimestampsOut = 15
-fault_number fault.OutOfMemory = 16
-fault_number fault.Failed = 17
-fault_number fault.TooOld = 18
-fault_number fault.NotYet = 19
-fault_number fault.ReadersOut = 20
-fault_number fault.NoThread = 21
-fault_number fault.Shut = 22
 
 -- the name of a fault
 abbrev pub fault_name : Fault → Text
@@ -71,7 +47,7 @@ fault_details _ = []
 -- a refusal
 abbrev pub refused_text : Fault → Text
 refused_text f =
-    codes "refused " ++ (decimal (fault_number f) ++ (codes " " ++ (fault_name f ++ fault_details f)))
+    codes "refused " ++ (decimal (number_of f) ++ (codes " " ++ (fault_name f ++ fault_details f)))
 
 -- a gap, after a space
 abbrev pub gap_text : Gap → Text

@@ -52,6 +52,10 @@ pub enum Command {
         key: Key,
         row: RowBytes,
     },
+    Delete {
+        session: u8,
+        key: Key,
+    },
     Draw {
         session: u8,
     },
@@ -59,6 +63,9 @@ pub enum Command {
         session: u8,
     },
     Poll {
+        session: u8,
+    },
+    Abort {
         session: u8,
     },
     End {

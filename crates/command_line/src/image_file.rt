@@ -1,4 +1,4 @@
-ghost use Rattle.std.specs.Prelude.{◌≡◌, ◌⊎◌, ◌*◌, ◌^◌, ◌<◌, IfOk, IfErr, length, true, false};
+ghost use Rattle.std.specs.Prelude.{◌≡◌, ◌⊎◌, IfOk, IfErr, length, true, false};
 ghost use Rattle.command_line.specs.ImageFile.{HoldsWords, is_image_length, bytes_of_words};
 ghost use Rattle.base.specs.declared.fault.Fault.TheVariants.{BadGeometry, OutOfMemory};
 
@@ -29,12 +29,14 @@ pub fn words_of_file(alloc: Global, file: &[u8]) -> Result<Vec<u64>, Fault>
     Ok(words)
 }
 
-/// The bytes of a file that holds these words.
+/// The bytes of a file that holds these words. More than memory can hold are refused as the memory is.
 pub fn file_of_words(alloc: Global, words: &[u64]) -> Result<Vec<u8>, AllocError>
-    requires { 8 * length words.now < 2 ^ 64 }
     ensures { IfOk result (λ file. file.items ≡ bytes_of_words words.now) }
 {
-    let mut file = Vec::from_elem(alloc, 0, WORD_BYTES * words.len())?;
+    let Some(size) = words.len().checked_mul(WORD_BYTES) else {
+        return Err(AllocError);
+    };
+    let mut file = Vec::from_elem(alloc, 0, size)?;
     LittleEndian::write_u64_into(words, file.as_mut_slice());
     Ok(file)
 }

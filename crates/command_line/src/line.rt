@@ -1,5 +1,5 @@
 ghost use Rattle.std.specs.Prelude.{◌≡◌, ◌^◌, IfOk, IfErr, option_and_then};
-ghost use Rattle.command_line.specs.Lines.{bare_command, command_of, get_command, line_of, commit_of, crash_of, key_of, one_word_command, put_command, session_command, texts, words_of};
+ghost use Rattle.command_line.specs.Lines.{bare_command, command_of, key_command, spelled_key_command, line_of, commit_of, crash_of, key_of, one_word_command, put_command, session_command, texts, words_of};
 ghost use Rattle.command_line.specs.Numbers.{number_below};
 ghost use Rattle.command_line.specs.declared.line.LineFault.TheVariants.{NotACommand};
 
@@ -56,7 +56,9 @@ fn command(alloc: Global, words: &[&[u8]]) -> Result<Command, LineFault>
         [name] => bare(name).ok_or(LineFault::NotACommand),
         [name, argument] => with_one_word(name, argument).ok_or(LineFault::NotACommand),
         [_, _, _] => Err(LineFault::NotACommand),
-        [name, session, table, key] => get(name, session, table, key).ok_or(LineFault::NotACommand),
+        [name, session, table, key] => {
+            with_key(name, session, table, key).ok_or(LineFault::NotACommand)
+        }
         [name, session, table, key, bytes] => put(alloc, name, session, table, key, bytes),
         _ => Err(LineFault::NotACommand),
     }
@@ -95,6 +97,8 @@ fn of_session(name: &[u8], session: u8) -> Option<Command>
         Some(Command::Stamp { session })
     } else if name == b"poll".as_slice() {
         Some(Command::Poll { session })
+    } else if name == b"abort".as_slice() {
+        Some(Command::Abort { session })
     } else if name == b"end".as_slice() {
         Some(Command::End { session })
     } else {
@@ -135,15 +139,24 @@ fn key_of(table: &[u8], key: &[u8]) -> Option<Key>
     Some(Key { table, key })
 }
 
-fn get(name: &[u8], session: &[u8], table: &[u8], key: &[u8]) -> Option<Command>
-    ensures { result ≡ get_command name.now session.now table.now key.now }
+fn with_key(name: &[u8], session: &[u8], table: &[u8], key: &[u8]) -> Option<Command>
+    ensures { result ≡ spelled_key_command name.now session.now table.now key.now }
 {
-    if name != b"get".as_slice() {
-        return None;
-    }
     let session = small_number(session)?;
     let key = key_of(table, key)?;
-    Some(Command::Get { session, key })
+    of_key(name, session, key)
+}
+
+fn of_key(name: &[u8], session: u8, key: Key) -> Option<Command>
+    ensures { result ≡ key_command name.now session key }
+{
+    if name == b"get".as_slice() {
+        Some(Command::Get { session, key })
+    } else if name == b"delete".as_slice() {
+        Some(Command::Delete { session, key })
+    } else {
+        None
+    }
 }
 
 fn put(

@@ -2,7 +2,7 @@ ghost use Rattle.std.specs.Prelude.{◌≡◌, ◌++◌, ◌∷◌, [], IfOk, On
 ghost use Rattle.std.specs.String.{string_bytes};
 ghost use Rattle.std.specs.Io.KnownBytes.{Appends};
 ghost use Rattle.command_line.specs.Rows.{row_text};
-ghost use Rattle.command_line.specs.Texts.{fault_details, fault_name, fault_number, gaps_text, refused_text, survivor_text, text_of};
+ghost use Rattle.command_line.specs.Texts.{fault_details, fault_name, gaps_text, refused_text, survivor_text, text_of};
 
 use crate::command::Survivor;
 use base::fault::Fault;
@@ -140,7 +140,7 @@ fn gaps_text(alloc: Global, gaps: &[Gap]) -> Result<String, AllocError>
 fn refused_line(alloc: Global, fault: Fault) -> Result<String, AllocError>
     ensures { IfOk result (λ text. string_bytes text ≡ refused_text fault) }
 {
-    let number = number(fault);
+    let number = fault.number();
     let name = name(fault);
     let details = details(alloc, fault)?;
     format!(in alloc; "refused {number} {name}{details}")
@@ -158,35 +158,6 @@ fn details(alloc: Global, fault: Fault) -> Result<String, AllocError>
             format!(in alloc; " {table} {number}")
         }
         _ => Ok(String::new(alloc)),
-    }
-}
-
-fn number(fault: Fault) -> u8
-    ensures { result ≡ fault_number fault }
-{
-    match fault {
-        Fault::TooLong => 1,
-        Fault::BadGeometry => 2,
-        Fault::Device => 3,
-        Fault::NotFormatted => 4,
-        Fault::Damaged(_) => 5,
-        Fault::Version(_) => 6,
-        Fault::GapsFull => 7,
-        Fault::SlotsOut => 8,
-        Fault::NoSession => 9,
-        Fault::WrongState => 10,
-        Fault::SessionsFull => 11,
-        Fault::WriteSetFull => 12,
-        Fault::Conflict(_) => 13,
-        Fault::WindowFull => 14,
-        Fault::TimestampsOut => 15,
-        Fault::OutOfMemory => 16,
-        Fault::Failed => 17,
-        Fault::TooOld => 18,
-        Fault::NotYet => 19,
-        Fault::ReadersOut => 20,
-        Fault::NoThread => 21,
-        Fault::Shut => 22,
     }
 }
 

@@ -1,0 +1,100 @@
+-- How the history is kept from an opening to a stop.
+use Rattle.std.proofs.Common.{◌≡◌, ℕ, List, [], ◌++◌, refl, sym, ◌∙◌, ap, subst, append-nil, append_assoc}
+use Rattle.std.specs.Prelude.{Option, Some, None, All}
+use Rattle.std.proofs.lemmas.List.Elements.{All-nil, All-cons, All-contains}
+use Rattle.base.specs.declared.step.Step.{Step}
+use Rattle.base.specs.declared.step.Reply.{Reply}
+use Rattle.base.specs.Commits.{Commit}
+use Rattle.base.specs.Images.{Image}
+use Rattle.base.specs.Stands.{Stands}
+use Rattle.base.specs.Machine.{State, Hand, Cover, StandsUnder, StandsAt, StandsClosed, drawn_of, covers_at, of_hand, present, closed, uncovered}
+use Rattle.base.specs.Openings.{OpensAs}
+use Rattle.base.proofs.Growth.{extends-stepped}
+use Rattle.pmem.specs.Device.{Device, MayLeave, restarted, image_of}
+use Rattle.pmem.specs.declared.device.Pmem.{Ghosts}
+use Rattle.room.specs.Room.{Shows, StepsTo, device_of}
+use Rattle.room.specs.declared.room.Room.{Room}
+use Rattle.command_line.specs.ImageFile.{HoldsWords, bytes_of_words}
+use Rattle.console.specs.Kept.{Extends, GoesOn, HasHistory, HasClosed, KeepsHistory, IsFileWith, KeepsHistories}
+use Rattle.console.proofs.Restarted.{one_image, image-restarted}
+
+extends-none : (history : List Commit) → Extends history history
+extends-none history = ([], sym (append-nil history))
+
+extends-trans : (a b c : List Commit) → Extends a b → Extends b c → Extends a c
+extends-trans a b c (more, e) (rest, f) = (more ++ rest, f ∙ (ap (λ (l : List Commit). l ++ rest) e ∙ append_assoc a more rest))
+
+-- A room
+
+pub goes-nowhere : {D : Type 0} {G : Ghosts D} (state : D → Device) (room : Room D G) → GoesOn state room room
+goes-nowhere state room = record { each = λ q shows. (q, extends-none q.history, shows) }
+
+pub goes-trans : {D : Type 0} {G : Ghosts D} (state : D → Device) (old mid new : Room D G) → GoesOn state old mid → GoesOn state mid new → GoesOn state old new
+goes-trans state old mid new a b = record {
+  each = λ q shows.
+      let first = a.each q shows in
+      let second = b.each first.0 first.2 in
+      (second.0, extends-trans q.history first.0.history second.0.history first.1 second.1, second.2);
+}
+
+pub goes-step : {D : Type 0} {G : Ghosts D} (state : D → Device) (old new : Room D G) (step : Step) (reply : Reply)
+    → ((q : State) → Shows state old q → (q' : State) × StepsTo state old new step reply q q') → GoesOn state old new
+goes-step state old new step reply steps = record {
+  each = λ q shows.
+      let made = steps q shows in (made.0, extends-stepped q step reply made.0 made.1.stepped, made.1.shows);
+}
+
+pub keeps-going : {D : Type 0} {G : Ghosts D} (state : D → Device) (history : List Commit) (old new : Room D G) → HasHistory state history old → GoesOn state old new → HasHistory state history new
+keeps-going state history old new has goes =
+    let now = goes.each has.shown has.shows in
+    record { shown = now.0; longer = extends-trans history has.shown.history now.0.history has.longer now.1; shows = now.2 }
+
+pub opens-with : {D : Type 0} {G : Ghosts D} (state : D → Device) (room : Room D G) (image : Image) (history : List Commit)
+    → ((q : State) × OpensAs image history [] q × Shows state room q) → HasHistory state history room
+opens-with state room image history (q, opens, shows) =
+    record { shown = q; longer = subst (Extends history) (sym (ap (λ (p : State). p.history) opens.2)) (extends-none history); shows = shows }
+
+-- An image
+
+-- the cover's commits begin with the state's history
+abbrev Adds : State → Cover → Type 0
+Adds q cover = Extends q.history cover.commits
+
+adds-hand : (q : State) (hand : Option Hand) → All (Adds q) (of_hand q hand)
+adds-hand q None = All-nil (Adds q)
+adds-hand q (Some hand) = All-cons (Adds q) _ [] (hand.commits, refl) (All-nil (Adds q))
+
+adds-at : (q : State) → All (Adds q) (covers_at q)
+adds-at q = All-cons (Adds q) (present q) (of_hand q q.hand) (extends-none q.history) (adds-hand q q.hand)
+
+keeps-under : (history : List Commit) (q : State) (cover : Cover) (image : Image) → Extends history q.history → Adds q cover → StandsUnder q cover image → KeepsHistory history image
+keeps-under history q cover image longer adds s =
+    record { kept = cover.commits; drawn = drawn_of q; next = q.next; longer = extends-trans history q.history cover.commits longer adds; stands = s.stands }
+
+pub keeps-at : (history : List Commit) (q : State) (image : Image) → Extends history q.history → StandsAt q image → KeepsHistory history image
+keeps-at history q image longer s = keeps-under history q s.0 image longer (All-contains (Adds q) (covers_at q) s.0 (adds-at q) s.1) s.2
+
+pub keeps-closed : (history : List Commit) (q : State) (image : Image) → Extends history q.history → StandsClosed q image → KeepsHistory history image
+keeps-closed history q image longer s = keeps-under history q (closed q) image longer (uncovered q, refl) s
+
+pub keeps-each : (before after words : List ℕ) → HoldsWords before words
+    → ((history drawn : List Commit) (next : ℕ) → Stands words history drawn next → IsFileWith history after) → KeepsHistories before after
+keeps-each before after words holds each = record {
+  each = λ image held history drawn next stands.
+      each history drawn next (subst (λ (i : Image). Stands i history drawn next) (one_image before image words held holds) stands);
+}
+
+-- A file
+
+pub bytes-restarted : (device : Device) (image : Image) (file : List ℕ) → device ≡ restarted image → file ≡ bytes_of_words (image_of device) → file ≡ bytes_of_words image
+bytes-restarted device image file is bytes = bytes ∙ (ap (λ (d : Device). bytes_of_words (image_of d)) is ∙ ap bytes_of_words (image-restarted image))
+
+pub file-stopped : {D : Type 0} {G : Ghosts D} (state : D → Device) (history : List Commit) (room : Room D G) (device : Device) (image : Image) (file : List ℕ)
+    → HasHistory state history room → device ≡ device_of state room → MayLeave device image → file ≡ bytes_of_words image → IsFileWith history file
+file-stopped state history room device image file has is left bytes =
+    record { image = image; bytes = bytes; keeps = keeps-at history has.shown image has.longer (has.shows.stands image (subst (λ (d : Device). MayLeave d image) is left)) }
+
+pub file-closed : {D : Type 0} {G : Ghosts D} (state : D → Device) (history : List Commit) (room : Room D G) (device : Device) (image : Image) (file : List ℕ)
+    → HasHistory state history room → HasClosed state room device → MayLeave device image → file ≡ bytes_of_words image → IsFileWith history file
+file-closed state history room device image file has closes left bytes =
+    record { image = image; bytes = bytes; keeps = keeps-closed history has.shown image has.longer (closes.each has.shown has.shows image left) }

@@ -1,0 +1,4 @@
+use Rattle.console.proofs.run.close_room.Goals as goal
+
+pub returns-in-Ok : goal.returns-in-Ok
+returns-in-Ok c = record { each = c.in-Ok.ensures.ok }

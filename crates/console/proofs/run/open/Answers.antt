@@ -1,0 +1,16 @@
+use Rattle.std.proofs.Common.{ap, sym, ◌∙◌, subst, [], List, ℕ}
+use Rattle.base.specs.Stands.{Stands}
+use Rattle.pmem.specs.Device.{IsAtRest, image_of}
+use Rattle.pmem_model.specs.Sim.{device_of}
+use Rattle.console.proofs.Kept.{opens-with}
+use Rattle.console.proofs.Restarted.{restarted-rests, image-restarted}
+use Rattle.console.proofs.run.open.Goals as goal
+
+pub open-requires-clause-at_rest : goal.open-requires-clause-at_rest
+open-requires-clause-at_rest g c κs within = subst IsAtRest (sym c.in_ok-device.ensures.device) (restarted-rests c.args.words.now)
+
+pub returns-in-Ok : goal.returns-in-Ok
+returns-in-Ok g c = λ history drawn next stands.
+    opens-with device_of c.in-Ok.room (image_of (device_of c.in_ok-device.device)) history
+    (c.in-Ok.ensures.ok history drawn next []
+    (subst (λ (i : List ℕ). Stands i history drawn next) (sym (ap image_of c.in_ok-device.ensures.device ∙ image-restarted c.args.words.now)) stands))

@@ -1,0 +1,56 @@
+-- What FILE keeps of the history that its image stands for.
+use Rattle.std.specs.Prelude.{◌≡◌, ℕ, ◌++◌, List}
+use Rattle.base.specs.Commits.{Commit}
+use Rattle.base.specs.Layout.{layout_with}
+use Rattle.base.specs.Images.{Image}
+use Rattle.base.specs.Stands.{Stands}
+use Rattle.base.specs.Machine.{State, StandsClosed}
+use Rattle.pmem.specs.Device.{Device, MayLeave}
+use Rattle.pmem.specs.declared.device.Pmem.{Ghosts}
+use Rattle.recovery.specs.Fresh.{fresh_image}
+use Rattle.room.specs.Room.{Shows}
+use Rattle.room.specs.declared.room.Room.{Room}
+use Rattle.command_line.specs.ImageFile.{HoldsWords, bytes_of_words}
+use Rattle.command_line.specs.declared.orders.Order.{Order}
+use Rattle.command_line.specs.declared.orders.Order.TheVariants.{Format, Run}
+
+-- the list begins with this history
+abbrev pub Extends : List Commit → List Commit → Type 0
+Extends history longer = (more : List Commit) × (longer ≡ history ++ more)
+
+-- whatever state the room showed, it shows one whose history begins with that one's
+pub record GoesOn {D : Type 0} {G : Ghosts D} (state : D → Device) (old new : Room D G) : Type 0 where
+  pub each : (q : State) → Shows state old q → (q' : State) × Extends q.history q'.history × Shows state new q'
+
+-- the room shows a state whose history begins with this one
+pub record HasHistory {D : Type 0} {G : Ghosts D} (state : D → Device) (history : List Commit) (room : Room D G) : Type 0 where
+  pub shown : State
+  pub longer : Extends history shown.history
+  pub shows : Shows state room shown
+
+-- whatever state the room showed, a crash of the device leaves what a close of that state leaves
+pub record HasClosed {D : Type 0} {G : Ghosts D} (state : D → Device) (room : Room D G) (device : Device) : Type 0 where
+  pub each : (q : State) → Shows state room q → (image : Image) → MayLeave device image → StandsClosed q image
+
+-- the image stands for a history that begins with this one
+pub record KeepsHistory (history : List Commit) (image : Image) : Type 0 where
+  pub kept : List Commit
+  pub drawn : List Commit
+  pub next : ℕ
+  pub longer : Extends history kept
+  pub stands : Stands image kept drawn next
+
+-- the bytes are those of an image that stands for a history that begins with this one
+pub record IsFileWith (history : List Commit) (file : List ℕ) : Type 0 where
+  pub image : Image
+  pub bytes : file ≡ bytes_of_words image
+  pub keeps : KeepsHistory history image
+
+-- whatever history the image in the old file stands for, the new file keeps
+pub record KeepsHistories (before after : List ℕ) : Type 0 where
+  pub each : (image : Image) → HoldsWords before image → (history drawn : List Commit) (next : ℕ) → Stands image history drawn next → IsFileWith history after
+
+-- what a subcommand leaves in FILE: of a format the fresh image, of a run what keeps the histories
+abbrev pub Leaves : Order → List ℕ → List ℕ → Type 0
+Leaves (Format name slots places window) before after = after ≡ bytes_of_words (fresh_image (layout_with slots places window))
+Leaves (Run name) before after = KeepsHistories before after

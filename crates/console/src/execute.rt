@@ -1,0 +1,97 @@
+ghost use Rattle.std.specs.Prelude.{◌≡◌, ◌≤◌, ◌↔◌, IfOk, IfSome, IsSome};
+ghost use Rattle.command_line.specs.ImageFile.{bytes_of_words};
+ghost use Rattle.recovery.specs.Fresh.{fresh_image};
+ghost use Rattle.console.specs.Kept.{Leaves};
+
+use crate::ended::Ended;
+use crate::format::fresh_file;
+use crate::run::run;
+use crate::stop::Stop;
+use base::geometry::Geometry;
+use command_line::orders::Order;
+use command_line::printed::{Printed, print};
+use std::alloc::Global;
+use std::io::{Read, Write};
+use std::thread::Threads;
+
+/// The exit status of a refusal, and of an input or an output that fails.
+const REFUSED: u8 = 1;
+
+/// The exit status of a line that is no command.
+const BAD_LINE: u8 = 2;
+
+/// Does the work of a subcommand. `file` is what FILE holds, and nothing for `format`.
+pub fn execute<T: Threads + Sync, R: Read, W: Write>(
+    rt: &T,
+    alloc: Global,
+    order: &Order,
+    file: &[u8],
+    input: &mut R,
+    output: &mut W,
+) -> Ended
+    ensures status { result.status ≤ 2 }
+
+    // FILE is written exactly where the status is 0.
+    ensures written { IsSome result.file ↔ (result.status ≡ 0) }
+    ensures file { IfSome result.file (λ left. Leaves order.now file.now left.items) }
+{
+    match obey(rt, alloc, order, file, input, output) {
+        Ok(file) => Ended {
+            status: 0,
+            file: Some(file),
+        },
+        Err(stop) => Ended {
+            status: tell(alloc, &stop, output),
+            file: None,
+        },
+    }
+}
+
+// What FILE is to hold.
+fn obey<T: Threads + Sync, R: Read, W: Write>(
+    rt: &T,
+    alloc: Global,
+    order: &Order,
+    file: &[u8],
+    input: &mut R,
+    output: &mut W,
+) -> Result<Vec<u8>, Stop>
+    ensures { IfOk result (λ left. Leaves order.now file.now left.items) }
+{
+    match *order {
+        Order::Format {
+            slots,
+            places,
+            window,
+            ..
+        } => format(alloc, Geometry::new(slots, places, window)?, output),
+        Order::Run { .. } => run(rt, alloc, file, input, output),
+    }
+}
+
+fn format<W: Write>(alloc: Global, geometry: Geometry, output: &mut W) -> Result<Vec<u8>, Stop>
+    ensures { IfOk result (λ file. file.items ≡ bytes_of_words (fresh_image geometry)) }
+{
+    let file = fresh_file(alloc, geometry)?;
+    let words = geometry.words();
+    print(alloc, output, &Printed::Formatted { words })?;
+    Ok(file)
+}
+
+// Prints why the work ended early. The status says whether a line was to blame.
+fn tell<W: Write>(alloc: Global, stop: &Stop, output: &mut W) -> u8
+    ensures some { 1 ≤ result }
+    ensures limit { result ≤ 2 }
+{
+    match *stop {
+        Stop::Refused(fault) => {
+            let _ = print(alloc, output, &Printed::Refused(fault));
+            REFUSED
+        }
+        Stop::NotACommand(line) => match print(alloc, output, &Printed::NotACommand { line }) {
+            Ok(()) => BAD_LINE,
+            Err(_) => REFUSED,
+        },
+        Stop::Broken => REFUSED,
+    }
+}

@@ -1,0 +1,22 @@
+ghost use Rattle.std.specs.Prelude.{◌≡◌, IfOk};
+ghost use Rattle.command_line.specs.ImageFile.{bytes_of_words};
+ghost use Rattle.recovery.specs.Fresh.{fresh_image};
+
+use base::fault::Fault;
+use base::geometry::Geometry;
+use command_line::image_file::file_of_words;
+use pmem_model::SimPmem;
+use std::alloc::Global;
+
+/// A file that holds a fresh image.
+pub fn fresh_file(alloc: Global, geometry: Geometry) -> Result<Vec<u8>, Fault>
+    ensures { IfOk result (λ file. file.items ≡ bytes_of_words (fresh_image geometry)) }
+{
+    let Ok(words) = Vec::from_elem(alloc, 0, geometry.words() as usize) else {
+        return Err(Fault::OutOfMemory);
+    };
+    let mut device = SimPmem::from_words(alloc, words.as_slice())?;
+    recovery::format(&mut device, geometry)?;
+    let image = device.image()?;
+    file_of_words(alloc, image.as_slice()).map_err(|_| Fault::OutOfMemory)
+}

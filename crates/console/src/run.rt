@@ -1,0 +1,128 @@
+ghost use Rattle.std.specs.Prelude.{◌≡◌, ℕ, List, IfOk};
+ghost use Rattle.base.specs.Commits.{Commit};
+ghost use Rattle.base.specs.Stands.{Stands};
+ghost use Rattle.pmem.specs.Device.{image_of};
+ghost use Rattle.pmem_model.specs.Sim.{device_of};
+ghost use Rattle.command_line.specs.ImageFile.{bytes_of_words};
+ghost use Rattle.console.specs.Kept.{HasClosed, HasHistory, IsFileWith, KeepsHistories};
+
+use crate::lines::obey_lines;
+use crate::stop::Stop;
+use base::fault::Fault;
+use command_line::command::Survivor;
+use command_line::image_file::{file_of_words, words_of_file};
+use command_line::printed::{Printed, print};
+use log_area::latest;
+use pmem_model::{Choice, SimPmem};
+use room::Room;
+use std::alloc::Global;
+use std::io::{Read, Write};
+use std::thread::Threads;
+
+/// Opens the image in the file and obeys the lines of the input. What the file is to hold then.
+pub fn run<T: Threads + Sync, R: Read, W: Write>(
+    rt: &T,
+    alloc: Global,
+    file: &[u8],
+    input: &mut R,
+    output: &mut W,
+) -> Result<Vec<u8>, Stop>
+    ensures { IfOk result (λ left. KeepsHistories file.now left.items) }
+{
+    let words = words_of_file(alloc, file)?;
+    let mut room = open(rt, alloc, words.as_slice())?;
+    show_opened(alloc, &room, output)?;
+    let keeps = obey_lines(alloc, &mut room, input, output)?;
+    let left = end(alloc, room, keeps, output)?;
+    Ok(left)
+}
+
+fn open<T: Threads + Sync>(rt: &T, alloc: Global, words: &[u64]) -> Result<Room<SimPmem>, Fault>
+    ensures { IfOk result (λ room. (history drawn : List Commit) (next : ℕ) → Stands words.now history drawn next → HasHistory device_of history room) }
+{
+    let device = SimPmem::from_words(alloc, words)?;
+    match Room::open(rt, alloc, device) {
+        Ok(room) => Ok(room),
+        Err((fault, _device)) => Err(fault),
+    }
+}
+
+fn show_opened<W: Write>(alloc: Global, room: &Room<SimPmem>, output: &mut W) -> Result<(), Stop> {
+    let status = room.status();
+    let opened = Printed::Opened {
+        gate: status.gate,
+        persisted: status.persisted,
+        drawn: status.dirty,
+        next: status.next,
+        gaps: status.gaps.as_slice(),
+    };
+    print(alloc, output, &opened)?;
+    Ok(())
+}
+
+// Ends the life by a crash that keeps this, or by a close.
+fn end<W: Write>(
+    alloc: Global,
+    room: Room<SimPmem>,
+    keeps: Option<Survivor>,
+    output: &mut W,
+) -> Result<Vec<u8>, Stop>
+    ensures { IfOk result (λ left. (history : List Commit) → HasHistory device_of history room → IsFileWith history left.items) }
+{
+    match keeps {
+        Some(keeps) => stop(alloc, room, keeps, output),
+        None => close(alloc, room, output),
+    }
+}
+
+// What a crash leaves now.
+fn stop<W: Write>(
+    alloc: Global,
+    room: Room<SimPmem>,
+    keeps: Survivor,
+    output: &mut W,
+) -> Result<Vec<u8>, Stop>
+    ensures { IfOk result (λ left. (history : List Commit) → HasHistory device_of history room → IsFileWith history left.items) }
+{
+    let choice = match keeps {
+        Survivor::Oldest => Choice::Oldest,
+        Survivor::Newest => Choice::Newest,
+    };
+    let device = room.into_device().crash(&choice)?;
+    let file = file_of_device(alloc, &device)?;
+    print(alloc, output, &Printed::Stopped(keeps))?;
+    Ok(file)
+}
+
+// What is left after the close of the room.
+fn close<W: Write>(alloc: Global, room: Room<SimPmem>, output: &mut W) -> Result<Vec<u8>, Stop>
+    ensures { IfOk result (λ left. (history : List Commit) → HasHistory device_of history room → IsFileWith history left.items) }
+{
+    let closed = close_room(room)?;
+    let device = closed.crash(&Choice::Oldest)?;
+    let ruling = latest(&device)?.target;
+    let file = file_of_device(alloc, &device)?;
+    let line = Printed::Closed {
+        gate: ruling.gate(),
+        persisted: ruling.persisted(),
+        drawn: ruling.dirty(),
+    };
+    print(alloc, output, &line)?;
+    Ok(file)
+}
+
+fn close_room(room: Room<SimPmem>) -> Result<SimPmem, Fault>
+    ensures { IfOk result (λ device. HasClosed device_of room (device_of device)) }
+{
+    match room.close() {
+        Ok(device) => Ok(device),
+        Err((fault, _device)) => Err(fault),
+    }
+}
+
+fn file_of_device(alloc: Global, device: &SimPmem) -> Result<Vec<u8>, Stop>
+    ensures { IfOk result (λ file. file.items ≡ bytes_of_words (image_of (device_of device.now))) }
+{
+    let image = device.image()?;
+    Ok(file_of_words(alloc, image.as_slice())?)
+}
