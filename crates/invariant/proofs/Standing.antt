@@ -9,10 +9,10 @@ use Rattle.base.specs.declared.fault.Fault.{Fault}
 use Rattle.base.specs.declared.fault.Fault.TheVariants.{BadGeometry, NotFormatted, Damaged, Version as VersionFault}
 use Rattle.base.specs.Keys.{key_eq}
 use Rattle.base.specs.Commits.{after}
-use Rattle.base.specs.Layout.{Layout, total_words, is_in_limits, is_known_version}
+use Rattle.base.specs.Layout.{Layout, total_words, is_in_limits, is_known_version, is_between}
 use Rattle.base.specs.Search.{first_below, first_of, some_if}
 use Rattle.base.specs.Records.{Record, is_committed}
-use Rattle.base.specs.Images.{Image, layout_of, is_formatted, has_good_geometry, is_wrong_gate, is_ruled, ruling_place, damage, begin_of, end_of, key_of, is_live, Shown, is_bad_slot}
+use Rattle.base.specs.Images.{Image, layout_of, is_formatted, has_good_geometry, is_wrong_gate, is_ruled, ruling_place, damage, begin_of, end_of, key_of, is_live, Shown, is_bad_slot, IsRuledBy}
 use Rattle.base.proofs.Histories.{key_eq-true}
 use Rattle.base.specs.Stands.{has_timestamp}
 use Rattle.base.specs.Machine.{State, present, drawn_of}
@@ -20,7 +20,7 @@ use Rattle.pmem.specs.Device.{Device, Survives, value_of}
 use Rattle.pmem.proofs.Steps.{only-settled}
 use Rattle.invariant.specs.Slots.{word_of, is_misfit, HasVersion, IsLive, SlotsHold}
 use Rattle.invariant.specs.Kept.{IsKept, newest_of}
-use Rattle.invariant.specs.Theorem.{IsRuledBy, SlotsSurvive, EveryImageStands}
+use Rattle.invariant.specs.Theorem.{SlotsSurvive, EveryImageStands}
 use Rattle.invariant.proofs.Marks.{left_out}
 use Rattle.invariant.proofs.Congruence.{some_words}
 use Rattle.invariant.proofs.Living.{IsLiving, IsOut, unbegun, ended, Outcome, outcome, living-newest, uncounted-end}
@@ -38,6 +38,10 @@ size-of a image layout good =
     eqb-true (length image) (slice_index image 5) three.1
     ∙ eqb-true (slice_index image 5) (total_words (layout_of image)) (and_parts limits total three.0).1
     ∙ ap (λ (l : Layout). total_words l) layout
+
+-- a layout in the limits has a known version
+pub known-version : (a : Layout) → is_in_limits a ≡ true → is_known_version a.version ≡ true
+known-version a limits = (and_parts (is_known_version a.version) (is_between 1 65536 a.slots && (is_between 2 64 a.places && is_between 4 1024 a.window)) limits).0
 
 pub limits-of : (image : Image) → has_good_geometry image ≡ true → is_in_limits (layout_of image) ≡ true
 limits-of image good =
@@ -200,26 +204,26 @@ sound-of : (a : Layout) (r : Record) (image : Image) → IsRuledBy a r image →
 sound-of a r image ruled good =
     all-none _ _ _ _ _ _
     (passed (is_formatted image) NotFormatted ruled.formatted)
-    (passed (is_known_version (layout_of image).version) (VersionFault (layout_of image).version) ruled.known)
+    (passed (is_known_version (layout_of image).version) (VersionFault (layout_of image).version) (known-version (layout_of image) (limits-of image ruled.geometry)))
     (passed (has_good_geometry image) BadGeometry ruled.geometry)
-    (unmet Damaged (first_below (layout_of image).places (is_wrong_gate image)) (subst (λ (l : Layout). first_below l.places (is_wrong_gate image) ≡ None) (sym ruled.layout) ruled.gates))
-    (passed (is_ruled image) (Damaged (ruling_place image)) ruled.ruled)
+    (unmet Damaged (first_below (layout_of image).places (is_wrong_gate image)) (subst (λ (l : Layout). first_below l.places (is_wrong_gate image) ≡ None) (sym ruled.laid_out) ruled.gates))
+    (passed (is_ruled image) (Damaged (ruling_place image)) ruled.well_ruled)
     (unmet (λ slot. Damaged ((layout_of image).places + slot)) (first_below (layout_of image).slots (is_bad_slot image))
     (first_below-of_none (layout_of image).slots (is_bad_slot image)
-    (λ slot h. subst (λ (s : Record). is_bad_under s image slot ≡ false) (sym ruled.ruling) (good slot (subst (λ (l : Layout). slot < l.slots) ruled.layout h)))))
+    (λ slot h. subst (λ (s : Record). is_bad_under s image slot ≡ false) (sym ruled.by_record) (good slot (subst (λ (l : Layout). slot < l.slots) ruled.laid_out h)))))
 
 pub every-image-stands : EveryImageStands
 every-image-stands q device image kept holds survive ruled =
-    let left : IsLeft q device image = record { kept = kept; holds = holds; survive = survive; layout = ruled.layout; size = size-of q.layout image ruled.layout ruled.geometry } in
+    let left : IsLeft q device image = record { kept = kept; holds = holds; survive = survive; layout = ruled.laid_out; size = size-of q.layout image ruled.laid_out ruled.geometry } in
     record {
       stands = record {
         sound = sound-of q.layout (present q).ruled_by image ruled (λ slot h. not-bad q device image slot left h);
-        tables = λ key row. subst (λ (r : Record). ShownUnder r image key row ↔ (after q.history key ≡ Some row)) (sym ruled.ruling)
+        tables = λ key row. subst (λ (r : Record). ShownUnder r image key row ↔ (after q.history key ≡ Some row)) (sym ruled.by_record)
             (shown-after q device image key row left, after-shown q device image key row left);
-        covered = subst (λ (r : Record). IsTrue (list_all (λ commit. is_committed r commit.timestamp) q.history)) (sym ruled.ruling) kept.covered;
-        left_out = subst (λ (r : Record). IsTrue (list_all (λ commit. has_timestamp q.history commit.timestamp || not (is_committed r commit.timestamp)) (drawn_of q))) (sym ruled.ruling)
+        covered = subst (λ (r : Record). IsTrue (list_all (λ commit. is_committed r commit.timestamp) q.history)) (sym ruled.by_record) kept.covered;
+        left_out = subst (λ (r : Record). IsTrue (list_all (λ commit. has_timestamp q.history commit.timestamp || not (is_committed r commit.timestamp)) (drawn_of q))) (sym ruled.by_record)
             (left_out (present q).ruled_by q.next (λ commit. has_timestamp q.history commit.timestamp) q.drawn kept.drawn);
-        reserved = subst (λ (r : Record). q.next ≤ r.dirty) (sym ruled.ruling) kept.reserved;
+        reserved = subst (λ (r : Record). q.next ≤ r.dirty) (sym ruled.by_record) kept.reserved;
       };
-      ruled = ruled.ruling;
+      ruled = ruled.by_record;
     }

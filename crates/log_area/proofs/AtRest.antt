@@ -8,10 +8,10 @@ use Rattle.base.specs.Layout.{Layout, place_start, total_words, is_in_limits}
 use Rattle.base.specs.Records.{Record, IsRecord, record_word}
 use Rattle.base.specs.Search.{first_below, first_of, some_if}
 use Rattle.base.proofs.Histories.{first_below-none}
-use Rattle.base.specs.Images.{Image, superblock_word, layout_of, gate_at, place_words, is_wrong_gate, greatest_gate, ruling_place, is_bad_slot, damage}
+use Rattle.base.specs.Images.{Image, superblock_word, layout_of, gate_at, place_words, is_wrong_gate, greatest_gate, ruling_place, is_bad_slot, damage, IsRuledBy, place_of}
 use Rattle.pmem.specs.Device.{Device, image_of, IsAtRest}
-use Rattle.log_area.specs.Rulings.{Holds, IsLaidOut, IsRuledBy, IsEarlierGate, IsRecordFor, HoldsRecord, superblock_words, place_of, gate_word}
-use Rattle.log_area.proofs.Codec.{get_or-range, is_record-holds}
+use Rattle.log_area.specs.Rulings.{Holds, IsLaidOut, IsEarlierGate, IsRecordFor, HoldsRecord, superblock_words, gate_word}
+use Rattle.base.proofs.Spelling.{get_or-range, is_record-holds}
 use Rattle.log_area.proofs.Rulings.{greatest-each, place_below, log_within}
 use Rattle.log_area.proofs.Heads.{image_size, image_word, laid_size, laid_limits, laid_known}
 use Rattle.log_area.proofs.Finding.{own_gate, ruling_is}

@@ -13,10 +13,10 @@ use Rattle.base.specs.Layout.{Layout, place_start, newest_version, is_known_vers
 use Rattle.base.specs.Records.{Record, IsRecord, record_in, is_record}
 use Rattle.base.specs.Search.{first_below, first_of, some_if}
 use Rattle.base.proofs.Histories.{first_below-none}
-use Rattle.base.specs.Images.{Image, layout_of, is_formatted, has_good_geometry, gate_at, place_words, is_wrong_gate, greatest_gate, ruling_place, is_ruled}
+use Rattle.base.specs.Images.{Image, layout_of, is_formatted, has_good_geometry, gate_at, place_words, is_wrong_gate, greatest_gate, ruling_place, is_ruled, IsRuledBy}
 use Rattle.log_area.specs.Codec.{NoneFits}
-use Rattle.log_area.specs.Rulings.{IsLaidOut, IsRuledBy, layout_damage, log_damage}
-use Rattle.log_area.proofs.Codec.{get_or-range, length-range, record_in-is, is_record-is, is_record-holds}
+use Rattle.log_area.specs.Rulings.{IsLaidOut, layout_damage, log_damage}
+use Rattle.base.proofs.Spelling.{get_or-range, length-range, record_in-is, is_record-is, is_record-holds}
 use Rattle.log_area.proofs.Heads.{laid_known, laid_version}
 
 -- ---- searches

@@ -4,7 +4,7 @@ use Rattle.std.proofs.Math.Nat.{mul-le-mul_left}
 use Rattle.std.proofs.lemmas.Bool.{cases_lt, cases_eq}
 use Rattle.base.specs.Layout.{Layout, place_start, total_words, is_in_limits}
 use Rattle.base.specs.Records.{Record, record_word}
-use Rattle.base.specs.Images.{gate_at}
+use Rattle.base.specs.Images.{gate_at, IsRuledBy, place_of}
 use Rattle.pmem.specs.Device.{Device, Survives, value_of, IsOrderly, MayLeave, LeavesOnly, failed}
 use Rattle.pmem.specs.Trace.{Operation, store_op, flush_op, fence_op, failure, applied}
 use Rattle.pmem.proofs.Steps.{only-settled}
@@ -12,7 +12,7 @@ use Rattle.pmem.proofs.Images.{leaves-stored, leaves-flushed, leaves-fenced, lea
 use Rattle.log_area.specs.declared.stage.WritingStage.{WritingStage}
 use Rattle.log_area.specs.declared.stage.WritingStage.TheVariants.{StoreBody, FlushBody, FenceBody, StoreGate, FlushGate, FenceGate, Done}
 use Rattle.log_area.specs.Stages.{IsStage, next_stage, is_gate_stored}
-use Rattle.log_area.specs.Rulings.{Holds, HoldsRecord, HasEarlierGate, IsEarlierGate, HasOldWords, Spares, IsRuledBy, place_of, gate_word, superblock_words}
+use Rattle.log_area.specs.Rulings.{Holds, HoldsRecord, HasEarlierGate, IsEarlierGate, HasOldWords, Spares, gate_word, superblock_words}
 use Rattle.log_area.specs.Writings.{Progress, begun, advanced, start_of, operation_of, HoldsBody, HasEitherGate, IsAt, IsReplacing, IsRuledMeanwhile, IsOutside, IsNextRecord}
 use Rattle.log_area.proofs.Kept.{gate_kept, record_kept}
 use Rattle.log_area.proofs.Rulings.{ruled_by, some_places, place_below, log_within}

@@ -7,9 +7,9 @@ use Rattle.std.proofs.lemmas.Bool.{and_parts, and_from, and_left, and_right, leb
 use Rattle.base.specs.Layout.{Layout, place_start, total_words, is_in_limits, is_between, is_known_version}
 use Rattle.base.specs.Records.{Record, IsRecord, record_word, record_in, is_record}
 use Rattle.base.specs.Search.{first_below}
-use Rattle.base.specs.Images.{Image, superblock_word, layout_of, has_good_geometry, gate_at, place_words, is_wrong_gate, greatest_gate, ruling_place}
-use Rattle.log_area.specs.Rulings.{IsRuledBy, IsEarlierGate, IsRecordFor, superblock_words, place_of, gate_word}
-use Rattle.log_area.proofs.Codec.{get_or-range, length-range, record_in-is, is_record-is}
+use Rattle.base.specs.Images.{Image, superblock_word, layout_of, has_good_geometry, gate_at, place_words, is_wrong_gate, greatest_gate, ruling_place, IsRuledBy, place_of}
+use Rattle.log_area.specs.Rulings.{IsEarlierGate, IsRecordFor, superblock_words, gate_word}
+use Rattle.base.proofs.Spelling.{get_or-range, length-range, record_in-is, is_record-is}
 
 -- ---- the greatest of several
 

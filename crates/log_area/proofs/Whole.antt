@@ -3,13 +3,14 @@ use Rattle.std.proofs.Common.{◌≡◌, ◌≢◌, ◌⊎◌, inl, inr, ℕ, �
 use Rattle.std.proofs.lemmas.Bool.{cases_lt, lt-ltb, le-ltb}
 use Rattle.base.specs.Layout.{Layout}
 use Rattle.base.specs.Records.{Record}
+use Rattle.base.specs.Images.{IsRuledBy}
 use Rattle.pmem.specs.Device.{Device, IsOrderly, LeavesOnly}
 use Rattle.pmem.specs.Trace.{applied}
 use Rattle.pmem.proofs.Images.{leaves_refl, leaves_trans, leaves_weaken}
 use Rattle.log_area.specs.declared.stage.WritingStage.{WritingStage}
 use Rattle.log_area.specs.declared.stage.WritingStage.TheVariants.{StoreBody, FlushBody, FenceBody, StoreGate, FlushGate, FenceGate, Done}
 use Rattle.log_area.specs.Stages.{IsStage, next_stage, stores_before, flushes_before, fences_before, operations_before}
-use Rattle.log_area.specs.Rulings.{HoldsRecord, IsRuledBy, Spares, Makes, gate_word}
+use Rattle.log_area.specs.Rulings.{HoldsRecord, Spares, Makes, gate_word}
 use Rattle.log_area.specs.Writings.{Progress, begun, finished, advanced, start_of, operation_at, operation_of, IsWriting, IsReplacing, IsRuledMeanwhile, IsRuledByEither, IsOutside, IsNextRecord}
 use Rattle.log_area.proofs.Runs.{spares_none, spares_trans, spares_fewer, makes_none}
 use Rattle.log_area.proofs.Replacing.{ruled_meanwhile, replacing_begun, replacing_done}

@@ -3,8 +3,8 @@ use Rattle.std.specs.Prelude.{◌≡◌, ◌⊎◌, ℕ, ◌+◌, ◌%◌, ◌^�
 use Rattle.base.specs.declared.fault.Fault.{Fault}
 use Rattle.base.specs.Layout.{Layout, place_start, total_words, is_in_limits}
 use Rattle.base.specs.Records.{Record, record_word, is_well_formed}
-use Rattle.base.specs.Search.{first_below, first_of}
-use Rattle.base.specs.Images.{Image, superblock_word, layout_of, is_formatted, has_good_geometry, is_wrong_gate, is_ruled, ruling, ruling_place, faults_of}
+use Rattle.base.specs.Search.{first_of}
+use Rattle.base.specs.Images.{Image, superblock_word, layout_of, is_formatted, has_good_geometry, faults_of, place_of}
 use Rattle.pmem.specs.Device.{Device, Survives, value_of, IsSettled, IsReady, LeavesOnly}
 
 -- what is wrong with an image, the slots aside
@@ -26,20 +26,6 @@ pub record IsHead (words : List ℕ) (count : ℕ) (image : Image) : Type 0 wher
   pub size : length image ≡ count
   pub enough : 8 ≤ count
   pub same : (word : ℕ) → word < 8 → slice_index image word ≡ slice_index words word
-
--- a record's place is its number modulo the number of places
-abbrev pub place_of : Layout → Record → ℕ
-place_of layout r = r.gate % layout.places
-
--- the image has this layout, its gates are right, and this record rules it
-pub record IsRuledBy (layout : Layout) (r : Record) (image : Image) : Type 0 where
-  pub formatted : IsTrue (is_formatted image)
-  pub geometry : IsTrue (has_good_geometry image)
-  pub laid_out : layout_of image ≡ layout
-  pub gates : first_below layout.places (is_wrong_gate image) ≡ None
-  pub well_ruled : IsTrue (is_ruled image)
-  pub by_record : ruling image ≡ r
-  pub at_place : ruling_place image ≡ place_of layout r
 
 -- the superblock's words
 abbrev pub superblock_words : Layout → List ℕ

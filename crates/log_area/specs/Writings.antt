@@ -2,13 +2,13 @@
 use Rattle.std.specs.Prelude.{◌≡◌, ◌≢◌, ◌⊎◌, ℕ, ◌+◌, ◌*◌, ◌/◌, ◌<◌, ◌≤◌, IsTrue}
 use Rattle.base.specs.Layout.{Layout, total_words, is_in_limits}
 use Rattle.base.specs.Records.{Record, record_word}
-use Rattle.base.specs.Images.{Image}
+use Rattle.base.specs.Images.{Image, IsRuledBy, place_of}
 use Rattle.pmem.specs.Device.{Device, Survives, value_of, IsReady}
 use Rattle.pmem.specs.Trace.{Operation, store_op, flush_op, fence_op, failure}
 use Rattle.log_area.specs.declared.stage.WritingStage.{WritingStage}
 use Rattle.log_area.specs.declared.stage.WritingStage.TheVariants.{StoreBody, FlushBody, FenceBody, StoreGate, FlushGate, FenceGate, Done}
 use Rattle.log_area.specs.Stages.{next_stage, is_gate_stored}
-use Rattle.log_area.specs.Rulings.{Holds, HasRecord, HoldsRecord, HasEarlierGate, IsEarlierGate, IsRecordFor, IsRuledBy, place_of, gate_word}
+use Rattle.log_area.specs.Rulings.{Holds, HasRecord, HoldsRecord, HasEarlierGate, IsEarlierGate, IsRecordFor, gate_word}
 
 -- the record that is written, and how far that is
 pub record Progress : Type 0 where

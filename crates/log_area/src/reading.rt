@@ -2,10 +2,10 @@ ghost use Rattle.std.specs.Prelude.{◌≡◌, ◌*◌, ◌%◌, ◌^◌, ◌+�
 ghost use Rattle.base.specs.Layout.{newest_version, total_words};
 ghost use Rattle.base.specs.Records.{IsRecord};
 ghost use Rattle.base.specs.Search.{first_below};
-ghost use Rattle.base.specs.Images.{gate_at, greatest_gate, is_wrong_gate, place_words};
+ghost use Rattle.base.specs.Images.{gate_at, greatest_gate, is_wrong_gate, place_words, IsRuledBy};
 ghost use Rattle.pmem.specs.Device.{image_of};
 ghost use Rattle.log_area.specs.Codec.{NoneFits};
-ghost use Rattle.log_area.specs.Rulings.{IsLaidOut, IsRuledBy, log_damage};
+ghost use Rattle.log_area.specs.Rulings.{IsLaidOut, log_damage};
 
 use crate::superblock::{load_words, read_geometry};
 use crate::{Record, Ruling};

@@ -1,4 +1,8 @@
+ghost use Rattle.std.specs.Prelude.{◌≡◌, ◌&&◌, nat_le};
+ghost use Rattle.base.specs.Records.{is_in};
+
 use crate::order::are_in_order;
+use base::Ts;
 use base::gap::{Gap, Gaps};
 use std::marker::Model;
 
@@ -23,9 +27,9 @@ impl Model for Record {
 }
 
 impl Record {
-    ghost use Rattle.std.specs.Prelude.{◌≡◌, ℕ, ◌<◌, ◌≤◌, ◌↔◌, ◌^◌, ◌&&◌, nat_lt, [], IfSome, IfNone, IsTrue, length, slice_index};
+    ghost use Rattle.std.specs.Prelude.{ℕ, ◌<◌, ◌≤◌, ◌↔◌, ◌^◌, nat_lt, [], IfSome, IfNone, IsTrue, length, slice_index};
     ghost use Rattle.base.specs.Layout.{newest_version};
-    ghost use Rattle.base.specs.Records.{Record as Value, IsRecord, is_well_formed, record_word};
+    ghost use Rattle.base.specs.Records.{Record as Value, IsRecord, is_committed, is_well_formed, record_word};
     ghost use Rattle.log_area.specs.Codec.{IsReadFrom, NoneFits, FillsWords};
 
     pub fn new(gate: u64, persisted: u64, dirty: u64, gaps: Gaps) -> Record
@@ -64,6 +68,13 @@ impl Record {
         ensures { result ≡ self.now.gaps }
     {
         self.gaps
+    }
+
+    /// Does it commit the timestamp: is it persisted, and in no gap?
+    pub fn commits(&self, timestamp: Ts) -> bool
+        ensures { result ≡ is_committed self.now timestamp }
+    {
+        1 <= timestamp && timestamp <= self.persisted && !is_in(self.gaps, timestamp)
     }
 
     /// What a place that holds the record has in its word of this number.
@@ -150,4 +161,16 @@ impl Record {
         }
         true
     }
+}
+
+fn is_in(gaps: Gaps, timestamp: Ts) -> bool
+    ensures { result ≡ is_in gaps timestamp }
+{
+    gaps.as_slice().iter().any(|gap| holds(*gap, timestamp))
+}
+
+fn holds(gap: Gap, timestamp: Ts) -> bool
+    ensures { result ≡ (nat_le gap.first timestamp && nat_le timestamp gap.last) }
+{
+    gap.first <= timestamp && timestamp <= gap.last
 }

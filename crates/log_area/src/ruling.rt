@@ -1,4 +1,5 @@
 ghost use Rattle.std.specs.Prelude.{◌≡◌};
+ghost use Rattle.base.specs.Images.{place_of};
 
 use crate::Record;
 use base::geometry::Geometry;
@@ -11,8 +12,6 @@ pub struct Ruling {
 }
 
 impl Ruling {
-    ghost use Rattle.log_area.specs.Rulings.{place_of};
-
     /// The record's place.
     pub fn place(&self) -> u64
         ensures { result ≡ place_of self.now.geometry self.now.target }

@@ -10,8 +10,8 @@ use Rattle.base.specs.declared.fault.Fault.TheVariants.{BadGeometry, NotFormatte
 use Rattle.base.specs.Layout.{Layout, newest_version, is_known_version}
 use Rattle.base.specs.Records.{Record, with_gap, with_skipped, opened_gaps, are_apart, is_well_formed}
 use Rattle.base.specs.Search.{first_below, first_of, some_if}
-use Rattle.base.specs.Images.{Image, damage, layout_of, ruling, is_formatted, has_good_geometry, is_wrong_gate, is_ruled, ruling_place, is_bad_slot, is_near_limit, needs_sweep, opening_fault}
-use Rattle.log_area.specs.Rulings.{IsRuledBy, log_damage}
+use Rattle.base.specs.Images.{Image, damage, layout_of, ruling, is_formatted, has_good_geometry, is_wrong_gate, is_ruled, ruling_place, is_bad_slot, is_near_limit, needs_sweep, opening_fault, IsRuledBy}
+use Rattle.log_area.specs.Rulings.{log_damage}
 use Rattle.recovery.specs.Opened.{opened_record}
 use Rattle.recovery.proofs.Formed.{IsFormed, formed}
 use Rattle.recovery.proofs.Added.{opens, opened-gaps}

@@ -2,7 +2,6 @@ pub mod Formed
 pub mod Added
 pub mod Opens
 pub mod Visits
-pub mod Resting
 pub mod Beginning
 pub mod Lives
 pub mod Zeros

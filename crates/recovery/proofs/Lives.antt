@@ -12,14 +12,14 @@ use Rattle.base.specs.Search.{some_if}
 use Rattle.base.specs.Commits.{Commit}
 use Rattle.base.specs.Layout.{Layout, newest_version, total_words, is_known_version, is_in_limits, is_between}
 use Rattle.base.specs.Records.{Record, opened_gaps, is_well_formed}
-use Rattle.base.specs.Images.{Image, damage, layout_of, ruling, opening_fault, is_near_limit, needs_sweep}
+use Rattle.base.specs.Images.{Image, damage, layout_of, ruling, opening_fault, is_near_limit, needs_sweep, IsRuledBy}
 use Rattle.base.specs.Stands.{Stands}
 use Rattle.base.specs.Openings.{StandsOpening}
 use Rattle.pmem.specs.Device.{Device, Survives, value_of, IsAtRest, IsOrderly, LeavesOnly, image_of}
 use Rattle.pmem.proofs.Images.{leaves_refl, leaves_weaken}
 use Rattle.pmem.proofs.Rest.{left_at_rest}
 use Rattle.pmem.proofs.Steps.{only-settled}
-use Rattle.log_area.specs.Rulings.{IsRuledBy, IsRecordFor, HoldsRecord, Holds, Spares, Makes, HasOldWords, gate_word, log_damage}
+use Rattle.log_area.specs.Rulings.{IsRecordFor, HoldsRecord, Holds, Spares, Makes, HasOldWords, gate_word, log_damage}
 use Rattle.log_area.specs.Writings.{IsNextRecord, IsRuledByEither, IsOutside, begun}
 use Rattle.log_area.proofs.Runs.{leaves_both}
 use Rattle.log_area.proofs.Rulings.{some_places, place_below}
@@ -29,7 +29,8 @@ use Rattle.recovery.specs.Slots.{IsUnder, IsSlotsFault, free_below, bad_below, i
 use Rattle.recovery.specs.Opened.{opened_record, HasSlotsOf, Refuses, IsExamined, Examined, HasOpened, IsRefusal}
 use Rattle.recovery.proofs.Formed.{IsFormed, formed}
 use Rattle.recovery.proofs.Opens.{stands-opening, version-one, or-none}
-use Rattle.recovery.proofs.Resting.{rests, record-fits, image-size, well-formed, good-parts}
+use Rattle.log_area.proofs.AtRest.{laid, fits_image, rest_holds}
+use Rattle.log_area.proofs.Heads.{laid_size, laid_limits}
 use Rattle.recovery.proofs.Beginning.{opened-formed, fault-log, fault-slots, fault-limit, fault-gaps, no-damage, no-fault}
 
 -- ---- parts of the answer
@@ -57,20 +58,20 @@ refuses-log image fault is = inl (fault-log image fault is)
 
 module _ (layout : Layout) (r : Record) (image : Image) (rules : IsRuledBy layout r image) where
   layout-good : is_in_limits layout ≡ true
-  layout-good = subst (λ (l : Layout). is_in_limits l ≡ true) rules.laid_out (good-parts image rules.geometry).0
+  layout-good = laid_limits layout image (laid layout r image rules)
 
   version-is : layout.version ≡ newest_version
   version-is = version-one layout.version (and_parts (is_known_version layout.version) _ layout-good).0
 
   pub formed-new : is_well_formed newest_version r ≡ true
-  formed-new = subst (λ (v : ℕ). is_well_formed v r ≡ true) version-is (well-formed layout r image rules)
+  formed-new = subst (λ (v : ℕ). is_well_formed v r ≡ true) version-is (fits_image layout r image rules).well_formed
 
   pub formed-parts : IsFormed r
   formed-parts = formed r formed-new
 
   pub under : IsUnder layout r image
   unfolding IsUnder
-  under = (rules.laid_out, rules.by_record, version-is, formed-parts.none_long)
+  under = (rules.laid_out, rules.by_record, version-is)
 
   pub window-small : layout.window ≤ 1024
   window-small =
@@ -135,7 +136,7 @@ module _ (image : Image) (layout : Layout) (r : Record) (gaps : List Gap) (free 
   few = ltb-false 8 (length (opened_gaps r)) ((λ i. nat_lt 8 (length (opened_gaps (sym is.rules.by_record i)))) ∙ parts.2)
 
   pub size : length image ≡ total_words layout
-  size = image-size layout r image is.rules
+  size = laid_size layout image (laid layout r image is.rules)
 
   -- the record that is written then
   pub target-is : (target : Record) → target ≡ record { gate = r.gate + 1; persisted = r.dirty - 1; dirty = r.dirty + layout.window; gaps = gaps; longs = [] } → target ≡ opened_record layout r
@@ -160,7 +161,7 @@ module _ (old new : Device) (orderly : IsOrderly old) (rest : IsAtRest old) (lay
   device-words = sym image-words ∙ size (image_of old) layout r gaps free ex
 
   pub next-record : IsNextRecord layout r (opened_record layout r) old
-  next-record = record { holds = rests layout r old rest rules; next = refl; fits = opened-fits (image_of old) layout r gaps free ex }
+  next-record = record { holds = rest_holds layout r old rest rules; next = refl; fits = opened-fits (image_of old) layout r gaps free ex }
 
   pub next-target : (target : Record) → target ≡ opened_record layout r → IsNextRecord layout r target old
   next-target target made = subst (λ (x : Record). IsNextRecord layout r x old) (sym made) next-record
@@ -177,8 +178,8 @@ module _ (old new : Device) (orderly : IsOrderly old) (rest : IsAtRest old) (lay
   }
     where
       sizes : IsRuledByEither layout r target image → length image ≡ length (image_of old)
-      sizes (inl a) = image-size layout r image a ∙ sym (size (image_of old) layout r gaps free ex)
-      sizes (inr b) = image-size layout target image b ∙ sym (size (image_of old) layout r gaps free ex)
+      sizes (inl a) = laid_size layout image (laid layout r image a) ∙ sym (size (image_of old) layout r gaps free ex)
+      sizes (inr b) = laid_size layout image (laid layout target image b) ∙ sym (size (image_of old) layout r gaps free ex)
 
       laid : IsRuledByEither layout r target image → layout_of image ≡ layout
       laid (inl a) = a.laid_out
@@ -241,4 +242,4 @@ pub refusal-device : (old new : Device) (fault : Fault) (layout : Layout) (r : R
 refusal-device old new fault layout r gaps free ex is-device more = inr ((is (image_of old) layout r gaps free ex).opens, is-device, omega (arith, more))
 
 pub ruled-size : (device : Device) (layout : Layout) (r : Record) → IsRuledBy layout r (image_of device) → device.words ≡ total_words layout
-ruled-size device layout r rules = sym (length-map-range_with_len (value_of device) 0 device.words) ∙ image-size layout r (image_of device) rules
+ruled-size device layout r rules = sym (length-map-range_with_len (value_of device) 0 device.words) ∙ laid_size layout (image_of device) (laid layout r (image_of device) rules)

@@ -16,11 +16,10 @@ use Rattle.base.specs.Search.{first_below, first_of, some_if}
 use Rattle.base.specs.Commits.{Commit, after}
 use Rattle.base.specs.Layout.{Layout, newest_version, slot_start, slot_words, row_limit, is_known_version, is_in_limits}
 use Rattle.base.specs.Records.{Record, is_committed, is_in, opened_gaps, is_well_formed, is_record}
-use Rattle.base.specs.Images.{Image, IsSound, damage, faults_of, layout_of, is_formatted, has_good_geometry, is_wrong_gate, is_ruled, ruling, ruling_place, place_words, slot_word, begin_of, end_of, key_of, len_of, link_of, bytes_of, row_of, is_live, is_second, is_bad_slot, TablesOf}
+use Rattle.base.specs.Images.{Image, IsSound, damage, faults_of, layout_of, is_formatted, has_good_geometry, is_wrong_gate, is_ruled, ruling, ruling_place, place_words, slot_word, begin_of, end_of, key_of, len_of, link_of, bytes_of, row_of, is_live, is_second, is_bad_slot, TablesOf, IsRuledBy}
 use Rattle.base.proofs.Histories.{no_bad_slot}
 use Rattle.base.specs.Stands.{Stands, has_timestamp}
 use Rattle.base.specs.Openings.{StandsOpening, IsOpenedGaps, OpensAs, opened}
-use Rattle.log_area.specs.Rulings.{IsRuledBy}
 use Rattle.recovery.specs.Opened.{opened_record, HasSlotsOf}
 use Rattle.recovery.proofs.Formed.{IsFormed, formed}
 use Rattle.recovery.proofs.Added.{opens}

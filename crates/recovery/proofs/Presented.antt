@@ -6,14 +6,13 @@ use Rattle.std.proofs.lemmas.List.FromFn.{length-map-range_with_len, get_or-map-
 use Rattle.base.specs.Commits.{Commit}
 use Rattle.base.specs.Layout.{Layout}
 use Rattle.base.specs.Records.{Record, opened_gaps, is_committed}
-use Rattle.base.specs.Images.{Image, layout_of, ruling}
+use Rattle.base.specs.Images.{Image, layout_of, ruling, IsRuledBy}
 use Rattle.base.proofs.Histories.{opens-sound}
 use Rattle.base.specs.Stands.{Stands}
 use Rattle.base.specs.Machine.{present, StandsUnder}
 use Rattle.base.specs.Openings.{OpensAs, opened}
 use Rattle.pmem.specs.Device.{Device, value_of, image_of, MayLeave, Continues}
 use Rattle.pmem.proofs.Steps.{only-settled}
-use Rattle.log_area.specs.Rulings.{IsRuledBy}
 use Rattle.log_area.proofs.Replacing.{holds_ruled}
 use Rattle.recovery.specs.Opened.{opened_record, HasSlotsOf, HasOpened}
 use Rattle.recovery.proofs.Formed.{IsFormed}

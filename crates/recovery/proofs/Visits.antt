@@ -183,10 +183,6 @@ module _ (device : Device) (layout : Layout) (r : Record) (slot : ℕ) (size : d
   unfolding IsUnder
   ruled = under.1
 
-  pub no-long : r.longs ≡ []
-  unfolding IsUnder
-  no-long = under.3
-
   length-image : length (image_of device) ≡ device.words
   length-image = length-map-range_with_len (value_of device) 0 device.words
 

@@ -6,9 +6,9 @@ use Rattle.base.specs.declared.fault.Fault.{Fault}
 use Rattle.base.specs.declared.fault.Fault.TheVariants.{OutOfMemory, Device as DeviceFault}
 use Rattle.base.specs.Layout.{Layout}
 use Rattle.base.specs.Records.{Record, opened_gaps}
-use Rattle.base.specs.Images.{Image, layout_of, ruling, opening_fault}
+use Rattle.base.specs.Images.{Image, layout_of, ruling, opening_fault, IsRuledBy}
 use Rattle.pmem.specs.Device.{Device, value_of, image_of}
-use Rattle.log_area.specs.Rulings.{IsRuledBy, HoldsRecord, Holds, Makes}
+use Rattle.log_area.specs.Rulings.{HoldsRecord, Holds, Makes}
 use Rattle.recovery.specs.Slots.{is_shown, free_below}
 
 -- the record that follows at an opening: what was drawn above the persisted timestamp is left out for good

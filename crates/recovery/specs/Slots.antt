@@ -17,11 +17,7 @@ use Rattle.recovery.specs.declared.slots.Found.TheVariants.{Bad, Live, Free}
 
 -- the image has this layout, of slots of one line, and this record rules it
 unfoldable pub IsUnder : Layout → Record → Image → Type 0
-IsUnder layout r image = (layout_of image ≡ layout) × (ruling image ≡ r) × (layout.version ≡ 1) × (r.longs ≡ [])
-
--- the record has no long commits
-unfoldable pub HasNoLong : Record → Type 0
-HasNoLong r = r.longs ≡ []
+IsUnder layout r image = (layout_of image ≡ layout) × (ruling image ≡ r) × (layout.version ≡ 1)
 
 -- the words from word 2 on hold no version
 abbrev pub is_ill_formed : Image → ℕ → Bool

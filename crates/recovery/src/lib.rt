@@ -2,7 +2,6 @@
 #![tactic(auto)]
 
 mod clearing;
-mod committed;
 mod examine;
 mod formatting;
 mod gaps;

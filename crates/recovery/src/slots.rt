@@ -1,10 +1,11 @@
-ghost use Rattle.std.specs.Prelude.{◌≡◌, ◌+◌, ◌<◌, false, None, OnOk, IfOk, IfErr};
+ghost use Rattle.std.specs.Prelude.{◌≡◌, ◌&&◌, ◌+◌, not, ◌<◌, false, None, OnOk, IfOk, IfErr};
 ghost use Rattle.std.specs.BTreeSet.{contains};
 ghost use Rattle.base.specs.Layout.{total_words};
+ghost use Rattle.base.specs.Records.{is_committed};
 ghost use Rattle.pmem.specs.Device.{image_of};
 ghost use Rattle.recovery.specs.Slots.{IsUnder, HasKeys, IsVisitFault, IsSlotsFault, found_in, free_below, bad_below, is_bad, is_free, key_cmp};
 
-use crate::committed::is_shown;
+use base::Ts;
 use base::fault::Fault;
 use base::geometry::Geometry;
 use base::key::Key;
@@ -19,6 +20,13 @@ pub enum Found {
     Free,
     Live(Key),
     Bad,
+}
+
+// Whether what was begun and ended then is live under the record.
+fn is_shown(ruling: Record, begin: Ts, end: Ts) -> bool
+    ensures { result ≡ (is_committed ruling begin && not (is_committed ruling end)) }
+{
+    ruling.commits(begin) && !ruling.commits(end)
 }
 
 // What a slot of an image holds that has this layout and that this record rules.

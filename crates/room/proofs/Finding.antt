@@ -212,9 +212,6 @@ none-after q a r device key tables none = by (after q.history key) refl
         let slot = tables.kept.rows key row is in
         absurd (none slot.0 (omega (arith, slot.1, ap (λ (l : Layout). l.slots) tables.layout)) slot.2)
 
-pub no-longs : (q : State) (a : Layout) (r : Record) (device : Device) → HoldsTables a r device q → r.longs ≡ []
-no-longs q a r device tables = sym (ap (λ (x : Record). x.longs) tables.ruled) ∙ tables.kept.no_longs
-
 -- no slot below has it, nor the next one
 pub one-more : (q : State) (key : Key) (slot : ℕ) → ((below : ℕ) → below < slot → HasNewest q below key → ⊥) → (HasNewest q slot key → ⊥) → (below : ℕ) → below < slot + 1 → HasNewest q below key → ⊥
 one-more q key slot before here below lt held = by (cases_lt below slot)

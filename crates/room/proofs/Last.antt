@@ -5,12 +5,12 @@ use Rattle.std.specs.List.{list_all}
 use Rattle.std.proofs.lemmas.Bool.{and_parts, leb-true, ltb-true}
 use Rattle.base.specs.declared.gap.Gap.{Gap}
 use Rattle.base.specs.Commits.{Commit}
-use Rattle.base.specs.Images.{Image}
+use Rattle.base.specs.Images.{Image, IsRuledBy}
 use Rattle.base.specs.Layout.{most_longs}
 use Rattle.base.specs.Records.{Record, is_in, are_apart, are_rising, is_well_formed}
 use Rattle.base.specs.Machine.{State, ByCommit, Hand, Cover, Drawn as DrawnCommit, present, uncovered, state_covered, closed, closing_gate, StandsUnder, StandsClosing, StandsClosed}
 use Rattle.pmem.specs.Device.{Device, MayLeave, LeavesOnly}
-use Rattle.log_area.specs.Rulings.{HoldsRecord, IsRuledBy, HasOldWords, Spares}
+use Rattle.log_area.specs.Rulings.{HoldsRecord, HasOldWords, Spares}
 use Rattle.log_area.specs.Writings.{begun, IsOutside, IsNextRecord, IsRuledByEither}
 use Rattle.log_area.proofs.Replacing.{holds_ruled}
 use Rattle.invariant.specs.Kept.{IsKept}

@@ -10,16 +10,16 @@ use Rattle.base.specs.Commits.{Commit}
 use Rattle.base.specs.Layout.{Layout, total_words, slot_words, is_in_limits, is_known_version, is_between}
 use Rattle.base.specs.Records.{Record, is_committed}
 use Rattle.base.specs.Stands.{has_timestamp}
-use Rattle.base.specs.Images.{Image, ruling, layout_of}
+use Rattle.base.specs.Images.{Image, ruling, layout_of, IsRuledBy}
 use Rattle.base.specs.Machine.{State, Hand, Cover, Drawn as DrawnCommit, present, of_hand, state_covered, StandsUnder, StandsAsOne, StandsAt}
 use Rattle.pmem.specs.Device.{Device, MayLeave}
-use Rattle.log_area.specs.Rulings.{HoldsRecord, IsRuledBy as IsRuled}
+use Rattle.log_area.specs.Rulings.{HoldsRecord}
 use Rattle.log_area.specs.Stages.{is_gate_stored}
 use Rattle.log_area.proofs.Replacing.{holds_ruled, ruled_meanwhile}
-use Rattle.invariant.specs.Theorem.{IsRuledBy, SlotsSurvive}
+use Rattle.invariant.specs.Theorem.{SlotsSurvive}
 use Rattle.invariant.specs.Kept.{IsKept}
 use Rattle.invariant.specs.Slots.{SlotsHold, word_of}
-use Rattle.invariant.proofs.Standing.{every-image-stands, limits-of}
+use Rattle.invariant.proofs.Standing.{every-image-stands}
 use Rattle.room.specs.declared.cycle.Cycle.{Cycle}
 use Rattle.room.specs.declared.cycle.CycleStage.{CycleStage}
 use Rattle.room.specs.declared.cycle.CycleStage.TheVariants.{FlushLines, WriteRecord}
@@ -39,26 +39,12 @@ word-within a slot w lt below = at (slot_words a.version) below
 survive : (a : Layout) (device : Device) (image : Image) → device.words ≡ total_words a → MayLeave device image → SlotsSurvive a device image
 survive a device image size may = record { each = λ slot w lt below. may.each (word_of a slot w) (subst (λ (n : ℕ). word_of a slot w < n) (sym size) (word-within a slot w lt below)) }
 
-pub known-version : (a : Layout) → is_in_limits a ≡ true → is_known_version a.version ≡ true
-known-version a limits = (and_parts (is_known_version a.version) (is_between 1 65536 a.slots && (is_between 2 64 a.places && is_between 4 1024 a.window)) limits).0
-
-as_ruled : (a : Layout) (r : Record) (image : Image) → IsRuled a r image → IsRuledBy a r image
-as_ruled a r image ruled = record {
-  formatted = ruled.formatted;
-  layout = ruled.laid_out;
-  known = known-version (layout_of image) (limits-of image ruled.geometry);
-  geometry = ruled.geometry;
-  gates = ruled.gates;
-  ruled = ruled.well_ruled;
-  ruling = ruled.by_record;
-}
-
 -- under the state's own record, where the words of the slots survive
-pub stands-survived : (q : State) (device : Device) (image : Image) → IsKept q → SlotsHold q device → SlotsSurvive q.layout device image → IsRuled q.layout (present q).ruled_by image → StandsUnder q (present q) image
-stands-survived q device image kept slots words ruled = every-image-stands q device image kept slots words (as_ruled q.layout (present q).ruled_by image ruled)
+pub stands-survived : (q : State) (device : Device) (image : Image) → IsKept q → SlotsHold q device → SlotsSurvive q.layout device image → IsRuledBy q.layout (present q).ruled_by image → StandsUnder q (present q) image
+stands-survived q device image kept slots words ruled = every-image-stands q device image kept slots words ruled
 
 -- where a crash may leave the image
-pub stands-ruled : (q : State) (device : Device) (image : Image) → device.words ≡ total_words q.layout → IsKept q → SlotsHold q device → MayLeave device image → IsRuled q.layout (present q).ruled_by image → StandsUnder q (present q) image
+pub stands-ruled : (q : State) (device : Device) (image : Image) → device.words ≡ total_words q.layout → IsKept q → SlotsHold q device → MayLeave device image → IsRuledBy q.layout (present q).ruled_by image → StandsUnder q (present q) image
 stands-ruled q device image size kept slots may ruled = stands-survived q device image kept slots (survive q.layout device image size may) ruled
 
 -- a timestamp of the batch is one of the history with the batch
@@ -120,14 +106,14 @@ stands-covering q device cycle batch t writes kept slots of covering image may =
     size : device.words ≡ total_words q.layout
     size = covering.replaces.stands.size ∙ ap (λ (a : Layout). total_words a) of.layout
 
-    by : IsRuled cycle.writing.layout (present q).ruled_by image ⊎ (IsTrue (is_gate_stored cycle.writing.stage) × IsRuled cycle.writing.layout cycle.writing.target image) → StandsAt q image
+    by : IsRuledBy cycle.writing.layout (present q).ruled_by image ⊎ (IsTrue (is_gate_stored cycle.writing.stage) × IsRuledBy cycle.writing.layout cycle.writing.target image) → StandsAt q image
     by (inl old) =
         stands-first q (of_hand q q.hand) image
-        (stands-ruled q device image size kept slots may (subst (λ (a : Layout). IsRuled a (present q).ruled_by image) of.layout old))
+        (stands-ruled q device image size kept slots may (subst (λ (a : Layout). IsRuledBy a (present q).ruled_by image) of.layout old))
     by (inr new) =
         let covered : State = state_covered q (hand_of q cycle t writes) in
-        let ruled : IsRuled q.layout (present covered).ruled_by image =
-        subst (λ (r : Record). IsRuled q.layout r image) of.target (subst (λ (a : Layout). IsRuled a cycle.writing.target image) of.layout new.1) in
+        let ruled : IsRuledBy q.layout (present covered).ruled_by image =
+        subst (λ (r : Record). IsRuledBy q.layout r image) of.target (subst (λ (a : Layout). IsRuledBy a cycle.writing.target image) of.layout new.1) in
         stands-second q (hand_of q cycle t writes) image of.in_hand
         (stands-covered q (hand_of q cycle t writes) image (stands-ruled covered device image size covering.keeps covering.slots may ruled))
 

@@ -53,7 +53,8 @@ use Rattle.room.specs.Agrees.{Works, HoldsLog, HoldsStage, IsCycleOf, IsCovering
 use Rattle.room.specs.Sessions.{plain_session, session_at, commit_of, lines_in}
 use Rattle.room.specs.Fits.{is_under_way, fits_cycle}
 use Rattle.room.specs.Room.{Shows, StepsTo, HasFailed, HasCovered, covering, operations_of}
-use Rattle.room.proofs.Standing.{stands-ruled, stands-covered, stands-second, word-within, known-version, has-batch}
+use Rattle.invariant.proofs.Standing.{known-version}
+use Rattle.room.proofs.Standing.{stands-ruled, stands-covered, stands-second, word-within, has-batch}
 use Rattle.room.proofs.Working.{shows-works, works-along, holds-session}
 use Rattle.room.proofs.Touching.{past-end, touches-own, touches-ended}
 use Rattle.room.proofs.Committing.{stamped_whole, is_stamped-whole, lines-taken, stage-line, stage-fence, stage-reached, operations-next, done-next, word-line}

@@ -1,8 +1,6 @@
 ghost use Rattle.std.specs.Prelude.{◌≡◌, ◌^◌, ◌<◌, ◌≤◌, ◌&&◌, nat_le};
-ghost use Rattle.base.specs.Records.{is_in};
 
 use base::Ts;
-use base::gap::{Gap, Gaps};
 use base::geometry::Geometry;
 use log_area::Record;
 
@@ -21,7 +19,6 @@ pub struct Numbers {
 
 impl Numbers {
     ghost use Rattle.std.specs.Prelude.{◌+◌, ◌-◌, ◌*◌, [], nat_eq};
-    ghost use Rattle.base.specs.Records.{is_committed};
 
     /// Is no timestamp left that the record reserves?
     pub fn is_window_full(&self) -> bool
@@ -52,15 +49,6 @@ impl Numbers {
         LIMIT <= self.record.gate() + records
     }
 
-    /// Does the ruling record commit the timestamp?
-    pub fn commits(&self, timestamp: Ts) -> bool
-        ensures { self.now.record.longs ≡ [] → result ≡ is_committed self.now.record timestamp }
-    {
-        1 <= timestamp
-            && timestamp <= self.record.persisted()
-            && !is_in(self.record.gaps(), timestamp)
-    }
-
     /// The next record, which persists up to this timestamp and reserves a window.
     pub fn record_after(&self, persisted: Ts) -> Record
         ensures { result ≡ record { gate = self.now.record.gate + 1; persisted = persisted; dirty = self.now.next + self.now.geometry.window; gaps = self.now.record.gaps; longs = [] } }
@@ -81,16 +69,4 @@ impl Numbers {
     {
         Record::new(self.record.gate() + 1, persisted, dirty, self.record.gaps())
     }
-}
-
-fn is_in(gaps: Gaps, timestamp: Ts) -> bool
-    ensures { result ≡ is_in gaps timestamp }
-{
-    gaps.as_slice().iter().any(|gap| holds(*gap, timestamp))
-}
-
-fn holds(gap: Gap, timestamp: Ts) -> bool
-    ensures { result ≡ (nat_le gap.first timestamp && nat_le timestamp gap.last) }
-{
-    gap.first <= timestamp && timestamp <= gap.last
 }

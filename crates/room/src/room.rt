@@ -737,7 +737,8 @@ impl<D: Pmem + Drop> Room<D> {
         }
     }
 
-    /// Covers all that is drawn, and gives the device back.
+    /// Covers all that is drawn, and gives the device back. `Failed` after a failing device and `TimestampsOut` where no
+    /// record number is left are told before any operation; `Device` where one fails meanwhile.
     pub fn close(mut self) -> Result<D, (Fault, D)>
         // A crash meanwhile leaves what was covered, with the batch in hand, or with all that was drawn; and after it that last.
         ensures images { (q : State) → Shows D.state self q → MatchResult result

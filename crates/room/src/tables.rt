@@ -41,10 +41,10 @@ fn row_at<D: Pmem>(device: &D, numbers: Numbers, slot: SlotNo, key: Key) -> Opti
     ensures none { IfNone result ((q : State) → HoldsTables numbers.geometry numbers.record (D.state device.now) q → ¬ HasNewest q slot key) }
 {
     let geometry = numbers.geometry;
-    if !numbers.commits(begin(device, geometry, slot)) {
+    if !numbers.record.commits(begin(device, geometry, slot)) {
         return None;
     }
-    if numbers.commits(end(device, geometry, slot)) {
+    if numbers.record.commits(end(device, geometry, slot)) {
         return None;
     }
     match read(device, geometry, slot) {

@@ -1,7 +1,7 @@
 use Rattle.std.proofs.Common.{◌≡◌, Bool, true, false, refl, sym, ◌∙◌, arith, subst, length, ◌≤◌, ◌<◌, ℕ}
 use Rattle.pmem.specs.Device.{image_of}
 use Rattle.recovery.proofs.Formed.{IsFormed}
-use Rattle.recovery.proofs.Resting.{record-fits}
+use Rattle.log_area.proofs.AtRest.{fits_image}
 use Rattle.recovery.proofs.Lives.{refuses-log, formed-new, formed-parts, under, window-small, refuses-slots, refuses-limit, refuses-full, examined, ruled-size}
 use Rattle.recovery.proofs.examine.examine.Goals as goal
 
@@ -25,7 +25,7 @@ pub is_near_limit-requires-clause-dirty : goal.is_near_limit-requires-clause-dir
 is_near_limit-requires-clause-dirty g c = (formed-parts c.in-Ok.found.geometry c.in-Ok.found.target (image_of (g.D.Pmem.state c.args.device.now)) c.in-Ok.ensures.ok).limit
 
 pub is_near_limit-requires-clause-gate : goal.is_near_limit-requires-clause-gate
-is_near_limit-requires-clause-gate g c = (record-fits c.in-Ok.found.geometry c.in-Ok.found.target (image_of (g.D.Pmem.state c.args.device.now)) c.in-Ok.ensures.ok).in_range
+is_near_limit-requires-clause-gate g c = (fits_image c.in-Ok.found.geometry c.in-Ok.found.target (image_of (g.D.Pmem.state c.args.device.now)) c.in-Ok.ensures.ok).in_range
 
 pub returns-then-is_near_limit-clause-fault : goal.returns-then-is_near_limit-clause-fault
 returns-then-is_near_limit-clause-fault g c =

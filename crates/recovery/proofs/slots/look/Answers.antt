@@ -1,10 +1,7 @@
 use Rattle.std.proofs.Common.{◌≡◌, ◌≤◌, ◌<◌, Bool, true, false, inl, inr, refl, sym, ◌∙◌, ap, ℕ, arith}
-use Rattle.recovery.proofs.Visits.{no-long, look-ahead, look-free, look-live, look-bad}
+use Rattle.recovery.proofs.Visits.{look-ahead, look-free, look-live, look-bad}
 use Rattle.recovery.proofs.slots.look.Goals as goal
 use Rattle.recovery.proofs.slots.look.Goals.{then-begin-dirty-via-then-begin-dirty, then-begin-dirty-via-else-begin-dirty+then-end-dirty}
-
-pub is_shown-requires : goal.is_shown-requires
-is_shown-requires g c = no-long (g.D.Pmem.state c.args.device.now) c.args.geometry c.args.ruling c.args.slot c.requires.size c.requires.under c.requires.slot
 
 pub returns-then-begin-dirty : goal.returns-then-begin-dirty
 returns-then-begin-dirty g c =

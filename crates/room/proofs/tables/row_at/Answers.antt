@@ -2,26 +2,26 @@ use Rattle.std.proofs.Common.{◌≡◌, ◌<◌, Bool, true, false, List, [], �
 use Rattle.base.specs.Records.{Record, is_committed}
 use Rattle.base.specs.Machine.{State, present}
 use Rattle.room.specs.Tables.{HoldsTables, HasNewest}
-use Rattle.room.proofs.Finding.{no-longs, begin-counts, end-uncounted, newest-some, newest-key, live-row, same-key, other-key}
+use Rattle.room.proofs.Finding.{begin-counts, end-uncounted, newest-some, newest-key, live-row, same-key, other-key}
 use Rattle.room.proofs.tables.row_at.Goals as goal
 use Rattle.room.proofs.tables.row_at.Goals.{in_default-via-in-Some+else-eq, in_default-via-in_default}
 
 pub returns-then-not-commits-clause-none : goal.returns-then-not-commits-clause-none
 returns-then-not-commits-clause-none g c = λ q tables held.
     begin-counts q c.args.numbers.geometry c.args.numbers.record (g.D.Pmem.state c.args.device.now) c.args.slot c.args.key c.requires.device c.requires.slot tables
-    c.commits.result (c.commits.ensures (no-longs q _ _ _ tables) ∙ ap (is_committed c.args.numbers.record) c.begin.ensures) c.if-not-commits.true held
+    c.commits.result (c.commits.ensures ∙ ap (is_committed c.args.numbers.record) c.begin.ensures) c.if-not-commits.true held
 
 pub returns-then-commits-clause-none : goal.returns-then-commits-clause-none
 returns-then-commits-clause-none g c = λ q tables held.
     end-uncounted q c.args.numbers.geometry c.args.numbers.record (g.D.Pmem.state c.args.device.now) c.args.slot c.args.key c.requires.device c.requires.slot tables
-    c.commits-2.result (g.met.D.Pmem.orderly c.args.device.now) (c.commits-2.ensures (no-longs q _ _ _ tables) ∙ ap (is_committed c.args.numbers.record) c.end.ensures) c.if-commits.true held
+    c.commits-2.result (g.met.D.Pmem.orderly c.args.device.now) (c.commits-2.ensures ∙ ap (is_committed c.args.numbers.record) c.end.ensures) c.if-commits.true held
 
 pub returns-in-Some-clause-some : goal.returns-in-Some-clause-some
 returns-in-Some-clause-some g c = λ q tables.
     live-row q c.args.numbers.geometry c.args.numbers.record (g.D.Pmem.state c.args.device.now) c.args.slot c.args.key c.requires.device c.requires.slot tables
     c.commits.result c.commits-2.result (g.met.D.Pmem.orderly c.args.device.now)
-    (c.commits.ensures (no-longs q _ _ _ tables) ∙ ap (is_committed c.args.numbers.record) c.begin.ensures) c.if-not-commits.false
-    (c.commits-2.ensures (no-longs q _ _ _ tables) ∙ ap (is_committed c.args.numbers.record) c.end.ensures) c.if-commits.false
+    (c.commits.ensures ∙ ap (is_committed c.args.numbers.record) c.begin.ensures) c.if-not-commits.false
+    (c.commits-2.ensures ∙ ap (is_committed c.args.numbers.record) c.end.ensures) c.if-commits.false
     c.in-Some.found c.in-Some.ensures.some (same-key c.in-Some.found.version.key c.args.key c.eq.result c.eq.ensures c.if-eq.true)
 
 pub returns-in_default-clause-none : goal.returns-in_default-clause-none
