@@ -1,4 +1,4 @@
-ghost use Rattle.std.specs.Prelude.{◌≡◌, ◌⊎◌, IfOk, IfErr, length, true, false};
+ghost use Rattle.std.specs.Prelude.{◌≡◌, ◌⊎◌, ◌↔◌, IfOk, IfErr, length, true, false};
 ghost use Rattle.command_line.specs.ImageFile.{HoldsWords, is_image_length, bytes_of_words};
 ghost use Rattle.base.specs.declared.fault.Fault.TheVariants.{BadGeometry, OutOfMemory};
 
@@ -17,7 +17,7 @@ pub fn words_of_file(alloc: Global, file: &[u8]) -> Result<Vec<u64>, Fault>
     ensures ok { IfOk result (λ words. HoldsWords file.now words.items) }
     ensures length { IfOk result (λ _. is_image_length (length file.now) ≡ true) }
     ensures fault { IfErr result (λ fault. (fault ≡ OutOfMemory) ⊎ (fault ≡ BadGeometry)) }
-    ensures geometry { result ≡ Err BadGeometry → is_image_length (length file.now) ≡ false }
+    ensures geometry { result ≡ Err BadGeometry ↔ (is_image_length (length file.now) ≡ false) }
 {
     if file.len() % WORD_BYTES != 0 || file.len() > MOST_FILE_BYTES {
         return Err(Fault::BadGeometry);
