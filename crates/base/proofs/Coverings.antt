@@ -1,12 +1,10 @@
 -- What a tick that covers a batch does.
-use Rattle.std.proofs.Common.{◌≡◌, Bool, true, false, List, ◌++◌, refl, sym, ◌∙◌, ap, subst, cond}
+use Rattle.std.proofs.Common.{◌≡◌, Bool, true, false, ◌++◌, refl, sym, subst, cond}
 use Rattle.std.specs.Prelude.{Option, Some, None}
 use Rattle.base.specs.declared.step.Step.TheVariants.{Commit as CommitTick}
 use Rattle.base.specs.declared.step.Stage.{Stage}
 use Rattle.base.specs.declared.step.Stage.TheVariants.{Chosen}
-use Rattle.base.specs.declared.step.Reply.{Reply}
 use Rattle.base.specs.declared.step.Reply.TheVariants.{Idle, Ticked, Covered}
-use Rattle.base.specs.Commits.{Commit}
 use Rattle.base.specs.Batches.{Batch}
 use Rattle.base.specs.Machine.{State, Hand, Stepped, refused, answered, memory_refused, device_failed, ticked, ticked_on, state_ticked, state_ticked_on, state_covered, next_stage, batch_of, is_idle}
 

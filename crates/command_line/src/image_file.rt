@@ -31,7 +31,8 @@ pub fn words_of_file(alloc: Global, file: &[u8]) -> Result<Vec<u64>, Fault>
 
 /// The bytes of a file that holds these words. More than memory can hold are refused as the memory is.
 pub fn file_of_words(alloc: Global, words: &[u64]) -> Result<Vec<u8>, AllocError>
-    ensures { IfOk result (λ file. file.items ≡ bytes_of_words words.now) }
+    ensures bytes { IfOk result (λ file. file.items ≡ bytes_of_words words.now) }
+    ensures held { IfOk result (λ file. HoldsWords file.items words.now) }
 {
     let Some(size) = words.len().checked_mul(WORD_BYTES) else {
         return Err(AllocError);

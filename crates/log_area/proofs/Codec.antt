@@ -1,15 +1,14 @@
 -- What the words of a place say of the record in it.
-use Rattle.std.proofs.Common.{◌≡◌, ℕ, zero, suc, ◌+◌, ◌-◌, ◌*◌, ◌/◌, ◌%◌, ◌^◌, ◌<◌, ◌≤◌, Bool, true, false, cond, ◌&&◌, List, [], ◌∷◌, length, get_or, take, drop, refl, sym, ◌∙◌, ap, subst, arith, not, lit<, nat_eq, nat_lt, nat_le, unwrap_or, slice_range, slice_get}
+use Rattle.std.proofs.Common.{◌≡◌, ℕ, ◌+◌, ◌-◌, ◌*◌, ◌/◌, ◌^◌, ◌<◌, ◌≤◌, Bool, true, false, ◌&&◌, List, [], ◌∷◌, length, get_or, drop, refl, sym, ◌∙◌, ap, arith, not, lit<, nat_lt, nat_le, unwrap_or, slice_get}
 use Rattle.std.specs.Prelude.{None}
-use Rattle.std.specs.List.{list_all, range_with_len}
-use Rattle.std.proofs.lemmas.Bool.{and_parts, and_from, leb-true, le-leb, le-ltb, ne_eqb, eq-eqb, eqb-true}
+use Rattle.std.specs.List.{list_all}
+use Rattle.std.proofs.lemmas.Bool.{le-leb}
 use Rattle.std.proofs.lemmas.Bool.Decides.{nat_tests}
-use Rattle.std.proofs.lemmas.List.{nil_from_length, ext_get_or, get_or-take, get_or-drop, length-drop, length-take-le, drop_more}
-use Rattle.std.proofs.lemmas.Slice.{between_is}
+use Rattle.std.proofs.lemmas.List.{nil_from_length, ext_get_or, length-drop, drop_more}
 use Rattle.std.proofs.lemmas.Option.{unwrap_or-slice_get}
 use Rattle.base.specs.declared.gap.Gap.{Gap}
 use Rattle.base.specs.Layout.{newest_version, most_longs}
-use Rattle.base.specs.Records.{Record, IsRecord, record_word, record_in, is_record, is_well_formed, no_gap, pairs_of, is_in, are_apart, are_rising}
+use Rattle.base.specs.Records.{Record, IsRecord, record_word, is_well_formed, no_gap, is_in, are_apart, are_rising}
 use Rattle.base.proofs.Spelling.{record_word-first, record_word-last, same_gap, same_record, few_gaps}
 use Rattle.log_area.specs.Codec.{IsReadFrom, are_within}
 
