@@ -1,5 +1,5 @@
 ghost use Rattle.std.specs.Prelude.{◌≡◌, ◌⊎◌, ◌↔◌, IfOk, IfErr, length, true, false};
-ghost use Rattle.command_line.specs.ImageFile.{HoldsWords, is_image_length, bytes_of_words};
+ghost use Rattle.command_line.specs.ImageFile.{HoldsWords, IsFileOf, is_image_length};
 ghost use Rattle.base.specs.declared.fault.Fault.TheVariants.{BadGeometry, OutOfMemory};
 
 use base::fault::Fault;
@@ -31,8 +31,7 @@ pub fn words_of_file(alloc: Global, file: &[u8]) -> Result<Vec<u64>, Fault>
 
 /// The bytes of a file that holds these words. More than memory can hold are refused as the memory is.
 pub fn file_of_words(alloc: Global, words: &[u64]) -> Result<Vec<u8>, AllocError>
-    ensures bytes { IfOk result (λ file. file.items ≡ bytes_of_words words.now) }
-    ensures held { IfOk result (λ file. HoldsWords file.items words.now) }
+    ensures { IfOk result (λ file. IsFileOf words.now file.items) }
 {
     let Some(size) = words.len().checked_mul(WORD_BYTES) else {
         return Err(AllocError);

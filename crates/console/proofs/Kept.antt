@@ -14,7 +14,7 @@ use Rattle.pmem.specs.Device.{Device, MayLeave, restarted, image_of}
 use Rattle.pmem.specs.declared.device.Pmem.{Ghosts}
 use Rattle.room.specs.Room.{Shows, StepsTo, device_of}
 use Rattle.room.specs.declared.room.Room.{Room}
-use Rattle.command_line.specs.ImageFile.{HoldsWords, bytes_of_words}
+use Rattle.command_line.specs.ImageFile.{HoldsWords, IsFileOf}
 use Rattle.console.specs.Kept.{Extends, GoesOn, HasHistory, HasClosed, KeepsHistory, IsFileWith, KeepsHistories}
 use Rattle.console.proofs.Restarted.{one_image, image-restarted}
 
@@ -86,15 +86,34 @@ keeps-each before after words holds each = record {
 
 -- A file
 
-pub bytes-restarted : (device : Device) (image : Image) (file : List ℕ) → device ≡ restarted image → file ≡ bytes_of_words (image_of device) → file ≡ bytes_of_words image
-bytes-restarted device image file is bytes = bytes ∙ (ap (λ (d : Device). bytes_of_words (image_of d)) is ∙ ap bytes_of_words (image-restarted image))
+pub file-restarted : (device : Device) (image : Image) (file : List ℕ) → device ≡ restarted image → IsFileOf (image_of device) file → IsFileOf image file
+file-restarted device image file is of = subst (λ (words : Image). IsFileOf words file) (ap image_of is ∙ image-restarted image) of
 
 pub file-stopped : {D : Type 0} {G : Ghosts D} (state : D → Device) (history : List Commit) (room : Room D G) (device : Device) (image : Image) (file : List ℕ)
-    → HasHistory state history room → device ≡ device_of state room → MayLeave device image → file ≡ bytes_of_words image → IsFileWith history file
-file-stopped state history room device image file has is left bytes =
-    record { image = image; bytes = bytes; keeps = keeps-at history has.shown image has.longer (has.shows.stands image (subst (λ (d : Device). MayLeave d image) is left)) }
+    → HasHistory state history room → device ≡ device_of state room → MayLeave device image → IsFileOf image file → IsFileWith history file
+file-stopped state history room device image file has is left of =
+    record { image = image; of_image = of; keeps = keeps-at history has.shown image has.longer (has.shows.stands image (subst (λ (d : Device). MayLeave d image) is left)) }
 
 pub file-closed : {D : Type 0} {G : Ghosts D} (state : D → Device) (history : List Commit) (room : Room D G) (device : Device) (image : Image) (file : List ℕ)
-    → HasHistory state history room → HasClosed state room device → MayLeave device image → file ≡ bytes_of_words image → IsFileWith history file
-file-closed state history room device image file has closes left bytes =
-    record { image = image; bytes = bytes; keeps = keeps-closed history has.shown image has.longer (closes.each has.shown has.shows image left) }
+    → HasHistory state history room → HasClosed state room device → MayLeave device image → IsFileOf image file → IsFileWith history file
+file-closed state history room device image file has closes left of =
+    record { image = image; of_image = of; keeps = keeps-closed history has.shown image has.longer (closes.each has.shown has.shows image left) }
+
+-- a run after a run
+pub keeps-both : (first second third : List ℕ) → KeepsHistories first second → KeepsHistories second third → KeepsHistories first third
+keeps-both first second third one two = record {
+  each = λ image held history drawn next stands.
+      let mid = one.each image held history drawn next stands in
+      let end = two.each mid.image mid.of_image.holds mid.keeps.kept mid.keeps.drawn mid.keeps.next mid.keeps.stands in
+      record {
+        image = end.image;
+        of_image = end.of_image;
+        keeps = record {
+          kept = end.keeps.kept;
+          drawn = end.keeps.drawn;
+          next = end.keeps.next;
+          longer = extends-trans history mid.keeps.kept end.keeps.kept mid.keeps.longer end.keeps.longer;
+          stands = end.keeps.stands;
+        };
+      };
+}

@@ -10,7 +10,7 @@ use Rattle.pmem.specs.declared.device.Pmem.{Ghosts}
 use Rattle.recovery.specs.Fresh.{fresh_image}
 use Rattle.room.specs.Room.{Shows}
 use Rattle.room.specs.declared.room.Room.{Room}
-use Rattle.command_line.specs.ImageFile.{HoldsWords, bytes_of_words}
+use Rattle.command_line.specs.ImageFile.{HoldsWords, IsFileOf}
 use Rattle.command_line.specs.declared.orders.Order.{Order}
 use Rattle.command_line.specs.declared.orders.Order.TheVariants.{Format, Run}
 
@@ -40,10 +40,10 @@ pub record KeepsHistory (history : List Commit) (image : Image) : Type 0 where
   pub longer : Extends history kept
   pub stands : Stands image kept drawn next
 
--- the bytes are those of an image that stands for a history that begins with this one
+-- the file is that of an image that stands for a history that begins with this one
 pub record IsFileWith (history : List Commit) (file : List ℕ) : Type 0 where
   pub image : Image
-  pub bytes : file ≡ bytes_of_words image
+  pub of_image : IsFileOf image file
   pub keeps : KeepsHistory history image
 
 -- whatever history the image in the old file stands for, the new file keeps
@@ -52,5 +52,5 @@ pub record KeepsHistories (before after : List ℕ) : Type 0 where
 
 -- what a subcommand leaves in FILE: of a format the fresh image, of a run what keeps the histories
 abbrev pub Leaves : Order → List ℕ → List ℕ → Type 0
-Leaves (Format name slots places window) before after = after ≡ bytes_of_words (fresh_image (layout_with slots places window))
+Leaves (Format name slots places window) before after = IsFileOf (fresh_image (layout_with slots places window)) after
 Leaves (Run name) before after = KeepsHistories before after

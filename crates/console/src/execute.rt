@@ -1,5 +1,5 @@
 ghost use Rattle.std.specs.Prelude.{◌≡◌, ◌≤◌, ◌↔◌, IfOk, IfSome, IsSome};
-ghost use Rattle.command_line.specs.ImageFile.{bytes_of_words};
+ghost use Rattle.command_line.specs.ImageFile.{IsFileOf};
 ghost use Rattle.recovery.specs.Fresh.{fresh_image};
 ghost use Rattle.console.specs.Kept.{Leaves};
 
@@ -70,7 +70,7 @@ fn obey<T: Threads + Sync, R: Read, W: Write>(
 }
 
 fn format<W: Write>(alloc: Global, geometry: Geometry, output: &mut W) -> Result<Vec<u8>, Stop>
-    ensures { IfOk result (λ file. file.items ≡ bytes_of_words (fresh_image geometry)) }
+    ensures { IfOk result (λ file. IsFileOf (fresh_image geometry) file.items) }
 {
     let file = fresh_file(alloc, geometry)?;
     let words = geometry.words();

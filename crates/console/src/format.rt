@@ -1,5 +1,5 @@
-ghost use Rattle.std.specs.Prelude.{◌≡◌, IfOk};
-ghost use Rattle.command_line.specs.ImageFile.{bytes_of_words};
+ghost use Rattle.std.specs.Prelude.{IfOk};
+ghost use Rattle.command_line.specs.ImageFile.{IsFileOf};
 ghost use Rattle.recovery.specs.Fresh.{fresh_image};
 
 use base::fault::Fault;
@@ -10,7 +10,7 @@ use std::alloc::Global;
 
 /// A file that holds a fresh image.
 pub fn fresh_file(alloc: Global, geometry: Geometry) -> Result<Vec<u8>, Fault>
-    ensures { IfOk result (λ file. file.items ≡ bytes_of_words (fresh_image geometry)) }
+    ensures { IfOk result (λ file. IsFileOf (fresh_image geometry) file.items) }
 {
     let Ok(words) = Vec::from_elem(alloc, 0, geometry.words() as usize) else {
         return Err(Fault::OutOfMemory);

@@ -4,6 +4,7 @@
 mod ended;
 mod execute;
 mod format;
+mod law;
 mod lines;
 mod run;
 mod stop;

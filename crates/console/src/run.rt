@@ -3,7 +3,7 @@ ghost use Rattle.base.specs.Commits.{Commit};
 ghost use Rattle.base.specs.Stands.{Stands};
 ghost use Rattle.pmem.specs.Device.{image_of};
 ghost use Rattle.pmem_model.specs.Sim.{device_of};
-ghost use Rattle.command_line.specs.ImageFile.{bytes_of_words};
+ghost use Rattle.command_line.specs.ImageFile.{IsFileOf};
 ghost use Rattle.console.specs.Kept.{HasClosed, HasHistory, IsFileWith, KeepsHistories};
 
 use crate::lines::obey_lines;
@@ -121,7 +121,7 @@ fn close_room(room: Room<SimPmem>) -> Result<SimPmem, Fault>
 }
 
 fn file_of_device(alloc: Global, device: &SimPmem) -> Result<Vec<u8>, Stop>
-    ensures { IfOk result (λ file. file.items ≡ bytes_of_words (image_of (device_of device.now))) }
+    ensures { IfOk result (λ file. IsFileOf (image_of (device_of device.now)) file.items) }
 {
     let image = device.image()?;
     Ok(file_of_words(alloc, image.as_slice())?)

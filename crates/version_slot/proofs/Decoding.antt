@@ -1,5 +1,5 @@
 -- Words and the version that they hold.
-use Rattle.std.proofs.Common.{◌≡◌, ◌⊎◌, inl, inr, ℕ, zero, suc, ◌+◌, ◌-◌, ◌*◌, ◌/◌, ◌%◌, ◌^◌, ◌<◌, ◌≤◌, Bool, cond, eqb, IsTrue, List, [], ◌∷◌, length, get_or, set, take, drop, map, refl, sym, ◌∙◌, ap, subst, arith, lit<}
+use Rattle.std.proofs.Common.{◌≡◌, inl, inr, ℕ, zero, suc, ◌+◌, ◌-◌, ◌*◌, ◌/◌, ◌%◌, ◌^◌, ◌<◌, ◌≤◌, Bool, cond, eqb, IsTrue, List, length, get_or, set, take, drop, map, sym, ◌∙◌, ap, subst, arith, lit<}
 use Rattle.std.specs.Int.{byte_at, bytes_low_first, from_le_bytes, to_le_bytes, w64}
 use Rattle.std.specs.List.{range_with_len}
 use Rattle.std.proofs.lemmas.Bool.{cases_eq, cases_lt, ne_eqb}
@@ -10,7 +10,7 @@ use Rattle.std.proofs.lemmas.List.FromFn.{get_or-map-range_with_len, length-map-
 use Rattle.std.proofs.lemmas.Nat.{le_bytes_8, mod_below, from_le_bytes-to_le_bytes_8}
 use Rattle.base.specs.Layout.{Layout, slot_words, row_limit, is_in_limits}
 use Rattle.version_slot.specs.declared.words.Version.{Version}
-use Rattle.version_slot.specs.Words.{link_number, row_word, slot_byte, version_word, Fits, IsVersion}
+use Rattle.version_slot.specs.Words.{link_number, row_word, slot_byte, version_word, IsVersion}
 
 -- eight bytes make the number
 pub same_word : (xs ys : List ℕ) → ((i : ℕ) → i < 8 → get_or xs i 0 ≡ get_or ys i 0) → from_le_bytes w64 xs ≡ from_le_bytes w64 ys

@@ -1,19 +1,17 @@
 -- What the words of a slot hold, in the words of the definition of a sound image.
-use Rattle.std.proofs.Common.{◌≡◌, ◌⊎◌, inl, inr, ℕ, zero, suc, ◌+◌, ◌-◌, ◌*◌, ◌/◌, ◌%◌, ◌^◌, ◌<◌, ◌≤◌, Bool, true, false, cond, eqb, ◌&&◌, ◌||◌, not, nat_eq, nat_lt, nat_le, Option, Some, None, List, [], ◌∷◌, length, get_or, take, drop, refl, sym, ◌∙◌, ap, subst, arith}
+use Rattle.std.proofs.Common.{◌≡◌, ℕ, zero, suc, ◌+◌, ◌-◌, ◌*◌, ◌/◌, ◌%◌, ◌^◌, ◌<◌, ◌≤◌, Bool, true, false, cond, eqb, ◌&&◌, ◌||◌, not, nat_eq, nat_lt, nat_le, Option, Some, None, List, [], ◌∷◌, length, get_or, take, drop, refl, sym, ◌∙◌, ap, arith}
 use Rattle.std.proofs.Math.Nat.{mul-le-mul_left}
 use Rattle.std.specs.Int.{to_le_bytes, w64}
 use Rattle.std.specs.List.{list_all, flat_map, slice_range}
-use Rattle.std.proofs.lemmas.Bool.{cases_lt, cases_eq, eqb-true, ltb-false, le-ltb, eq-eqb}
-use Rattle.std.proofs.lemmas.List.{get_or-drop, get_or-take, get_or_past, length-append, length-drop, length-take, length-take-le, ext_get_or}
+use Rattle.std.proofs.lemmas.Bool.{eqb-true, ltb-false, le-ltb, eq-eqb}
+use Rattle.std.proofs.lemmas.List.{get_or-drop, get_or-take, get_or_past, length-drop, length-take-le, ext_get_or}
 use Rattle.std.proofs.lemmas.List.Concat.{get_or-flat_map}
-use Rattle.base.specs.declared.key.Key.{Key}
-use Rattle.base.specs.Layout.{Layout, row_limit, slot_start, slot_words, total_words}
+use Rattle.base.specs.Layout.{row_limit, slot_start, slot_words, total_words}
 use Rattle.base.specs.Images.{Image, layout_of, slot_word, begin_of, end_of, key_of, len_of, link_of, bytes_of, row_of, ruling, is_live, is_second, is_bad_slot}
 use Rattle.base.specs.Records.{is_committed}
 use Rattle.version_slot.specs.declared.words.Version.{Version}
-use Rattle.version_slot.specs.declared.words.Slot.{Slot}
-use Rattle.version_slot.specs.Words.{link_number, slot_byte, IsVersion, IsSlot}
-use Rattle.version_slot.proofs.Decoding.{words_3, byte_is, table_is, link_is, length_is, zero_after, bytes_small, holds}
+use Rattle.version_slot.specs.Words.{link_number, slot_byte, IsVersion}
+use Rattle.version_slot.proofs.Decoding.{words_3, byte_is, bytes_small, holds}
 
 -- ---- slots by their words
 

@@ -1,15 +1,15 @@
 -- Storing several words in order.
-use Rattle.std.proofs.Common.{◌≡◌, ◌≢◌, ◌⊎◌, inl, inr, ℕ, ◌+◌, ◌-◌, ◌<◌, ◌≤◌, Bool, cond, List, ◌∷◌, Result, Ok, Err, OnOk, OnErr, length, get_or, take, drop, refl, sym, ◌∙◌, ap, subst, arith}
+use Rattle.std.proofs.Common.{◌≡◌, ◌⊎◌, inl, inr, ℕ, ◌+◌, ◌-◌, ◌<◌, ◌≤◌, Bool, cond, List, ◌∷◌, Result, Ok, Err, OnOk, OnErr, length, get_or, take, drop, refl, sym, ◌∙◌, ap, subst, arith}
 use Rattle.std.proofs.lemmas.Bool.{cases_eq, ne_eqb}
 use Rattle.std.proofs.lemmas.List.{get_or-drop, get_or-take, length-drop, length-take-le}
-use Rattle.pmem.specs.Device.{Entry, Device, newest, survivors_in, stored, failed, Survives, value_of, IsOrderly, IsWithin, Keeps}
-use Rattle.pmem.proofs.Steps.{history-stored_same, history-stored_other, value-stored_same, value-stored_other, survivors-stored_same}
+use Rattle.pmem.specs.Device.{Entry, Device, survivors_in, stored, failed, value_of, IsOrderly, IsWithin, Keeps}
+use Rattle.pmem.proofs.Steps.{history-stored_other, value-stored_same, value-stored_other, survivors-stored_same}
 use Rattle.pmem.proofs.Images.{leaves_weaken}
 use Rattle.pmem.proofs.Runs.{keeps_none, keeps-stored, keeps-failed}
 use Rattle.base.specs.Layout.{Layout, slot_start, slot_words}
 use Rattle.version_slot.specs.declared.words.Version.{Version}
 use Rattle.version_slot.specs.Words.{filled_word, version_word, slot_at, Fits, IsVersion}
-use Rattle.version_slot.specs.Filling.{IsOfRun, OldOrRun, StoresRun, Fills, OldOrFilled}
+use Rattle.version_slot.specs.Filling.{OldOrRun, StoresRun, Fills, OldOrFilled}
 
 pub keeps_weaken : {old new : Device} {P Q : ℕ → ℕ → Type 0} → ((word x : ℕ) → P word x → Q word x) → Keeps old new P → Keeps old new Q
 keeps_weaken {old} {new} {P} {Q} weaker keeps = record {

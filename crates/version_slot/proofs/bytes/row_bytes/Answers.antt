@@ -1,4 +1,4 @@
-use Rattle.std.proofs.Common.{◌≡◌, ◌%◌, ◌∙◌, ℕ, List, ap, get_or, length, arith, subst}
+use Rattle.std.proofs.Common.{◌%◌, ℕ, List, ap, get_or, arith}
 use Rattle.std.proofs.lemmas.List.{length-set}
 use Rattle.version_slot.specs.Words.{slot_byte}
 use Rattle.version_slot.proofs.Decoding.{set_more}

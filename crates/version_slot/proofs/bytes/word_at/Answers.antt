@@ -1,4 +1,4 @@
-use Rattle.std.proofs.Common.{◌≡◌, ◌+◌, ◌<◌, ◌≤◌, ℕ, List, sym, ◌∙◌, drop, get_or, length, arith}
+use Rattle.std.proofs.Common.{◌+◌, ℕ, sym, ◌∙◌, drop, get_or, arith}
 use Rattle.std.proofs.lemmas.List.{get_or-drop, length-set}
 use Rattle.version_slot.proofs.Decoding.{same_word, set_more}
 use Rattle.version_slot.proofs.bytes.word_at.Goals as goal

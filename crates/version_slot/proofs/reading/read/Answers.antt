@@ -1,4 +1,4 @@
-use Rattle.std.proofs.Common.{◌≡◌, ◌+◌, ◌∙◌, ℕ, ap, length, arith}
+use Rattle.std.proofs.Common.{◌+◌, ◌∙◌, ℕ, ap, arith}
 use Rattle.std.proofs.lemmas.List.{length-set}
 use Rattle.pmem.specs.Device.{value_of}
 use Rattle.version_slot.specs.Words.{slot_at}

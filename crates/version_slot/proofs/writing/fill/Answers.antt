@@ -1,7 +1,6 @@
-use Rattle.std.proofs.Common.{◌≡◌, ◌-◌, ◌≤◌, ℕ, ap, arith}
+use Rattle.std.proofs.Common.{◌-◌, ap, arith}
 use Rattle.std.proofs.lemmas.Result.{on_ok_weaker, on_err_weaker}
-use Rattle.base.specs.Layout.{Layout, row_limit, slot_words}
-use Rattle.pmem.specs.Device.{Device}
+use Rattle.base.specs.Layout.{row_limit, slot_words}
 use Rattle.version_slot.specs.Words.{Fits}
 use Rattle.version_slot.proofs.Decoding.{limits}
 use Rattle.version_slot.proofs.Stores.{either, fills_all, fills_part, filled_version, filled_keeps}

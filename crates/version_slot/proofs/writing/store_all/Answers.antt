@@ -1,7 +1,5 @@
-use Rattle.std.proofs.Common.{◌≡◌, ◌+◌, ◌<◌, ℕ, ap, ◌∙◌, sym, get_or, length, arith}
-use Rattle.std.proofs.lemmas.List.{get_or_default}
-use Rattle.pmem.specs.Device.{stored}
-use Rattle.version_slot.proofs.Stores.{run_none, run_more, run_failed}
+use Rattle.std.proofs.Common.{get_or}
+use Rattle.version_slot.proofs.Stores.{run_more, run_failed}
 use Rattle.version_slot.proofs.writing.store_all.Goals as goal
 
 pub loop-k-preserved : goal.loop-k-preserved

@@ -1,4 +1,4 @@
-use Rattle.std.proofs.Common.{◌≡◌, ◌+◌, ◌*◌, ◌/◌, ◌%◌, ◌^◌, ◌<◌, ◌≤◌, ◌∙◌, ℕ, List, Result, IfOk, ap, sym, length, refl, drop, take, subst, get_or, slice_index, arith}
+use Rattle.std.proofs.Common.{◌≡◌, ◌/◌, ◌%◌, ◌^◌, ◌<◌, ◌≤◌, ◌∙◌, ℕ, List, Result, IfOk, ap, sym, length, refl, subst, get_or, slice_index, arith}
 use Rattle.base.specs.declared.fault.Fault.{Fault}
 use Rattle.base.specs.Layout.{slot_words, row_limit}
 use Rattle.version_slot.proofs.Decoding.{limits, length_is, bytes_small, zero_after, holds}

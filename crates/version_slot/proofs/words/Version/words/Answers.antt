@@ -1,6 +1,6 @@
-use Rattle.std.proofs.Common.{◌≡◌, ◌+◌, ◌*◌, ◌^◌, ◌∙◌, ℕ, List, [], ◌∷◌, ap, length, refl, drop, subst, slice_index}
+use Rattle.std.proofs.Common.{◌≡◌, ◌+◌, ◌*◌, ◌^◌, ◌∙◌, ℕ, List, [], ◌∷◌, ap, length, refl, drop, slice_index}
 use Rattle.std.specs.Int.{from_le_bytes, w64}
-use Rattle.version_slot.specs.Words.{link_number, filled_word}
+use Rattle.version_slot.specs.Words.{filled_word}
 use Rattle.version_slot.proofs.Decoding.{by_seven}
 use Rattle.version_slot.proofs.words.Version.words.Goals as goal
 

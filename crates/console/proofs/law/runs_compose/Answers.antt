@@ -1,0 +1,5 @@
+use Rattle.console.proofs.Kept.{keeps-both}
+use Rattle.console.proofs.law.runs_compose.Goals as goal
+
+pub returns : goal.returns
+returns c = λ first second third one two. keeps-both first second third one two
