@@ -71,27 +71,6 @@ stamping_ended a slot t old new run = record {
   others = λ w lt apart. stamping_word a slot 1 t 1 0 old new (omega arith) (omega arith) run w apart;
 }
 
--- ---- a stamp of a write
-
--- where there is no slot the device is as it was
-pub at-none : (a : Layout) (v t : ℕ) (o : Option ℕ) (old new : Device) → o ≡ None → new ≡ old → StampsAt a v o t old new
-at-none a v t o old new none same = subst (λ (p : Option ℕ). StampsAt a v p t old new) (sym none) same
-
-pub at-some : (a : Layout) (v t : ℕ) (o : Option ℕ) (slot : ℕ) (old new : Device) → o ≡ Some slot → Stamps (slot_start a slot + v) t 1 0 old new → StampsAt a v o t old new
-at-some a v t o slot old new is run = subst (λ (p : Option ℕ). StampsAt a v p t old new) (sym is) run
-
-pub fails-some : (a : Layout) (v t : ℕ) (o : Option ℕ) (slot : ℕ) (old new : Device) → o ≡ Some slot → Stamps (slot_start a slot + v) t 0 1 old new → FailsAt a v o t old new
-fails-some a v t o slot old new is run = subst (λ (p : Option ℕ). FailsAt a v p t old new) (sym is) run
-
--- the begin is the slot's first word
-pub at-begin : (a : Layout) (t : ℕ) (o : Option ℕ) (slot : ℕ) (old mid new : Device) → o ≡ Some slot → new ≡ mid → Stamps (slot_start a slot) t 1 0 old mid → StampsAt a 0 o t old new
-at-begin a t o slot old mid new is same run =
-    subst (λ (d : Device). StampsAt a 0 o t old d) (sym same)
-    (at-some a 0 t o slot old mid is (subst (λ (word : ℕ). Stamps word t 1 0 old mid) (plus-zero (slot_start a slot)) run))
-
-pub fails-begin : (a : Layout) (t : ℕ) (o : Option ℕ) (slot : ℕ) (old new : Device) → o ≡ Some slot → Stamps (slot_start a slot) t 0 1 old new → FailsAt a 0 o t old new
-fails-begin a t o slot old new is run = fails-some a 0 t o slot old new is (subst (λ (word : ℕ). Stamps word t 0 1 old new) (plus-zero (slot_start a slot)) run)
-
 -- ---- the slots
 
 pub begun-stamps : (a : Layout) (o : Option ℕ) (t : ℕ) (old new : Device) → ((slot : ℕ) → o ≡ Some slot → IsSettledAt old (word_of a slot 0) 0) → StampsAt a 0 o t old new → HasStamps a old new o None t

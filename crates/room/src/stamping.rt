@@ -1,13 +1,11 @@
-ghost use Rattle.std.specs.Prelude.{OnErr, OnOk};
+ghost use Rattle.std.specs.Prelude.{◌≡◌, IsTrue, OnErr, OnOk};
 ghost use Rattle.base.specs.Layout.{total_words};
-ghost use Rattle.std.specs.Prelude.{◌≡◌};
-ghost use Rattle.room.specs.Fits.{fits_write};
-ghost use Rattle.room.specs.Storing.{StampsWrite, FailsStampingWrite};
-ghost use Rattle.std.specs.Prelude.{IsTrue};
+ghost use Rattle.room.specs.Fits.{fits_slot, fits_write};
+ghost use Rattle.room.specs.Storing.{StampsAt, StampsWrite, FailsAt, FailsStampingWrite};
 
-use base::Ts;
 use base::fault::Fault;
 use base::geometry::Geometry;
+use base::{SlotNo, Ts};
 use pmem::Pmem;
 use txn::Write;
 use version_slot::{stamp_begin, stamp_end};
@@ -25,11 +23,44 @@ pub fn stamp_write<D: Pmem>(
     ensures err { OnErr result (FailsStampingWrite geometry write timestamp (D.state device.old) (D.state device.new)) }
     ensures size { (D.state device.new).words ≡ (D.state device.old).words }
 {
-    if let Some(slot) = write.slot {
-        stamp_begin(device, geometry, slot, timestamp)?;
+    begin_at(device, geometry, write.slot, timestamp)?;
+    end_at(device, geometry, write.replaces, timestamp)
+}
+
+// Stores the timestamp in the begin of the slot's version, if there is a slot.
+fn begin_at<D: Pmem>(
+    device: &mut D,
+    geometry: Geometry,
+    slot: Option<SlotNo>,
+    timestamp: Ts,
+) -> Result<(), Fault>
+    requires slot { IsTrue (fits_slot geometry.slots slot) }
+    requires device { (D.state device.old).words ≡ total_words geometry }
+    ensures ok { OnOk result (StampsAt geometry 0 slot timestamp (D.state device.old) (D.state device.new)) }
+    ensures err { OnErr result (FailsAt geometry 0 slot timestamp (D.state device.old) (D.state device.new)) }
+    ensures size { (D.state device.new).words ≡ (D.state device.old).words }
+{
+    match slot {
+        Some(slot) => stamp_begin(device, geometry, slot, timestamp),
+        None => Ok(()),
     }
-    if let Some(slot) = write.replaces {
-        stamp_end(device, geometry, slot, timestamp)?;
+}
+
+// Stores the timestamp in the end of the slot's version, if there is a slot.
+fn end_at<D: Pmem>(
+    device: &mut D,
+    geometry: Geometry,
+    slot: Option<SlotNo>,
+    timestamp: Ts,
+) -> Result<(), Fault>
+    requires slot { IsTrue (fits_slot geometry.slots slot) }
+    requires device { (D.state device.old).words ≡ total_words geometry }
+    ensures ok { OnOk result (StampsAt geometry 1 slot timestamp (D.state device.old) (D.state device.new)) }
+    ensures err { OnErr result (FailsAt geometry 1 slot timestamp (D.state device.old) (D.state device.new)) }
+    ensures size { (D.state device.new).words ≡ (D.state device.old).words }
+{
+    match slot {
+        Some(slot) => stamp_end(device, geometry, slot, timestamp),
+        None => Ok(()),
     }
-    Ok(())
 }
