@@ -1,5 +1,5 @@
 -- Every image stands.
-use Rattle.std.specs.Prelude.{◌≡◌, ℕ, ◌<◌, slice_index}
+use Rattle.std.specs.Prelude.{ℕ, ◌<◌, slice_index}
 use Rattle.base.specs.Layout.{Layout, slot_words}
 use Rattle.base.specs.Images.{Image, IsRuledBy}
 use Rattle.base.specs.Machine.{State, present, StandsUnder}

@@ -1,11 +1,11 @@
 -- What a list of gaps is with one more.
-use Rattle.std.proofs.Common.{◌≡◌, ℕ, ◌+◌, ◌-◌, ◌<◌, ◌≤◌, Bool, true, false, cond, not, ◌&&◌, ◌||◌, List, [], ◌∷◌, length, refl, sym, ◌∙◌, ap, subst, arith, nat_lt, nat_le, nat_eq}
-use Rattle.std.specs.Prelude.{min, max, IsTrue}
+use Rattle.std.proofs.Common.{◌≡◌, ℕ, ◌+◌, ◌-◌, ◌<◌, ◌≤◌, Bool, true, false, cond, ◌&&◌, ◌||◌, List, [], ◌∷◌, refl, sym, ◌∙◌, ap, subst, arith, nat_lt, nat_le, nat_eq}
+use Rattle.std.specs.Prelude.{min, max}
 use Rattle.std.specs.List.{list_all, list_any}
-use Rattle.std.proofs.lemmas.Bool.{and_parts, and_from, leb-true, ltb-true, ltb-false, le-leb, lt-ltb, le-ltb, lt-leb, cases_lt}
+use Rattle.std.proofs.lemmas.Bool.{and_parts, and_from, leb-true, ltb-true, ltb-false, le-leb, lt-ltb}
 use Rattle.std.proofs.lemmas.Bool.Decides.{nat_tests}
 use Rattle.base.specs.declared.gap.Gap.{Gap}
-use Rattle.base.specs.Records.{Record, with_gap, with_skipped, opened_gaps, is_in, are_apart, is_committed}
+use Rattle.base.specs.Records.{Record, with_gap, with_skipped, opened_gaps, is_in, are_apart}
 use Rattle.base.specs.Openings.{IsOpenedGaps}
 use Rattle.recovery.specs.Gaps.{are_upto}
 use Rattle.recovery.proofs.Formed.{IsFormed}

@@ -1,5 +1,5 @@
 -- The record that an opening writes is well formed, and when an image opens.
-use Rattle.std.proofs.Common.{◌≡◌, ◌⊎◌, inl, inr, ℕ, zero, suc, ◌+◌, ◌-◌, ◌*◌, ◌/◌, ◌%◌, ◌^◌, ◌<◌, ◌≤◌, Bool, true, false, cond, not, ◌&&◌, ◌||◌, List, [], ◌∷◌, length, refl, sym, ◌∙◌, ap, subst, arith, nat_lt, nat_le}
+use Rattle.std.proofs.Common.{◌≡◌, ℕ, ◌+◌, ◌-◌, ◌*◌, ◌^◌, ◌<◌, ◌≤◌, Bool, true, false, cond, not, ◌&&◌, ◌||◌, List, [], ◌∷◌, length, refl, sym, ◌∙◌, ap, subst, arith, nat_lt, nat_le}
 use Rattle.std.specs.Prelude.{min, max, Option, Some, None}
 use Rattle.std.specs.Option.{option_or, option_map}
 use Rattle.std.specs.List.{list_all}
@@ -8,14 +8,14 @@ use Rattle.base.specs.declared.gap.Gap.{Gap}
 use Rattle.base.specs.declared.fault.Fault.{Fault}
 use Rattle.base.specs.declared.fault.Fault.TheVariants.{BadGeometry, NotFormatted, Damaged, Version, TimestampsOut, GapsFull}
 use Rattle.base.specs.Layout.{Layout, newest_version, is_known_version}
-use Rattle.base.specs.Records.{Record, with_gap, with_skipped, opened_gaps, are_apart, is_well_formed}
-use Rattle.base.specs.Search.{first_below, first_of, some_if}
-use Rattle.base.specs.Images.{Image, damage, layout_of, ruling, is_formatted, has_good_geometry, is_wrong_gate, is_ruled, ruling_place, is_bad_slot, is_near_limit, needs_sweep, opening_fault, IsRuledBy}
+use Rattle.base.specs.Records.{Record, with_gap, opened_gaps, is_well_formed}
+use Rattle.base.specs.Search.{first_below, some_if}
+use Rattle.base.specs.Images.{Image, damage, layout_of, is_formatted, has_good_geometry, is_wrong_gate, is_ruled, ruling_place, is_bad_slot, is_near_limit, needs_sweep, opening_fault, IsRuledBy}
 use Rattle.log_area.specs.Rulings.{log_damage}
 use Rattle.recovery.specs.Opened.{opened_record}
-use Rattle.recovery.proofs.Formed.{IsFormed, formed}
+use Rattle.recovery.proofs.Formed.{IsFormed}
 use Rattle.recovery.proofs.Added.{opens, opened-gaps}
-use Rattle.recovery.proofs.Opens.{IsFaultless, sound-faultless, known-good}
+use Rattle.recovery.proofs.Opens.{sound-faultless, known-good}
 
 -- ---- the gaps end by the dirty timestamp
 

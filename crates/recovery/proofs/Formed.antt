@@ -1,9 +1,8 @@
 -- The parts of a well-formed record.
-use Rattle.std.proofs.Common.{◌≡◌, ℕ, ◌+◌, ◌^◌, ◌<◌, ◌≤◌, Bool, true, ◌&&◌, List, [], length, arith, nat_lt, nat_le}
+use Rattle.std.proofs.Common.{◌≡◌, ◌^◌, ◌<◌, ◌≤◌, true, ◌&&◌, [], length, arith, nat_le}
 use Rattle.std.specs.List.{list_all}
 use Rattle.std.proofs.lemmas.Bool.{and_parts, leb-true, ltb-true}
 use Rattle.std.proofs.lemmas.List.{nil_from_length}
-use Rattle.base.specs.declared.gap.Gap.{Gap}
 use Rattle.base.specs.Layout.{newest_version}
 use Rattle.base.specs.Records.{Record, is_well_formed, are_apart}
 

@@ -1,14 +1,13 @@
 -- What the stages of a format make of a device.
-use Rattle.std.proofs.Common.{◌≡◌, ◌≢◌, ◌⊎◌, inl, inr, ℕ, zero, suc, ◌+◌, ◌-◌, ◌*◌, ◌/◌, ◌%◌, ◌<◌, ◌≤◌, Bool, true, false, cond, ◌&&◌, List, [], length, get_or, map, refl, sym, ◌∙◌, ap, subst, arith, nat_lt, nat_le, nat_eq}
-use Rattle.std.specs.List.{range_with_len}
+use Rattle.std.proofs.Common.{◌≡◌, ◌≢◌, ◌⊎◌, inl, inr, ℕ, zero, suc, ◌+◌, ◌-◌, ◌*◌, ◌/◌, ◌%◌, ◌<◌, ◌≤◌, Bool, true, false, cond, ◌&&◌, List, length, get_or, refl, sym, ◌∙◌, ap, subst, arith, nat_lt, nat_le, nat_eq}
 use Rattle.std.proofs.Math.Nat.{mod-eq_of_lt}
-use Rattle.std.proofs.lemmas.Bool.{and_parts, and_right, cases_lt, cases_eq, lt-ltb, le-ltb, le-leb, lt-leb}
+use Rattle.std.proofs.lemmas.Bool.{and_parts, and_right, cases_lt, lt-ltb, le-ltb, le-leb, lt-leb}
 use Rattle.std.proofs.lemmas.List.{ext_get_or}
 use Rattle.std.proofs.lemmas.List.FromFn.{length-map-range_with_len, get_or-map-range_with_len}
-use Rattle.base.specs.Layout.{Layout, place_start, slot_words, total_words, is_in_limits, is_known_version}
-use Rattle.base.specs.Records.{Record, record_word}
+use Rattle.base.specs.Layout.{Layout, slot_words, total_words, is_in_limits, is_known_version}
+use Rattle.base.specs.Records.{record_word}
 use Rattle.base.specs.Images.{Image, is_formatted, superblock_word}
-use Rattle.pmem.specs.Device.{Device, Survives, value_of, image_of, IsOrderly, MayLeave, MightHaveLeft, LeavesOnly, Keeps}
+use Rattle.pmem.specs.Device.{Device, Survives, value_of, image_of, LeavesOnly, Keeps}
 use Rattle.pmem.proofs.Images.{leaves_trans, leaves_weaken}
 use Rattle.pmem.proofs.Steps.{only-settled}
 use Rattle.log_area.specs.Rulings.{Holds, Makes, Spares, OldOrStored, gate_word, superblock_words}

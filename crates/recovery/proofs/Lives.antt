@@ -1,13 +1,12 @@
 -- What an opening makes of a device.
-use Rattle.std.proofs.Common.{◌≡◌, ◌⊎◌, inl, inr, ℕ, zero, suc, ◌+◌, ◌-◌, ◌*◌, ◌%◌, ◌^◌, ◌<◌, ◌≤◌, Bool, true, false, cond, not, ◌&&◌, ◌||◌, List, [], ◌∷◌, length, get_or, map, refl, sym, ◌∙◌, ap, subst, arith, nat_lt, nat_le}
-use Rattle.std.specs.Prelude.{Option, Some, None}
-use Rattle.std.specs.Option.{option_or}
+use Rattle.std.proofs.Common.{◌≡◌, ◌⊎◌, inl, inr, ℕ, ◌+◌, ◌-◌, ◌*◌, ◌^◌, ◌<◌, ◌≤◌, Bool, true, false, not, ◌||◌, List, [], length, get_or, map, refl, sym, ◌∙◌, ap, subst, arith, nat_lt, nat_le}
+use Rattle.std.specs.Prelude.{Some, None}
 use Rattle.std.proofs.lemmas.Bool.{and_parts, leb-true, leb-false, ltb-false, cases_lt}
 use Rattle.std.proofs.lemmas.List.{get_or_past}
 use Rattle.std.proofs.lemmas.List.FromFn.{length-map-range_with_len, get_or-map-range_with_len}
 use Rattle.base.specs.declared.gap.Gap.{Gap}
 use Rattle.base.specs.declared.fault.Fault.{Fault}
-use Rattle.base.specs.declared.fault.Fault.TheVariants.{TimestampsOut, GapsFull, OutOfMemory, Device as DeviceFault}
+use Rattle.base.specs.declared.fault.Fault.TheVariants.{TimestampsOut, GapsFull, Device as DeviceFault}
 use Rattle.base.specs.Search.{some_if}
 use Rattle.base.specs.Commits.{Commit}
 use Rattle.base.specs.Layout.{Layout, newest_version, total_words, is_known_version, is_in_limits, is_between}
@@ -15,14 +14,14 @@ use Rattle.base.specs.Records.{Record, opened_gaps, is_well_formed}
 use Rattle.base.specs.Images.{Image, damage, layout_of, ruling, opening_fault, is_near_limit, needs_sweep, IsRuledBy}
 use Rattle.base.specs.Stands.{Stands}
 use Rattle.base.specs.Openings.{StandsOpening}
-use Rattle.pmem.specs.Device.{Device, Survives, value_of, IsAtRest, IsOrderly, LeavesOnly, image_of}
+use Rattle.pmem.specs.Device.{Device, value_of, IsAtRest, IsOrderly, LeavesOnly, image_of}
 use Rattle.pmem.proofs.Images.{leaves_refl, leaves_weaken}
 use Rattle.pmem.proofs.Rest.{left_at_rest}
 use Rattle.pmem.proofs.Steps.{only-settled}
-use Rattle.log_area.specs.Rulings.{IsRecordFor, HoldsRecord, Holds, Spares, Makes, HasOldWords, gate_word, log_damage}
+use Rattle.log_area.specs.Rulings.{IsRecordFor, HoldsRecord, Spares, Makes, HasOldWords, log_damage}
 use Rattle.log_area.specs.Writings.{IsNextRecord, IsRuledByEither, IsOutside, begun}
 use Rattle.log_area.proofs.Runs.{leaves_both}
-use Rattle.log_area.proofs.Rulings.{some_places, place_below}
+use Rattle.log_area.proofs.Rulings.{place_below}
 use Rattle.log_area.proofs.Kept.{holds_kept}
 use Rattle.std.specs.List.{range_with_len}
 use Rattle.recovery.specs.Slots.{IsUnder, IsSlotsFault, free_below, bad_below, is_shown}

@@ -1,25 +1,24 @@
 -- What an image stands for under the record that an opening writes.
-use Rattle.std.proofs.Common.{◌≡◌, ◌⊎◌, inl, inr, ℕ, zero, suc, ◌+◌, ◌-◌, ◌*◌, ◌/◌, ◌%◌, ◌^◌, ◌<◌, ◌≤◌, Bool, true, false, cond, not, ◌&&◌, ◌||◌, List, [], ◌∷◌, length, get_or, drop, take, refl, sym, ◌∙◌, ap, subst, arith, nat_lt, nat_le, nat_eq, slice_range}
-use Rattle.std.specs.Prelude.{Option, Some, None, IsTrue, if◌then◌else◌, is_some, ◌↔◌, flat_map}
+use Rattle.std.proofs.Common.{◌≡◌, ◌⊎◌, inl, inr, ℕ, zero, suc, ◌+◌, ◌-◌, ◌*◌, ◌/◌, ◌%◌, ◌^◌, ◌<◌, ◌≤◌, Bool, true, false, cond, not, ◌&&◌, ◌||◌, List, [], ◌∷◌, get_or, drop, take, refl, sym, ◌∙◌, ap, subst, arith, nat_lt, nat_le, nat_eq, slice_range}
+use Rattle.std.specs.Prelude.{Option, Some, None, is_some, ◌↔◌, flat_map}
 use Rattle.std.specs.Option.{option_or, option_map}
 use Rattle.std.specs.List.{list_all, list_any}
 use Rattle.std.specs.Int.{to_le_bytes, w64}
-use Rattle.std.proofs.lemmas.Bool.{and_parts, and_from, leb-true, leb-false, ltb-true, ltb-false, le-leb, lt-ltb, le-ltb, lt-leb, cases_lt}
+use Rattle.std.proofs.lemmas.Bool.{and_parts, and_from, leb-true, leb-false, lt-leb}
 use Rattle.std.proofs.lemmas.Bool.Decides.{nat_tests}
-use Rattle.std.proofs.lemmas.List.{ext_get_or, get_or-take, get_or-drop, length-drop, length-take}
-use Rattle.std.proofs.lemmas.Slice.{between_is}
+use Rattle.std.proofs.lemmas.List.{ext_get_or, get_or-drop, length-drop}
 use Rattle.base.specs.declared.key.Key.{Key}
 use Rattle.base.specs.declared.fault.Fault.{Fault}
 use Rattle.base.specs.declared.fault.Fault.TheVariants.{BadGeometry, NotFormatted, Damaged, Version}
 use Rattle.base.specs.Keys.{key_eq}
-use Rattle.base.specs.Search.{first_below, first_of, some_if}
-use Rattle.base.specs.Commits.{Commit, after}
-use Rattle.base.specs.Layout.{Layout, newest_version, slot_start, slot_words, row_limit, is_known_version, is_in_limits}
-use Rattle.base.specs.Records.{Record, is_committed, is_in, opened_gaps, is_well_formed, is_record}
-use Rattle.base.specs.Images.{Image, IsSound, damage, faults_of, layout_of, is_formatted, has_good_geometry, is_wrong_gate, is_ruled, ruling, ruling_place, place_words, slot_word, begin_of, end_of, key_of, len_of, link_of, bytes_of, row_of, is_live, is_second, is_bad_slot, TablesOf, IsRuledBy}
+use Rattle.base.specs.Search.{first_below, some_if}
+use Rattle.base.specs.Commits.{Commit}
+use Rattle.base.specs.Layout.{Layout, newest_version, slot_start, row_limit, is_known_version}
+use Rattle.base.specs.Records.{Record, is_committed, is_in, opened_gaps, is_well_formed}
+use Rattle.base.specs.Images.{Image, IsSound, layout_of, is_formatted, has_good_geometry, is_wrong_gate, is_ruled, ruling, ruling_place, slot_word, begin_of, end_of, key_of, bytes_of, row_of, is_live, is_second, is_bad_slot, TablesOf, IsRuledBy}
 use Rattle.base.proofs.Histories.{no_bad_slot}
-use Rattle.base.specs.Stands.{Stands, has_timestamp}
-use Rattle.base.specs.Openings.{StandsOpening, IsOpenedGaps, OpensAs, opened}
+use Rattle.base.specs.Stands.{Stands}
+use Rattle.base.specs.Openings.{StandsOpening, opened}
 use Rattle.recovery.specs.Opened.{opened_record, HasSlotsOf}
 use Rattle.recovery.proofs.Formed.{IsFormed, formed}
 use Rattle.recovery.proofs.Added.{opens}

@@ -1,17 +1,17 @@
 -- What a device that was opened shows of the plain machine.
-use Rattle.std.proofs.Common.{◌≡◌, ◌⊎◌, inl, inr, Bool, ℕ, ◌+◌, ◌*◌, ◌<◌, ◌≤◌, List, [], ◌∷◌, length, get_or, refl, sym, ◌∙◌, ap, subst, arith}
+use Rattle.std.proofs.Common.{◌≡◌, ◌⊎◌, inl, inr, Bool, ℕ, ◌+◌, ◌*◌, ◌<◌, ◌≤◌, List, length, get_or, refl, sym, ◌∙◌, subst, arith}
 use Rattle.std.proofs.lemmas.Bool.{cases_lt}
 use Rattle.std.proofs.lemmas.List.{get_or_past}
 use Rattle.std.proofs.lemmas.List.FromFn.{length-map-range_with_len, get_or-map-range_with_len}
 use Rattle.base.specs.Commits.{Commit}
 use Rattle.base.specs.Layout.{Layout}
-use Rattle.base.specs.Records.{Record, opened_gaps, is_committed}
+use Rattle.base.specs.Records.{Record, opened_gaps}
 use Rattle.base.specs.Images.{Image, layout_of, ruling, IsRuledBy}
 use Rattle.base.proofs.Histories.{opens-sound}
 use Rattle.base.specs.Stands.{Stands}
 use Rattle.base.specs.Machine.{present, StandsUnder}
 use Rattle.base.specs.Openings.{OpensAs, opened}
-use Rattle.pmem.specs.Device.{Device, value_of, image_of, MayLeave, Continues}
+use Rattle.pmem.specs.Device.{Device, value_of, image_of, MayLeave}
 use Rattle.pmem.proofs.Steps.{only-settled}
 use Rattle.log_area.proofs.Replacing.{holds_ruled}
 use Rattle.recovery.specs.Opened.{opened_record, HasSlotsOf, HasOpened}

@@ -1,8 +1,7 @@
 -- Visiting the slots one after another.
-use Rattle.std.proofs.Common.{◌≡◌, ◌⊎◌, inl, inr, ℕ, zero, suc, ◌+◌, ◌<◌, ◌≤◌, Bool, true, false, cond, not, ◌&&◌, ◌||◌, List, [], ◌∷◌, ◌++◌, refl, sym, ◌∙◌, ap, subst, arith, add-one, nat_eq, nat_le, map, ◌*◌, ◌^◌, length, get_or, lit<}
+use Rattle.std.proofs.Common.{◌≡◌, ◌⊎◌, inl, inr, ℕ, zero, suc, ◌+◌, ◌<◌, ◌≤◌, Bool, true, false, cond, not, ◌&&◌, ◌||◌, [], ◌∷◌, ◌++◌, refl, sym, ◌∙◌, ap, subst, arith, add-one, nat_eq, nat_le, ◌*◌, ◌^◌, length, get_or, lit<}
 use Rattle.std.specs.Prelude.{Option, Some, None, is_some}
 use Rattle.std.specs.Option.{option_or, option_map}
-use Rattle.std.specs.List.{range_with_len}
 use Rattle.std.specs.declared.cmp.Ordering.{Ordering}
 use Rattle.std.specs.declared.cmp.Ordering.TheVariants.{Less, Equal, Greater}
 use Rattle.std.specs.Ordering.{nat_cmp, ordering_then, is_eq}
@@ -24,7 +23,6 @@ use Rattle.pmem.specs.Device.{Device, value_of, image_of, IsOrderly}
 use Rattle.version_slot.specs.declared.words.Slot.{Slot}
 use Rattle.version_slot.specs.Words.{Fits, IsVersion, IsSlot, slot_at}
 use Rattle.version_slot.proofs.ImageSlots.{version_of, holds_version, well_formed, key_is}
-use Rattle.recovery.specs.declared.slots.Found.{Found}
 use Rattle.recovery.specs.declared.slots.Found.TheVariants.{Bad, Live, Free}
 use Rattle.recovery.specs.Slots.{IsUnder, HasKeys, IsVisitFault, IsSlotsFault, found_in, free_below, bad_below, is_bad, is_free, key_cmp, is_ahead, is_shown, is_ill_formed}
 

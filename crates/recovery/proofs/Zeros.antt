@@ -1,5 +1,5 @@
 -- Setting words to 0.
-use Rattle.std.proofs.Common.{◌≡◌, ◌≢◌, ◌⊎◌, inl, inr, ℕ, ◌+◌, ◌-◌, ◌*◌, ◌/◌, ◌<◌, ◌≤◌, refl, sym, ◌∙◌, ap, subst, arith}
+use Rattle.std.proofs.Common.{◌≡◌, ◌⊎◌, inl, inr, ℕ, ◌+◌, ◌-◌, ◌*◌, ◌<◌, ◌≤◌, sym, ◌∙◌, ap, subst, arith}
 use Rattle.std.proofs.lemmas.Bool.{cases_lt, cases_eq}
 use Rattle.pmem.specs.Device.{Device, IsOrderly, IsReady, IsSettled, value_of, stored, flushed, fenced}
 use Rattle.pmem.proofs.Steps.{value-stored_same, value-flushed, settled-ready, ready-flushed, ready-flushed_by}

@@ -1,5 +1,5 @@
 -- A freshly formatted image, and what a crash leaves while a device is formatted.
-use Rattle.std.specs.Prelude.{◌≡◌, ◌≢◌, ◌⊎◌, ℕ, ◌+◌, ◌-◌, ◌/◌, ◌<◌, Bool, false, ◌&&◌, nat_lt, nat_le, if◌then◌else◌, [], map, slice_index}
+use Rattle.std.specs.Prelude.{◌≡◌, ◌≢◌, ◌⊎◌, ℕ, ◌+◌, ◌-◌, false, ◌&&◌, nat_lt, nat_le, if◌then◌else◌, [], map, slice_index}
 use Rattle.std.specs.List.{range_with_len}
 use Rattle.base.specs.declared.fault.Fault.{Fault}
 use Rattle.base.specs.declared.fault.Fault.TheVariants.{BadGeometry, Device as DeviceFault}

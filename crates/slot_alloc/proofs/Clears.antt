@@ -1,6 +1,6 @@
 -- Clearing a word, operation by operation.
-use Rattle.std.proofs.Common.{◌≡◌, ◌≢◌, ◌⊎◌, inl, inr, ℕ, ◌+◌, ◌/◌, ◌<◌, ◌≤◌, List, [], ◌∷◌, Result, Ok, Err, OnErr, refl, sym, ◌∙◌, ap, subst, arith}
-use Rattle.pmem.specs.Device.{Device, survivors_in, stored, flushed, fenced, failed, Survives, value_of, IsSettled, IsReady, IsOrderly, Keeps}
+use Rattle.std.proofs.Common.{◌≡◌, ◌≢◌, ◌⊎◌, inl, inr, ℕ, ◌+◌, ◌/◌, ◌<◌, [], ◌∷◌, Result, Ok, Err, OnErr, refl, sym, ◌∙◌, ap, subst, arith}
+use Rattle.pmem.specs.Device.{Device, survivors_in, stored, flushed, fenced, failed, Survives, value_of, IsReady, IsOrderly, Keeps}
 use Rattle.pmem.proofs.Steps.{value-stored_same, value-stored_other, value-flushed, value-fenced, survives-stored, survives-flushed, survives-fenced, settled-stored, settled-flushed, settled-fenced, settled-ready, ready-flushed, ready-stored, ready-flushed_by, ready-fenced}
 use Rattle.pmem.proofs.Runs.{keeps_none, keeps-stored, keeps-flushed, keeps-fenced, keeps-failed}
 use Rattle.slot_alloc.specs.Clearing.{HasMade, IsNotStored, OldOrZero}

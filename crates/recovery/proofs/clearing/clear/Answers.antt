@@ -1,5 +1,5 @@
-use Rattle.std.proofs.Common.{◌≡◌, ℕ, ◌-◌, ◌*◌, ◌/◌, ◌+◌, ◌<◌, ◌≤◌, ◌∙◌, subst, arith}
-use Rattle.log_area.specs.Rulings.{Makes, Holds}
+use Rattle.std.proofs.Common.{ℕ, ◌-◌, ◌/◌, ◌<◌, ◌∙◌, subst, arith}
+use Rattle.log_area.specs.Rulings.{Makes}
 use Rattle.log_area.proofs.Runs.{spares_trans, spares-fenced, spares-failed}
 use Rattle.recovery.proofs.Zeros.{holds-fenced, made-clear}
 use Rattle.recovery.proofs.clearing.clear.Goals as goal

@@ -1,4 +1,4 @@
-use Rattle.std.proofs.Common.{◌≡◌, ℕ, ◌-◌, ◌*◌, ◌+◌, ◌<◌, ◌≤◌, refl, ◌∙◌, subst, arith}
+use Rattle.std.proofs.Common.{◌≡◌, ℕ, ◌-◌, ◌<◌, refl, ◌∙◌, subst, arith}
 use Rattle.log_area.specs.Rulings.{Makes}
 use Rattle.log_area.proofs.Runs.{spares_none, spares_trans, spares-flushed, spares-failed, makes_none}
 use Rattle.recovery.proofs.Zeros.{ready_more, value-line, made-flush}

@@ -1,6 +1,5 @@
-use Rattle.std.proofs.Common.{◌≡◌, Bool, true, false, refl, sym, ◌∙◌, arith, subst, length, ◌≤◌, ◌<◌, ℕ}
+use Rattle.std.proofs.Common.{◌≡◌, true, false, refl, sym, ◌∙◌}
 use Rattle.pmem.specs.Device.{image_of}
-use Rattle.recovery.proofs.Formed.{IsFormed}
 use Rattle.log_area.proofs.AtRest.{fits_image}
 use Rattle.recovery.proofs.Lives.{refuses-log, formed-new, formed-parts, under, window-small, refuses-slots, refuses-limit, refuses-full, examined, ruled-size}
 use Rattle.recovery.proofs.examine.examine.Goals as goal

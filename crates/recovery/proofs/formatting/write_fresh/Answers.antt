@@ -1,10 +1,9 @@
-use Rattle.std.proofs.Common.{◌≡◌, ◌⊎◌, ◌≢◌, inl, inr, ℕ, ◌<◌, ◌≤◌, refl, sym, ◌∙◌, subst, arith}
+use Rattle.std.proofs.Common.{ℕ, subst, arith}
 use Rattle.base.specs.Records.{Record}
 use Rattle.log_area.specs.Rulings.{Spares}
 use Rattle.log_area.specs.Writings.{IsOutside, IsWriting, begun, finished}
 use Rattle.log_area.proofs.Rulings.{log_within}
-use Rattle.recovery.specs.Fresh.{first_record}
-use Rattle.recovery.proofs.Fresh.{stage1-images, begun1, enough1, size1, begun2, size2, begun3, begun4, stage5-images, all-settled, all-made}
+use Rattle.recovery.proofs.Fresh.{stage1-images, enough1, size1, begun2, size2, begun3, begun4, stage5-images, all-settled, all-made}
 use Rattle.recovery.proofs.formatting.write_fresh.Goals as goal
 
 pub set_word-requires : goal.set_word-requires

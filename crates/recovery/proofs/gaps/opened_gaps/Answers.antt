@@ -1,4 +1,4 @@
-use Rattle.std.proofs.Common.{true, ◌≡◌, ◌≤◌, ◌+◌, ◌-◌, ℕ, List, arith, subst, sym}
+use Rattle.std.proofs.Common.{true, ◌≡◌, ◌-◌, List, arith, subst, sym}
 use Rattle.base.specs.declared.gap.Gap.{Gap}
 use Rattle.recovery.specs.Gaps.{are_upto}
 use Rattle.recovery.proofs.Formed.{formed}

@@ -1,4 +1,4 @@
-use Rattle.std.proofs.Common.{◌≡◌, sym, ◌∙◌, ap, refl, arith, subst, ℕ, List, Bool}
+use Rattle.std.proofs.Common.{sym, refl, subst}
 use Rattle.pmem.specs.Device.{image_of}
 use Rattle.recovery.specs.declared.opening.Life.{Life}
 use Rattle.recovery.specs.Opened.{HasOpened}

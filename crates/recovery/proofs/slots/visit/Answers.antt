@@ -1,4 +1,4 @@
-use Rattle.std.proofs.Common.{◌≡◌, Bool, true, false, cond, not, inl, inr, refl, sym, ◌∙◌, ap, subst, ℕ, ◌+◌}
+use Rattle.std.proofs.Common.{◌≡◌, true, cond, inr, sym, ◌∙◌, ap, subst, ℕ, ◌+◌}
 use Rattle.std.specs.BTreeSet.{contains}
 use Rattle.std.specs.BTreeMap.{is_at}
 use Rattle.std.proofs.lemmas.Bool.{not-true, not-false}

@@ -1,4 +1,4 @@
-use Rattle.std.proofs.Common.{◌≡◌, ◌<◌, ℕ, Bool, true, false, List, length, get_or, sym, ◌∙◌, ap, subst}
+use Rattle.std.proofs.Common.{◌≡◌, ◌<◌, Bool, true, false, List, length, get_or, sym, ◌∙◌, subst}
 use Rattle.slot_alloc.specs.Free.{is_free}
 use Rattle.slot_alloc.proofs.Lowest.{lowest_found}
 use Rattle.slot_alloc.proofs.free.SlotAlloc.lowest.Goals as goal

@@ -1,4 +1,4 @@
-use Rattle.std.proofs.Common.{◌≡◌, ◌/◌, ◌<◌, subst, ℕ, length, sym, ◌∙◌, arith}
+use Rattle.std.proofs.Common.{◌≡◌, ◌/◌, subst, ℕ, length, sym, ◌∙◌, arith}
 use Rattle.pmem.specs.Device.{fenced, flushed, stored}
 use Rattle.slot_alloc.specs.Free.{is_free}
 use Rattle.slot_alloc.proofs.Lowest.{lowest_below}
