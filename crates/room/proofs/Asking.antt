@@ -3,13 +3,13 @@ use Rattle.std.proofs.Common.{◌≡◌, ℕ, Bool, true, false, cond, List, len
 use Rattle.std.specs.Prelude.{Option, Some, None, is_none, not as bool_not, ◌&&◌}
 use Rattle.base.specs.declared.key.Key.{Key}
 use Rattle.base.specs.declared.fault.Fault.{Fault}
-use Rattle.base.specs.declared.fault.Fault.TheVariants.{Device as DeviceFault, Failed, NoSession, WrongState}
+use Rattle.base.specs.declared.fault.Fault.TheVariants.{Failed, NoSession, WrongState}
 use Rattle.base.specs.declared.step.Step.{Step}
 use Rattle.base.specs.declared.step.Step.TheVariants.{Get, Put, Delete, Draw, Abort}
 use Rattle.base.specs.declared.step.Reply.{Reply}
 use Rattle.base.specs.declared.step.Reply.TheVariants.{Refused}
 use Rattle.base.specs.Stands.{has_timestamp}
-use Rattle.base.specs.Machine.{State, Session as PlainSession, Standing, IsDrawn, IsStamped, IsCovered, refusal, allows, standing_of}
+use Rattle.base.specs.Machine.{State, Session as PlainSession, IsDrawn, IsStamped, IsCovered, refusal, allows, standing_of}
 use Rattle.pmem.specs.Device.{Device, IsOrderly}
 use Rattle.pmem.specs.declared.device.Pmem.{Ghosts}
 use Rattle.room.specs.declared.session.Session.{Session}

@@ -1,5 +1,5 @@
 -- A deletion of the room's session, and its end without a commit.
-use Rattle.std.proofs.Common.{◌≡◌, ◌≢◌, ℕ, ◌<◌, Bool, true, false, ◌&&◌, List, length, set, refl, sym, ◌∙◌, ap, subst, Contains, true≢false}
+use Rattle.std.proofs.Common.{◌≡◌, ℕ, ◌<◌, Bool, true, false, ◌&&◌, List, length, set, refl, sym, ◌∙◌, ap, subst, Contains, true≢false}
 use Rattle.std.specs.Prelude.{Option, Some, None, nat_le, is_none, slice_get}
 use Rattle.std.proofs.lemmas.Bool.{eqb-true}
 use Rattle.base.specs.declared.key.Key.{Key}

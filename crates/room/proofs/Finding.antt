@@ -1,6 +1,6 @@
 -- What the slots show of a key's newest version.
-use Rattle.std.proofs.Common.{◌≡◌, ◌⊎◌, inl, inr, ℕ, zero, suc, ◌-◌, ◌+◌, ◌*◌, ◌^◌, ◌<◌, ◌≤◌, Bool, true, false, List, [], ◌∷◌, length, get_or, drop, refl, sym, ◌∙◌, ap, subst, arith, lit<, nat_eq, ◌&&◌}
-use Rattle.std.specs.Prelude.{Option, Some, None, unwrap_or, IsTrue}
+use Rattle.std.proofs.Common.{◌≡◌, ◌⊎◌, inl, inr, ℕ, zero, suc, ◌-◌, ◌+◌, ◌^◌, ◌<◌, ◌≤◌, Bool, true, false, List, [], ◌∷◌, length, get_or, drop, refl, sym, ◌∙◌, ap, subst, arith, lit<, nat_eq, ◌&&◌}
+use Rattle.std.specs.Prelude.{Option, Some, None, unwrap_or}
 use Rattle.std.proofs.lemmas.Nat.{mul-add-lt}
 use Rattle.std.proofs.lemmas.Bool.{cases_lt, eqb-true, eq-eqb}
 use Rattle.std.proofs.lemmas.Bool.Decides.{nat_tests}
@@ -8,17 +8,15 @@ use Rattle.std.proofs.lemmas.List.{get_or-drop, get_or_past, length-drop}
 use Rattle.std.proofs.lemmas.List.FromFn.{length-map-range_with_len, get_or-map-range_with_len}
 use Rattle.base.specs.declared.key.Key.{Key}
 use Rattle.base.specs.Commits.{after}
-use Rattle.base.specs.Layout.{Layout, slot_start, slot_words, total_words, is_in_limits}
-use Rattle.base.specs.Images.{Image, layout_of, slot_word, key_of, row_of}
+use Rattle.base.specs.Layout.{Layout, slot_words, total_words, is_in_limits}
+use Rattle.base.specs.Images.{Image, layout_of, slot_word}
 use Rattle.base.specs.Records.{Record, is_committed}
 use Rattle.base.specs.Machine.{State, present}
 use Rattle.pmem.specs.Device.{Device, IsOrderly, Survives, value_of, image_of}
-use Rattle.invariant.specs.Slots.{word_of, is_misfit, HasVersion, Spells, IsLive, SlotHolds}
-use Rattle.invariant.specs.Kept.{IsKept, newest_of}
+use Rattle.invariant.specs.Slots.{word_of, HasVersion, Spells, IsLive, SlotHolds}
 use Rattle.invariant.proofs.Living.{IsLiving, IsOut, unbegun, ended, Outcome, outcome, living-newest, uncounted-end}
 use Rattle.version_slot.specs.declared.words.Slot.{Slot}
-use Rattle.version_slot.specs.declared.words.Version.{Version}
-use Rattle.version_slot.specs.Words.{Fits, IsVersion, IsSlot, slot_at}
+use Rattle.version_slot.specs.Words.{IsVersion, IsSlot, slot_at}
 use Rattle.version_slot.proofs.Decoding.{limits}
 use Rattle.version_slot.proofs.ImageSlots.{key_is, row_is_of, version_of, holds_version}
 use Rattle.room.specs.Tables.{HoldsTables, HasNewest, IsNewestAt}

@@ -1,22 +1,20 @@
 -- The step that reads a row.
-use Rattle.std.proofs.Common.{◌≡◌, ℕ, Bool, true, false, cond, List, [], ◌∷◌, length, take, refl, sym, ◌∙◌, ap, subst, nat_eq, ◌&&◌}
+use Rattle.std.proofs.Common.{◌≡◌, ℕ, Bool, true, false, cond, List, length, take, refl, sym, ◌∙◌, ap}
 use Rattle.std.specs.Prelude.{Option, Some, None, unwrap_or}
 use Rattle.std.specs.Option.{option_map}
 use Rattle.std.proofs.Math.Seq.{take-length}
 use Rattle.base.specs.declared.key.Key.{Key}
 use Rattle.base.specs.declared.fault.Fault.TheVariants.{WrongState}
 use Rattle.base.specs.declared.step.Step.TheVariants.{Get}
-use Rattle.base.specs.declared.step.Reply.{Reply}
 use Rattle.base.specs.declared.step.Reply.TheVariants.{Row}
 use Rattle.base.specs.Commits.{Commit, Writes, after, overlaid}
-use Rattle.base.specs.Keys.{key_eq, lookup_key}
+use Rattle.base.specs.Keys.{lookup_key}
 use Rattle.base.specs.Stands.{has_timestamp}
-use Rattle.base.specs.Machine.{State, Session as PlainSession, Active as IsReading, Drew, WroteNothing, IsDrawn, IsStamped, IsCovered, Stepped, answered, refusal, allows, standing_of, seen_by, writes_of, begun_of}
+use Rattle.base.specs.Machine.{State, Session as PlainSession, Active as IsReading, Drew, WroteNothing, IsDrawn, IsStamped, IsCovered, Stepped, answered, refusal, allows, seen_by, writes_of, begun_of}
 use Rattle.pmem.specs.Device.{Device}
 use Rattle.pmem.specs.declared.device.Pmem.{Ghosts}
 use Rattle.room.specs.declared.room.Room.{Room}
-use Rattle.room.specs.declared.session.Session.{Session}
-use Rattle.room.specs.declared.session.Session.TheVariants.{Active, Drawn, Covered, ReadOnly}
+use Rattle.room.specs.declared.session.Session.TheVariants.{Active}
 use Rattle.txn.specs.declared.write.Write.{Write}
 use Rattle.txn.specs.WriteSets.{write_of, plain_writes}
 use Rattle.txn.proofs.Plain.{lookup_key-plain_writes}

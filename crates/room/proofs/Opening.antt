@@ -1,12 +1,10 @@
 -- What an opening gives is shown.
-use Rattle.std.proofs.Common.{◌≡◌, ◌⊎◌, inl, inr, ℕ, ◌+◌, ◌-◌, ◌*◌, ◌^◌, ◌<◌, ◌≤◌, Bool, true, false, cond, not, ◌&&◌, ◌||◌, List, [], length, map, refl, sym, ◌∙◌, ap, subst, nat_eq, nat_lt, nat_le, arith}
+use Rattle.std.proofs.Common.{◌≡◌, ℕ, ◌+◌, ◌-◌, ◌*◌, ◌^◌, ◌<◌, ◌≤◌, Bool, true, false, cond, not, ◌&&◌, List, length, refl, sym, ◌∙◌, ap, subst, nat_eq, nat_lt, nat_le, arith}
 use Rattle.std.specs.Prelude.{slice_get, slice_index, Option, Some, None, is_none}
 use Rattle.std.specs.Option.{option_map}
-use Rattle.std.specs.List.{range_with_len}
 use Rattle.std.proofs.lemmas.Bool.{or_parts, leb-false, ltb-false, lt-ltb, false≢true}
 use Rattle.std.proofs.lemmas.Option.{slice_get-get_or}
 use Rattle.std.proofs.lemmas.List.FromFn.{length-map-range_with_len, get_or-map-range_with_len}
-use Rattle.base.specs.declared.gap.Gap.{Gap}
 use Rattle.room.specs.declared.cycle.InHand.{InHand}
 use Rattle.base.specs.Commits.{Commit}
 use Rattle.base.specs.Layout.{Layout, slot_words, total_words}
@@ -23,7 +21,7 @@ use Rattle.pmem.specs.declared.device.Pmem.{Ghosts}
 use Rattle.log_area.specs.Rulings.{Holds, HoldsRecord}
 use Rattle.invariant.specs.Slots.{word_of}
 use Rattle.invariant.proofs.Standing.{size-of}
-use Rattle.invariant.proofs.Opening.{held_by, opened_under, same_opened, whole-of, opening-of, RestsOn, opened-kept_under, opened-holds_under}
+use Rattle.invariant.proofs.Opening.{opened_under, same_opened, whole-of, opening-of, RestsOn, opened-kept_under, opened-holds_under}
 use Rattle.recovery.specs.Opened.{HasOpened, opened_record, free_in}
 use Rattle.recovery.specs.Slots.{is_shown}
 use Rattle.recovery.proofs.Added.{opens}
@@ -31,8 +29,8 @@ use Rattle.recovery.proofs.Opens.{or-none, faultless, formed-ruling}
 use Rattle.room.specs.declared.cycle.Cycle.{Cycle}
 use Rattle.room.specs.declared.session.Session.{Session}
 use Rattle.room.specs.declared.room.Room.{Room}
-use Rattle.room.specs.Agrees.{Works, HasFree, Agrees}
-use Rattle.room.specs.Sessions.{plain_session, session_at}
+use Rattle.room.specs.Agrees.{Works}
+use Rattle.room.specs.Sessions.{plain_session}
 use Rattle.room.specs.Room.{Shows}
 use Rattle.room.proofs.Standing.{word-within, stands-works}
 

@@ -1,10 +1,9 @@
 -- Steps that make no operation: Begin, Poll and End.
-use Rattle.std.proofs.Common.{◌≡◌, ℕ, ◌+◌, ◌<◌, Bool, true, false, cond, List, [], ◌∷◌, length, refl, sym, ◌∙◌, ap, subst, nat_eq, arith}
+use Rattle.std.proofs.Common.{◌≡◌, ℕ, ◌+◌, Bool, true, false, cond, List, [], length, refl, sym, ◌∙◌, ap, subst, nat_eq, arith}
 use Rattle.std.specs.Prelude.{Option, Some, None, unwrap_or, if◌then◌else◌}
 use Rattle.std.specs.Option.{option_map}
 use Rattle.room.specs.declared.cycle.InHand.{InHand}
 use Rattle.base.specs.declared.step.Step.TheVariants.{Begin, Poll, End}
-use Rattle.base.specs.declared.step.Reply.{Reply}
 use Rattle.base.specs.declared.step.Reply.TheVariants.{Began, Done, Waiting, Committed}
 use Rattle.base.specs.Stands.{has_timestamp}
 use Rattle.base.specs.Machine.{State, Session as PlainSession, Drew, WroteNothing, IsDrawn, IsStamped, IsCovered, Stepped, answered, refusal, free_session, next_state, with_session, replaced, allows, standing_of, polled, writes_of, present}

@@ -1,15 +1,14 @@
 -- What each step is refused for, test by test.
-use Rattle.std.proofs.Common.{◌≡◌, ℕ, ◌+◌, ◌*◌, ◌^◌, Bool, true, false, ◌||◌, List, [], ◌∷◌, refl, take}
-use Rattle.std.specs.Prelude.{Option, Some, None, is_some, is_none, nat_le, nat_eq, unwrap_or}
+use Rattle.std.proofs.Common.{◌≡◌, ℕ, Bool, true, false, List, refl}
+use Rattle.std.specs.Prelude.{Option, Some, None}
 use Rattle.std.specs.Option.{option_or}
 use Rattle.base.specs.declared.key.Key.{Key}
 use Rattle.base.specs.declared.fault.Fault.{Fault}
-use Rattle.base.specs.declared.fault.Fault.TheVariants.{Failed, SessionsFull, NoSession, WrongState, WriteSetFull, SlotsOut, WindowFull, TimestampsOut}
+use Rattle.base.specs.declared.fault.Fault.TheVariants.{Failed, SessionsFull, NoSession, WrongState}
 use Rattle.base.specs.declared.step.Step.{Step}
-use Rattle.base.specs.declared.step.Step.TheVariants.{Begin, Get, Put, Draw, Stamp, Poll, End, Commit as CommitTick}
-use Rattle.base.specs.Commits.{Writes, after}
+use Rattle.base.specs.declared.step.Step.TheVariants.{Begin, Get, Put, Draw, Stamp, Poll, End}
 use Rattle.base.specs.Search.{some_if}
-use Rattle.base.specs.Machine.{State, Session, Active, refusal, session_of, allows, standing_of, free_session, is_absent, is_misplaced}
+use Rattle.base.specs.Machine.{State, Session, refusal, allows, standing_of, free_session}
 
 some_failed : (b : Bool) (rest : Option Fault) → b ≡ true → option_or (some_if b Failed) rest ≡ Some Failed
 some_failed b rest h = rw h refl

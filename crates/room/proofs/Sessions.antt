@@ -1,22 +1,19 @@
 -- What the room's session is in the plain state.
-use Rattle.std.proofs.Common.{◌≡◌, ℕ, ◌+◌, ◌<◌, ◌≤◌, Bool, true, false, ◌&&◌, ◌||◌, cond, List, [], ◌∷◌, length, refl, sym, ◌∙◌, ap, subst, arith, nat_eq, nat_le, nat_lt}
-use Rattle.std.specs.Prelude.{Option, Some, None, IsTrue, not}
-use Rattle.std.specs.List.{list_all, list_any}
+use Rattle.std.proofs.Common.{◌≡◌, ℕ, ◌<◌, ◌≤◌, Bool, true, false, ◌&&◌, ◌||◌, cond, List, [], ◌∷◌, length, refl, ◌∙◌, ap, arith, nat_eq}
+use Rattle.std.specs.Prelude.{Option, Some, None}
+use Rattle.std.specs.List.{list_all}
 use Rattle.std.specs.Option.{option_map}
 use Rattle.std.proofs.lemmas.Bool.Decides.{nat_tests}
 use Rattle.base.specs.Commits.{Commit}
-use Rattle.base.specs.Records.{Record, is_committed, is_in}
+use Rattle.base.specs.Records.{Record, is_committed}
 use Rattle.base.specs.Stands.{has_timestamp}
-use Rattle.base.specs.Machine.{State, Session as PlainSession, Drew, WroteNothing, IsDrawn, IsStamped, IsCovered, standing_of, present}
+use Rattle.base.specs.Machine.{State}
 use Rattle.pmem.specs.Device.{Device}
 use Rattle.pmem.specs.declared.device.Pmem.{Ghosts}
-use Rattle.invariant.specs.Kept.{IsKept}
 use Rattle.room.specs.declared.session.Session.{Session}
-use Rattle.room.specs.declared.session.Session.TheVariants.{Active, Drawn, Covered, ReadOnly}
-use Rattle.txn.specs.declared.write.Write.{Write}
 use Rattle.room.specs.declared.room.Room.{Room}
 use Rattle.room.specs.Agrees.{Works}
-use Rattle.room.specs.Sessions.{session_at, plain_session, drawn_by}
+use Rattle.room.specs.Sessions.{session_at, plain_session}
 
 -- the plain session of a number, where the room's is known
 pub session-found : {D : Type 0} {G : Ghosts D} (state : D → Device) (room : Room D G) (q : State) (n : ℕ) (found : Option Session) → Works q (state room.device) room.session room.cycle room.batch room.slots → session_at room.session n ≡ found

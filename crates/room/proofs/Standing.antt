@@ -7,10 +7,10 @@ use Rattle.std.proofs.lemmas.Nat.{mul-add-lt}
 use Rattle.std.proofs.lemmas.List.Folds.{list_any-append}
 use Rattle.room.specs.declared.cycle.InHand.{InHand}
 use Rattle.base.specs.Commits.{Commit}
-use Rattle.base.specs.Layout.{Layout, total_words, slot_words, is_in_limits, is_known_version, is_between}
+use Rattle.base.specs.Layout.{Layout, total_words, slot_words}
 use Rattle.base.specs.Records.{Record, is_committed}
 use Rattle.base.specs.Stands.{has_timestamp}
-use Rattle.base.specs.Images.{Image, ruling, layout_of, IsRuledBy}
+use Rattle.base.specs.Images.{Image, ruling, IsRuledBy}
 use Rattle.base.specs.Machine.{State, Hand, Cover, Drawn as DrawnCommit, present, of_hand, state_covered, StandsUnder, StandsAsOne, StandsAt}
 use Rattle.pmem.specs.Device.{Device, MayLeave}
 use Rattle.log_area.specs.Rulings.{HoldsRecord}

@@ -1,5 +1,5 @@
 -- Steps that leave the room as it is.
-use Rattle.std.proofs.Common.{◌≡◌, ℕ, ◌+◌, ◌<◌, ◌≤◌, refl, sym, ap, subst, arith}
+use Rattle.std.proofs.Common.{◌≡◌, ℕ, ◌+◌, ◌≤◌, refl, sym, ap, subst, arith}
 use Rattle.base.specs.declared.fault.Fault.{Fault}
 use Rattle.base.specs.declared.fault.Fault.TheVariants.{Device as DeviceFault}
 use Rattle.base.specs.declared.step.Step.{Step}
@@ -15,7 +15,7 @@ use Rattle.pmem.specs.declared.device.Pmem.{Ghosts}
 use Rattle.pmem.proofs.Images.{leaves_refl}
 use Rattle.room.specs.declared.room.Room.{Room}
 use Rattle.base.specs.Images.{Image}
-use Rattle.room.specs.Room.{Shows, StepsTo, device_of, TellsFailure, operations_of}
+use Rattle.room.specs.Room.{Shows, StepsTo, TellsFailure, operations_of}
 
 -- a step that leaves the room and the state as they are
 pub stays : {D : Type 0} {G : Ghosts D} (state : D → Device) (room : Room D G) (q : State) (step : Step) (reply : Reply)

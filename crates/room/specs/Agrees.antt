@@ -19,7 +19,7 @@ use Rattle.room.specs.declared.cycle.CycleStage.{CycleStage}
 use Rattle.room.specs.declared.cycle.CycleStage.TheVariants.{FlushLines, WriteRecord}
 use Rattle.room.specs.declared.cycle.InHand.{InHand}
 use Rattle.room.specs.declared.session.Session.{Session}
-use Rattle.room.specs.declared.session.Session.TheVariants.{Active, Drawn, Covered, ReadOnly}
+use Rattle.room.specs.declared.session.Session.TheVariants.{Active, Drawn, Covered}
 use Rattle.room.specs.declared.room.Room.{Room}
 use Rattle.room.specs.Sessions.{session_at, commit_of, plain_session, drawn_by, lines_in}
 use Rattle.room.specs.Tables.{Replaces}

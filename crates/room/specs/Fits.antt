@@ -8,7 +8,7 @@ use Rattle.log_area.specs.declared.stage.WritingStage.TheVariants.{Done}
 use Rattle.room.specs.declared.cycle.Cycle.{Cycle}
 use Rattle.room.specs.declared.cycle.InHand.{InHand}
 use Rattle.room.specs.declared.session.Session.{Session}
-use Rattle.room.specs.declared.session.Session.TheVariants.{Active, Drawn, Covered, ReadOnly}
+use Rattle.room.specs.declared.session.Session.TheVariants.{Active, Drawn}
 use Rattle.room.specs.Sessions.{lines_in}
 
 -- the slot, if there is one, is one of so many

@@ -1,6 +1,4 @@
-use Rattle.std.proofs.Common.{◌≡◌, ◌<◌, ◌⊎◌, inl, inr, sym, ap, subst, ℕ, ◌+◌, arith}
-use Rattle.std.proofs.lemmas.Bool.{cases_lt}
-use Rattle.room.specs.Tables.{HasNewest}
+use Rattle.std.proofs.Common.{arith}
 use Rattle.room.proofs.Finding.{none-after, one-more}
 use Rattle.room.proofs.tables.find.Goals as goal
 

@@ -1,7 +1,5 @@
-use Rattle.std.proofs.Common.{◌≡◌, ◌<◌, Bool, true, false, List, [], ◌∷◌, refl, sym, ◌∙◌, ap, subst, ℕ, arith, rules}
-use Rattle.base.specs.Records.{Record, is_committed}
-use Rattle.base.specs.Machine.{State, present}
-use Rattle.room.specs.Tables.{HoldsTables, HasNewest}
+use Rattle.std.proofs.Common.{◌∙◌, ap}
+use Rattle.base.specs.Records.{is_committed}
 use Rattle.room.proofs.Finding.{begin-counts, end-uncounted, newest-some, newest-key, live-row, same-key, other-key}
 use Rattle.room.proofs.tables.row_at.Goals as goal
 use Rattle.room.proofs.tables.row_at.Goals.{in_default-via-in-Some+else-eq, in_default-via-in_default}

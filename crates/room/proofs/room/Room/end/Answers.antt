@@ -1,12 +1,8 @@
-use Rattle.std.proofs.Common.{◌≡◌, ◌∙◌, refl, sym, ap, subst}
-use Rattle.std.specs.Prelude.{Option, Some}
+use Rattle.std.proofs.Common.{◌∙◌, refl, sym}
 use Rattle.base.specs.declared.fault.Fault.TheVariants.{Failed, NoSession, WrongState}
 use Rattle.base.specs.declared.step.Step.TheVariants.{End}
 use Rattle.base.specs.declared.step.Reply.TheVariants.{Done}
 use Rattle.base.specs.Machine.{next_state}
-use Rattle.room.specs.declared.session.Session.{Session}
-use Rattle.room.specs.Agrees.{Works}
-use Rattle.room.specs.Sessions.{session_at}
 use Rattle.room.proofs.Refusals.{refusal-failed, refusal-end_absent}
 use Rattle.room.proofs.Steps.{refuses, same-images, same-failures, same-operations, stands-alike}
 use Rattle.room.proofs.Quiet.{plain-found, over-is, early-is, end-early, end-over, ends}

@@ -1,5 +1,4 @@
-use Rattle.std.proofs.Common.{◌∙◌, sym, ap}
-use Rattle.std.specs.Prelude.{Some}
+use Rattle.std.proofs.Common.{◌∙◌}
 use Rattle.base.specs.declared.step.Step.TheVariants.{Get}
 use Rattle.base.specs.declared.step.Reply.TheVariants.{Row}
 use Rattle.room.proofs.Steps.{stays}

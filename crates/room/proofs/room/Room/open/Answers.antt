@@ -1,5 +1,5 @@
 use Rattle.std.proofs.Common.{List, Bool, length, refl, ◌∙◌, ap}
-use Rattle.room.proofs.Opening.{shows-opened, free-counted, next-numbered}
+use Rattle.room.proofs.Opening.{shows-opened, free-counted}
 use Rattle.room.proofs.room.Room.open.Goals as goal
 
 pub invariant_of-result-in-Ok : goal.invariant_of-result-in-Ok

@@ -1,9 +1,9 @@
-use Rattle.std.proofs.Common.{◌∙◌, refl, sym, ap}
+use Rattle.std.proofs.Common.{◌∙◌, sym, ap}
 use Rattle.std.specs.Prelude.{Some}
 use Rattle.base.specs.declared.fault.Fault.TheVariants.{Failed, NoSession, WrongState}
 use Rattle.base.specs.declared.step.Step.TheVariants.{Poll}
 use Rattle.base.specs.declared.step.Reply.TheVariants.{Waiting, Committed, Done}
-use Rattle.room.proofs.Refusals.{refusal-failed, refusal-poll_absent, refusal-poll_misplaced}
+use Rattle.room.proofs.Refusals.{refusal-failed, refusal-poll_absent}
 use Rattle.room.proofs.Steps.{refuses, stays}
 use Rattle.room.proofs.Quiet.{plain-found, active-refused, poll-waits, poll-commits, poll-nothing}
 use Rattle.room.proofs.room.Room.poll.Goals as goal
