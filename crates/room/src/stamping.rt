@@ -1,4 +1,4 @@
-ghost use Rattle.std.specs.Prelude.{◌≡◌, IsTrue, OnErr, OnOk};
+ghost use Rattle.std.specs.Prelude.{◌≡◌, IsTrue, IfErr, OnErr, OnOk};
 ghost use Rattle.base.specs.Layout.{total_words};
 ghost use Rattle.room.specs.Fits.{fits_slot, fits_write};
 ghost use Rattle.room.specs.Storing.{StampsAt, StampsWrite, FailsAt, FailsStampingWrite};
@@ -21,6 +21,7 @@ pub fn stamp_write<D: Pmem>(
     requires device { (D.state device.old).words ≡ total_words geometry }
     ensures ok { OnOk result (StampsWrite geometry write timestamp (D.state device.old) (D.state device.new)) }
     ensures err { OnErr result (FailsStampingWrite geometry write timestamp (D.state device.old) (D.state device.new)) }
+    ensures fault { IfErr result (λ fault. fault ≡ Fault.Device) }
     ensures size { (D.state device.new).words ≡ (D.state device.old).words }
 {
     begin_at(device, geometry, write.slot, timestamp)?;
@@ -38,6 +39,7 @@ fn begin_at<D: Pmem>(
     requires device { (D.state device.old).words ≡ total_words geometry }
     ensures ok { OnOk result (StampsAt geometry 0 slot timestamp (D.state device.old) (D.state device.new)) }
     ensures err { OnErr result (FailsAt geometry 0 slot timestamp (D.state device.old) (D.state device.new)) }
+    ensures fault { IfErr result (λ fault. fault ≡ Fault.Device) }
     ensures size { (D.state device.new).words ≡ (D.state device.old).words }
 {
     match slot {
@@ -57,6 +59,7 @@ fn end_at<D: Pmem>(
     requires device { (D.state device.old).words ≡ total_words geometry }
     ensures ok { OnOk result (StampsAt geometry 1 slot timestamp (D.state device.old) (D.state device.new)) }
     ensures err { OnErr result (FailsAt geometry 1 slot timestamp (D.state device.old) (D.state device.new)) }
+    ensures fault { IfErr result (λ fault. fault ≡ Fault.Device) }
     ensures size { (D.state device.new).words ≡ (D.state device.old).words }
 {
     match slot {
