@@ -1,9 +1,7 @@
-ghost use Rattle.std.specs.Prelude.{OnErr, OnOk};
+ghost use Rattle.std.specs.Prelude.{◌≡◌, IsTrue, IfErr, OnErr, OnOk};
 ghost use Rattle.base.specs.Layout.{total_words};
-ghost use Rattle.std.specs.Prelude.{◌≡◌};
 ghost use Rattle.room.specs.Fits.{fits_write};
 ghost use Rattle.room.specs.Storing.{StampsWrite, FailsStampingWrite};
-ghost use Rattle.std.specs.Prelude.{IsTrue};
 
 use base::Ts;
 use base::fault::Fault;
@@ -23,6 +21,7 @@ pub fn stamp_write<D: Pmem>(
     requires device { (D.state device.old).words ≡ total_words geometry }
     ensures ok { OnOk result (StampsWrite geometry write timestamp (D.state device.old) (D.state device.new)) }
     ensures err { OnErr result (FailsStampingWrite geometry write timestamp (D.state device.old) (D.state device.new)) }
+    ensures fault { IfErr result (λ fault. fault ≡ Fault.Device) }
     ensures size { (D.state device.new).words ≡ (D.state device.old).words }
 {
     if let Some(slot) = write.slot {
