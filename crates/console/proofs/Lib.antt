@@ -1,2 +1,4 @@
 mod Kept
 mod Restarted
+mod Grown
+mod Obeyed
