@@ -2,3 +2,4 @@ mod Kept
 mod Restarted
 mod Grown
 mod Obeyed
+mod Lives
