@@ -7,47 +7,51 @@ use Rattle.base.specs.declared.step.Reply.{Reply}
 use Rattle.base.specs.Commits.{Commit}
 use Rattle.base.specs.Images.{Image}
 use Rattle.base.specs.Stands.{Stands}
-use Rattle.base.specs.Machine.{State, Hand, Cover, StandsUnder, StandsAt, StandsClosed, drawn_of, covers_at, of_hand, present, closed, uncovered}
+use Rattle.base.specs.Machine.{State, Stepped, Hand, Cover, StandsUnder, StandsAt, StandsClosed, drawn_of, covers_at, of_hand, present, closed, uncovered}
 use Rattle.base.specs.Openings.{OpensAs}
-use Rattle.base.proofs.Growth.{extends-stepped}
 use Rattle.pmem.specs.Device.{Device, MayLeave, restarted, image_of}
 use Rattle.pmem.specs.declared.device.Pmem.{Ghosts}
 use Rattle.room.specs.Room.{Shows, StepsTo, device_of}
 use Rattle.room.specs.declared.room.Room.{Room}
 use Rattle.command_line.specs.ImageFile.{HoldsWords, bytes_of_words}
-use Rattle.console.specs.Kept.{Extends, GoesOn, HasHistory, HasClosed, KeepsHistory, IsFileWith, KeepsHistories}
+use Rattle.console.specs.Kept.{Extends, Leads, HasHistory, HasClosed, KeepsHistory, IsFileWith, KeepsHistories}
 use Rattle.console.proofs.Restarted.{one_image, image-restarted}
 
-extends-none : (history : List Commit) → Extends history history
+pub extends-none : (history : List Commit) → Extends history history
 extends-none history = ([], sym (append-nil history))
 
-extends-trans : (a b c : List Commit) → Extends a b → Extends b c → Extends a c
+pub extends-trans : (a b c : List Commit) → Extends a b → Extends b c → Extends a c
 extends-trans a b c (more, e) (rest, f) = (more ++ rest, f ∙ (ap (λ (l : List Commit). l ++ rest) e ∙ append_assoc a more rest))
 
 -- A room
 
-pub goes-nowhere : {D : Type 0} {G : Ghosts D} (state : D → Device) (room : Room D G) → GoesOn state room room
-goes-nowhere state room = record { each = λ q shows. (q, extends-none q.history, shows) }
+pub leads-nowhere : {D : Type 0} {G : Ghosts D} (state : D → Device) (room : Room D G) (By : State → State → Type 0) → ((q : State) → By q q) → Leads state room room By
+leads-nowhere state room By same = record { each = λ q shows. (q, same q, shows) }
 
-pub goes-trans : {D : Type 0} {G : Ghosts D} (state : D → Device) (old mid new : Room D G) → GoesOn state old mid → GoesOn state mid new → GoesOn state old new
-goes-trans state old mid new a b = record {
+pub leads-by : {D : Type 0} {G : Ghosts D} (state : D → Device) (old new : Room D G) (A B : State → State → Type 0)
+    → ((q q' : State) → A q q' → B q q') → Leads state old new A → Leads state old new B
+leads-by state old new A B says a = record { each = λ q shows. let made = a.each q shows in (made.0, says q made.0 made.1, made.2) }
+
+pub leads-trans : {D : Type 0} {G : Ghosts D} (state : D → Device) (old mid new : Room D G) (A B C : State → State → Type 0)
+    → ((q m q' : State) → A q m → B m q' → C q q') → Leads state old mid A → Leads state mid new B → Leads state old new C
+leads-trans state old mid new A B C says a b = record {
   each = λ q shows.
       let first = a.each q shows in
       let second = b.each first.0 first.2 in
-      (second.0, extends-trans q.history first.0.history second.0.history first.1 second.1, second.2);
+      (second.0, says q first.0 second.0 first.1 second.1, second.2);
 }
 
-pub goes-step : {D : Type 0} {G : Ghosts D} (state : D → Device) (old new : Room D G) (step : Step) (reply : Reply)
-    → ((q : State) → Shows state old q → (q' : State) × StepsTo state old new step reply q q') → GoesOn state old new
-goes-step state old new step reply steps = record {
-  each = λ q shows.
-      let made = steps q shows in (made.0, extends-stepped q step reply made.0 made.1.stepped, made.1.shows);
+pub leads-step : {D : Type 0} {G : Ghosts D} (state : D → Device) (old new : Room D G) (step : Step) (reply : Reply)
+    → ((q : State) → Shows state old q → (q' : State) × StepsTo state old new step reply q q') → Leads state old new (λ q q'. Stepped q step reply q')
+leads-step state old new step reply steps = record {
+  each = λ q shows. let made = steps q shows in (made.0, made.1.stepped, made.1.shows);
 }
 
-pub keeps-going : {D : Type 0} {G : Ghosts D} (state : D → Device) (history : List Commit) (old new : Room D G) → HasHistory state history old → GoesOn state old new → HasHistory state history new
-keeps-going state history old new has goes =
-    let now = goes.each has.shown has.shows in
-    record { shown = now.0; longer = extends-trans history has.shown.history now.0.history has.longer now.1; shows = now.2 }
+pub keeps-going : {D : Type 0} {G : Ghosts D} (state : D → Device) (history : List Commit) (old new : Room D G) (By : State → State → Type 0)
+    → ((q q' : State) → By q q' → Extends q.history q'.history) → HasHistory state history old → Leads state old new By → HasHistory state history new
+keeps-going state history old new By grows has leads =
+    let now = leads.each has.shown has.shows in
+    record { shown = now.0; longer = extends-trans history has.shown.history now.0.history has.longer (grows has.shown now.0 now.1); shows = now.2 }
 
 pub opens-with : {D : Type 0} {G : Ghosts D} (state : D → Device) (room : Room D G) (image : Image) (history : List Commit)
     → ((q : State) × OpensAs image history [] q × Shows state room q) → HasHistory state history room
