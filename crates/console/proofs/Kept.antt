@@ -7,52 +7,45 @@ use Rattle.base.specs.declared.step.Reply.{Reply}
 use Rattle.base.specs.Commits.{Commit}
 use Rattle.base.specs.Images.{Image}
 use Rattle.base.specs.Stands.{Stands}
-use Rattle.base.specs.Machine.{State, Hand, Cover, StandsUnder, StandsAt, StandsClosed, drawn_of, covers_at, of_hand, present, closed, uncovered}
+use Rattle.base.specs.Machine.{State, Stepped, Hand, Cover, StandsUnder, StandsAt, StandsClosed, drawn_of, covers_at, of_hand, present, closed, uncovered}
 use Rattle.base.specs.Openings.{OpensAs}
-use Rattle.base.proofs.Growth.{extends-stepped}
 use Rattle.pmem.specs.Device.{Device, MayLeave, restarted, image_of}
 use Rattle.pmem.specs.declared.device.Pmem.{Ghosts}
 use Rattle.room.specs.Room.{Shows, StepsTo, device_of}
 use Rattle.room.specs.declared.room.Room.{Room}
 use Rattle.command_line.specs.ImageFile.{HoldsWords, IsFileOf}
-use Rattle.console.specs.Kept.{Extends, GoesOn, HasHistory, HasClosed, KeepsHistory, IsFileWith, KeepsHistories}
+use Rattle.console.specs.Kept.{Extends, Leads, HasHistory, HasClosed, KeepsHistory, IsFileWith, KeepsHistories}
 use Rattle.console.proofs.Restarted.{one_image, image-restarted}
 
-extends-none : (history : List Commit) → Extends history history
+pub extends-none : (history : List Commit) → Extends history history
 extends-none history = ([], sym (append-nil history))
 
-extends-trans : (a b c : List Commit) → Extends a b → Extends b c → Extends a c
+pub extends-trans : (a b c : List Commit) → Extends a b → Extends b c → Extends a c
 extends-trans a b c (more, e) (rest, f) = (more ++ rest, f ∙ (ap (λ (l : List Commit). l ++ rest) e ∙ append_assoc a more rest))
 
 -- A room
 
-pub goes-nowhere : {D : Type 0} {G : Ghosts D} (state : D → Device) (room : Room D G) → GoesOn state room room
-goes-nowhere state room = record { each = λ q shows. (q, extends-none q.history, shows) }
+pub leads-nowhere : {D : Type 0} {G : Ghosts D} (state : D → Device) (room : Room D G) (By : State → State → Type 0) → ((q : State) → By q q) → Leads state room room By
+leads-nowhere state room By same = record { each = λ q shows. (q, same q, shows) }
 
-pub goes-trans : {D : Type 0} {G : Ghosts D} (state : D → Device) (old mid new : Room D G) → GoesOn state old mid → GoesOn state mid new → GoesOn state old new
-goes-trans state old mid new a b = record {
+pub leads-by : {D : Type 0} {G : Ghosts D} (state : D → Device) (old new : Room D G) (A B : State → State → Type 0)
+    → ((q q' : State) → A q q' → B q q') → Leads state old new A → Leads state old new B
+leads-by state old new A B says a = record { each = λ q shows. let made = a.each q shows in (made.0, says q made.0 made.1, made.2) }
+
+pub leads-trans : {D : Type 0} {G : Ghosts D} (state : D → Device) (old mid new : Room D G) (A B C : State → State → Type 0)
+    → ((q m q' : State) → A q m → B m q' → C q q') → Leads state old mid A → Leads state mid new B → Leads state old new C
+leads-trans state old mid new A B C says a b = record {
   each = λ q shows.
       let first = a.each q shows in
       let second = b.each first.0 first.2 in
-      (second.0, extends-trans q.history first.0.history second.0.history first.1 second.1, second.2);
+      (second.0, says q first.0 second.0 first.1 second.1, second.2);
 }
 
-pub goes-step : {D : Type 0} {G : Ghosts D} (state : D → Device) (old new : Room D G) (step : Step) (reply : Reply)
-    → ((q : State) → Shows state old q → (q' : State) × StepsTo state old new step reply q q') → GoesOn state old new
-goes-step state old new step reply steps = record {
-  each = λ q shows.
-      let made = steps q shows in (made.0, extends-stepped q step reply made.0 made.1.stepped, made.1.shows);
+pub leads-step : {D : Type 0} {G : Ghosts D} (state : D → Device) (old new : Room D G) (step : Step) (reply : Reply)
+    → ((q : State) → Shows state old q → (q' : State) × StepsTo state old new step reply q q') → Leads state old new (λ q q'. Stepped q step reply q')
+leads-step state old new step reply steps = record {
+  each = λ q shows. let made = steps q shows in (made.0, made.1.stepped, made.1.shows);
 }
-
-pub keeps-going : {D : Type 0} {G : Ghosts D} (state : D → Device) (history : List Commit) (old new : Room D G) → HasHistory state history old → GoesOn state old new → HasHistory state history new
-keeps-going state history old new has goes =
-    let now = goes.each has.shown has.shows in
-    record { shown = now.0; longer = extends-trans history has.shown.history now.0.history has.longer now.1; shows = now.2 }
-
-pub opens-with : {D : Type 0} {G : Ghosts D} (state : D → Device) (room : Room D G) (image : Image) (history : List Commit)
-    → ((q : State) × OpensAs image history [] q × Shows state room q) → HasHistory state history room
-opens-with state room image history (q, opens, shows) =
-    record { shown = q; longer = subst (Extends history) (sym (ap (λ (p : State). p.history) opens.2)) (extends-none history); shows = shows }
 
 -- An image
 
@@ -77,27 +70,10 @@ keeps-at history q image longer s = keeps-under history q s.0 image longer (All-
 pub keeps-closed : (history : List Commit) (q : State) (image : Image) → Extends history q.history → StandsClosed q image → KeepsHistory history image
 keeps-closed history q image longer s = keeps-under history q (closed q) image longer (uncovered q, refl) s
 
-pub keeps-each : (before after words : List ℕ) → HoldsWords before words
-    → ((history drawn : List Commit) (next : ℕ) → Stands words history drawn next → IsFileWith history after) → KeepsHistories before after
-keeps-each before after words holds each = record {
-  each = λ image held history drawn next stands.
-      each history drawn next (subst (λ (i : Image). Stands i history drawn next) (one_image before image words held holds) stands);
-}
-
 -- A file
 
 pub file-restarted : (device : Device) (image : Image) (file : List ℕ) → device ≡ restarted image → IsFileOf (image_of device) file → IsFileOf image file
 file-restarted device image file is of = subst (λ (words : Image). IsFileOf words file) (ap image_of is ∙ image-restarted image) of
-
-pub file-stopped : {D : Type 0} {G : Ghosts D} (state : D → Device) (history : List Commit) (room : Room D G) (device : Device) (image : Image) (file : List ℕ)
-    → HasHistory state history room → device ≡ device_of state room → MayLeave device image → IsFileOf image file → IsFileWith history file
-file-stopped state history room device image file has is left of =
-    record { image = image; of_image = of; keeps = keeps-at history has.shown image has.longer (has.shows.stands image (subst (λ (d : Device). MayLeave d image) is left)) }
-
-pub file-closed : {D : Type 0} {G : Ghosts D} (state : D → Device) (history : List Commit) (room : Room D G) (device : Device) (image : Image) (file : List ℕ)
-    → HasHistory state history room → HasClosed state room device → MayLeave device image → IsFileOf image file → IsFileWith history file
-file-closed state history room device image file has closes left of =
-    record { image = image; of_image = of; keeps = keeps-closed history has.shown image has.longer (closes.each has.shown has.shows image left) }
 
 -- a run after a run
 pub keeps-both : (first second third : List ℕ) → KeepsHistories first second → KeepsHistories second third → KeepsHistories first third

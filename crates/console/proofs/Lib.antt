@@ -1,2 +1,5 @@
 mod Kept
 mod Restarted
+mod Grown
+mod Obeyed
+mod Lives

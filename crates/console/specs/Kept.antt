@@ -18,15 +18,9 @@ use Rattle.command_line.specs.declared.orders.Order.TheVariants.{Format, Run}
 abbrev pub Extends : List Commit → List Commit → Type 0
 Extends history longer = (more : List Commit) × (longer ≡ history ++ more)
 
--- whatever state the room showed, it shows one whose history begins with that one's
-pub record GoesOn {D : Type 0} {G : Ghosts D} (state : D → Device) (old new : Room D G) : Type 0 where
-  pub each : (q : State) → Shows state old q → (q' : State) × Extends q.history q'.history × Shows state new q'
-
--- the room shows a state whose history begins with this one
-pub record HasHistory {D : Type 0} {G : Ghosts D} (state : D → Device) (history : List Commit) (room : Room D G) : Type 0 where
-  pub shown : State
-  pub longer : Extends history shown.history
-  pub shows : Shows state room shown
+-- from whatever state the room showed, it has come to one that it shows now, by what these words say
+pub record Leads {D : Type 0} {G : Ghosts D} (state : D → Device) (old new : Room D G) (By : State → State → Type 0) : Type 0 where
+  pub each : (q : State) → Shows state old q → (q' : State) × By q q' × Shows state new q'
 
 -- whatever state the room showed, a crash of the device leaves what a close of that state leaves
 pub record HasClosed {D : Type 0} {G : Ghosts D} (state : D → Device) (room : Room D G) (device : Device) : Type 0 where

@@ -1,7 +1,10 @@
-ghost use Rattle.std.specs.Prelude.{◌≡◌, ◌≤◌, ◌↔◌, IfOk, IfSome, IsSome};
+ghost use Rattle.std.specs.Prelude.{◌≡◌, ◌≤◌, ◌↔◌, ◌++◌, ◌∷◌, [], codes, decimal, IfOk, IfSome, IsSome, OnOk};
+ghost use Rattle.std.specs.Io.KnownBytes.{Appends};
+ghost use Rattle.base.specs.Layout.{total_words};
 ghost use Rattle.command_line.specs.ImageFile.{IsFileOf};
 ghost use Rattle.recovery.specs.Fresh.{fresh_image};
 ghost use Rattle.console.specs.Kept.{Leaves};
+ghost use Rattle.console.specs.Lives.{Prints};
 
 use crate::ended::Ended;
 use crate::format::fresh_file;
@@ -34,6 +37,7 @@ pub fn execute<T: Threads + Sync, R: Read, W: Write>(
     // FILE is written exactly where the status is 0.
     ensures written { IsSome result.file ↔ (result.status ≡ 0) }
     ensures file { IfSome result.file (λ left. Leaves order.now file.now left.items) }
+    ensures printed { IfSome result.file (λ left. Prints order.now file.now (W.contents output.old) (W.contents output.new) left.items) }
 {
     match obey(rt, alloc, order, file, input, output) {
         Ok(file) => Ended {
@@ -56,7 +60,8 @@ fn obey<T: Threads + Sync, R: Read, W: Write>(
     input: &mut R,
     output: &mut W,
 ) -> Result<Vec<u8>, Stop>
-    ensures { IfOk result (λ left. Leaves order.now file.now left.items) }
+    ensures file { IfOk result (λ left. Leaves order.now file.now left.items) }
+    ensures printed { IfOk result (λ left. Prints order.now file.now (W.contents output.old) (W.contents output.new) left.items) }
 {
     match *order {
         Order::Format {
@@ -70,7 +75,9 @@ fn obey<T: Threads + Sync, R: Read, W: Write>(
 }
 
 fn format<W: Write>(alloc: Global, geometry: Geometry, output: &mut W) -> Result<Vec<u8>, Stop>
-    ensures { IfOk result (λ file. IsFileOf (fresh_image geometry) file.items) }
+    ensures file { IfOk result (λ file. IsFileOf (fresh_image geometry) file.items) }
+    ensures printed { OnOk result (Appends (W.contents output.old) (W.contents output.new)
+        ((codes "formatted " ++ (decimal (total_words geometry) ++ codes " words")) ++ 10 ∷ [])) }
 {
     let file = fresh_file(alloc, geometry)?;
     let words = geometry.words();

@@ -1,5 +1,12 @@
-ghost use Rattle.std.specs.Prelude.{OnOk};
-ghost use Rattle.console.specs.Kept.{GoesOn};
+ghost use Rattle.std.specs.Prelude.{◌≡◌, ◌++◌, ◌∷◌, [], List, IfOk, OnOk, ℕ, Some, None, Err};
+ghost use Rattle.std.specs.Io.KnownBytes.{Appends};
+ghost use Rattle.base.specs.Machine.{Stepped};
+ghost use Rattle.command_line.specs.Lines.{line_of};
+ghost use Rattle.command_line.specs.Numbers.{Text};
+ghost use Rattle.command_line.specs.Texts.{text_of};
+ghost use Rattle.console.specs.Kept.{Leads};
+ghost use Rattle.console.specs.declared.stop.Stop.TheVariants.{NotACommand};
+ghost use Rattle.console.specs.Obeyed.{Puts, Commits, Cycles, ComesTo, Obeys, ObeysLine, ObeysLines, is_busy, is_tick, reply_text};
 
 use crate::stop::Stop;
 use base::fault::Fault;
@@ -30,7 +37,8 @@ pub fn obey_lines<D: Pmem + Drop, R: Read, W: Write>(
     input: &mut R,
     output: &mut W,
 ) -> Result<Option<Survivor>, Stop>
-    ensures { OnOk result (GoesOn D.state room.old room.new) }
+    ensures { IfOk result (λ keeps. (lines : List Text) × (said : Text) × Appends (W.contents output.old) (W.contents output.new) said
+        × Leads D.state room.old room.new (λ q q'. ObeysLines q lines said keeps q')) }
 {
     let mut number: u64 = 0;
     for line in BufReader::new(alloc, input)?.split(alloc, b'\n') {
@@ -51,15 +59,22 @@ fn obey_line<D: Pmem + Drop, W: Write>(
     line: &[u8],
     output: &mut W,
 ) -> Result<Option<Survivor>, Stop>
-    ensures { OnOk result (GoesOn D.state room.old room.new) }
+    ensures { IfOk result (λ keeps. (said : Text) × Appends (W.contents output.old) (W.contents output.new) said
+        × Leads D.state room.old room.new (λ q q'. ObeysLine q line.now said keeps q')) }
 {
     match read_command(alloc, number, line)? {
-        Some(command) => obey(alloc, room, &command, output),
+        Some(command) => {
+            let keeps = obey(alloc, room, &command, output)?;
+            Ok(keeps)
+        }
         None => Ok(None),
     }
 }
 
-fn read_command(alloc: Global, number: u64, line: &[u8]) -> Result<Option<Command>, Stop> {
+fn read_command(alloc: Global, number: u64, line: &[u8]) -> Result<Option<Command>, Stop>
+    ensures ok { IfOk result (λ read. line_of line.now ≡ Some read) }
+    ensures refused { (at : ℕ) → result ≡ Err (NotACommand at) → (at ≡ number) × (line_of line.now ≡ None) }
+{
     match parse_line(alloc, line) {
         Ok(command) => Ok(command),
         Err(LineFault::NotACommand) => Err(Stop::NotACommand(number)),
@@ -68,7 +83,7 @@ fn read_command(alloc: Global, number: u64, line: &[u8]) -> Result<Option<Comman
 }
 
 fn step<D: Pmem + Drop>(room: &mut Room<D>, step: Step) -> Reply
-    ensures { GoesOn D.state room.old room.new }
+    ensures { Leads D.state room.old room.new (λ q q'. Stepped q step result q') }
 {
     room.step(step)
 }
@@ -80,7 +95,8 @@ fn obey<D: Pmem + Drop, W: Write>(
     command: &Command,
     output: &mut W,
 ) -> Result<Option<Survivor>, Stop>
-    ensures { OnOk result (GoesOn D.state room.old room.new) }
+    ensures { IfOk result (λ keeps. (said : Text) × Appends (W.contents output.old) (W.contents output.new) said
+        × Leads D.state room.old room.new (λ q q'. Obeys q command.now said keeps q')) }
 {
     match perform(room, command) {
         Outcome::Replied(reply) => {
@@ -92,7 +108,7 @@ fn obey<D: Pmem + Drop, W: Write>(
 }
 
 fn perform<D: Pmem + Drop>(room: &mut Room<D>, command: &Command) -> Outcome
-    ensures { GoesOn D.state room.old room.new }
+    ensures { Leads D.state room.old room.new (λ q q'. ComesTo q command.now result q') }
 {
     match command {
         Command::Begin => Outcome::Replied(step(room, Step::Begin)),
@@ -135,7 +151,7 @@ fn perform<D: Pmem + Drop>(room: &mut Room<D>, command: &Command) -> Outcome
 
 // A row that is too long is refused before anything else is.
 fn put<D: Pmem + Drop>(room: &mut Room<D>, session: u8, key: Key, bytes: &[u8]) -> Reply
-    ensures { GoesOn D.state room.old room.new }
+    ensures { Leads D.state room.old room.new (λ q q'. Puts q session key bytes.now result q') }
 {
     match Row::new(bytes) {
         Ok(row) => step(room, Step::Put { session, key, row }),
@@ -146,11 +162,11 @@ fn put<D: Pmem + Drop>(room: &mut Room<D>, session: u8, key: Key, bytes: &[u8]) 
 // Ticks the committer as often, and answers the last reply. It stops at a refusal, and where
 // nothing is left to do, since no further tick would find anything.
 fn tick<D: Pmem + Drop>(room: &mut Room<D>, ticks: u64) -> Reply
-    ensures { GoesOn D.state room.old room.new }
+    ensures { Leads D.state room.old room.new (λ q q'. Commits q ticks result q') }
 {
     let mut reply = step(room, Step::Commit);
     for _ in 1..ticks {
-        if matches!(&reply, Reply::Idle) || matches!(&reply, Reply::Refused(_)) {
+        if !is_busy(&reply) {
             break;
         }
         reply = step(room, Step::Commit);
@@ -160,11 +176,11 @@ fn tick<D: Pmem + Drop>(room: &mut Room<D>, ticks: u64) -> Reply
 
 // Ticks the committer until it has covered a batch, has nothing to do, or is refused.
 fn cycle<D: Pmem + Drop>(room: &mut Room<D>) -> Reply
-    ensures { GoesOn D.state room.old room.new }
+    ensures { Leads D.state room.old room.new (λ q q'. Cycles q result q') }
 {
     let mut reply = step(room, Step::Commit);
     for _ in 1..u64::MAX {
-        if !matches!(&reply, Reply::Ticked(_)) {
+        if !is_tick(&reply) {
             break;
         }
         reply = step(room, Step::Commit);
@@ -172,11 +188,32 @@ fn cycle<D: Pmem + Drop>(room: &mut Room<D>) -> Reply
     reply
 }
 
-fn show<W: Write>(alloc: Global, reply: &Reply, output: &mut W) -> io::Result<()> {
+// Is there, after this reply, more that a tick may find to do?
+fn is_busy(reply: &Reply) -> bool
+    ensures { result ≡ is_busy reply.now }
+{
+    match reply {
+        Reply::Idle | Reply::Refused(_) => false,
+        _ => true,
+    }
+}
+
+// Is a cycle under way after this reply?
+fn is_tick(reply: &Reply) -> bool
+    ensures { result ≡ is_tick reply.now }
+{
+    matches!(reply, Reply::Ticked(_))
+}
+
+fn show<W: Write>(alloc: Global, reply: &Reply, output: &mut W) -> io::Result<()>
+    ensures { OnOk result (Appends (W.contents output.old) (W.contents output.new) (reply_text reply.now ++ 10 ∷ [])) }
+{
     print(alloc, output, &printed(reply))
 }
 
-fn printed<'a>(reply: &'a Reply) -> Printed<'a> {
+fn printed<'a>(reply: &'a Reply) -> Printed<'a>
+    ensures { text_of result ≡ reply_text reply.now }
+{
     match reply {
         Reply::Began(session) => Printed::Session(*session),
         Reply::Row(Some(row)) => Printed::Row(row.as_bytes()),

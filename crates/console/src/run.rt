@@ -1,10 +1,16 @@
-ghost use Rattle.std.specs.Prelude.{◌≡◌, ℕ, List, IfOk};
+ghost use Rattle.std.specs.Prelude.{◌≡◌, ◌++◌, ◌∷◌, [], ℕ, List, None, Some, IfOk, OnOk};
+ghost use Rattle.std.specs.Io.KnownBytes.{Appends};
 ghost use Rattle.base.specs.Commits.{Commit};
+ghost use Rattle.base.specs.Machine.{State};
+ghost use Rattle.base.specs.Openings.{OpensAs};
 ghost use Rattle.base.specs.Stands.{Stands};
 ghost use Rattle.pmem.specs.Device.{image_of};
 ghost use Rattle.pmem_model.specs.Sim.{device_of};
+ghost use Rattle.room.specs.Room.{Shows};
 ghost use Rattle.command_line.specs.ImageFile.{IsFileOf};
-ghost use Rattle.console.specs.Kept.{HasClosed, HasHistory, IsFileWith, KeepsHistories};
+ghost use Rattle.command_line.specs.Numbers.{Text};
+ghost use Rattle.console.specs.Kept.{HasClosed, KeepsHistories};
+ghost use Rattle.console.specs.Lives.{Ends, Lives, opened_text};
 
 use crate::lines::obey_lines;
 use crate::stop::Stop;
@@ -27,7 +33,10 @@ pub fn run<T: Threads + Sync, R: Read, W: Write>(
     input: &mut R,
     output: &mut W,
 ) -> Result<Vec<u8>, Stop>
-    ensures { IfOk result (λ left. KeepsHistories file.now left.items) }
+    ensures lives { IfOk result (λ left. Lives file.now (W.contents output.old) (W.contents output.new) left.items) }
+
+    // So no lines take a covered commit away.
+    ensures keeps { IfOk result (λ left. KeepsHistories file.now left.items) }
 {
     let words = words_of_file(alloc, file)?;
     let mut room = open(rt, alloc, words.as_slice())?;
@@ -38,7 +47,8 @@ pub fn run<T: Threads + Sync, R: Read, W: Write>(
 }
 
 fn open<T: Threads + Sync>(rt: &T, alloc: Global, words: &[u64]) -> Result<Room<SimPmem>, Fault>
-    ensures { IfOk result (λ room. (history drawn : List Commit) (next : ℕ) → Stands words.now history drawn next → HasHistory device_of history room) }
+    ensures { IfOk result (λ room. (history drawn : List Commit) (next : ℕ) → Stands words.now history drawn next
+        → (q : State) × OpensAs words.now history [] q × Shows device_of room q) }
 {
     let device = SimPmem::from_words(alloc, words)?;
     match Room::open(rt, alloc, device) {
@@ -47,7 +57,10 @@ fn open<T: Threads + Sync>(rt: &T, alloc: Global, words: &[u64]) -> Result<Room<
     }
 }
 
-fn show_opened<W: Write>(alloc: Global, room: &Room<SimPmem>, output: &mut W) -> Result<(), Stop> {
+fn show_opened<W: Write>(alloc: Global, room: &Room<SimPmem>, output: &mut W) -> Result<(), Stop>
+    ensures { OnOk result ((said : Text) × Appends (W.contents output.old) (W.contents output.new) said
+        × ((q : State) → Shows device_of room.now q → said ≡ opened_text q ++ 10 ∷ [])) }
+{
     let status = room.status();
     let opened = Printed::Opened {
         gate: status.gate,
@@ -67,7 +80,8 @@ fn end<W: Write>(
     keeps: Option<Survivor>,
     output: &mut W,
 ) -> Result<Vec<u8>, Stop>
-    ensures { IfOk result (λ left. (history : List Commit) → HasHistory device_of history room → IsFileWith history left.items) }
+    ensures { IfOk result (λ left. (said : Text) × Appends (W.contents output.old) (W.contents output.new) said
+        × ((q : State) → Shows device_of room q → Ends q keeps said left.items)) }
 {
     match keeps {
         Some(keeps) => stop(alloc, room, keeps, output),
@@ -82,7 +96,8 @@ fn stop<W: Write>(
     keeps: Survivor,
     output: &mut W,
 ) -> Result<Vec<u8>, Stop>
-    ensures { IfOk result (λ left. (history : List Commit) → HasHistory device_of history room → IsFileWith history left.items) }
+    ensures { IfOk result (λ left. (said : Text) × Appends (W.contents output.old) (W.contents output.new) said
+        × ((q : State) → Shows device_of room q → Ends q (Some keeps) said left.items)) }
 {
     let choice = match keeps {
         Survivor::Oldest => Choice::Oldest,
@@ -96,7 +111,8 @@ fn stop<W: Write>(
 
 // What is left after the close of the room.
 fn close<W: Write>(alloc: Global, room: Room<SimPmem>, output: &mut W) -> Result<Vec<u8>, Stop>
-    ensures { IfOk result (λ left. (history : List Commit) → HasHistory device_of history room → IsFileWith history left.items) }
+    ensures { IfOk result (λ left. (said : Text) × Appends (W.contents output.old) (W.contents output.new) said
+        × ((q : State) → Shows device_of room q → Ends q None said left.items)) }
 {
     let closed = close_room(room)?;
     let device = closed.crash(&Choice::Oldest)?;

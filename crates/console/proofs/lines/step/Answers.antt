@@ -1,5 +1,5 @@
-use Rattle.console.proofs.Kept.{goes-step}
+use Rattle.console.proofs.Kept.{leads-step}
 use Rattle.console.proofs.lines.step.Goals as goal
 
 pub returns : goal.returns
-returns g c = goes-step g.D.Pmem.state c.args.room.now c.step.new.self c.args.step _ c.step.ensures.step
+returns g c = leads-step g.D.Pmem.state c.args.room.now c.step.new.self c.args.step _ c.step.ensures.step

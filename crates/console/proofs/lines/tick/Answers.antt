@@ -1,5 +1,26 @@
-use Rattle.console.proofs.Kept.{goes-trans}
+use Rattle.std.proofs.Common.{suc, inl, inr, arith, rules}
+use Rattle.console.specs.Obeyed.{is_busy}
+use Rattle.console.proofs.Obeyed.{more-ticks, commits-so}
 use Rattle.console.proofs.lines.tick.Goals as goal
 
+pub loop-init : goal.loop-init
+loop-init g c = (0, omega arith, omega arith, c.step-reply.ensures)
+
 pub loop-preserved : goal.loop-preserved
-loop-preserved g c = goes-trans g.D.Pmem.state c.args.room.now c.loop.room c.step-reply-in-loop.new.room c.loop.invariant c.step-reply-in-loop.ensures
+loop-preserved g c =
+    let before = c.loop.invariant in (
+      suc before.0,
+      omega (arith, before.1),
+      omega (arith, before.1, before.2, c.loop-test.true),
+      more-ticks g.D.Pmem.state c.args.room.now c.loop.room c.step-reply-in-loop.new.room is_busy before.0 c.loop.reply _ (search rules) before.3 c.step-reply-in-loop.ensures,
+    )
+
+pub returns-after-loop : goal.returns-after-loop
+returns-after-loop g c =
+    let made = c.loop.invariant in
+    commits-so g.D.Pmem.state c.args.room.now c.loop.room c.args.ticks made.0 c.loop.reply made.2 (inl (omega (arith, made.1, made.2, c.loop-test.false))) made.3
+
+pub returns-then-not-is_busy : goal.returns-then-not-is_busy
+returns-then-not-is_busy g c =
+    let made = c.loop.invariant in
+    commits-so g.D.Pmem.state c.args.room.now c.loop.room c.args.ticks made.0 c.loop.reply made.2 (inr (search rules)) made.3

@@ -1,5 +1,7 @@
-use Rattle.console.specs.Kept.{GoesOn}
+use Rattle.std.proofs.Common.{◌≡◌, ℕ, ◌+◌, ◌-◌, ◌≤◌}
+use Rattle.console.specs.Kept.{Leads}
+use Rattle.console.specs.Obeyed.{Ticks, is_busy}
 use Rattle.console.proofs.lines.tick.Given as goal
 
 abbrev pub invariant-loop : goal.invariant-loop
-invariant-loop g l = GoesOn g.D.Pmem.state l.fn.room l.room
+invariant-loop g l = (more : ℕ) × (l.counter ≡ more + 1) × (more ≤ l.ticks - 1) × Leads g.D.Pmem.state l.fn.room l.room (λ q q'. Ticks is_busy more q l.reply q')

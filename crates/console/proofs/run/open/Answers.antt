@@ -1,8 +1,11 @@
-use Rattle.std.proofs.Common.{ap, sym, ◌∙◌, subst, [], List, ℕ}
+use Rattle.std.proofs.Common.{ap, sym, ◌≡◌, ◌∙◌, subst, []}
+use Rattle.base.specs.Images.{Image}
+use Rattle.base.specs.Machine.{State}
+use Rattle.base.specs.Openings.{OpensAs}
 use Rattle.base.specs.Stands.{Stands}
 use Rattle.pmem.specs.Device.{IsAtRest, image_of}
 use Rattle.pmem_model.specs.Sim.{device_of}
-use Rattle.console.proofs.Kept.{opens-with}
+use Rattle.room.specs.Room.{Shows}
 use Rattle.console.proofs.Restarted.{restarted-rests, image-restarted}
 use Rattle.console.proofs.run.open.Goals as goal
 
@@ -11,6 +14,6 @@ open-requires-clause-at_rest g c κs within = subst IsAtRest (sym c.in_ok-device
 
 pub returns-in-Ok : goal.returns-in-Ok
 returns-in-Ok g c = λ history drawn next stands.
-    opens-with device_of c.in-Ok.room (image_of (device_of c.in_ok-device.device)) history
-    (c.in-Ok.ensures.ok history drawn next []
-    (subst (λ (i : List ℕ). Stands i history drawn next) (sym (ap image_of c.in_ok-device.ensures.device ∙ image-restarted c.args.words.now)) stands))
+    let same : image_of (device_of c.in_ok-device.device) ≡ c.args.words.now = ap image_of c.in_ok-device.ensures.device ∙ image-restarted c.args.words.now in
+    subst (λ (i : Image). (q : State) × OpensAs i history [] q × Shows device_of c.in-Ok.room q) same
+    (c.in-Ok.ensures.ok history drawn next [] (subst (λ (i : Image). Stands i history drawn next) (sym same) stands))

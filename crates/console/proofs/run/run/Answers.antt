@@ -1,11 +1,37 @@
-use Rattle.std.proofs.Common.{List, ℕ, subst, sym}
+use Rattle.std.proofs.Common.{◌++◌, [], List, ℕ, subst}
+use Rattle.base.specs.Commits.{Commit}
+use Rattle.base.specs.Images.{Image}
+use Rattle.base.specs.Machine.{State}
+use Rattle.base.specs.Openings.{OpensAs}
 use Rattle.base.specs.Stands.{Stands}
 use Rattle.pmem_model.specs.Sim.{device_of}
-use Rattle.console.proofs.Kept.{keeps-each, keeps-going}
+use Rattle.room.specs.Room.{Shows}
+use Rattle.console.proofs.Lives.{life-of, lives-keep}
+use Rattle.console.proofs.Obeyed.{appends-more}
 use Rattle.console.proofs.run.run.Goals as goal
 
-pub returns : goal.returns
-returns g c = keeps-each c.args.file.now c.in_ok-left.left.items c.in_ok-words.words.items c.in_ok-words.ensures.ok (λ history drawn next stands.
-    let opened = subst (λ (i : List ℕ). Stands i history drawn next) (sym c.as_slice.ensures.value) stands in
-    c.in_ok-left.ensures history
-    (keeps-going device_of history c.in_ok-room.room c.obey_lines.new.room (c.in_ok-room.ensures history drawn next opened) c.in_ok-keeps.ensures))
+pub returns-clause-lives : goal.returns-clause-lives
+returns-clause-lives g c =
+    let told = c.in_ok-show_opened.ensures in
+    let made = c.in_ok-keeps.ensures in
+    let over = c.in_ok-left.ensures in
+    record {
+      lines = made.0;
+      keeps = c.in_ok-keeps.keeps;
+      begun = told.0;
+      said = made.1;
+      ended = over.0;
+      prints = appends-more (g.W.Write.contents c.args.output.now) (g.W.Write.contents c.obey_lines.new.output) (g.W.Write.contents c.end.new.output) (told.0 ++ made.1) over.0
+          (appends-more (g.W.Write.contents c.args.output.now) (g.W.Write.contents c.show_opened.new.output) (g.W.Write.contents c.obey_lines.new.output) told.0 made.1 told.1 made.2)
+          over.1;
+      each = λ image held history drawn next stands.
+          life-of device_of c.in_ok-room.room c.obey_lines.new.room c.args.file.now c.in_ok-words.words.items image history drawn next made.0 c.in_ok-keeps.keeps
+          told.0 made.1 over.0 c.in_ok-left.left.items c.in_ok-words.ensures.ok held stands
+          (subst (λ (i : Image). (past pending : List Commit) (n : ℕ) → Stands i past pending n → (q : State) × OpensAs i past [] q × Shows device_of c.in_ok-room.room q)
+          c.as_slice.ensures.value c.in_ok-room.ensures)
+          told.2 made.3 over.2;
+    }
+
+pub returns-clause-keeps : goal.returns-clause-keeps
+returns-clause-keeps g c =
+    lives-keep c.args.file.now (g.W.Write.contents c.args.output.now) (g.W.Write.contents c.end.new.output) c.in_ok-left.left.items (returns-clause-lives g c)

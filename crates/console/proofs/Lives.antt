@@ -1,0 +1,90 @@
+-- From the parts of a life to the whole.
+use Rattle.std.proofs.Common.{◌≡◌, ℕ, List, [], ◌∷◌, ◌++◌, refl, sym, ◌∙◌, ap, subst}
+use Rattle.std.specs.Prelude.{Option, Some, None, codes}
+use Rattle.base.specs.declared.gap.Gap.{Gap}
+use Rattle.base.specs.Commits.{Commit}
+use Rattle.base.specs.Images.{Image, ruling}
+use Rattle.base.specs.Machine.{State, closed}
+use Rattle.base.specs.Openings.{OpensAs}
+use Rattle.base.specs.Records.{Record}
+use Rattle.base.specs.Stands.{Stands}
+use Rattle.pmem.specs.Device.{Device, MayLeave, restarted, image_of}
+use Rattle.pmem.specs.declared.device.Pmem.{Ghosts}
+use Rattle.room.specs.Room.{Shows, device_of}
+use Rattle.room.specs.declared.room.Room.{Room}
+use Rattle.command_line.specs.ImageFile.{HoldsWords, IsFileOf}
+use Rattle.command_line.specs.Numbers.{Text}
+use Rattle.command_line.specs.Texts.{survivor_text}
+use Rattle.command_line.specs.declared.command.Survivor.{Survivor}
+use Rattle.console.specs.Kept.{Extends, HasClosed, IsFileWith, KeepsHistories, Leads}
+use Rattle.console.specs.Lives.{Ends, IsLife, Lives, opened_line, opened_text, closed_line, closed_text}
+use Rattle.console.specs.Obeyed.{ObeysLines}
+use Rattle.console.proofs.Grown.{grows-lines}
+use Rattle.console.proofs.Kept.{keeps-at, keeps-closed}
+use Rattle.console.proofs.Restarted.{one_image, image-restarted}
+
+pub opened-so : (q : State) (gate persisted dirty next : ℕ) (gaps : List Gap) → gate ≡ q.gate → persisted ≡ q.persisted → dirty ≡ q.dirty → next ≡ q.next → gaps ≡ q.gaps
+    → opened_line gate persisted dirty next gaps ++ 10 ∷ [] ≡ opened_text q ++ 10 ∷ []
+opened-so q gate persisted dirty next gaps a b c d e = rw (a, b, c, d, e) refl
+
+pub closed-so : (q : State) (r : Record) (gate persisted dirty : ℕ) → gate ≡ r.gate → persisted ≡ r.persisted → dirty ≡ r.dirty → r ≡ (closed q).ruled_by
+    → closed_line gate persisted dirty ++ 10 ∷ [] ≡ closed_text q ++ 10 ∷ []
+closed-so q r gate persisted dirty a b c e = rw (a, b, c, e) refl
+
+pub ends-stopped : {D : Type 0} {G : Ghosts D} (state : D → Device) (room : Room D G) (device : Device) (image : Image) (file : List ℕ) (keeps : Survivor) (q : State)
+    → device ≡ device_of state room → MayLeave device image → IsFileOf image file → Shows state room q
+    → Ends q (Some keeps) ((codes "stopped " ++ survivor_text keeps) ++ 10 ∷ []) file
+ends-stopped state room device image file keeps q is left bytes shows =
+    (image, bytes, shows.stands image (subst (λ (d : Device). MayLeave d image) is left), refl)
+
+pub ends-closed : {D : Type 0} {G : Ghosts D} (state : D → Device) (room : Room D G) (device : Device) (image : Image) (file : List ℕ) (q : State)
+    (r : Record) (gate persisted dirty : ℕ) → gate ≡ r.gate → persisted ≡ r.persisted → dirty ≡ r.dirty → ruling image ≡ r
+    → HasClosed state room device → MayLeave device image → IsFileOf image file → Shows state room q
+    → Ends q None (closed_line gate persisted dirty ++ 10 ∷ []) file
+ends-closed state room device image file q r gate persisted dirty a b c rules closes left bytes shows =
+    let stands = closes.each q shows image left in
+    (image, bytes, stands, closed-so q r gate persisted dirty a b c (sym rules ∙ stands.ruled))
+
+pub rules-restarted : (device : Device) (image : Image) (r : Record) → device ≡ restarted image → ruling (image_of device) ≡ r → ruling image ≡ r
+rules-restarted device image r is rules = ap ruling (sym (ap image_of is ∙ image-restarted image)) ∙ rules
+
+opens-history : (image : Image) (history : List Commit) (q : State) → OpensAs image history [] q → q.history ≡ history
+opens-history image history q (gaps, is, e) = ap (λ (p : State). p.history) e
+
+file-of-end : (history : List Commit) (q : State) (keeps : Option Survivor) (said : Text) (file : List ℕ) → Extends history q.history → Ends q keeps said file → IsFileWith history file
+file-of-end history q (Some keeps) said file longer (image, bytes, stands, e) = record { image = image; of_image = bytes; keeps = keeps-at history q image longer stands }
+file-of-end history q None said file longer (image, bytes, stands, e) = record { image = image; of_image = bytes; keeps = keeps-closed history q image longer stands }
+
+file-of-life : (image : Image) (history : List Commit) (lines : List Text) (keeps : Option Survivor) (begun said ended : Text) (file : List ℕ)
+    → IsLife image history lines keeps begun said ended file → IsFileWith history file
+file-of-life image history lines keeps begun said ended file life =
+    file-of-end history life.last keeps ended file
+    (subst (λ (h : List Commit). Extends h life.last.history) (opens-history image history life.first life.opens) (grows-lines life.first lines said keeps life.last life.obeys))
+    life.ends
+
+pub lives-keep : (before : List ℕ) (old new : Option (List ℕ)) (after : List ℕ) → Lives before old new after → KeepsHistories before after
+lives-keep before old new after lives = record {
+  each = λ image held history drawn next stands.
+      file-of-life image history lives.lines lives.keeps lives.begun lives.said lives.ended after (lives.each image held history drawn next stands);
+}
+
+pub life-of : {D : Type 0} {G : Ghosts D} (state : D → Device) (opened ended_room : Room D G) (before words : List ℕ) (image : Image) (history drawn : List Commit) (next : ℕ)
+    (lines : List Text) (keeps : Option Survivor) (begun said ended : Text) (after : List ℕ)
+    → HoldsWords before words → HoldsWords before image → Stands image history drawn next
+    → ((past pending : List Commit) (n : ℕ) → Stands words past pending n → (q : State) × OpensAs words past [] q × Shows state opened q)
+    → ((q : State) → Shows state opened q → begun ≡ opened_text q ++ 10 ∷ [])
+    → Leads state opened ended_room (λ q q'. ObeysLines q lines said keeps q')
+    → ((q : State) → Shows state ended_room q → Ends q keeps ended after)
+    → IsLife image history lines keeps begun said ended after
+life-of state opened ended_room before words image history drawn next lines keeps begun said ended after holds held stands opens told leads ends =
+    let same : image ≡ words = one_image before image words held holds in
+    let start = opens history drawn next (subst (λ (i : Image). Stands i history drawn next) same stands) in
+    let went = leads.each start.0 start.2 in
+    record {
+      first = start.0;
+      last = went.0;
+      opens = subst (λ (i : Image). OpensAs i history [] start.0) (sym same) start.1;
+      told = told start.0 start.2;
+      obeys = went.1;
+      ends = ends went.0 went.2;
+    }

@@ -1,0 +1,98 @@
+-- How ticks, commands and lines add up.
+use Rattle.std.proofs.Common.{◌≡◌, ℕ, ◌-◌, ◌≤◌, ◌^◌, suc, List, [], ◌∷◌, ◌++◌, ◌⊎◌, Bool, true, false, refl, sym, ◌∙◌, ap, subst, append_assoc, append-nil}
+use Rattle.std.specs.Prelude.{Option, Some, None, is_some}
+use Rattle.std.specs.Io.KnownBytes.{Appends}
+use Rattle.base.specs.declared.step.Step.TheVariants as step
+use Rattle.base.specs.declared.step.Reply.{Reply}
+use Rattle.base.specs.Machine.{State, Stepped}
+use Rattle.pmem.specs.Device.{Device}
+use Rattle.pmem.specs.declared.device.Pmem.{Ghosts}
+use Rattle.room.specs.declared.room.Room.{Room}
+use Rattle.command_line.specs.Lines.{line_of}
+use Rattle.command_line.specs.Numbers.{Text}
+use Rattle.command_line.specs.declared.command.Command.{Command}
+use Rattle.command_line.specs.declared.command.Survivor.{Survivor}
+use Rattle.console.specs.declared.lines.Outcome.{Outcome}
+use Rattle.console.specs.declared.lines.Outcome.TheVariants.{Replied, Crashed}
+use Rattle.console.specs.Kept.{Leads}
+use Rattle.console.specs.Obeyed.{Ticks, Commits, Cycles, Answers, ComesTo, Obeys, ObeysRead, ObeysLine, ObeysLines, is_busy, is_tick, reply_text}
+use Rattle.console.proofs.Kept.{leads-nowhere, leads-by, leads-trans}
+
+-- ---- ticks
+
+pub more-ticks : {D : Type 0} {G : Ghosts D} (state : D → Device) (old mid new : Room D G) (goes_on : Reply → Bool) (more : ℕ) (before answer : Reply) → goes_on before ≡ true
+    → Leads state old mid (λ q m. Ticks goes_on more q before m) → Leads state mid new (λ m q'. Stepped m step.Commit answer q')
+    → Leads state old new (λ q q'. Ticks goes_on (suc more) q answer q')
+more-ticks state old mid new goes_on more before answer goes earlier last =
+    leads-trans state old mid new (λ (q m : State). Ticks goes_on more q before m) (λ (m q' : State). Stepped m step.Commit answer q')
+    (λ (q q' : State). Ticks goes_on (suc more) q answer q') (λ q m q' a b. (before, m, a, goes, b)) earlier last
+
+pub commits-so : {D : Type 0} {G : Ghosts D} (state : D → Device) (old new : Room D G) (ticks more : ℕ) (answer : Reply) → more ≤ ticks - 1 → (more ≡ ticks - 1) ⊎ (is_busy answer ≡ false)
+    → Leads state old new (λ q q'. Ticks is_busy more q answer q') → Leads state old new (λ q q'. Commits q ticks answer q')
+commits-so state old new ticks more answer few all made =
+    leads-by state old new (λ (q q' : State). Ticks is_busy more q answer q') (λ (q q' : State). Commits q ticks answer q') (λ q q' t. (more, t, few, all)) made
+
+pub cycles-so : {D : Type 0} {G : Ghosts D} (state : D → Device) (old new : Room D G) (more : ℕ) (answer : Reply) → more ≤ 2 ^ 64 - 2 → (more ≡ 2 ^ 64 - 2) ⊎ (is_tick answer ≡ false)
+    → Leads state old new (λ q q'. Ticks is_tick more q answer q') → Leads state old new (λ q q'. Cycles q answer q')
+cycles-so state old new more answer few all made =
+    leads-by state old new (λ (q q' : State). Ticks is_tick more q answer q') (λ (q q' : State). Cycles q answer q') (λ q q' t. (more, t, few, all)) made
+
+-- ---- commands
+
+pub comes-as : {D : Type 0} {G : Ghosts D} (state : D → Device) (old new : Room D G) (command actual : Command) (answer : Reply) → command ≡ actual
+    → Leads state old new (λ q q'. Answers q actual answer q') → Leads state old new (λ q q'. ComesTo q command (Replied answer) q')
+comes-as state old new command actual answer is made =
+    leads-by state old new (λ (q q' : State). Answers q actual answer q') (λ (q q' : State). ComesTo q command (Replied answer) q')
+    (λ q q' a. subst (λ (k : Command). Answers q k answer q') (sym is) a) made
+
+pub obeys-reply : {D : Type 0} {G : Ghosts D} (state : D → Device) (old new : Room D G) (command : Command) (outcome : Outcome) (answer : Reply) → outcome ≡ Replied answer
+    → Leads state old new (λ q q'. ComesTo q command outcome q') → Leads state old new (λ q q'. Obeys q command (reply_text answer ++ 10 ∷ []) None q')
+obeys-reply state old new command outcome answer is made =
+    leads-by state old new (λ (q q' : State). ComesTo q command outcome q') (λ (q q' : State). Obeys q command (reply_text answer ++ 10 ∷ []) None q')
+    (λ q q' a. (Replied answer, subst (λ (o : Outcome). ComesTo q command o q') is a, (refl, refl))) made
+
+pub obeys-crash : {D : Type 0} {G : Ghosts D} (state : D → Device) (old new : Room D G) (command : Command) (outcome : Outcome) (keeps : Survivor) → outcome ≡ Crashed keeps
+    → Leads state old new (λ q q'. ComesTo q command outcome q') → Leads state old new (λ q q'. Obeys q command [] (Some keeps) q')
+obeys-crash state old new command outcome keeps is made =
+    leads-by state old new (λ (q q' : State). ComesTo q command outcome q') (λ (q q' : State). Obeys q command [] (Some keeps) q')
+    (λ q q' a. (Crashed keeps, subst (λ (o : Outcome). ComesTo q command o q') is a, (refl, refl))) made
+
+-- ---- lines
+
+pub line-read : {D : Type 0} {G : Ghosts D} (state : D → Device) (old new : Room D G) (line said : Text) (command : Command) (keeps : Option Survivor) → line_of line ≡ Some (Some command)
+    → Leads state old new (λ q q'. Obeys q command said keeps q') → Leads state old new (λ q q'. ObeysLine q line said keeps q')
+line-read state old new line said command keeps is made =
+    leads-by state old new (λ (q q' : State). Obeys q command said keeps q') (λ (q q' : State). ObeysLine q line said keeps q')
+    (λ q q' o. subst (λ (read : Option (Option Command)). ObeysRead q read said keeps q') (sym is) o) made
+
+pub line-skipped : {D : Type 0} {G : Ghosts D} (state : D → Device) (room : Room D G) (line : Text) → line_of line ≡ Some None
+    → Leads state room room (λ q q'. ObeysLine q line [] None q')
+line-skipped state room line is =
+    leads-nowhere state room (λ (q q' : State). ObeysLine q line [] None q')
+    (λ q. subst (λ (read : Option (Option Command)). ObeysRead q read [] None q) (sym is) (refl, refl, refl))
+
+pub no-lines : {D : Type 0} {G : Ghosts D} (state : D → Device) (room : Room D G) → Leads state room room (λ q q'. ObeysLines q [] [] None q')
+no-lines state room = leads-nowhere state room (λ (q q' : State). ObeysLines q [] [] None q') (λ q. (refl, refl, refl))
+
+pub more-lines : {D : Type 0} {G : Ghosts D} (state : D → Device) (old mid new : Room D G) (lines : List Text) (line earlier last : Text) (keeps : Option Survivor)
+    → Leads state old mid (λ q m. ObeysLines q lines earlier None m) → Leads state mid new (λ m q'. ObeysLine m line last keeps q')
+    → Leads state old new (λ q q'. ObeysLines q (line ∷ lines) (earlier ++ last) keeps q')
+more-lines state old mid new lines line earlier last keeps before after =
+    leads-trans state old mid new (λ (q m : State). ObeysLines q lines earlier None m) (λ (m q' : State). ObeysLine m line last keeps q')
+    (λ (q q' : State). ObeysLines q (line ∷ lines) (earlier ++ last) keeps q') (λ q m q' a b. (earlier, last, m, a, b, refl)) before after
+
+-- ---- what is said
+
+pub appends-none : (known : Option (List ℕ)) → Appends known known []
+appends-none None = tt
+appends-none (Some xs) = sym (append-nil xs)
+
+pub appends-more : (old mid new : Option (List ℕ)) (a b : List ℕ) → Appends old mid a → Appends mid new b → Appends old new (a ++ b)
+appends-more None mid new a b first second = tt
+appends-more (Some xs) None new a b first second = absurd first
+appends-more (Some xs) (Some ys) None a b first second = absurd second
+appends-more (Some xs) (Some ys) (Some zs) a b first second = second ∙ (ap (λ (l : List ℕ). l ++ b) first ∙ append_assoc xs a b)
+
+pub none-of : (keeps : Option Survivor) → is_some keeps ≡ false → keeps ≡ None
+none-of None e = refl
+none-of (Some survivor) e = cc

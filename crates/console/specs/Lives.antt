@@ -1,0 +1,68 @@
+-- A life of the program: what it prints and what FILE holds then, from the image that FILE held.
+use Rattle.std.specs.Prelude.{◌≡◌, ℕ, ◌-◌, List, [], ◌∷◌, ◌++◌, codes, decimal, Option, Some, None}
+use Rattle.std.specs.Io.KnownBytes.{Appends}
+use Rattle.base.specs.declared.gap.Gap.{Gap}
+use Rattle.base.specs.Commits.{Commit}
+use Rattle.base.specs.Images.{Image}
+use Rattle.base.specs.Layout.{layout_with, total_words}
+use Rattle.base.specs.Machine.{State, StandsAt, StandsClosed, closing_gate}
+use Rattle.base.specs.Openings.{OpensAs}
+use Rattle.base.specs.Stands.{Stands}
+use Rattle.command_line.specs.ImageFile.{HoldsWords, IsFileOf}
+use Rattle.command_line.specs.Numbers.{Text}
+use Rattle.command_line.specs.Texts.{gaps_text, survivor_text}
+use Rattle.command_line.specs.declared.command.Survivor.{Survivor}
+use Rattle.command_line.specs.declared.orders.Order.{Order}
+use Rattle.command_line.specs.declared.orders.Order.TheVariants.{Format, Run}
+use Rattle.console.specs.Obeyed.{ObeysLines}
+
+-- the line of an opening, with these numbers and gaps
+abbrev pub opened_line : ℕ → ℕ → ℕ → ℕ → List Gap → Text
+opened_line gate persisted dirty next gaps =
+    codes "opened gate " ++ (decimal gate ++ (codes " p " ++ (decimal persisted ++ (codes " d " ++ (decimal dirty ++ (codes " next " ++ (decimal next ++ (codes " gaps" ++ gaps_text gaps))))))))
+
+-- that of the opened state
+abbrev pub opened_text : State → Text
+opened_text q = opened_line q.gate q.persisted q.dirty q.next q.gaps
+
+-- the line of a close, with these numbers
+abbrev pub closed_line : ℕ → ℕ → ℕ → Text
+closed_line gate persisted dirty = codes "closed gate " ++ (decimal gate ++ (codes " p " ++ (decimal persisted ++ (codes " d " ++ decimal dirty))))
+
+-- that of a close from the state
+abbrev pub closed_text : State → Text
+closed_text q = closed_line (closing_gate q) (q.next - 1) q.next
+
+-- How a life ends in this state: by a crash, which leaves what a crash may leave then, or by a close. The line that is
+-- printed, and what FILE holds then
+abbrev pub Ends : State → Option Survivor → Text → List ℕ → Type 0
+Ends q (Some keeps) said file =
+    (image : Image) × IsFileOf image file × StandsAt q image × (said ≡ (codes "stopped " ++ survivor_text keeps) ++ 10 ∷ [])
+Ends q None said file =
+    (image : Image) × IsFileOf image file × StandsClosed q image × (said ≡ closed_text q ++ 10 ∷ [])
+
+-- the image that stands for the history is opened, the lines are obeyed, the last one first, and the life ends
+pub record IsLife (image : Image) (history : List Commit) (lines : List Text) (keeps : Option Survivor) (begun said ended : Text) (file : List ℕ) : Type 0 where
+  pub first : State
+  pub last : State
+  pub opens : OpensAs image history [] first
+  pub told : begun ≡ opened_text first ++ 10 ∷ []
+  pub obeys : ObeysLines first lines said keeps last
+  pub ends : Ends last keeps ended file
+
+-- whatever history the image in the old file stands for, this is a life of it, and no more is printed
+pub record Lives (before : List ℕ) (old new : Option (List ℕ)) (after : List ℕ) : Type 0 where
+  pub lines : List Text
+  pub keeps : Option Survivor
+  pub begun : Text
+  pub said : Text
+  pub ended : Text
+  pub prints : Appends old new ((begun ++ said) ++ ended)
+  pub each : (image : Image) → HoldsWords before image → (history drawn : List Commit) (next : ℕ) → Stands image history drawn next
+      → IsLife image history lines keeps begun said ended after
+
+-- what a subcommand that ends well prints
+abbrev pub Prints : Order → List ℕ → Option (List ℕ) → Option (List ℕ) → List ℕ → Type 0
+Prints (Format name slots places window) before old new after =
+    Appends old new ((codes "formatted " ++ (decimal (total_words (layout_with slots places window)) ++ codes " words")) ++ 10 ∷ [])
+Prints (Run name) before old new after = Lives before old new after

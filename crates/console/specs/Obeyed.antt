@@ -1,0 +1,118 @@
+-- What the program makes of a plain state by commands and lines, and what it prints.
+use Rattle.std.specs.Prelude.{suc, zero, ◌≡◌, ◌⊎◌, ℕ, ◌-◌, ◌^◌, ◌<◌, ◌≤◌, Bool, true, false, List, [], ◌∷◌, ◌++◌, length, codes, decimal, Option, Some, None}
+use Rattle.base.specs.declared.key.Key.{Key}
+use Rattle.base.specs.declared.fault.Fault.TheVariants.{TooLong}
+use Rattle.base.specs.declared.step.Step.TheVariants as step
+use Rattle.base.specs.declared.step.Reply.{Reply}
+use Rattle.base.specs.declared.step.Reply.TheVariants as reply
+use Rattle.base.specs.Machine.{State, Stepped}
+use Rattle.command_line.specs.Lines.{line_of}
+use Rattle.command_line.specs.Numbers.{Text}
+use Rattle.command_line.specs.Rows.{row_text}
+use Rattle.command_line.specs.Texts.{refused_text}
+use Rattle.command_line.specs.declared.command.Command.{Command}
+use Rattle.command_line.specs.declared.command.Command.TheVariants.{Begin, Get, Put, Delete, Draw, Stamp, Poll, Abort, End, Commit, Cycle, Crash}
+use Rattle.command_line.specs.declared.command.Survivor.{Survivor}
+use Rattle.console.specs.declared.lines.Outcome.{Outcome}
+use Rattle.console.specs.declared.lines.Outcome.TheVariants.{Replied, Crashed}
+
+-- ---- commands
+
+-- a tick of the committer and so many more, each after a reply that lets it go on; the last reply, and the state then
+abbrev pub Ticks : (Reply → Bool) → ℕ → State → Reply → State → Type 0
+Ticks goes_on zero q answer q' = Stepped q step.Commit answer q'
+Ticks goes_on (suc more) q answer q' =
+    (before : Reply) × (mid : State) × Ticks goes_on more q before mid × (goes_on before ≡ true) × Stepped mid step.Commit answer q'
+
+-- there may be more to do: the reply is no refusal, and not that nothing is left
+abbrev pub is_busy : Reply → Bool
+is_busy reply.Idle = false
+is_busy (reply.Refused fault) = false
+is_busy _ = true
+
+-- a cycle is under way
+abbrev pub is_tick : Reply → Bool
+is_tick (reply.Ticked stage) = true
+is_tick _ = false
+
+-- `commit`: as many ticks as asked for, or up to the first after which there is nothing to do
+abbrev pub Commits : State → ℕ → Reply → State → Type 0
+Commits q ticks answer q' =
+    (more : ℕ) × Ticks is_busy more q answer q' × (more ≤ ticks - 1) × ((more ≡ ticks - 1) ⊎ (is_busy answer ≡ false))
+
+-- `cycle`: ticks up to the first that leaves no cycle under way, or to the greatest number of ticks
+abbrev pub Cycles : State → Reply → State → Type 0
+Cycles q answer q' =
+    (more : ℕ) × Ticks is_tick more q answer q' × (more ≤ 2 ^ 64 - 2) × ((more ≡ 2 ^ 64 - 2) ⊎ (is_tick answer ≡ false))
+
+-- `put`: a row that is too long is refused before anything else is
+abbrev pub Puts : State → ℕ → Key → List ℕ → Reply → State → Type 0
+Puts q session key row answer q' =
+    ((length row ≤ 32) × Stepped q (step.Put session key row) answer q')
+    ⊎ ((32 < length row) × (answer ≡ reply.Refused TooLong) × (q' ≡ q))
+
+-- what a command that isn't a crash answers, and the state then
+abbrev pub Answers : State → Command → Reply → State → Type 0
+Answers q Begin answer q' = Stepped q step.Begin answer q'
+Answers q (Get n key) answer q' = Stepped q (step.Get n key) answer q'
+Answers q (Put n key row) answer q' = Puts q n key row answer q'
+Answers q (Delete n key) answer q' = Stepped q (step.Delete n key) answer q'
+Answers q (Draw n) answer q' = Stepped q (step.Draw n) answer q'
+Answers q (Stamp n) answer q' = Stepped q (step.Stamp n) answer q'
+Answers q (Poll n) answer q' = Stepped q (step.Poll n) answer q'
+Answers q (Abort n) answer q' = Stepped q (step.Abort n) answer q'
+Answers q (End n) answer q' = Stepped q (step.End n) answer q'
+Answers q (Commit ticks) answer q' = Commits q ticks answer q'
+Answers q Cycle answer q' = Cycles q answer q'
+Answers q (Crash keeps) answer q' = ⊥
+
+-- what a command comes to. A crash is left to the end of the life
+abbrev pub ComesTo : State → Command → Outcome → State → Type 0
+ComesTo q command (Replied answer) q' = Answers q command answer q'
+ComesTo q command (Crashed keeps) q' = (command ≡ Crash keeps) × (q' ≡ q)
+
+-- ---- what is printed
+
+-- the line of a reply
+abbrev pub reply_text : Reply → Text
+reply_text (reply.Began session) = codes "session " ++ decimal session
+reply_text (reply.Row None) = codes "none"
+reply_text (reply.Row (Some row)) = codes "row " ++ row_text row
+reply_text reply.Done = codes "done"
+reply_text (reply.Drawn timestamp) = codes "drawn " ++ decimal timestamp
+reply_text reply.More = codes "more"
+reply_text reply.Stamped = codes "stamped"
+reply_text reply.Waiting = codes "waiting"
+reply_text (reply.Committed timestamp) = codes "committed " ++ decimal timestamp
+reply_text reply.Idle = codes "idle"
+reply_text (reply.Ticked stage) = codes "tick"
+reply_text (reply.Covered batch) = codes "covered " ++ decimal batch.stamp
+reply_text (reply.Refused fault) = refused_text fault
+
+-- the line of a command's reply, and what a crash keeps
+abbrev pub SaysOf : Outcome → Text → Option Survivor → Type 0
+SaysOf (Replied answer) said keeps = (said ≡ reply_text answer ++ 10 ∷ []) × (keeps ≡ None)
+SaysOf (Crashed survivor) said keeps = (said ≡ []) × (keeps ≡ Some survivor)
+
+-- what is printed for a command, what a crash keeps, and the state then
+abbrev pub Obeys : State → Command → Text → Option Survivor → State → Type 0
+Obeys q command said keeps q' = (outcome : Outcome) × ComesTo q command outcome q' × SaysOf outcome said keeps
+
+-- ---- lines
+
+-- the same of what a line is read as
+abbrev pub ObeysRead : State → Option (Option Command) → Text → Option Survivor → State → Type 0
+ObeysRead q None said keeps q' = ⊥
+ObeysRead q (Some None) said keeps q' = (said ≡ []) × (keeps ≡ None) × (q' ≡ q)
+ObeysRead q (Some (Some command)) said keeps q' = Obeys q command said keeps q'
+
+-- the same of a line
+abbrev pub ObeysLine : State → Text → Text → Option Survivor → State → Type 0
+ObeysLine q line = ObeysRead q (line_of line)
+
+-- the same of lines, the last one first, of which only the last is a crash
+abbrev pub ObeysLines : State → List Text → Text → Option Survivor → State → Type 0
+ObeysLines q [] said keeps q' = (said ≡ []) × (keeps ≡ None) × (q' ≡ q)
+ObeysLines q (line ∷ before) said keeps q' =
+    (earlier : Text) × (last : Text) × (mid : State) × ObeysLines q before earlier None mid × ObeysLine mid line last keeps q'
+    × (said ≡ earlier ++ last)
