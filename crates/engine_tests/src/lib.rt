@@ -1,4 +1,5 @@
-//! The room on the modelled device: whole lives from an opening to a crash, with the numbers of the worked images.
+//! The layers of the engine on the modelled device: the log area, the slots, and whole lives of the room from an opening
+//! to a crash, with the numbers of the worked images.
 #![tactic(auto)]
 
 #[cfg(test)]
@@ -12,13 +13,19 @@ mod every_stop;
 #[cfg(test)]
 mod fixture;
 #[cfg(test)]
+mod life;
+#[cfg(test)]
 mod limits;
 #[cfg(test)]
 mod lives;
 #[cfg(test)]
 mod memory;
 #[cfg(test)]
+mod records;
+#[cfg(test)]
 mod reuse;
+#[cfg(test)]
+mod slots;
 #[cfg(test)]
 mod steps;
 #[cfg(test)]
@@ -27,3 +34,5 @@ mod transactions;
 mod updates;
 #[cfg(test)]
 mod writes;
+#[cfg(test)]
+mod writings;

@@ -1,9 +1,11 @@
+use crate::steps::{BEGIN, DRAW, END, POLL, STAMP, get, put};
 use base::fault::Fault;
 use base::gap::Gap;
 use base::geometry::Geometry;
 use base::key::Key;
 use base::row::Row;
 use base::step::{Note, Reply, Stage, Step};
+use log_area::FORMATTED;
 use pmem::Pmem;
 use pmem_model::SimPmem;
 use recovery::format;
@@ -15,6 +17,20 @@ use std::thread::Threads;
 /// The key of the worked images.
 pub const KEY: Key = Key { table: 1, key: 7 };
 
+/// The words of the fresh worked image: 4 slots, 2 places and a window of 8.
+pub fn fresh_words() -> [u64; 104] {
+    let mut words = [0; 104];
+    words[0] = FORMATTED;
+    words[1] = 1;
+    words[2] = 4;
+    words[3] = 2;
+    words[4] = 8;
+    words[5] = 104;
+    words[40] = 1;
+    words[42] = 1;
+    words
+}
+
 /// A device of this geometry that was formatted.
 pub fn formatted(alloc: Global, geometry: Geometry) -> Result<SimPmem, Fault> {
     let Ok(zeros) = vec![in alloc; 0; geometry.words() as usize] else {
@@ -25,14 +41,16 @@ pub fn formatted(alloc: Global, geometry: Geometry) -> Result<SimPmem, Fault> {
     Ok(device)
 }
 
-/// The same after a restart: no operation is counted.
-pub fn fresh_of(alloc: Global, geometry: Geometry) -> Result<SimPmem, Fault> {
-    SimPmem::from_words(alloc, &formatted(alloc, geometry)?.image()?)
+/// A device with so many slots, so many places and this window that was formatted and restarted: no operation is
+/// counted.
+pub fn fresh_of(alloc: Global, slots: u64, places: u64, window: u64) -> Result<SimPmem, Fault> {
+    let device = formatted(alloc, Geometry::new(slots, places, window)?)?;
+    SimPmem::from_words(alloc, &device.image()?)
 }
 
-/// A device of the worked images: 4 slots, 2 places and a window of 8.
+/// A device of the worked images.
 pub fn fresh(alloc: Global) -> Result<SimPmem, Fault> {
-    fresh_of(alloc, Geometry::new(4, 2, 8)?)
+    fresh_of(alloc, 4, 2, 8)
 }
 
 /// The room of a device that is at rest.
@@ -107,53 +125,49 @@ pub fn step(room: &mut Room<SimPmem>, step: Step) -> Note {
 }
 
 /// A transaction that writes the row, up to its stamp.
-pub fn stamp(rt: &impl Abort, room: &mut Room<SimPmem>, key: Key, row: Row, timestamp: u64) {
-    let session = 2;
-    assert_eq!(rt; step(room, Step::Begin), Note::Began(2));
-    assert_eq!(rt; step(room, Step::Put { session, key, row }), Note::Done);
-    assert_eq!(rt; step(room, Step::Draw { session }), Note::Drawn(timestamp));
-    assert_eq!(rt; step(room, Step::Stamp { session }), Note::Stamped);
+pub fn insertion(key: Key, row: Row, timestamp: u64) -> [(Step, Note); 4] {
+    [
+        (BEGIN, Note::Began(2)),
+        (put(key, row), Note::Done),
+        (DRAW, Note::Drawn(timestamp)),
+        (STAMP, Note::Stamped),
+    ]
 }
 
 /// The first tick of a cycle takes the commit, and each of the others up to that many goes on.
 pub fn tick(rt: &impl Abort, room: &mut Room<SimPmem>, ticks: usize) {
-    assert_eq!(rt; step(room, Step::Commit), Note::Ticked(Stage::Chosen));
-    for made in 1..ticks {
+    assert!(rt; 0 < ticks);
+    assert_replies(rt, room, &[(Step::Commit, Note::Ticked(Stage::Chosen))]);
+    go_on(rt, room, ticks - 1);
+}
+
+/// So many ticks of a cycle that is under way.
+pub fn go_on(rt: &impl Abort, room: &mut Room<SimPmem>, ticks: usize) {
+    for made in 0..ticks {
         let note = step(room, Step::Commit);
         assert!(rt; matches!(note, Note::Ticked(_)), "tick {made}");
     }
 }
 
-/// A cycle of 42 ticks, that covers with this stamp, and the end of the session.
-pub fn cover(rt: &impl Abort, room: &mut Room<SimPmem>, stamp: u64, timestamp: u64) {
-    cover_lines(rt, room, 1, stamp, timestamp);
-}
-
 /// A cycle of 41 ticks and one for each line, that covers with this stamp, and the end of the session.
-pub fn cover_lines(
-    rt: &impl Abort,
-    room: &mut Room<SimPmem>,
-    lines: u8,
-    stamp: u64,
-    timestamp: u64,
-) {
-    let session = 2;
+pub fn cover(rt: &impl Abort, room: &mut Room<SimPmem>, lines: u8, stamp: u64, timestamp: u64) {
     tick(rt, room, 40 + lines as usize);
-    assert_eq!(rt; step(room, Step::Commit), Note::Covered(stamp));
-    for _ in 0..2 {
-        assert_eq!(rt;
-            step(room, Step::Poll { session }),
-            Note::Committed(timestamp)
-        );
-    }
-    assert_eq!(rt; step(room, Step::End { session }), Note::Done);
+    let steps = [
+        (Step::Commit, Note::Covered(stamp)),
+        (POLL, Note::Committed(timestamp)),
+        (POLL, Note::Committed(timestamp)),
+        (END, Note::Done),
+    ];
+    assert_replies(rt, room, &steps);
 }
 
 /// What a new session reads.
 pub fn assert_row(rt: &impl Abort, room: &mut Room<SimPmem>, key: Key, row: Option<Row>) {
-    let session = 2;
-    assert_eq!(rt; step(room, Step::Begin), Note::Began(2));
-    assert_eq!(rt; step(room, Step::Get { session, key }), Note::Row(row));
-    assert_eq!(rt; step(room, Step::Draw { session }), Note::Done);
-    assert_eq!(rt; step(room, Step::End { session }), Note::Done);
+    let steps = [
+        (BEGIN, Note::Began(2)),
+        (get(key), Note::Row(row)),
+        (DRAW, Note::Done),
+        (END, Note::Done),
+    ];
+    assert_replies(rt, room, &steps);
 }

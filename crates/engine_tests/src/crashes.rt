@@ -1,8 +1,8 @@
-use crate::fixture::{assert_row, opened, operations, step};
-use crate::steps::key;
+use crate::fixture::{KEY, opened, operations, step};
+use crate::life::{Act, Call, assert_acts, step_of};
+use crate::steps::KEY_8;
 use base::fault::Fault;
 use base::gap::Gap;
-use base::row::Row;
 use base::step::{Note, Step};
 use pmem::Pmem;
 use pmem_model::{Choice, SimPmem};
@@ -11,12 +11,12 @@ use std::alloc::Global;
 use std::process::Abort;
 use std::thread::Threads;
 
-/// What an opening shows: its numbers, its gaps, and the one byte of the rows of keys 7 and 8.
+/// What an opening shows: its numbers, its gaps, and the bytes of the rows of keys 7 and 8.
 #[derive(Clone, Copy)]
 pub struct Opening {
     pub numbers: (u64, u64, u64, u64),
-    pub gaps: (Option<Gap>, Option<Gap>),
-    pub rows: (Option<u8>, Option<u8>),
+    pub gaps: &'static [Gap],
+    pub rows: (Option<&'static [u8]>, Option<&'static [u8]>),
 }
 
 /// A life from the opening of an image on, and what may come after it.
@@ -24,11 +24,11 @@ pub struct Opening {
 pub struct Life<'a> {
     pub words: &'a [u64],
     /// `Commit` stands for all ticks of a cycle.
-    pub steps: &'a [Step],
-    pub openings: &'a [Opening],
+    pub calls: &'static [Call],
+    pub openings: &'static [Opening],
     /// Up to this number of operations, the gate that the next opening has after a crash that leaves the oldest
     /// values, and after one that leaves the newest.
-    pub gates: &'a [(u64, u64, u64)],
+    pub gates: &'static [(u64, u64, u64)],
 }
 
 /// Lets the life stop after each number of operations below this one.
@@ -54,36 +54,44 @@ fn assert_stop<R: Threads + Sync + Abort>(
     fuse: u64,
 ) -> Result<(), Fault> {
     let (device, covered) = stopped(rt, alloc, life, fuse)?;
-    assert_eq!(rt; operations(&device), fuse as u128);
+    assert!(rt; operations(&device) == fuse as u128, "fuse {fuse}");
     let (oldest, newest) = gates_after(rt, life, fuse);
     assert!(rt; covered < oldest, "fuse {fuse}");
-    let (first, last) = (
-        device.crash(&Choice::Oldest)?,
-        device.crash(&Choice::Newest)?,
-    );
-    assert_opens(rt, alloc, first, life, (oldest, oldest))?;
-    assert_opens(rt, alloc, last, life, (newest, newest))?;
+    assert_left(rt, alloc, &device, &Choice::Oldest, life, (oldest, oldest))?;
+    assert_left(rt, alloc, &device, &Choice::Newest, life, (newest, newest))?;
+    assert_each_apart(rt, alloc, &device, life, (oldest, newest))
+}
+
+// Opens what a crash may leave: of each word in turn the oldest value and of the others the newest, and the other way
+// round.
+fn assert_each_apart<R: Threads + Sync + Abort>(
+    rt: &R,
+    alloc: Global,
+    device: &SimPmem,
+    life: &Life<'_>,
+    gates: (u64, u64),
+) -> Result<(), Fault> {
     for word in 0..device.words() {
-        if survivors(rt, &device, word) > 1 {
-            assert_apart(rt, alloc, &device, word, life, (oldest, newest))?;
+        if survivors(rt, device, word) > 1 {
+            let oldest = apart(rt, alloc, device, word, false)?;
+            assert_left(rt, alloc, device, &oldest, life, gates)?;
+            let newest = apart(rt, alloc, device, word, true)?;
+            assert_left(rt, alloc, device, &newest, life, gates)?;
         }
     }
     Ok(())
 }
 
-// Opens what a crash may leave: of this word the oldest value and of the others the newest, and the other way round.
-fn assert_apart<R: Threads + Sync + Abort>(
+// Opens what a crash of this choice leaves.
+fn assert_left<R: Threads + Sync + Abort>(
     rt: &R,
     alloc: Global,
     device: &SimPmem,
-    word: usize,
+    choice: &Choice,
     life: &Life<'_>,
     gates: (u64, u64),
 ) -> Result<(), Fault> {
-    let oldest = device.crash(&apart(rt, alloc, device, word, false)?)?;
-    assert_opens(rt, alloc, oldest, life, gates)?;
-    let newest = device.crash(&apart(rt, alloc, device, word, true)?)?;
-    assert_opens(rt, alloc, newest, life, gates)
+    assert_opens(rt, alloc, device.crash(choice)?, life, gates)
 }
 
 // The device that fails after so many operations, and the stamp of the last commit that was acknowledged.
@@ -95,25 +103,37 @@ fn stopped<R: Threads + Sync + Abort>(
 ) -> Result<(SimPmem, u64), Fault> {
     let mut device = SimPmem::from_words(alloc, life.words)?;
     device.set_fuse(Some(fuse));
+    Ok(live(rt, alloc, device, life.calls))
+}
+
+// Opens the device and makes the steps, up to the first that fails.
+fn live<R: Threads + Sync + Abort>(
+    rt: &R,
+    alloc: Global,
+    device: SimPmem,
+    calls: &[Call],
+) -> (SimPmem, u64) {
     assert!(rt; device.at_rest());
-    let mut room = match Room::open(rt, alloc, device) {
-        Ok(room) => room,
-        Err((fault, device)) => {
-            assert_eq!(rt; fault, Fault::Device);
-            return Ok((device, 0));
+    match Room::open(rt, alloc, device) {
+        Ok(room) => {
+            let mut room = room;
+            let covered = run(rt, &mut room, calls);
+            (room.into_device(), covered)
         }
-    };
-    let covered = run(&mut room, life.steps);
-    Ok((room.into_device(), covered))
+        Err((fault, device)) => {
+            assert!(rt; fault == Fault::Device);
+            (device, 0)
+        }
+    }
 }
 
 // Makes the steps up to the first refusal, and gives the stamp of the last commit that was acknowledged.
-fn run(room: &mut Room<SimPmem>, steps: &[Step]) -> u64 {
+fn run(rt: &impl Abort, room: &mut Room<SimPmem>, calls: &[Call]) -> u64 {
     let mut covered = 0;
-    for made in steps {
-        let note = match made {
-            Step::Commit => cycle(room),
-            made => step(room, *made),
+    for call in calls {
+        let note = match call {
+            Call::Commit => cycle(room),
+            call => step(room, step_of(rt, *call)),
         };
         match note {
             Note::Covered(stamp) => covered = stamp,
@@ -156,32 +176,28 @@ fn assert_opens<R: Threads + Sync + Abort>(
     let mut room = opened(rt, alloc, device)?;
     let gate = room.status().gate;
     assert!(rt; gate == gates.0 || gate == gates.1, "gate {gate}");
-    for opening in life.openings {
+    assert_shows(rt, &mut room, opening_of(rt, life.openings, gate));
+    Ok(())
+}
+
+// The opening with this gate.
+fn opening_of(rt: &impl Abort, openings: &[Opening], gate: u64) -> Opening {
+    for opening in openings {
         if opening.numbers.0 == gate {
-            return assert_shows(rt, &mut room, opening);
+            return *opening;
         }
     }
     panic!(rt; "gate {gate}")
 }
 
 // The room shows this opening.
-fn assert_shows(rt: &impl Abort, room: &mut Room<SimPmem>, opening: &Opening) -> Result<(), Fault> {
-    let status = room.status();
-    let numbers = (status.gate, status.persisted, status.dirty, status.next);
-    assert_eq!(rt; numbers, opening.numbers);
-    assert_eq!(rt; (status.gaps.get(0), status.gaps.get(1)), opening.gaps);
-    assert_eq!(rt; status.gaps.get(2), None);
-    assert_row(rt, room, key(7), row(opening.rows.0)?);
-    assert_row(rt, room, key(8), row(opening.rows.1)?);
-    Ok(())
-}
-
-// The row of one byte.
-fn row(byte: Option<u8>) -> Result<Option<Row>, Fault> {
-    match byte {
-        Some(byte) => Ok(Some(Row::new(&[byte])?)),
-        None => Ok(None),
-    }
+fn assert_shows(rt: &impl Abort, room: &mut Room<SimPmem>, opening: Opening) {
+    let acts = [
+        Act::Numbers(opening.numbers, opening.gaps),
+        Act::Row(KEY, opening.rows.0),
+        Act::Row(KEY_8, opening.rows.1),
+    ];
+    assert_acts(rt, room, &acts);
 }
 
 // Of one word the newest value and of all others the oldest, or the other way round.

@@ -1,5 +1,0 @@
-//! Tests of slots on the modelled device.
-#![tactic(auto)]
-
-#[cfg(test)]
-mod tests;
