@@ -6,16 +6,14 @@ use Rattle.base.specs.declared.step.Step.{Step}
 use Rattle.base.specs.declared.step.Reply.{Reply}
 use Rattle.base.specs.Commits.{Commit}
 use Rattle.base.specs.Images.{Image}
-use Rattle.base.specs.Stands.{Stands}
 use Rattle.base.specs.Machine.{State, Stepped, Hand, Cover, StandsUnder, StandsAt, StandsClosed, drawn_of, covers_at, of_hand, present, closed, uncovered}
-use Rattle.base.specs.Openings.{OpensAs}
-use Rattle.pmem.specs.Device.{Device, MayLeave, restarted, image_of}
+use Rattle.pmem.specs.Device.{Device, restarted, image_of}
 use Rattle.pmem.specs.declared.device.Pmem.{Ghosts}
-use Rattle.room.specs.Room.{Shows, StepsTo, device_of}
+use Rattle.room.specs.Room.{Shows, StepsTo}
 use Rattle.room.specs.declared.room.Room.{Room}
-use Rattle.command_line.specs.ImageFile.{HoldsWords, IsFileOf}
-use Rattle.console.specs.Kept.{Extends, Leads, HasHistory, HasClosed, KeepsHistory, IsFileWith, KeepsHistories}
-use Rattle.console.proofs.Restarted.{one_image, image-restarted}
+use Rattle.command_line.specs.ImageFile.{IsFileOf}
+use Rattle.console.specs.Kept.{Extends, Leads, KeepsHistory, KeepsHistories}
+use Rattle.console.proofs.Restarted.{image-restarted}
 
 pub extends-none : (history : List Commit) → Extends history history
 extends-none history = ([], sym (append-nil history))
