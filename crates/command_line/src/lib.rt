@@ -10,6 +10,4 @@ pub mod number;
 pub mod orders;
 pub mod printed;
 pub mod row_text;
-#[cfg(test)]
-mod tests;
 pub mod words;

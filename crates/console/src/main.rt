@@ -10,6 +10,8 @@ mod run;
 mod stop;
 #[cfg(test)]
 mod tests;
+#[cfg(test)]
+mod words_and_lines;
 
 use anyhow::Error;
 use base::geometry::Geometry;

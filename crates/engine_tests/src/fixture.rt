@@ -79,6 +79,7 @@ pub fn word(rt: &impl Abort, device: &SimPmem, word: usize) -> u64 {
 
 /// The device has these words from this one on.
 pub fn assert_words(rt: &impl Abort, device: &SimPmem, first: usize, words: &[u64]) {
+    assert!(rt; first <= device.words() && words.len() <= device.words() - first);
     for (at, want) in (first..device.words()).zip(words.iter()) {
         assert_eq!(rt; word(rt, device, at), *want, "word {at}");
     }

@@ -1,5 +1,5 @@
-//! The layers of the engine on the modelled device: the log area, the slots, and whole lives of the room from an opening
-//! to a crash, with the numbers of the worked images.
+//! The layers of the engine on the modelled device: the device, the log area, the slots, write sets, and whole lives
+//! of the room from an opening to a crash, with the numbers of the worked images.
 #![tactic(auto)]
 
 #[cfg(test)]
@@ -8,6 +8,8 @@ mod closing;
 mod crashes;
 #[cfg(test)]
 mod damage;
+#[cfg(test)]
+mod device;
 #[cfg(test)]
 mod every_stop;
 #[cfg(test)]
@@ -32,6 +34,8 @@ mod steps;
 mod transactions;
 #[cfg(test)]
 mod updates;
+#[cfg(test)]
+mod write_set;
 #[cfg(test)]
 mod writes;
 #[cfg(test)]

@@ -7,5 +7,3 @@ pub mod write_set;
 pub use write::Write;
 pub use write_set::WriteSet;
 
-#[cfg(test)]
-mod tests;

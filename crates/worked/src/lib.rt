@@ -1,0 +1,99 @@
+//! Worked examples as theorems. The functions do nothing: the contract of each says what its title promises.
+
+ghost use Rattle.worked.specs.Images.{FirstRunImages, DamagedImages, ReadImages, LongCommits};
+ghost use Rattle.worked.specs.Runs.{FirstCommit, FailedFence, LostCommit, EmptyWriteSet, HalfWritten, CloseThenOpen, Restricted, OwnWrites, Update, TwoKeys, AbortedWrites, FullWriteSet, NoSlotLeft, FirstCommitterWins, NoTimestampLeft};
+
+/// The words of the images of a first run, and what they stand for.
+pub fn first_run_images()
+    ensures { FirstRunImages }
+{}
+
+/// Which fault each damaged image gives.
+pub fn damaged_images()
+    ensures { DamagedImages }
+{}
+
+/// A body that isn't the ruling record's is never read; rows and keys of every size are.
+pub fn read_images()
+    ensures { ReadImages }
+{}
+
+/// A record that names a long commit, from version 2 on.
+pub fn long_commits()
+    ensures { LongCommits }
+{}
+
+/// A first commit, its ticks and replies, and its row after the next opening.
+pub fn first_commit()
+    ensures { FirstCommit }
+{}
+
+/// The gate's fence fails: nothing is acknowledged, and each later step is refused.
+pub fn failed_fence()
+    ensures { FailedFence }
+{}
+
+/// A commit that is stamped and not covered when the device stops is lost for good.
+pub fn lost_commit()
+    ensures { LostCommit }
+{}
+
+/// A session that wrote nothing draws no timestamp.
+pub fn empty_write_set()
+    ensures { EmptyWriteSet }
+{}
+
+/// A record that is half written isn't read.
+pub fn half_written_record()
+    ensures { HalfWritten }
+{}
+
+/// A close covers what is drawn and leaves no timestamp reserved.
+pub fn close_then_open()
+    ensures { CloseThenOpen }
+{}
+
+/// What the first stages refuse.
+pub fn first_stage_limits()
+    ensures { Restricted }
+{}
+
+/// A transaction sees what it wrote and deleted.
+pub fn own_writes()
+    ensures { OwnWrites }
+{}
+
+/// An update takes a slot of its own and leaves the version that it replaces in place.
+pub fn updated_row()
+    ensures { Update }
+{}
+
+/// A commit that deletes one key and inserts another.
+pub fn two_keys_in_one_commit()
+    ensures { TwoKeys }
+{}
+
+/// An abort gives back the slots and the session's number.
+pub fn aborted_transaction()
+    ensures { AbortedWrites }
+{}
+
+/// A transaction writes thirty-two keys, and no more.
+pub fn full_write_set()
+    ensures { FullWriteSet }
+{}
+
+/// A put without a free slot is refused and changes nothing.
+pub fn no_slot_left()
+    ensures { NoSlotLeft }
+{}
+
+/// Of two sessions that write a key the first to draw wins.
+pub fn first_committer_wins()
+    ensures { FirstCommitterWins }
+{}
+
+/// A draw needs a timestamp in the window, and numbers below the limit.
+pub fn no_timestamp_left()
+    ensures { NoTimestampLeft }
+{}
