@@ -1,4 +1,4 @@
-//! The layers of the engine on the modelled device: the device, the log area, the slots, write sets, and whole lives
+//! The layers of the engine: values, write sets, the modelled device and on it the log area, the slots and whole lives
 //! of the room from an opening to a crash, with the numbers of the worked images.
 #![tactic(auto)]
 
@@ -34,6 +34,8 @@ mod steps;
 mod transactions;
 #[cfg(test)]
 mod updates;
+#[cfg(test)]
+mod values;
 #[cfg(test)]
 mod write_set;
 #[cfg(test)]

@@ -40,7 +40,7 @@ static WORDS: [u64; 32] = [
 fn eight_gaps(rt: &impl Abort) -> Gaps {
     let mut gaps = Gaps::none();
     for gap in &EIGHT_GAPS {
-        assert!(rt; gaps.len() < 8);
+        assert!(rt; gaps.as_slice().len() < 8);
         gaps.push(*gap);
     }
     gaps
@@ -61,6 +61,6 @@ fn eight_gaps_are_written_and_read(rt: HostRuntime) -> Result<(), Fail> {
     let read = Record::from_words(&WORDS).ok_or("no record")?;
     assert!(rt; read == record);
     assert!(rt; (read.gate(), read.persisted(), read.dirty()) == (7, 40, 50));
-    assert!(rt; read.gaps().len() == 8);
+    assert!(rt; read.gaps().as_slice().len() == 8);
     Ok(())
 }

@@ -139,13 +139,11 @@ fn slots_out(rt: HostRuntime) -> Result<(), Fault> {
     let mut slots = SlotAlloc::new(free);
     device.store(80, 9)?;
     assert!(rt; device.survivors(80) == 2);
-    assert!(rt; (slots.free_count(), slots.lowest()) == (2, Some(1)));
     assert!(rt; take(&mut device, &mut slots) == Ok(1));
     assert!(rt; (device.survivors(80), device.load(80)) == (1, 0));
     assert!(rt; take(&mut device, &mut slots) == Ok(3));
     assert!(rt; take(&mut device, &mut slots) == Err(Fault::SlotsOut));
     slots.give(1);
-    assert!(rt; slots.is_free(1));
     assert!(rt; take(&mut device, &mut slots) == Ok(1));
     Ok(())
 }

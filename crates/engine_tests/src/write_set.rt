@@ -13,7 +13,7 @@ const HIGH: Key = Key { table: 2, key: 0 };
 fn insertion(key: Key, slot: u64) -> Write {
     Write {
         key,
-        row: Some(Row::empty()),
+        row: Row::new(b"").ok(),
         slot: Some(slot),
         replaces: None,
     }
@@ -38,7 +38,7 @@ fn with(mut set: WriteSet, write: Write) -> WriteSet {
 fn three() -> WriteSet {
     let update = Write {
         key: MIDDLE,
-        row: Some(Row::empty()),
+        row: Row::new(b"").ok(),
         slot: Some(1),
         replaces: Some(5),
     };

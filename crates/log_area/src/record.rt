@@ -86,7 +86,7 @@ impl Record {
             0 => self.gate,
             1 => self.persisted,
             2 => self.dirty,
-            3 => self.gaps.len() as u64,
+            3 => self.gaps.as_slice().len() as u64,
             4..=19 => self.gap_word(word),
             _ => 0,
         }
@@ -98,7 +98,7 @@ impl Record {
         requires high { word < 20 }
         ensures { result ≡ record_word self.now word }
     {
-        match self.gaps.get((word - 4) / 2) {
+        match self.gaps.as_slice().get((word - 4) / 2) {
             Some(gap) if word % 2 == 0 => gap.first,
             Some(gap) => gap.last,
             None => 0,

@@ -43,7 +43,7 @@ fn with_last_gap(gaps: Gaps, last: Gap) -> Result<Gaps, Fault>
             added.first = added.first.min(gap.first);
         }
     }
-    if joined.len() == 8 {
+    if joined.as_slice().len() == 8 {
         return Err(Fault::GapsFull);
     }
     joined.push(added);

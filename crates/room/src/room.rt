@@ -260,7 +260,7 @@ impl<D: Pmem + Drop> Room<D> {
         requires session { self.old.session ≡ Some (Active writes) }
         ensures step { (q : State) → Shows D.state self.old q → (q' : State) × StepsTo D.state self.old self.new (Put 2 key row) result q q' }
     {
-        let len = row.len();
+        let len = row.as_bytes().len();
         prove!(len <= Row::LIMIT);
         match writes.find(key) {
             Some(write) => match write.slot {

@@ -20,11 +20,11 @@ impl Model for SlotAlloc {
 }
 
 impl SlotAlloc {
-    ghost use Rattle.std.specs.Prelude.{◌≡◌, ◌≢◌, ◌⊎◌, ◌↔◌, ◌+◌, ◌/◌, ◌<◌, ◌≤◌, [], ◌∷◌, true, false, ℕ, length, slice_set, count_by, Err, None, Some, IfErr, IfOk, IsErrOf, OnErr, OnOk};
+    ghost use Rattle.std.specs.Prelude.{◌≡◌, ◌≢◌, ◌⊎◌, ◌↔◌, ◌+◌, ◌/◌, ◌<◌, ◌≤◌, [], ◌∷◌, true, false, ℕ, length, slice_set, Err, None, Some, IfErr, IfOk, IsErrOf, OnErr, OnOk};
     ghost use Rattle.base.specs.Layout.{slot_start, total_words};
     ghost use Rattle.pmem.specs.Device.{fenced, flushed, stored, survivors_in, Keeps};
     ghost use Rattle.slot_alloc.specs.Clearing.{HasMade, IsNotStored};
-    ghost use Rattle.slot_alloc.specs.Free.{is_free, lowest_free, IsBeginOfLowest, OldOrCleared};
+    ghost use Rattle.slot_alloc.specs.Free.{lowest_free, IsBeginOfLowest, OldOrCleared};
     ghost use Rattle.base.specs.declared.fault.Fault.TheVariants.{Device, SlotsOut};
 
     /// The slots that are free, by their numbers.
@@ -34,22 +34,8 @@ impl SlotAlloc {
         SlotAlloc { free }
     }
 
-    pub fn is_free(&self, slot: u64) -> bool
-        requires { slot < length self.now }
-        ensures { result ≡ is_free self.now slot }
-    {
-        self.free[slot as usize]
-    }
-
-    /// How many slots are free.
-    pub fn free_count(&self) -> u64
-        ensures { result ≡ count_by (λ free. free) self.now }
-    {
-        self.free.iter().filter(|free| **free).count() as u64
-    }
-
-    /// The slot that `take` would take.
-    pub fn lowest(&self) -> Option<u64>
+    // The slot that `take` would take.
+    fn lowest(&self) -> Option<u64>
         ensures { result ≡ lowest_free self.now }
     {
         for (slot, free) in self.free.iter().enumerate() {

@@ -1,13 +1,6 @@
-//! The program wbl: writes a fresh image into a file, and opens an image and obeys lines of commands.
+//! The program wbl: reads FILE, does the work of a subcommand, and writes FILE.
 #![tactic(auto)]
 
-mod ended;
-mod execute;
-mod format;
-mod law;
-mod lines;
-mod run;
-mod stop;
 #[cfg(test)]
 mod tests;
 #[cfg(test)]
@@ -19,9 +12,7 @@ use command_line::image_file::MOST_FILE_BYTES;
 use command_line::orders::{Order, WordFault};
 use command_line::printed::{Printed, print};
 use command_line::words::order;
-use ended::Ended;
-use execute::execute;
-use format::fresh_file;
+use console::{Ended, execute, fresh_file};
 use std::alloc::Global;
 use std::fs::File;
 use std::io::Read;

@@ -1,11 +1,11 @@
-//! Each public function once, with values that a person wrote down.
-use crate::actor::Actor;
-use crate::batch::{Batch, Commit};
-use crate::fault::Fault;
-use crate::gap::{Gap, Gaps};
-use crate::geometry::Geometry;
-use crate::key::Key;
-use crate::row::Row;
+//! Values of `base`: each public function once, with values that a person wrote down.
+use base::actor::Actor;
+use base::batch::{Batch, Commit};
+use base::fault::Fault;
+use base::gap::{Gap, Gaps};
+use base::geometry::Geometry;
+use base::key::Key;
+use base::row::Row;
 
 const KEY: Key = Key { table: 1, key: 7 };
 
@@ -66,7 +66,7 @@ fn faults(rt: HostRuntime) {
 #[test]
 fn commits_and_batches(rt: HostRuntime) {
     let Ok(writes) = vec![in rt.alloc();
-        (KEY, Some(Row::empty())),
+        (KEY, Row::new(b"").ok()),
         (Key { table: 2, key: 1 }, None),
     ] else {
         panic!(rt; "no memory")
@@ -98,10 +98,6 @@ fn rows(rt: HostRuntime) {
         panic!(rt; "refused")
     };
     assert_eq!(rt; row.as_bytes(), b"ab".as_slice());
-    assert_eq!(rt;
-        (row.len(), row.is_empty(), Row::empty().is_empty()),
-        (2, false, true)
-    );
     assert!(rt; Row::new(&[255; 32]).is_ok());
     assert!(rt; matches!(Row::new(&[0; 33]), Err(Fault::TooLong)));
 }
@@ -110,8 +106,5 @@ fn rows(rt: HostRuntime) {
 fn gaps(rt: HostRuntime) {
     let mut gaps = Gaps::none();
     gaps.push(Gap { first: 2, last: 9 });
-    assert_eq!(rt; gaps.len(), 1);
-    assert_eq!(rt; gaps.get(0), Some(Gap { first: 2, last: 9 }));
-    assert!(rt; gaps.get(1).is_none());
-    assert_eq!(rt; gaps.as_slice().len(), 1);
+    assert_eq!(rt; gaps.as_slice(), [Gap { first: 2, last: 9 }].as_slice());
 }
