@@ -1,7 +1,7 @@
 use base::fault::Fault;
 use command_line::image_file::{file_of_words, words_of_file};
 use command_line::orders::Order;
-use console::execute;
+use console::execute::execute;
 use std::alloc::Global;
 use std::io::{ErrorKind, Read, Write};
 use std::process::Abort;
