@@ -1,13 +1,13 @@
 //! The words after the program's name, the lines of a script, files and printed lines, with values that a person wrote down.
+use base::fault::Fault;
+use base::gap::Gap;
+use base::key::Key;
 use command_line::command::{Command, Survivor};
 use command_line::image_file::{file_of_words, words_of_file};
 use command_line::line::{LineFault, parse_line};
 use command_line::orders::{Order, WordFault};
 use command_line::printed::{Printed, text};
 use command_line::words::order;
-use base::fault::Fault;
-use base::gap::Gap;
-use base::key::Key;
 use std::test::Fail;
 
 /// The command of a line.
