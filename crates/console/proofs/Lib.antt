@@ -3,3 +3,4 @@ mod Restarted
 mod Grown
 mod Obeyed
 mod Lives
+mod Input

@@ -62,8 +62,8 @@ file-of-life image history lines keeps begun said ended file life =
     (subst (λ (h : List Commit). Extends h life.last.history) (opens-history image history life.first life.opens) (grows-lines life.first lines said keeps life.last life.obeys))
     life.ends
 
-pub lives-keep : (before : List ℕ) (old new : Option (List ℕ)) (after : List ℕ) → Lives before old new after → KeepsHistories before after
-lives-keep before old new after lives = record {
+pub lives-keep : (before : List ℕ) (input old new : Option (List ℕ)) (after : List ℕ) → Lives before input old new after → KeepsHistories before after
+lives-keep before input old new after lives = record {
   each = λ image held history drawn next stands.
       file-of-life image history lives.lines lives.keeps lives.begun lives.said lives.ended after (lives.each image held history drawn next stands);
 }

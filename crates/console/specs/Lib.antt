@@ -1,3 +1,4 @@
 pub mod Kept
 pub mod Obeyed
 pub mod Lives
+pub mod Input

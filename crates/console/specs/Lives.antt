@@ -14,6 +14,7 @@ use Rattle.command_line.specs.Texts.{gaps_text, survivor_text}
 use Rattle.command_line.specs.declared.command.Survivor.{Survivor}
 use Rattle.command_line.specs.declared.orders.Order.{Order}
 use Rattle.command_line.specs.declared.orders.Order.TheVariants.{Format, Run}
+use Rattle.console.specs.Input.{Reads}
 use Rattle.console.specs.Obeyed.{ObeysLines}
 
 -- the line of an opening, with these numbers and gaps
@@ -50,10 +51,12 @@ pub record IsLife (image : Image) (history : List Commit) (lines : List Text) (k
   pub obeys : ObeysLines first lines said keeps last
   pub ends : Ends last keeps ended file
 
--- whatever history the image in the old file stands for, this is a life of it, and no more is printed
-pub record Lives (before : List ℕ) (old new : Option (List ℕ)) (after : List ℕ) : Type 0 where
+-- these lines of the input are read, the last one first; whatever history the image in the old file stands for, this is a life
+-- of it by them, and no more is printed
+pub record Lives (before : List ℕ) (input old new : Option (List ℕ)) (after : List ℕ) : Type 0 where
   pub lines : List Text
   pub keeps : Option Survivor
+  pub reads : Reads input lines keeps
   pub begun : Text
   pub said : Text
   pub ended : Text
@@ -62,7 +65,7 @@ pub record Lives (before : List ℕ) (old new : Option (List ℕ)) (after : List
       → IsLife image history lines keeps begun said ended after
 
 -- what a subcommand that ends well prints
-abbrev pub Prints : Order → List ℕ → Option (List ℕ) → Option (List ℕ) → List ℕ → Type 0
-Prints (Format name slots places window) before old new after =
+abbrev pub Prints : Order → List ℕ → Option (List ℕ) → Option (List ℕ) → Option (List ℕ) → List ℕ → Type 0
+Prints (Format name slots places window) before input old new after =
     Appends old new ((codes "formatted " ++ (decimal (total_words (layout_with slots places window)) ++ codes " words")) ++ 10 ∷ [])
-Prints (Run name) before old new after = Lives before old new after
+Prints (Run name) before input old new after = Lives before input old new after

@@ -37,7 +37,7 @@ pub fn execute<T: Threads + Sync, R: Read, W: Write>(
     // FILE is written exactly where the status is 0.
     ensures written { IsSome result.file ↔ (result.status ≡ 0) }
     ensures file { IfSome result.file (λ left. Leaves order.now file.now left.items) }
-    ensures printed { IfSome result.file (λ left. Prints order.now file.now (W.contents output.old) (W.contents output.new) left.items) }
+    ensures printed { IfSome result.file (λ left. Prints order.now file.now (R.remaining input.old) (W.contents output.old) (W.contents output.new) left.items) }
 {
     match obey(rt, alloc, order, file, input, output) {
         Ok(file) => Ended {
@@ -61,7 +61,7 @@ fn obey<T: Threads + Sync, R: Read, W: Write>(
     output: &mut W,
 ) -> Result<Vec<u8>, Stop>
     ensures file { IfOk result (λ left. Leaves order.now file.now left.items) }
-    ensures printed { IfOk result (λ left. Prints order.now file.now (W.contents output.old) (W.contents output.new) left.items) }
+    ensures printed { IfOk result (λ left. Prints order.now file.now (R.remaining input.old) (W.contents output.old) (W.contents output.new) left.items) }
 {
     match *order {
         Order::Format {

@@ -4,6 +4,7 @@ ghost use Rattle.base.specs.Machine.{Stepped};
 ghost use Rattle.command_line.specs.Lines.{line_of};
 ghost use Rattle.command_line.specs.Numbers.{Text};
 ghost use Rattle.command_line.specs.Texts.{text_of};
+ghost use Rattle.console.specs.Input.{Reads};
 ghost use Rattle.console.specs.Kept.{Leads};
 ghost use Rattle.console.specs.declared.stop.Stop.TheVariants.{NotACommand};
 ghost use Rattle.console.specs.Obeyed.{Puts, Commits, Cycles, ComesTo, Obeys, ObeysLine, ObeysLines, is_busy, is_tick, reply_text};
@@ -37,7 +38,8 @@ pub fn obey_lines<D: Pmem + Drop, R: Read, W: Write>(
     input: &mut R,
     output: &mut W,
 ) -> Result<Option<Survivor>, Stop>
-    ensures { IfOk result (λ keeps. (lines : List Text) × (said : Text) × Appends (W.contents output.old) (W.contents output.new) said
+    ensures { IfOk result (λ keeps. (lines : List Text) × Reads (R.remaining input.old) lines keeps
+        × (said : Text) × Appends (W.contents output.old) (W.contents output.new) said
         × Leads D.state room.old room.new (λ q q'. ObeysLines q lines said keeps q')) }
 {
     let mut number: u64 = 0;

@@ -33,7 +33,7 @@ pub fn run<T: Threads + Sync, R: Read, W: Write>(
     input: &mut R,
     output: &mut W,
 ) -> Result<Vec<u8>, Stop>
-    ensures lives { IfOk result (λ left. Lives file.now (W.contents output.old) (W.contents output.new) left.items) }
+    ensures lives { IfOk result (λ left. Lives file.now (R.remaining input.old) (W.contents output.old) (W.contents output.new) left.items) }
 
     // So no lines take a covered commit away.
     ensures keeps { IfOk result (λ left. KeepsHistories file.now left.items) }

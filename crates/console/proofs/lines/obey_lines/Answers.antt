@@ -1,23 +1,38 @@
-use Rattle.std.proofs.Common.{[], ◌∷◌, ◌++◌, ◌∙◌, sym, subst, None}
+use Rattle.std.proofs.Common.{[], ◌∷◌, ◌++◌, ◌∙◌, sym, subst, None, rules}
 use Rattle.std.specs.Prelude.{Option}
+use Rattle.std.specs.Io.Buffered.{reader_remaining}
+use Rattle.std.specs.Io.Iter.{split_byte, split_known_bytes}
 use Rattle.base.specs.Machine.{State}
 use Rattle.command_line.specs.declared.command.Survivor.{Survivor}
 use Rattle.console.specs.Kept.{Leads}
 use Rattle.console.specs.Obeyed.{ObeysLine}
+use Rattle.console.proofs.Input.{reading-begins, reading-goes-on, all-read, read-to-crash}
 use Rattle.console.proofs.Obeyed.{no-lines, more-lines, none-of, appends-none, appends-more}
 use Rattle.console.proofs.lines.obey_lines.Goals as goal
 
 pub loop-line-init : goal.loop-line-init
-loop-line-init g c = ([], [], appends-none (g.W.Write.contents c.args.output.now), no-lines g.D.Pmem.state c.args.room.now)
+loop-line-init g c = (
+  search rules,
+  [],
+  reading-begins (g.R.Read.remaining c.args.input.now) (split_known_bytes (reader_remaining (λ r. g.R.Read.remaining r.now)) c.into_iter-line-iterator.result) (search rules),
+  [],
+  appends-none (g.W.Write.contents c.args.output.now),
+  no-lines g.D.Pmem.state c.args.room.now,
+)
 
 pub loop-line-preserved : goal.loop-line-preserved
 loop-line-preserved g c =
     let before = c.loop-line.invariant in
-    let made = c.in_ok-kept.ensures in (
-      c.as_slice.result.now ∷ before.0,
-      before.1 ++ made.0,
-      appends-more (g.W.Write.contents c.args.output.now) (g.W.Write.contents c.loop-line.output) (g.W.Write.contents c.obey_line.new.output) before.1 made.0 before.2 made.1,
-      more-lines g.D.Pmem.state c.args.room.now c.loop-line.room c.obey_line.new.room before.0 c.as_slice.result.now before.1 made.0 None before.3
+    let made = c.in_ok-kept.ensures in
+    let gives = rw c.in_ok-line.was at c.in-Some.ensures.steps in (
+      gives.1 ∙ before.0,
+      c.as_slice.result.now ∷ before.1,
+      reading-goes-on (g.R.Read.remaining c.args.input.now) (split_known_bytes (reader_remaining (λ r. g.R.Read.remaining r.now)) c.loop-line.line-iterator)
+          (split_known_bytes (reader_remaining (λ r. g.R.Read.remaining r.now)) c.next.new.self) before.1 c.as_slice.result.now c.in_ok-line.line.items (split_byte c.loop-line.line-iterator)
+          before.0 c.as_slice.ensures.value before.2 gives.2.0 gives.2.1,
+      before.3 ++ made.0,
+      appends-more (g.W.Write.contents c.args.output.now) (g.W.Write.contents c.loop-line.output) (g.W.Write.contents c.obey_line.new.output) before.3 made.0 before.4 made.1,
+      more-lines g.D.Pmem.state c.args.room.now c.loop-line.room c.obey_line.new.room before.1 c.as_slice.result.now before.3 made.0 None before.5
           (subst (λ (keeps : Option Survivor). Leads g.D.Pmem.state c.loop-line.room c.obey_line.new.room (λ (q q' : State). ObeysLine q c.as_slice.result.now made.0 keeps q'))
           (none-of c.in_ok-kept.kept (sym c.is_some.ensures ∙ c.if-is_some.false)) made.2),
     )
@@ -25,9 +40,25 @@ loop-line-preserved g c =
 pub returns-then-is_some : goal.returns-then-is_some
 returns-then-is_some g c =
     let before = c.loop-line.invariant in
-    let made = c.in_ok-kept.ensures in (
-      c.as_slice.result.now ∷ before.0,
-      before.1 ++ made.0,
-      appends-more (g.W.Write.contents c.args.output.now) (g.W.Write.contents c.loop-line.output) (g.W.Write.contents c.obey_line.new.output) before.1 made.0 before.2 made.1,
-      more-lines g.D.Pmem.state c.args.room.now c.loop-line.room c.obey_line.new.room before.0 c.as_slice.result.now before.1 made.0 c.in_ok-kept.kept before.3 made.2,
+    let made = c.in_ok-kept.ensures in
+    let gives = rw c.in_ok-line.was at c.in-Some.ensures.steps in (
+      c.as_slice.result.now ∷ before.1,
+      read-to-crash (g.R.Read.remaining c.args.input.now) (split_known_bytes (reader_remaining (λ r. g.R.Read.remaining r.now)) c.next.new.self) (c.as_slice.result.now ∷ before.1) c.in_ok-kept.kept
+          (sym c.is_some.ensures ∙ c.if-is_some.true)
+          (reading-goes-on (g.R.Read.remaining c.args.input.now) (split_known_bytes (reader_remaining (λ r. g.R.Read.remaining r.now)) c.loop-line.line-iterator)
+          (split_known_bytes (reader_remaining (λ r. g.R.Read.remaining r.now)) c.next.new.self) before.1 c.as_slice.result.now c.in_ok-line.line.items (split_byte c.loop-line.line-iterator)
+          before.0 c.as_slice.ensures.value before.2 gives.2.0 gives.2.1),
+      before.3 ++ made.0,
+      appends-more (g.W.Write.contents c.args.output.now) (g.W.Write.contents c.loop-line.output) (g.W.Write.contents c.obey_line.new.output) before.3 made.0 before.4 made.1,
+      more-lines g.D.Pmem.state c.args.room.now c.loop-line.room c.obey_line.new.room before.1 c.as_slice.result.now before.3 made.0 c.in_ok-kept.kept before.5 made.2,
+    )
+
+pub returns : goal.returns
+returns g c =
+    let before = c.loop-line.invariant in (
+      before.1,
+      all-read (g.R.Read.remaining c.args.input.now) (split_known_bytes (reader_remaining (λ r. g.R.Read.remaining r.now)) c.loop-line.line-iterator) before.1 before.2 c.in-None.ensures.steps.2,
+      before.3,
+      before.4,
+      before.5,
     )

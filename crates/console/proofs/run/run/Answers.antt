@@ -19,19 +19,20 @@ returns-clause-lives g c =
       lines = made.0;
       keeps = c.in_ok-keeps.keeps;
       begun = told.0;
-      said = made.1;
+      reads = made.1;
+      said = made.2;
       ended = over.0;
-      prints = appends-more (g.W.Write.contents c.args.output.now) (g.W.Write.contents c.obey_lines.new.output) (g.W.Write.contents c.end.new.output) (told.0 ++ made.1) over.0
-          (appends-more (g.W.Write.contents c.args.output.now) (g.W.Write.contents c.show_opened.new.output) (g.W.Write.contents c.obey_lines.new.output) told.0 made.1 told.1 made.2)
+      prints = appends-more (g.W.Write.contents c.args.output.now) (g.W.Write.contents c.obey_lines.new.output) (g.W.Write.contents c.end.new.output) (told.0 ++ made.2) over.0
+          (appends-more (g.W.Write.contents c.args.output.now) (g.W.Write.contents c.show_opened.new.output) (g.W.Write.contents c.obey_lines.new.output) told.0 made.2 told.1 made.3)
           over.1;
       each = λ image held history drawn next stands.
           life-of device_of c.in_ok-room.room c.obey_lines.new.room c.args.file.now c.in_ok-words.words.items image history drawn next made.0 c.in_ok-keeps.keeps
-          told.0 made.1 over.0 c.in_ok-left.left.items c.in_ok-words.ensures.ok held stands
+          told.0 made.2 over.0 c.in_ok-left.left.items c.in_ok-words.ensures.ok held stands
           (subst (λ (i : Image). (past pending : List Commit) (n : ℕ) → Stands i past pending n → (q : State) × OpensAs i past [] q × Shows device_of c.in_ok-room.room q)
           c.as_slice.ensures.value c.in_ok-room.ensures)
-          told.2 made.3 over.2;
+          told.2 made.4 over.2;
     }
 
 pub returns-clause-keeps : goal.returns-clause-keeps
 returns-clause-keeps g c =
-    lives-keep c.args.file.now (g.W.Write.contents c.args.output.now) (g.W.Write.contents c.end.new.output) c.in_ok-left.left.items (returns-clause-lives g c)
+    lives-keep c.args.file.now (g.R.Read.remaining c.args.input.now) (g.W.Write.contents c.args.output.now) (g.W.Write.contents c.end.new.output) c.in_ok-left.left.items (returns-clause-lives g c)
