@@ -1,4 +1,4 @@
-use Rattle.std.proofs.Common.{refl, sym, arith}
+use Rattle.std.proofs.Common.{ℕ, refl, sym, ap, length, arith}
 use Rattle.base.specs.declared.fault.Fault.TheVariants.{WriteSetFull}
 use Rattle.base.specs.declared.step.Step.TheVariants.{Put}
 use Rattle.room.proofs.Steps.{refuses}
@@ -27,7 +27,7 @@ returns-then-is_full g c = record {
   step = λ q shown. (
     q,
     refuses g.D.Pmem.state c.args.self.now q (Put 2 c.args.key c.args.row) WriteSetFull (g.met.D.Pmem.orderly _) shown
-        (put-full_refused g.D.Pmem.state c.args.self.now q c.args.key c.args.row c.args.writes shown c.requires.works c.requires.session (omega (arith, c.len-len.ensures.value, c.len-len.ensures.limit))
+        (put-full_refused g.D.Pmem.state c.args.self.now q c.args.key c.args.row c.args.writes shown c.requires.works c.requires.session (omega (arith, ap (length {A = ℕ}) c.as_bytes-len.ensures.value, c.as_bytes-len.ensures.limit))
         (sym c.in-None.ensures) (c.if-is_full.ensures.full.0 refl)) (λ told. cc told),
   );
 }
@@ -35,7 +35,7 @@ returns-then-is_full g c = record {
 pub returns-in-Some-slot : goal.returns-in-Some-slot
 returns-in-Some-slot g c = record {
   step = λ q shown.
-      put-own_steps g.D.Pmem.state c.args.self.now q c.args.key c.args.row c.args.writes shown c.requires.works c.requires.session (omega (arith, c.len-len.ensures.value, c.len-len.ensures.limit))
+      put-own_steps g.D.Pmem.state c.args.self.now q c.args.key c.args.row c.args.writes shown c.requires.works c.requires.session (omega (arith, ap (length {A = ℕ}) c.as_bytes-len.ensures.value, c.as_bytes-len.ensures.limit))
       _ c.in-Some.write c.in-Some-slot.slot _ (g.met.D.Pmem.orderly _) (sym c.in-Some.ensures) c.in-Some-slot.is c.store_version.ensures.stored;
 }
 
