@@ -1,14 +1,15 @@
 -- How the lines that were read follow those that are left.
 use Rattle.std.proofs.Common.{◌≡◌, ℕ, ◌-◌, ◌<◌, suc, Bool, true, false, cond, List, [], ◌∷◌, ◌++◌, length, take, refl, sym, ◌∙◌, ap, subst, arith, append-nil, append_assoc}
-use Rattle.std.specs.Prelude.{Option, Some, None, is_some, IfSome, reverse, ◌==◌}
+use Rattle.std.specs.Prelude.{◌≢◌, Option, Some, None, is_some, IfSome, All, reverse, ◌==◌}
 use Rattle.std.specs.List.{onto_first}
 use Rattle.std.specs.Io.BufRead.{first_piece, drop_through, take_through, strip_last, ends_with_byte, DropsThrough}
 use Rattle.std.specs.Io.KnownBytes.{IsAtEnd, prepend_known}
 use Rattle.std.proofs.lemmas.Grind.{common_steps}
 use Rattle.std.proofs.lemmas.List.{reverse-append}
+use Rattle.std.proofs.lemmas.List.Elements.{All-head, All-tail}
 use Rattle.command_line.specs.Numbers.{Text}
 use Rattle.command_line.specs.declared.command.Survivor.{Survivor}
-use Rattle.console.specs.Input.{lines_in, Reads}
+use Rattle.console.specs.Input.{lines_in, written, Reads}
 
 -- ---- one line
 
@@ -54,6 +55,22 @@ lines-in-one false x e = ap (λ (l : List ℕ). l ∷ []) (sym (strip-one x e))
 pub lines-in-first : (x : ℕ) (xs : List ℕ) → lines_in (x ∷ xs) ≡ first_piece 10 (x ∷ xs) ∷ lines_in (drop_through 10 (x ∷ xs))
 lines-in-first x [] = lines-in-one (x == 10) x refl
 lines-in-first x (y ∷ ys) = lines-in-cons (x == 10) x y ys refl (lines-in-first y ys)
+
+-- ---- lines that are written down
+
+not-feed : (byte : ℕ) → byte ≢ 10 → (byte == 10) ≡ false
+not-feed byte ne = grind (arith, common_steps)
+
+line-read-back : (line text : Text) → All (λ byte. byte ≢ 10) line → lines_in (line ++ 10 ∷ text) ≡ line ∷ lines_in text
+line-read-back [] text none = refl
+line-read-back (byte ∷ line) text none =
+    rw (not-feed byte (All-head (λ (b : ℕ). b ≢ 10) byte line none)) (ap (onto_first byte) (line-read-back line text (All-tail (λ (b : ℕ). b ≢ 10) byte line none)))
+
+pub lines-read-back : (lines : List Text) → All (All (λ byte. byte ≢ 10)) lines → lines_in (written lines) ≡ lines
+lines-read-back [] none = refl
+lines-read-back (line ∷ lines) none =
+    line-read-back line (written lines) (All-head (All (λ (b : ℕ). b ≢ 10)) line lines none)
+    ∙ ap (λ (rest : List Text). line ∷ rest) (lines-read-back lines (All-tail (All (λ (b : ℕ). b ≢ 10)) line lines none))
 
 -- ---- the lines so far
 

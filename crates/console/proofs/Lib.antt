@@ -4,3 +4,4 @@ mod Grown
 mod Obeyed
 mod Lives
 mod Input
+mod Crash

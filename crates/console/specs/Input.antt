@@ -9,6 +9,11 @@ abbrev pub lines_in : Text → List Text
 lines_in [] = []
 lines_in (byte ∷ rest) = if byte == 10 then [] ∷ lines_in rest else onto_first byte (lines_in rest)
 
+-- lines that are written down, each with a line feed after it
+abbrev pub written : List Text → Text
+written [] = []
+written (line ∷ rest) = line ++ 10 ∷ written rest
+
 -- those that are read of these, the last one first: all, or those up to a crash
 abbrev pub AreRead : List Text → List Text → Option Survivor → Type 0
 AreRead lines read None = lines ≡ reverse read

@@ -2,3 +2,4 @@ pub mod Kept
 pub mod Obeyed
 pub mod Lives
 pub mod Input
+pub mod Crash

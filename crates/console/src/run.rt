@@ -4,11 +4,13 @@ ghost use Rattle.base.specs.Commits.{Commit};
 ghost use Rattle.base.specs.Machine.{State};
 ghost use Rattle.base.specs.Openings.{OpensAs};
 ghost use Rattle.base.specs.Stands.{Stands};
-ghost use Rattle.pmem.specs.Device.{image_of};
+ghost use Rattle.pmem.specs.Device.{MayLeave, image_of};
+ghost use Rattle.pmem_model.specs.Chosen.{IsChosen};
 ghost use Rattle.pmem_model.specs.Sim.{device_of};
-ghost use Rattle.room.specs.Room.{Shows};
+ghost use Rattle.room.specs.Room.{Shows, device_of as device_in};
 ghost use Rattle.command_line.specs.ImageFile.{IsFileOf};
 ghost use Rattle.command_line.specs.Numbers.{Text};
+ghost use Rattle.console.specs.Crash.{choice_of, IsFileKept, KeepsNamed};
 ghost use Rattle.console.specs.Kept.{HasClosed, KeepsHistories};
 ghost use Rattle.console.specs.Lives.{Ends, Lives, opened_text};
 
@@ -80,8 +82,9 @@ fn end<W: Write>(
     keeps: Option<Survivor>,
     output: &mut W,
 ) -> Result<Vec<u8>, Stop>
-    ensures { IfOk result (λ left. (said : Text) × Appends (W.contents output.old) (W.contents output.new) said
+    ensures ends { IfOk result (λ left. (said : Text) × Appends (W.contents output.old) (W.contents output.new) said
         × ((q : State) → Shows device_of room q → Ends q keeps said left.items)) }
+    ensures kept { IfOk result (λ left. KeepsNamed (device_in device_of room) keeps left.items) }
 {
     match keeps {
         Some(keeps) => stop(alloc, room, keeps, output),
@@ -96,17 +99,32 @@ fn stop<W: Write>(
     keeps: Survivor,
     output: &mut W,
 ) -> Result<Vec<u8>, Stop>
-    ensures { IfOk result (λ left. (said : Text) × Appends (W.contents output.old) (W.contents output.new) said
+    ensures ends { IfOk result (λ left. (said : Text) × Appends (W.contents output.old) (W.contents output.new) said
         × ((q : State) → Shows device_of room q → Ends q (Some keeps) said left.items)) }
+    ensures kept { IfOk result (λ left. IsFileKept (device_in device_of room) keeps left.items) }
 {
-    let choice = match keeps {
-        Survivor::Oldest => Choice::Oldest,
-        Survivor::Newest => Choice::Newest,
-    };
-    let device = room.into_device().crash(&choice)?;
-    let file = file_of_device(alloc, &device)?;
+    let device = room.into_device();
+    let left = crashed(&device, keeps)?;
+    let file = file_of_device(alloc, &left)?;
     print(alloc, output, &Printed::Stopped(keeps))?;
     Ok(file)
+}
+
+// The device after a crash that keeps this of each word.
+fn crashed(device: &SimPmem, keeps: Survivor) -> Result<SimPmem, Fault>
+    ensures chosen { IfOk result (λ left. IsChosen (choice_of keeps) (device_of device.now) (image_of (device_of left))) }
+    ensures possible { IfOk result (λ left. MayLeave (device_of device.now) (image_of (device_of left))) }
+{
+    device.crash(&choice_of(keeps))
+}
+
+fn choice_of(keeps: Survivor) -> Choice
+    ensures { result ≡ choice_of keeps }
+{
+    match keeps {
+        Survivor::Oldest => Choice::Oldest,
+        Survivor::Newest => Choice::Newest,
+    }
 }
 
 // What is left after the close of the room.

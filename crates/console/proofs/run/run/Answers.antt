@@ -14,7 +14,7 @@ pub returns-clause-lives : goal.returns-clause-lives
 returns-clause-lives g c =
     let told = c.in_ok-show_opened.ensures in
     let made = c.in_ok-keeps.ensures in
-    let over = c.in_ok-left.ensures in
+    let over = c.in_ok-left.ensures.ends in
     record {
       lines = made.0;
       keeps = c.in_ok-keeps.keeps;

@@ -1,16 +1,24 @@
-use Rattle.std.proofs.Common.{◌∷◌, ◌++◌, []}
+use Rattle.std.proofs.Common.{◌∷◌, ◌++◌, [], subst}
 use Rattle.std.specs.Prelude.{codes}
+use Rattle.pmem.specs.Device.{Device, image_of}
+use Rattle.pmem_model.specs.Chosen.{IsChosen}
 use Rattle.pmem_model.specs.Sim.{device_of}
 use Rattle.command_line.specs.Texts.{survivor_text}
-use Rattle.console.proofs.Kept.{file-restarted}
+use Rattle.console.specs.Crash.{choice_of}
 use Rattle.console.proofs.Lives.{ends-stopped}
 use Rattle.console.proofs.run.stop.Goals as goal
 
-pub returns : goal.returns
-returns g c =
-    let left = c.in_ok-device.ensures.possible in (
-      (codes "stopped " ++ survivor_text c.args.keeps) ++ 10 ∷ [],
-      c.in_ok-print.ensures,
-      λ q shows. ends-stopped device_of c.args.room (device_of c.into_device.result) left.0 c.in_ok-file.file.items c.args.keeps q c.into_device.ensures left.1
-          (file-restarted (device_of c.in_ok-device.device) left.0 c.in_ok-file.file.items left.2 c.in_ok-file.ensures) shows,
-    )
+pub returns-clause-ends : goal.returns-clause-ends
+returns-clause-ends g c = (
+  (codes "stopped " ++ survivor_text c.args.keeps) ++ 10 ∷ [],
+  c.in_ok-print.ensures,
+  λ q shows. ends-stopped device_of c.args.room (device_of c.into_device-device.result) (image_of (device_of c.in_ok-left.left)) c.in_ok-file.file.items c.args.keeps q c.into_device-device.ensures
+      c.in_ok-left.ensures.possible c.in_ok-file.ensures shows,
+)
+
+pub returns-clause-kept : goal.returns-clause-kept
+returns-clause-kept g c = record {
+  image = image_of (device_of c.in_ok-left.left);
+  of_image = c.in_ok-file.ensures;
+  chosen = subst (λ (device : Device). IsChosen (choice_of c.args.keeps) device (image_of (device_of c.in_ok-left.left))) c.into_device-device.ensures c.in_ok-left.ensures.chosen;
+}
