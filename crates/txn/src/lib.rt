@@ -6,4 +6,3 @@ pub mod write_set;
 
 pub use write::Write;
 pub use write_set::WriteSet;
-
