@@ -1,5 +1,5 @@
 -- The lines that are printed, as bytes and without their line feed.
-use Rattle.std.specs.Prelude.{List, [], ◌∷◌, ◌++◌, codes, decimal}
+use Rattle.std.specs.Prelude.{ℕ, List, [], ◌∷◌, ◌++◌, codes, decimal}
 use Rattle.std.specs.List.{flat_map}
 use Rattle.base.specs.declared.fault.Fault.{Fault}
 use Rattle.base.specs.declared.fault.Fault.TheVariants as fault
@@ -63,12 +63,19 @@ abbrev pub survivor_text : Survivor → Text
 survivor_text Oldest = codes "oldest"
 survivor_text Newest = codes "newest"
 
+-- the line of an opening, with these numbers and gaps
+abbrev pub opened_line : ℕ → ℕ → ℕ → ℕ → List Gap → Text
+opened_line gate persisted dirty next gaps =
+    codes "opened gate " ++ (decimal gate ++ (codes " p " ++ (decimal persisted ++ (codes " d " ++ (decimal dirty ++ (codes " next " ++ (decimal next ++ (codes " gaps" ++ gaps_text gaps))))))))
+
+-- the line of a close, with these numbers
+abbrev pub closed_line : ℕ → ℕ → ℕ → Text
+closed_line gate persisted dirty = codes "closed gate " ++ (decimal gate ++ (codes " p " ++ (decimal persisted ++ (codes " d " ++ decimal dirty))))
+
 -- a printed line
 abbrev pub text_of : Printed → Text
-text_of (printed.Opened gate persisted drawn next gaps) =
-    codes "opened gate " ++ (decimal gate ++ (codes " p " ++ (decimal persisted ++ (codes " d " ++ (decimal drawn ++ (codes " next " ++ (decimal next ++ (codes " gaps" ++ gaps_text gaps.now))))))))
-text_of (printed.Closed gate persisted drawn) =
-    codes "closed gate " ++ (decimal gate ++ (codes " p " ++ (decimal persisted ++ (codes " d " ++ decimal drawn))))
+text_of (printed.Opened gate persisted dirty next gaps) = opened_line gate persisted dirty next gaps.now
+text_of (printed.Closed gate persisted dirty) = closed_line gate persisted dirty
 text_of (printed.Formatted words) = codes "formatted " ++ (decimal words ++ codes " words")
 text_of (printed.Session session) = codes "session " ++ decimal session
 text_of (printed.Row bytes) = codes "row " ++ row_text bytes.now

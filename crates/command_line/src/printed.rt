@@ -19,7 +19,7 @@ pub enum Printed<'a> {
     Opened {
         gate: u64,
         persisted: u64,
-        drawn: u64,
+        dirty: u64,
         next: u64,
         gaps: &'a [Gap],
     },
@@ -27,7 +27,7 @@ pub enum Printed<'a> {
     Closed {
         gate: u64,
         persisted: u64,
-        drawn: u64,
+        dirty: u64,
     },
     Formatted {
         words: u64,
@@ -70,18 +70,18 @@ pub fn text(alloc: Global, line: &Printed) -> Result<String, AllocError>
         Printed::Opened {
             gate,
             persisted,
-            drawn,
+            dirty,
             next,
             gaps,
         } => {
             let gaps = gaps_text(alloc, gaps)?;
-            format!(in alloc; "opened gate {gate} p {persisted} d {drawn} next {next} gaps{gaps}")
+            format!(in alloc; "opened gate {gate} p {persisted} d {dirty} next {next} gaps{gaps}")
         }
         Printed::Closed {
             gate,
             persisted,
-            drawn,
-        } => format!(in alloc; "closed gate {gate} p {persisted} d {drawn}"),
+            dirty,
+        } => format!(in alloc; "closed gate {gate} p {persisted} d {dirty}"),
         Printed::Formatted { words } => format!(in alloc; "formatted {words} words"),
         Printed::Session(session) => format!(in alloc; "session {session}"),
         Printed::Row(bytes) => row_line(alloc, bytes),

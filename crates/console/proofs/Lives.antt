@@ -14,10 +14,10 @@ use Rattle.room.specs.Room.{Shows, device_of}
 use Rattle.room.specs.declared.room.Room.{Room}
 use Rattle.command_line.specs.ImageFile.{HoldsWords, IsFileOf}
 use Rattle.command_line.specs.Numbers.{Text}
-use Rattle.command_line.specs.Texts.{survivor_text}
+use Rattle.command_line.specs.Texts.{opened_line, closed_line, survivor_text}
 use Rattle.command_line.specs.declared.command.Survivor.{Survivor}
 use Rattle.console.specs.Kept.{Extends, HasClosed, IsFileWith, KeepsHistories, Leads}
-use Rattle.console.specs.Lives.{Ends, IsLife, Lives, opened_line, opened_text, closed_line, closed_text}
+use Rattle.console.specs.Lives.{Ends, IsLife, Lives, opened_text, closed_text}
 use Rattle.console.specs.Obeyed.{ObeysLines}
 use Rattle.console.proofs.Grown.{grows-lines}
 use Rattle.console.proofs.Kept.{keeps-at, keeps-closed}

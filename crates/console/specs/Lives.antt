@@ -1,7 +1,6 @@
 -- A life of the program: what it prints and what FILE holds then, from the image that FILE held.
 use Rattle.std.specs.Prelude.{◌≡◌, ℕ, ◌-◌, List, [], ◌∷◌, ◌++◌, codes, decimal, Option, Some, None}
 use Rattle.std.specs.Io.KnownBytes.{Appends}
-use Rattle.base.specs.declared.gap.Gap.{Gap}
 use Rattle.base.specs.Commits.{Commit}
 use Rattle.base.specs.Images.{Image}
 use Rattle.base.specs.Layout.{layout_with, total_words}
@@ -10,27 +9,18 @@ use Rattle.base.specs.Openings.{OpensAs}
 use Rattle.base.specs.Stands.{Stands}
 use Rattle.command_line.specs.ImageFile.{HoldsWords, IsFileOf}
 use Rattle.command_line.specs.Numbers.{Text}
-use Rattle.command_line.specs.Texts.{gaps_text, survivor_text}
+use Rattle.command_line.specs.Texts.{opened_line, closed_line, survivor_text}
 use Rattle.command_line.specs.declared.command.Survivor.{Survivor}
 use Rattle.command_line.specs.declared.orders.Order.{Order}
 use Rattle.command_line.specs.declared.orders.Order.TheVariants.{Format, Run}
 use Rattle.console.specs.Input.{Reads}
 use Rattle.console.specs.Obeyed.{ObeysLines}
 
--- the line of an opening, with these numbers and gaps
-abbrev pub opened_line : ℕ → ℕ → ℕ → ℕ → List Gap → Text
-opened_line gate persisted dirty next gaps =
-    codes "opened gate " ++ (decimal gate ++ (codes " p " ++ (decimal persisted ++ (codes " d " ++ (decimal dirty ++ (codes " next " ++ (decimal next ++ (codes " gaps" ++ gaps_text gaps))))))))
-
--- that of the opened state
+-- the line of the opened state
 abbrev pub opened_text : State → Text
 opened_text q = opened_line q.gate q.persisted q.dirty q.next q.gaps
 
--- the line of a close, with these numbers
-abbrev pub closed_line : ℕ → ℕ → ℕ → Text
-closed_line gate persisted dirty = codes "closed gate " ++ (decimal gate ++ (codes " p " ++ (decimal persisted ++ (codes " d " ++ decimal dirty))))
-
--- that of a close from the state
+-- the line of a close from the state
 abbrev pub closed_text : State → Text
 closed_text q = closed_line (closing_gate q) (q.next - 1) q.next
 

@@ -67,7 +67,7 @@ fn show_opened<W: Write>(alloc: Global, room: &Room<SimPmem>, output: &mut W) ->
     let opened = Printed::Opened {
         gate: status.gate,
         persisted: status.persisted,
-        drawn: status.dirty,
+        dirty: status.dirty,
         next: status.next,
         gaps: status.gaps.as_slice(),
     };
@@ -139,7 +139,7 @@ fn close<W: Write>(alloc: Global, room: Room<SimPmem>, output: &mut W) -> Result
     let line = Printed::Closed {
         gate: ruling.gate(),
         persisted: ruling.persisted(),
-        drawn: ruling.dirty(),
+        dirty: ruling.dirty(),
     };
     print(alloc, output, &line)?;
     Ok(file)

@@ -127,7 +127,7 @@ fn the_first_run_is_printed(rt: HostRuntime) -> Result<(), Fail> {
     let opened = Printed::Opened {
         gate: 2,
         persisted: 0,
-        drawn: 9,
+        dirty: 9,
         next: 1,
         gaps: &[],
     };
@@ -147,7 +147,7 @@ fn the_second_run_is_printed(rt: HostRuntime) -> Result<(), Fail> {
     let opened = Printed::Opened {
         gate: 4,
         persisted: 9,
-        drawn: 18,
+        dirty: 18,
         next: 10,
         gaps: &[Gap { first: 2, last: 9 }],
     };
@@ -158,7 +158,7 @@ fn the_second_run_is_printed(rt: HostRuntime) -> Result<(), Fail> {
     let closed = Printed::Closed {
         gate: 5,
         persisted: 9,
-        drawn: 10,
+        dirty: 10,
     };
     assert!(rt; prints(&rt, &closed, "closed gate 5 p 9 d 10")?);
     Ok(())

@@ -1,6 +1,6 @@
 use Rattle.std.proofs.Common.{◌∷◌, ◌++◌, [], rules}
 use Rattle.pmem_model.specs.Sim.{device_of}
-use Rattle.console.specs.Lives.{closed_line}
+use Rattle.command_line.specs.Texts.{closed_line}
 use Rattle.console.proofs.Kept.{file-restarted}
 use Rattle.console.proofs.Lives.{ends-closed, rules-restarted}
 use Rattle.console.proofs.run.close.Goals as goal

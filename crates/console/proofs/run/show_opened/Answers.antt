@@ -1,5 +1,5 @@
 use Rattle.std.proofs.Common.{◌∷◌, ◌++◌, [], ◌∙◌}
-use Rattle.console.specs.Lives.{opened_line}
+use Rattle.command_line.specs.Texts.{opened_line}
 use Rattle.console.proofs.Lives.{opened-so}
 use Rattle.console.proofs.run.show_opened.Goals as goal
 
