@@ -4,8 +4,7 @@ use base::gap::{Gap, Gaps};
 use base::geometry::Geometry;
 use base::step::Stage;
 use log_area::{
-    FORMATTED, Record, Writing, WritingStage, latest, read_geometry, set_word, write_geometry,
-    write_record,
+    FORMATTED, Record, Writing, latest, read_geometry, set_word, write_geometry, write_record,
 };
 use pmem::Pmem;
 use pmem_model::{Choice, SimPmem};
@@ -63,7 +62,6 @@ fn worked_image(rt: HostRuntime) -> Result<(), Fault> {
 fn tick(rt: &impl Abort, device: &mut SimPmem, ticks: u64) -> Result<(), Fault> {
     let geometry = read_geometry(device)?;
     let mut writing = Writing::new(geometry, with_gap(2, 3, 9, Gap { first: 1, last: 3 }));
-    assert!(rt; writing.stage() == WritingStage::StoreBody(1));
     let mut last = Some(Stage::Chosen);
     for _ in 0..ticks {
         assert!(rt; !writing.is_done());

@@ -49,12 +49,6 @@ impl Writing {
         }
     }
 
-    pub fn stage(&self) -> WritingStage
-        ensures { result ≡ self.now.stage }
-    {
-        self.stage
-    }
-
     /// Was its last operation made?
     pub fn is_done(&self) -> bool
         ensures done { IsTrue result ↔ (self.now.stage ≡ WritingStage.Done) }
