@@ -43,7 +43,7 @@ pub ends-closed : {D : Type 0} {G : Ghosts D} (state : D → Device) (room : Roo
     → Ends q None (closed_line gate persisted dirty ++ 10 ∷ []) file
 ends-closed state room device image file q r gate persisted dirty a b c rules closes left bytes shows =
     let stands = closes.each q shows image left in
-    (image, bytes, stands, closed-so q r gate persisted dirty a b c (sym rules ∙ stands.ruled))
+    (image, bytes, stands, closes.may_close q shows, closed-so q r gate persisted dirty a b c (sym rules ∙ stands.ruled))
 
 pub rules-restarted : (device : Device) (image : Image) (r : Record) → device ≡ restarted image → ruling (image_of device) ≡ r → ruling image ≡ r
 rules-restarted device image r is rules = ap ruling (sym (ap image_of is ∙ image-restarted image)) ∙ rules
@@ -53,7 +53,7 @@ opens-history image history q (gaps, is, e) = ap (λ (p : State). p.history) e
 
 file-of-end : (history : List Commit) (q : State) (keeps : Option Survivor) (said : Text) (file : List ℕ) → Extends history q.history → Ends q keeps said file → IsFileWith history file
 file-of-end history q (Some keeps) said file longer (image, bytes, stands, e) = record { image = image; of_image = bytes; keeps = keeps-at history q image longer stands }
-file-of-end history q None said file longer (image, bytes, stands, e) = record { image = image; of_image = bytes; keeps = keeps-closed history q image longer stands }
+file-of-end history q None said file longer (image, bytes, stands, may, e) = record { image = image; of_image = bytes; keeps = keeps-closed history q image longer stands }
 
 file-of-life : (image : Image) (history : List Commit) (lines : List Text) (keeps : Option Survivor) (begun said ended : Text) (file : List ℕ)
     → IsLife image history lines keeps begun said ended file → IsFileWith history file

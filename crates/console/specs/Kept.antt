@@ -1,10 +1,10 @@
 -- What FILE keeps of the history that its image stands for.
-use Rattle.std.specs.Prelude.{◌≡◌, ℕ, ◌++◌, List}
+use Rattle.std.specs.Prelude.{◌≡◌, ℕ, ◌++◌, List, None}
 use Rattle.base.specs.Commits.{Commit}
 use Rattle.base.specs.Layout.{layout_with}
 use Rattle.base.specs.Images.{Image}
 use Rattle.base.specs.Stands.{Stands}
-use Rattle.base.specs.Machine.{State, StandsClosed}
+use Rattle.base.specs.Machine.{State, StandsClosed, closing_fault}
 use Rattle.pmem.specs.Device.{Device, MayLeave}
 use Rattle.pmem.specs.declared.device.Pmem.{Ghosts}
 use Rattle.recovery.specs.Fresh.{fresh_image}
@@ -22,9 +22,10 @@ Extends history longer = (more : List Commit) × (longer ≡ history ++ more)
 pub record Leads {D : Type 0} {G : Ghosts D} (state : D → Device) (old new : Room D G) (By : State → State → Type 0) : Type 0 where
   pub each : (q : State) → Shows state old q → (q' : State) × By q q' × Shows state new q'
 
--- whatever state the room showed, a crash of the device leaves what a close of that state leaves
+-- whatever state the room showed, nothing spoke against a close of it, and a crash of the device leaves what that close leaves
 pub record HasClosed {D : Type 0} {G : Ghosts D} (state : D → Device) (room : Room D G) (device : Device) : Type 0 where
   pub each : (q : State) → Shows state room q → (image : Image) → MayLeave device image → StandsClosed q image
+  pub may_close : (q : State) → Shows state room q → closing_fault q ≡ None
 
 -- the image stands for a history that begins with this one
 pub record KeepsHistory (history : List Commit) (image : Image) : Type 0 where

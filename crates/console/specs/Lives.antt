@@ -1,13 +1,13 @@
 -- A life of the program: what it prints and what FILE holds then, from the image that FILE held.
-use Rattle.std.specs.Prelude.{◌≡◌, ℕ, ◌-◌, List, [], ◌∷◌, ◌++◌, codes, decimal, Option, Some, None}
+use Rattle.std.specs.Prelude.{◌≡◌, ℕ, ◌-◌, List, [], ◌∷◌, ◌++◌, length, codes, decimal, true, Option, Some, None}
 use Rattle.std.specs.Io.KnownBytes.{Appends}
 use Rattle.base.specs.Commits.{Commit}
-use Rattle.base.specs.Images.{Image}
+use Rattle.base.specs.Images.{Image, opening_fault}
 use Rattle.base.specs.Layout.{layout_with, total_words}
-use Rattle.base.specs.Machine.{State, StandsAt, StandsClosed, closing_gate}
+use Rattle.base.specs.Machine.{State, StandsAt, StandsClosed, closing_fault, closing_gate}
 use Rattle.base.specs.Openings.{OpensAs}
 use Rattle.base.specs.Stands.{Stands}
-use Rattle.command_line.specs.ImageFile.{HoldsWords, IsFileOf}
+use Rattle.command_line.specs.ImageFile.{HoldsWords, IsFileOf, is_image_length}
 use Rattle.command_line.specs.Numbers.{Text}
 use Rattle.command_line.specs.Texts.{opened_line, closed_line, survivor_text}
 use Rattle.command_line.specs.declared.command.Survivor.{Survivor}
@@ -24,13 +24,20 @@ opened_text q = opened_line q.gate q.persisted q.dirty q.next q.gaps
 abbrev pub closed_text : State → Text
 closed_text q = closed_line (closing_gate q) (q.next - 1) q.next
 
--- How a life ends in this state: by a crash, which leaves what a crash may leave then, or by a close. The line that is
--- printed, and what FILE holds then
+-- the file has the words of an image, and nothing speaks against opening it
+pub record IsOpenable (file : List ℕ) : Type 0 where
+  pub size : is_image_length (length file) ≡ true
+  pub image : Image
+  pub holds : HoldsWords file image
+  pub sound : opening_fault image ≡ None
+
+-- How a life ends in this state: by a crash, which leaves an image that stands for what must be kept then, or by a close,
+-- against which nothing speaks. The line that is printed, and what FILE holds then
 abbrev pub Ends : State → Option Survivor → Text → List ℕ → Type 0
 Ends q (Some keeps) said file =
     (image : Image) × IsFileOf image file × StandsAt q image × (said ≡ (codes "stopped " ++ survivor_text keeps) ++ 10 ∷ [])
 Ends q None said file =
-    (image : Image) × IsFileOf image file × StandsClosed q image × (said ≡ closed_text q ++ 10 ∷ [])
+    (image : Image) × IsFileOf image file × StandsClosed q image × (closing_fault q ≡ None) × (said ≡ closed_text q ++ 10 ∷ [])
 
 -- the image that stands for the history is opened, the lines are obeyed, the last one first, and the life ends
 pub record IsLife (image : Image) (history : List Commit) (lines : List Text) (keeps : Option Survivor) (begun said ended : Text) (file : List ℕ) : Type 0 where
@@ -41,9 +48,10 @@ pub record IsLife (image : Image) (history : List Commit) (lines : List Text) (k
   pub obeys : ObeysLines first lines said keeps last
   pub ends : Ends last keeps ended file
 
--- these lines of the input are read, the last one first; whatever history the image in the old file stands for, this is a life
--- of it by them, and no more is printed
+-- the image in the old file may be opened, and these lines of the input are read, the last one first; whatever history the image
+-- stands for, this is a life of it by them, and no more is printed
 pub record Lives (before : List ℕ) (input old new : Option (List ℕ)) (after : List ℕ) : Type 0 where
+  pub opens : IsOpenable before
   pub lines : List Text
   pub keeps : Option Survivor
   pub reads : Reads input lines keeps

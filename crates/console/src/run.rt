@@ -1,6 +1,7 @@
 ghost use Rattle.std.specs.Prelude.{◌≡◌, ◌++◌, ◌∷◌, [], ℕ, List, None, Some, IfOk, OnOk};
 ghost use Rattle.std.specs.Io.KnownBytes.{Appends};
 ghost use Rattle.base.specs.Commits.{Commit};
+ghost use Rattle.base.specs.Images.{opening_fault};
 ghost use Rattle.base.specs.Machine.{State};
 ghost use Rattle.base.specs.Openings.{OpensAs};
 ghost use Rattle.base.specs.Stands.{Stands};
@@ -49,8 +50,9 @@ pub fn run<T: Threads + Sync, R: Read, W: Write>(
 }
 
 fn open<T: Threads + Sync>(rt: &T, alloc: Global, words: &[u64]) -> Result<Room<SimPmem>, Fault>
-    ensures { IfOk result (λ room. (history drawn : List Commit) (next : ℕ) → Stands words.now history drawn next
+    ensures shows { IfOk result (λ room. (history drawn : List Commit) (next : ℕ) → Stands words.now history drawn next
         → (q : State) × OpensAs words.now history [] q × Shows device_of room q) }
+    ensures may_open { IfOk result (λ room. opening_fault words.now ≡ None) }
 {
     let device = SimPmem::from_words(alloc, words)?;
     match Room::open(rt, alloc, device) {

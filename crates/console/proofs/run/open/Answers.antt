@@ -1,5 +1,6 @@
 use Rattle.std.proofs.Common.{ap, sym, ◌≡◌, ◌∙◌, subst, []}
-use Rattle.base.specs.Images.{Image}
+use Rattle.std.specs.Prelude.{None}
+use Rattle.base.specs.Images.{Image, opening_fault}
 use Rattle.base.specs.Machine.{State}
 use Rattle.base.specs.Openings.{OpensAs}
 use Rattle.base.specs.Stands.{Stands}
@@ -12,8 +13,12 @@ use Rattle.console.proofs.run.open.Goals as goal
 pub open-requires-clause-at_rest : goal.open-requires-clause-at_rest
 open-requires-clause-at_rest g c κs within = subst IsAtRest (sym c.in_ok-device.ensures.device) (restarted-rests c.args.words.now)
 
-pub returns-in-Ok : goal.returns-in-Ok
-returns-in-Ok g c = λ history drawn next stands.
+pub returns-in-Ok-clause-shows : goal.returns-in-Ok-clause-shows
+returns-in-Ok-clause-shows g c = λ history drawn next stands.
     let same : image_of (device_of c.in_ok-device.device) ≡ c.args.words.now = ap image_of c.in_ok-device.ensures.device ∙ image-restarted c.args.words.now in
     subst (λ (i : Image). (q : State) × OpensAs i history [] q × Shows device_of c.in-Ok.room q) same
     (c.in-Ok.ensures.ok history drawn next [] (subst (λ (i : Image). Stands i history drawn next) (sym same) stands))
+
+pub returns-in-Ok-clause-may_open : goal.returns-in-Ok-clause-may_open
+returns-in-Ok-clause-may_open g c =
+    subst (λ (i : Image). opening_fault i ≡ None) (ap image_of c.in_ok-device.ensures.device ∙ image-restarted c.args.words.now) c.in-Ok.ensures.may_open

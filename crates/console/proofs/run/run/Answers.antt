@@ -1,6 +1,7 @@
 use Rattle.std.proofs.Common.{◌++◌, [], List, ℕ, subst}
 use Rattle.base.specs.Commits.{Commit}
-use Rattle.base.specs.Images.{Image}
+use Rattle.std.specs.Prelude.{None}
+use Rattle.base.specs.Images.{Image, opening_fault}
 use Rattle.base.specs.Machine.{State}
 use Rattle.base.specs.Openings.{OpensAs}
 use Rattle.base.specs.Stands.{Stands}
@@ -16,6 +17,12 @@ returns-clause-lives g c =
     let made = c.in_ok-keeps.ensures in
     let over = c.in_ok-left.ensures.ends in
     record {
+      opens = record {
+        size = c.in_ok-words.ensures.length;
+        image = c.in_ok-words.words.items;
+        holds = c.in_ok-words.ensures.ok;
+        sound = subst (λ (i : Image). opening_fault i ≡ None) c.as_slice.ensures.value c.in_ok-room.ensures.may_open;
+      };
       lines = made.0;
       keeps = c.in_ok-keeps.keeps;
       begun = told.0;
@@ -29,7 +36,7 @@ returns-clause-lives g c =
           life-of device_of c.in_ok-room.room c.obey_lines.new.room c.args.file.now c.in_ok-words.words.items image history drawn next made.0 c.in_ok-keeps.keeps
           told.0 made.2 over.0 c.in_ok-left.left.items c.in_ok-words.ensures.ok held stands
           (subst (λ (i : Image). (past pending : List Commit) (n : ℕ) → Stands i past pending n → (q : State) × OpensAs i past [] q × Shows device_of c.in_ok-room.room q)
-          c.as_slice.ensures.value c.in_ok-room.ensures)
+          c.as_slice.ensures.value c.in_ok-room.ensures.shows)
           told.2 made.4 over.2;
     }
 
