@@ -1,5 +1,5 @@
--- What the first stages leave out. Each restriction is one definition, here or under the word "Restriction"
--- where it is used, and goes with the stage that it names.
+-- What the first stages leave out. Each restriction is one definition, that of the sweep two, here or under the word
+-- "Restriction" where it is used, and goes with the stage that it names.
 use Rattle.std.specs.Prelude.{ℕ, List}
 use Rattle.base.specs.declared.gap.Gap.{Gap}
 

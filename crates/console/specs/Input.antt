@@ -14,7 +14,7 @@ abbrev pub written : List Text → Text
 written [] = []
 written (line ∷ rest) = line ++ 10 ∷ written rest
 
--- those that are read of these, the last one first: all, or those up to a crash
+-- those that are read of these, a list that begins with the last: all, or those up to a crash
 abbrev pub AreRead : List Text → List Text → Option Survivor → Type 0
 AreRead lines read None = lines ≡ reverse read
 AreRead lines read (Some keeps) = (unread : List Text) × (lines ≡ reverse read ++ unread)

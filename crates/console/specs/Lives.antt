@@ -39,7 +39,7 @@ Ends q (Some keeps) said file =
 Ends q None said file =
     (image : Image) × IsFileOf image file × StandsClosed q image × (closing_fault q ≡ None) × (said ≡ closed_text q ++ 10 ∷ [])
 
--- the image that stands for the history is opened, the lines are obeyed, the last one first, and the life ends
+-- the image that stands for the history is opened, the lines are obeyed (their list begins with the last), and the life ends
 pub record IsLife (image : Image) (history : List Commit) (lines : List Text) (keeps : Option Survivor) (begun said ended : Text) (file : List ℕ) : Type 0 where
   pub first : State
   pub last : State
@@ -48,8 +48,8 @@ pub record IsLife (image : Image) (history : List Commit) (lines : List Text) (k
   pub obeys : ObeysLines first lines said keeps last
   pub ends : Ends last keeps ended file
 
--- the image in the old file may be opened, and these lines of the input are read, the last one first; whatever history the image
--- stands for, this is a life of it by them, and no more is printed
+-- the image in the old file may be opened, and these lines of the input are read (their list begins with the last); whatever
+-- history the image stands for, this is a life of it by them, and no more is printed
 pub record Lives (before : List ℕ) (input old new : Option (List ℕ)) (after : List ℕ) : Type 0 where
   pub opens : IsOpenable before
   pub lines : List Text

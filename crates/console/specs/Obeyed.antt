@@ -110,7 +110,7 @@ ObeysRead q (Some (Some command)) said keeps q' = Obeys q command said keeps q'
 abbrev pub ObeysLine : State → Text → Text → Option Survivor → State → Type 0
 ObeysLine q line = ObeysRead q (line_of line)
 
--- the same of lines, the last one first, of which only the last is a crash
+-- the same of lines, a list that begins with the last, which alone may be a crash
 abbrev pub ObeysLines : State → List Text → Text → Option Survivor → State → Type 0
 ObeysLines q [] said keeps q' = (said ≡ []) × (keeps ≡ None) × (q' ≡ q)
 ObeysLines q (line ∷ before) said keeps q' =

@@ -34,7 +34,7 @@ pub fn execute<T: Threads + Sync, R: Read, W: Write>(
 ) -> Ended
     ensures status { result.status ≤ 2 }
 
-    // FILE is written exactly where the status is 0.
+    // There is something for FILE exactly where the status is 0.
     ensures written { IsSome result.file ↔ (result.status ≡ 0) }
     ensures file { IfSome result.file (λ left. Leaves order.now file.now left.items) }
     ensures printed { IfSome result.file (λ left. Prints order.now file.now (R.remaining input.old) (W.contents output.old) (W.contents output.new) left.items) }

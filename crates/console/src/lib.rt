@@ -1,4 +1,4 @@
-//! The work of the program wbl: writes a fresh image into a file, and opens an image and obeys lines of commands.
+//! The work of the program wbl: makes the file of a fresh image, and opens an image and obeys lines of commands.
 #![tactic(auto)]
 
 pub mod ended;

@@ -66,8 +66,8 @@ fn superblock_words(rt: HostRuntime) -> Result<(), Fault> {
     assert_faults(&rt, rt.alloc(), Reader::LogArea, &changes)
 }
 
-// Each word of the ruling record, with 5 in it: the gate names another place, p or d make another well-formed record or
-// none, the rest is unused.
+// Each word of the ruling record but its gate, with 5 in it: the dirty timestamp makes another well-formed record, each
+// other word makes none.
 #[test]
 fn words_of_the_ruling_record(rt: HostRuntime) -> Result<(), Fault> {
     for word in 1..32 {

@@ -1,5 +1,5 @@
 //! The layers of the engine: values, write sets, the modelled device and on it the log area, the slots and whole lives
-//! of the room from an opening to a crash, with the numbers of the worked images.
+//! of the room from an opening to a crash or a close, with the numbers of the worked images.
 #![tactic(auto)]
 
 #[cfg(test)]

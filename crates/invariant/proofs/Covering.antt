@@ -14,7 +14,7 @@ use Rattle.pmem.specs.Device.{Device, value_of, IsSettled}
 use Rattle.pmem.proofs.Steps.{only-settled}
 use Rattle.invariant.specs.Slots.{word_of, IsCounted, Filled, Begun, Newest, Replaced, row_in, is_key_stamped, class_of_drawn, class_by, class_of_version, class_of, HoldsAs, IsLive, IsFilled, IsStamped, SlotHolds, SlotsHold}
 use Rattle.invariant.specs.Kept.{IsKept, version_by, newest_of}
-use Rattle.invariant.specs.Moves.{Carries, EndCarries, IsSlotSettled, IsCommitSettled, CoversCommit, CoversOne, CoversNone}
+use Rattle.invariant.specs.Moves.{Carries, EndCarries, IsSlotSettled, IsCommitSettled, CoversCommit, CoversNone}
 use Rattle.invariant.proofs.Moves.{within-slot, each-settled, each-weaken, ends-carry, ends-stay, newest-held, class-alike, slot-carries, shrinks-slot_refl}
 use Rattle.invariant.proofs.Living.{living-newest}
 use Rattle.invariant.proofs.Lookups.{key_eq-apart, cases-keys, find-passes, find-all}
@@ -315,57 +315,6 @@ kept-cover_commit q hand d covers kept = subst IsKept (sym (as-covered q hand d 
 pub slots-cover_commit : (q : State) (hand : Hand) (d : Drawn) (device : Device) → CoversCommit q hand d → q.failed ≡ false → IsKept q → IsCommitSettled q device d → SlotsHold q device → SlotsHold (state_covered q hand) device
 slots-cover_commit q hand d device covers up kept settled h =
     subst (λ (p : State). SlotsHold p device) (sym (as-covered q hand d covers kept)) record { each = λ slot lt. slot-covered q hand d covers kept device slot up lt settled (h.each slot lt) }
-
--- ---- a commit of one row, on a key without one
-
-covers-one : (q : State) (hand : Hand) (d : Drawn) (key : Key) (row : List ℕ) → CoversOne q hand d key row → CoversCommit q hand d
-covers-one q hand d key row one = record {
-  others = [];
-  drawn = one.drawn;
-  stamped = ap (λ (n : ℕ). nat_eq n (length d.commit.writes)) one.stamped ∙ ap (λ (ws : Writes). nat_eq 1 (length ws)) one.writes;
-  alone = λ key writes. refl;
-  commits = one.commits;
-  persisted = one.persisted;
-  gaps = one.gaps;
-  longs = one.longs;
-  reserved = one.reserved;
-  fits = one.fits;
-}
-
--- it writes no other key
-one-key : (d : Drawn) (key : Key) (row : List ℕ) (k : Key) → d.commit.writes ≡ (key, Some row) ∷ [] → writes_key k d.commit ≡ true → key ≡ k
-one-key d key row k writes has = by_cases (cases-keys key k)
-  where
-    by_cases : (key ≡ k) ⊎ (key ≢ k) → key ≡ k
-    by_cases (inl same) = same
-    by_cases (inr apart) =
-        let none : writes_key k d.commit ≡ false = ap (λ (ws : Writes). is_some (lookup_key ws k)) writes ∙ ap (λ (b : Bool). is_some (cond b (Some (Some row)) None)) (key_eq-apart key k apart) in
-        absurd (true≢false (sym has ∙ none))
-
-one-settled : (q : State) (hand : Hand) (d : Drawn) (key : Key) (row : List ℕ) (slot : ℕ) (device : Device) → CoversOne q hand d key row → IsKept q → slot < q.layout.slots → q.held slot ≡ Some (version_by key (ByCommit d.commit.timestamp))
-    → IsSlotSettled q.layout device slot → IsCommitSettled q device d
-one-settled q hand d key row slot device one kept lt held settled = record { own = own; ended = ended }
-  where
-    own : (s : ℕ) (k : Key) → s < q.layout.slots → q.held s ≡ Some (version_by k (ByCommit d.commit.timestamp)) → IsSlotSettled q.layout device s
-    own s k lt_s at =
-        let has = kept.drew s d.commit.timestamp k d lt_s at (drawn-this q hand d (covers-one q hand d key row one) kept) in
-        let same = one-key d key row k one.writes (ap (λ (o : Option (Option (List ℕ))). is_some o) has.1) in
-        let this = kept.once slot s _ lt lt_s held (at ∙ ap (λ (j : Key). Some (version_by j (ByCommit d.commit.timestamp))) (sym same)) in
-        subst (IsSlotSettled q.layout device) this settled
-
-    ended : (s : ℕ) (k : Key) → s < q.layout.slots → writes_key k d.commit ≡ true → q.held s ≡ Some (newest_of q k) → IsSettled device (word_of q.layout s 1)
-    ended s k lt_s writes at =
-        let has = kept.written k s lt_s at in
-        let both : None ≡ Some has.0 = sym one.fresh ∙ ap (after q.history) (one-key d key row k one.writes writes) ∙ has.1 in
-        absurd (cc both)
-
-pub kept-cover_one : (q : State) (hand : Hand) (d : Drawn) (key : Key) (row : List ℕ) → CoversOne q hand d key row → IsKept q → IsKept (state_covered q hand)
-kept-cover_one q hand d key row one kept = kept-cover_commit q hand d (covers-one q hand d key row one) kept
-
-pub slots-cover_one : (q : State) (hand : Hand) (d : Drawn) (key : Key) (row : List ℕ) (slot : ℕ) (device : Device) → CoversOne q hand d key row → q.failed ≡ false → IsKept q → slot < q.layout.slots → q.held slot ≡ Some (version_by key (ByCommit d.commit.timestamp))
-    → IsSlotSettled q.layout device slot → SlotsHold q device → SlotsHold (state_covered q hand) device
-slots-cover_one q hand d key row slot device one up kept lt held settled h =
-    slots-cover_commit q hand d device (covers-one q hand d key row one) up kept (one-settled q hand d key row slot device one kept lt held settled) h
 
 -- ---- a batch without commits
 

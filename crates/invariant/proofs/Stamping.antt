@@ -435,25 +435,6 @@ slots-stamping_any q old new begun ended t d key row next this replaces kept has
         (λ x drawn. drawn) (drawn_on-next q t d key row next) (λ u is. absurd (next.nobody u is)) (h.each s lt)
     by_place s lt (inr not_begun) (inr not_ended) = slot-failed q new s (slot-shrink (h.each s lt) (has.others s lt not_begun not_ended))
 
--- ---- a commit of one row
-
--- its one stamp
-pub slots-stamp_one : (q : State) (old new : Device) (slot : ℕ) (d : Drawn) (key : Key) (row : List ℕ) → slot < q.layout.slots → q.held slot ≡ Some (version_by key (ByCommit d.commit.timestamp))
-    → q.drawn ≡ d ∷ [] → d.commit.writes ≡ (key, Some row) ∷ [] → d.stamped ≡ 0 → after q.history key ≡ None → q.failed ≡ false
-    → IsKept q → ShrinksOthers q.layout slot old new → IsStampedWith q.layout old new slot d.commit.timestamp → SlotsHold q old → SlotsHold (record q { drawn = map (counted d.commit.timestamp) q.drawn }) new
-slots-stamp_one q old new slot d key row lt held drawn writes unstamped fresh up kept others stamp h =
-    slots-stamped q old new (Some slot) None d.commit.timestamp d key (Some row)
-    (next-alone q d key (Some row) drawn (ap (slice_get d.commit.writes) unstamped ∙ ap (λ (ws : Writes). slice_get ws 0) writes)
-    (ap (λ (i : ℕ). list_any (λ write. key_eq write.0 key) (take i d.commit.writes)) unstamped))
-    (held-there q (version_by key (ByCommit d.commit.timestamp)) slot kept lt held) (absent-nowhere q key kept fresh) up kept
-    (stamps-begun slot d.commit.timestamp others stamp) h
-
-pub slots-stamp : (q : State) (n : ℕ) (old new : Device) (slot : ℕ) (d : Drawn) (key : Key) (row : List ℕ) → timestamp_of (q.sessions n) ≡ d.commit.timestamp → slot < q.layout.slots → q.held slot ≡ Some (version_by key (ByCommit d.commit.timestamp))
-    → q.drawn ≡ d ∷ [] → d.commit.writes ≡ (key, Some row) ∷ [] → d.stamped ≡ 0 → after q.history key ≡ None → q.failed ≡ false
-    → IsKept q → ShrinksOthers q.layout slot old new → IsStampedWith q.layout old new slot d.commit.timestamp → SlotsHold q old → SlotsHold (next_state q (Stamp n)) new
-slots-stamp q n old new slot d key row its lt held drawn writes unstamped fresh up kept others stamp h =
-    subst (λ (t : ℕ). SlotsHold (with_stamp q t) new) (sym its) (slots-stamp_one q old new slot d key row lt held drawn writes unstamped fresh up kept others stamp h)
-
 -- ---- a session's stamp of any write
 
 pub slots-stamp_any : (q : State) (n : ℕ) (old new : Device) (begun ended : Option ℕ) (t : ℕ) (d : Drawn) (key : Key) (row : Option (List ℕ)) → timestamp_of (q.sessions n) ≡ t → StampsNext q t d key row

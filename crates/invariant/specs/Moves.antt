@@ -119,19 +119,6 @@ pub record IsCommitSettled (q : State) (device : Device) (d : Drawn) : Type 0 wh
   pub own : (slot : ℕ) (key : Key) → slot < q.layout.slots → q.held slot ≡ Some (version_by key (ByCommit d.commit.timestamp)) → IsSlotSettled q.layout device slot
   pub ended : (slot : ℕ) (key : Key) → slot < q.layout.slots → writes_key key d.commit ≡ true → q.held slot ≡ Some (newest_of q key) → IsSettled device (word_of q.layout slot 1)
 
--- the batch in hand is the one drawn commit, which is stamped and writes one row, on a key that has none
-pub record CoversOne (q : State) (hand : Hand) (d : Drawn) (key : Key) (row : List ℕ) : Type 0 where
-  pub drawn : q.drawn ≡ d ∷ []
-  pub stamped : d.stamped ≡ 1
-  pub writes : d.commit.writes ≡ (key, Some row) ∷ []
-  pub fresh : after q.history key ≡ None
-  pub commits : hand.commits ≡ d.commit ∷ []
-  pub persisted : hand.persisted ≡ d.commit.timestamp
-  pub gaps : hand.gaps ≡ q.gaps
-  pub longs : hand.longs ≡ []
-  pub reserved : q.next ≤ hand.dirty
-  pub fits : hand.dirty < 2 ^ 62
-
 -- the batch in hand has no commits, and its record says what is said now but for the dirty timestamp
 pub record CoversNone (q : State) (hand : Hand) : Type 0 where
   pub commits : hand.commits ≡ []

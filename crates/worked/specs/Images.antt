@@ -35,7 +35,7 @@ ab = 97 ∷ 98 ∷ []
 abbrev pub version_words : Words
 version_words = (74, 7) ∷ (75, 131073) ∷ (76, 25185) ∷ []
 
--- after format; after an opening; after the first commit was covered; after the next opening
+-- after a format
 abbrev pub formatted_image : Image
 formatted_image = image_with ((40, 1) ∷ (42, 1) ∷ [])
 
@@ -70,7 +70,7 @@ record_of gate persisted dirty gaps = record { gate = gate; persisted = persiste
 abbrev pub live_slots : Image → List Bool
 live_slots image = map (is_live (is_committed (ruling image)) image) (range_with_len 0 4)
 
--- the images of a first run: sound, with these ruling records and this row, and they stand for the history of one commit
+-- the images of a first run: sound, with these ruling records and this row, and the covered one stands for the history of one commit
 pub record FirstRunImages : Type 0 where
   pub sound : map damage (formatted_image ∷ opened_image ∷ covered_image ∷ opened_again_image ∷ stamped_image ∷ []) ≡ None ∷ None ∷ None ∷ None ∷ None ∷ []
   pub ruled : map ruling (formatted_image ∷ opened_image ∷ covered_image ∷ opened_again_image ∷ stamped_image ∷ [])
