@@ -1,5 +1,5 @@
-//! The layers of the engine: values, write sets, the modelled device and on it the log area, the slots and whole lives
-//! of the room from an opening to a crash or a close, with the numbers of the worked images.
+//! Values, write sets, the modelled device and on it the log area, the slots and whole lives of the room from an opening
+//! to a crash or a close, with the numbers of the worked images; and the program: its words, lines, files and runs.
 #![tactic(auto)]
 
 #[cfg(test)]
@@ -23,6 +23,8 @@ mod lives;
 #[cfg(test)]
 mod memory;
 #[cfg(test)]
+mod program;
+#[cfg(test)]
 mod records;
 #[cfg(test)]
 mod reuse;
@@ -36,6 +38,8 @@ mod transactions;
 mod updates;
 #[cfg(test)]
 mod values;
+#[cfg(test)]
+mod words_and_lines;
 #[cfg(test)]
 mod write_set;
 #[cfg(test)]

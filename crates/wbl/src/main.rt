@@ -1,11 +1,6 @@
 //! The program wbl: reads FILE, does the work of a subcommand, and writes FILE.
 #![tactic(auto)]
 
-#[cfg(test)]
-mod tests;
-#[cfg(test)]
-mod words_and_lines;
-
 use anyhow::Error;
 use base::geometry::Geometry;
 use command_line::image_file::MOST_FILE_BYTES;

@@ -1,3 +1,4 @@
+//! Runs of the program: what it prints, how it ends, and what FILE is to hold then.
 use base::fault::Fault;
 use command_line::image_file::{file_of_words, words_of_file};
 use command_line::orders::Order;
