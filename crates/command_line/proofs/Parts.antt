@@ -1,10 +1,10 @@
 -- What one more part of a command line sets.
-use Rattle.std.proofs.Common.{◌≡◌, ℕ, List, [], ◌∷◌, ◌++◌, Option, Some, None, refl, sym, ◌∙◌, ap, subst, inl, inr, unwrap_or, codes, length, get_or, arith, Bor}
+use Rattle.std.proofs.Common.{◌≡◌, ℕ, List, [], ◌∷◌, ◌++◌, true, Option, Some, None, refl, sym, ◌∙◌, ap, subst, inl, inr, unwrap_or, codes, length, get_or, arith, Bor}
 use Rattle.command_line.specs.Lines.{texts}
 use Rattle.std.specs.List.{flat_map}
 use Rattle.command_line.specs.Numbers.{Text}
-use Rattle.command_line.specs.Words.{Part, file, spaced, joined, file_of, value_of, value_for, option_word, WritesAtMostOne, HasNumber}
-use Rattle.command_line.specs.Given.{AreGiven, Shows, SetsFile, SetsNumber, at_most_one}
+use Rattle.command_line.specs.Words.{Part, is_file_name, file, spaced, joined, file_of, value_of, value_for, option_word, WritesAtMostOne, HasNumber}
+use Rattle.command_line.specs.Given.{AreGiven, IsNamed, Shows, SetsFile, SetsNumber, at_most_one}
 use Rattle.command_line.specs.declared.given.Given.{Given}
 use Rattle.command_line.specs.declared.orders.Choice.{Choice}
 use Rattle.command_line.specs.declared.orders.Choice.TheVariants.{Slots, Places, Window}
@@ -18,6 +18,13 @@ first_given values value o e h = rw e h
 
 kept : (values : List Text) (old new : Option ℕ) → new ≡ old → WritesAtMostOne values old → WritesAtMostOne values new
 kept values old new e h = rw e h
+
+named_file : (o : Option (Bor Text)) (name : Text) → at_most_one o ≡ name ∷ [] → is_file_name name ≡ true → IsNamed o
+named_file None name e h = tt
+named_file (Some word) name e h = let same : word.now ≡ name = cc in rw same h
+
+still_named : (old new : Option (Bor Text)) → new ≡ old → IsNamed old → IsNamed new
+still_named old new e h = rw e h
 
 pub has_number : (parts : List Part) (choice : Choice) (default : ℕ) (o : Option ℕ) → WritesAtMostOne (flat_map (value_of choice) parts) o
     → HasNumber parts choice default (unwrap_or o default)
@@ -33,6 +40,7 @@ shows_file words name old new (parts, spelled, shown) set = (
     one_file =
         let none : flat_map file_of parts ≡ [] = shown.one_file ∙ ap at_most_one set.was_none in
         ap (λ rest. name ∷ rest) none ∙ sym set.is_now;
+    file_named = named_file new.file name set.is_now set.named;
     slots_given = kept _ _ _ set.slots_same shown.slots_given;
     places_given = kept _ _ _ set.places_same shown.places_given;
     window_given = kept _ _ _ set.window_same shown.window_given;
@@ -70,6 +78,7 @@ shows_spaced words choice value old new (parts, spelled, shown) set =
       ap (λ rest. option_word choice ∷ value ∷ rest) spelled,
       record {
         one_file = shown.one_file ∙ ap at_most_one (sym set.file_same);
+        file_named = still_named old.file new.file set.file_same shown.file_named;
         slots_given = facts.slots;
         places_given = facts.places;
         window_given = facts.window;
@@ -84,6 +93,7 @@ shows_joined words choice value old new (parts, spelled, shown) set =
       ap (λ rest. (option_word choice ++ 61 ∷ value) ∷ rest) spelled,
       record {
         one_file = shown.one_file ∙ ap at_most_one (sym set.file_same);
+        file_named = still_named old.file new.file set.file_same shown.file_named;
         slots_given = facts.slots;
         places_given = facts.places;
         window_given = facts.window;

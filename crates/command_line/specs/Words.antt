@@ -1,12 +1,17 @@
 -- What the words of the command line ask for.
-use Rattle.std.specs.Prelude.{◌≡◌, ℕ, ◌^◌, List, [], ◌∷◌, ◌++◌, ◌⊎◌, true, Option, Some, None, codes}
+use Rattle.std.specs.Prelude.{◌≡◌, ℕ, ◌^◌, List, [], ◌∷◌, ◌++◌, ◌⊎◌, Bool, true, not, Option, Some, None, codes}
 use Rattle.std.specs.List.{flat_map}
+use Rattle.std.specs.Str.Parse.{starts_with_minus}
 use Rattle.base.specs.Layout.{is_in_limits, layout_with}
 use Rattle.command_line.specs.Numbers.{Text, number_below}
 use Rattle.command_line.specs.declared.orders.Choice.{Choice}
 use Rattle.command_line.specs.declared.orders.Choice.TheVariants.{Slots, Places, Window}
 use Rattle.command_line.specs.declared.orders.Order.{Order}
 use Rattle.command_line.specs.declared.orders.Order.TheVariants.{Format, Run}
+
+-- the text is a file's name: it doesn't begin with '-'
+abbrev pub is_file_name : Text → Bool
+is_file_name text = not (starts_with_minus text)
 
 -- the name of an option
 abbrev pub option_word : Choice → Text
@@ -61,6 +66,7 @@ HasNumber parts choice default n =
 pub record SpellsFormat (words : List Text) (parts : List Part) (name : Text) (slots places window : ℕ) : Type 0 where
   pub spelled : flat_map words_of_part parts ≡ words
   pub one_file : flat_map file_of parts ≡ name ∷ []
+  pub file_named : is_file_name name ≡ true
   pub slots_given : HasNumber parts Slots 1024 slots
   pub places_given : HasNumber parts Places 4 places
   pub window_given : HasNumber parts Window 64 window
@@ -72,8 +78,8 @@ GivesFormat words (Format name slots places window) =
     (parts : List Part) × SpellsFormat words parts name.now slots places window
 GivesFormat words (Run name) = ⊥
 
--- the words give this order: the subcommand, the file, and numbers within their limits
+-- the words give this order: the subcommand, a file's name, and numbers within their limits
 abbrev pub Gives : List Text → Order → Type 0
 Gives words (Format name slots places window) =
     (rest : List Text) × (words ≡ codes "format" ∷ rest) × GivesFormat rest (Format name slots places window)
-Gives words (Run name) = words ≡ codes "run" ∷ name.now ∷ []
+Gives words (Run name) = (words ≡ codes "run" ∷ name.now ∷ []) × (is_file_name name.now ≡ true)

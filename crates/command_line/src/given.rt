@@ -1,6 +1,6 @@
 ghost use Rattle.std.specs.Prelude.{◌≡◌, ◌∷◌, ◌++◌, IfSome, IfOk};
 ghost use Rattle.command_line.specs.Lines.{texts};
-ghost use Rattle.command_line.specs.Words.{Gives, GivesFormat, option_word};
+ghost use Rattle.command_line.specs.Words.{Gives, GivesFormat, is_file_name, option_word};
 ghost use Rattle.command_line.specs.Given.{AreGiven, SetsFile, SetsNumber};
 
 use crate::number::number;
@@ -34,7 +34,7 @@ pub(crate) fn spelled_order<'a>(words: &[&'a str]) -> Option<Order<'a>>
         return None;
     }
     match rest {
-        [file] => Some(Order::Run { file }),
+        [file] if is_file_name(file) => Some(Order::Run { file }),
         _ => None,
     }
 }
@@ -101,10 +101,16 @@ fn joined_choice(word: &str) -> Option<(Choice, &str)>
     Some((choice, value))
 }
 
+fn is_file_name(word: &str) -> bool
+    ensures { result ≡ is_file_name word.now }
+{
+    !word.starts_with('-')
+}
+
 fn with_file<'a>(given: Given<'a>, word: &'a str) -> Option<Given<'a>>
     ensures { IfSome result (λ now. SetsFile given.entry word.now now) }
 {
-    if given.file.is_some() || word.starts_with('-') {
+    if given.file.is_some() || !is_file_name(word) {
         return None;
     }
     Some(Given {
