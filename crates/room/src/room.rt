@@ -114,7 +114,6 @@ impl<D: Pmem + Drop> Room<D> {
     ghost use Rattle.base.specs.Images.{Image};
     ghost use Rattle.base.specs.Machine.{State, StandsClosing, StandsClosed, closing_gate, closing_fault};
     ghost use Rattle.pmem.specs.Device.{LeavesOnly, MayLeave};
-    ghost use Rattle.recovery.specs.Opened.{IsRefusal};
     ghost use Rattle.base.specs.declared.step.Step.TheVariants.{Begin, Get, Put, Delete, Draw, Stamp, Poll, Abort, End, Commit};
     ghost use Rattle.txn.specs.WriteSets.{HasRoomFor, write_of};
     ghost use Rattle.room.specs.declared.cycle.CycleStage.TheVariants.{FlushLines};
@@ -127,7 +126,7 @@ impl<D: Pmem + Drop> Room<D> {
     ghost use Rattle.room.specs.Tables.{HoldsTables, IsNewestAt, Replaces};
     ghost use Rattle.room.specs.Room.{Shows, device_of, StepsTo, ShowsStatus, HasFailed, HasCovered, HasNoFailure, covering};
     ghost use Rattle.invariant.specs.Moves.{IsSlotSettled};
-    ghost use Rattle.room.specs.Closing.{GoesOn, IsDonePart, IsFailedPart, IsFlushPart, KeepsAllButDevice, IsSlotReady, AreReadyAt, IsReadyFor, AreReadyFor, HasPersisted, is_all_stamped, drawn_writes};
+    ghost use Rattle.room.specs.Closing.{IsClosingRefusal, GoesOn, IsDonePart, IsFailedPart, IsFlushPart, KeepsAllButDevice, IsSlotReady, AreReadyAt, IsReadyFor, AreReadyFor, HasPersisted, is_all_stamped, drawn_writes};
     ghost use Rattle.room.specs.Storing.{TellsOfDevice, HasFilled, FailsFilling, HasDeleted, HasStamped, FailsStamping};
 
     /// One step. A crash within it leaves the history before it or after it, or with the batch in hand.
@@ -749,7 +748,7 @@ impl<D: Pmem + Drop> Room<D> {
         // It closes exactly where nothing speaks against it, a failing device aside.
         ensures may_close { IfOk result (λ device. (q : State) → Shows D.state self q → closing_fault q ≡ None) }
         ensures no_failure { IfOk result (λ device. HasNoFailure (device_of D.state self) (D.state device)) }
-        ensures fault { IfErr result (λ e. (q : State) → Shows D.state self q → IsRefusal (closing_fault q) (device_of D.state self) (D.state e.1) e.0) }
+        ensures fault { IfErr result (λ e. (q : State) → Shows D.state self q → IsClosingRefusal q (device_of D.state self) (D.state e.1) e.0) }
     {
         match self.cover_all() {
             Ok(()) => Ok(self.device),
@@ -763,7 +762,7 @@ impl<D: Pmem + Drop> Room<D> {
         ensures ok { OnOk result ((q : State) → Shows D.state self.old q → (image : Image) → MayLeave (device_of D.state self.new) image → StandsClosed q image) }
         ensures may_close { OnOk result ((q : State) → Shows D.state self.old q → closing_fault q ≡ None) }
         ensures no_failure { OnOk result (HasNoFailure (device_of D.state self.old) (device_of D.state self.new)) }
-        ensures fault { IfErr result (λ fault. (q : State) → Shows D.state self.old q → IsRefusal (closing_fault q) (device_of D.state self.old) (device_of D.state self.new) fault) }
+        ensures fault { IfErr result (λ fault. (q : State) → Shows D.state self.old q → IsClosingRefusal q (device_of D.state self.old) (device_of D.state self.new) fault) }
     {
         if self.failed {
             return Err(Fault::Failed);
