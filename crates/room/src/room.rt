@@ -49,13 +49,14 @@ const SESSION: u8 = 2;
 const COMMITTER: u8 = 0;
 
 impl<D: Pmem + Drop + Send + Sync> Room<D> {
-    ghost use Rattle.std.specs.Prelude.{List, ℕ, None, IfOk, IfErr, MatchResult};
+    ghost use Rattle.std.specs.Prelude.{List, ℕ, ◌+◌, ◌*◌, ◌<◌, ◌≤◌, None, IfOk, IfErr, MatchResult};
     ghost use Rattle.base.specs.Commits.{Commit};
-    ghost use Rattle.base.specs.Images.{opening_fault};
+    ghost use Rattle.base.specs.Images.{layout_of, opening_fault};
     ghost use Rattle.base.specs.Stands.{Stands};
     ghost use Rattle.base.specs.Machine.{State};
     ghost use Rattle.base.specs.Openings.{OpensAs, StandsOpening};
-    ghost use Rattle.pmem.specs.Device.{LeavesOnly, IsAtRest, image_of};
+    ghost use Rattle.pmem.specs.Device.{LeavesOnly, IsAtRest, value_of, image_of};
+    ghost use Rattle.log_area.specs.Rulings.{Holds, Makes};
     ghost use Rattle.recovery.specs.Opened.{IsRefusal};
     ghost use Rattle.room.specs.Room.{Shows, device_of, HasNoFailure};
 
@@ -72,6 +73,11 @@ impl<D: Pmem + Drop + Send + Sync> Room<D> {
         ensures may_open { IfOk result (λ room. opening_fault (image_of (D.state device)) ≡ None) }
         ensures no_failure { IfOk result (λ room. HasNoFailure (D.state device) (device_of D.state room)) }
         ensures fault { IfErr result (λ e. IsRefusal (opening_fault (image_of (D.state device))) (D.state device) (D.state e.1) e.0) }
+
+        // It makes the operations of one record, and the words of the slots are settled as they were.
+        ensures made { IfOk result (λ room. Makes 32 5 2 (D.state device) (device_of D.state room)) }
+        ensures slots { IfOk result (λ room. (word : ℕ) → 8 + 32 * (layout_of (image_of (D.state device))).places ≤ word → word < (D.state device).words
+            → Holds (device_of D.state room) word (value_of (D.state device) word)) }
 
         // A crash at any moment leaves the same history, under the record that ruled or the one that the
         // opening writes. What was drawn and not covered is left out.
