@@ -1,7 +1,8 @@
 -- The tick that takes the commit in hand, or finds none.
 use Rattle.std.proofs.Common.{◌≡◌, ℕ, ◌+◌, ◌^◌, ◌<◌, Bool, true, false, cond, not, ◌&&◌, List, [], ◌∷◌, length, refl, sym, ◌∙◌, ap, subst, arith}
-use Rattle.std.specs.Prelude.{Option, Some, None, is_none, nat_le, IsPermutation}
+use Rattle.std.specs.Prelude.{Option, Some, None, is_none, nat_le, IsPermutation, IsSorted}
 use Rattle.std.specs.Option.{option_or}
+use Rattle.std.specs.Ordering.{nat_cmp}
 use Rattle.std.proofs.lemmas.Bool.{leb-false}
 use Rattle.base.specs.declared.fault.Fault.TheVariants.{OutOfMemory, TimestampsOut, Failed}
 use Rattle.base.specs.declared.step.Step.TheVariants.{Commit as CommitTick}
@@ -119,10 +120,10 @@ none-flushed q device lines = record { within = omega arith; each = λ i slot lt
 pub begins : {D : Type 0} {G : Ghosts D} (state : D → Device) (old new : Room D G) (q : State) (t : ℕ) (writes : List Write) (cycle : Cycle) (taken : InHand) → IsOrderly (state old.device) → Shows state old q
     → old.failed ≡ false → old.cycle ≡ None → old.session ≡ Some (Drawn t writes (length writes))
     → false ≡ nat_le (2 ^ 62) (old.numbers.record.gate + 1) → cycle.stage ≡ FlushLines 0 → cycle.writing ≡ begun old.numbers.geometry (record_next old.numbers t)
-    → taken.batch ≡ record { from = old.numbers.record.gate; stamp = old.numbers.record.gate + 1; persisted = t; commits = commit_of t writes ∷ [] } → IsPermutation (touched writes) taken.lines.items
+    → taken.batch ≡ record { from = old.numbers.record.gate; stamp = old.numbers.record.gate + 1; persisted = t; commits = commit_of t writes ∷ [] } → IsPermutation (touched writes) taken.lines.items → IsSorted nat_cmp taken.lines.items
     → new.device ≡ old.device → new.numbers ≡ old.numbers → new.session ≡ old.session → new.cycle ≡ Some cycle → new.batch ≡ Some taken → new.slots ≡ old.slots → new.failed ≡ old.failed
     → (q' : State) × StepsTo state old new CommitTick (Ticked Chosen) q q'
-begins state old new q t writes cycle taken orderly shown up none is more stage writing says touches device numbers session cycle_is batch slots down =
+begins state old new q t writes cycle taken orderly shown up none is more stage writing says touches rising device numbers session cycle_is batch slots down =
     let w = waiting state old q t writes shown up none is in
     let hand = hand_of q cycle t writes in
     let q' : State = record q { hand = Some hand } in
@@ -133,7 +134,7 @@ begins state old new q t writes cycle taken orderly shown up none is more stage 
     let below : q.gate + 1 < 2 ^ 62 = leb-false (2 ^ 62) (q.gate + 1) (gate-test state old q false shown more) in
     let same_batch : taken.batch ≡ record { from = q.gate; stamp = q.gate + 1; persisted = t; commits = commit_of t writes ∷ [] } =
     says ∙ (λ i. record { from = (sym rules i).gate; stamp = (sym rules i).gate + 1; persisted = t; commits = commit_of t writes ∷ [] }) in
-    let is_of : IsTaken q' taken t writes = record { batch = same_batch; lines = touches } in
+    let is_of : IsTaken q' taken t writes = record { batch = same_batch; lines = touches; rising = rising } in
     let of : IsCycleOf q' cycle new.batch t writes = record {
       layout = ap (λ (p : Progress). p.layout) writing ∙ sym shown.agrees.layout;
       target = ap (λ (p : Progress). p.target) writing ∙ (λ i. record { gate = (sym rules i).gate + 1; persisted = t; dirty = sym shown.agrees.next i + (sym shown.agrees.layout i).window; gaps = (sym rules i).gaps; longs = [] });

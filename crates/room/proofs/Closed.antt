@@ -11,9 +11,8 @@ use Rattle.base.specs.Machine.{State, closing_gate, closing_fault, StandsClosing
 use Rattle.pmem.specs.Device.{Device, IsOrderly, MayLeave, LeavesOnly}
 use Rattle.pmem.specs.declared.device.Pmem.{Ghosts}
 use Rattle.pmem.proofs.Images.{leaves_refl, leaves_trans, leaves_weaken}
-use Rattle.recovery.specs.Opened.{IsRefusal}
 use Rattle.room.specs.declared.room.Room.{Room}
-use Rattle.room.specs.Closing.{IsDonePart, IsFailedPart}
+use Rattle.room.specs.Closing.{IsClosingRefusal, IsDonePart, IsFailedPart}
 use Rattle.room.specs.Room.{Shows, device_of}
 use Rattle.room.proofs.Closing.{at-closing}
 
@@ -32,11 +31,11 @@ module _ {D : Type 0} {G : Ghosts D} (state : D → Device) (room : Room D G) wh
   pub unmoved : IsOrderly (state room.device) → (q : State) → Shows state room q → LeavesOnly (device_of state room) (device_of state room) (StandsClosing q)
   unmoved orderly q shown = leaves_refl (state room.device) (StandsClosing q) orderly (λ image may. at-closing q image (shown.stands image may))
 
-  pub refused-failed : room.failed ≡ true → (q : State) → Shows state room q → IsRefusal (closing_fault q) (device_of state room) (device_of state room) Failed
-  refused-failed down q shown = inl (inl (fault-failed q (shown.agrees.failed ∙ down)), refl)
+  pub refused-failed : room.failed ≡ true → (q : State) → Shows state room q → IsClosingRefusal q (device_of state room) (device_of state room) Failed
+  refused-failed down q shown = inl (fault-failed q (shown.agrees.failed ∙ down), refl)
 
-  pub refused-past : room.failed ≡ false → (q : State) → Shows state room q → true ≡ nat_le (2 ^ 62) (closing_gate q) → IsRefusal (closing_fault q) (device_of state room) (device_of state room) TimestampsOut
-  refused-past up q shown past = inl (inl (fault-by q true (shown.agrees.failed ∙ up) (sym past)), refl)
+  pub refused-past : room.failed ≡ false → (q : State) → Shows state room q → true ≡ nat_le (2 ^ 62) (closing_gate q) → IsClosingRefusal q (device_of state room) (device_of state room) TimestampsOut
+  refused-past up q shown past = inl (fault-by q true (shown.agrees.failed ∙ up) (sym past), refl)
 
 -- ---- where nothing speaks against it
 
@@ -53,7 +52,7 @@ module _ {D : Type 0} {G : Ghosts D} (state : D → Device) (old : Room D G) (up
 
   -- a part failed, and its fault is told
   pub refused-part : {T : Type 0} (new : Room D G) (result : Result T Fault) (fault : Fault) → IsErrAnd result (λ told. told ≡ fault) → IsFailedPart state old new fault
-      → IfErr result (λ told. (q : State) → Shows state old q → IsRefusal (closing_fault q) (device_of state old) (device_of state new) told)
+      → IfErr result (λ told. (q : State) → Shows state old q → IsClosingRefusal q (device_of state old) (device_of state new) told)
   refused-part new (Ok x) fault is part = absurd is
   refused-part new (Err told) fault is part = λ q shown. inr (may_close q shown, is ∙ part.told, part.failure)
 
@@ -74,10 +73,10 @@ module _ {D : Type 0} {G : Ghosts D} (state : D → Device) (old : Room D G) (up
         to.1.closes.after_it image (closes to.0 to.1.shows below image may)
 
     pub last-refused : OnErr result ((device_of state mid).failures < (device_of state new).failures) → IfErr result (λ fault. fault ≡ DeviceFault)
-        → IfErr result (λ fault. (q : State) → Shows state old q → IsRefusal (closing_fault q) (device_of state old) (device_of state new) fault)
+        → IfErr result (λ fault. (q : State) → Shows state old q → IsClosingRefusal q (device_of state old) (device_of state new) fault)
     last-refused = by result
       where
         by : (r : Result (Unit {0}) Fault) → OnErr r ((device_of state mid).failures < (device_of state new).failures) → IfErr r (λ fault. fault ≡ DeviceFault)
-            → IfErr r (λ fault. (q : State) → Shows state old q → IsRefusal (closing_fault q) (device_of state old) (device_of state new) fault)
+            → IfErr r (λ fault. (q : State) → Shows state old q → IsClosingRefusal q (device_of state old) (device_of state new) fault)
         by (Ok x) more told = tt
         by (Err fault) more told = λ q shown. inr (may_close q shown, told, omega (arith, more, done.no_failure))

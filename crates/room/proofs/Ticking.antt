@@ -218,7 +218,7 @@ cycle-ticked : (q : State) (cycle cycle' : Cycle) (batch : Option InHand) (t : �
 cycle-ticked q cycle cycle' batch t writes of layout target = record {
   layout = layout ∙ of.layout;
   target = target ∙ of.target;
-  covers = (of.covers.0, of.covers.1, record { batch = of.covers.2.batch; lines = of.covers.2.lines });
+  covers = (of.covers.0, of.covers.1, record { batch = of.covers.2.batch; lines = of.covers.2.lines; rising = of.covers.2.rising });
   numbered = of.numbered;
   in_hand = refl;
 }

@@ -1,6 +1,7 @@
 -- How the fields of a room agree with a plain state.
-use Rattle.std.specs.Prelude.{◌≡◌, ℕ, ◌+◌, ◌*◌, ◌^◌, ◌<◌, ◌≤◌, Bool, true, false, List, [], ◌∷◌, length, Option, Some, None, is_none, slice_get, Contains, IsPermutation}
+use Rattle.std.specs.Prelude.{◌≡◌, ℕ, ◌+◌, ◌*◌, ◌^◌, ◌<◌, ◌≤◌, Bool, true, false, List, [], ◌∷◌, length, Option, Some, None, is_none, slice_get, Contains, IsPermutation, IsSorted}
 use Rattle.std.specs.Option.{option_map}
+use Rattle.std.specs.Ordering.{nat_cmp}
 use Rattle.base.specs.Layout.{slot_words}
 use Rattle.base.specs.Stands.{has_timestamp}
 use Rattle.base.specs.Machine.{State, Hand, Version, Writer, BySession, ByCommit, is_nil, present, state_covered}
@@ -76,10 +77,11 @@ hand_of q cycle t writes = record {
   ticks = ticks_of (length (touched writes)) cycle cycle.stage;
 }
 
--- the batch is the one drawn commit, with the lines that it touches
+-- the batch is the one drawn commit, with the lines that it touches, in rising order
 pub record IsTaken (q : State) (in_hand : InHand) (t : ℕ) (writes : List Write) : Type 0 where
   pub batch : in_hand.batch ≡ record { from = q.gate; stamp = q.gate + 1; persisted = t; commits = commit_of t writes ∷ [] }
   pub lines : IsPermutation (touched writes) in_hand.lines.items
+  pub rising : IsSorted nat_cmp in_hand.lines.items
 
 -- the record that is written covers the drawn commit alone
 pub record IsCycleOf (q : State) (cycle : Cycle) (batch : Option InHand) (t : ℕ) (writes : List Write) : Type 0 where

@@ -1,10 +1,10 @@
 -- What the parts of a close make of a room.
-use Rattle.std.specs.Prelude.{◌≡◌, ℕ, ◌+◌, ◌-◌, ◌<◌, Bool, true, false, nat_le, List, [], length, slice_get, Option, Some, None, Contains}
+use Rattle.std.specs.Prelude.{◌≡◌, ◌⊎◌, ℕ, ◌+◌, ◌-◌, ◌<◌, Bool, true, false, nat_le, List, [], length, slice_get, Option, Some, None, Contains}
 use Rattle.base.specs.declared.fault.Fault.{Fault}
 use Rattle.base.specs.declared.fault.Fault.TheVariants.{Device as DeviceFault}
 use Rattle.base.specs.Images.{Image}
 use Rattle.base.specs.Layout.{Layout, slot_words}
-use Rattle.base.specs.Machine.{State, closing_gate, StandsClosing, StandsClosed}
+use Rattle.base.specs.Machine.{State, closing_gate, closing_fault, StandsClosing, StandsClosed}
 use Rattle.pmem.specs.Device.{Device, IsReady, LeavesOnly}
 use Rattle.pmem.specs.declared.device.Pmem.{Ghosts}
 use Rattle.txn.specs.declared.write.Write.{Write}
@@ -50,6 +50,15 @@ pub record GoesOn {D : Type 0} {G : Ghosts D} (state : D → Device) (cycle : Cy
   pub failure : new.failed ≡ true → (state old.device).failures < (state new.device).failures
   pub no_failure : new.failed ≡ false → HasNoFailure (state old.device) (state new.device)
   pub closer : new.failed ≡ false → ticks_left new.batch new.cycle < ticks_left old.batch (Some cycle)
+
+-- ---- why a close is refused
+
+-- The fault is what speaks against the close, and then nothing was done to the device; or it is Device, where nothing
+-- spoke against it and an operation failed. Want of memory is no reason, since a close takes none
+abbrev pub IsClosingRefusal : State → Device → Device → Fault → Type 0
+IsClosingRefusal q old new fault =
+    ((closing_fault q ≡ Some fault) × (new ≡ old))
+    ⊎ ((closing_fault q ≡ None) × (fault ≡ DeviceFault) × (old.failures < new.failures))
 
 -- ---- the parts of a close
 

@@ -1,4 +1,5 @@
-ghost use Rattle.std.specs.Prelude.{◌≡◌, ◌+◌, [], ◌∷◌, IfOk, IsPermutation};
+ghost use Rattle.std.specs.Prelude.{◌≡◌, ◌+◌, [], ◌∷◌, IfOk, IsPermutation, IsSorted};
+ghost use Rattle.std.specs.Ordering.{nat_cmp};
 ghost use Rattle.txn.specs.WriteSets.{touched};
 ghost use Rattle.room.specs.Sessions.{commit_of};
 
@@ -41,6 +42,7 @@ pub fn batch_of_one(
 ) -> Result<InHand, AllocError>
     ensures batch { IfOk result (λ taken. taken.batch ≡ record { from = numbers.record.gate; stamp = numbers.record.gate + 1; persisted = timestamp; commits = commit_of timestamp writes ∷ [] }) }
     ensures lines { IfOk result (λ taken. IsPermutation (touched writes) taken.lines.items) }
+    ensures rising { IfOk result (λ taken. IsSorted nat_cmp taken.lines.items) }
 {
     let lines = writes.touched(alloc)?;
     let mut commits = Vec::with_capacity(alloc, 1)?;

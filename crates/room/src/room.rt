@@ -49,13 +49,14 @@ const SESSION: u8 = 2;
 const COMMITTER: u8 = 0;
 
 impl<D: Pmem + Drop + Send + Sync> Room<D> {
-    ghost use Rattle.std.specs.Prelude.{List, ℕ, None, IfOk, IfErr, MatchResult};
+    ghost use Rattle.std.specs.Prelude.{List, ℕ, ◌+◌, ◌*◌, ◌<◌, ◌≤◌, None, IfOk, IfErr, MatchResult};
     ghost use Rattle.base.specs.Commits.{Commit};
-    ghost use Rattle.base.specs.Images.{opening_fault};
+    ghost use Rattle.base.specs.Images.{layout_of, opening_fault};
     ghost use Rattle.base.specs.Stands.{Stands};
     ghost use Rattle.base.specs.Machine.{State};
     ghost use Rattle.base.specs.Openings.{OpensAs, StandsOpening};
-    ghost use Rattle.pmem.specs.Device.{LeavesOnly, IsAtRest, image_of};
+    ghost use Rattle.pmem.specs.Device.{LeavesOnly, IsAtRest, value_of, image_of};
+    ghost use Rattle.log_area.specs.Rulings.{Holds, Makes};
     ghost use Rattle.recovery.specs.Opened.{IsRefusal};
     ghost use Rattle.room.specs.Room.{Shows, device_of, HasNoFailure};
 
@@ -72,6 +73,11 @@ impl<D: Pmem + Drop + Send + Sync> Room<D> {
         ensures may_open { IfOk result (λ room. opening_fault (image_of (D.state device)) ≡ None) }
         ensures no_failure { IfOk result (λ room. HasNoFailure (D.state device) (device_of D.state room)) }
         ensures fault { IfErr result (λ e. IsRefusal (opening_fault (image_of (D.state device))) (D.state device) (D.state e.1) e.0) }
+
+        // It makes the operations of one record, and the words of the slots are settled as they were.
+        ensures made { IfOk result (λ room. Makes 32 5 2 (D.state device) (device_of D.state room)) }
+        ensures slots { IfOk result (λ room. (word : ℕ) → 8 + 32 * (layout_of (image_of (D.state device))).places ≤ word → word < (D.state device).words
+            → Holds (device_of D.state room) word (value_of (D.state device) word)) }
 
         // A crash at any moment leaves the same history, under the record that ruled or the one that the
         // opening writes. What was drawn and not covered is left out.
@@ -114,7 +120,6 @@ impl<D: Pmem + Drop> Room<D> {
     ghost use Rattle.base.specs.Images.{Image};
     ghost use Rattle.base.specs.Machine.{State, StandsClosing, StandsClosed, closing_gate, closing_fault};
     ghost use Rattle.pmem.specs.Device.{LeavesOnly, MayLeave};
-    ghost use Rattle.recovery.specs.Opened.{IsRefusal};
     ghost use Rattle.base.specs.declared.step.Step.TheVariants.{Begin, Get, Put, Delete, Draw, Stamp, Poll, Abort, End, Commit};
     ghost use Rattle.txn.specs.WriteSets.{HasRoomFor, write_of};
     ghost use Rattle.room.specs.declared.cycle.CycleStage.TheVariants.{FlushLines};
@@ -127,7 +132,7 @@ impl<D: Pmem + Drop> Room<D> {
     ghost use Rattle.room.specs.Tables.{HoldsTables, IsNewestAt, Replaces};
     ghost use Rattle.room.specs.Room.{Shows, device_of, StepsTo, ShowsStatus, HasFailed, HasCovered, HasNoFailure, covering};
     ghost use Rattle.invariant.specs.Moves.{IsSlotSettled};
-    ghost use Rattle.room.specs.Closing.{GoesOn, IsDonePart, IsFailedPart, IsFlushPart, KeepsAllButDevice, IsSlotReady, AreReadyAt, IsReadyFor, AreReadyFor, HasPersisted, is_all_stamped, drawn_writes};
+    ghost use Rattle.room.specs.Closing.{IsClosingRefusal, GoesOn, IsDonePart, IsFailedPart, IsFlushPart, KeepsAllButDevice, IsSlotReady, AreReadyAt, IsReadyFor, AreReadyFor, HasPersisted, is_all_stamped, drawn_writes};
     ghost use Rattle.room.specs.Storing.{TellsOfDevice, HasFilled, FailsFilling, HasDeleted, HasStamped, FailsStamping};
 
     /// One step. A crash within it leaves the history before it or after it, or with the batch in hand.
@@ -749,7 +754,7 @@ impl<D: Pmem + Drop> Room<D> {
         // It closes exactly where nothing speaks against it, a failing device aside.
         ensures may_close { IfOk result (λ device. (q : State) → Shows D.state self q → closing_fault q ≡ None) }
         ensures no_failure { IfOk result (λ device. HasNoFailure (device_of D.state self) (D.state device)) }
-        ensures fault { IfErr result (λ e. (q : State) → Shows D.state self q → IsRefusal (closing_fault q) (device_of D.state self) (D.state e.1) e.0) }
+        ensures fault { IfErr result (λ e. (q : State) → Shows D.state self q → IsClosingRefusal q (device_of D.state self) (D.state e.1) e.0) }
     {
         match self.cover_all() {
             Ok(()) => Ok(self.device),
@@ -763,7 +768,7 @@ impl<D: Pmem + Drop> Room<D> {
         ensures ok { OnOk result ((q : State) → Shows D.state self.old q → (image : Image) → MayLeave (device_of D.state self.new) image → StandsClosed q image) }
         ensures may_close { OnOk result ((q : State) → Shows D.state self.old q → closing_fault q ≡ None) }
         ensures no_failure { OnOk result (HasNoFailure (device_of D.state self.old) (device_of D.state self.new)) }
-        ensures fault { IfErr result (λ fault. (q : State) → Shows D.state self.old q → IsRefusal (closing_fault q) (device_of D.state self.old) (device_of D.state self.new) fault) }
+        ensures fault { IfErr result (λ fault. (q : State) → Shows D.state self.old q → IsClosingRefusal q (device_of D.state self.old) (device_of D.state self.new) fault) }
     {
         if self.failed {
             return Err(Fault::Failed);

@@ -21,7 +21,7 @@ returns-in-Ok g c = record {
       begins g.D.Pmem.state c.args.self.now _ q c.args.timestamp c.args.writes (record { stage = FlushLines 0; writing = c.new-writing.result }) c.in-Ok.batch
       (g.met.D.Pmem.orderly _) shown c.requires.works c.requires.rests c.requires.stamped (sym c.if-is_last_record.false ∙ c.is_last_record.ensures) refl
       (c.new-writing.ensures ∙ ap (λ (r : Record). begun c.args.self.now.numbers.geometry r) c.record_after-record.ensures)
-      c.in-Ok.ensures.batch c.in-Ok.ensures.lines refl refl refl refl refl refl refl;
+      c.in-Ok.ensures.batch c.in-Ok.ensures.lines c.in-Ok.ensures.rising refl refl refl refl refl refl refl;
 }
 
 pub returns-in-Err : goal.returns-in-Err

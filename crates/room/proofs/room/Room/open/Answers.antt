@@ -1,4 +1,5 @@
-use Rattle.std.proofs.Common.{List, Bool, length, refl, ◌∙◌, ap}
+use Rattle.std.proofs.Common.{◌+◌, ◌*◌, ◌≤◌, List, Bool, length, refl, sym, ◌∙◌, ap, subst}
+use Rattle.base.specs.Layout.{Layout}
 use Rattle.room.proofs.Opening.{shows-opened, free-counted}
 use Rattle.room.proofs.room.Room.open.Goals as goal
 
@@ -19,6 +20,13 @@ returns-in-Ok-clause-may_open g c = c.in-Ok.ensures.ok.opens
 
 pub returns-in-Ok-clause-no_failure : goal.returns-in-Ok-clause-no_failure
 returns-in-Ok-clause-no_failure g c = c.in-Ok.ensures.ok.made.no_failures
+
+pub returns-in-Ok-clause-made : goal.returns-in-Ok-clause-made
+returns-in-Ok-clause-made g c = c.in-Ok.ensures.ok.made
+
+pub returns-in-Ok-clause-slots : goal.returns-in-Ok-clause-slots
+returns-in-Ok-clause-slots g c = λ word past within.
+    c.in-Ok.ensures.ok.slots word (subst (λ (a : Layout). 8 + 32 * a.places ≤ word) (sym c.in-Ok.ensures.ok.layout_is) past) within
 
 pub returns-in-Ok-clause-images : goal.returns-in-Ok-clause-images
 returns-in-Ok-clause-images g c = c.in-Ok.ensures.images
