@@ -275,6 +275,7 @@ fn bad_words_are_refused(rt: HostRuntime) {
     assert!(rt; is_bad(&rt, ["format", "db.img", "other.img"].as_slice()));
     assert!(rt; is_bad(&rt, ["format"].as_slice()));
     assert!(rt; is_bad(&rt, ["run"].as_slice()));
+    assert!(rt; is_bad(&rt, ["run", "-"].as_slice()));
     assert!(rt; is_bad(&rt, ["run", "db.img", "--slots", "4"].as_slice()));
     assert!(rt; is_bad(&rt, ["copy", "db.img"].as_slice()));
     assert!(rt; is_bad(&rt, [].as_slice()));
