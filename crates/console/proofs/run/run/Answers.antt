@@ -1,4 +1,4 @@
-use Rattle.std.proofs.Common.{◌++◌, [], List, ℕ, subst}
+use Rattle.std.proofs.Common.{◌≡◌, ◌++◌, [], List, ℕ, subst}
 use Rattle.base.specs.Commits.{Commit}
 use Rattle.std.specs.Prelude.{None}
 use Rattle.base.specs.Images.{Image, opening_fault}
