@@ -1,7 +1,16 @@
 -- How a line that is no command is met, passed on and told.
-use Rattle.std.proofs.Common.{◌≡◌, ℕ, ◌+◌, ◌-◌, ◌^◌, Bool, false, List, [], ◌∷◌, ◌++◌, length, sym, ◌∙◌, ap, subst}
-use Rattle.std.specs.Prelude.{Option, Some, None, is_some, option_map, option_and_then, Result, Ok, Err, IsErrAnd, IfErr, All, min}
+use Rattle.std.proofs.Common.{◌≡◌, ℕ, ◌+◌, ◌-◌, ◌^◌, false, List, [], ◌∷◌, ◌++◌, length, sym, ◌∙◌, ap, subst, append-nil}
+use Rattle.std.specs.Prelude.{Option, Some, None, is_some, option_map, option_and_then, Result, Ok, Err, IsErrAnd, IfErr, All, min, ⊤}
 use Rattle.std.specs.Io.KnownBytes.{Appends}
+use Rattle.base.specs.Commits.{Commit}
+use Rattle.base.specs.Machine.{State}
+use Rattle.base.specs.Openings.{OpensAs}
+use Rattle.base.specs.Stands.{Stands}
+use Rattle.pmem.specs.Device.{Device}
+use Rattle.pmem.specs.declared.device.Pmem.{Ghosts}
+use Rattle.room.specs.Room.{Shows}
+use Rattle.room.specs.declared.room.Room.{Room}
+use Rattle.command_line.specs.ImageFile.{HoldsWords}
 use Rattle.command_line.specs.Lines.{line_of}
 use Rattle.command_line.specs.Numbers.{Text}
 use Rattle.command_line.specs.Texts.{text_of}
@@ -10,11 +19,15 @@ use Rattle.command_line.specs.declared.command.Survivor.{Survivor}
 use Rattle.command_line.specs.declared.orders.Order.{Order}
 use Rattle.command_line.specs.declared.orders.Order.TheVariants.{Format, Run}
 use Rattle.command_line.specs.declared.printed.Printed.TheVariants as printed
-use Rattle.console.specs.BadLine.{BlamesNoLine, IfBadLine, IsBadLineAnd, IsPassed, IsRunAnd, MeetsBadLine, Tells, TellsBadLine, kept_by, kept_in}
+use Rattle.console.specs.BadLine.{BlamesNoLine, EndsAtBadLine, IfBadLine, IsBadLineAnd, IsPassed, IsRunAnd, MeetsBadLine, Tells, TellsBadLine, kept_by, kept_in}
 use Rattle.console.specs.Input.{BeginsWith}
+use Rattle.console.specs.Kept.{Leads}
+use Rattle.console.specs.Lives.{opened_text}
+use Rattle.console.specs.Obeyed.{ObeysLines}
 use Rattle.console.specs.declared.stop.Stop.{Stop}
 use Rattle.console.specs.declared.stop.Stop.TheVariants.{Refused, NotACommand, Broken}
-use Rattle.console.proofs.Obeyed.{appends-more, none-of}
+use Rattle.console.proofs.Lives.{begun-of}
+use Rattle.console.proofs.Obeyed.{appends-more, appends-none, none-of}
 
 -- ---- what a line keeps
 
@@ -53,21 +66,47 @@ of-run (Err y) order actual P is runs p =
 
 -- ---- the line
 
-pub meets : (input old mid new : Option Text) (before : List Text) (line said : Text) (number at : ℕ)
+pub meets : {D : Type 0} {G : Ghosts D} (state : D → Device) (room room' : Room D G) (input old mid new : Option Text) (before : List Text) (line said : Text) (number at : ℕ)
     → All IsPassed before → BeginsWith input (line ∷ before) → number ≡ min (length before + 1) (2 ^ 64 - 1) → Appends old mid said
-    → (at ≡ number) × (line_of line ≡ None) × (new ≡ mid) → MeetsBadLine input old new at
-meets input old mid new before line said number at passed read counted says (is, bad, same) = (
-  record { before = before; line = line; passed = passed; bad = bad; counted = is ∙ counted; read = read },
-  (said, subst (λ (known : Option Text). Appends old known said) (sym same) says),
-)
+    → Leads state room room' (λ q q'. ObeysLines q before said None q') → (at ≡ number) × (line_of line ≡ None) × (new ≡ mid)
+    → MeetsBadLine state room input old new at
+meets state room room' input old mid new before line said number at passed read counted says leads (is, bad, same) = record {
+  is = record { before = before; line = line; passed = passed; bad = bad; counted = is ∙ counted; read = read };
+  said = said;
+  prints = subst (λ (known : Option Text). Appends old known said) (sym same) says;
+  obeys = λ q shows. let went = leads.each q shows in (went.0, went.1);
+}
 
-pub meets-later : (input old mid new : Option Text) (first : Text) (at : ℕ) → Appends old mid first → MeetsBadLine input mid new at → MeetsBadLine input old new at
-meets-later input old mid new first at begun (is, (said, says)) = (is, (first ++ said, appends-more old mid new first said begun says))
+pub ends-at : {D : Type 0} {G : Ghosts D} (state : D → Device) (room : Room D G) (file words : List ℕ) (input old mid new : Option Text) (begun : Text) (at : ℕ)
+    → HoldsWords file words
+    → ((past pending : List Commit) (n : ℕ) → Stands words past pending n → (q : State) × OpensAs words past [] q × Shows state room q)
+    → Appends old mid begun → ((q : State) → Shows state room q → begun ≡ opened_text q ++ 10 ∷ []) → MeetsBadLine state room input mid new at
+    → EndsAtBadLine file input old new at []
+ends-at state room file words input old mid new begun at holds opens says told met = record {
+  is = met.is;
+  begun = begun;
+  said = met.said;
+  prints = appends-more old new new (begun ++ met.said) [] (appends-more old mid new begun met.said says met.prints) (appends-none new);
+  each = λ image held history drawn next stands.
+      (begun-of state room file words image history drawn next met.is.before None begun met.said (λ (q : State). ⊤) holds held stands opens told
+      (λ q shows. let went = met.obeys q shows in (went.0, went.1, tt))).0;
+}
 
-pub told-so : (order : Order) (stop : Stop) (input old mid new : Option Text)
-    → IfBadLine (λ number. IsRunAnd order (MeetsBadLine input old mid number)) stop → IsBadLineAnd (Tells mid new) stop → IsRunAnd order (TellsBadLine input old new)
-told-so order (Refused fault) input old mid new met told = absurd told
-told-so order (Broken reason) input old mid new met told = absurd told
-told-so (Format name slots places window) (NotACommand number) input old mid new met told = absurd met
-told-so (Run name) (NotACommand number) input old mid new (is, (said, says)) told =
-    (number, is, (said, appends-more old mid new said (text_of (printed.NotACommand number) ++ 10 ∷ []) says told))
+ends-so : (file : List ℕ) (input old mid new : Option Text) (number : ℕ) (ended : Text) → EndsAtBadLine file input old mid number [] → Appends mid new ended
+    → EndsAtBadLine file input old new number ended
+ends-so file input old mid new number ended met told = record {
+  is = met.is;
+  begun = met.begun;
+  said = met.said;
+  prints = subst (λ (l : Text). Appends old new (l ++ ended)) (append-nil (met.begun ++ met.said)) (appends-more old mid new ((met.begun ++ met.said) ++ []) ended met.prints told);
+  each = met.each;
+}
+
+pub told-so : (order : Order) (stop : Stop) (file : List ℕ) (input old mid new : Option Text)
+    → IfBadLine (λ number. IsRunAnd order (EndsAtBadLine file input old mid number [])) stop → IsBadLineAnd (Tells mid new) stop
+    → IsRunAnd order (TellsBadLine file input old new)
+told-so order (Refused fault) file input old mid new met told = absurd told
+told-so order (Broken reason) file input old mid new met told = absurd told
+told-so (Format name slots places window) (NotACommand number) file input old mid new met told = absurd met
+told-so (Run name) (NotACommand number) file input old mid new met told =
+    (number, ends-so file input old mid new number (text_of (printed.NotACommand number) ++ 10 ∷ []) met told)

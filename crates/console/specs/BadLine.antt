@@ -1,6 +1,15 @@
 -- Which line ends a run before its time.
 use Rattle.std.specs.Prelude.{◌≡◌, ℕ, ◌+◌, ◌-◌, ◌^◌, min, List, [], ◌∷◌, ◌++◌, length, All, Option, Some, None, option_map, option_and_then, ⊤}
 use Rattle.std.specs.Io.KnownBytes.{Appends}
+use Rattle.base.specs.Commits.{Commit}
+use Rattle.base.specs.Images.{Image}
+use Rattle.base.specs.Machine.{State}
+use Rattle.base.specs.Stands.{Stands}
+use Rattle.pmem.specs.Device.{Device}
+use Rattle.pmem.specs.declared.device.Pmem.{Ghosts}
+use Rattle.room.specs.Room.{Shows}
+use Rattle.room.specs.declared.room.Room.{Room}
+use Rattle.command_line.specs.ImageFile.{HoldsWords}
 use Rattle.command_line.specs.Lines.{line_of}
 use Rattle.command_line.specs.Numbers.{Text}
 use Rattle.command_line.specs.Texts.{text_of}
@@ -11,6 +20,8 @@ use Rattle.command_line.specs.declared.orders.Order.{Order}
 use Rattle.command_line.specs.declared.orders.Order.TheVariants.{Format, Run}
 use Rattle.command_line.specs.declared.printed.Printed.TheVariants as printed
 use Rattle.console.specs.Input.{BeginsWith}
+use Rattle.console.specs.Lives.{IsBegun}
+use Rattle.console.specs.Obeyed.{ObeysLines}
 use Rattle.console.specs.declared.lines.Outcome.{Outcome}
 use Rattle.console.specs.declared.lines.Outcome.TheVariants.{Replied, Crashed}
 use Rattle.console.specs.declared.stop.Stop.{Stop}
@@ -48,18 +59,30 @@ pub record IsBadLine (input : Option Text) (number : ℕ) : Type 0 where
   pub counted : number ≡ min (length before + 1) (2 ^ 64 - 1)
   pub read : BeginsWith input (line ∷ before)
 
--- something is printed, and then the line of this number is met
-abbrev pub MeetsBadLine : Option Text → Option Text → Option Text → ℕ → Type 0
-MeetsBadLine input old new number = IsBadLine input number × ((said : Text) × Appends old new said)
+-- the lines before it are obeyed from whatever state the room shows, and no more is printed
+pub record MeetsBadLine {D : Type 0} {G : Ghosts D} (state : D → Device) (room : Room D G) (input old new : Option Text) (number : ℕ) : Type 0 where
+  pub is : IsBadLine input number
+  pub said : Text
+  pub prints : Appends old new said
+  pub obeys : (q : State) → Shows state room q → (q' : State) × ObeysLines q is.before said None q'
+
+-- whatever history the image in the file stands for, it is opened and the lines before the bad one are obeyed, and no more is
+-- printed, but this at the end
+pub record EndsAtBadLine (file : List ℕ) (input old new : Option Text) (number : ℕ) (ended : Text) : Type 0 where
+  pub is : IsBadLine input number
+  pub begun : Text
+  pub said : Text
+  pub prints : Appends old new ((begun ++ said) ++ ended)
+  pub each : (image : Image) → HoldsWords file image → (history drawn : List Commit) (next : ℕ) → Stands image history drawn next
+      → IsBegun image history is.before None begun said
 
 -- what is printed is that the line of this number is no command
 abbrev pub Tells : Option Text → Option Text → ℕ → Type 0
 Tells old new number = Appends old new (text_of (printed.NotACommand number) ++ 10 ∷ [])
 
--- the last that is printed is that a line of the input is no command, and it is none
-abbrev pub TellsBadLine : Option Text → Option Text → Option Text → Type 0
-TellsBadLine input old new =
-    (number : ℕ) × IsBadLine input number × ((said : Text) × Appends old new (said ++ (text_of (printed.NotACommand number) ++ 10 ∷ [])))
+-- what is printed at the end is that a line of the input is no command, and it is none
+abbrev pub TellsBadLine : List ℕ → Option Text → Option Text → Option Text → Type 0
+TellsBadLine file input old new = (number : ℕ) × EndsAtBadLine file input old new number (text_of (printed.NotACommand number) ++ 10 ∷ [])
 
 -- ---- why a subcommand ended
 

@@ -3,7 +3,7 @@ ghost use Rattle.std.specs.Io.KnownBytes.{Appends};
 ghost use Rattle.base.specs.Layout.{total_words};
 ghost use Rattle.command_line.specs.ImageFile.{IsFileOf};
 ghost use Rattle.recovery.specs.Fresh.{fresh_image};
-ghost use Rattle.console.specs.BadLine.{BlamesNoLine, IfBadLine, IsBadLineAnd, IsRunAnd, MeetsBadLine, Tells, TellsBadLine};
+ghost use Rattle.console.specs.BadLine.{BlamesNoLine, EndsAtBadLine, IfBadLine, IsBadLineAnd, IsRunAnd, Tells, TellsBadLine};
 ghost use Rattle.console.specs.Kept.{Leaves};
 ghost use Rattle.console.specs.Lives.{Prints};
 
@@ -40,7 +40,7 @@ pub fn execute<T: Threads + Sync, R: Read, W: Write>(
     ensures written { IsSome result.file ↔ (result.status ≡ 0) }
     ensures file { IfSome result.file (λ left. Leaves order.now file.now left.items) }
     ensures printed { IfSome result.file (λ left. Prints order.now file.now (R.remaining input.old) (W.contents output.old) (W.contents output.new) left.items) }
-    ensures bad_line { result.status ≡ 2 → IsRunAnd order.now (TellsBadLine (R.remaining input.old) (W.contents output.old) (W.contents output.new)) }
+    ensures bad_line { result.status ≡ 2 → IsRunAnd order.now (TellsBadLine file.now (R.remaining input.old) (W.contents output.old) (W.contents output.new)) }
 {
     match obey(rt, alloc, order, file, input, output) {
         Ok(file) => Ended {
@@ -65,7 +65,7 @@ fn obey<T: Threads + Sync, R: Read, W: Write>(
 ) -> Result<Vec<u8>, Stop>
     ensures file { IfOk result (λ left. Leaves order.now file.now left.items) }
     ensures printed { IfOk result (λ left. Prints order.now file.now (R.remaining input.old) (W.contents output.old) (W.contents output.new) left.items) }
-    ensures bad_line { IfErr result (IfBadLine (λ number. IsRunAnd order.now (MeetsBadLine (R.remaining input.old) (W.contents output.old) (W.contents output.new) number))) }
+    ensures bad_line { IfErr result (IfBadLine (λ number. IsRunAnd order.now (EndsAtBadLine file.now (R.remaining input.old) (W.contents output.old) (W.contents output.new) number []))) }
 {
     match *order {
         Order::Format {

@@ -41,7 +41,7 @@ pub fn obey_lines<D: Pmem + Drop, R: Read, W: Write>(
     ensures obeys { IfOk result (λ keeps. (lines : List Text) × Reads (R.remaining input.old) lines keeps
         × (said : Text) × Appends (W.contents output.old) (W.contents output.new) said
         × Leads D.state room.old room.new (λ q q'. ObeysLines q lines said keeps q')) }
-    ensures bad_line { IfErr result (IfBadLine (MeetsBadLine (R.remaining input.old) (W.contents output.old) (W.contents output.new))) }
+    ensures bad_line { IfErr result (IfBadLine (MeetsBadLine D.state room.old (R.remaining input.old) (W.contents output.old) (W.contents output.new))) }
 {
     let mut number: u64 = 0;
     for line in BufReader::new(alloc, input)?.split(alloc, b'\n') {

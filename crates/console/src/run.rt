@@ -10,7 +10,7 @@ ghost use Rattle.pmem_model.specs.Sim.{device_of};
 ghost use Rattle.room.specs.Room.{Shows, device_of as device_in};
 ghost use Rattle.command_line.specs.ImageFile.{IsFileOf};
 ghost use Rattle.command_line.specs.Numbers.{Text};
-ghost use Rattle.console.specs.BadLine.{BlamesNoLine, IfBadLine, MeetsBadLine};
+ghost use Rattle.console.specs.BadLine.{BlamesNoLine, EndsAtBadLine, IfBadLine};
 ghost use Rattle.console.specs.Crash.{choice_of, IsFileKept, KeepsNamed};
 ghost use Rattle.console.specs.Kept.{HasClosed, KeepsHistories};
 ghost use Rattle.console.specs.Lives.{Ends, Lives, opened_text};
@@ -40,7 +40,7 @@ pub fn run<T: Threads + Sync, R: Read, W: Write>(
 
     // So no lines take a covered commit away.
     ensures keeps { IfOk result (λ left. KeepsHistories file.now left.items) }
-    ensures bad_line { IfErr result (IfBadLine (MeetsBadLine (R.remaining input.old) (W.contents output.old) (W.contents output.new))) }
+    ensures bad_line { IfErr result (IfBadLine (λ number. EndsAtBadLine file.now (R.remaining input.old) (W.contents output.old) (W.contents output.new) number [])) }
 {
     let words = words_of_file(alloc, file)?;
     let mut room = open(rt, alloc, words.as_slice())?;

@@ -81,11 +81,11 @@ returns-in_err-kept-clause-bad_line g c =
     let before = c.loop-line.invariant in
     let gives = rw c.in_ok-line.was at c.in-Some.ensures.steps in
     passed_on c.from_residual-in_err-kept.result _ _ _ c.from_residual-in_err-kept.ensures.1
-    (λ at told. meets (g.R.Read.remaining c.args.input.now) (g.W.Write.contents c.args.output.now) (g.W.Write.contents c.loop-line.output) (g.W.Write.contents c.obey_line.new.output)
+    (λ at told. meets g.D.Pmem.state c.args.room.now c.loop-line.room (g.R.Read.remaining c.args.input.now) (g.W.Write.contents c.args.output.now) (g.W.Write.contents c.loop-line.output) (g.W.Write.contents c.obey_line.new.output)
     before.1 c.as_slice.result.now before.3 c.saturating_add-number.result at before.6
     (read-so-far (g.R.Read.remaining c.args.input.now) (split_known_bytes (reader_remaining (λ r. g.R.Read.remaining r.now)) c.next.new.self) (c.as_slice.result.now ∷ before.1)
     (reading-goes-on (g.R.Read.remaining c.args.input.now) (split_known_bytes (reader_remaining (λ r. g.R.Read.remaining r.now)) c.loop-line.line-iterator)
     (split_known_bytes (reader_remaining (λ r. g.R.Read.remaining r.now)) c.next.new.self) before.1 c.as_slice.result.now c.in_ok-line.line.items (split_byte c.loop-line.line-iterator)
     before.0 c.as_slice.ensures.value before.2 gives.2.0 gives.2.1))
-    (omega (arith, before.7, c.saturating_add-number.ensures)) before.4 told)
+    (omega (arith, before.7, c.saturating_add-number.ensures)) before.4 before.5 told)
     c.in_err-kept.ensures.bad_line

@@ -6,7 +6,7 @@ use Rattle.base.specs.Openings.{OpensAs}
 use Rattle.base.specs.Stands.{Stands}
 use Rattle.pmem_model.specs.Sim.{device_of}
 use Rattle.room.specs.Room.{Shows}
-use Rattle.console.proofs.BadLine.{meets-later, passed_on, unblamed}
+use Rattle.console.proofs.BadLine.{ends-at, passed_on, unblamed}
 use Rattle.console.proofs.Lives.{life-of, lives-keep}
 use Rattle.console.proofs.Obeyed.{appends-more}
 use Rattle.console.proofs.run.run.Goals as goal
@@ -52,8 +52,11 @@ pub returns-in_err-keeps-clause-bad_line : goal.returns-in_err-keeps-clause-bad_
 returns-in_err-keeps-clause-bad_line g c =
     let told = c.in_ok-show_opened.ensures.told in
     passed_on c.from_residual-in_err-keeps.result _ _ _ c.from_residual-in_err-keeps.ensures.1
-    (λ at met. meets-later (g.R.Read.remaining c.args.input.now) (g.W.Write.contents c.args.output.now) (g.W.Write.contents c.show_opened.new.output) (g.W.Write.contents c.obey_lines.new.output)
-    told.0 at told.1 met)
+    (λ at met. ends-at device_of c.in_ok-room.room c.args.file.now c.in_ok-words.words.items (g.R.Read.remaining c.args.input.now) (g.W.Write.contents c.args.output.now)
+    (g.W.Write.contents c.show_opened.new.output) (g.W.Write.contents c.obey_lines.new.output) told.0 at c.in_ok-words.ensures.ok
+    (subst (λ (i : Image). (past pending : List Commit) (n : ℕ) → Stands i past pending n → (q : State) × OpensAs i past [] q × Shows device_of c.in_ok-room.room q)
+    c.as_slice.ensures.value c.in_ok-room.ensures)
+    told.1 told.2 met)
     c.in_err-keeps.ensures.bad_line
 
 pub returns-in_err-left-clause-bad_line : goal.returns-in_err-left-clause-bad_line
