@@ -9,7 +9,7 @@ use Rattle.std.proofs.lemmas.List.{reverse-append}
 use Rattle.std.proofs.lemmas.List.Elements.{All-head, All-tail}
 use Rattle.command_line.specs.Numbers.{Text}
 use Rattle.command_line.specs.declared.command.Survivor.{Survivor}
-use Rattle.console.specs.Input.{lines_in, written, Reads}
+use Rattle.console.specs.Input.{lines_in, written, BeginsWith, Reads}
 
 -- ---- one line
 
@@ -115,3 +115,7 @@ pub read-to-crash : (input left : Option Text) (read : List Text) (keeps : Optio
 read-to-crash None left read keeps crash r = tt
 read-to-crash (Some text) left read None crash r = cc
 read-to-crash (Some text) left read (Some keeps) crash (rest, is, e) = (lines_in rest, e)
+
+pub read-so-far : (input left : Option Text) (read : List Text) → Reading input read left → BeginsWith input read
+read-so-far None left read r = tt
+read-so-far (Some text) left read (rest, is, e) = (lines_in rest, e)

@@ -5,3 +5,4 @@ mod Obeyed
 mod Lives
 mod Input
 mod Crash
+mod BadLine

@@ -17,7 +17,7 @@ use Rattle.command_line.specs.Numbers.{Text}
 use Rattle.command_line.specs.Texts.{opened_line, closed_line, survivor_text}
 use Rattle.command_line.specs.declared.command.Survivor.{Survivor}
 use Rattle.console.specs.Kept.{Extends, HasClosed, IsFileWith, KeepsHistories, Leads}
-use Rattle.console.specs.Lives.{Ends, IsLife, Lives, opened_text, closed_text}
+use Rattle.console.specs.Lives.{Ends, IsBegun, IsLife, Lives, opened_text, closed_text}
 use Rattle.console.specs.Obeyed.{ObeysLines}
 use Rattle.console.proofs.Grown.{grows-lines}
 use Rattle.console.proofs.Kept.{keeps-at, keeps-closed}
@@ -58,8 +58,9 @@ file-of-end history q None said file longer (image, bytes, stands, may, e) = rec
 file-of-life : (image : Image) (history : List Commit) (lines : List Text) (keeps : Option Survivor) (begun said ended : Text) (file : List ℕ)
     → IsLife image history lines keeps begun said ended file → IsFileWith history file
 file-of-life image history lines keeps begun said ended file life =
-    file-of-end history life.last keeps ended file
-    (subst (λ (h : List Commit). Extends h life.last.history) (opens-history image history life.first life.opens) (grows-lines life.first lines said keeps life.last life.obeys))
+    let b = life.begins in
+    file-of-end history b.last keeps ended file
+    (subst (λ (h : List Commit). Extends h b.last.history) (opens-history image history b.first b.opens) (grows-lines b.first lines said keeps b.last b.obeys))
     life.ends
 
 pub lives-keep : (before : List ℕ) (input old new : Option (List ℕ)) (after : List ℕ) → Lives before input old new after → KeepsHistories before after
@@ -67,6 +68,28 @@ lives-keep before input old new after lives = record {
   each = λ image held history drawn next stands.
       file-of-life image history lives.lines lives.keeps lives.begun lives.said lives.ended after (lives.each image held history drawn next stands);
 }
+
+-- the lines are obeyed from any state that the opened room shows, and this is said of the state then
+pub begun-of : {D : Type 0} {G : Ghosts D} (state : D → Device) (opened : Room D G) (before words : List ℕ) (image : Image) (history drawn : List Commit) (next : ℕ)
+    (lines : List Text) (keeps : Option Survivor) (begun said : Text) (Last : State → Type 0)
+    → HoldsWords before words → HoldsWords before image → Stands image history drawn next
+    → ((past pending : List Commit) (n : ℕ) → Stands words past pending n → (q : State) × OpensAs words past [] q × Shows state opened q)
+    → ((q : State) → Shows state opened q → begun ≡ opened_text q ++ 10 ∷ [])
+    → ((q : State) → Shows state opened q → (q' : State) × ObeysLines q lines said keeps q' × Last q')
+    → (b : IsBegun image history lines keeps begun said) × Last b.last
+begun-of state opened before words image history drawn next lines keeps begun said Last holds held stands opens told obeys =
+    let same : image ≡ words = one_image before image words held holds in
+    let start = opens history drawn next (subst (λ (i : Image). Stands i history drawn next) same stands) in
+    let went = obeys start.0 start.2 in (
+      record {
+        first = start.0;
+        last = went.0;
+        opens = subst (λ (i : Image). OpensAs i history [] start.0) (sym same) start.1;
+        told = told start.0 start.2;
+        obeys = went.1;
+      },
+      went.2,
+    )
 
 pub life-of : {D : Type 0} {G : Ghosts D} (state : D → Device) (opened ended_room : Room D G) (before words : List ℕ) (image : Image) (history drawn : List Commit) (next : ℕ)
     (lines : List Text) (keeps : Option Survivor) (begun said ended : Text) (after : List ℕ)
@@ -77,14 +100,5 @@ pub life-of : {D : Type 0} {G : Ghosts D} (state : D → Device) (opened ended_r
     → ((q : State) → Shows state ended_room q → Ends q keeps ended after)
     → IsLife image history lines keeps begun said ended after
 life-of state opened ended_room before words image history drawn next lines keeps begun said ended after holds held stands opens told leads ends =
-    let same : image ≡ words = one_image before image words held holds in
-    let start = opens history drawn next (subst (λ (i : Image). Stands i history drawn next) same stands) in
-    let went = leads.each start.0 start.2 in
-    record {
-      first = start.0;
-      last = went.0;
-      opens = subst (λ (i : Image). OpensAs i history [] start.0) (sym same) start.1;
-      told = told start.0 start.2;
-      obeys = went.1;
-      ends = ends went.0 went.2;
-    }
+    let lived = begun-of state opened before words image history drawn next lines keeps begun said (Shows state ended_room) holds held stands opens told leads.each in
+    record { begins = lived.0; ends = ends lived.0.last lived.1 }

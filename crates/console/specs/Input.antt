@@ -22,3 +22,7 @@ AreRead lines read (Some keeps) = (unread : List Text) × (lines ≡ reverse rea
 -- the same of the bytes that a reader has left, where these are known
 abbrev pub Reads : Option Text → List Text → Option Survivor → Type 0
 Reads input read keeps = IfSome input (λ text. AreRead (lines_in text) read keeps)
+
+-- the lines are the first of the input, the last one of them first, where its bytes are known
+abbrev pub BeginsWith : Option Text → List Text → Type 0
+BeginsWith input read = IfSome input (λ text. (unread : List Text) × (lines_in text ≡ reverse read ++ unread))

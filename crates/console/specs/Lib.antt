@@ -3,3 +3,4 @@ pub mod Obeyed
 pub mod Lives
 pub mod Input
 pub mod Crash
+pub mod BadLine

@@ -39,14 +39,18 @@ Ends q (Some keeps) said file =
 Ends q None said file =
     (image : Image) × IsFileOf image file × StandsClosed q image × (closing_fault q ≡ None) × (said ≡ closed_text q ++ 10 ∷ [])
 
--- the image that stands for the history is opened, the lines are obeyed (their list begins with the last), and the life ends
-pub record IsLife (image : Image) (history : List Commit) (lines : List Text) (keeps : Option Survivor) (begun said ended : Text) (file : List ℕ) : Type 0 where
+-- the image that stands for the history is opened, and the lines are obeyed (their list begins with the last)
+pub record IsBegun (image : Image) (history : List Commit) (lines : List Text) (keeps : Option Survivor) (begun said : Text) : Type 0 where
   pub first : State
   pub last : State
   pub opens : OpensAs image history [] first
   pub told : begun ≡ opened_text first ++ 10 ∷ []
   pub obeys : ObeysLines first lines said keeps last
-  pub ends : Ends last keeps ended file
+
+-- so a life is begun, and it ends
+pub record IsLife (image : Image) (history : List Commit) (lines : List Text) (keeps : Option Survivor) (begun said ended : Text) (file : List ℕ) : Type 0 where
+  pub begins : IsBegun image history lines keeps begun said
+  pub ends : Ends begins.last keeps ended file
 
 -- the image in the old file may be opened, and these lines of the input are read (their list begins with the last); whatever
 -- history the image stands for, this is a life of it by them, and no more is printed

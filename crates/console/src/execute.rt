@@ -1,8 +1,9 @@
-ghost use Rattle.std.specs.Prelude.{◌≡◌, ◌≤◌, ◌↔◌, ◌++◌, ◌∷◌, [], codes, decimal, IfOk, IfSome, IsSome, OnOk};
+ghost use Rattle.std.specs.Prelude.{◌≡◌, ◌≤◌, ◌↔◌, ◌++◌, ◌∷◌, [], codes, decimal, IfErr, IfOk, IfSome, IsSome, OnOk};
 ghost use Rattle.std.specs.Io.KnownBytes.{Appends};
 ghost use Rattle.base.specs.Layout.{total_words};
 ghost use Rattle.command_line.specs.ImageFile.{IsFileOf};
 ghost use Rattle.recovery.specs.Fresh.{fresh_image};
+ghost use Rattle.console.specs.BadLine.{BlamesNoLine, EndsAtBadLine, IfBadLine, IsBadLineAnd, IsRunAnd, Tells, TellsBadLine};
 ghost use Rattle.console.specs.Kept.{Leaves};
 ghost use Rattle.console.specs.Lives.{Prints};
 
@@ -10,11 +11,12 @@ use crate::ended::Ended;
 use crate::format::fresh_file;
 use crate::run::run;
 use crate::stop::Stop;
+use base::fault::Fault;
 use base::geometry::Geometry;
 use command_line::orders::Order;
 use command_line::printed::{Printed, print};
 use std::alloc::Global;
-use std::io::{Read, Write};
+use std::io::{ErrorKind, Read, Write};
 use std::thread::Threads;
 
 /// The exit status of a refusal, and of an input or an output that fails.
@@ -38,6 +40,7 @@ pub fn execute<T: Threads + Sync, R: Read, W: Write>(
     ensures written { IsSome result.file ↔ (result.status ≡ 0) }
     ensures file { IfSome result.file (λ left. Leaves order.now file.now left.items) }
     ensures printed { IfSome result.file (λ left. Prints order.now file.now (R.remaining input.old) (W.contents output.old) (W.contents output.new) left.items) }
+    ensures bad_line { result.status ≡ 2 → IsRunAnd order.now (TellsBadLine file.now (R.remaining input.old) (W.contents output.old) (W.contents output.new)) }
 {
     match obey(rt, alloc, order, file, input, output) {
         Ok(file) => Ended {
@@ -62,6 +65,7 @@ fn obey<T: Threads + Sync, R: Read, W: Write>(
 ) -> Result<Vec<u8>, Stop>
     ensures file { IfOk result (λ left. Leaves order.now file.now left.items) }
     ensures printed { IfOk result (λ left. Prints order.now file.now (R.remaining input.old) (W.contents output.old) (W.contents output.new) left.items) }
+    ensures bad_line { IfErr result (IfBadLine (λ number. IsRunAnd order.now (EndsAtBadLine file.now (R.remaining input.old) (W.contents output.old) (W.contents output.new) number []))) }
 {
     match *order {
         Order::Format {
@@ -78,6 +82,7 @@ fn format<W: Write>(alloc: Global, geometry: Geometry, output: &mut W) -> Result
     ensures file { IfOk result (λ file. IsFileOf (fresh_image geometry) file.items) }
     ensures printed { OnOk result (Appends (W.contents output.old) (W.contents output.new)
         ((codes "formatted " ++ (decimal (total_words geometry) ++ codes " words")) ++ 10 ∷ [])) }
+    ensures blames { IfErr result BlamesNoLine }
 {
     let file = fresh_file(alloc, geometry)?;
     let words = geometry.words();
@@ -89,16 +94,31 @@ fn format<W: Write>(alloc: Global, geometry: Geometry, output: &mut W) -> Result
 fn tell<W: Write>(alloc: Global, stop: &Stop, output: &mut W) -> u8
     ensures some { 1 ≤ result }
     ensures limit { result ≤ 2 }
+    ensures bad_line { result ≡ 2 → IsBadLineAnd (Tells (W.contents output.old) (W.contents output.new)) stop.now }
 {
     match *stop {
-        Stop::Refused(fault) => {
-            let _ = print(alloc, output, &Printed::Refused(fault));
-            REFUSED
-        }
-        Stop::NotACommand(line) => match print(alloc, output, &Printed::NotACommand { line }) {
-            Ok(()) => BAD_LINE,
-            Err(_) => REFUSED,
-        },
-        Stop::Broken => REFUSED,
+        Stop::Refused(fault) => refuse(alloc, fault, output),
+        Stop::NotACommand(line) => blame(alloc, line, output),
+        Stop::Broken(ErrorKind::OutOfMemory) => refuse(alloc, Fault::OutOfMemory, output),
+        Stop::Broken(_) => REFUSED,
+    }
+}
+
+fn refuse<W: Write>(alloc: Global, fault: Fault, output: &mut W) -> u8
+    ensures { result ≡ 1 }
+{
+    let _ = print(alloc, output, &Printed::Refused(fault));
+    REFUSED
+}
+
+// Names the line that is no command.
+fn blame<W: Write>(alloc: Global, line: u64, output: &mut W) -> u8
+    ensures some { 1 ≤ result }
+    ensures limit { result ≤ 2 }
+    ensures bad_line { result ≡ 2 → Tells (W.contents output.old) (W.contents output.new) line }
+{
+    match print(alloc, output, &Printed::NotACommand { line }) {
+        Ok(()) => BAD_LINE,
+        Err(_) => REFUSED,
     }
 }

@@ -1,12 +1,12 @@
-ghost use Rattle.std.specs.Prelude.{◌≡◌, ◌++◌, ◌∷◌, [], List, IfOk, OnOk, ℕ, Some, None, Err};
+ghost use Rattle.std.specs.Prelude.{◌≡◌, ◌++◌, ◌∷◌, [], List, IfErr, IfOk, OnOk, Some, None};
 ghost use Rattle.std.specs.Io.KnownBytes.{Appends};
 ghost use Rattle.base.specs.Machine.{Stepped};
 ghost use Rattle.command_line.specs.Lines.{line_of};
 ghost use Rattle.command_line.specs.Numbers.{Text};
 ghost use Rattle.command_line.specs.Texts.{text_of};
+ghost use Rattle.console.specs.BadLine.{BlamesNoLine, IfBadLine, MeetsBadLine, kept_by, kept_in, kept_of};
 ghost use Rattle.console.specs.Input.{Reads};
 ghost use Rattle.console.specs.Kept.{Leads};
-ghost use Rattle.console.specs.declared.stop.Stop.TheVariants.{NotACommand};
 ghost use Rattle.console.specs.Obeyed.{Puts, Commits, Cycles, ComesTo, Obeys, ObeysLine, ObeysLines, is_busy, is_tick, reply_text};
 
 use crate::stop::Stop;
@@ -38,9 +38,10 @@ pub fn obey_lines<D: Pmem + Drop, R: Read, W: Write>(
     input: &mut R,
     output: &mut W,
 ) -> Result<Option<Survivor>, Stop>
-    ensures { IfOk result (λ keeps. (lines : List Text) × Reads (R.remaining input.old) lines keeps
+    ensures obeys { IfOk result (λ keeps. (lines : List Text) × Reads (R.remaining input.old) lines keeps
         × (said : Text) × Appends (W.contents output.old) (W.contents output.new) said
         × Leads D.state room.old room.new (λ q q'. ObeysLines q lines said keeps q')) }
+    ensures bad_line { IfErr result (IfBadLine (MeetsBadLine D.state room.old (R.remaining input.old) (W.contents output.old) (W.contents output.new))) }
 {
     let mut number: u64 = 0;
     for line in BufReader::new(alloc, input)?.split(alloc, b'\n') {
@@ -61,8 +62,10 @@ fn obey_line<D: Pmem + Drop, W: Write>(
     line: &[u8],
     output: &mut W,
 ) -> Result<Option<Survivor>, Stop>
-    ensures { IfOk result (λ keeps. (said : Text) × Appends (W.contents output.old) (W.contents output.new) said
+    ensures obeys { IfOk result (λ keeps. (said : Text) × Appends (W.contents output.old) (W.contents output.new) said
         × Leads D.state room.old room.new (λ q q'. ObeysLine q line.now said keeps q')) }
+    ensures kept { IfOk result (λ keeps. kept_in line.now ≡ Some keeps) }
+    ensures bad_line { IfErr result (IfBadLine (λ at. (at ≡ number) × (line_of line.now ≡ None) × (W.contents output.new ≡ W.contents output.old))) }
 {
     match read_command(alloc, number, line)? {
         Some(command) => {
@@ -75,7 +78,7 @@ fn obey_line<D: Pmem + Drop, W: Write>(
 
 fn read_command(alloc: Global, number: u64, line: &[u8]) -> Result<Option<Command>, Stop>
     ensures ok { IfOk result (λ read. line_of line.now ≡ Some read) }
-    ensures refused { (at : ℕ) → result ≡ Err (NotACommand at) → (at ≡ number) × (line_of line.now ≡ None) }
+    ensures bad_line { IfErr result (IfBadLine (λ at. (at ≡ number) × (line_of line.now ≡ None))) }
 {
     match parse_line(alloc, line) {
         Ok(command) => Ok(command),
@@ -97,8 +100,10 @@ fn obey<D: Pmem + Drop, W: Write>(
     command: &Command,
     output: &mut W,
 ) -> Result<Option<Survivor>, Stop>
-    ensures { IfOk result (λ keeps. (said : Text) × Appends (W.contents output.old) (W.contents output.new) said
+    ensures obeys { IfOk result (λ keeps. (said : Text) × Appends (W.contents output.old) (W.contents output.new) said
         × Leads D.state room.old room.new (λ q q'. Obeys q command.now said keeps q')) }
+    ensures kept { IfOk result (λ keeps. keeps ≡ kept_by command.now) }
+    ensures blames { IfErr result BlamesNoLine }
 {
     match perform(room, command) {
         Outcome::Replied(reply) => {
@@ -110,7 +115,8 @@ fn obey<D: Pmem + Drop, W: Write>(
 }
 
 fn perform<D: Pmem + Drop>(room: &mut Room<D>, command: &Command) -> Outcome
-    ensures { Leads D.state room.old room.new (λ q q'. ComesTo q command.now result q') }
+    ensures comes { Leads D.state room.old room.new (λ q q'. ComesTo q command.now result q') }
+    ensures kept { kept_of result ≡ kept_by command.now }
 {
     match command {
         Command::Begin => Outcome::Replied(step(room, Step::Begin)),

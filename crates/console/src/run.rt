@@ -1,4 +1,4 @@
-ghost use Rattle.std.specs.Prelude.{◌≡◌, ◌++◌, ◌∷◌, [], ℕ, List, None, Some, IfOk, OnOk};
+ghost use Rattle.std.specs.Prelude.{◌≡◌, ◌++◌, ◌∷◌, [], ℕ, List, None, Some, IfErr, IfOk, OnOk};
 ghost use Rattle.std.specs.Io.KnownBytes.{Appends};
 ghost use Rattle.base.specs.Commits.{Commit};
 ghost use Rattle.base.specs.Images.{opening_fault};
@@ -11,6 +11,7 @@ ghost use Rattle.pmem_model.specs.Sim.{device_of};
 ghost use Rattle.room.specs.Room.{Shows, device_of as device_in};
 ghost use Rattle.command_line.specs.ImageFile.{IsFileOf};
 ghost use Rattle.command_line.specs.Numbers.{Text};
+ghost use Rattle.console.specs.BadLine.{BlamesNoLine, EndsAtBadLine, IfBadLine};
 ghost use Rattle.console.specs.Crash.{choice_of, IsFileKept, KeepsNamed};
 ghost use Rattle.console.specs.Kept.{HasClosed, KeepsHistories};
 ghost use Rattle.console.specs.Lives.{Ends, Lives, opened_text};
@@ -40,6 +41,7 @@ pub fn run<T: Threads + Sync, R: Read, W: Write>(
 
     // So no lines take a covered commit away.
     ensures keeps { IfOk result (λ left. KeepsHistories file.now left.items) }
+    ensures bad_line { IfErr result (IfBadLine (λ number. EndsAtBadLine file.now (R.remaining input.old) (W.contents output.old) (W.contents output.new) number [])) }
 {
     let words = words_of_file(alloc, file)?;
     let mut room = open(rt, alloc, words.as_slice())?;
@@ -62,8 +64,9 @@ fn open<T: Threads + Sync>(rt: &T, alloc: Global, words: &[u64]) -> Result<Room<
 }
 
 fn show_opened<W: Write>(alloc: Global, room: &Room<SimPmem>, output: &mut W) -> Result<(), Stop>
-    ensures { OnOk result ((said : Text) × Appends (W.contents output.old) (W.contents output.new) said
+    ensures told { OnOk result ((said : Text) × Appends (W.contents output.old) (W.contents output.new) said
         × ((q : State) → Shows device_of room.now q → said ≡ opened_text q ++ 10 ∷ [])) }
+    ensures blames { IfErr result BlamesNoLine }
 {
     let status = room.status();
     let opened = Printed::Opened {
@@ -87,6 +90,7 @@ fn end<W: Write>(
     ensures ends { IfOk result (λ left. (said : Text) × Appends (W.contents output.old) (W.contents output.new) said
         × ((q : State) → Shows device_of room q → Ends q keeps said left.items)) }
     ensures kept { IfOk result (λ left. KeepsNamed (device_in device_of room) keeps left.items) }
+    ensures blames { IfErr result BlamesNoLine }
 {
     match keeps {
         Some(keeps) => stop(alloc, room, keeps, output),
@@ -104,6 +108,7 @@ fn stop<W: Write>(
     ensures ends { IfOk result (λ left. (said : Text) × Appends (W.contents output.old) (W.contents output.new) said
         × ((q : State) → Shows device_of room q → Ends q (Some keeps) said left.items)) }
     ensures kept { IfOk result (λ left. IsFileKept (device_in device_of room) keeps left.items) }
+    ensures blames { IfErr result BlamesNoLine }
 {
     let device = room.into_device();
     let left = crashed(&device, keeps)?;
@@ -131,8 +136,9 @@ fn choice_of(keeps: Survivor) -> Choice
 
 // What is left after the close of the room.
 fn close<W: Write>(alloc: Global, room: Room<SimPmem>, output: &mut W) -> Result<Vec<u8>, Stop>
-    ensures { IfOk result (λ left. (said : Text) × Appends (W.contents output.old) (W.contents output.new) said
+    ensures ends { IfOk result (λ left. (said : Text) × Appends (W.contents output.old) (W.contents output.new) said
         × ((q : State) → Shows device_of room q → Ends q None said left.items)) }
+    ensures blames { IfErr result BlamesNoLine }
 {
     let closed = close_room(room)?;
     let device = closed.crash(&Choice::Oldest)?;
@@ -157,7 +163,8 @@ fn close_room(room: Room<SimPmem>) -> Result<SimPmem, Fault>
 }
 
 fn file_of_device(alloc: Global, device: &SimPmem) -> Result<Vec<u8>, Stop>
-    ensures { IfOk result (λ file. IsFileOf (image_of (device_of device.now)) file.items) }
+    ensures file { IfOk result (λ file. IsFileOf (image_of (device_of device.now)) file.items) }
+    ensures blames { IfErr result BlamesNoLine }
 {
     let image = device.image()?;
     Ok(file_of_words(alloc, image.as_slice())?)

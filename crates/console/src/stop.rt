@@ -1,3 +1,8 @@
+ghost use Rattle.std.specs.Prelude.{◌≡◌};
+ghost use Rattle.std.specs.IoError.{error_kind};
+ghost use Rattle.base.specs.declared.fault.Fault.TheVariants.{OutOfMemory};
+ghost use Rattle.console.specs.declared.stop.Stop.TheVariants.{Refused, Broken};
+
 use base::fault::Fault;
 use std::alloc::AllocError;
 use std::io;
@@ -9,27 +14,30 @@ pub enum Stop {
     Refused(Fault),
     /// The line of this number is no command.
     NotACommand(u64),
-    /// The input couldn't be read, or the output not be written.
-    Broken,
+    /// The input couldn't be read, or the output not be written, for this reason.
+    Broken(ErrorKind),
 }
 
 impl From<Fault> for Stop {
+    ghost from_gives = { λ fault stop. stop ≡ Refused fault };
+
     fn from(fault: Fault) -> Stop {
         Stop::Refused(fault)
     }
 }
 
 impl From<AllocError> for Stop {
+    ghost from_gives = { λ _ stop. stop ≡ Refused OutOfMemory };
+
     fn from(_error: AllocError) -> Stop {
         Stop::Refused(Fault::OutOfMemory)
     }
 }
 
 impl From<io::Error> for Stop {
+    ghost from_gives = { λ error stop. stop ≡ Broken (error_kind error) };
+
     fn from(error: io::Error) -> Stop {
-        match error.kind() {
-            ErrorKind::OutOfMemory => Stop::Refused(Fault::OutOfMemory),
-            _ => Stop::Broken,
-        }
+        Stop::Broken(error.kind())
     }
 }

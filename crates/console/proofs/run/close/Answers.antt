@@ -5,8 +5,8 @@ use Rattle.console.proofs.Kept.{file-restarted}
 use Rattle.console.proofs.Lives.{ends-closed, rules-restarted}
 use Rattle.console.proofs.run.close.Goals as goal
 
-pub returns : goal.returns
-returns g c =
+pub returns-clause-ends : goal.returns-clause-ends
+returns-clause-ends g c =
     let left = c.in_ok-device.ensures.possible in
     let found = c.in_ok-ruling.field-0 in (
       closed_line c.gate.result c.persisted.result c.dirty.result ++ 10 ∷ [],
@@ -15,5 +15,5 @@ returns g c =
           (search rules) (search rules) (search rules)
           (rules-restarted (device_of c.in_ok-device.device) left.0 found.target left.2 c.in_ok-ruling.ensures.ok.by_record)
           c.in_ok-closed.ensures left.1
-          (file-restarted (device_of c.in_ok-device.device) left.0 c.in_ok-file.file.items left.2 c.in_ok-file.ensures) shows,
+          (file-restarted (device_of c.in_ok-device.device) left.0 c.in_ok-file.file.items left.2 c.in_ok-file.ensures.file) shows,
     )

@@ -20,4 +20,4 @@ returns-in-Some-clause-kept g c =
 
 pub returns-in-None-clause-ends : goal.returns-in-None-clause-ends
 returns-in-None-clause-ends g c = subst (λ (keeps : Option Survivor). IfOk c.close.result (λ left. (said : Text) × Appends (g.W.Write.contents c.args.output.now) (g.W.Write.contents c.close.new.output) said
-    × ((q : State) → Shows device_of c.args.room q → Ends q keeps said left.items))) (sym c.in-None.is) c.close.ensures
+    × ((q : State) → Shows device_of c.args.room q → Ends q keeps said left.items))) (sym c.in-None.is) c.close.ensures.ends

@@ -7,14 +7,15 @@ use Rattle.base.specs.Openings.{OpensAs}
 use Rattle.base.specs.Stands.{Stands}
 use Rattle.pmem_model.specs.Sim.{device_of}
 use Rattle.room.specs.Room.{Shows}
+use Rattle.console.proofs.BadLine.{ends-at, passed_on, unblamed}
 use Rattle.console.proofs.Lives.{life-of, lives-keep}
 use Rattle.console.proofs.Obeyed.{appends-more}
 use Rattle.console.proofs.run.run.Goals as goal
 
 pub returns-clause-lives : goal.returns-clause-lives
 returns-clause-lives g c =
-    let told = c.in_ok-show_opened.ensures in
-    let made = c.in_ok-keeps.ensures in
+    let told = c.in_ok-show_opened.ensures.told in
+    let made = c.in_ok-keeps.ensures.obeys in
     let over = c.in_ok-left.ensures.ends in
     record {
       opens = record {
@@ -43,3 +44,27 @@ returns-clause-lives g c =
 pub returns-clause-keeps : goal.returns-clause-keeps
 returns-clause-keeps g c =
     lives-keep c.args.file.now (g.R.Read.remaining c.args.input.now) (g.W.Write.contents c.args.output.now) (g.W.Write.contents c.end.new.output) c.in_ok-left.left.items (returns-clause-lives g c)
+
+pub returns-in_err-words-clause-bad_line : goal.returns-in_err-words-clause-bad_line
+returns-in_err-words-clause-bad_line g c = unblamed c.from_residual.result _ _ c.from_residual.ensures.1 tt
+
+pub returns-in_err-room-clause-bad_line : goal.returns-in_err-room-clause-bad_line
+returns-in_err-room-clause-bad_line g c = unblamed c.from_residual-in_err-room.result _ _ c.from_residual-in_err-room.ensures.1 tt
+
+pub returns-in_err-show_opened-clause-bad_line : goal.returns-in_err-show_opened-clause-bad_line
+returns-in_err-show_opened-clause-bad_line g c =
+    unblamed c.from_residual-in_err-show_opened.result _ _ c.from_residual-in_err-show_opened.ensures.1 c.in_err-show_opened.ensures.blames
+
+pub returns-in_err-keeps-clause-bad_line : goal.returns-in_err-keeps-clause-bad_line
+returns-in_err-keeps-clause-bad_line g c =
+    let told = c.in_ok-show_opened.ensures.told in
+    passed_on c.from_residual-in_err-keeps.result _ _ _ c.from_residual-in_err-keeps.ensures.1
+    (λ at met. ends-at device_of c.in_ok-room.room c.args.file.now c.in_ok-words.words.items (g.R.Read.remaining c.args.input.now) (g.W.Write.contents c.args.output.now)
+    (g.W.Write.contents c.show_opened.new.output) (g.W.Write.contents c.obey_lines.new.output) told.0 at c.in_ok-words.ensures.ok
+    (subst (λ (i : Image). (past pending : List Commit) (n : ℕ) → Stands i past pending n → (q : State) × OpensAs i past [] q × Shows device_of c.in_ok-room.room q)
+    c.as_slice.ensures.value c.in_ok-room.ensures)
+    told.1 told.2 met)
+    c.in_err-keeps.ensures.bad_line
+
+pub returns-in_err-left-clause-bad_line : goal.returns-in_err-left-clause-bad_line
+returns-in_err-left-clause-bad_line g c = unblamed c.from_residual-in_err-left.result _ _ c.from_residual-in_err-left.ensures.1 c.in_err-left.ensures.blames

@@ -13,12 +13,12 @@ returns-clause-ends g c = (
   (codes "stopped " ++ survivor_text c.args.keeps) ++ 10 ∷ [],
   c.in_ok-print.ensures,
   λ q shows. ends-stopped device_of c.args.room (device_of c.into_device-device.result) (image_of (device_of c.in_ok-left.left)) c.in_ok-file.file.items c.args.keeps q c.into_device-device.ensures
-      c.in_ok-left.ensures.possible c.in_ok-file.ensures shows,
+      c.in_ok-left.ensures.possible c.in_ok-file.ensures.file shows,
 )
 
 pub returns-clause-kept : goal.returns-clause-kept
 returns-clause-kept g c = record {
   image = image_of (device_of c.in_ok-left.left);
-  of_image = c.in_ok-file.ensures;
+  of_image = c.in_ok-file.ensures.file;
   chosen = subst (λ (device : Device). IsChosen (choice_of c.args.keeps) device (image_of (device_of c.in_ok-left.left))) c.into_device-device.ensures c.in_ok-left.ensures.chosen;
 }

@@ -1,0 +1,112 @@
+-- How a line that is no command is met, passed on and told.
+use Rattle.std.proofs.Common.{◌≡◌, ℕ, ◌+◌, ◌-◌, ◌^◌, false, List, [], ◌∷◌, ◌++◌, length, sym, ◌∙◌, ap, subst, append-nil}
+use Rattle.std.specs.Prelude.{Option, Some, None, is_some, option_map, option_and_then, Result, Ok, Err, IsErrAnd, IfErr, All, min, ⊤}
+use Rattle.std.specs.Io.KnownBytes.{Appends}
+use Rattle.base.specs.Commits.{Commit}
+use Rattle.base.specs.Machine.{State}
+use Rattle.base.specs.Openings.{OpensAs}
+use Rattle.base.specs.Stands.{Stands}
+use Rattle.pmem.specs.Device.{Device}
+use Rattle.pmem.specs.declared.device.Pmem.{Ghosts}
+use Rattle.room.specs.Room.{Shows}
+use Rattle.room.specs.declared.room.Room.{Room}
+use Rattle.command_line.specs.ImageFile.{HoldsWords}
+use Rattle.command_line.specs.Lines.{line_of}
+use Rattle.command_line.specs.Numbers.{Text}
+use Rattle.command_line.specs.Texts.{text_of}
+use Rattle.command_line.specs.declared.command.Command.{Command}
+use Rattle.command_line.specs.declared.command.Survivor.{Survivor}
+use Rattle.command_line.specs.declared.orders.Order.{Order}
+use Rattle.command_line.specs.declared.orders.Order.TheVariants.{Format, Run}
+use Rattle.command_line.specs.declared.printed.Printed.TheVariants as printed
+use Rattle.console.specs.BadLine.{BlamesNoLine, EndsAtBadLine, IfBadLine, IsBadLineAnd, IsPassed, IsRunAnd, MeetsBadLine, Tells, TellsBadLine, kept_by, kept_in}
+use Rattle.console.specs.Input.{BeginsWith}
+use Rattle.console.specs.Kept.{Leads}
+use Rattle.console.specs.Lives.{opened_text}
+use Rattle.console.specs.Obeyed.{ObeysLines}
+use Rattle.console.specs.declared.stop.Stop.{Stop}
+use Rattle.console.specs.declared.stop.Stop.TheVariants.{Refused, NotACommand, Broken}
+use Rattle.console.proofs.Lives.{begun-of}
+use Rattle.console.proofs.Obeyed.{appends-more, appends-none, none-of}
+
+-- ---- what a line keeps
+
+pub kept-so : (line : Text) (command : Command) (keeps : Option Survivor) → line_of line ≡ Some (Some command) → keeps ≡ kept_by command → kept_in line ≡ Some keeps
+kept-so line command keeps is e =
+    ap (λ (read : Option (Option Command)). option_map (option_and_then kept_by) read) is ∙ ap (λ (k : Option Survivor). Some k) (sym e)
+
+pub skipped-so : (line : Text) → line_of line ≡ Some None → kept_in line ≡ Some None
+skipped-so line is = ap (λ (read : Option (Option Command)). option_map (option_and_then kept_by) read) is
+
+pub passed-so : (line : Text) (keeps : Option Survivor) → is_some keeps ≡ false → kept_in line ≡ Some keeps → IsPassed line
+passed-so line keeps none is = is ∙ ap (λ (k : Option Survivor). Some k) (none-of keeps none)
+
+-- ---- who is to blame
+
+bad-line-by : (stop : Stop) (P Q : ℕ → Type 0) → ((number : ℕ) → P number → Q number) → IfBadLine P stop → IfBadLine Q stop
+bad-line-by (NotACommand number) P Q says p = says number p
+bad-line-by (Refused fault) P Q says p = tt
+bad-line-by (Broken reason) P Q says p = tt
+
+-- what a `?` passes on
+pub passed_on : {T : Type 0} (r : Result T Stop) (stop : Stop) (P Q : ℕ → Type 0) → IsErrAnd r (λ y. y ≡ stop) → ((number : ℕ) → P number → Q number)
+    → IfBadLine P stop → IfErr r (IfBadLine Q)
+passed_on (Ok x) stop P Q is says p = tt
+passed_on (Err y) stop P Q is says p = subst (IfBadLine Q) (sym is) (bad-line-by stop P Q says p)
+
+pub unblamed : {T : Type 0} (r : Result T Stop) (stop : Stop) (Q : ℕ → Type 0) → IsErrAnd r (λ y. y ≡ stop) → BlamesNoLine stop → IfErr r (IfBadLine Q)
+unblamed r stop Q is p = passed_on r stop (λ (number : ℕ). ⊥) Q is (λ number no. absurd no) p
+
+-- what is returned as it is
+pub of-run : {T : Type 0} (r : Result T Stop) (order actual : Order) (P : ℕ → Type 0) → order ≡ actual → ((number : ℕ) → P number → IsRunAnd actual (P number))
+    → IfErr r (IfBadLine P) → IfErr r (IfBadLine (λ number. IsRunAnd order (P number)))
+of-run (Ok x) order actual P is runs p = tt
+of-run (Err y) order actual P is runs p =
+    bad-line-by y P (λ (number : ℕ). IsRunAnd order (P number)) (λ number q. subst (λ (o : Order). IsRunAnd o (P number)) (sym is) (runs number q)) p
+
+-- ---- the line
+
+pub meets : {D : Type 0} {G : Ghosts D} (state : D → Device) (room room' : Room D G) (input old mid new : Option Text) (before : List Text) (line said : Text) (number at : ℕ)
+    → All IsPassed before → BeginsWith input (line ∷ before) → number ≡ min (length before + 1) (2 ^ 64 - 1) → Appends old mid said
+    → Leads state room room' (λ q q'. ObeysLines q before said None q') → (at ≡ number) × (line_of line ≡ None) × (new ≡ mid)
+    → MeetsBadLine state room input old new at
+meets state room room' input old mid new before line said number at passed read counted says leads (is, bad, same) = record {
+  is = record { before = before; line = line; passed = passed; bad = bad; counted = is ∙ counted; read = read };
+  said = said;
+  prints = subst (λ (known : Option Text). Appends old known said) (sym same) says;
+  obeys = λ q shows. let went = leads.each q shows in (went.0, went.1);
+}
+
+pub ends-at : {D : Type 0} {G : Ghosts D} (state : D → Device) (room : Room D G) (file words : List ℕ) (input old mid new : Option Text) (begun : Text) (at : ℕ)
+    → HoldsWords file words
+    → ((past pending : List Commit) (n : ℕ) → Stands words past pending n → (q : State) × OpensAs words past [] q × Shows state room q)
+    → Appends old mid begun → ((q : State) → Shows state room q → begun ≡ opened_text q ++ 10 ∷ []) → MeetsBadLine state room input mid new at
+    → EndsAtBadLine file input old new at []
+ends-at state room file words input old mid new begun at holds opens says told met = record {
+  is = met.is;
+  begun = begun;
+  said = met.said;
+  prints = appends-more old new new (begun ++ met.said) [] (appends-more old mid new begun met.said says met.prints) (appends-none new);
+  each = λ image held history drawn next stands.
+      (begun-of state room file words image history drawn next met.is.before None begun met.said (λ (q : State). ⊤) holds held stands opens told
+      (λ q shows. let went = met.obeys q shows in (went.0, went.1, tt))).0;
+}
+
+ends-so : (file : List ℕ) (input old mid new : Option Text) (number : ℕ) (ended : Text) → EndsAtBadLine file input old mid number [] → Appends mid new ended
+    → EndsAtBadLine file input old new number ended
+ends-so file input old mid new number ended met told = record {
+  is = met.is;
+  begun = met.begun;
+  said = met.said;
+  prints = subst (λ (l : Text). Appends old new (l ++ ended)) (append-nil (met.begun ++ met.said)) (appends-more old mid new ((met.begun ++ met.said) ++ []) ended met.prints told);
+  each = met.each;
+}
+
+pub told-so : (order : Order) (stop : Stop) (file : List ℕ) (input old mid new : Option Text)
+    → IfBadLine (λ number. IsRunAnd order (EndsAtBadLine file input old mid number [])) stop → IsBadLineAnd (Tells mid new) stop
+    → IsRunAnd order (TellsBadLine file input old new)
+told-so order (Refused fault) file input old mid new met told = absurd told
+told-so order (Broken reason) file input old mid new met told = absurd told
+told-so (Format name slots places window) (NotACommand number) file input old mid new met told = absurd met
+told-so (Run name) (NotACommand number) file input old mid new met told =
+    (number, ends-so file input old mid new number (text_of (printed.NotACommand number) ++ 10 ∷ []) met told)

@@ -1,0 +1,7 @@
+use Rattle.console.proofs.BadLine.{told-so}
+use Rattle.console.proofs.execute.execute.Goals as goal
+
+pub returns-in-Err-clause-bad_line : goal.returns-in-Err-clause-bad_line
+returns-in-Err-clause-bad_line g c = λ two.
+    told-so c.args.order.now c.in-Err.stop c.args.file.now (g.R.Read.remaining c.args.input.now) (g.W.Write.contents c.args.output.now) (g.W.Write.contents c.obey.new.output) (g.W.Write.contents c.tell.new.output)
+    c.in-Err.ensures.bad_line (c.tell.ensures.bad_line two)

@@ -1,0 +1,108 @@
+-- Which line ends a run before its time.
+use Rattle.std.specs.Prelude.{◌≡◌, ℕ, ◌+◌, ◌-◌, ◌^◌, min, List, [], ◌∷◌, ◌++◌, length, All, Option, Some, None, option_map, option_and_then, ⊤}
+use Rattle.std.specs.Io.KnownBytes.{Appends}
+use Rattle.base.specs.Commits.{Commit}
+use Rattle.base.specs.Images.{Image}
+use Rattle.base.specs.Machine.{State}
+use Rattle.base.specs.Stands.{Stands}
+use Rattle.pmem.specs.Device.{Device}
+use Rattle.pmem.specs.declared.device.Pmem.{Ghosts}
+use Rattle.room.specs.Room.{Shows}
+use Rattle.room.specs.declared.room.Room.{Room}
+use Rattle.command_line.specs.ImageFile.{HoldsWords}
+use Rattle.command_line.specs.Lines.{line_of}
+use Rattle.command_line.specs.Numbers.{Text}
+use Rattle.command_line.specs.Texts.{text_of}
+use Rattle.command_line.specs.declared.command.Command.{Command}
+use Rattle.command_line.specs.declared.command.Command.TheVariants.{Crash}
+use Rattle.command_line.specs.declared.command.Survivor.{Survivor}
+use Rattle.command_line.specs.declared.orders.Order.{Order}
+use Rattle.command_line.specs.declared.orders.Order.TheVariants.{Format, Run}
+use Rattle.command_line.specs.declared.printed.Printed.TheVariants as printed
+use Rattle.console.specs.Input.{BeginsWith}
+use Rattle.console.specs.Lives.{IsBegun}
+use Rattle.console.specs.Obeyed.{ObeysLines}
+use Rattle.console.specs.declared.lines.Outcome.{Outcome}
+use Rattle.console.specs.declared.lines.Outcome.TheVariants.{Replied, Crashed}
+use Rattle.console.specs.declared.stop.Stop.{Stop}
+use Rattle.console.specs.declared.stop.Stop.TheVariants.{Refused, NotACommand, Broken}
+
+-- ---- lines that are commands
+
+-- what a command keeps by a crash
+abbrev pub kept_by : Command → Option Survivor
+kept_by (Crash keeps) = Some keeps
+kept_by _ = None
+
+-- what is kept where a command comes to this
+abbrev pub kept_of : Outcome → Option Survivor
+kept_of (Replied answer) = None
+kept_of (Crashed keeps) = Some keeps
+
+-- what a line keeps by a crash, where it is a command or is skipped
+abbrev pub kept_in : Text → Option (Option Survivor)
+kept_in line = option_map (option_and_then kept_by) (line_of line)
+
+-- the line is a command that is no crash, or is skipped
+abbrev pub IsPassed : Text → Type 0
+IsPassed line = kept_in line ≡ Some None
+
+-- ---- the line that is none
+
+-- The input has a line of this number that is no command, and each line before it is a command that is no crash, or is
+-- skipped. Numbers begin at 1, and a number past the greatest that can be told is told as that one
+pub record IsBadLine (input : Option Text) (number : ℕ) : Type 0 where
+  pub before : List Text
+  pub line : Text
+  pub passed : All IsPassed before
+  pub bad : line_of line ≡ None
+  pub counted : number ≡ min (length before + 1) (2 ^ 64 - 1)
+  pub read : BeginsWith input (line ∷ before)
+
+-- the lines before it are obeyed from whatever state the room shows, and no more is printed
+pub record MeetsBadLine {D : Type 0} {G : Ghosts D} (state : D → Device) (room : Room D G) (input old new : Option Text) (number : ℕ) : Type 0 where
+  pub is : IsBadLine input number
+  pub said : Text
+  pub prints : Appends old new said
+  pub obeys : (q : State) → Shows state room q → (q' : State) × ObeysLines q is.before said None q'
+
+-- whatever history the image in the file stands for, it is opened and the lines before the bad one are obeyed, and no more is
+-- printed, but this at the end
+pub record EndsAtBadLine (file : List ℕ) (input old new : Option Text) (number : ℕ) (ended : Text) : Type 0 where
+  pub is : IsBadLine input number
+  pub begun : Text
+  pub said : Text
+  pub prints : Appends old new ((begun ++ said) ++ ended)
+  pub each : (image : Image) → HoldsWords file image → (history drawn : List Commit) (next : ℕ) → Stands image history drawn next
+      → IsBegun image history is.before None begun said
+
+-- what is printed is that the line of this number is no command
+abbrev pub Tells : Option Text → Option Text → ℕ → Type 0
+Tells old new number = Appends old new (text_of (printed.NotACommand number) ++ 10 ∷ [])
+
+-- what is printed at the end is that a line of the input is no command, and it is none
+abbrev pub TellsBadLine : List ℕ → Option Text → Option Text → Option Text → Type 0
+TellsBadLine file input old new = (number : ℕ) × EndsAtBadLine file input old new number (text_of (printed.NotACommand number) ++ 10 ∷ [])
+
+-- ---- why a subcommand ended
+
+-- this of the number of the line, where a line is to blame
+abbrev pub IfBadLine : (ℕ → Type 0) → Stop → Type 0
+IfBadLine P (NotACommand number) = P number
+IfBadLine P (Refused fault) = ⊤
+IfBadLine P (Broken reason) = ⊤
+
+-- a line is to blame, and this of its number
+abbrev pub IsBadLineAnd : (ℕ → Type 0) → Stop → Type 0
+IsBadLineAnd P (NotACommand number) = P number
+IsBadLineAnd P (Refused fault) = ⊥
+IsBadLineAnd P (Broken reason) = ⊥
+
+-- no line is to blame
+abbrev pub BlamesNoLine : Stop → Type 0
+BlamesNoLine stop = IfBadLine (λ number. ⊥) stop
+
+-- the order is a run, and this
+abbrev pub IsRunAnd : Order → Type 0 → Type 0
+IsRunAnd (Format name slots places window) P = ⊥
+IsRunAnd (Run name) P = P
