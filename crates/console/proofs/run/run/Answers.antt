@@ -62,7 +62,7 @@ returns-in_err-keeps-clause-bad_line g c =
     (λ at met. ends-at device_of c.in_ok-room.room c.args.file.now c.in_ok-words.words.items (g.R.Read.remaining c.args.input.now) (g.W.Write.contents c.args.output.now)
     (g.W.Write.contents c.show_opened.new.output) (g.W.Write.contents c.obey_lines.new.output) told.0 at c.in_ok-words.ensures.ok
     (subst (λ (i : Image). (past pending : List Commit) (n : ℕ) → Stands i past pending n → (q : State) × OpensAs i past [] q × Shows device_of c.in_ok-room.room q)
-    c.as_slice.ensures.value c.in_ok-room.ensures)
+    c.as_slice.ensures.value c.in_ok-room.ensures.shows)
     told.1 told.2 met)
     c.in_err-keeps.ensures.bad_line
 
