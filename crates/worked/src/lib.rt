@@ -1,4 +1,5 @@
 //! Worked examples as theorems. The functions do nothing: the contract of each says what its title promises.
+#![tactic(auto)]
 
 ghost use Rattle.worked.specs.Images.{FirstRunImages, DamagedImages, ReadImages, LongCommits};
 ghost use Rattle.worked.specs.Runs.{FirstCommit, FailedFence, LostCommit, EmptyWriteSet, HalfWritten, CloseThenOpen, Restricted, OwnWrites, Update, TwoKeys, AbortedWrites, FullWriteSet, NoSlotLeft, FirstCommitterWins, NoTimestampLeft};
