@@ -10,9 +10,9 @@ use Rattle.base.specs.Machine.{State, Hand, Stepped, refused, answered, memory_r
 
 record IsKept (q : State) (batch : Batch) (q' : State) : Type 0 where
   history : q'.history ≡ q.history ++ batch.commits
-  from : batch.from ≡ q.gate
-  stamp : batch.stamp ≡ q'.gate
-  persisted : batch.persisted ≡ q'.persisted
+  from : batch.from ≡ q.ruling.gate
+  stamp : batch.stamp ≡ q'.ruling.gate
+  persisted : batch.persisted ≡ q'.ruling.persisted
 
 same_batch : (batch other : Batch) → Covered batch ≡ Covered other → batch ≡ other
 same_batch batch other e = cc
@@ -39,5 +39,5 @@ kept q batch q' (memory_refused e m r s) = cc
 kept q batch q' (device_failed e m r s) = cc
 
 pub covered-kept : (q : State) (batch : Batch) (q' : State) → Stepped q CommitTick (Covered batch) q'
-    → (q'.history ≡ q.history ++ batch.commits) × (batch.from ≡ q.gate) × (batch.stamp ≡ q'.gate) × (batch.persisted ≡ q'.persisted)
+    → (q'.history ≡ q.history ++ batch.commits) × (batch.from ≡ q.ruling.gate) × (batch.stamp ≡ q'.ruling.gate) × (batch.persisted ≡ q'.ruling.persisted)
 covered-kept q batch q' s = let k = kept q batch q' s in (k.history, k.from, k.stamp, k.persisted)

@@ -314,8 +314,8 @@ still before after replies history next lost none = record {
 life-lived : (before : World) (asked : Asked) (opening : Opening) (replies : List Reply) (c : Option (Result Numbers Fault)) (after : World)
     → IsWorld before → LifeAs before asked opening replies c after → Lived before replies after
 life-lived before asked (Fails fault) replies c after w (inl f, r, n) = still before after replies (ap (λ (x : World). x.history) f.1) (ap (λ (x : World). x.next) f.1) (ap (λ (x : World). x.lost) f.1) r
-life-lived before asked (Fails fault) replies c after w (inr (inl f), r, n) = still before after replies (ap (λ (x : World). x.history) f.1) (ap (λ (x : World). x.next) f.1) (ap (λ (x : World). x.lost) f.1) r
-life-lived before asked (Fails fault) replies c after w (inr (inr f), r, n) = still before after replies f.2 f.4 f.5 r
+life-lived before asked (Fails fault) replies c after w (inr (inl f), r, n) = still before after replies (ap (λ (x : World). x.history) f.2) (ap (λ (x : World). x.next) f.2) (ap (λ (x : World). x.lost) f.2) r
+life-lived before asked (Fails fault) replies c after w (inr (inr f), r, n) = still before after replies f.1.history f.1.next f.1.lost r
 life-lived before asked (Opens numbers next gaps rows) replies c after w (start, states, opens, told, at, gaps_told, rows_told, runs, ends) =
     let run = runs-up start asked.steps replies states runs in
     let is = opens.2 in

@@ -89,7 +89,7 @@ AcknowledgedStays = (q : State) (session t : ℕ) (q' : State) (steps : List Ste
 -- a tick that covers a batch puts its commits at the end of the history, under the record that it names
 abbrev pub CoveredIsKept : Type 0
 CoveredIsKept = (q : State) (batch : Batch) (q' : State) → Stepped q CommitTick (Covered batch) q'
-    → (q'.history ≡ q.history ++ batch.commits) × (batch.from ≡ q.gate) × (batch.stamp ≡ q'.gate) × (batch.persisted ≡ q'.persisted)
+    → (q'.history ≡ q.history ++ batch.commits) × (batch.from ≡ q.ruling.gate) × (batch.stamp ≡ q'.ruling.gate) × (batch.persisted ≡ q'.ruling.persisted)
 
 -- the timestamp that a reply gives out
 abbrev pub drawn_by : Reply → List ℕ
