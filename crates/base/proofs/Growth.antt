@@ -89,7 +89,7 @@ or-more : (a b c : Bool) → (b ≡ true → c ≡ true) → a || b ≡ true →
 or-more true b c more e = refl
 or-more false b c more e = more e
 
-any-append : (xs ys : List Commit) (t : ℕ) → has_timestamp xs t ≡ true → has_timestamp (xs ++ ys) t ≡ true
+pub any-append : (xs ys : List Commit) (t : ℕ) → has_timestamp xs t ≡ true → has_timestamp (xs ++ ys) t ≡ true
 any-append [] ys t e = cc
 any-append (x ∷ xs) ys t e = or-more (nat_eq x.timestamp t) (has_timestamp xs t) (has_timestamp (xs ++ ys) t) (any-append xs ys t) e
 
@@ -99,7 +99,7 @@ stays-in history q t (more, e) h = subst (λ (l : List Commit). has_timestamp l 
 committed_is : (t other : ℕ) → Committed t ≡ Committed other → t ≡ other
 committed_is t other e = cc
 
-polled-in : (q : State) (o : Option Session) (t : ℕ) → Committed t ≡ polled q o → has_timestamp q.history t ≡ true
+pub polled-in : (q : State) (o : Option Session) (t : ℕ) → Committed t ≡ polled q o → has_timestamp q.history t ≡ true
 polled-in q None t e = cc
 polled-in q (Some (Active begun writes)) t e = cc
 polled-in q (Some WroteNothing) t e = cc

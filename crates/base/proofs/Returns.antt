@@ -158,7 +158,7 @@ run-kept from q (s1 ∷ steps) [] states f run = absurd run
 run-kept from q (s1 ∷ steps) (r1 ∷ replies) [] f run = absurd run
 
 -- the steps up to a failure are a run
-runs-up : (q : State) (steps : List Step) (replies : List Reply) (states : List State) → RunsUp q steps replies states → (done : List Step) × Run q done replies states
+pub runs-up : (q : State) (steps : List Step) (replies : List Reply) (states : List State) → RunsUp q steps replies states → (done : List Step) × Run q done replies states
 runs-up q [] [] [] r = ([], tt)
 runs-up q (s1 ∷ steps) (r1 ∷ replies) (q1 ∷ states) (s, inl (f, no_replies, no_states)) =
     (s1 ∷ [], (s, subst (λ (l : List Reply). Run q1 [] l states) (sym no_replies) (subst (λ (l : List State). Run q1 [] [] l) (sym no_states) tt)))

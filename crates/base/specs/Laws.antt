@@ -1,21 +1,24 @@
 -- What follows from the definitions. Each law stands here in words that need no proof, and a public function promises it.
-use Rattle.std.specs.Prelude.{ℕ, ◌≡◌, ◌⊎◌, ◌≤◌, ◌<◌, ◌+◌, false, true, List, [], ◌∷◌, ◌++◌, flat_map, IsTrue, All, Some, None}
+use Rattle.std.specs.Prelude.{ℕ, ◌≡◌, ◌⊎◌, ◌≤◌, ◌<◌, ◌+◌, Bool, false, true, if◌then◌else◌, List, [], ◌∷◌, ◌++◌, length, map, flat_map, replicate, IsTrue, All, Contains, Option, Some, None, Result, Ok}
+use Rattle.base.specs.declared.key.Key.{Key}
 use Rattle.base.specs.declared.gap.Gap.{Gap}
 use Rattle.base.specs.declared.fault.Fault.{Fault}
 use Rattle.base.specs.declared.fault.Fault.TheVariants.{Device, OutOfMemory, Failed}
 use Rattle.base.specs.declared.step.Step.{Step}
 use Rattle.base.specs.declared.step.Step.TheVariants.{Poll, Commit as CommitTick}
 use Rattle.base.specs.declared.step.Reply.{Reply}
-use Rattle.base.specs.declared.step.Reply.TheVariants.{Drawn as DrewAs, Committed, Covered, Refused}
-use Rattle.base.specs.Commits.{Commit}
+use Rattle.base.specs.declared.step.Reply.TheVariants.{Drawn as DrewAs, Committed, Ticked, Covered, Refused}
+use Rattle.base.specs.Commits.{Commit, Writes}
 use Rattle.base.specs.Batches.{Batch}
+use Rattle.base.specs.Layout.{Layout, is_in_limits}
 use Rattle.base.specs.Records.{Record, IsRecord, record_in, is_record, is_well_formed, opened_gaps}
-use Rattle.base.specs.Images.{Image, IsSound, ruling}
+use Rattle.base.specs.Images.{Image, IsSound, layout_of, ruling, opening_fault}
+use Rattle.base.specs.Fresh.{first_record, fresh_image}
 use Rattle.base.specs.Stands.{Stands, has_timestamp}
-use Rattle.base.specs.Machine.{State, Stepped, Run, final, refusal}
+use Rattle.base.specs.Machine.{State, Active, Stepped, Run, final, refusal, begun_of, seen_by, session_of, chooses, chosen, stages, lines_of, batch_of, taken_in_hand, state_covered, uncovered}
 use Rattle.base.specs.Openings.{IsOpenedGaps, OpensAs}
 use Rattle.base.specs.Replay.{reply_of, state_of, replies as replies_to, states as states_of, end}
-use Rattle.base.specs.Lives.{World, IsWorld, Asked, Report, Lives, EndsAs}
+use Rattle.base.specs.Lives.{World, IsWorld, Numbers, Opening, Opens, Fails, Asked, Report, Lives, EndsAs}
 
 -- Images and records
 
@@ -35,6 +38,16 @@ OneSpelling = (version : ℕ) (words words' : List ℕ) (r : Record) → IsRecor
 pub record FoundRecord : Type 0 where
   pub found : (version : ℕ) (words : List ℕ) (r : Record) → IsRecord version words r → IsTrue (is_record version words) × (record_in words ≡ r)
   pub holds : (version : ℕ) (words : List ℕ) → IsTrue (is_record version words) → IsRecord version words (record_in words)
+
+-- what a format leaves stands for no commits, and opens: an image of each layout in the limits
+pub record FreshStands (layout : Layout) : Type 0 where
+  pub stands : Stands (fresh_image layout) [] [] 1
+  pub ruled : ruling (fresh_image layout) ≡ first_record
+  pub laid_out : layout_of (fresh_image layout) ≡ layout
+  pub opens : opening_fault (fresh_image layout) ≡ None
+
+abbrev pub EachFreshStands : Type 0
+EachFreshStands = (layout : Layout) → IsTrue (is_in_limits layout) → FreshStands layout
 
 -- Openings
 
@@ -110,6 +123,56 @@ abbrev pub DrawnOnce : Type 0
 DrawnOnce = (q : State) (steps : List Step) (replies : List Reply) (states : List State) → Run q steps replies states
     → RiseBetween q.next (drawn_in replies) (final q states).next
 
+-- Snapshots
+
+-- no session sees more commits than are covered
+abbrev pub SeesCovered : State → Type 0
+SeesCovered q = (n : ℕ) → begun_of (q.sessions n) ≤ length q.history
+
+-- the session is Active in both states, and sees the same tables
+pub record SeesTheSame (n : ℕ) (q q' : State) : Type 0 where
+  pub session : q'.sessions n ≡ q.sessions n
+  pub tables : (key : Key) → seen_by q' n key ≡ seen_by q n key
+
+-- an opened state keeps it, and so does each step
+pub record SnapshotsStay : Type 0 where
+  pub opened : (image : Image) (history : List Commit) (lost : List ℕ) (q : State) → OpensAs image history lost q → SeesCovered q
+  pub kept : (q : State) (step : Step) (reply : Reply) (q' : State) → SeesCovered q → Stepped q step reply q' → SeesCovered q'
+  -- what an Active session sees stays the same over each step that doesn't name it
+  pub stays : (q : State) (step : Step) (reply : Reply) (q' : State) (n begun : ℕ) (writes : Writes) → SeesCovered q → Stepped q step reply q'
+      → q.sessions n ≡ Some (Active begun writes) → (session_of step ≡ Some n → ⊥) → SeesTheSame n q q'
+
+-- Cycles
+
+-- the replies to a whole cycle of ticks: its stages, and the batch at the end
+abbrev pub cycle_replies : State → List Reply
+cycle_replies q =
+    map Ticked (stages (lines_of q (chosen q)))
+    ++ Covered (batch_of q (taken_in_hand q)) ∷ []
+
+-- a cycle that meets no fault takes as many ticks as its batch touches lines, and 41 more; the last of them covers it
+pub record CycleIsWhole (q : State) : Type 0 where
+  pub replies : replies_to q (replicate (lines_of q (chosen q) + 41) CommitTick) ≡ cycle_replies q
+  pub covers : end q (replicate (lines_of q (chosen q) + 41) CommitTick) ≡ state_covered q (taken_in_hand q)
+
+abbrev pub CyclesAreWhole : Type 0
+CyclesAreWhole = (q : State) → q.hand ≡ None → IsTrue (chooses q CommitTick) → refusal q CommitTick ≡ None → CycleIsWhole q
+
+-- the step is no tick of the committer
+abbrev pub is_no_tick : Step → Bool
+is_no_tick CommitTick = false
+is_no_tick _ = true
+
+-- and no other step changes the batch in hand, nor what its lines are counted by
+pub record KeepsHand (q q' : State) : Type 0 where
+  pub hand : q'.hand ≡ q.hand
+  pub history : q'.history ≡ q.history
+  pub layout : q'.layout ≡ q.layout
+  pub ruling : q'.ruling ≡ q.ruling
+
+abbrev pub OthersKeepHand : Type 0
+OthersKeepHand = (q : State) (step : Step) (reply : Reply) (q' : State) → Stepped q step reply q' → IsTrue (is_no_tick step) → KeepsHand q q'
+
 -- Lives
 
 -- whatever lives come, what a stop leaves stands for the history that it tells of
@@ -124,6 +187,59 @@ pub record LivesGrow (before after : World) : Type 0 where
 -- they do so over any number of lives
 abbrev pub WorldsGrow : Type 0
 WorldsGrow = (before : World) (asked : List Asked) (reports : List Report) (after : World) → IsWorld before → Lives before asked reports after → LivesGrow before after
+
+-- the timestamps that a reply acknowledges: that of a poll's commit, or those of a covered batch
+abbrev pub acknowledged_by : Reply → List ℕ
+acknowledged_by (Committed t) = t ∷ []
+acknowledged_by (Covered batch) = map (λ commit. commit.timestamp) batch.commits
+acknowledged_by _ = []
+
+-- a close succeeded
+abbrev pub has_closed : Option (Result Numbers Fault) → Bool
+has_closed (Some (Ok numbers)) = true
+has_closed _ = false
+
+-- what a life acknowledges: by its replies, and all that it drew where it was closed
+abbrev pub acknowledged_in : Report → List ℕ
+acknowledged_in report = flat_map acknowledged_by report.replies ++ (if has_closed report.closed then drawn_in report.replies else [])
+
+-- what was acknowledged is in the history after all further lives
+abbrev pub AcknowledgedStaysOverLives : Type 0
+AcknowledgedStaysOverLives = (before : World) (asked : List Asked) (reports : List Report) (after : World) → IsWorld before → Lives before asked reports after
+    → All (λ t. IsTrue (has_timestamp after.history t)) (flat_map acknowledged_in reports)
+
+-- the commits of the batches that replies report as covered
+abbrev pub covered_by : Reply → List Commit
+covered_by (Covered batch) = batch.commits
+covered_by _ = []
+
+abbrev pub covered_in : List Reply → List Commit
+covered_in replies = flat_map covered_by replies
+
+-- What a life that opened adds to the history: the batches that its replies report as covered, and then a beginning of
+-- what the state that it came to has uncovered, in log order. Both together are what its replies drew
+pub record AddsDrawn (before : World) (replies : List Reply) (after : World) : Type 0 where
+  pub q : State
+  pub covers : q.history ≡ before.history ++ covered_in replies
+  pub first : List Commit
+  pub rest : List Commit
+  pub in_order : uncovered q ≡ first ++ rest
+  pub history : after.history ≡ q.history ++ first
+  pub drawn : All (λ commit. Contains (drawn_in replies) commit.timestamp) (covered_in replies ++ uncovered q)
+  pub each : All (λ t. IsTrue (has_timestamp (covered_in replies ++ uncovered q) t)) (drawn_in replies)
+
+-- what a life adds: nothing where it doesn't open
+abbrev pub LifeAdds : World → Opening → List Reply → World → Type 0
+LifeAdds before (Fails fault) replies after = after.history ≡ before.history
+LifeAdds before (Opens numbers next gaps rows) replies after = AddsDrawn before replies after
+
+-- life by life
+abbrev pub LivesAdd : World → List Report → World → Type 0
+LivesAdd before [] after = after.history ≡ before.history
+LivesAdd before (report ∷ reports) after = (mid : World) × LifeAdds before report.opening report.replies mid × LivesAdd mid reports after
+
+abbrev pub WorldsAdd : Type 0
+WorldsAdd = (before : World) (asked : List Asked) (reports : List Report) (after : World) → IsWorld before → Lives before asked reports after → LivesAdd before reports after
 
 -- lost timestamps lie below those drawn from now on, and the history has none of them
 pub record StayOut (w : World) : Type 0 where

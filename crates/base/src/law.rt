@@ -1,6 +1,11 @@
 //! What follows from the definitions. The functions do nothing: the contract of each is a law.
 
-ghost use Rattle.base.specs.Laws.{SoundStands, OpenedGaps, OneGapList, OneOpening, HasRun, OneRecord, OneSpelling, FoundRecord, RefusedKeeps, FailedStays, OneReply, HasReply, HistoryGrows, AcknowledgedStays, CoveredIsKept, DrawnOnce, WorldsStand, WorldsGrow, NeverReturns, DrawnOnceOverLives, CloseTold};
+ghost use Rattle.base.specs.Laws.{EachFreshStands, SnapshotsStay, CyclesAreWhole, OthersKeepHand, WorldsAdd, AcknowledgedStaysOverLives, SoundStands, OpenedGaps, OneGapList, OneOpening, HasRun, OneRecord, OneSpelling, FoundRecord, RefusedKeeps, FailedStays, OneReply, HasReply, HistoryGrows, AcknowledgedStays, CoveredIsKept, DrawnOnce, WorldsStand, WorldsGrow, NeverReturns, DrawnOnceOverLives, CloseTold};
+
+/// A freshly formatted image, of each layout in the limits, stands for no commits, and opens.
+pub fn fresh_images_stand()
+    ensures { EachFreshStands }
+{}
 
 /// Every sound image stands for some history.
 pub fn sound_images_stand()
@@ -41,6 +46,17 @@ pub fn history_grows()
     ensures covered { CoveredIsKept }
 {}
 
+/// What an Active session sees stays the same, whatever other sessions and the committer do.
+pub fn snapshots_stay()
+    ensures { SnapshotsStay }
+{}
+
+/// A cycle that meets no fault is covered after as many ticks as its batch touches lines, and 41 more.
+pub fn cycles_are_whole()
+    ensures whole { CyclesAreWhole }
+    ensures others { OthersKeepHand }
+{}
+
 /// No timestamp is drawn twice, in a run or over lives.
 pub fn timestamps_are_drawn_once()
     ensures run { DrawnOnce }
@@ -51,6 +67,8 @@ pub fn timestamps_are_drawn_once()
 pub fn lives_keep_the_history()
     ensures stand { WorldsStand }
     ensures grow { WorldsGrow }
+    ensures add { WorldsAdd }
+    ensures acknowledged { AcknowledgedStaysOverLives }
     ensures told { CloseTold }
 {}
 
