@@ -7,8 +7,8 @@ use Rattle.std.proofs.lemmas.List.{length-take, length-drop, get_or-take, get_or
 use Rattle.std.proofs.lemmas.Grind.{same_number_lists}
 use Rattle.base.specs.declared.key.Key.{Key}
 use Rattle.base.specs.Layout.{Layout, slot_start, slot_words, total_words, row_limit}
-use Rattle.base.specs.Images.{Image, layout_of, key_of, row_of}
-use Rattle.invariant.specs.Slots.{word_of, is_misfit, HasVersion, Spells}
+use Rattle.base.specs.Images.{Image, layout_of, key_of, row_of, is_misfit}
+use Rattle.invariant.specs.Slots.{word_of, HasVersion, Spells}
 
 -- ---- ranges
 

@@ -1,15 +1,15 @@
 -- A batch of one commit is covered.
-use Rattle.std.proofs.Common.{◌||◌, ◌≡◌, ◌≢◌, ◌⊎◌, inl, inr, ℕ, ◌+◌, ◌<◌, ◌≤◌, Bool, true, false, cond, not, ◌&&◌, List, [], ◌∷◌, ◌++◌, filter, map, length, refl, sym, ◌∙◌, ap, subst, arith, Option, Some, None, find, is_some, append-nil, true≢false}
+use Rattle.std.proofs.Common.{◌||◌, ◌≡◌, ◌≢◌, ◌⊎◌, inl, inr, ℕ, ◌+◌, ◌<◌, ◌≤◌, Bool, true, false, cond, not, ◌&&◌, List, [], ◌∷◌, ◌++◌, filter, map, refl, sym, ◌∙◌, ap, subst, arith, Option, Some, None, find, is_some, append-nil, true≢false}
 use Rattle.std.specs.Prelude.{nat_eq, nat_lt, unwrap_or}
 use Rattle.std.specs.List.{list_any, list_all}
 use Rattle.std.proofs.lemmas.Bool.{eq-eqb, eqb-true, ne_eqb, and_parts, ltb-true, or_cases, false_from_ne_true}
 use Rattle.std.proofs.lemmas.List.Folds.{list_all-map}
 use Rattle.base.specs.declared.key.Key.{Key}
 use Rattle.base.specs.Keys.{lookup_key}
-use Rattle.base.specs.Commits.{Writes, Commit, after, writes_key, last_writer}
+use Rattle.base.specs.Commits.{Commit, after, writes_key, last_writer}
 use Rattle.base.specs.Records.{is_committed, are_rising}
 use Rattle.base.specs.Stands.{has_timestamp}
-use Rattle.base.specs.Machine.{State, Drawn, Hand, Version, Writer, BySession, ByCommit, drawn_at, present, state_covered}
+use Rattle.base.specs.Machine.{State, Drawn, Hand, Version, Writer, BySession, ByCommit, drawn_at, state_covered}
 use Rattle.pmem.specs.Device.{Device, value_of, IsSettled}
 use Rattle.pmem.proofs.Steps.{only-settled}
 use Rattle.invariant.specs.Slots.{word_of, IsCounted, Filled, Begun, Newest, Replaced, row_in, is_key_stamped, class_of_drawn, class_by, class_of_version, class_of, HoldsAs, IsLive, IsFilled, IsStamped, SlotHolds, SlotsHold}
@@ -17,20 +17,20 @@ use Rattle.invariant.specs.Kept.{IsKept, version_by, newest_of}
 use Rattle.invariant.specs.Moves.{Carries, EndCarries, IsSlotSettled, IsCommitSettled, CoversCommit, CoversNone}
 use Rattle.invariant.proofs.Moves.{within-slot, each-settled, each-weaken, ends-carry, ends-stay, newest-held, class-alike, slot-carries, shrinks-slot_refl}
 use Rattle.invariant.proofs.Living.{living-newest}
-use Rattle.invariant.proofs.Lookups.{key_eq-apart, cases-keys, find-passes, find-all}
+use Rattle.invariant.proofs.Lookups.{find-passes, find-all}
 use Rattle.invariant.proofs.Reaching.{well_formed-further, committed-this}
 use Rattle.invariant.proofs.Stamps.{stamped-writes, all-stamped, cases-held}
 use Rattle.invariant.proofs.Histories.{all-weaken, all-both, all-one_more, filter-all, rising-above, rising-rest, committed-further, after-append_one, last_writer-append_one, last_writer-covered, drawn_at-bounds}
 
 -- the state in which the commit is covered, and these are drawn still
 abbrev covered : State → Commit → List Drawn → ℕ → State
-covered q c rest dirty = record q { history = q.history ++ c ∷ []; drawn = rest; gate = q.gate + 1; persisted = c.timestamp; dirty = dirty; longs = []; hand = None }
+covered q c rest dirty = record q { history = q.history ++ c ∷ []; drawn = rest; ruling = record { gate = q.ruling.gate + 1; persisted = c.timestamp; dirty = dirty; gaps = q.ruling.gaps; longs = [] }; hand = None }
 
 -- ---- the batch
 
 module _ (q : State) (hand : Hand) (d : Drawn) (covers : CoversCommit q hand d) (kept : IsKept q) where
   abbrev now : State
-  now = covered q d.commit covers.others hand.dirty
+  now = covered q d.commit covers.others hand.target.dirty
 
   abbrev found_in : ℕ → Option Drawn
   found_in t = find (λ (e : Drawn). nat_eq e.commit.timestamp t) covers.others
@@ -71,18 +71,14 @@ module _ (q : State) (hand : Hand) (d : Drawn) (covers : CoversCommit q hand d) 
   found-still : (t : ℕ) (e : Drawn) → found_in t ≡ Some e → drawn_at q t ≡ Some e
   found-still t e found = drawn-other t (λ same. omega (arith, same, above t e found)) ∙ found
 
-  bounds : (q.persisted < d.commit.timestamp) × (d.commit.timestamp < q.next)
+  bounds : (q.ruling.persisted < d.commit.timestamp) × (d.commit.timestamp < q.next)
   bounds = let all = drawn_at-bounds q d.commit.timestamp d kept drawn-this in (all.1, all.2)
 
   as-covered : state_covered q hand ≡ now
   as-covered = λ i. record q {
     history = q.history ++ covers.commits i;
     drawn = dropped i;
-    gate = q.gate + 1;
-    persisted = covers.persisted i;
-    dirty = hand.dirty;
-    gaps = covers.gaps i;
-    longs = covers.longs i;
+    ruling = record { gate = covers.gate i; persisted = covers.persisted i; dirty = hand.target.dirty; gaps = covers.gaps i; longs = covers.longs i };
     hand = None;
   }
     where
@@ -103,20 +99,20 @@ module _ (q : State) (hand : Hand) (d : Drawn) (covers : CoversCommit q hand d) 
 
   -- ---- what is kept
 
-  counts : is_committed (present now).ruled_by d.commit.timestamp ≡ true
-  counts = committed-this q.layout.version (present q).ruled_by (present now).ruled_by kept.formed bounds.0 refl refl
+  counts : is_committed now.ruling d.commit.timestamp ≡ true
+  counts = committed-this q.layout.version q.ruling now.ruling kept.formed bounds.0 refl refl
 
-  counts-still : (t : ℕ) → is_committed (present q).ruled_by t ≡ true → is_committed (present now).ruled_by t ≡ true
-  counts-still t counted = committed-further (present q).ruled_by (present now).ruled_by t (omega (arith, bounds.0)) refl refl counted
+  counts-still : (t : ℕ) → is_committed q.ruling t ≡ true → is_committed now.ruling t ≡ true
+  counts-still t counted = committed-further q.ruling now.ruling t (omega (arith, bounds.0)) refl refl counted
 
   others-drawn : list_all (λ (e : Drawn). nat_lt d.commit.timestamp e.commit.timestamp && nat_lt e.commit.timestamp q.next) covers.others ≡ true
   others-drawn =
-      let all : list_all (λ (e : Drawn). nat_lt q.persisted e.commit.timestamp && nat_lt e.commit.timestamp q.next) (d ∷ covers.others) ≡ true =
-      ap (list_all (λ (e : Drawn). nat_lt q.persisted e.commit.timestamp && nat_lt e.commit.timestamp q.next)) (sym covers.drawn) ∙ kept.drawn in
-      let rest = and_parts (nat_lt q.persisted d.commit.timestamp && nat_lt d.commit.timestamp q.next) (list_all (λ (e : Drawn). nat_lt q.persisted e.commit.timestamp && nat_lt e.commit.timestamp q.next) covers.others) all in
+      let all : list_all (λ (e : Drawn). nat_lt q.ruling.persisted e.commit.timestamp && nat_lt e.commit.timestamp q.next) (d ∷ covers.others) ≡ true =
+      ap (list_all (λ (e : Drawn). nat_lt q.ruling.persisted e.commit.timestamp && nat_lt e.commit.timestamp q.next)) (sym covers.drawn) ∙ kept.drawn in
+      let rest = and_parts (nat_lt q.ruling.persisted d.commit.timestamp && nat_lt d.commit.timestamp q.next) (list_all (λ (e : Drawn). nat_lt q.ruling.persisted e.commit.timestamp && nat_lt e.commit.timestamp q.next) covers.others) all in
       all-both (λ (e : Drawn). nat_lt d.commit.timestamp e.commit.timestamp) (λ (e : Drawn). nat_lt e.commit.timestamp q.next) covers.others others-above
-      (all-weaken (λ (e : Drawn). nat_lt q.persisted e.commit.timestamp && nat_lt e.commit.timestamp q.next) (λ (e : Drawn). nat_lt e.commit.timestamp q.next) covers.others
-      (λ e both. (and_parts (nat_lt q.persisted e.commit.timestamp) (nat_lt e.commit.timestamp q.next) both).1) rest.1)
+      (all-weaken (λ (e : Drawn). nat_lt q.ruling.persisted e.commit.timestamp && nat_lt e.commit.timestamp q.next) (λ (e : Drawn). nat_lt e.commit.timestamp q.next) covers.others
+      (λ e both. (and_parts (nat_lt q.ruling.persisted e.commit.timestamp) (nat_lt e.commit.timestamp q.next) both).1) rest.1)
 
   -- a key's last writer is the commit, if it writes the key
   last-now : (key : Key) → last_writer (q.history ++ d.commit ∷ []) key ≡ cond (writes_key key d.commit) d.commit.timestamp (last_writer q.history key)
@@ -125,12 +121,12 @@ module _ (q : State) (hand : Hand) (d : Drawn) (covers : CoversCommit q hand d) 
   covered-kept : IsKept now
   covered-kept = record {
     layout = kept.layout;
-    formed = well_formed-further q.layout.version (present q).ruled_by (q.gate + 1) d.commit.timestamp hand.dirty kept.formed (omega (arith, bounds.0)) (omega (arith, bounds.1, covers.reserved)) covers.fits;
+    formed = well_formed-further q.layout.version q.ruling (q.ruling.gate + 1) d.commit.timestamp hand.target.dirty kept.formed (omega (arith, bounds.0)) (omega (arith, bounds.1, covers.reserved)) covers.fits;
     persisted = bounds.1;
     reserved = covers.reserved;
     no_longs = refl;
-    covered = all-one_more (λ (c : Commit). is_committed (present now).ruled_by c.timestamp) q.history d.commit
-        (all-weaken (λ (c : Commit). is_committed (present q).ruled_by c.timestamp) (λ (c : Commit). is_committed (present now).ruled_by c.timestamp) q.history (λ c e. counts-still c.timestamp e) kept.covered)
+    covered = all-one_more (λ (c : Commit). is_committed now.ruling c.timestamp) q.history d.commit
+        (all-weaken (λ (c : Commit). is_committed q.ruling c.timestamp) (λ (c : Commit). is_committed now.ruling c.timestamp) q.history (λ c e. counts-still c.timestamp e) kept.covered)
         counts;
     drawn = others-drawn;
     rising = rising-rest d.commit.timestamp (map (λ (e : Drawn). e.commit.timestamp) covers.others) rising-drawn;
@@ -259,7 +255,7 @@ module _ (q : State) (hand : Hand) (d : Drawn) (covers : CoversCommit q hand d) 
       live : IsLive now device slot key has.0
       live = record {
         begin = settled.each 0 (within-slot q.layout.version 0 (omega arith));
-        counted = ap (is_committed (present now).ruled_by) was.0.holds ∙ counts;
+        counted = ap (is_committed now.ruling) was.0.holds ∙ counts;
         end = each-weaken (λ x zero. inl (inl zero)) (each-settled record { settled = settled.each 1 (within-slot q.layout.version 1 (omega arith)); holds = was.1.ended });
         ended = λ t e found is. absurd (unstamped t e found is);
         settled = λ w two lt. settled.each w lt;
@@ -319,21 +315,17 @@ slots-cover_commit q hand d device covers up kept settled h =
 -- ---- a batch without commits
 
 abbrev covered_none : State → ℕ → State
-covered_none q dirty = record q { gate = q.gate + 1; dirty = dirty; longs = []; hand = None }
+covered_none q dirty = record q { ruling = record q.ruling { gate = q.ruling.gate + 1; dirty = dirty; longs = [] }; hand = None }
 
 none-dropped : (ds : List Drawn) → filter (λ (d : Drawn). not (has_timestamp [] d.commit.timestamp)) ds ≡ ds
 none-dropped [] = refl
 none-dropped (d ∷ ds) = ap (λ (es : List Drawn). d ∷ es) (none-dropped ds)
 
-as-covered_none : (q : State) (hand : Hand) → CoversNone q hand → state_covered q hand ≡ covered_none q hand.dirty
+as-covered_none : (q : State) (hand : Hand) → CoversNone q hand → state_covered q hand ≡ covered_none q hand.target.dirty
 as-covered_none q hand none = λ i. record q {
   history = same i;
   drawn = undropped i;
-  gate = q.gate + 1;
-  persisted = none.persisted i;
-  dirty = hand.dirty;
-  gaps = none.gaps i;
-  longs = none.longs i;
+  ruling = record { gate = none.gate i; persisted = none.persisted i; dirty = hand.target.dirty; gaps = none.gaps i; longs = none.longs i };
   hand = None;
 }
   where
@@ -343,15 +335,15 @@ as-covered_none q hand none = λ i. record q {
     undropped : filter (λ (d : Drawn). not (has_timestamp hand.commits d.commit.timestamp)) q.drawn ≡ q.drawn
     undropped = ap (λ (cs : List Commit). filter (λ (d : Drawn). not (has_timestamp cs d.commit.timestamp)) q.drawn) none.commits ∙ none-dropped q.drawn
 
-covered_none-kept : (q : State) (hand : Hand) → CoversNone q hand → IsKept q → IsKept (covered_none q hand.dirty)
+covered_none-kept : (q : State) (hand : Hand) → CoversNone q hand → IsKept q → IsKept (covered_none q hand.target.dirty)
 covered_none-kept q hand none kept = record {
   layout = kept.layout;
-  formed = well_formed-further q.layout.version (present q).ruled_by (q.gate + 1) q.persisted hand.dirty kept.formed (omega arith) (omega (arith, kept.persisted, none.reserved)) none.fits;
+  formed = well_formed-further q.layout.version q.ruling (q.ruling.gate + 1) q.ruling.persisted hand.target.dirty kept.formed (omega arith) (omega (arith, kept.persisted, none.reserved)) none.fits;
   persisted = kept.persisted;
   reserved = none.reserved;
   no_longs = refl;
-  covered = all-weaken (λ (c : Commit). is_committed (present q).ruled_by c.timestamp) (λ (c : Commit). is_committed (present (covered_none q hand.dirty)).ruled_by c.timestamp) q.history
-      (λ c e. committed-further (present q).ruled_by (present (covered_none q hand.dirty)).ruled_by c.timestamp (omega arith) refl refl e) kept.covered;
+  covered = all-weaken (λ (c : Commit). is_committed q.ruling c.timestamp) (λ (c : Commit). is_committed (covered_none q hand.target.dirty).ruling c.timestamp) q.history
+      (λ c e. committed-further q.ruling (covered_none q hand.target.dirty).ruling c.timestamp (omega arith) refl refl e) kept.covered;
   drawn = kept.drawn;
   rising = kept.rising;
   once = kept.once;
@@ -371,7 +363,7 @@ carries-covered_none : (q : State) (dirty : ℕ) → Carries q (covered_none q d
 carries-covered_none q dirty = record {
   next = omega arith;
   never = λ t never. never;
-  counted = λ t counted. committed-further (present q).ruled_by (present (covered_none q dirty)).ruled_by t (omega arith) refl refl counted;
+  counted = λ t counted. committed-further q.ruling (covered_none q dirty).ruling t (omega arith) refl refl counted;
   failed = λ up. up;
   waits = λ down key t drawn. inr drawn;
 }
@@ -380,8 +372,8 @@ pub slots-cover_none : (q : State) (hand : Hand) (device : Device) → CoversNon
 slots-cover_none q hand device none h =
     subst (λ (p : State). SlotsHold p device) (sym (as-covered_none q hand none)) record {
       each = λ slot lt.
-          slot-carries q (covered_none q hand.dirty) device device slot (carries-covered_none q hand.dirty)
-          (ends-stay q (covered_none q hand.dirty) _)
-          (class-alike q (covered_none q hand.dirty) (q.held slot) (λ n key is. refl))
+          slot-carries q (covered_none q hand.target.dirty) device device slot (carries-covered_none q hand.target.dirty)
+          (ends-stay q (covered_none q hand.target.dirty) _)
+          (class-alike q (covered_none q hand.target.dirty) (q.held slot) (λ n key is. refl))
           (shrinks-slot_refl q.layout device slot) (h.each slot lt);
     }

@@ -37,4 +37,5 @@ stands-in_hand q hand image under = record {
     reserved = under.stands.reserved;
   };
   ruled = under.ruled;
+  laid_out = under.laid_out;
 }

@@ -86,7 +86,7 @@ writes-others q n m apart = ap writes_of (replaced-other n (Some (Drew q.next)) 
 
 -- ---- what is kept
 
-drawn-kept : (q : State) (n : ℕ) (write : Key × Option (List ℕ)) (writes : Writes) → writes_of (q.sessions n) ≡ write ∷ writes → q.next < q.dirty → IsKept q → IsKept (state_drawn q n (write ∷ writes))
+drawn-kept : (q : State) (n : ℕ) (write : Key × Option (List ℕ)) (writes : Writes) → writes_of (q.sessions n) ≡ write ∷ writes → q.next < q.ruling.dirty → IsKept q → IsKept (state_drawn q n (write ∷ writes))
 drawn-kept q n write writes has_writes below_dirty kept = record {
   layout = kept.layout;
   formed = kept.formed;
@@ -94,13 +94,13 @@ drawn-kept q n write writes has_writes below_dirty kept = record {
   reserved = omega (arith, below_dirty);
   no_longs = kept.no_longs;
   covered = kept.covered;
-  drawn = all-one_more (λ d. nat_lt q.persisted d.commit.timestamp && nat_lt d.commit.timestamp (q.next + 1)) q.drawn (drawn_now q (write ∷ writes))
-      (all-weaken (λ d. nat_lt q.persisted d.commit.timestamp && nat_lt d.commit.timestamp q.next) (λ d. nat_lt q.persisted d.commit.timestamp && nat_lt d.commit.timestamp (q.next + 1)) q.drawn further kept.drawn)
-      (and_from (nat_lt q.persisted q.next) (nat_lt q.next (q.next + 1)) (lt-ltb q.persisted q.next kept.persisted) (lt-ltb q.next (q.next + 1) (omega arith)));
+  drawn = all-one_more (λ d. nat_lt q.ruling.persisted d.commit.timestamp && nat_lt d.commit.timestamp (q.next + 1)) q.drawn (drawn_now q (write ∷ writes))
+      (all-weaken (λ d. nat_lt q.ruling.persisted d.commit.timestamp && nat_lt d.commit.timestamp q.next) (λ d. nat_lt q.ruling.persisted d.commit.timestamp && nat_lt d.commit.timestamp (q.next + 1)) q.drawn further kept.drawn)
+      (and_from (nat_lt q.ruling.persisted q.next) (nat_lt q.next (q.next + 1)) (lt-ltb q.ruling.persisted q.next kept.persisted) (lt-ltb q.next (q.next + 1) (omega arith)));
   rising = ap are_rising (map-append (λ d. d.commit.timestamp) q.drawn (drawn_now q (write ∷ writes) ∷ []))
       ∙ rising-one_more (map (λ d. d.commit.timestamp) q.drawn) q.next kept.rising
       (list_all-map (λ x. nat_lt x q.next) (λ d. d.commit.timestamp) q.drawn
-      ∙ all-weaken (λ d. nat_lt q.persisted d.commit.timestamp && nat_lt d.commit.timestamp q.next) (λ d. nat_lt d.commit.timestamp q.next) q.drawn (λ d both. (and_parts (nat_lt q.persisted d.commit.timestamp) (nat_lt d.commit.timestamp q.next) both).1) kept.drawn);
+      ∙ all-weaken (λ d. nat_lt q.ruling.persisted d.commit.timestamp && nat_lt d.commit.timestamp q.next) (λ d. nat_lt d.commit.timestamp q.next) q.drawn (λ d both. (and_parts (nat_lt q.ruling.persisted d.commit.timestamp) (nat_lt d.commit.timestamp q.next) both).1) kept.drawn);
   once = λ a b w lt_a lt_b at_a at_b. once a b w lt_a lt_b (held-drawn n q.next (q.held a) w at_a) (held-drawn n q.next (q.held b) w at_b);
   owned = λ slot m k lt at. owned slot m k lt (held-drawn n q.next (q.held slot) (version_by k (BySession m)) at);
   owns = λ m k r is. owns m k r is (cases_eq m n);
@@ -111,11 +111,11 @@ drawn-kept q n write writes has_writes below_dirty kept = record {
   written = λ k slot lt at. written k slot lt (held-drawn n q.next (q.held slot) (newest_of q k) at);
 }
   where
-    further : (d : Drawn) → (nat_lt q.persisted d.commit.timestamp && nat_lt d.commit.timestamp q.next) ≡ true → (nat_lt q.persisted d.commit.timestamp && nat_lt d.commit.timestamp (q.next + 1)) ≡ true
+    further : (d : Drawn) → (nat_lt q.ruling.persisted d.commit.timestamp && nat_lt d.commit.timestamp q.next) ≡ true → (nat_lt q.ruling.persisted d.commit.timestamp && nat_lt d.commit.timestamp (q.next + 1)) ≡ true
     further d e =
-        let both = and_parts (nat_lt q.persisted d.commit.timestamp) (nat_lt d.commit.timestamp q.next) e in
+        let both = and_parts (nat_lt q.ruling.persisted d.commit.timestamp) (nat_lt d.commit.timestamp q.next) e in
         let lt : d.commit.timestamp < q.next = ltb-true d.commit.timestamp q.next both.1 in
-        and_from (nat_lt q.persisted d.commit.timestamp) (nat_lt d.commit.timestamp (q.next + 1)) both.0 (lt-ltb d.commit.timestamp (q.next + 1) (omega arith))
+        and_from (nat_lt q.ruling.persisted d.commit.timestamp) (nat_lt d.commit.timestamp (q.next + 1)) both.0 (lt-ltb d.commit.timestamp (q.next + 1) (omega arith))
 
     not_next : (slot t : ℕ) (k : Key) → slot < q.layout.slots → q.held slot ≡ Some (version_by k (ByCommit t)) → t ≡ q.next → ⊥
     not_next slot t k lt at is = let le : t < q.next = kept.before slot t k lt at in omega arith
@@ -244,7 +244,7 @@ drawn-slots q n write writes device has_writes kept h = record {
       (shrinks-slot_refl q.layout device slot) (h.each slot lt);
 }
 
-pub kept-draw : (q : State) (n : ℕ) (write : Key × Option (List ℕ)) (writes : Writes) → writes_of (q.sessions n) ≡ write ∷ writes → q.next < q.dirty → IsKept q → IsKept (next_state q (Draw n))
+pub kept-draw : (q : State) (n : ℕ) (write : Key × Option (List ℕ)) (writes : Writes) → writes_of (q.sessions n) ≡ write ∷ writes → q.next < q.ruling.dirty → IsKept q → IsKept (next_state q (Draw n))
 kept-draw q n write writes has_writes below_dirty kept = subst (λ (ws : Writes). IsKept (state_drawn q n ws)) (sym has_writes) (drawn-kept q n write writes has_writes below_dirty kept)
 
 pub slots-draw : (q : State) (n : ℕ) (write : Key × Option (List ℕ)) (writes : Writes) (device : Device) → writes_of (q.sessions n) ≡ write ∷ writes → IsKept q → SlotsHold q device → SlotsHold (next_state q (Draw n)) device

@@ -9,7 +9,7 @@ use Rattle.base.specs.declared.gap.Gap.{Gap}
 use Rattle.base.specs.Keys.{lookup_key}
 use Rattle.base.specs.Commits.{Commit, Tables, overlaid, laid, after, writes_key, last_writer}
 use Rattle.base.specs.Records.{Record, is_in, is_committed, are_rising}
-use Rattle.base.specs.Machine.{State, Drawn, drawn_at, present}
+use Rattle.base.specs.Machine.{State, Drawn, drawn_at}
 use Rattle.invariant.specs.Kept.{IsKept}
 use Rattle.invariant.proofs.Lookups.{find-passes, find-all}
 
@@ -138,17 +138,17 @@ folded-below r key (commit ∷ history) t le all =
     by_test true here = here
     by_test false here = le
 
-pub last_writer-covered : (q : State) (key : Key) → IsKept q → last_writer q.history key ≤ q.persisted
-last_writer-covered q key kept = folded-below (present q).ruled_by key q.history 0 (omega arith) kept.covered
+pub last_writer-covered : (q : State) (key : Key) → IsKept q → last_writer q.history key ≤ q.ruling.persisted
+last_writer-covered q key kept = folded-below q.ruling key q.history 0 (omega arith) kept.covered
 
 -- ---- drawn commits
 
 -- a drawn commit's timestamp is its own, above what is persisted and below the next one
-pub drawn_at-bounds : (q : State) (t : ℕ) (d : Drawn) → IsKept q → drawn_at q t ≡ Some d → (d.commit.timestamp ≡ t) × (q.persisted < t) × (t < q.next)
+pub drawn_at-bounds : (q : State) (t : ℕ) (d : Drawn) → IsKept q → drawn_at q t ≡ Some d → (d.commit.timestamp ≡ t) × (q.ruling.persisted < t) × (t < q.next)
 drawn_at-bounds q t d kept found =
     let is : d.commit.timestamp ≡ t = eqb-true d.commit.timestamp t (find-passes (λ d. nat_eq d.commit.timestamp t) q.drawn d found) in
-    let both = and_parts (nat_lt q.persisted d.commit.timestamp) (nat_lt d.commit.timestamp q.next) (find-all (λ d. nat_eq d.commit.timestamp t) (λ d. nat_lt q.persisted d.commit.timestamp && nat_lt d.commit.timestamp q.next) q.drawn d kept.drawn found) in
-    let low : q.persisted < d.commit.timestamp = ltb-true q.persisted d.commit.timestamp both.0 in
+    let both = and_parts (nat_lt q.ruling.persisted d.commit.timestamp) (nat_lt d.commit.timestamp q.next) (find-all (λ d. nat_eq d.commit.timestamp t) (λ d. nat_lt q.ruling.persisted d.commit.timestamp && nat_lt d.commit.timestamp q.next) q.drawn d kept.drawn found) in
+    let low : q.ruling.persisted < d.commit.timestamp = ltb-true q.ruling.persisted d.commit.timestamp both.0 in
     let high : d.commit.timestamp < q.next = ltb-true d.commit.timestamp q.next both.1 in
     (is, omega arith, omega arith)
 

@@ -7,7 +7,7 @@ use Rattle.base.specs.declared.key.Key.{Key}
 use Rattle.base.specs.Keys.{lookup_key}
 use Rattle.base.specs.Commits.{Commit, Tables, overlaid, laid, after, no_rows, writes_key, last_writer}
 use Rattle.base.specs.Records.{Record, is_in, is_committed}
-use Rattle.base.specs.Machine.{State, Drawn, present}
+use Rattle.base.specs.Machine.{State, Drawn}
 use Rattle.invariant.specs.Slots.{IsNever, is_drawn_on}
 
 -- ---- parts of the test
@@ -24,9 +24,9 @@ uncommitted-above r t h = and_left (nat_le 1 t && nat_le t r.persisted && not (i
 pub uncommitted-zero : (r : Record) → is_committed r 0 ≡ false
 uncommitted-zero r = refl
 
-pub uncommitted-never : (q : State) (t : ℕ) → IsNever q t → is_committed (present q).ruled_by t ≡ false
-uncommitted-never q t (inl e) = subst (λ (x : ℕ). is_committed (present q).ruled_by x ≡ false) (sym e) refl
-uncommitted-never q t (inr e) = uncommitted-gap (present q).ruled_by t e
+pub uncommitted-never : (q : State) (t : ℕ) → IsNever q t → is_committed q.ruling t ≡ false
+uncommitted-never q t (inl e) = subst (λ (x : ℕ). is_committed q.ruling x ≡ false) (sym e) refl
+uncommitted-never q t (inr e) = uncommitted-gap q.ruling t e
 
 -- ---- drawn commits
 
@@ -74,9 +74,9 @@ none-found persisted next t drawn all h = by (find (λ d. nat_eq d.commit.timest
     by None e = refl
     by (Some d) e = let more = above-found persisted next t d drawn all e in absurd (omega (arith, more, h))
 
-pub uncommitted-drawn : (q : State) (key : Key) (t : ℕ) → are_drawn q.persisted q.next q.drawn ≡ true → is_drawn_on q key t ≡ true
-    → is_committed (present q).ruled_by t ≡ false
-uncommitted-drawn q key t all e = uncommitted-above (present q).ruled_by t (above-drawn_on q.persisted q.next t key q.drawn all e)
+pub uncommitted-drawn : (q : State) (key : Key) (t : ℕ) → are_drawn q.ruling.persisted q.next q.drawn ≡ true → is_drawn_on q key t ≡ true
+    → is_committed q.ruling t ≡ false
+uncommitted-drawn q key t all e = uncommitted-above q.ruling t (above-drawn_on q.ruling.persisted q.next t key q.drawn all e)
 
 -- each drawn commit's timestamp is left out by a record that persists no more
 pub left_out : (r : Record) (next : ℕ) (found : Commit → Bool) (drawn : List Drawn) → are_drawn r.persisted next drawn ≡ true

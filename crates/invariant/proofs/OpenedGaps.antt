@@ -5,13 +5,9 @@ use Rattle.std.specs.List.{list_any, list_all}
 use Rattle.std.proofs.lemmas.Bool.{and_parts, and_from, or_cases, or_left, or_right, cases_lt, leb-true, ltb-true, le-leb, lt-ltb, le-ltb, eqb-true, false≢true}
 use Rattle.base.specs.declared.gap.Gap.{Gap}
 use Rattle.base.specs.Records.{Record, is_in, are_apart, are_rising, is_committed, is_well_formed}
-use Rattle.base.specs.Layout.{most_longs}
-use Rattle.base.specs.Openings.{IsOpenedGaps}
+use Rattle.base.specs.Layout.{Layout, most_longs}
+use Rattle.base.specs.Openings.{IsOpenedGaps, opening_record}
 use Rattle.invariant.proofs.Marks.{uncommitted-gap, uncommitted-above}
-
--- the record that an opening writes over this one
-abbrev pub record_over : Record → ℕ → List Gap → Record
-record_over r window gaps = record { gate = r.gate + 1; persisted = r.dirty - 1; dirty = r.dirty + window; gaps = gaps; longs = [] }
 
 -- ---- the same timestamps
 
@@ -31,14 +27,14 @@ covered-between : (g l m n : Bool) → m ≡ true → n ≡ true → (g || l || 
 covered-between g l m n hm hn = or_right (g || l) (m && n) (and_from m n hm hn)
 
 -- below the old dirty timestamp both records commit the same
-pub same-committed_over : (r : Record) (window : ℕ) (gaps : List Gap) (t : ℕ) → IsOpenedGaps r gaps → t < r.dirty
-    → is_committed (record_over r window gaps) t ≡ is_committed r t
-same-committed_over r window gaps t opened h = by (cases_lt r.persisted t)
+pub same-committed_over : (a : Layout) (r : Record) (gaps : List Gap) (t : ℕ) → IsOpenedGaps r gaps → t < r.dirty
+    → is_committed (opening_record a r gaps) t ≡ is_committed r t
+same-committed_over a r gaps t opened h = by (cases_lt r.persisted t)
   where
-    by : (r.persisted < t) ⊎ (t ≤ r.persisted) → is_committed (record_over r window gaps) t ≡ is_committed r t
+    by : (r.persisted < t) ⊎ (t ≤ r.persisted) → is_committed (opening_record a r gaps) t ≡ is_committed r t
     by (inl above) =
         let covered : is_in gaps t ≡ true = opened.same t ∙ covered-between (is_in r.gaps t) (list_any (nat_eq t) r.longs) (nat_lt r.persisted t) (nat_lt t r.dirty) (lt-ltb r.persisted t above) (lt-ltb t r.dirty h) in
-        uncommitted-gap (record_over r window gaps) t covered ∙ sym (uncommitted-above r t above)
+        uncommitted-gap (opening_record a r gaps) t covered ∙ sym (uncommitted-above r t above)
     by (inr below) =
         same-below (nat_le 1 t) (nat_le t (r.dirty - 1)) (nat_le t r.persisted) (is_in gaps t) (is_in r.gaps t) (list_any (nat_eq t) r.longs) (nat_lt r.persisted t) (nat_lt t r.dirty)
         (le-leb t (r.dirty - 1) (omega (arith, h))) (le-leb t r.persisted below) (opened.same t) (le-ltb r.persisted t below)
@@ -144,12 +140,12 @@ gaps-below version r gaps formed opened = up_to-in (r.dirty - 1) gaps opened.ord
               (omega (arith, from), omega (arith, to))
         ]
 
-pub formed-over : (version : ℕ) (r : Record) (window : ℕ) (gaps : List Gap) → is_well_formed version r ≡ true → IsOpenedGaps r gaps → length gaps ≤ 8 → 0 < window → r.dirty + window < 2 ^ 62
-    → is_well_formed version (record_over r window gaps) ≡ true
-formed-over version r window gaps well opened few some room =
+pub formed-over : (version : ℕ) (a : Layout) (r : Record) (gaps : List Gap) → is_well_formed version r ≡ true → IsOpenedGaps r gaps → length gaps ≤ 8 → 0 < a.window → r.dirty + a.window < 2 ^ 62
+    → is_well_formed version (opening_record a r gaps) ≡ true
+formed-over version a r gaps well opened few some room =
     let formed = formed-parts version r well in
     let less = formed.persisted in
-    all_parts (nat_lt (r.dirty - 1) (r.dirty + window)) (nat_lt (r.dirty + window) (2 ^ 62)) (nat_le (length gaps) 8) (nat_le 0 (most_longs version))
+    all_parts (nat_lt (r.dirty - 1) (r.dirty + a.window)) (nat_lt (r.dirty + a.window) (2 ^ 62)) (nat_le (length gaps) 8) (nat_le 0 (most_longs version))
     (are_up_to (r.dirty - 1) gaps) (are_apart gaps) true true
-    (lt-ltb (r.dirty - 1) (r.dirty + window) (omega (arith, less, some))) (lt-ltb (r.dirty + window) (2 ^ 62) room) (le-leb (length gaps) 8 few) (le-leb 0 (most_longs version) (omega arith))
+    (lt-ltb (r.dirty - 1) (r.dirty + a.window) (omega (arith, less, some))) (lt-ltb (r.dirty + a.window) (2 ^ 62) room) (le-leb (length gaps) 8 few) (le-leb 0 (most_longs version) (omega arith))
     (gaps-below version r gaps formed opened) opened.apart refl refl

@@ -1,6 +1,6 @@
 -- An opened state keeps what every state keeps, and its slots are as it says.
 use Rattle.std.proofs.Common.{◌≡◌, ◌⊎◌, inl, inr, ℕ, ◌+◌, ◌-◌, ◌*◌, ◌^◌, ◌<◌, ◌≤◌, Bool, true, false, not, ◌&&◌, ◌||◌, List, [], ◌∷◌, length, refl, sym, ◌∙◌, ap, subst, nat_eq, cond, arith}
-use Rattle.std.specs.Prelude.{slice_index, Option, Some, None, unwrap_or, is_some, nat_le, nat_lt, if◌then◌else◌, ◌↔◌}
+use Rattle.std.specs.Prelude.{slice_index, Option, Some, None, unwrap_or, is_some, nat_le, nat_lt, ◌↔◌}
 use Rattle.std.specs.List.{list_all, range_with_len}
 use Rattle.std.specs.Option.{option_or, option_map}
 use Rattle.std.proofs.lemmas.Nat.{mul-add-lt}
@@ -14,48 +14,20 @@ use Rattle.base.specs.Keys.{key_eq}
 use Rattle.base.specs.Commits.{Commit, after, last_writer}
 use Rattle.base.specs.Layout.{Layout, slot_words, total_words, is_between, is_in_limits, is_known_version, opened_version}
 use Rattle.base.specs.Records.{Record, record_word, record_in, is_record, is_in, is_committed, is_well_formed}
-use Rattle.base.specs.Images.{Image, layout_of, key_of, row_of, begin_of, end_of, is_live, ruling, ruling_place, place_words, greatest_gate, is_formatted, has_good_geometry, is_wrong_gate, is_ruled, is_bad_slot, damage, IsSound, opening_fault, needs_sweep}
+use Rattle.base.specs.Images.{Image, layout_of, key_of, row_of, begin_of, end_of, is_live, ruling, ruling_place, place_words, greatest_gate, is_formatted, has_good_geometry, is_wrong_gate, is_ruled, is_bad_slot, is_second, is_misfit, ShownUnder, damage, IsSound, opening_fault, needs_sweep}
 use Rattle.base.specs.Stands.{Stands}
-use Rattle.base.specs.Openings.{IsOpenedGaps, opened}
-use Rattle.base.specs.Machine.{State, Version, BySession, ByCommit, present}
+use Rattle.base.specs.Openings.{IsOpenedGaps, opening_record, held_under, opened_under, opened}
+use Rattle.base.specs.Machine.{State, Version, BySession, ByCommit}
 use Rattle.pmem.specs.Device.{Device, Survives, value_of, IsSettled, image_of}
 use Rattle.base.specs.Search.{first_below, first_of, some_if}
 use Rattle.base.proofs.Histories.{first_below-none, key_eq-same, no_bad_slot}
 use Rattle.pmem.proofs.Steps.{only-settled}
-use Rattle.invariant.specs.Slots.{word_of, is_misfit, IsDead, IsLive, Newest, Replaced, HoldsAs, class_of_version, Spells, SlotsHold}
+use Rattle.invariant.specs.Slots.{word_of, IsDead, IsLive, Newest, Replaced, HoldsAs, class_of_version, Spells, SlotsHold}
 use Rattle.invariant.specs.Kept.{IsKept, version_by}
 use Rattle.invariant.proofs.Marks.{committed-persisted, passes-last_writer}
 use Rattle.invariant.proofs.Congruence.{some_words, spells-image, spells-same}
-use Rattle.invariant.proofs.OpenedGaps.{record_over, same-committed_over, formed-over, formed-parts}
-use Rattle.invariant.proofs.Standing.{is_second_under, is_bad_under, ShownUnder, size-of, limits-of}
-
--- ---- the state, by a layout, a record and gaps
-
-abbrev pub held_by : Layout → Record → Image → List Commit → ℕ → Option Version
-held_by a r image history slot =
-    if nat_lt slot a.slots && is_live (is_committed r) image slot
-    then Some (version_by (key_of image slot) (ByCommit (last_writer history (key_of image slot))))
-    else None
-
-abbrev pub opened_under : Layout → Record → Image → List Commit → List ℕ → List Gap → State
-opened_under a r image history lost gaps = record {
-  layout = a;
-  history = history;
-  drawn = [];
-  lost = lost;
-  sessions = λ n. None;
-  gate = r.gate + 1;
-  persisted = r.dirty - 1;
-  dirty = r.dirty + a.window;
-  next = r.dirty;
-  gaps = gaps;
-  longs = [];
-  swept = false;
-  place = 0;
-  failed = false;
-  hand = None;
-  held = held_by a r image history;
-}
+use Rattle.invariant.proofs.OpenedGaps.{same-committed_over, formed-over, formed-parts}
+use Rattle.invariant.proofs.Standing.{size-of, limits-of}
 
 -- what an opening finds
 pub record IsOpening (a : Layout) (r : Record) (image : Image) (history : List Commit) (gaps : List Gap) : Type 0 where
@@ -64,7 +36,7 @@ pub record IsOpening (a : Layout) (r : Record) (image : Image) (history : List C
   pub size : length image ≡ total_words a
   pub formed : is_well_formed a.version r ≡ true
   pub room : r.dirty + 2 * a.window < 2 ^ 62
-  pub good : (slot : ℕ) → slot < a.slots → is_bad_under r image slot ≡ false
+  pub good : (slot : ℕ) → slot < a.slots → is_bad_slot r image slot ≡ false
   pub tables : (key : Key) (row : List ℕ) → ShownUnder r image key row ↔ (after history key ≡ Some row)
   pub covered : list_all (λ commit. is_committed r commit.timestamp) history ≡ true
   pub gaps_cover : IsOpenedGaps r gaps
@@ -91,22 +63,22 @@ pub record IsGood (r : Record) (image : Image) (slot : ℕ) : Type 0 where
   pub begin : begin_of image slot < r.dirty
   pub end : end_of image slot < r.dirty
   pub fits : is_live (is_committed r) image slot ≡ true → is_misfit image slot ≡ false
-  pub first : is_live (is_committed r) image slot ≡ true → is_second_under r image slot ≡ false
+  pub first : is_live (is_committed r) image slot ≡ true → is_second r image slot ≡ false
 
 live-parts : (live misfit second : Bool) → (live && (misfit || second)) ≡ false → live ≡ true → (misfit ≡ false) × (second ≡ false)
 live-parts true misfit second e is = or_parts misfit second e
 live-parts false misfit second e is = absurd (false≢true is)
 
-good-slot : (r : Record) (image : Image) (slot : ℕ) → is_bad_under r image slot ≡ false → IsGood r image slot
+good-slot : (r : Record) (image : Image) (slot : ℕ) → is_bad_slot r image slot ≡ false → IsGood r image slot
 good-slot r image slot e =
     let live : Bool = is_live (is_committed r) image slot in
-    let both = or_parts (nat_le r.dirty (begin_of image slot) || nat_le r.dirty (end_of image slot)) (live && (is_misfit image slot || is_second_under r image slot)) e in
+    let both = or_parts (nat_le r.dirty (begin_of image slot) || nat_le r.dirty (end_of image slot)) (live && (is_misfit image slot || is_second r image slot)) e in
     let marks = or_parts (nat_le r.dirty (begin_of image slot)) (nat_le r.dirty (end_of image slot)) both.0 in
     record {
       begin = leb-false r.dirty (begin_of image slot) marks.0;
       end = leb-false r.dirty (end_of image slot) marks.1;
-      fits = λ is. (live-parts live (is_misfit image slot) (is_second_under r image slot) both.1 is).0;
-      first = λ is. (live-parts live (is_misfit image slot) (is_second_under r image slot) both.1 is).1;
+      fits = λ is. (live-parts live (is_misfit image slot) (is_second r image slot) both.1 is).0;
+      first = λ is. (live-parts live (is_misfit image slot) (is_second r image slot) both.1 is).1;
     }
 
 not_some : (o : Option ℕ) → is_some o ≡ false → o ≡ None
@@ -145,20 +117,20 @@ cond-some : {X : Type 0} (b : Bool) (x y : X) → cond b (Some x) None ≡ Some 
 cond-some true x y e = (refl, cc)
 cond-some false x y e = cc
 
-held-as : (a : Layout) (r : Record) (image : Image) (history : List Commit) (slot : ℕ) (version : Version) → held_by a r image history slot ≡ Some version
+held-as : (a : Layout) (r : Record) (image : Image) (history : List Commit) (slot : ℕ) (version : Version) → held_under a r image history slot ≡ Some version
     → IsHeldAs r image history slot version
 held-as a r image history slot version e =
     let both = cond-some (nat_lt slot a.slots && is_live (is_committed r) image slot) (version_in image history slot) version e in
     record { live = (and_parts (nat_lt slot a.slots) (is_live (is_committed r) image slot) both.0).1; is = both.1 }
 
 held-live : (a : Layout) (r : Record) (image : Image) (history : List Commit) (slot : ℕ) → slot < a.slots → is_live (is_committed r) image slot ≡ true
-    → held_by a r image history slot ≡ Some (version_in image history slot)
+    → held_under a r image history slot ≡ Some (version_in image history slot)
 held-live a r image history slot h live =
     cond-true (nat_lt slot a.slots && is_live (is_committed r) image slot) (Some (version_in image history slot)) None
     (and_from (nat_lt slot a.slots) (is_live (is_committed r) image slot) (lt-ltb slot a.slots h) live)
 
 held-none : (a : Layout) (r : Record) (image : Image) (history : List Commit) (slot : ℕ) → is_live (is_committed r) image slot ≡ false
-    → held_by a r image history slot ≡ None
+    → held_under a r image history slot ≡ None
 held-none a r image history slot dead =
     cond-false (nat_lt slot a.slots && is_live (is_committed r) image slot) (Some (version_in image history slot)) None
     (and_right (nat_lt slot a.slots) (is_live (is_committed r) image slot) dead)
@@ -187,14 +159,14 @@ writer-before a r image history gaps key row opening e =
     let less = (formed-parts a.version r opening.formed).persisted in
     omega (arith, most, less)
 
-covered-over : (r : Record) (window : ℕ) (gaps : List Gap) (history : List Commit) → IsOpenedGaps r gaps → r.persisted < r.dirty
-    → list_all (λ commit. is_committed r commit.timestamp) history ≡ true → list_all (λ commit. is_committed (record_over r window gaps) commit.timestamp) history ≡ true
-covered-over r window gaps [] opened less all = refl
-covered-over r window gaps (commit ∷ history) opened less all =
+covered-over : (a : Layout) (r : Record) (gaps : List Gap) (history : List Commit) → IsOpenedGaps r gaps → r.persisted < r.dirty
+    → list_all (λ commit. is_committed r commit.timestamp) history ≡ true → list_all (λ commit. is_committed (opening_record a r gaps) commit.timestamp) history ≡ true
+covered-over a r gaps [] opened less all = refl
+covered-over a r gaps (commit ∷ history) opened less all =
     let both = and_parts (is_committed r commit.timestamp) (list_all (λ commit. is_committed r commit.timestamp) history) all in
     let most = committed-persisted r commit.timestamp both.0 in
-    and_from (is_committed (record_over r window gaps) commit.timestamp) (list_all (λ commit. is_committed (record_over r window gaps) commit.timestamp) history)
-    (same-committed_over r window gaps commit.timestamp opened (omega (arith, most, less)) ∙ both.0) (covered-over r window gaps history opened less both.1)
+    and_from (is_committed (opening_record a r gaps) commit.timestamp) (list_all (λ commit. is_committed (opening_record a r gaps) commit.timestamp) history)
+    (same-committed_over a r gaps commit.timestamp opened (omega (arith, most, less)) ∙ both.0) (covered-over a r gaps history opened less both.1)
 
 has-window : (a : Layout) → is_in_limits a ≡ true → 0 < a.window
 has-window a e =
@@ -218,11 +190,11 @@ opened-kept_under a r image history lost gaps opening =
     let less : r.persisted < r.dirty = formed.persisted in
     record {
       layout = opening.limits;
-      formed = formed-over a.version r a.window gaps opening.formed opening.gaps_cover opening.few (has-window a opening.limits) (narrower r.dirty a.window (2 ^ 62) opening.room);
+      formed = formed-over a.version a r gaps opening.formed opening.gaps_cover opening.few (has-window a opening.limits) (narrower r.dirty a.window (2 ^ 62) opening.room);
       persisted = omega (arith, less);
       reserved = omega arith;
       no_longs = refl;
-      covered = covered-over r a.window gaps history opening.gaps_cover less opening.covered;
+      covered = covered-over a r gaps history opening.gaps_cover less opening.covered;
       drawn = refl;
       rising = refl;
       once = λ x y version hx hy ex ey.
@@ -276,8 +248,8 @@ never-parts t persisted false h e = inl (by (nat_le 1 t) (nat_le t persisted) re
     by true false is most e = absurd (false≢true most)
     by false c is most e = let less = leb-false 1 t is in omega (arith, less)
 
-never-over : (r : Record) (window : ℕ) (gaps : List Gap) (t : ℕ) → IsOpenedGaps r gaps → t < r.dirty → is_committed r t ≡ false → (t ≡ 0) ⊎ (is_in gaps t ≡ true)
-never-over r window gaps t opened h e = never-parts t (r.dirty - 1) (is_in gaps t) (omega (arith, h)) (same-committed_over r window gaps t opened h ∙ e)
+never-over : (a : Layout) (r : Record) (gaps : List Gap) (t : ℕ) → IsOpenedGaps r gaps → t < r.dirty → is_committed r t ≡ false → (t ≡ 0) ⊎ (is_in gaps t ≡ true)
+never-over a r gaps t opened h e = never-parts t (r.dirty - 1) (is_in gaps t) (omega (arith, h)) (same-committed_over a r gaps t opened h ∙ e)
 
 holds-live : (a : Layout) (r : Record) (image : Image) (history : List Commit) (lost : List ℕ) (gaps : List Gap) (device : Device) (slot : ℕ) → IsOpening a r image history gaps
     → RestsOn a device image → slot < a.slots → is_live (is_committed r) image slot ≡ true
@@ -290,11 +262,11 @@ holds-live a r image history lost gaps device slot opening rests h live =
     let row : unwrap_or (after history (key_of image slot)) [] ≡ row_of image slot = ap (λ (o : Option (List ℕ)). unwrap_or o []) (live-row a r image history gaps slot opening h live) in
     record {
       begin = rests.settled slot 0 h (omega (arith, some_words a.version));
-      counted = subst (λ (t : ℕ). is_committed (record_over r a.window gaps) t ≡ true) (sym begin)
-          (same-committed_over r a.window gaps (begin_of image slot) opening.gaps_cover good.begin ∙ counts.0);
+      counted = subst (λ (t : ℕ). is_committed (opening_record a r gaps) t ≡ true) (sym begin)
+          (same-committed_over a r gaps (begin_of image slot) opening.gaps_cover good.begin ∙ counts.0);
       end = record {
         each = λ x there. inl (subst (λ (t : ℕ). (t ≡ 0) ⊎ (is_in gaps t ≡ true)) (sym (end-left a device image slot x opening.layout rests h there))
-            (never-over r a.window gaps (end_of image slot) opening.gaps_cover good.end (not-true (is_committed r (end_of image slot)) counts.1)));
+            (never-over a r gaps (end_of image slot) opening.gaps_cover good.end (not-true (is_committed r (end_of image slot)) counts.1)));
       };
       ended = λ t d found is. absurd (no-row d found);
       settled = λ w from to. rests.settled slot w h to;
@@ -311,16 +283,16 @@ holds-dead a r image history lost gaps device slot opening rests h dead = by (an
     by : (is_committed r (begin_of image slot) ≡ false) ⊎ (not (is_committed r (end_of image slot)) ≡ false) → IsDead (opened_under a r image history lost gaps) device slot
     by (inl unbegun) = inl (record {
       each = λ x there. subst (λ (t : ℕ). (t ≡ 0) ⊎ (is_in gaps t ≡ true)) (sym (begin-left a device image slot x opening.layout rests h there))
-          (never-over r a.window gaps (begin_of image slot) opening.gaps_cover (good-slot r image slot (opening.good slot h)).begin unbegun);
+          (never-over a r gaps (begin_of image slot) opening.gaps_cover (good-slot r image slot (opening.good slot h)).begin unbegun);
     })
     by (inr ended) = inr (record {
-      each = λ x there. subst (λ (t : ℕ). is_committed (record_over r a.window gaps) t ≡ true) (sym (end-left a device image slot x opening.layout rests h there))
-          (same-committed_over r a.window gaps (end_of image slot) opening.gaps_cover (good-slot r image slot (opening.good slot h)).end ∙ not-false (is_committed r (end_of image slot)) ended);
+      each = λ x there. subst (λ (t : ℕ). is_committed (opening_record a r gaps) t ≡ true) (sym (end-left a device image slot x opening.layout rests h there))
+          (same-committed_over a r gaps (end_of image slot) opening.gaps_cover (good-slot r image slot (opening.good slot h)).end ∙ not-false (is_committed r (end_of image slot)) ended);
     })
 
 holds-as : (a : Layout) (r : Record) (image : Image) (history : List Commit) (lost : List ℕ) (gaps : List Gap) (device : Device) (slot : ℕ) → IsOpening a r image history gaps
     → RestsOn a device image → slot < a.slots → (b : Bool) → is_live (is_committed r) image slot ≡ b
-    → HoldsAs (opened_under a r image history lost gaps) device slot (class_of_version (opened_under a r image history lost gaps) (held_by a r image history slot))
+    → HoldsAs (opened_under a r image history lost gaps) device slot (class_of_version (opened_under a r image history lost gaps) (held_under a r image history slot))
 holds-as a r image history lost gaps device slot opening rests h true live =
     subst (λ (o : Option Version). HoldsAs (opened_under a r image history lost gaps) device slot (class_of_version (opened_under a r image history lost gaps) o))
     (sym (held-live a r image history slot h live))
@@ -385,7 +357,7 @@ whole-of image sound =
     let parts = six-none (some_if (not (is_formatted image)) NotFormatted) (some_if (not (is_known_version (layout_of image).version)) (VersionFault (layout_of image).version))
     (some_if (not (has_good_geometry image)) BadGeometry) (option_map Damaged (first_below (layout_of image).places (is_wrong_gate image)))
     (some_if (not (is_ruled image)) (Damaged (ruling_place image)))
-    (option_map (λ slot. Damaged ((layout_of image).places + slot)) (first_below (layout_of image).slots (is_bad_slot image))) sound in
+    (option_map (λ slot. Damaged ((layout_of image).places + slot)) (first_below (layout_of image).slots (is_bad_slot (ruling image) image))) sound in
     record {
       known = not-false (is_known_version (layout_of image).version) (some_if-none (not (is_known_version (layout_of image).version)) (VersionFault (layout_of image).version) parts.0);
       geometry = not-false (has_good_geometry image) (some_if-none (not (has_good_geometry image)) BadGeometry parts.1);
@@ -446,9 +418,9 @@ rests_on-image device image sound is settled = record { settled = settled; holds
 
 -- a timestamp that was drawn before is committed under the opened state's record exactly when it was under the one that ruled
 pub same-committed : (image : Image) (history : List Commit) (lost : List ℕ) (gaps : List Gap) (t : ℕ) → IsOpenedGaps (ruling image) gaps → length gaps ≤ 8 → t < (ruling image).dirty
-    → is_committed (present (opened image history lost gaps)).ruled_by t ≡ is_committed (ruling image) t
+    → is_committed (opened image history lost gaps).ruling t ≡ is_committed (ruling image) t
 same-committed image history lost gaps t covers few h =
-    same-committed_over (ruling image) (layout_of image).window gaps t covers h
+    same-committed_over (layout_of image) (ruling image) gaps t covers h
 
 -- what an opening gives is kept
 pub opened-kept : (image : Image) (history drawn : List Commit) (next : ℕ) (lost : List ℕ) (gaps : List Gap) → opening_fault image ≡ None → Stands image history drawn next

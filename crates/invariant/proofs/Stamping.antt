@@ -7,19 +7,19 @@ use Rattle.std.proofs.lemmas.List.Folds.{list_all-map}
 use Rattle.base.specs.declared.key.Key.{Key}
 use Rattle.base.specs.declared.step.Step.TheVariants.{Stamp}
 use Rattle.base.specs.Keys.{key_eq, lookup_key}
-use Rattle.base.specs.Commits.{Writes, Commit, after, last_writer, writes_key}
+use Rattle.base.specs.Commits.{Commit, after, last_writer, writes_key}
 use Rattle.base.specs.Records.{are_rising}
 use Rattle.base.specs.Machine.{State, Drawn, Version, Writer, BySession, ByCommit, drawn_at, timestamp_of, counted, next_state}
 use Rattle.pmem.specs.Device.{Device, Survives}
 use Rattle.invariant.specs.Slots.{word_of, EachSurvivor, IsCounted, is_drawn_on, Filled, Begun, Newest, Replaced, row_in, is_key_stamped, class_of_drawn, class_by, class_of_version, class_of, HoldsAs, IsWaiting, IsLive, SlotHolds, SlotsHold}
 use Rattle.invariant.specs.Kept.{IsKept, version_by, newest_of}
-use Rattle.invariant.specs.Moves.{ShrinksWord, ShrinksOthers, IsStampedWith, IsEndedWith, HasStamps, IsHeldAt, StampsNext, IsHarmless, Carries, IsStampedBy, EndCarries}
+use Rattle.invariant.specs.Moves.{ShrinksWord, IsStampedWith, IsEndedWith, HasStamps, IsHeldAt, StampsNext, IsHarmless, Carries, IsStampedBy, EndCarries}
 use Rattle.invariant.proofs.Moves.{within-slot, each-shrinks, each-weaken, spells-same, filled-carries, ends-carry, newest-held, slot-carries, slot-shrink, slot-failed}
 use Rattle.invariant.proofs.Marks.{none-found}
 use Rattle.invariant.proofs.Lookups.{key_eq-refl, key_eq-apart, lookup-of_write}
 use Rattle.invariant.proofs.Histories.{all-weaken, find-any, any-take_more, last_writer-covered, drawn_at-bounds}
 use Rattle.invariant.proofs.Stamps.{stamped-writes}
-use Rattle.invariant.proofs.Ending.{cases-at, stamps-begun}
+use Rattle.invariant.proofs.Ending.{cases-at}
 
 abbrev with_stamp : State → ℕ → State
 with_stamp q t = record q { drawn = map (counted t) q.drawn }
@@ -78,9 +78,9 @@ kept-stamped q t kept = record {
   reserved = kept.reserved;
   no_longs = kept.no_longs;
   covered = kept.covered;
-  drawn = list_all-map (λ d. nat_lt q.persisted d.commit.timestamp && nat_lt d.commit.timestamp q.next) (counted t) q.drawn
-      ∙ all-weaken (λ d. nat_lt q.persisted d.commit.timestamp && nat_lt d.commit.timestamp q.next) (λ d. nat_lt q.persisted (counted t d).commit.timestamp && nat_lt (counted t d).commit.timestamp q.next) q.drawn
-      (λ d both. ap (λ (c : Commit). nat_lt q.persisted c.timestamp && nat_lt c.timestamp q.next) (counted-commit t d) ∙ both) kept.drawn;
+  drawn = list_all-map (λ d. nat_lt q.ruling.persisted d.commit.timestamp && nat_lt d.commit.timestamp q.next) (counted t) q.drawn
+      ∙ all-weaken (λ d. nat_lt q.ruling.persisted d.commit.timestamp && nat_lt d.commit.timestamp q.next) (λ d. nat_lt q.ruling.persisted (counted t d).commit.timestamp && nat_lt (counted t d).commit.timestamp q.next) q.drawn
+      (λ d both. ap (λ (c : Commit). nat_lt q.ruling.persisted c.timestamp && nat_lt c.timestamp q.next) (counted-commit t d) ∙ both) kept.drawn;
   rising = ap are_rising (timestamps-counted t q.drawn) ∙ kept.rising;
   once = kept.once;
   owned = kept.owned;
@@ -255,7 +255,7 @@ ended-live q drawn down old new slot t key row ends still this only live = recor
 
 -- the newest version of a key is of no drawn commit
 undrawn-newest : (q : State) (key : Key) → IsKept q → drawn_at q (last_writer q.history key) ≡ None
-undrawn-newest q key kept = none-found q.persisted q.next (last_writer q.history key) q.drawn kept.drawn (last_writer-covered q key kept)
+undrawn-newest q key kept = none-found q.ruling.persisted q.next (last_writer q.history key) q.drawn kept.drawn (last_writer-covered q key kept)
 
 class-newest : (q : State) (key : Key) → drawn_at q (last_writer q.history key) ≡ None → class_of_version q (Some (newest_of q key)) ≡ Newest key (unwrap_or (after q.history key) [])
 class-newest q key none =

@@ -12,13 +12,13 @@ use Rattle.base.specs.Commits.{after}
 use Rattle.base.specs.Layout.{Layout, total_words, is_in_limits, is_known_version, is_between}
 use Rattle.base.specs.Search.{first_below, first_of, some_if}
 use Rattle.base.specs.Records.{Record, is_committed}
-use Rattle.base.specs.Images.{Image, layout_of, is_formatted, has_good_geometry, is_wrong_gate, is_ruled, ruling_place, damage, begin_of, end_of, key_of, is_live, Shown, is_bad_slot, IsRuledBy}
+use Rattle.base.specs.Images.{Image, layout_of, is_formatted, has_good_geometry, is_wrong_gate, is_ruled, ruling_place, damage, begin_of, end_of, key_of, is_live, ShownUnder, is_bad_slot, is_second, is_misfit, ruling, IsRuledBy}
 use Rattle.base.proofs.Histories.{key_eq-true}
 use Rattle.base.specs.Stands.{has_timestamp}
-use Rattle.base.specs.Machine.{State, present, drawn_of}
+use Rattle.base.specs.Machine.{State, drawn_of}
 use Rattle.pmem.specs.Device.{Device, Survives, value_of}
 use Rattle.pmem.proofs.Steps.{only-settled}
-use Rattle.invariant.specs.Slots.{word_of, is_misfit, HasVersion, IsLive, SlotsHold}
+use Rattle.invariant.specs.Slots.{word_of, HasVersion, IsLive, SlotsHold}
 use Rattle.invariant.specs.Kept.{IsKept, newest_of}
 use Rattle.invariant.specs.Theorem.{SlotsSurvive, EveryImageStands}
 use Rattle.invariant.proofs.Marks.{left_out}
@@ -75,23 +75,23 @@ end-survives q device image slot left h =
 
 -- whether the slot is live by the state's record
 abbrev pub lives : State → Image → ℕ → Bool
-lives q image slot = is_live (is_committed (present q).ruled_by) image slot
+lives q image slot = is_live (is_committed q.ruling) image slot
 
 lives-not : (q : State) (device : Device) (image : Image) (slot : ℕ) → IsLeft q device image → slot < q.layout.slots → IsOut q device slot → lives q image slot ≡ false
 lives-not q device image slot left h (unbegun begin) =
-    and_left (is_committed (present q).ruled_by (begin_of image slot)) (not (is_committed (present q).ruled_by (end_of image slot)))
+    and_left (is_committed q.ruling (begin_of image slot)) (not (is_committed q.ruling (end_of image slot)))
     (begin.each (begin_of image slot) (begin-survives q device image slot left h))
 lives-not q device image slot left h (ended end) =
-    and_right (is_committed (present q).ruled_by (begin_of image slot)) (not (is_committed (present q).ruled_by (end_of image slot)))
-    (not_from_true (is_committed (present q).ruled_by (end_of image slot)) (end.each (end_of image slot) (end-survives q device image slot left h)))
+    and_right (is_committed q.ruling (begin_of image slot)) (not (is_committed q.ruling (end_of image slot)))
+    (not_from_true (is_committed q.ruling (end_of image slot)) (end.each (end_of image slot) (end-survives q device image slot left h)))
 
 lives-newest : (q : State) (device : Device) (image : Image) (slot : ℕ) (key : Key) (row : List ℕ) → IsLeft q device image → slot < q.layout.slots
     → IsLive q device slot key row → lives q image slot ≡ true
 lives-newest q device image slot key row left h live =
     let begin : begin_of image slot ≡ value_of device (word_of q.layout slot 0) = only-settled device (word_of q.layout slot 0) (begin_of image slot) live.begin (begin-survives q device image slot left h) in
-    and_from (is_committed (present q).ruled_by (begin_of image slot)) (not (is_committed (present q).ruled_by (end_of image slot)))
-    (subst (λ (t : ℕ). is_committed (present q).ruled_by t ≡ true) (sym begin) live.counted)
-    (not_from_false (is_committed (present q).ruled_by (end_of image slot))
+    and_from (is_committed q.ruling (begin_of image slot)) (not (is_committed q.ruling (end_of image slot)))
+    (subst (λ (t : ℕ). is_committed q.ruling t ≡ true) (sym begin) live.counted)
+    (not_from_false (is_committed q.ruling (end_of image slot))
     (uncounted-end q device slot key row left.kept.drawn live (end_of image slot) (end-survives q device image slot left h)))
 
 has-version : (q : State) (device : Device) (image : Image) (slot : ℕ) (key : Key) (row : List ℕ) → IsLeft q device image → slot < q.layout.slots
@@ -109,15 +109,6 @@ pub first_below-of_none : (n : ℕ) (test : ℕ → Bool) → ((k : ℕ) → k <
 first_below-of_none zero test each = refl
 first_below-of_none (suc n) test each =
     rw (first_below-of_none n test (λ k h. each k (omega (arith, h))), each n (omega arith)) refl
-
-abbrev pub is_second_under : Record → Image → ℕ → Bool
-is_second_under r image slot =
-    is_some (first_below slot (λ lower. is_live (is_committed r) image lower && key_eq (key_of image lower) (key_of image slot)))
-
-abbrev pub is_bad_under : Record → Image → ℕ → Bool
-is_bad_under r image slot =
-    nat_le r.dirty (begin_of image slot) || nat_le r.dirty (end_of image slot)
-    || (is_live (is_committed r) image slot && (is_misfit image slot || is_second_under r image slot))
 
 -- a lower slot with the key isn't live
 apart-lower : (q : State) (device : Device) (image : Image) (lower slot : ℕ) (key : Key) → IsLeft q device image → lower < slot → slot < q.layout.slots
@@ -139,35 +130,32 @@ apart-lower q device image lower slot key left less h held at = by (outcome-of q
         and_right (lives q image lower) (key_eq (key_of image lower) (key_of image slot)) (same other row living (key_eq (key_of image lower) (key_of image slot)) refl)
 
 not-second : (q : State) (device : Device) (image : Image) (slot : ℕ) (key : Key) → IsLeft q device image → slot < q.layout.slots
-    → q.held slot ≡ Some (newest_of q key) → key_of image slot ≡ key → is_second_under (present q).ruled_by image slot ≡ false
+    → q.held slot ≡ Some (newest_of q key) → key_of image slot ≡ key → is_second q.ruling image slot ≡ false
 not-second q device image slot key left h held at =
     ap (λ (o : Option ℕ). is_some o)
     (first_below-of_none slot (λ lower. lives q image lower && key_eq (key_of image lower) (key_of image slot))
     (λ lower less. apart-lower q device image lower slot key left less h held at))
 
-not-bad : (q : State) (device : Device) (image : Image) (slot : ℕ) → IsLeft q device image → slot < q.layout.slots → is_bad_under (present q).ruled_by image slot ≡ false
+not-bad : (q : State) (device : Device) (image : Image) (slot : ℕ) → IsLeft q device image → slot < q.layout.slots → is_bad_slot q.ruling image slot ≡ false
 not-bad q device image slot left h =
     let begin : begin_of image slot < q.next = (left.holds.each slot h).begin_before.each (begin_of image slot) (begin-survives q device image slot left h) in
     let end : end_of image slot < q.next = (left.holds.each slot h).end_before.each (end_of image slot) (end-survives q device image slot left h) in
-    let reserved : q.next ≤ q.dirty = left.kept.reserved in
-    or_from (nat_le q.dirty (begin_of image slot) || nat_le q.dirty (end_of image slot)) (lives q image slot && (is_misfit image slot || is_second_under (present q).ruled_by image slot))
-    (or_from (nat_le q.dirty (begin_of image slot)) (nat_le q.dirty (end_of image slot))
-    (lt-leb q.dirty (begin_of image slot) (omega (arith, begin, reserved))) (lt-leb q.dirty (end_of image slot) (omega (arith, end, reserved))))
+    let reserved : q.next ≤ q.ruling.dirty = left.kept.reserved in
+    or_from (nat_le q.ruling.dirty (begin_of image slot) || nat_le q.ruling.dirty (end_of image slot)) (lives q image slot && (is_misfit image slot || is_second q.ruling image slot))
+    (or_from (nat_le q.ruling.dirty (begin_of image slot)) (nat_le q.ruling.dirty (end_of image slot))
+    (lt-leb q.ruling.dirty (begin_of image slot) (omega (arith, begin, reserved))) (lt-leb q.ruling.dirty (end_of image slot) (omega (arith, end, reserved))))
     (by (outcome-of q device image slot left h))
   where
-    by : Outcome q device slot → lives q image slot && (is_misfit image slot || is_second_under (present q).ruled_by image slot) ≡ false
-    by (inr out) = and_left (lives q image slot) (is_misfit image slot || is_second_under (present q).ruled_by image slot) (lives-not q device image slot left h out)
+    by : Outcome q device slot → lives q image slot && (is_misfit image slot || is_second q.ruling image slot) ≡ false
+    by (inr out) = and_left (lives q image slot) (is_misfit image slot || is_second q.ruling image slot) (lives-not q device image slot left h out)
     by (inl (key, row, living)) =
         let version = has-version q device image slot key row left h living.live in
-        and_right (lives q image slot) (is_misfit image slot || is_second_under (present q).ruled_by image slot)
-        (or_from (is_misfit image slot) (is_second_under (present q).ruled_by image slot) version.fits (not-second q device image slot key left h living.held version.at))
+        and_right (lives q image slot) (is_misfit image slot || is_second q.ruling image slot)
+        (or_from (is_misfit image slot) (is_second q.ruling image slot) version.fits (not-second q device image slot key left h living.held version.at))
 
 -- ---- the tables
 
-abbrev pub ShownUnder : Record → Image → Key → List ℕ → Type 0
-ShownUnder r image = Shown (is_committed r) image
-
-shown-after : (q : State) (device : Device) (image : Image) (key : Key) (row : List ℕ) → IsLeft q device image → ShownUnder (present q).ruled_by image key row → after q.history key ≡ Some row
+shown-after : (q : State) (device : Device) (image : Image) (key : Key) (row : List ℕ) → IsLeft q device image → ShownUnder q.ruling image key row → after q.history key ≡ Some row
 shown-after q device image key row left (slot, h, live, at, is) = by (outcome-of q device image slot left within)
   where
     within : slot < q.layout.slots
@@ -182,7 +170,7 @@ shown-after q device image key row left (slot, h, live, at, is) = by (outcome-of
         let rows : found.0 ≡ row = sym (living.is ∙ ap (λ (o : Option (List ℕ)). unwrap_or o []) found.1) ∙ (sym version.is ∙ is) in
         subst (λ (k : Key). after q.history k ≡ Some row) keys (found.1 ∙ ap (λ (x : List ℕ). Some x) rows)
 
-after-shown : (q : State) (device : Device) (image : Image) (key : Key) (row : List ℕ) → IsLeft q device image → after q.history key ≡ Some row → ShownUnder (present q).ruled_by image key row
+after-shown : (q : State) (device : Device) (image : Image) (key : Key) (row : List ℕ) → IsLeft q device image → after q.history key ≡ Some row → ShownUnder q.ruling image key row
 after-shown q device image key row left e =
     let place = left.kept.rows key row e in
     let live : IsLive q device place.0 key row = living-newest q device place.0 key row left.kept (left.holds.each place.0 place.1) e place.2 in
@@ -200,7 +188,7 @@ passed b fault e = rw e refl
 unmet : (f : ℕ → Fault) (o : Option ℕ) → o ≡ None → option_map f o ≡ None
 unmet f o e = rw e refl
 
-sound-of : (a : Layout) (r : Record) (image : Image) → IsRuledBy a r image → ((slot : ℕ) → slot < a.slots → is_bad_under r image slot ≡ false) → damage image ≡ None
+sound-of : (a : Layout) (r : Record) (image : Image) → IsRuledBy a r image → ((slot : ℕ) → slot < a.slots → is_bad_slot r image slot ≡ false) → damage image ≡ None
 sound-of a r image ruled good =
     all-none _ _ _ _ _ _
     (passed (is_formatted image) NotFormatted ruled.formatted)
@@ -208,22 +196,23 @@ sound-of a r image ruled good =
     (passed (has_good_geometry image) BadGeometry ruled.geometry)
     (unmet Damaged (first_below (layout_of image).places (is_wrong_gate image)) (subst (λ (l : Layout). first_below l.places (is_wrong_gate image) ≡ None) (sym ruled.laid_out) ruled.gates))
     (passed (is_ruled image) (Damaged (ruling_place image)) ruled.well_ruled)
-    (unmet (λ slot. Damaged ((layout_of image).places + slot)) (first_below (layout_of image).slots (is_bad_slot image))
-    (first_below-of_none (layout_of image).slots (is_bad_slot image)
-    (λ slot h. subst (λ (s : Record). is_bad_under s image slot ≡ false) (sym ruled.by_record) (good slot (subst (λ (l : Layout). slot < l.slots) ruled.laid_out h)))))
+    (unmet (λ slot. Damaged ((layout_of image).places + slot)) (first_below (layout_of image).slots (is_bad_slot (ruling image) image))
+    (first_below-of_none (layout_of image).slots (is_bad_slot (ruling image) image)
+    (λ slot h. subst (λ (s : Record). is_bad_slot s image slot ≡ false) (sym ruled.by_record) (good slot (subst (λ (l : Layout). slot < l.slots) ruled.laid_out h)))))
 
 pub every-image-stands : EveryImageStands
 every-image-stands q device image kept holds survive ruled =
     let left : IsLeft q device image = record { kept = kept; holds = holds; survive = survive; layout = ruled.laid_out; size = size-of q.layout image ruled.laid_out ruled.geometry } in
     record {
       stands = record {
-        sound = sound-of q.layout (present q).ruled_by image ruled (λ slot h. not-bad q device image slot left h);
+        sound = sound-of q.layout q.ruling image ruled (λ slot h. not-bad q device image slot left h);
         tables = λ key row. subst (λ (r : Record). ShownUnder r image key row ↔ (after q.history key ≡ Some row)) (sym ruled.by_record)
             (shown-after q device image key row left, after-shown q device image key row left);
         covered = subst (λ (r : Record). IsTrue (list_all (λ commit. is_committed r commit.timestamp) q.history)) (sym ruled.by_record) kept.covered;
         left_out = subst (λ (r : Record). IsTrue (list_all (λ commit. has_timestamp q.history commit.timestamp || not (is_committed r commit.timestamp)) (drawn_of q))) (sym ruled.by_record)
-            (left_out (present q).ruled_by q.next (λ commit. has_timestamp q.history commit.timestamp) q.drawn kept.drawn);
+            (left_out q.ruling q.next (λ commit. has_timestamp q.history commit.timestamp) q.drawn kept.drawn);
         reserved = subst (λ (r : Record). q.next ≤ r.dirty) (sym ruled.by_record) kept.reserved;
       };
       ruled = ruled.by_record;
+      laid_out = ruled.laid_out;
     }

@@ -6,7 +6,7 @@ use Rattle.base.specs.Keys.{lookup_key}
 use Rattle.base.specs.Commits.{after, last_writer}
 use Rattle.base.specs.Layout.{is_in_limits}
 use Rattle.base.specs.Records.{is_committed, is_well_formed, are_rising}
-use Rattle.base.specs.Machine.{State, Drawn, Version, Writer, BySession, ByCommit, drawn_at, writes_of, present}
+use Rattle.base.specs.Machine.{State, Drawn, Version, Writer, BySession, ByCommit, drawn_at, writes_of}
 
 abbrev pub version_by : Key → Writer → Version
 version_by key writer = record { key = key; writer = writer }
@@ -17,13 +17,13 @@ newest_of q key = version_by key (ByCommit (last_writer q.history key))
 
 pub record IsKept (q : State) : Type 0 where
   pub layout : IsTrue (is_in_limits q.layout)
-  pub formed : IsTrue (is_well_formed q.layout.version (present q).ruled_by)
-  pub persisted : q.persisted < q.next
-  pub reserved : q.next ≤ q.dirty
-  pub no_longs : q.longs ≡ []
+  pub formed : IsTrue (is_well_formed q.layout.version q.ruling)
+  pub persisted : q.ruling.persisted < q.next
+  pub reserved : q.next ≤ q.ruling.dirty
+  pub no_longs : q.ruling.longs ≡ []
   -- what is covered is committed, and what is drawn comes after it
-  pub covered : IsTrue (list_all (λ commit. is_committed (present q).ruled_by commit.timestamp) q.history)
-  pub drawn : IsTrue (list_all (λ d. nat_lt q.persisted d.commit.timestamp && nat_lt d.commit.timestamp q.next) q.drawn)
+  pub covered : IsTrue (list_all (λ commit. is_committed q.ruling commit.timestamp) q.history)
+  pub drawn : IsTrue (list_all (λ d. nat_lt q.ruling.persisted d.commit.timestamp && nat_lt d.commit.timestamp q.next) q.drawn)
   pub rising : IsTrue (are_rising (map (λ d. d.commit.timestamp) q.drawn))
   -- a version has one slot
   pub once : (a b : ℕ) (version : Version) → a < q.layout.slots → b < q.layout.slots → q.held a ≡ Some version → q.held b ≡ Some version → a ≡ b

@@ -1,9 +1,9 @@
 -- How the device and the state may move under what a slot holds.
-use Rattle.std.specs.Prelude.{◌≡◌, ◌⊎◌, ℕ, ◌^◌, ◌<◌, ◌≤◌, true, false, not, List, [], ◌∷◌, slice_get, IsTrue, Option, Some, None}
+use Rattle.std.specs.Prelude.{◌≡◌, ◌⊎◌, ℕ, ◌+◌, ◌^◌, ◌<◌, ◌≤◌, true, false, not, List, [], ◌∷◌, slice_get, IsTrue, Option, Some}
 use Rattle.std.specs.List.{list_all}
 use Rattle.base.specs.declared.key.Key.{Key}
 use Rattle.base.specs.Layout.{Layout, slot_words}
-use Rattle.base.specs.Commits.{after, writes_key}
+use Rattle.base.specs.Commits.{writes_key}
 use Rattle.base.specs.Machine.{State, Drawn, Hand, Version, ByCommit, drawn_at, is_stamped}
 use Rattle.pmem.specs.Device.{Device, Survives, value_of, IsSettled}
 use Rattle.invariant.specs.Slots.{word_of, EachSurvivor, IsSettledAt, Spells, IsNever, IsCounted, is_drawn_on, is_key_stamped, Class, Newest}
@@ -108,25 +108,27 @@ pub record CoversCommit (q : State) (hand : Hand) (d : Drawn) : Type 0 where
   pub stamped : is_stamped d ≡ true
   pub alone : (key : Key) → writes_key key d.commit ≡ true → list_all (λ e. not (writes_key key e.commit)) others ≡ true
   pub commits : hand.commits ≡ d.commit ∷ []
-  pub persisted : hand.persisted ≡ d.commit.timestamp
-  pub gaps : hand.gaps ≡ q.gaps
-  pub longs : hand.longs ≡ []
-  pub reserved : q.next ≤ hand.dirty
-  pub fits : hand.dirty < 2 ^ 62
+  pub gate : hand.target.gate ≡ q.ruling.gate + 1
+  pub persisted : hand.target.persisted ≡ d.commit.timestamp
+  pub gaps : hand.target.gaps ≡ q.ruling.gaps
+  pub longs : hand.target.longs ≡ []
+  pub reserved : q.next ≤ hand.target.dirty
+  pub fits : hand.target.dirty < 2 ^ 62
 
 -- what the commit's versions have in their slots persists, and so do the ends of the versions that they replace
 pub record IsCommitSettled (q : State) (device : Device) (d : Drawn) : Type 0 where
   pub own : (slot : ℕ) (key : Key) → slot < q.layout.slots → q.held slot ≡ Some (version_by key (ByCommit d.commit.timestamp)) → IsSlotSettled q.layout device slot
   pub ended : (slot : ℕ) (key : Key) → slot < q.layout.slots → writes_key key d.commit ≡ true → q.held slot ≡ Some (newest_of q key) → IsSettled device (word_of q.layout slot 1)
 
--- the batch in hand has no commits, and its record says what is said now but for the dirty timestamp
+-- the batch in hand has no commits, and its record says what is said now but for its number and the dirty timestamp
 pub record CoversNone (q : State) (hand : Hand) : Type 0 where
   pub commits : hand.commits ≡ []
-  pub persisted : hand.persisted ≡ q.persisted
-  pub gaps : hand.gaps ≡ q.gaps
-  pub longs : hand.longs ≡ []
-  pub reserved : q.next ≤ hand.dirty
-  pub fits : hand.dirty < 2 ^ 62
+  pub gate : hand.target.gate ≡ q.ruling.gate + 1
+  pub persisted : hand.target.persisted ≡ q.ruling.persisted
+  pub gaps : hand.target.gaps ≡ q.ruling.gaps
+  pub longs : hand.target.longs ≡ []
+  pub reserved : q.next ≤ hand.target.dirty
+  pub fits : hand.target.dirty < 2 ^ 62
 
 -- the state with this layout
 abbrev pub laid_out : Layout → State → State
@@ -138,11 +140,7 @@ alike q p = record p {
   layout = q.layout;
   history = q.history;
   drawn = q.drawn;
-  gate = q.gate;
-  persisted = q.persisted;
-  dirty = q.dirty;
+  ruling = q.ruling;
   next = q.next;
-  gaps = q.gaps;
-  longs = q.longs;
   held = q.held;
 }

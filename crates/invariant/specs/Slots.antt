@@ -1,13 +1,13 @@
 -- What may survive in each word of each slot, from the plain state.
-use Rattle.std.specs.Prelude.{◌≡◌, ◌⊎◌, ℕ, ◌+◌, ◌/◌, ◌%◌, ◌^◌, ◌<◌, ◌≤◌, Bool, true, false, ◌&&◌, ◌||◌, not, nat_eq, nat_lt, if◌then◌else◌, List, [], length, take, drop, slice_index, IsTrue, Option, Some, None, unwrap_or}
-use Rattle.std.specs.List.{list_any, list_all}
+use Rattle.std.specs.Prelude.{◌≡◌, ◌⊎◌, ℕ, ◌+◌, ◌<◌, ◌≤◌, Bool, true, false, ◌&&◌, nat_eq, if◌then◌else◌, List, [], length, take, slice_index, IsTrue, Option, Some, None, unwrap_or}
+use Rattle.std.specs.List.{list_any}
 use Rattle.base.specs.declared.key.Key.{Key}
 use Rattle.base.specs.Keys.{key_eq, lookup_key}
 use Rattle.base.specs.Commits.{Writes, after, last_writer, writes_key}
-use Rattle.base.specs.Layout.{Layout, slot_start, slot_words, total_words, row_limit}
+use Rattle.base.specs.Layout.{Layout, slot_start, slot_words, total_words}
 use Rattle.base.specs.Records.{is_in, is_committed}
-use Rattle.base.specs.Images.{Image, layout_of, key_of, row_of, len_of, link_of, bytes_of, slot_word}
-use Rattle.base.specs.Machine.{State, Drawn, Version, Writer, BySession, ByCommit, drawn_at, writes_of, present}
+use Rattle.base.specs.Images.{Image, layout_of, key_of, row_of, is_misfit}
+use Rattle.base.specs.Machine.{State, Drawn, Version, Writer, BySession, ByCommit, drawn_at, writes_of}
 use Rattle.pmem.specs.Device.{Device, Survives, value_of, IsSettled}
 
 -- ---- words
@@ -27,14 +27,6 @@ pub record IsSettledAt (device : Device) (word value : ℕ) : Type 0 where
 
 -- ---- versions
 
--- a live slot with such words would be bad, whatever the other slots are
-abbrev pub is_misfit : Image → ℕ → Bool
-is_misfit image slot =
-    nat_lt (row_limit (layout_of image).version) (len_of image slot)
-    || not (nat_eq (slot_word image slot 3 / 2 ^ 24 % 2 ^ 8) 0)
-    || not (list_all (nat_eq 0) (drop (len_of image slot) (bytes_of image slot)))
-    || nat_lt (layout_of image).slots (link_of image slot)
-
 -- the slot has this row under this key
 pub record HasVersion (image : Image) (slot : ℕ) (key : Key) (row : List ℕ) : Type 0 where
   pub at : key_of image slot ≡ key
@@ -51,11 +43,11 @@ pub record Spells (a : Layout) (value : ℕ → ℕ) (slot : ℕ) (key : Key) (r
 
 -- no record of this life commits it: it is 0, or lies in a gap
 abbrev pub IsNever : State → ℕ → Type 0
-IsNever q t = (t ≡ 0) ⊎ IsTrue (is_in q.gaps t)
+IsNever q t = (t ≡ 0) ⊎ IsTrue (is_in q.ruling.gaps t)
 
 -- the ruling record commits it, and so does each later one
 abbrev pub IsCounted : State → ℕ → Type 0
-IsCounted q t = IsTrue (is_committed (present q).ruled_by t)
+IsCounted q t = IsTrue (is_committed q.ruling t)
 
 -- it is the timestamp of a drawn commit that writes the key
 abbrev pub is_drawn_on : State → Key → ℕ → Bool

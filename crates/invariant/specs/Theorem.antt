@@ -15,4 +15,4 @@ pub record SlotsSurvive (a : Layout) (device : Device) (image : Image) : Type 0 
 abbrev pub EveryImageStands : Type 0
 EveryImageStands =
     (q : State) (device : Device) (image : Image) → IsKept q → SlotsHold q device → SlotsSurvive q.layout device image
-    → IsRuledBy q.layout (present q).ruled_by image → StandsUnder q (present q) image
+    → IsRuledBy q.layout q.ruling image → StandsUnder q (present q) image

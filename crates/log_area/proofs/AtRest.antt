@@ -8,7 +8,7 @@ use Rattle.base.specs.Layout.{Layout, place_start, total_words, is_in_limits}
 use Rattle.base.specs.Records.{Record, IsRecord, record_word}
 use Rattle.base.specs.Search.{first_below, first_of, some_if}
 use Rattle.base.proofs.Histories.{first_below-none}
-use Rattle.base.specs.Images.{Image, superblock_word, layout_of, gate_at, place_words, is_wrong_gate, greatest_gate, ruling_place, is_bad_slot, damage, IsRuledBy, place_of}
+use Rattle.base.specs.Images.{Image, superblock_word, layout_of, gate_at, place_words, is_wrong_gate, greatest_gate, ruling_place, ruling, is_bad_slot, damage, IsRuledBy, place_of}
 use Rattle.pmem.specs.Device.{Device, image_of, IsAtRest}
 use Rattle.log_area.specs.Rulings.{Holds, IsLaidOut, IsEarlierGate, IsRecordFor, HoldsRecord, superblock_words, gate_word}
 use Rattle.base.proofs.Spelling.{get_or-range, is_record-holds}
@@ -21,10 +21,10 @@ module _ (layout : Layout) (r : Record) (image : Image) (is : IsRuledBy layout r
   laid = record { formatted = is.formatted; geometry = is.geometry; laid_out = is.laid_out }
 
   -- where no slot is bad either, nothing is wrong
-  pub ruled_sound : first_below layout.slots (is_bad_slot image) ≡ None → damage image ≡ None
+  pub ruled_sound : first_below layout.slots (is_bad_slot (ruling image) image) ≡ None → damage image ≡ None
   ruled_sound slots =
       let gates : first_below (layout_of image).places (is_wrong_gate image) ≡ None = ap (λ (l : Layout). first_below l.places (is_wrong_gate image)) is.laid_out ∙ is.gates in
-      let none : first_below (layout_of image).slots (is_bad_slot image) ≡ None = ap (λ (l : Layout). first_below l.slots (is_bad_slot image)) is.laid_out ∙ slots in
+      let none : first_below (layout_of image).slots (is_bad_slot (ruling image) image) ≡ None = ap (λ (l : Layout). first_below l.slots (is_bad_slot (ruling image) image)) is.laid_out ∙ slots in
       (λ i. first_of (
       some_if (not (is.formatted i)) NotFormatted
       ∷ some_if (not (laid_known layout image laid i)) (Version (layout_of image).version)

@@ -10,9 +10,9 @@ use Rattle.base.specs.declared.fault.Fault.TheVariants.{BadGeometry, NotFormatte
 use Rattle.base.specs.Layout.{Layout, newest_version, is_known_version}
 use Rattle.base.specs.Records.{Record, with_gap, opened_gaps, is_well_formed}
 use Rattle.base.specs.Search.{first_below, some_if}
-use Rattle.base.specs.Images.{Image, damage, layout_of, is_formatted, has_good_geometry, is_wrong_gate, is_ruled, ruling_place, is_bad_slot, is_near_limit, needs_sweep, opening_fault, IsRuledBy}
+use Rattle.base.specs.Images.{Image, damage, layout_of, is_formatted, has_good_geometry, is_wrong_gate, is_ruled, ruling_place, ruling, is_bad_slot, is_near_limit, needs_sweep, opening_fault, IsRuledBy}
 use Rattle.log_area.specs.Rulings.{log_damage}
-use Rattle.recovery.specs.Opened.{opened_record}
+use Rattle.base.specs.Openings.{opening_record}
 use Rattle.recovery.proofs.Formed.{IsFormed}
 use Rattle.recovery.proofs.Added.{opens, opened-gaps}
 use Rattle.recovery.proofs.Opens.{sound-faultless, known-good}
@@ -69,7 +69,7 @@ opened-within r is =
     by false e all = all
 
 -- the record that an opening writes
-pub opened-formed : (layout : Layout) (r : Record) → IsFormed r → r.dirty + 2 * layout.window < 2 ^ 62 → length (opened_gaps r) ≤ 8 → is_well_formed newest_version (opened_record layout r) ≡ true
+pub opened-formed : (layout : Layout) (r : Record) → IsFormed r → r.dirty + 2 * layout.window < 2 ^ 62 → length (opened_gaps r) ≤ 8 → is_well_formed newest_version (opening_record layout r (opened_gaps r)) ≡ true
 opened-formed layout r is limit few =
     let rising : r.persisted < r.dirty = is.rising in
     and_from _ _ (and_from _ _ (and_from _ _ (and_from _ _ (and_from _ _ (and_from _ _
@@ -91,17 +91,17 @@ pub fault-log : (image : Image) (fault : Fault) → log_damage image ≡ Some fa
 fault-log image fault is =
     chain (some_if (not (is_formatted image)) NotFormatted) (some_if (not (is_known_version (layout_of image).version)) (Version (layout_of image).version)) (some_if (not (has_good_geometry image)) BadGeometry)
     (option_map Damaged (first_below (layout_of image).places (is_wrong_gate image))) (some_if (not (is_ruled image)) (Damaged (ruling_place image)))
-    (option_map (λ slot. Damaged ((layout_of image).places + slot)) (first_below (layout_of image).slots (is_bad_slot image)))
+    (option_map (λ slot. Damaged ((layout_of image).places + slot)) (first_below (layout_of image).slots (is_bad_slot (ruling image) image)))
     (option_or (some_if (is_near_limit image) TimestampsOut) (option_or (some_if (needs_sweep image) GapsFull) None)) fault is
 
 module _ (layout : Layout) (r : Record) (image : Image) (rules : IsRuledBy layout r image) where
   gates-none : first_below (layout_of image).places (is_wrong_gate image) ≡ None
   gates-none = subst (λ (n : ℕ). first_below n (is_wrong_gate image) ≡ None) (sym (ap (λ (l : Layout). l.places) rules.laid_out)) rules.gates
 
-  pub fault-slots : (fault : Fault) → option_map (λ slot. Damaged (layout.places + slot)) (first_below layout.slots (is_bad_slot image)) ≡ Some fault → opening_fault image ≡ Some fault
+  pub fault-slots : (fault : Fault) → option_map (λ slot. Damaged (layout.places + slot)) (first_below layout.slots (is_bad_slot (ruling image) image)) ≡ Some fault → opening_fault image ≡ Some fault
   fault-slots fault is =
-      let here : option_map (λ slot. Damaged ((layout_of image).places + slot)) (first_below (layout_of image).slots (is_bad_slot image)) ≡ Some fault =
-      ap (λ (l : Layout). option_map (λ slot. Damaged (l.places + slot)) (first_below l.slots (is_bad_slot image))) rules.laid_out ∙ is in
+      let here : option_map (λ slot. Damaged ((layout_of image).places + slot)) (first_below (layout_of image).slots (is_bad_slot (ruling image) image)) ≡ Some fault =
+      ap (λ (l : Layout). option_map (λ slot. Damaged (l.places + slot)) (first_below l.slots (is_bad_slot (ruling image) image))) rules.laid_out ∙ is in
       λ i. option_or (option_or (some_if (not (rules.formatted i)) NotFormatted)
       (option_or (some_if (not (known-good image rules.geometry i)) (Version (layout_of image).version))
       (option_or (some_if (not (rules.geometry i)) BadGeometry)
@@ -110,14 +110,14 @@ module _ (layout : Layout) (r : Record) (image : Image) (rules : IsRuledBy layou
       (option_or (here i) None))))))
       (option_or (some_if (is_near_limit image) TimestampsOut) (option_or (some_if (needs_sweep image) GapsFull) None))
 
-  pub no-damage : first_below layout.slots (is_bad_slot image) ≡ None → damage image ≡ None
+  pub no-damage : first_below layout.slots (is_bad_slot (ruling image) image) ≡ None → damage image ≡ None
   no-damage none = sound-faultless image (record {
     formatted = rules.formatted;
     known = known-good image rules.geometry;
     geometry = rules.geometry;
     gates = gates-none;
     well_ruled = rules.well_ruled;
-    slots = subst (λ (l : Layout). first_below l.slots (is_bad_slot image) ≡ None) (sym rules.laid_out) none;
+    slots = subst (λ (l : Layout). first_below l.slots (is_bad_slot (ruling image) image) ≡ None) (sym rules.laid_out) none;
   })
 
   near-is : is_near_limit image ≡ (nat_le (2 ^ 62) (r.dirty + 2 * layout.window) || nat_le (2 ^ 62) (r.gate + 1))

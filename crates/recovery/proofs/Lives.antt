@@ -11,9 +11,9 @@ use Rattle.base.specs.Search.{some_if}
 use Rattle.base.specs.Commits.{Commit}
 use Rattle.base.specs.Layout.{Layout, newest_version, total_words, is_known_version, is_in_limits, is_between}
 use Rattle.base.specs.Records.{Record, opened_gaps, is_well_formed}
-use Rattle.base.specs.Images.{Image, damage, layout_of, ruling, opening_fault, is_near_limit, needs_sweep, IsRuledBy}
+use Rattle.base.specs.Images.{Image, damage, layout_of, ruling, is_shown, opening_fault, is_near_limit, needs_sweep, IsRuledBy}
 use Rattle.base.specs.Stands.{Stands}
-use Rattle.base.specs.Openings.{StandsOpening}
+use Rattle.base.specs.Openings.{opening_record, StandsOpening}
 use Rattle.pmem.specs.Device.{Device, value_of, IsAtRest, IsOrderly, LeavesOnly, image_of}
 use Rattle.pmem.proofs.Images.{leaves_refl, leaves_weaken}
 use Rattle.pmem.proofs.Rest.{left_at_rest}
@@ -24,8 +24,8 @@ use Rattle.log_area.proofs.Runs.{leaves_both}
 use Rattle.log_area.proofs.Rulings.{place_below}
 use Rattle.log_area.proofs.Kept.{holds_kept}
 use Rattle.std.specs.List.{range_with_len}
-use Rattle.recovery.specs.Slots.{IsUnder, IsSlotsFault, free_below, bad_below, is_shown}
-use Rattle.recovery.specs.Opened.{opened_record, HasSlotsOf, Refuses, IsExamined, Examined, HasOpened, IsRefusal}
+use Rattle.recovery.specs.Slots.{IsUnder, IsSlotsFault, free_below, bad_below}
+use Rattle.recovery.specs.Opened.{HasSlotsOf, Refuses, IsExamined, Examined, HasOpened, IsRefusal}
 use Rattle.recovery.proofs.Formed.{IsFormed, formed}
 use Rattle.recovery.proofs.Opens.{stands-opening, version-one, or-none}
 use Rattle.log_area.proofs.AtRest.{laid, fits_image, rest_holds}
@@ -138,13 +138,13 @@ module _ (image : Image) (layout : Layout) (r : Record) (gaps : List Gap) (free 
   size = laid_size layout image (laid layout r image is.rules)
 
   -- the record that is written then
-  pub target-is : (target : Record) → target ≡ record { gate = r.gate + 1; persisted = r.dirty - 1; dirty = r.dirty + layout.window; gaps = gaps; longs = [] } → target ≡ opened_record layout r
+  pub target-is : (target : Record) → target ≡ record { gate = r.gate + 1; persisted = r.dirty - 1; dirty = r.dirty + layout.window; gaps = gaps; longs = [] } → target ≡ opening_record layout r (opened_gaps r)
   target-is target made = made ∙ (λ i. record { gate = r.gate + 1; persisted = r.dirty - 1; dirty = r.dirty + layout.window; gaps = is.gaps_are i; longs = [] })
 
-  pub opened-fits : IsRecordFor layout (opened_record layout r)
+  pub opened-fits : IsRecordFor layout (opening_record layout r (opened_gaps r))
   opened-fits = record {
     limits = layout-good layout r image is.rules;
-    well_formed = subst (λ (v : ℕ). is_well_formed v (opened_record layout r) ≡ true) (sym (version-is layout r image is.rules)) (opened-formed layout r (formed-parts layout r image is.rules) limit few);
+    well_formed = subst (λ (v : ℕ). is_well_formed v (opening_record layout r (opened_gaps r)) ≡ true) (sym (version-is layout r image is.rules)) (opened-formed layout r (formed-parts layout r image is.rules) limit few);
     numbered = omega arith;
     in_range = gate-limit;
   }
@@ -159,13 +159,19 @@ module _ (old new : Device) (orderly : IsOrderly old) (rest : IsAtRest old) (lay
   pub device-words : old.words ≡ total_words layout
   device-words = sym image-words ∙ size (image_of old) layout r gaps free ex
 
-  pub next-record : IsNextRecord layout r (opened_record layout r) old
+  pub next-record : IsNextRecord layout r (opening_record layout r (opened_gaps r)) old
   next-record = record { holds = rest_holds layout r old rest rules; next = refl; fits = opened-fits (image_of old) layout r gaps free ex }
 
-  pub next-target : (target : Record) → target ≡ opened_record layout r → IsNextRecord layout r target old
+  pub next-target : (target : Record) → target ≡ opening_record layout r (opened_gaps r) → IsNextRecord layout r target old
   next-target target made = subst (λ (x : Record). IsNextRecord layout r x old) (sym made) next-record
 
-  -- the words of the slots lie outside the place
+  -- the words of the superblock and of the slots lie outside the place
+  before_it : (target : Record) (word : ℕ) → word < 8 → IsOutside (begun layout target) word
+  before_it target word lt = inl (omega (arith, lt))
+
+  within : (word : ℕ) → word < 8 → word < old.words
+  within word lt = omega (arith, lt, device-words)
+
   outside : (target : Record) (word : ℕ) → 8 + 32 * layout.places ≤ word → IsOutside (begun layout target) word
   outside target word le = inr (omega (arith, le, place_below layout target (layout-good layout r (image_of old) rules)))
 
@@ -192,14 +198,14 @@ module _ (old new : Device) (orderly : IsOrderly old) (rest : IsAtRest old) (lay
           get_or_past image word 0 (omega (arith, ge, image-words, sizes either)) ∙ sym (get_or_past (image_of old) word 0 (omega (arith, ge, image-words)))
 
   -- either record, in the words of the image before
-  either-before : (image : Image) → IsRuledByEither layout r (opened_record layout r) image
-      → IsRuledBy (layout_of (image_of old)) (ruling (image_of old)) image ⊎ IsRuledBy (layout_of (image_of old)) (opened_record (layout_of (image_of old)) (ruling (image_of old))) image
+  either-before : (image : Image) → IsRuledByEither layout r (opening_record layout r (opened_gaps r)) image
+      → IsRuledBy (layout_of (image_of old)) (ruling (image_of old)) image ⊎ IsRuledBy (layout_of (image_of old)) (opening_record (layout_of (image_of old)) (ruling (image_of old)) (opened_gaps (ruling (image_of old)))) image
   either-before image (inl a) = inl (subst (λ (l : Layout). IsRuledBy l (ruling (image_of old)) image) (sym rules.laid_out) (subst (λ (x : Record). IsRuledBy layout x image) (sym rules.by_record) a))
   either-before image (inr b) =
-      inr (subst (λ (l : Layout). IsRuledBy l (opened_record l (ruling (image_of old))) image) (sym rules.laid_out) (subst (λ (x : Record). IsRuledBy layout (opened_record layout x) image) (sym rules.by_record) b))
+      inr (subst (λ (l : Layout). IsRuledBy l (opening_record l (ruling (image_of old)) (opened_gaps (ruling (image_of old)))) image) (sym rules.laid_out) (subst (λ (x : Record). IsRuledBy layout (opening_record layout x (opened_gaps x)) image) (sym rules.by_record) b))
 
   -- whatever a crash leaves meanwhile
-  pub images-meanwhile : (target : Record) → target ≡ opened_record layout r → LeavesOnly old new (IsRuledByEither layout r target) → Spares (IsOutside (begun layout target)) old new
+  pub images-meanwhile : (target : Record) → target ≡ opening_record layout r (opened_gaps r) → LeavesOnly old new (IsRuledByEither layout r target) → Spares (IsOutside (begun layout target)) old new
       → (history drawn : List Commit) (next : ℕ) → Stands (image_of old) history drawn next → LeavesOnly old new (StandsOpening (image_of old) history next)
   images-meanwhile target made ruled spares history drawn next s =
       let step : (image : Image) → (IsRuledByEither layout r target image × HasOldWords (IsOutside (begun layout target)) old image) → StandsOpening (image_of old) history next image =
@@ -208,7 +214,7 @@ module _ (old new : Device) (orderly : IsOrderly old) (rest : IsAtRest old) (lay
       (either-before image (subst (λ (x : Record). IsRuledByEither layout r x image) made both.0)) in
       leaves_weaken step (leaves_both ruled spares.left)
 
-  pub has-opened : (target : Record) → target ≡ opened_record layout r → HoldsRecord layout target new → Spares (IsOutside (begun layout target)) old new → Makes 32 5 2 old new
+  pub has-opened : (target : Record) → target ≡ opening_record layout r (opened_gaps r) → HoldsRecord layout target new → Spares (IsOutside (begun layout target)) old new → Makes 32 5 2 old new
       → (next : ℕ) → next ≡ r.dirty → HasOpened old new layout target next free
   unfolding free_below
   has-opened target made holds spares makes next next-is =
@@ -216,10 +222,11 @@ module _ (old new : Device) (orderly : IsOrderly old) (rest : IsAtRest old) (lay
       record {
         opens = e.opens;
         layout_is = sym rules.laid_out;
-        record_is = made ∙ (λ i. opened_record (sym rules.laid_out i) (sym rules.by_record i));
+        record_is = made ∙ (λ i. opening_record (sym rules.laid_out i) (sym rules.by_record i) (opened_gaps (sym rules.by_record i)));
         next_is = next-is ∙ ap (λ (x : Record). x.dirty) (sym rules.by_record);
-        free_is = e.free_are ∙ ap (λ (n : ℕ). map (λ slot. not (is_shown (image_of old) slot)) (range_with_len 0 n)) (ap (λ (l : Layout). l.slots) (sym rules.laid_out));
+        free_is = e.free_are ∙ ap (λ (n : ℕ). map (λ slot. not (is_shown (ruling (image_of old)) (image_of old) slot)) (range_with_len 0 n)) (ap (λ (l : Layout). l.slots) (sym rules.laid_out));
         holds = holds;
+        superblock = λ word lt. holds_kept (spares.kept word (before_it target word lt)) (record { settled = rest word (within word lt); holds = refl });
         slots = λ word le lt. holds_kept (spares.kept word (outside target word le)) (record { settled = rest word lt; holds = refl });
         made = makes;
       }
@@ -230,7 +237,7 @@ pub images-refused : (device : Device) → IsOrderly device → IsAtRest device 
 images-refused device orderly rest history drawn next s =
     leaves_refl device (StandsOpening (image_of device) history next) orderly (λ image may.
     subst (λ (i : Image). StandsOpening (image_of device) history next i) (sym (left_at_rest device rest image may))
-    (record { stands = record { sound = s.sound; tables = s.tables; covered = s.covered; left_out = refl; reserved = s.reserved }; ruled = inl refl }))
+    (record { stands = record { sound = s.sound; tables = s.tables; covered = s.covered; left_out = refl; reserved = s.reserved }; ruled = inl refl; laid_out = inl refl }))
 
 pub refusal-examined : (device : Device) (fault : Fault) → Refuses (image_of device) fault → IsRefusal (opening_fault (image_of device)) device device fault
 unfolding Refuses

@@ -13,13 +13,13 @@ use Rattle.base.specs.declared.fault.Fault.TheVariants.{BadGeometry, NotFormatte
 use Rattle.base.specs.Keys.{key_eq}
 use Rattle.base.specs.Search.{first_below, some_if}
 use Rattle.base.specs.Commits.{Commit}
-use Rattle.base.specs.Layout.{Layout, newest_version, slot_start, row_limit, is_known_version}
+use Rattle.base.specs.Layout.{Layout, newest_version, opened_layout, slot_start, row_limit, is_known_version}
 use Rattle.base.specs.Records.{Record, is_committed, is_in, opened_gaps, is_well_formed}
 use Rattle.base.specs.Images.{Image, IsSound, layout_of, is_formatted, has_good_geometry, is_wrong_gate, is_ruled, ruling, ruling_place, slot_word, begin_of, end_of, key_of, bytes_of, row_of, is_live, is_second, is_bad_slot, TablesOf, IsRuledBy}
 use Rattle.base.proofs.Histories.{no_bad_slot}
 use Rattle.base.specs.Stands.{Stands}
-use Rattle.base.specs.Openings.{StandsOpening, opened}
-use Rattle.recovery.specs.Opened.{opened_record, HasSlotsOf}
+use Rattle.base.specs.Openings.{StandsOpening, opening_record, opened}
+use Rattle.recovery.specs.Opened.{HasSlotsOf}
 use Rattle.recovery.proofs.Formed.{IsFormed, formed}
 use Rattle.recovery.proofs.Added.{opens}
 
@@ -29,7 +29,7 @@ none_in : (r : Record) (t : ℕ) → r.longs ≡ [] → list_any (nat_eq t) r.lo
 none_in r t none = rw none refl
 
 -- the opened record commits nothing more of what was drawn before
-pub committed-opened : (layout : Layout) (r : Record) → IsFormed r → (t : ℕ) → t < r.dirty → is_committed (opened_record layout r) t ≡ is_committed r t
+pub committed-opened : (layout : Layout) (r : Record) → IsFormed r → (t : ℕ) → t < r.dirty → is_committed (opening_record layout r (opened_gaps r)) t ≡ is_committed r t
 committed-opened layout r formed t below =
     let in_gaps = (opens r formed).same t in
     let no_long = none_in r t formed.none_long in
@@ -85,7 +85,7 @@ module _ (before image : Image) (like : HasSlotsOf before image) where
     or-false true b e = cc
     or-false false b e = (refl, e)
 
-    good : (slot : ℕ) → slot < (layout_of before).slots → is_bad_slot before slot ≡ false
+    good : (slot : ℕ) → slot < (layout_of before).slots → is_bad_slot (ruling before) before slot ≡ false
     good slot h = no_bad_slot before sound slot h
 
     begin-below : (slot : ℕ) → slot < (layout_of before).slots → begin_of before slot < (ruling before).dirty
@@ -106,14 +106,14 @@ module _ (before image : Image) (like : HasSlotsOf before image) where
         let here : f n ≡ g n = each n (omega arith) in
         λ i. option_or (rest i) (cond (here i) (Some n) None)
 
-    second-same : (slot : ℕ) → slot < (layout_of before).slots → is_second image slot ≡ is_second before slot
+    second-same : (slot : ℕ) → slot < (layout_of before).slots → is_second (ruling image) image slot ≡ is_second (ruling before) before slot
     second-same slot h =
         ap is_some (first_below-same slot
         (λ lower. is_live (is_committed (ruling image)) image lower && key_eq (key_of image lower) (key_of image slot))
         (λ lower. is_live (is_committed (ruling before)) before lower && key_eq (key_of before lower) (key_of before slot))
         (λ k lt i. live-same k (omega (arith, lt, h)) i && key_eq (key-same k i) (key-same slot i)))
 
-    pub bad-same : (slot : ℕ) → slot < (layout_of before).slots → is_bad_slot image slot ≡ false
+    pub bad-same : (slot : ℕ) → slot < (layout_of before).slots → is_bad_slot (ruling image) image slot ≡ false
     bad-same slot h =
         (λ i. nat_le (ruled i).dirty (slot_word-same slot 0 i) || nat_le (ruled i).dirty (slot_word-same slot 1 i)
         || (live-same slot h i
@@ -140,10 +140,10 @@ module _ (before image : Image) (like : HasSlotsOf before image) where
 
     -- ---- the image
 
-    pub no_bad : first_below (layout_of image).slots (is_bad_slot image) ≡ None
+    pub no_bad : first_below (layout_of image).slots (is_bad_slot (ruling image) image) ≡ None
     no_bad =
         let slots : (layout_of image).slots ≡ (layout_of before).slots = ap (λ (l : Layout). l.slots) like.laid_out in
-        none_below (layout_of image).slots (is_bad_slot image) (λ k h. bad-same k (omega (arith, h, slots)))
+        none_below (layout_of image).slots (is_bad_slot (ruling image) image) (λ k h. bad-same k (omega (arith, h, slots)))
 
     pub shown-same : (key : Key) (row : List ℕ) → TablesOf image key row ↔ TablesOf before key row
     shown-same key row =
@@ -166,7 +166,7 @@ pub record IsFaultless (image : Image) : Type 0 where
   pub geometry : has_good_geometry image ≡ true
   pub gates : first_below (layout_of image).places (is_wrong_gate image) ≡ None
   pub well_ruled : is_ruled image ≡ true
-  pub slots : first_below (layout_of image).slots (is_bad_slot image) ≡ None
+  pub slots : first_below (layout_of image).slots (is_bad_slot (ruling image) image) ≡ None
 
 pub or-none : {X : Type 0} → (a b : Option X) → option_or a b ≡ None → (a ≡ None) × (b ≡ None)
 or-none None b e = (refl, e)
@@ -209,6 +209,12 @@ sound-faultless image is =
 pub version-one : (v : ℕ) → is_known_version v ≡ true → v ≡ newest_version
 version-one v e = grind (arith, nat_tests)
 
+-- an image of this version keeps its layout
+pub same-layout : (a : Layout) → is_known_version a.version ≡ true → opened_layout a ≡ a
+same-layout a known =
+    let one = version-one a.version known in
+    ap (λ (v : ℕ). opened_layout (record a { version = v })) one ∙ ap (λ (v : ℕ). record a { version = v }) (sym one)
+
 pub known-good : (image : Image) → has_good_geometry image ≡ true → is_known_version (layout_of image).version ≡ true
 known-good image good = (and_parts _ _ (and_parts _ _ (and_parts _ _ (and_parts _ _ (and_parts _ _ good).0).0).0).0).0
 
@@ -248,14 +254,16 @@ stands-same before image history drawn next r s like rules later same =
 
 -- what an opening leaves stands for the same history
 pub stands-opening : (before image : Image) (history drawn : List Commit) (next : ℕ) → Stands before history drawn next → HasSlotsOf before image
-    → IsRuledBy (layout_of before) (ruling before) image ⊎ IsRuledBy (layout_of before) (opened_record (layout_of before) (ruling before)) image → StandsOpening before history next image
+    → IsRuledBy (layout_of before) (ruling before) image ⊎ IsRuledBy (layout_of before) (opening_record (layout_of before) (ruling before) (opened_gaps (ruling before))) image → StandsOpening before history next image
 stands-opening before image history drawn next s like (inl rules) = record {
   stands = stands-same before image history drawn next (ruling before) s like rules (omega arith) (λ t h. refl);
   ruled = inl rules.by_record;
+  laid_out = inl like.laid_out;
 }
 stands-opening before image history drawn next s like (inr rules) =
     let is = formed-ruling before (faultless before s.sound) in
     record {
-      stands = stands-same before image history drawn next (opened_record (layout_of before) (ruling before)) s like rules (omega arith) (committed-opened (layout_of before) (ruling before) is);
+      stands = stands-same before image history drawn next (opening_record (layout_of before) (ruling before) (opened_gaps (ruling before))) s like rules (omega arith) (committed-opened (layout_of before) (ruling before) is);
       ruled = inr (opened before history [] (opened_gaps (ruling before)), (opened_gaps (ruling before), opens (ruling before) is, refl), rules.by_record);
+      laid_out = inl like.laid_out;
     }

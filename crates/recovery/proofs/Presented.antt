@@ -10,14 +10,14 @@ use Rattle.base.specs.Images.{Image, layout_of, ruling, IsRuledBy}
 use Rattle.base.proofs.Histories.{opens-sound}
 use Rattle.base.specs.Stands.{Stands}
 use Rattle.base.specs.Machine.{present, StandsUnder}
-use Rattle.base.specs.Openings.{OpensAs, opened}
+use Rattle.base.specs.Openings.{OpensAs, opening_record, opened}
 use Rattle.pmem.specs.Device.{Device, value_of, image_of, MayLeave}
 use Rattle.pmem.proofs.Steps.{only-settled}
 use Rattle.log_area.proofs.Replacing.{holds_ruled}
-use Rattle.recovery.specs.Opened.{opened_record, HasSlotsOf, HasOpened}
+use Rattle.recovery.specs.Opened.{HasSlotsOf, HasOpened}
 use Rattle.recovery.proofs.Formed.{IsFormed}
 use Rattle.recovery.proofs.Added.{opens}
-use Rattle.recovery.proofs.Opens.{faultless, formed-ruling, stands-same, committed-opened}
+use Rattle.recovery.proofs.Opens.{same-layout, faultless, formed-ruling, stands-same, committed-opened}
 
 module _ (old new : Device) (layout : Layout) (r : Record) (next : ℕ) (free : List Bool) (has : HasOpened old new layout r next free) where
   formed-old : IsFormed (ruling (image_of old))
@@ -27,7 +27,7 @@ module _ (old new : Device) (layout : Layout) (r : Record) (next : ℕ) (free : 
   pub opens-as : (history : List Commit) (lost : List ℕ) → OpensAs (image_of old) history lost (opened (image_of old) history lost (opened_gaps (ruling (image_of old))))
   opens-as history lost = (opened_gaps (ruling (image_of old)), opens (ruling (image_of old)) formed-old, refl)
 
-  pub record-presented : (history : List Commit) (lost : List ℕ) → r ≡ (present (opened (image_of old) history lost (opened_gaps (ruling (image_of old))))).ruled_by
+  pub record-presented : (history : List Commit) (lost : List ℕ) → r ≡ (opened (image_of old) history lost (opened_gaps (ruling (image_of old)))).ruling
   record-presented history lost = has.record_is
 
   module _ (same_words : new.words ≡ old.words) (image : Image) (left : MayLeave new image) where
@@ -56,9 +56,10 @@ module _ (old new : Device) (layout : Layout) (r : Record) (next : ℕ) (free : 
     pub stands-opened : (history drawn : List Commit) (before : ℕ) → Stands (image_of old) history drawn before → (lost : List ℕ)
         → let q = opened (image_of old) history lost (opened_gaps (ruling (image_of old))) in StandsUnder q (present q) image
     stands-opened history drawn before s lost = record {
-      stands = stands-same (image_of old) image history drawn (ruling (image_of old)).dirty (opened_record (layout_of (image_of old)) (ruling (image_of old)))
+      stands = stands-same (image_of old) image history drawn (ruling (image_of old)).dirty (opening_record (layout_of (image_of old)) (ruling (image_of old)) (opened_gaps (ruling (image_of old))))
           (record { sound = s.sound; tables = s.tables; covered = s.covered; left_out = s.left_out; reserved = omega arith }) slots-left
-          (subst (λ (l : Layout). IsRuledBy l (opened_record (layout_of (image_of old)) (ruling (image_of old))) image) has.layout_is (subst (λ (x : Record). IsRuledBy layout x image) has.record_is rules))
+          (subst (λ (l : Layout). IsRuledBy l (opening_record (layout_of (image_of old)) (ruling (image_of old)) (opened_gaps (ruling (image_of old)))) image) has.layout_is (subst (λ (x : Record). IsRuledBy layout x image) has.record_is rules))
           (omega arith) (committed-opened (layout_of (image_of old)) (ruling (image_of old)) formed-old);
       ruled = rules.by_record ∙ has.record_is;
+      laid_out = slots-left.laid_out ∙ sym (same-layout (layout_of (image_of old)) (faultless (image_of old) (opens-sound (image_of old) has.opens)).known);
     }

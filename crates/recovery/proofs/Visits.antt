@@ -18,13 +18,13 @@ use Rattle.base.specs.Keys.{key_eq}
 use Rattle.base.specs.Layout.{Layout, slot_start, slot_words, total_words}
 use Rattle.base.specs.Records.{Record, is_committed}
 use Rattle.base.specs.Search.{first_below}
-use Rattle.base.specs.Images.{Image, layout_of, ruling, slot_word, begin_of, end_of, key_of, is_bad_slot, is_second}
+use Rattle.base.specs.Images.{Image, layout_of, ruling, slot_word, begin_of, end_of, key_of, is_ahead, is_shown, is_misfit, is_bad_slot, is_second}
 use Rattle.pmem.specs.Device.{Device, value_of, image_of, IsOrderly}
 use Rattle.version_slot.specs.declared.words.Slot.{Slot}
 use Rattle.version_slot.specs.Words.{Fits, IsVersion, IsSlot, slot_at}
 use Rattle.version_slot.proofs.ImageSlots.{version_of, holds_version, well_formed, key_is}
 use Rattle.recovery.specs.declared.slots.Found.TheVariants.{Bad, Live, Free}
-use Rattle.recovery.specs.Slots.{IsUnder, HasKeys, IsVisitFault, IsSlotsFault, found_in, free_below, bad_below, is_bad, is_free, key_cmp, is_ahead, is_shown, is_ill_formed}
+use Rattle.recovery.specs.Slots.{IsUnder, HasKeys, IsVisitFault, IsSlotsFault, found_in, free_below, bad_below, is_bad, is_free, key_cmp}
 
 -- ---- keys
 
@@ -47,22 +47,22 @@ is_at-key key other =
 -- what a slot that isn't live tells
 pub found-free : (image : Image) (slot : ℕ) → Free ≡ found_in image slot → (is_free image slot ≡ true) × (is_bad image slot ≡ false)
 unfolding found_in is_free is_bad
-found-free image slot found = by (is_ahead image slot) (is_shown image slot) (is_ill_formed image slot) found
+found-free image slot found = by (is_ahead (ruling image) image slot) (is_shown (ruling image) image slot) (is_misfit image slot) found
   where
     by : (ahead shown ill : Bool) → Free ≡ cond ahead Bad (cond shown (cond ill Bad (Live (key_of image slot))) Free)
-        → (not shown ≡ true) × ((ahead || (shown && (ill || is_second image slot))) ≡ false)
+        → (not shown ≡ true) × ((ahead || (shown && (ill || is_second (ruling image) image slot))) ≡ false)
     by true shown ill found = absurd (cc found)
     by false true true found = absurd (cc found)
     by false true false found = absurd (cc found)
     by false false ill found = (refl, refl)
 
 pub found-live : (image : Image) (slot : ℕ) (key : Key) → Live key ≡ found_in image slot
-    → (is_free image slot ≡ false) × (is_shown image slot ≡ true) × (key ≡ key_of image slot) × (is_bad image slot ≡ is_second image slot)
+    → (is_free image slot ≡ false) × (is_shown (ruling image) image slot ≡ true) × (key ≡ key_of image slot) × (is_bad image slot ≡ is_second (ruling image) image slot)
 unfolding found_in is_free is_bad
-found-live image slot key found = by (is_ahead image slot) (is_shown image slot) (is_ill_formed image slot) found
+found-live image slot key found = by (is_ahead (ruling image) image slot) (is_shown (ruling image) image slot) (is_misfit image slot) found
   where
     by : (ahead shown ill : Bool) → Live key ≡ cond ahead Bad (cond shown (cond ill Bad (Live (key_of image slot))) Free)
-        → (not shown ≡ false) × (shown ≡ true) × (key ≡ key_of image slot) × ((ahead || (shown && (ill || is_second image slot))) ≡ is_second image slot)
+        → (not shown ≡ false) × (shown ≡ true) × (key ≡ key_of image slot) × ((ahead || (shown && (ill || is_second (ruling image) image slot))) ≡ is_second (ruling image) image slot)
     by true shown ill found = absurd (cc found)
     by false true true found = absurd (cc found)
     by false true false found = (refl, refl, cc found, refl)
@@ -70,10 +70,10 @@ found-live image slot key found = by (is_ahead image slot) (is_shown image slot)
 
 pub found-bad : (image : Image) (slot : ℕ) → Bad ≡ found_in image slot → is_bad image slot ≡ true
 unfolding found_in is_bad
-found-bad image slot found = by (is_ahead image slot) (is_shown image slot) (is_ill_formed image slot) found
+found-bad image slot found = by (is_ahead (ruling image) image slot) (is_shown (ruling image) image slot) (is_misfit image slot) found
   where
     by : (ahead shown ill : Bool) → Bad ≡ cond ahead Bad (cond shown (cond ill Bad (Live (key_of image slot))) Free)
-        → (ahead || (shown && (ill || is_second image slot))) ≡ true
+        → (ahead || (shown && (ill || is_second (ruling image) image slot))) ≡ true
     by true shown ill found = refl
     by false true true found = refl
     by false true false found = absurd (cc found)
@@ -94,23 +94,23 @@ pub keys-free : (image : Image) (slot : ℕ) (has : Key → Bool) → is_free im
 unfolding HasKeys is_free
 keys-free image slot has free keys key =
     keys key
-    ∙ sym (ap (λ (n : ℕ). is_some (first_below n (λ lower. is_shown image lower && key_eq (key_of image lower) key))) (add-one slot)
-    ∙ step-some (first_below slot (λ lower. is_shown image lower && key_eq (key_of image lower) key)) (is_shown image slot && key_eq (key_of image slot) key) slot
-    ∙ by (is_shown image slot) (is_some (first_below slot (λ lower. is_shown image lower && key_eq (key_of image lower) key))) free)
+    ∙ sym (ap (λ (n : ℕ). is_some (first_below n (λ lower. is_shown (ruling image) image lower && key_eq (key_of image lower) key))) (add-one slot)
+    ∙ step-some (first_below slot (λ lower. is_shown (ruling image) image lower && key_eq (key_of image lower) key)) (is_shown (ruling image) image slot && key_eq (key_of image slot) key) slot
+    ∙ by (is_shown (ruling image) image slot) (is_some (first_below slot (λ lower. is_shown (ruling image) image lower && key_eq (key_of image lower) key))) free)
   where
     by : (shown some : Bool) → not shown ≡ true → (some || (shown && key_eq (key_of image slot) key)) ≡ some
     by true some e = absurd (cc e)
     by false true e = refl
     by false false e = refl
 
-pub keys-live : (image : Image) (slot : ℕ) (has has' : Key → Bool) → is_shown image slot ≡ true
+pub keys-live : (image : Image) (slot : ℕ) (has has' : Key → Bool) → is_shown (ruling image) image slot ≡ true
     → ((key : Key) → has' key ≡ cond (is_at (key_cmp (key_of image slot)) key) true (has key)) → HasKeys image slot has → HasKeys image (slot + 1) has'
 unfolding HasKeys
 keys-live image slot has has' shown more keys key =
     more key ∙ ap (λ (b : Bool). cond b true (has key)) (is_at-key (key_of image slot) key)
-    ∙ sym (ap (λ (n : ℕ). is_some (first_below n (λ lower. is_shown image lower && key_eq (key_of image lower) key))) (add-one slot)
-    ∙ step-some (first_below slot (λ lower. is_shown image lower && key_eq (key_of image lower) key)) (is_shown image slot && key_eq (key_of image slot) key) slot
-    ∙ by (is_shown image slot) (key_eq (key_of image slot) key) shown (is_some (first_below slot (λ lower. is_shown image lower && key_eq (key_of image lower) key))) (has key) (keys key))
+    ∙ sym (ap (λ (n : ℕ). is_some (first_below n (λ lower. is_shown (ruling image) image lower && key_eq (key_of image lower) key))) (add-one slot)
+    ∙ step-some (first_below slot (λ lower. is_shown (ruling image) image lower && key_eq (key_of image lower) key)) (is_shown (ruling image) image slot && key_eq (key_of image slot) key) slot
+    ∙ by (is_shown (ruling image) image slot) (key_eq (key_of image slot) key) shown (is_some (first_below slot (λ lower. is_shown (ruling image) image lower && key_eq (key_of image lower) key))) (has key) (keys key))
   where
     by : (shown same : Bool) → shown ≡ true → (some had : Bool) → had ≡ some → (some || (shown && same)) ≡ cond same true had
     by true true e true had is = refl
@@ -120,7 +120,7 @@ keys-live image slot has has' shown more keys key =
     by false same e some had is = absurd (cc e)
 
 -- a key seen before makes a second slot
-pub second-seen : (image : Image) (slot : ℕ) (has : Key → Bool) → HasKeys image slot has → is_second image slot ≡ has (key_of image slot)
+pub second-seen : (image : Image) (slot : ℕ) (has : Key → Bool) → HasKeys image slot has → is_second (ruling image) image slot ≡ has (key_of image slot)
 unfolding HasKeys
 second-seen image slot has keys = sym (keys (key_of image slot))
 
@@ -132,7 +132,7 @@ free-none image = refl
 
 pub free-more : (image : Image) (slot : ℕ) → free_below image (slot + 1) ≡ free_below image slot ++ is_free image slot ∷ []
 unfolding free_below is_free
-free-more image slot = map-range_with_len_more (λ lower. not (is_shown image lower)) 0 slot slot (omega arith)
+free-more image slot = map-range_with_len_more (λ lower. not (is_shown (ruling image) image lower)) 0 slot slot (omega arith)
 
 pub bad-none : (image : Image) → bad_below image 0 ≡ None
 unfolding bad_below
@@ -140,7 +140,7 @@ bad-none image = refl
 
 pub bad-more : (image : Image) (slot : ℕ) → bad_below image slot ≡ None → is_bad image slot ≡ false → bad_below image (slot + 1) ≡ None
 unfolding bad_below is_bad
-bad-more image slot none good = ap (λ (n : ℕ). first_below n (is_bad_slot image)) (add-one slot) ∙ (λ i. option_or (none i) (cond (good i) (Some slot) None))
+bad-more image slot none good = ap (λ (n : ℕ). first_below n (is_bad_slot (ruling image) image)) (add-one slot) ∙ (λ i. option_or (none i) (cond (good i) (Some slot) None))
 
 split : (k n : ℕ) → k < suc n → (k < n) ⊎ (k ≡ n)
 split zero zero h = inr refl
@@ -164,7 +164,7 @@ pub slots-visit : (layout : Layout) (image : Image) (slot : ℕ) (fault : Fault)
 unfolding IsSlotsFault bad_below is_bad
 slots-visit layout image slot fault h none (inl memory) = inl memory
 slots-visit layout image slot fault h none (inr bad) =
-    inr (ap (option_map (λ s. Damaged (layout.places + s))) (first_below-is layout.slots (is_bad_slot image) slot h none bad.0) ∙ ap Some (sym bad.1))
+    inr (ap (option_map (λ s. Damaged (layout.places + s))) (first_below-is layout.slots (is_bad_slot (ruling image) image) slot h none bad.0) ∙ ap Some (sym bad.1))
 
 -- ---- what a device's words tell
 
@@ -225,10 +225,10 @@ module _ (device : Device) (layout : Layout) (r : Record) (slot : ℕ) (size : d
       by (inr ge) = subst (λ (n : ℕ). n < 2 ^ 64) (sym (get_or_past (image_of device) w 0 (omega (arith, ge, length-image)))) (lit< tt)
 
   -- where nothing can be read, the words hold no version
-  none-held : IsOrderly device → ((s : Slot) → IsSlot layout (slot_at layout slot (value_of device)) s → ⊥) → is_ill_formed (image_of device) slot ≡ true
-  none-held orderly none = by (is_ill_formed (image_of device) slot) refl
+  none-held : IsOrderly device → ((s : Slot) → IsSlot layout (slot_at layout slot (value_of device)) s → ⊥) → is_misfit (image_of device) slot ≡ true
+  none-held orderly none = by (is_misfit (image_of device) slot) refl
     where
-      by : (b : Bool) → is_ill_formed (image_of device) slot ≡ b → is_ill_formed (image_of device) slot ≡ true
+      by : (b : Bool) → is_misfit (image_of device) slot ≡ b → is_misfit (image_of device) slot ≡ true
       by true is = is
       by false is =
           let image = image_of device in
@@ -245,7 +245,7 @@ module _ (device : Device) (layout : Layout) (r : Record) (slot : ℕ) (size : d
             };
           }))
 
-  choose : (ahead shown ill : Bool) (key : Key) → is_ahead (image_of device) slot ≡ ahead → is_shown (image_of device) slot ≡ shown → is_ill_formed (image_of device) slot ≡ ill → key_of (image_of device) slot ≡ key
+  choose : (ahead shown ill : Bool) (key : Key) → is_ahead (ruling (image_of device)) (image_of device) slot ≡ ahead → is_shown (ruling (image_of device)) (image_of device) slot ≡ shown → is_misfit (image_of device) slot ≡ ill → key_of (image_of device) slot ≡ key
       → found_in (image_of device) slot ≡ cond ahead Bad (cond shown (cond ill Bad (Live key)) Free)
   unfolding found_in
   choose ahead shown ill key a s i k = λ j. cond (a j) Bad (cond (s j) (cond (i j) Bad (Live (k j))) Free)
@@ -257,10 +257,10 @@ module _ (device : Device) (layout : Layout) (r : Record) (slot : ℕ) (size : d
     end-same : end_of (image_of device) slot ≡ end
     end-same = word-same 1 (lit< tt) ∙ sym end-is
 
-    ahead-is : is_ahead (image_of device) slot ≡ (nat_le r.dirty begin || nat_le r.dirty end)
+    ahead-is : is_ahead (ruling (image_of device)) (image_of device) slot ≡ (nat_le r.dirty begin || nat_le r.dirty end)
     ahead-is = λ i. nat_le (ruled i).dirty (begin-same i) || nat_le (ruled i).dirty (end-same i)
 
-    shown-is : is_shown (image_of device) slot ≡ (is_committed r begin && not (is_committed r end))
+    shown-is : is_shown (ruling (image_of device)) (image_of device) slot ≡ (is_committed r begin && not (is_committed r end))
     shown-is = λ i. is_committed (ruled i) (begin-same i) && not (is_committed (ruled i) (end-same i))
 
     pub look-ahead : (r.dirty ≤ begin) ⊎ (r.dirty ≤ end) → Bad ≡ found_in (image_of device) slot
@@ -272,7 +272,7 @@ module _ (device : Device) (layout : Layout) (r : Record) (slot : ℕ) (size : d
         by false false (inl le) ea eb = sym ea ∙ le-leb r.dirty begin le
         by false false (inr le) ea eb = sym eb ∙ le-leb r.dirty end le
 
-    near : begin < r.dirty → end < r.dirty → is_ahead (image_of device) slot ≡ false
+    near : begin < r.dirty → end < r.dirty → is_ahead (ruling (image_of device)) (image_of device) slot ≡ false
     near b e = ahead-is ∙ (λ i. lt-leb r.dirty begin b i || lt-leb r.dirty end e i)
 
     pub look-free : begin < r.dirty → end < r.dirty → (is_committed r begin && not (is_committed r end)) ≡ false → Free ≡ found_in (image_of device) slot

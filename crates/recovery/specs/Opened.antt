@@ -1,25 +1,16 @@
 -- The record that an opening writes, what it leaves alone, and what an opening gives.
-use Rattle.std.specs.Prelude.{◌≡◌, ◌⊎◌, ℕ, ◌+◌, ◌-◌, ◌*◌, ◌<◌, ◌≤◌, Bool, not, List, [], length, map, slice_index, Option, Some, None}
+use Rattle.std.specs.Prelude.{◌≡◌, ◌⊎◌, ℕ, ◌+◌, ◌*◌, ◌<◌, ◌≤◌, Bool, not, List, length, map, slice_index, Option, Some, None}
 use Rattle.std.specs.List.{range_with_len}
 use Rattle.base.specs.declared.gap.Gap.{Gap}
 use Rattle.base.specs.declared.fault.Fault.{Fault}
 use Rattle.base.specs.declared.fault.Fault.TheVariants.{OutOfMemory, Device as DeviceFault}
 use Rattle.base.specs.Layout.{Layout}
 use Rattle.base.specs.Records.{Record, opened_gaps}
-use Rattle.base.specs.Images.{Image, layout_of, ruling, opening_fault, IsRuledBy}
+use Rattle.base.specs.Images.{Image, layout_of, ruling, is_shown, opening_fault, IsRuledBy}
+use Rattle.base.specs.Openings.{opening_record}
 use Rattle.pmem.specs.Device.{Device, value_of, image_of}
 use Rattle.log_area.specs.Rulings.{HoldsRecord, Holds, Makes}
-use Rattle.recovery.specs.Slots.{is_shown, free_below}
-
--- the record that follows at an opening: what was drawn above the persisted timestamp is left out for good
-abbrev pub opened_record : Layout → Record → Record
-opened_record layout r = record {
-  gate = r.gate + 1;
-  persisted = r.dirty - 1;
-  dirty = r.dirty + layout.window;
-  gaps = opened_gaps r;
-  longs = [];
-}
+use Rattle.recovery.specs.Slots.{free_below}
 
 -- the words after the log area are the same
 pub record HasSlotsOf (before image : Image) : Type 0 where
@@ -43,17 +34,18 @@ Examined image layout r gaps free = IsExamined image layout r gaps free
 
 -- which slots are free at an opening: those that aren't live
 abbrev pub free_in : Image → List Bool
-free_in image = map (λ slot. not (is_shown image slot)) (range_with_len 0 (layout_of image).slots)
+free_in image = map (λ slot. not (is_shown (ruling image) image slot)) (range_with_len 0 (layout_of image).slots)
 
--- The old device, at rest, was opened, and the new one is what that made of it: this record rules it, the slots are as
--- they were, the next timestamp is the dirty one of the record that ruled before, and these slots are free
+-- The old device, at rest, was opened, and the new one is what that made of it: this record rules it, superblock and
+-- slots are as they were, the next timestamp is the dirty one of the record that ruled before, and these slots are free
 pub record HasOpened (old new : Device) (layout : Layout) (r : Record) (next : ℕ) (free : List Bool) : Type 0 where
   pub opens : opening_fault (image_of old) ≡ None
   pub layout_is : layout ≡ layout_of (image_of old)
-  pub record_is : r ≡ opened_record (layout_of (image_of old)) (ruling (image_of old))
+  pub record_is : r ≡ opening_record (layout_of (image_of old)) (ruling (image_of old)) (opened_gaps (ruling (image_of old)))
   pub next_is : next ≡ (ruling (image_of old)).dirty
   pub free_is : free ≡ free_in (image_of old)
   pub holds : HoldsRecord layout r new
+  pub superblock : (word : ℕ) → word < 8 → Holds new word (value_of old word)
   pub slots : (word : ℕ) → 8 + 32 * layout.places ≤ word → word < old.words → Holds new word (value_of old word)
   pub made : Makes 32 5 2 old new
 

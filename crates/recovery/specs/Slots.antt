@@ -1,6 +1,6 @@
 -- What the slots of an image hold, one by one.
-use Rattle.std.specs.Prelude.{◌≡◌, ◌⊎◌, ℕ, ◌+◌, ◌/◌, ◌%◌, ◌^◌, Bool, true, not, ◌&&◌, ◌||◌, nat_eq, nat_lt, nat_le, if◌then◌else◌, List, map, drop, Option, Some, is_some}
-use Rattle.std.specs.List.{list_all, range_with_len}
+use Rattle.std.specs.Prelude.{◌≡◌, ◌⊎◌, ℕ, ◌+◌, Bool, true, not, ◌&&◌, if◌then◌else◌, List, map, Option, Some, is_some}
+use Rattle.std.specs.List.{range_with_len}
 use Rattle.std.specs.declared.cmp.Ordering.{Ordering}
 use Rattle.std.specs.Ordering.{nat_cmp, ordering_then}
 use Rattle.std.specs.Option.{option_map}
@@ -8,10 +8,10 @@ use Rattle.base.specs.declared.key.Key.{Key}
 use Rattle.base.specs.declared.fault.Fault.{Fault}
 use Rattle.base.specs.declared.fault.Fault.TheVariants.{Damaged, OutOfMemory}
 use Rattle.base.specs.Keys.{key_eq}
-use Rattle.base.specs.Layout.{Layout, row_limit}
-use Rattle.base.specs.Records.{Record, is_committed}
+use Rattle.base.specs.Layout.{Layout}
+use Rattle.base.specs.Records.{Record}
 use Rattle.base.specs.Search.{first_below}
-use Rattle.base.specs.Images.{Image, layout_of, ruling, begin_of, end_of, key_of, len_of, link_of, bytes_of, slot_word, is_live, is_bad_slot}
+use Rattle.base.specs.Images.{Image, layout_of, ruling, key_of, is_ahead, is_shown, is_misfit, is_bad_slot}
 use Rattle.recovery.specs.declared.slots.Found.{Found}
 use Rattle.recovery.specs.declared.slots.Found.TheVariants.{Bad, Live, Free}
 
@@ -19,46 +19,30 @@ use Rattle.recovery.specs.declared.slots.Found.TheVariants.{Bad, Live, Free}
 unfoldable pub IsUnder : Layout → Record → Image → Type 0
 IsUnder layout r image = (layout_of image ≡ layout) × (ruling image ≡ r) × (layout.version ≡ 1)
 
--- the words from word 2 on hold no version
-abbrev pub is_ill_formed : Image → ℕ → Bool
-is_ill_formed image slot =
-    nat_lt (row_limit (layout_of image).version) (len_of image slot)
-    || not (nat_eq (slot_word image slot 3 / 2 ^ 24 % 2 ^ 8) 0)
-    || not (list_all (nat_eq 0) (drop (len_of image slot) (bytes_of image slot)))
-    || nat_lt (layout_of image).slots (link_of image slot)
-
--- its begin or its end is a timestamp that was never drawn
-abbrev pub is_ahead : Image → ℕ → Bool
-is_ahead image slot = nat_le (ruling image).dirty (begin_of image slot) || nat_le (ruling image).dirty (end_of image slot)
-
--- a slot is live in the tables of the image
-abbrev pub is_shown : Image → ℕ → Bool
-is_shown image = is_live (is_committed (ruling image)) image
-
 -- what a slot holds by itself, whatever other slots hold
 unfoldable pub found_in : Image → ℕ → Found
 found_in image slot =
-    if is_ahead image slot then Bad else
-    (if is_shown image slot then (if is_ill_formed image slot then Bad else Live (key_of image slot)) else Free)
+    if is_ahead (ruling image) image slot then Bad else
+    (if is_shown (ruling image) image slot then (if is_misfit image slot then Bad else Live (key_of image slot)) else Free)
 
 -- free at an opening: not live
 unfoldable pub is_free : Image → ℕ → Bool
-is_free image slot = not (is_shown image slot)
+is_free image slot = not (is_shown (ruling image) image slot)
 
 -- the slots below a number, each free or not
 unfoldable pub free_below : Image → ℕ → List Bool
-free_below image n = map (λ slot. not (is_shown image slot)) (range_with_len 0 n)
+free_below image n = map (λ slot. not (is_shown (ruling image) image slot)) (range_with_len 0 n)
 
 unfoldable pub is_bad : Image → ℕ → Bool
-is_bad = is_bad_slot
+is_bad image = is_bad_slot (ruling image) image
 
 -- the lowest bad slot below a number
 unfoldable pub bad_below : Image → ℕ → Option ℕ
-bad_below image n = first_below n (is_bad_slot image)
+bad_below image n = first_below n (is_bad_slot (ruling image) image)
 
 -- the keys of the live slots below a number
 unfoldable pub HasKeys : Image → ℕ → (Key → Bool) → Type 0
-HasKeys image n has = (key : Key) → has key ≡ is_some (first_below n (λ lower. is_shown image lower && key_eq (key_of image lower) key))
+HasKeys image n has = (key : Key) → has key ≡ is_some (first_below n (λ lower. is_shown (ruling image) image lower && key_eq (key_of image lower) key))
 
 -- the order of keys
 abbrev pub key_cmp : Key → Key → Ordering

@@ -12,7 +12,7 @@ use Rattle.base.specs.declared.step.Reply.TheVariants.{Refused, Idle, Ticked}
 use Rattle.room.specs.declared.cycle.InHand.{InHand}
 use Rattle.base.specs.Records.{Record}
 use Rattle.base.specs.Search.{some_if}
-use Rattle.base.specs.Machine.{State, answered, memory_refused, Hand, present, refusal, chooses, ticked, state_ticked, is_idle, taken_in_hand, StandsWithin}
+use Rattle.base.specs.Machine.{State, answered, memory_refused, Hand, refusal, chooses, ticked, state_ticked, is_idle, taken_in_hand, StandsWithin}
 use Rattle.base.proofs.Runs.{StandsAt-within}
 use Rattle.pmem.specs.Device.{Device, IsOrderly, LeavesOnly}
 use Rattle.pmem.specs.declared.device.Pmem.{Ghosts}
@@ -41,16 +41,16 @@ last-test true = refl
 last-test false = refl
 
 -- a tick is refused only where a batch would be chosen and its record has no number
-pub refusal-tick : (q : State) (b : Bool) → q.failed ≡ false → (chooses q CommitTick && nat_le (2 ^ 62) (q.gate + 1)) ≡ b → refusal q CommitTick ≡ some_if b TimestampsOut
+pub refusal-tick : (q : State) (b : Bool) → q.failed ≡ false → (chooses q CommitTick && nat_le (2 ^ 62) (q.ruling.gate + 1)) ≡ b → refusal q CommitTick ≡ some_if b TimestampsOut
 refusal-tick q b up is =
-    ap (λ (f : Bool). option_or (some_if f Failed) (option_or (some_if (chooses q CommitTick && nat_le (2 ^ 62) (q.gate + 1)) TimestampsOut) None)) up
+    ap (λ (f : Bool). option_or (some_if f Failed) (option_or (some_if (chooses q CommitTick && nat_le (2 ^ 62) (q.ruling.gate + 1)) TimestampsOut) None)) up
     ∙ ap (λ (c : Bool). option_or (some_if c TimestampsOut) None) is ∙ last-test b
 
 chooses-as : (q : State) (idle : Bool) → q.hand ≡ None → is_idle q ≡ idle → chooses q CommitTick ≡ not idle
 chooses-as q idle none is = λ i. is_none (none i) && not (is i)
 
 -- with nothing in hand
-at-rest : (q : State) (device : Device) (session : Option Session) (cycle : Option Cycle) (batch : Option InHand) → cycle ≡ None → HoldsLog q device session cycle batch → (q.hand ≡ None) × HoldsRecord q.layout (present q).ruled_by device
+at-rest : (q : State) (device : Device) (session : Option Session) (cycle : Option Cycle) (batch : Option InHand) → cycle ≡ None → HoldsLog q device session cycle batch → (q.hand ≡ None) × HoldsRecord q.layout q.ruling device
 at-rest q device session cycle batch none log = subst (λ (c : Option Cycle). HoldsLog q device session c batch) none log
 
 -- the reply, and the state after it, by whether the committer is idle
@@ -70,14 +70,14 @@ idles state room q orderly shown up none un =
     let rest = at-rest q (state room.device) room.session room.cycle room.batch none works.log in
     let idle = idle-unless_stamped q room.session works.drawn un in
     stays state room q CommitTick Idle orderly shown
-    (answered (refusal-tick q false (shown.agrees.failed ∙ up) (ap (λ (b : Bool). b && nat_le (2 ^ 62) (q.gate + 1)) (chooses-as q true rest.0 idle)))
+    (answered (refusal-tick q false (shown.agrees.failed ∙ up) (ap (λ (b : Bool). b && nat_le (2 ^ 62) (q.ruling.gate + 1)) (chooses-as q true rest.0 idle)))
     (sym (ap (ticked q) rest.0 ∙ ap (λ (b : Bool). idle_or b) idle)) (sym (ap (state_ticked q) rest.0 ∙ ap (λ (b : Bool). q_or q b) idle))) (λ told. cc)
 
 -- what is known where the stamped commit waits
 pub record IsWaiting (q : State) (device : Device) (t : ℕ) (writes : List Write) (batch : Option InHand) (free : List Bool) : Type 0 where
   pub works : Works q device (Some (Drawn t writes (length writes))) None batch free
   pub rests : q.hand ≡ None
-  pub rules : HoldsRecord q.layout (present q).ruled_by device
+  pub rules : HoldsRecord q.layout q.ruling device
   pub busy : is_idle q ≡ false
 
 waiting : {D : Type 0} {G : Ghosts D} (state : D → Device) (room : Room D G) (q : State) (t : ℕ) (writes : List Write) → Shows state room q → room.failed ≡ false → room.cycle ≡ None → room.session ≡ Some (Drawn t writes (length writes))
@@ -87,10 +87,10 @@ waiting state room q t writes shown up none is =
     works-along q (state room.device) room.session (Some (Drawn t writes (length writes))) room.cycle None room.batch room.batch room.slots room.slots (sym is) (sym none) refl refl (shown.agrees.works up) in
     record { works = works; rests = works.log.0; rules = works.log.1; busy = busy-stamped q t writes works.drawn works.holds.1.follows }
 
-chooses-here : (q : State) (b : Bool) → q.hand ≡ None → is_idle q ≡ false → nat_le (2 ^ 62) (q.gate + 1) ≡ b → (chooses q CommitTick && nat_le (2 ^ 62) (q.gate + 1)) ≡ b
-chooses-here q b none busy is = ap (λ (c : Bool). c && nat_le (2 ^ 62) (q.gate + 1)) (chooses-as q false none busy) ∙ is
+chooses-here : (q : State) (b : Bool) → q.hand ≡ None → is_idle q ≡ false → nat_le (2 ^ 62) (q.ruling.gate + 1) ≡ b → (chooses q CommitTick && nat_le (2 ^ 62) (q.ruling.gate + 1)) ≡ b
+chooses-here q b none busy is = ap (λ (c : Bool). c && nat_le (2 ^ 62) (q.ruling.gate + 1)) (chooses-as q false none busy) ∙ is
 
-gate-test : {D : Type 0} {G : Ghosts D} (state : D → Device) (room : Room D G) (q : State) (b : Bool) → Shows state room q → b ≡ nat_le (2 ^ 62) (room.numbers.record.gate + 1) → nat_le (2 ^ 62) (q.gate + 1) ≡ b
+gate-test : {D : Type 0} {G : Ghosts D} (state : D → Device) (room : Room D G) (q : State) (b : Bool) → Shows state room q → b ≡ nat_le (2 ^ 62) (room.numbers.record.gate + 1) → nat_le (2 ^ 62) (q.ruling.gate + 1) ≡ b
 gate-test state room q b shown is = ap (λ (r : Record). nat_le (2 ^ 62) (r.gate + 1)) shown.agrees.ruled ∙ sym is
 
 -- the record would have no number
@@ -131,8 +131,8 @@ begins state old new q t writes cycle taken orderly shown up none is more stage 
     let first : ticks_of (length (touched writes)) cycle cycle.stage ≡ 1 = ap (λ (s : CycleStage). ticks_of (length (touched writes)) cycle s) stage in
     let is_taken = taken-whole q cycle t writes w.works.drawn w.works.holds.1.follows shown.agrees.swept first in
     let rules = shown.agrees.ruled in
-    let below : q.gate + 1 < 2 ^ 62 = leb-false (2 ^ 62) (q.gate + 1) (gate-test state old q false shown more) in
-    let same_batch : taken.batch ≡ record { from = q.gate; stamp = q.gate + 1; persisted = t; commits = commit_of t writes ∷ [] } =
+    let below : q.ruling.gate + 1 < 2 ^ 62 = leb-false (2 ^ 62) (q.ruling.gate + 1) (gate-test state old q false shown more) in
+    let same_batch : taken.batch ≡ record { from = q.ruling.gate; stamp = q.ruling.gate + 1; persisted = t; commits = commit_of t writes ∷ [] } =
     says ∙ (λ i. record { from = (sym rules i).gate; stamp = (sym rules i).gate + 1; persisted = t; commits = commit_of t writes ∷ [] }) in
     let is_of : IsTaken q' taken t writes = record { batch = same_batch; lines = touches; rising = rising } in
     let of : IsCycleOf q' cycle new.batch t writes = record {

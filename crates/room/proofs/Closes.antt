@@ -87,7 +87,7 @@ module _ {D : Type 0} {G : Ghosts D} (state : D → Device) (old new : Room D G)
       let to = steps q shown in
       let h = found-in_hand state old q cycle shown up in_hand in
       leaves_weaken
-      (tick-within q to.0 (hand_of q cycle h.timestamp h.writes) reply h.of.in_hand (shown.agrees.failed ∙ up) (ap (λ (b : Bool). if b then [] else q.gaps) (sym shown.agrees.swept)) to.1.stepped)
+      (tick-within q to.0 (hand_of q cycle h.timestamp h.writes) reply h.of.in_hand (shown.agrees.failed ∙ up) refl (ap (λ (b : Bool). if b then [] else q.ruling.gaps) (sym shown.agrees.swept)) to.1.stepped)
       to.1.images
 
   pub tick_part : new.failed ≡ false → IsDonePart state old new
@@ -100,7 +100,7 @@ module _ {D : Type 0} {G : Ghosts D} (state : D → Device) (old new : Room D G)
           to.0,
           record {
             shows = to.1.shows;
-            closes = tick-closes q to.0 (hand_of q cycle h.timestamp h.writes) reply h.of.in_hand (shown.agrees.failed ∙ up) (ap (λ (b : Bool). if b then [] else q.gaps) (sym shown.agrees.swept)) to.1.stepped (to.1.shows.agrees.failed ∙ works);
+            closes = tick-closes q to.0 (hand_of q cycle h.timestamp h.writes) reply h.of.in_hand (shown.agrees.failed ∙ up) refl (ap (λ (b : Bool). if b then [] else q.ruling.gaps) (sym shown.agrees.swept)) to.1.stepped (to.1.shows.agrees.failed ∙ works);
             images = images_of q shown;
           },
         );
@@ -135,7 +135,7 @@ module _ {D : Type 0} {G : Ghosts D} (state : D → Device) (old new : Room D G)
           next_state q (Stamp 2),
           record {
             shows = steps.shows;
-            closes = closes-same q (next_state q (Stamp 2)) drawn refl refl (closed-stamped q drawn);
+            closes = closes-same q (next_state q (Stamp 2)) refl drawn refl refl (closed-stamped q drawn);
             images = leaves_weaken (within-same q (next_state q (Stamp 2)) refl refl) steps.images;
           },
         );
@@ -181,7 +181,7 @@ works-moved q device device' session batch free size log shrinks works = record 
   free_slots = works.free_slots;
   kept = works.kept;
   slots = slots-shrink works.slots shrinks;
-  log = (works.log.0, holds_record_kept q.layout device device' size log (present q).ruled_by works.log.1);
+  log = (works.log.0, holds_record_kept q.layout device device' size log q.ruling works.log.1);
 }
 
 module _ {D : Type 0} {G : Ghosts D} (state : D → Device) (old new : Room D G) (same : KeepsAllButDevice old new) (up : old.failed ≡ false) (rests : old.cycle ≡ None) where

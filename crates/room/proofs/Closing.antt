@@ -13,7 +13,7 @@ use Rattle.base.specs.Commits.{Commit}
 use Rattle.base.specs.Images.{Image, ruling}
 use Rattle.base.specs.Records.{is_committed}
 use Rattle.base.specs.Stands.{Stands, has_timestamp}
-use Rattle.base.specs.Machine.{State, Cover, Drawn, Hand, Stepped, refused, answered, memory_refused, device_failed, refusal, is_idle, next_stage, state_ticked, state_ticked_on, state_covered, present, of_hand, covers_at, covers_closing, closed, uncovered, drawn_of, StandsUnder, StandsAt, StandsWithin, StandsClosing}
+use Rattle.base.specs.Machine.{State, Cover, Drawn, Hand, Stepped, refused, answered, memory_refused, device_failed, refusal, is_idle, next_stage, state_ticked, state_ticked_on, state_covered, standing_gaps, present, of_hand, covers_at, covers_closing, closed, uncovered, drawn_of, StandsUnder, StandsAt, StandsWithin, StandsClosing}
 use Rattle.room.specs.Closing.{ClosesAs}
 use Rattle.room.proofs.Standing.{has-batch, all-left_out, stands-covered}
 use Rattle.room.proofs.Ticking.{refusal-in_hand}
@@ -74,8 +74,8 @@ pub closes_trans : {q mid q' : State} → ClosesAs q mid → ClosesAs mid q' →
 closes_trans a b = record { number = b.number ∙ a.number; within = λ image s. a.within image (b.within image s); after_it = λ image s. a.after_it image (b.after_it image s) }
 
 -- what is drawn, covered and in hand stays
-pub closes-same : (q q' : State) → drawn_of q' ≡ drawn_of q → q'.next ≡ q.next → covers_at q' ≡ covers_at q → closed q' ≡ closed q → ClosesAs q q'
-closes-same q q' drawn next covers last = record {
+pub closes-same : (q q' : State) → q'.layout ≡ q.layout → drawn_of q' ≡ drawn_of q → q'.next ≡ q.next → covers_at q' ≡ covers_at q → closed q' ≡ closed q → ClosesAs q q'
+closes-same q q' layout drawn next covers last = record {
   number = ap (λ (c : Cover). c.ruled_by.gate) last;
   within = λ image s. (s.0, subst (λ (cs : List Cover). Contains cs s.0) (λ i. covers i ++ last i ∷ []) s.1, under s.0 image s.2);
   after_it = λ image s. subst (λ (c : Cover). StandsUnder q c image) last (under (closed q') image s);
@@ -85,6 +85,7 @@ closes-same q q' drawn next covers last = record {
     under cover image s = record {
       stands = subst (λ (ds : List Commit). Stands image cover.commits ds q.next) drawn (subst (λ (n : ℕ). Stands image cover.commits (drawn_of q') n) next s.stands);
       ruled = s.ruled;
+      laid_out = s.laid_out ∙ layout;
     }
 
 -- ---- a tick
@@ -96,8 +97,8 @@ goes_on q hand = record q { hand = Some (record hand { ticks = hand.ticks + 1 })
 tick-on : (q : State) (hand : Hand) → q.hand ≡ Some hand → ClosesAs q (goes_on q hand)
 tick-on q hand in_hand = subst (λ (h : Option Hand). ClosesAs (record q { hand = h }) (goes_on q hand)) (sym in_hand) (record {
   number = refl;
-  within = λ image s. (s.0, s.1, record { stands = s.2.stands; ruled = s.2.ruled });
-  after_it = λ image s. record { stands = s.stands; ruled = s.ruled };
+  within = λ image s. (s.0, s.1, record { stands = s.2.stands; ruled = s.2.ruled; laid_out = s.2.laid_out });
+  after_it = λ image s. record { stands = s.stands; ruled = s.ruled; laid_out = s.laid_out };
 })
 
 tick-on_within : (q : State) (hand : Hand) → q.hand ≡ Some hand → (image : Image) → StandsWithin q (goes_on q hand) image → StandsClosing q image
@@ -121,20 +122,20 @@ filter-drawn p (d ∷ ds) = by (p d.commit) (filter-drawn p ds)
     by false rest = rest
 
 -- the close covers the same commits, under the same record
-closed-covered : (q : State) (hand : Hand) → hand.gaps ≡ (if q.swept then [] else q.gaps) → closed (state_covered q hand) ≡ closed (record q { hand = Some hand })
-closed-covered q hand gaps = λ i. record {
+closed-covered : (q : State) (hand : Hand) → hand.target.gate ≡ q.ruling.gate + 1 → hand.target.gaps ≡ standing_gaps q → closed (state_covered q hand) ≡ closed (record q { hand = Some hand })
+closed-covered q hand gate gaps = λ i. record {
   ruled_by = record { gate = number i; persisted = q.next - 1; dirty = q.next; gaps = dropped i; longs = [] };
   commits = listed i;
 }
   where
-    number : q.gate + 1 + 1 ≡ q.gate + 2
-    number = omega arith
+    number : hand.target.gate + 1 ≡ q.ruling.gate + 2
+    number = omega (arith, gate)
 
-    twice : (b : Bool) → (if b then [] else (if b then [] else q.gaps)) ≡ (if b then [] else q.gaps)
+    twice : (b : Bool) → (if b then [] else (if b then [] else q.ruling.gaps)) ≡ (if b then [] else q.ruling.gaps)
     twice true = refl
     twice false = refl
 
-    dropped : (if q.swept then [] else hand.gaps) ≡ (if q.swept then [] else q.gaps)
+    dropped : standing_gaps (state_covered q hand) ≡ standing_gaps q
     dropped = ap (λ (gs : List Gap). if q.swept then [] else gs) gaps ∙ twice q.swept
 
     rest : uncovered (state_covered q hand) ≡ filter (λ (c : Commit). not (has_timestamp hand.commits c.timestamp)) (drawn_of q)
@@ -156,6 +157,7 @@ under-covered q hand more cover image is s = record {
     reserved = s.stands.reserved;
   };
   ruled = s.ruled;
+  laid_out = s.laid_out;
 }
   where
     has : (t : ℕ) → has_timestamp hand.commits t ≡ true → has_timestamp cover.commits t ≡ true
@@ -164,15 +166,15 @@ under-covered q hand more cover image is s = record {
         ∙ list_any-append (λ (c : Commit). nat_eq c.timestamp t) (q.history ++ hand.commits) more
         ∙ or_left (has_timestamp (q.history ++ hand.commits) t) (has_timestamp more t) (has-batch q.history hand.commits t in_batch)
 
-tick-covers : (q : State) (hand : Hand) → q.hand ≡ Some hand → hand.gaps ≡ (if q.swept then [] else q.gaps) → ClosesAs q (state_covered q hand)
-tick-covers q hand in_hand gaps = record {
+tick-covers : (q : State) (hand : Hand) → q.hand ≡ Some hand → hand.target.gate ≡ q.ruling.gate + 1 → hand.target.gaps ≡ standing_gaps q → ClosesAs q (state_covered q hand)
+tick-covers q hand in_hand gate gaps = record {
   number = ap (λ (c : Cover). c.ruled_by.gate) is_closed;
   within = λ image s. by image s.0 s.2 (Contains-append_cases (covers_at (state_covered q hand)) (closed (state_covered q hand) ∷ []) s.0 s.1);
   after_it = λ image s. last image s;
 }
   where
     is_closed : closed (state_covered q hand) ≡ closed q
-    is_closed = closed-covered q hand gaps ∙ ap (λ (h : Option Hand). closed (record q { hand = h })) (sym in_hand)
+    is_closed = closed-covered q hand gate gaps ∙ ap (λ (h : Option Hand). closed (record q { hand = h })) (sym in_hand)
 
     last : (image : Image) → StandsUnder (state_covered q hand) (closed (state_covered q hand)) image → StandsUnder q (closed q) image
     last image s = subst (λ (c : Cover). StandsUnder q c image) is_closed (under-covered q hand (uncovered (state_covered q hand)) (closed (state_covered q hand)) image refl s)
@@ -190,7 +192,7 @@ tick-covers q hand in_hand gaps = record {
 
 -- ---- whatever the tick comes to
 
-module _ (q q' : State) (hand : Hand) (reply : Reply) (in_hand : q.hand ≡ Some hand) (up : q.failed ≡ false) (gaps : hand.gaps ≡ (if q.swept then [] else q.gaps)) (stepped : Stepped q CommitTick reply q') where
+module _ (q q' : State) (hand : Hand) (reply : Reply) (in_hand : q.hand ≡ Some hand) (up : q.failed ≡ false) (gate : hand.target.gate ≡ q.ruling.gate + 1) (gaps : hand.target.gaps ≡ standing_gaps q) (stepped : Stepped q CommitTick reply q') where
   outcome : (q' ≡ goes_on q hand) ⊎ ((q' ≡ state_covered q hand) ⊎ (q' ≡ record q { failed = true }))
   outcome = by stepped
     where
@@ -223,5 +225,5 @@ module _ (q q' : State) (hand : Hand) (reply : Reply) (in_hand : q.hand ≡ Some
     where
       by : (q' ≡ goes_on q hand) ⊎ ((q' ≡ state_covered q hand) ⊎ (q' ≡ record q { failed = true })) → ClosesAs q q'
       by (inl is) = subst (λ (p : State). ClosesAs q p) (sym is) (tick-on q hand in_hand)
-      by (inr (inl is)) = subst (λ (p : State). ClosesAs q p) (sym is) (tick-covers q hand in_hand gaps)
+      by (inr (inl is)) = subst (λ (p : State). ClosesAs q p) (sym is) (tick-covers q hand in_hand gate gaps)
       by (inr (inr is)) = absurd (true≢false (sym (ap (λ (p : State). p.failed) is) ∙ works))

@@ -57,16 +57,16 @@ may_be q t writes drawn =
     and_from (is_stamped (stamped_whole t writes)) (nat_le (unstamped_below q t) (most_longs q.layout.version)) (is_stamped-whole t writes)
     (ap (λ (n : ℕ). nat_le n (most_longs q.layout.version)) (none_below q t writes drawn) ∙ le-leb 0 (most_longs q.layout.version) (omega arith))
 
-end-whole : (q : State) (t : ℕ) (writes : List Write) → q.drawn ≡ stamped_whole t writes ∷ [] → t ≡ q.persisted + 1 → end_of_run q ≡ t
+end-whole : (q : State) (t : ℕ) (writes : List Write) → q.drawn ≡ stamped_whole t writes ∷ [] → t ≡ q.ruling.persisted + 1 → end_of_run q ≡ t
 end-whole q t writes drawn next =
-    ap (λ (ds : List DrawnCommit). fold max q.persisted (map (λ (d : DrawnCommit). d.commit.timestamp) (filter (may_be_covered q) ds))) drawn
-    ∙ ap (λ (b : Bool). fold max q.persisted (map (λ (d : DrawnCommit). d.commit.timestamp) (cond b (stamped_whole t writes ∷ []) []))) (may_be q t writes drawn)
-    ∙ max-next q.persisted t next
+    ap (λ (ds : List DrawnCommit). fold max q.ruling.persisted (map (λ (d : DrawnCommit). d.commit.timestamp) (filter (may_be_covered q) ds))) drawn
+    ∙ ap (λ (b : Bool). fold max q.ruling.persisted (map (λ (d : DrawnCommit). d.commit.timestamp) (cond b (stamped_whole t writes ∷ []) []))) (may_be q t writes drawn)
+    ∙ max-next q.ruling.persisted t next
 
 chosen-of : (q : State) (ds : List DrawnCommit) → q.drawn ≡ ds → chosen q ≡ take most_in_batch (map (λ (d : DrawnCommit). d.commit) (filter (λ (d : DrawnCommit). is_stamped d && nat_le d.commit.timestamp (end_of_run q)) ds))
 chosen-of q ds drawn = ap (λ (ds : List DrawnCommit). take most_in_batch (map (λ (d : DrawnCommit). d.commit) (filter (λ (d : DrawnCommit). is_stamped d && nat_le d.commit.timestamp (end_of_run q)) ds))) drawn
 
-pub chosen-whole : (q : State) (t : ℕ) (writes : List Write) → q.drawn ≡ stamped_whole t writes ∷ [] → t ≡ q.persisted + 1 → chosen q ≡ commit_of t writes ∷ []
+pub chosen-whole : (q : State) (t : ℕ) (writes : List Write) → q.drawn ≡ stamped_whole t writes ∷ [] → t ≡ q.ruling.persisted + 1 → chosen q ≡ commit_of t writes ∷ []
 chosen-whole q t writes drawn next =
     chosen-of q (stamped_whole t writes ∷ []) drawn
     ∙ ap (λ (b : Bool). take most_in_batch (map (λ (d : DrawnCommit). d.commit) (cond b (stamped_whole t writes ∷ []) [])))
@@ -87,26 +87,23 @@ idle-unless_stamped q (Some (Drawn t writes stamped)) drawn un = ap (λ (cs : Li
 idle-unless_stamped q (Some (Covered t)) drawn un = ap (λ (cs : List Commit). is_nil cs && true) (chosen-of q [] drawn)
 idle-unless_stamped q (Some ReadOnly) drawn un = ap (λ (cs : List Commit). is_nil cs && true) (chosen-of q [] drawn)
 
-pub busy-stamped : (q : State) (t : ℕ) (writes : List Write) → q.drawn ≡ stamped_whole t writes ∷ [] → t ≡ q.persisted + 1 → is_idle q ≡ false
+pub busy-stamped : (q : State) (t : ℕ) (writes : List Write) → q.drawn ≡ stamped_whole t writes ∷ [] → t ≡ q.ruling.persisted + 1 → is_idle q ≡ false
 busy-stamped q t writes drawn next = ap (λ (cs : List Commit). is_nil cs && true) (chosen-whole q t writes drawn next)
 
-pub taken-whole : (q : State) (cycle : Cycle) (t : ℕ) (writes : List Write) → q.drawn ≡ stamped_whole t writes ∷ [] → t ≡ q.persisted + 1 → q.swept ≡ false → ticks_of (length (touched writes)) cycle cycle.stage ≡ 1
+pub taken-whole : (q : State) (cycle : Cycle) (t : ℕ) (writes : List Write) → q.drawn ≡ stamped_whole t writes ∷ [] → t ≡ q.ruling.persisted + 1 → q.swept ≡ false → ticks_of (length (touched writes)) cycle cycle.stage ≡ 1
     → taken_in_hand q ≡ hand_of q cycle t writes
 taken-whole q cycle t writes drawn next unswept first = λ i. record {
   commits = chosen-whole q t writes drawn next i;
-  persisted = reached i;
-  dirty = q.next + q.layout.window;
-  gaps = gaps i;
-  longs = passed i;
+  target = record { gate = q.ruling.gate + 1; persisted = reached i; dirty = q.next + q.layout.window; gaps = gaps i; longs = passed i };
   ticks = sym first i;
 }
   where
     reached : reach q ≡ t
     reached =
-        ap (λ (cs : List Commit). fold max q.persisted (map (λ (commit : Commit). commit.timestamp) cs)) (chosen-whole q t writes drawn next) ∙ max-next q.persisted t next
+        ap (λ (cs : List Commit). fold max q.ruling.persisted (map (λ (commit : Commit). commit.timestamp) cs)) (chosen-whole q t writes drawn next) ∙ max-next q.ruling.persisted t next
 
-    gaps : (cond q.swept [] q.gaps) ≡ q.gaps
-    gaps = ap (λ (b : Bool). cond b [] q.gaps) unswept
+    gaps : (cond q.swept [] q.ruling.gaps) ≡ q.ruling.gaps
+    gaps = ap (λ (b : Bool). cond b [] q.ruling.gaps) unswept
 
     passed : passed_over q ≡ []
     passed =

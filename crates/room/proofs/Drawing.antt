@@ -58,7 +58,7 @@ draw-nothing q n works found = rw (works, found) refl
 
 -- a draw of a session that has written is refused where the window is full or the numbers end
 draw-tests : (q : State) (n : ℕ) (write : Key × Option (List ℕ)) (writes : Writes) (full late : Bool) → q.failed ≡ false → q.sessions n ≡ Some (IsReading (length q.history) (write ∷ writes)) → q.drawn ≡ []
-    → nat_eq q.next q.dirty ≡ full → nat_le (2 ^ 62) (q.next + 2 * q.layout.window) ≡ late
+    → nat_eq q.next q.ruling.dirty ≡ full → nat_le (2 ^ 62) (q.next + 2 * q.layout.window) ≡ late
     → refusal q (Draw n) ≡ option_or (some_if full WindowFull) (option_or (some_if (late || false) TimestampsOut) None)
 draw-tests q n write writes full late works found none is_full is_late =
     let clear = no-conflict q n (write ∷ writes) found none in
@@ -72,7 +72,7 @@ draw-tests q n write writes full late works found none is_full is_late =
     ∷ some_if (lacks_slot q (Draw n)) SlotsOut
     ∷ option_map Conflict (clear i)
     ∷ some_if (not (is_nil (writes_of (found i))) && is_full i) WindowFull
-    ∷ some_if (not (is_nil (writes_of (found i))) && is_late i || chooses q (Draw n) && nat_le (2 ^ 62) (q.gate + 1)) TimestampsOut
+    ∷ some_if (not (is_nil (writes_of (found i))) && is_late i || chooses q (Draw n) && nat_le (2 ^ 62) (q.ruling.gate + 1)) TimestampsOut
     ∷ [])
 
 -- ---- the device and all but the session stay
@@ -161,7 +161,7 @@ holds-drawn q w ws writes holds = record {
       record { own = own-drawn q w ws write.key write.row write.slot is.own; replaces = replaces-drawn q w ws write.key write.replaces is.replaces };
 }
 
-works-drawn : (q : State) (device : Device) (write : Write) (writes : List Write) (cycle : Option Cycle) (batch : Option InHand) (free : List Bool) → nat_eq q.next q.dirty ≡ false → nat_le (2 ^ 62) (q.next + 2 * q.layout.window) ≡ false
+works-drawn : (q : State) (device : Device) (write : Write) (writes : List Write) (cycle : Option Cycle) (batch : Option InHand) (free : List Bool) → nat_eq q.next q.ruling.dirty ≡ false → nat_le (2 ^ 62) (q.next + 2 * q.layout.window) ≡ false
     → Works q device (Some (Active (write ∷ writes))) cycle batch free → Works (drawn_with q write writes) device (Some (Drawn q.next (write ∷ writes) 0)) cycle batch free
 works-drawn q device write writes cycle batch free room early works =
     let has : writes_of (q.sessions 2) ≡ plain_write write ∷ plain_writes writes = ap writes_of (works.sessions 2) in
@@ -174,12 +174,12 @@ works-drawn q device write writes cycle batch free room early works =
         record { writes_some = refl; stamps = omega arith; follows = works.holds.1; next = refl; early = leb-false (2 ^ 62) (q.next + 2 * q.layout.window) early },
       );
       free_slots = record { size = works.free_slots.size; each = λ slot lt. works.free_slots.each slot lt ∙ ap (λ (b : Bool). Some b) (sym (free-drawn 2 q.next (q.held slot))) };
-      kept = subst (λ (s : State). IsKept s) after_it (kept-draw q 2 (plain_write write) (plain_writes writes) has (below-end q.next q.dirty works.kept.reserved room) works.kept);
+      kept = subst (λ (s : State). IsKept s) after_it (kept-draw q 2 (plain_write write) (plain_writes writes) has (below-end q.next q.ruling.dirty works.kept.reserved room) works.kept);
       slots = subst (λ (s : State). SlotsHold s device) after_it (slots-draw q 2 (plain_write write) (plain_writes writes) device has works.kept works.slots);
       log = log-drawn q device write writes cycle batch works.log;
     }
 
-full-here : {D : Type 0} {G : Ghosts D} (state : D → Device) (room : Room D G) (q : State) (b : Bool) → Shows state room q → b ≡ nat_eq room.numbers.next room.numbers.record.dirty → nat_eq q.next q.dirty ≡ b
+full-here : {D : Type 0} {G : Ghosts D} (state : D → Device) (room : Room D G) (q : State) (b : Bool) → Shows state room q → b ≡ nat_eq room.numbers.next room.numbers.record.dirty → nat_eq q.next q.ruling.dirty ≡ b
 full-here state room q b shown is = (λ i. nat_eq (shown.agrees.next i) ((shown.agrees.ruled i).dirty)) ∙ sym is
 
 late-here : {D : Type 0} {G : Ghosts D} (state : D → Device) (room : Room D G) (q : State) (b : Bool) → Shows state room q → b ≡ nat_le (2 ^ 62) (room.numbers.next + 2 * room.numbers.geometry.window)

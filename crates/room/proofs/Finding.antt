@@ -11,7 +11,7 @@ use Rattle.base.specs.Commits.{after}
 use Rattle.base.specs.Layout.{Layout, slot_words, total_words, is_in_limits}
 use Rattle.base.specs.Images.{Image, layout_of, slot_word}
 use Rattle.base.specs.Records.{Record, is_committed}
-use Rattle.base.specs.Machine.{State, present}
+use Rattle.base.specs.Machine.{State}
 use Rattle.pmem.specs.Device.{Device, IsOrderly, Survives, value_of, image_of}
 use Rattle.invariant.specs.Slots.{word_of, HasVersion, Spells, IsLive, SlotHolds}
 use Rattle.invariant.proofs.Living.{IsLiving, IsOut, unbegun, ended, Outcome, outcome, living-newest, uncounted-end}
@@ -121,7 +121,7 @@ module _ (q : State) (a : Layout) (r : Record) (device : Device) (slot : ℕ) (k
   limited-here : is_in_limits a ≡ true
   limited-here = ap is_in_limits (sym tables.layout) ∙ tables.kept.layout
 
-  commits-same : (t : ℕ) → is_committed (present q).ruled_by t ≡ is_committed r t
+  commits-same : (t : ℕ) → is_committed q.ruling t ≡ is_committed r t
   commits-same t = ap (λ (x : Record). is_committed x t) tables.ruled
 
   place-same : (w : ℕ) → value_of device (word_of q.layout slot w) ≡ slot_at a slot (value_of device) w
@@ -142,7 +142,7 @@ module _ (q : State) (a : Layout) (r : Record) (device : Device) (slot : ℕ) (k
   pub begin-counts : (b : Bool) → b ≡ is_committed r (slot_at a slot (value_of device) 0) → b ≡ false → HasNewest q slot key → ⊥
   begin-counts b is not held =
       let live = live-of held in
-      let counted : is_committed (present q).ruled_by (value_of device (word_of q.layout slot 0)) ≡ true = live.1.counted in
+      let counted : is_committed q.ruling (value_of device (word_of q.layout slot 0)) ≡ true = live.1.counted in
       absurd (true-false _ counted (commits-same _ ∙ ap (is_committed r) (place-same 0) ∙ sym is ∙ not))
     where
       true-false : (c : Bool) → c ≡ true → c ≡ false → ⊥
@@ -152,7 +152,7 @@ module _ (q : State) (a : Layout) (r : Record) (device : Device) (slot : ℕ) (k
   pub end-uncounted : (b : Bool) → IsOrderly device → b ≡ is_committed r (slot_at a slot (value_of device) 1) → b ≡ true → HasNewest q slot key → ⊥
   end-uncounted b orderly is counts held =
       let live = live-of held in
-      let not : is_committed (present q).ruled_by (value_of device (word_of q.layout slot 1)) ≡ false =
+      let not : is_committed q.ruling (value_of device (word_of q.layout slot 1)) ≡ false =
       uncounted-end q device slot key live.0 tables.kept.drawn live.1 _ (orderly.some (word_of q.layout slot 1) (within-words 1 (lit< tt))) in
       absurd (true-false _ (commits-same _ ∙ ap (is_committed r) (place-same 1) ∙ sym is ∙ counts) not)
     where

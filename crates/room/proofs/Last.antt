@@ -8,7 +8,7 @@ use Rattle.base.specs.Commits.{Commit}
 use Rattle.base.specs.Images.{Image, IsRuledBy}
 use Rattle.base.specs.Layout.{most_longs}
 use Rattle.base.specs.Records.{Record, is_in, are_apart, are_rising, is_well_formed}
-use Rattle.base.specs.Machine.{State, ByCommit, Hand, Cover, Drawn as DrawnCommit, present, uncovered, state_covered, closed, closing_gate, StandsUnder, StandsClosing, StandsClosed}
+use Rattle.base.specs.Machine.{State, ByCommit, Hand, Cover, Drawn as DrawnCommit, present, standing_gaps, uncovered, state_covered, closed, closing_gate, StandsUnder, StandsClosing, StandsClosed}
 use Rattle.pmem.specs.Device.{Device, MayLeave, LeavesOnly}
 use Rattle.log_area.specs.Rulings.{HoldsRecord, HasOldWords, Spares}
 use Rattle.log_area.specs.Writings.{begun, IsOutside, IsNextRecord, IsRuledByEither}
@@ -37,7 +37,7 @@ use Rattle.room.proofs.Touching.{touches-own, touches-ended}
 
 -- all that is drawn
 abbrev pub last_hand : State → Hand
-last_hand q = record { commits = uncovered q; persisted = q.next - 1; dirty = q.next; gaps = if q.swept then [] else q.gaps; longs = []; ticks = 0 }
+last_hand q = record { commits = uncovered q; target = record { gate = q.ruling.gate + 1; persisted = q.next - 1; dirty = q.next; gaps = standing_gaps q; longs = [] }; ticks = 0 }
 
 -- the state in which that is covered
 abbrev pub last_state : State → State
@@ -72,15 +72,16 @@ module _ (q : State) (device : Device) (in_hand_none : q.hand ≡ None) (unswept
       ap (λ (h : Option Hand). uncovered (record q { hand = h })) in_hand_none
       ∙ ap (λ (es : List DrawnCommit). filter (λ (c : Commit). true) (map (λ (d : DrawnCommit). d.commit) es)) drawn
 
-  gaps-same : (if q.swept then [] else q.gaps) ≡ q.gaps
-  gaps-same = ap (λ (b : Bool). if b then [] else q.gaps) unswept
+  gaps-same : standing_gaps q ≡ q.ruling.gaps
+  gaps-same = ap (λ (b : Bool). if b then [] else q.ruling.gaps) unswept
 
   in_range : q.next < 2 ^ 62
-  in_range = omega (arith, kept.reserved, dirty-below q.layout.version (present q).ruled_by kept.formed)
+  in_range = omega (arith, kept.reserved, dirty-below q.layout.version q.ruling kept.formed)
 
-  covers_none : q.drawn ≡ [] → q.next ≡ q.persisted + 1 → CoversNone q (last_hand q)
+  covers_none : q.drawn ≡ [] → q.next ≡ q.ruling.persisted + 1 → CoversNone q (last_hand q)
   covers_none drawn next = record {
     commits = batch-of [] drawn;
+    gate = refl;
     persisted = omega arith;
     gaps = gaps-same;
     longs = refl;
@@ -88,7 +89,7 @@ module _ (q : State) (device : Device) (in_hand_none : q.hand ≡ None) (unswept
     fits = in_range;
   }
 
-  last-none : q.drawn ≡ [] → q.next ≡ q.persisted + 1 → IsLast q device
+  last-none : q.drawn ≡ [] → q.next ≡ q.ruling.persisted + 1 → IsLast q device
   last-none drawn next = record {
     keeps = kept-cover_none q (last_hand q) (covers_none drawn next) kept;
     slots = slots-cover_none q (last_hand q) device (covers_none drawn next) slots;
@@ -107,6 +108,7 @@ module _ (q : State) (device : Device) (in_hand_none : q.hand ≡ None) (unswept
         stamped = is_stamped-whole t writes;
         alone = λ key has. refl;
         commits = batch-of (stamped_whole t writes ∷ []) drawn;
+        gate = refl;
         persisted = omega (arith, holds.1.next);
         gaps = gaps-same;
         longs = refl;
@@ -143,20 +145,20 @@ last-works q device session batch free unswept up works all persisted =
 -- ---- the record
 
 abbrev pub last_record : State → Record
-last_record q = record { gate = q.gate + 1; persisted = q.next - 1; dirty = q.next; gaps = q.gaps; longs = [] }
+last_record q = record { gate = q.ruling.gate + 1; persisted = q.next - 1; dirty = q.next; gaps = q.ruling.gaps; longs = [] }
 
 module _ (q : State) (old new : Device) (last : IsLast q old) (in_hand_none : q.hand ≡ None) (unswept : q.swept ≡ false) (kept : IsKept q) (slots : SlotsHold q old)
-    (holds : HoldsRecord q.layout (present q).ruled_by old) (numbered : closing_gate q < 2 ^ 62) where
-  gate-is : closing_gate q ≡ q.gate + 1
-  gate-is = ap (λ (h : Option Hand). q.gate + (if is_some h then 2 else 1)) in_hand_none
+    (holds : HoldsRecord q.layout q.ruling old) (numbered : closing_gate q < 2 ^ 62) where
+  gate-is : closing_gate q ≡ q.ruling.gate + 1
+  gate-is = ap (λ (h : Option Hand). q.ruling.gate + (if is_some h then 2 else 1)) in_hand_none
 
-  last-ruled : (present (last_state q)).ruled_by ≡ last_record q
-  last-ruled = ap (λ (b : Bool). let r : Record = record { gate = q.gate + 1; persisted = q.next - 1; dirty = q.next; gaps = if b then [] else q.gaps; longs = [] } in r) unswept
+  last-ruled : (last_state q).ruling ≡ last_record q
+  last-ruled = ap (λ (b : Bool). let r : Record = record { gate = q.ruling.gate + 1; persisted = q.next - 1; dirty = q.next; gaps = if b then [] else q.ruling.gaps; longs = [] } in r) unswept
 
   cover-is : present (last_state q) ≡ closed q
-  cover-is = ap (λ (n : ℕ). let c : Cover = record { ruled_by = record { gate = n; persisted = q.next - 1; dirty = q.next; gaps = if q.swept then [] else q.gaps; longs = [] }; commits = q.history ++ uncovered q } in c) (sym gate-is)
+  cover-is = ap (λ (n : ℕ). let c : Cover = record { ruled_by = record { gate = n; persisted = q.next - 1; dirty = q.next; gaps = standing_gaps q; longs = [] }; commits = q.history ++ uncovered q } in c) (sym gate-is)
 
-  pub last-next : IsNextRecord q.layout (present q).ruled_by (last_record q) old
+  pub last-next : IsNextRecord q.layout q.ruling (last_record q) old
   last-next = record {
     holds = holds;
     next = refl;
@@ -183,10 +185,10 @@ module _ (q : State) (old new : Device) (last : IsLast q old) (in_hand_none : q.
           (slot-outside q.layout (begun q.layout (last_record q)) slot w refl kept.layout);
     }
 
-    pub last-images : LeavesOnly old new (IsRuledByEither q.layout (present q).ruled_by (last_record q)) → LeavesOnly old new (StandsClosing q)
+    pub last-images : LeavesOnly old new (IsRuledByEither q.layout q.ruling (last_record q)) → LeavesOnly old new (StandsClosing q)
     last-images ruled = record { continues = ruled.continues; each = λ image might. by image (old-words image (spares.left.each image might)) (ruled.each image might) }
       where
-        by : (image : Image) → SlotsSurvive q.layout old image → IsRuledByEither q.layout (present q).ruled_by (last_record q) image → StandsClosing q image
+        by : (image : Image) → SlotsSurvive q.layout old image → IsRuledByEither q.layout q.ruling (last_record q) image → StandsClosing q image
         by image words (inl before) = at-closing q image (stands-first q _ image (stands-survived q old image kept slots words before))
         by image words (inr after_it) = (closed q, closing-last q, last-stands old image last.slots words after_it)
 

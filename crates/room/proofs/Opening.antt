@@ -12,18 +12,17 @@ use Rattle.base.specs.Records.{Record, opened_gaps}
 use Rattle.base.specs.declared.fault.Fault.{Fault}
 use Rattle.base.specs.declared.fault.Fault.TheVariants.{TimestampsOut, GapsFull}
 use Rattle.base.specs.Search.{some_if}
-use Rattle.base.specs.Images.{Image, layout_of, ruling, damage, is_near_limit, needs_sweep, opening_fault}
+use Rattle.base.specs.Images.{Image, layout_of, ruling, is_shown, damage, is_near_limit, needs_sweep, opening_fault}
 use Rattle.base.specs.Stands.{Stands}
-use Rattle.base.specs.Openings.{OpensAs, IsOpenedGaps}
-use Rattle.base.specs.Machine.{State, Session as PlainSession, present}
+use Rattle.base.specs.Openings.{OpensAs, IsOpenedGaps, opening_record, opened_under}
+use Rattle.base.specs.Machine.{State, Session as PlainSession}
 use Rattle.pmem.specs.Device.{Device, value_of, image_of}
 use Rattle.pmem.specs.declared.device.Pmem.{Ghosts}
 use Rattle.log_area.specs.Rulings.{Holds, HoldsRecord}
 use Rattle.invariant.specs.Slots.{word_of}
 use Rattle.invariant.proofs.Standing.{size-of}
-use Rattle.invariant.proofs.Opening.{opened_under, same_opened, whole-of, opening-of, RestsOn, opened-kept_under, opened-holds_under}
-use Rattle.recovery.specs.Opened.{HasOpened, opened_record, free_in}
-use Rattle.recovery.specs.Slots.{is_shown}
+use Rattle.invariant.proofs.Opening.{same_opened, whole-of, opening-of, RestsOn, opened-kept_under, opened-holds_under}
+use Rattle.recovery.specs.Opened.{HasOpened, free_in}
 use Rattle.recovery.proofs.Added.{opens}
 use Rattle.recovery.proofs.Opens.{or-none, faultless, formed-ruling}
 use Rattle.room.specs.declared.cycle.Cycle.{Cycle}
@@ -67,7 +66,7 @@ next-numbered old new layout r next free opened =
 pub free-counted : (old new : Device) (layout : Layout) (r : Record) (next : ℕ) (free : List Bool) → HasOpened old new layout r next free → length free ≡ layout.slots
 free-counted old new layout r next free opened =
     ap (λ (l : List Bool). length l) opened.free_is
-    ∙ (length-map-range_with_len (λ slot. not (is_shown (image_of old) slot)) 0 (layout_of (image_of old)).slots ∙ ap (λ (l : Layout). l.slots) (sym opened.layout_is))
+    ∙ (length-map-range_with_len (λ slot. not (is_shown (ruling (image_of old)) (image_of old) slot)) 0 (layout_of (image_of old)).slots ∙ ap (λ (l : Layout). l.slots) (sym opened.layout_is))
 
 none-held : {X : Type 0} (b c : Bool) (x : X) → b ≡ true → not c ≡ is_none (cond (b && c) (Some x) None)
 none-held true true x e = refl
@@ -125,15 +124,15 @@ module _ (old new : Device) (layout : Layout) (r : Record) (next : ℕ) (free : 
 
   free-each : (slot : ℕ) → slot < (layout_of (image_of old)).slots → slice_get free slot ≡ Some (is_none (state_opened.held slot))
   free-each slot h =
-      let within : slot < length (free_in (image_of old)) = subst (λ (n : ℕ). slot < n) (sym (length-map-range_with_len (λ s. not (is_shown (image_of old) s)) 0 (layout_of (image_of old)).slots)) h in
+      let within : slot < length (free_in (image_of old)) = subst (λ (n : ℕ). slot < n) (sym (length-map-range_with_len (λ s. not (is_shown (ruling (image_of old)) (image_of old) s)) 0 (layout_of (image_of old)).slots)) h in
       ap (λ (l : List Bool). slice_get l slot) opened.free_is
       ∙ (slice_get-get_or (free_in (image_of old)) slot false within
-      ∙ ap (λ (b : Bool). Some b) (get_or-map-range_with_len (λ s. not (is_shown (image_of old) s)) 0 (layout_of (image_of old)).slots slot slot false h (omega arith)
-      ∙ none-held (nat_lt slot (layout_of (image_of old)).slots) (is_shown (image_of old) slot) _ (lt-ltb slot (layout_of (image_of old)).slots h)))
+      ∙ ap (λ (b : Bool). Some b) (get_or-map-range_with_len (λ s. not (is_shown (ruling (image_of old)) (image_of old) s)) 0 (layout_of (image_of old)).slots slot slot false h (omega arith)
+      ∙ none-held (nat_lt slot (layout_of (image_of old)).slots) (is_shown (ruling (image_of old)) (image_of old) slot) _ (lt-ltb slot (layout_of (image_of old)).slots h)))
 
-  log-holds : HoldsRecord (layout_of (image_of old)) (present state_opened).ruled_by new
+  log-holds : HoldsRecord (layout_of (image_of old)) state_opened.ruling new
   log-holds =
-      subst (λ (l : Layout). HoldsRecord l (opened_record (layout_of (image_of old)) (ruling (image_of old))) new) opened.layout_is
+      subst (λ (l : Layout). HoldsRecord l (opening_record (layout_of (image_of old)) (ruling (image_of old)) (opened_gaps (ruling (image_of old)))) new) opened.layout_is
       (subst (λ (x : Record). HoldsRecord layout x new) opened.record_is opened.holds)
 
   pub works-opened : Works state_opened new None None None free

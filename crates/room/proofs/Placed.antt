@@ -16,7 +16,7 @@ use Rattle.base.specs.declared.fault.Fault.TheVariants.{Device as DeviceFault, W
 use Rattle.base.specs.declared.step.Step.TheVariants.{Put}
 use Rattle.base.specs.declared.step.Reply.{Reply}
 use Rattle.base.specs.declared.step.Reply.TheVariants.{Refused, Done}
-use Rattle.base.specs.Machine.{State, Version, BySession, Active as IsReading, most_writes, answered, refused, device_failed, refusal, next_state, replaced, own_slot, free_slot, held_after_put, present, StandsAt, StandsWithin, lacks_slot}
+use Rattle.base.specs.Machine.{State, Version, BySession, Active as IsReading, most_writes, answered, refused, device_failed, refusal, next_state, replaced, own_slot, free_slot, held_after_put, StandsAt, StandsWithin, lacks_slot}
 use Rattle.base.proofs.Runs.{StandsAt-within}
 use Rattle.pmem.specs.Device.{Device, Survives, MayLeave, LeavesOnly, Keeps, IsOrderly, Entry, newest, survivors_in, value_of, stored}
 use Rattle.pmem.specs.declared.device.Pmem.{Ghosts}
@@ -129,7 +129,7 @@ module _ (q : State) (old mid : Device) (slot : ℕ) (session : Option Session) 
   works-taking : Works q (stored (word_of q.layout slot 0) 0 old) session cycle batch free
   works-taking =
       works-moved q old (stored (word_of q.layout slot 0) 0 old) session cycle batch free apart works
-      (log-stored q.layout (word_of q.layout slot 0) 0 old (omega arith) (present q).ruled_by)
+      (log-stored q.layout (word_of q.layout slot 0) 0 old (omega arith) q.ruling)
       (slots-taking q old (stored (word_of q.layout slot 0) 0 old) slot works.kept taken_at.1
       (others-stored q.layout slot 0 0 old (within-slot q.layout.version 0 (omega arith)))
       (taking-stored q.layout old slot)
@@ -139,7 +139,7 @@ module _ (q : State) (old mid : Device) (slot : ℕ) (session : Option Session) 
   works-taking_failed : Works (record q { failed = true }) (stored (word_of q.layout slot 0) 0 old) session cycle batch free
   works-taking_failed =
       works-failed q old (stored (word_of q.layout slot 0) 0 old) session cycle batch free apart works
-      (log-stored q.layout (word_of q.layout slot 0) 0 old (omega arith) (present q).ruled_by)
+      (log-stored q.layout (word_of q.layout slot 0) 0 old (omega arith) q.ruling)
       (slots-failed q (stored (word_of q.layout slot 0) 0 old) works-taking.slots)
 
   module _ (keeps : Keeps old mid (OldOrCleared old q.layout free)) (others : (word : ℕ) → (IsBeginOfLowest q.layout free word → ⊥) → IsNotStored old mid word) where
@@ -161,7 +161,7 @@ module _ (q : State) (old mid : Device) (slot : ℕ) (session : Option Session) 
     works-taken =
         works-moved q old mid session cycle batch free apart works
         (holds_record_kept q.layout old mid keeps.images.continues.same_words
-        (λ word lt. kept-not_stored (not_stored word (λ e. absurd (omega (arith, e, lt))))) (present q).ruled_by)
+        (λ word lt. kept-not_stored (not_stored word (λ e. absurd (omega (arith, e, lt))))) q.ruling)
         (slots-taking q old mid slot works.kept taken_at.1 take_others
         record { each = λ x there. take_begin x (keeps.now (word_of q.layout slot 0) x there) }
         (shrinks-not_stored (not_stored (word_of q.layout slot 1) (words-apart_within q.layout slot 1 0 (λ e. omega (arith, e)))))
@@ -221,7 +221,7 @@ module _ (q : State) (old new : Device) (key : Key) (row : List ℕ) (slot : ℕ
         kept = kept;
         slots = slots;
         log = log-rests (next_state q (Put 2 key row)) new (Some (Active (with_write_at (stored_write key row slot replaces) writes))) batch log.1
-            (filling_record q.layout slot (slot_words q.layout.version - 1) 0 (version_after key row replaces) old new (omega arith) run (present q).ruled_by log.2);
+            (filling_record q.layout slot (slot_words q.layout.version - 1) 0 (version_after key row replaces) old new (omega arith) run q.ruling log.2);
       })
 
   -- into the slot that the session has for the key
@@ -256,7 +256,7 @@ module _ (q : State) (old new : Device) (key : Key) (row : List ℕ) (slot : ℕ
     works-own_failed : (n : ℕ) → n ≤ slot_words q.layout.version - 1 → Fills q.layout slot (version_after key row replaces) n 1 old new → Works (record q { failed = true }) new (Some (Active writes)) cycle batch free
     works-own_failed n le run =
         works-failed q old new (Some (Active writes)) cycle batch free refl works
-        (filling_record q.layout slot n 1 (version_after key row replaces) old new le run (present q).ruled_by)
+        (filling_record q.layout slot n 1 (version_after key row replaces) old new le run q.ruling)
         (slots-refilling q old new slot 2 key works.kept own (filling_others q.layout slot n 1 (version_after key row replaces) old new le run)
         (filling_cleared q.layout slot n 1 (version_after key row replaces) old new le run own_begin) works.slots)
 
@@ -298,7 +298,7 @@ module _ (q : State) (old new : Device) (key : Key) (row : List ℕ) (slot : ℕ
     works-new_failed : (n : ℕ) → n ≤ slot_words q.layout.version - 1 → Fills q.layout slot (version_after key row replaces) n 1 old new → Works (record q { failed = true }) new (Some (Active writes)) cycle batch free
     works-new_failed n le run =
         works-failed q old new (Some (Active writes)) cycle batch free refl works
-        (filling_record q.layout slot n 1 (version_after key row replaces) old new le run (present q).ruled_by)
+        (filling_record q.layout slot n 1 (version_after key row replaces) old new le run q.ruling)
         (slots-failed q new (slots-filling q old new slot works.kept new_at.1 (filling_others q.layout slot n 1 (version_after key row replaces) old new le run)
         (filling_cleared q.layout slot n 1 (version_after key row replaces) old new le run begin) works.slots))
 
@@ -344,7 +344,7 @@ module _ {D : Type 0} {G : Ghosts D} (state : D → Device) (old mid new : Room 
     };
     images = leaves_trans (mid_images (next_state q (Put 2 key row)))
         (run_leaves (slot_start q.layout slot + 1) (λ k. filled_word (version_after key row replaces) (k + 1)) (slot_words q.layout.version - 1) 0 (state mid.device) (state new.device) run (StandsWithin q (next_state q (Put 2 key row)))
-        (λ image may. StandsAt-within q (next_state q (Put 2 key row)) image (stands-back q (next_state q (Put 2 key row)) image refl refl refl (stands image may))));
+        (λ image may. StandsAt-within q (next_state q (Put 2 key row)) image (stands-back q (next_state q (Put 2 key row)) image refl refl refl refl (stands image may))));
     failure = record {
       no_fewer = omega (arith, run.failures, made.failures);
       cause = λ told. absurd (other (sym has.told ∙ told));
@@ -373,7 +373,7 @@ module _ {D : Type 0} {G : Ghosts D} (state : D → Device) (old mid new : Room 
     };
     images = leaves_trans (mid_images (record q { failed = true }))
         (run_leaves (slot_start q.layout slot + 1) (λ k. filled_word (version_after key row replaces) (k + 1)) fails.part.0 1 (state mid.device) (state new.device) run (StandsWithin q (record q { failed = true }))
-        (λ image may. StandsAt-within q (record q { failed = true }) image (stands-back q (record q { failed = true }) image refl refl refl (stands image may))));
+        (λ image may. StandsAt-within q (record q { failed = true }) image (stands-back q (record q { failed = true }) image refl refl refl refl (stands image may))));
     failure = record {
       no_fewer = omega (arith, run.failures, made.failures);
       cause = λ told. omega (arith, run.failures, made.failures);

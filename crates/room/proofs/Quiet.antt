@@ -6,7 +6,7 @@ use Rattle.room.specs.declared.cycle.InHand.{InHand}
 use Rattle.base.specs.declared.step.Step.TheVariants.{Begin, Poll, End}
 use Rattle.base.specs.declared.step.Reply.TheVariants.{Began, Done, Waiting, Committed}
 use Rattle.base.specs.Stands.{has_timestamp}
-use Rattle.base.specs.Machine.{State, Session as PlainSession, Drew, WroteNothing, IsDrawn, IsStamped, IsCovered, Stepped, answered, refusal, free_session, next_state, with_session, replaced, allows, standing_of, polled, writes_of, present}
+use Rattle.base.specs.Machine.{State, Session as PlainSession, Drew, WroteNothing, IsDrawn, IsStamped, IsCovered, Stepped, answered, refusal, free_session, next_state, with_session, replaced, allows, standing_of, polled, writes_of}
 use Rattle.pmem.specs.Device.{Device}
 use Rattle.invariant.specs.Kept.{IsKept}
 use Rattle.invariant.proofs.Keeping.{kept-begin, slots-begin, kept-end, slots-end}
@@ -96,8 +96,8 @@ pub poll-nothing : (q : State) (n : ℕ) → q.failed ≡ false → q.sessions n
 poll-nothing q n works found = answered (refusal-poll q n WroteNothing works found refl) (sym (ap (polled q) found)) refl
 
 -- a drawn commit's timestamp comes after all that is covered
-pub drawn-uncovered : (q : State) (t : ℕ) → IsKept q → t ≡ q.persisted + 1 → has_timestamp q.history t ≡ false
-drawn-uncovered q t kept is = not-covered (present q).ruled_by q.history t kept.covered (omega (arith, is))
+pub drawn-uncovered : (q : State) (t : ℕ) → IsKept q → t ≡ q.ruling.persisted + 1 → has_timestamp q.history t ≡ false
+drawn-uncovered q t kept is = not-covered q.ruling q.history t kept.covered (omega (arith, is))
 
 -- ---- End
 
@@ -126,7 +126,7 @@ over-drawn q ReadOnly over is = is
 over-drawn q (Active writes) over is = absurd over
 over-drawn q (Drawn t writes stamped) over is = absurd over
 
-over-next : (q : State) (found : Session) → IsOver found → HoldsSession q (Some found) → q.next ≡ q.persisted + 1
+over-next : (q : State) (found : Session) → IsOver found → HoldsSession q (Some found) → q.next ≡ q.ruling.persisted + 1
 over-next q (Covered t) over holds = holds.1
 over-next q ReadOnly over holds = holds
 over-next q (Active writes) over holds = absurd over

@@ -14,7 +14,7 @@ use Rattle.base.specs.Commits.{after}
 use Rattle.base.specs.Keys.{lookup_key}
 use Rattle.base.specs.Layout.{Layout}
 use Rattle.base.specs.Stands.{has_timestamp}
-use Rattle.base.specs.Machine.{State, Drawn as DrawnCommit, Drew, IsDrawn, IsStamped, IsCovered, is_stamped, Version, ByCommit, answered, device_failed, refusal, next_state, counted, drawn_at, drawn_of, timestamp_of, is_last_stamp, operates_for, operates, standing_of, allows, present, StandsWithin}
+use Rattle.base.specs.Machine.{State, Drawn as DrawnCommit, Drew, IsDrawn, IsStamped, IsCovered, is_stamped, Version, ByCommit, answered, device_failed, refusal, next_state, counted, drawn_at, drawn_of, timestamp_of, is_last_stamp, operates_for, operates, standing_of, allows, StandsWithin}
 use Rattle.base.proofs.Runs.{StandsAt-within}
 use Rattle.pmem.specs.Device.{Device, IsOrderly}
 use Rattle.pmem.specs.declared.device.Pmem.{Ghosts}
@@ -155,7 +155,7 @@ module _ (q : State) (old new : Device) (t : ℕ) (writes : List Write) (stamped
   waits : is_apart (Some (Drawn t writes stamped)) ≡ true
   waits = ap not not_all
 
-  log_at : (cycle ≡ None) × (q.hand ≡ None) × HoldsRecord q.layout (present q).ruled_by old
+  log_at : (cycle ≡ None) × (q.hand ≡ None) × HoldsRecord q.layout q.ruling old
   log_at = nothing_in_hand q old (Some (Drawn t writes stamped)) cycle batch waits works.log
 
   pub stamp-refusal : refusal q (Stamp 2) ≡ None
@@ -164,7 +164,7 @@ module _ (q : State) (old new : Device) (t : ℕ) (writes : List Write) (stamped
       standing : standing_of q (Drew t) ≡ IsDrawn
       standing =
           ap (λ (b : Bool). cond b IsCovered (cond (list_any (λ (d : DrawnCommit). nat_eq d.commit.timestamp t && is_stamped d) q.drawn) IsStamped IsDrawn))
-          (not-covered (present q).ruled_by q.history t works.kept.covered (omega (arith, works.holds.1.follows)))
+          (not-covered q.ruling q.history t works.kept.covered (omega (arith, works.holds.1.follows)))
           ∙ ap (λ (b : Bool). cond b IsStamped IsDrawn) (all-stamped q t writes stamped works.drawn ∙ not_all)
 
   pub stamp-last : is_last_stamp q 2 ≡ nat_eq (stamped + 1) (length writes)
@@ -218,7 +218,7 @@ module _ (q : State) (old new : Device) (t : ℕ) (writes : List Write) (stamped
     free_slots = free-same refl refl works.free_slots;
     kept = kept-stamp q 2 works.kept;
     slots = slots-stamp_any q 2 old new write.slot write.replaces t (drawn_now t writes stamped) write.key write.row timestamp_is next own replaced up works.kept (has-stamps stamps) works.slots;
-    log = (log_at.1, write-record q.layout write t old new stamps (present q).ruled_by log_at.2);
+    log = (log_at.1, write-record q.layout write t old new stamps q.ruling log_at.2);
   })
 
   slots-failing : HasStamps q.layout old new None None t ⊎ HasStamps q.layout old new write.slot None t → SlotsHold (record q { failed = true }) new
@@ -229,7 +229,7 @@ module _ (q : State) (old new : Device) (t : ℕ) (writes : List Write) (stamped
 
   pub works-stamping : FailsStampingWrite q.layout write t old new → Works (record q { failed = true }) new (Some (Drawn t writes stamped)) cycle batch free
   works-stamping fails =
-      works-failed q old new (Some (Drawn t writes stamped)) cycle batch free waits works (failing-record q.layout write t old new fails (present q).ruled_by)
+      works-failed q old new (Some (Drawn t writes stamped)) cycle batch free waits works (failing-record q.layout write t old new fails q.ruling)
       (slots-failing (fails-stamps q.layout write t old new begin fails))
 
 -- ---- the step
@@ -258,7 +258,7 @@ module _ {D : Type 0} {G : Ghosts D} (state : D → Device) (old new : Room D G)
           has.session has.rest.cycle has.rest.batch has.rest.slots works);
     };
     images = write-leaves old.numbers.geometry write t (state old.device) (state new.device) orderly has.stamps (StandsWithin q (next_state q (Stamp 2)))
-        (λ image may. StandsAt-within q (next_state q (Stamp 2)) image (stands-back q (next_state q (Stamp 2)) image
+        (λ image may. StandsAt-within q (next_state q (Stamp 2)) image (stands-back q (next_state q (Stamp 2)) image refl
         (drawn_of-stamped q (state old.device) (state new.device) t writes stamped write old.cycle old.batch old.slots state_up at works_before) refl refl
         (stands-works (next_state q (Stamp 2)) (state new.device) (Some (Drawn t writes (stamped + 1))) old.cycle old.batch old.slots works image may)));
     failure = record {
@@ -293,7 +293,7 @@ module _ {D : Type 0} {G : Ghosts D} (state : D → Device) (old new : Room D G)
           (λ still. absurd (true≢false (sym fails.tells.failed ∙ still)));
     };
     images = failing-leaves old.numbers.geometry write t (state old.device) (state new.device) fails.stamps (StandsWithin q (record q { failed = true }))
-        (λ image may. StandsAt-within q (record q { failed = true }) image (stands-back q (record q { failed = true }) image refl refl refl
+        (λ image may. StandsAt-within q (record q { failed = true }) image (stands-back q (record q { failed = true }) image refl refl refl refl
         (stands-works (record q { failed = true }) (state new.device) (Some (Drawn t writes stamped)) old.cycle old.batch old.slots works image may)));
     failure = record {
       no_fewer = omega (arith, made.failures);

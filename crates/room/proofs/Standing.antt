@@ -40,11 +40,11 @@ survive : (a : Layout) (device : Device) (image : Image) → device.words ≡ to
 survive a device image size may = record { each = λ slot w lt below. may.each (word_of a slot w) (subst (λ (n : ℕ). word_of a slot w < n) (sym size) (word-within a slot w lt below)) }
 
 -- under the state's own record, where the words of the slots survive
-pub stands-survived : (q : State) (device : Device) (image : Image) → IsKept q → SlotsHold q device → SlotsSurvive q.layout device image → IsRuledBy q.layout (present q).ruled_by image → StandsUnder q (present q) image
+pub stands-survived : (q : State) (device : Device) (image : Image) → IsKept q → SlotsHold q device → SlotsSurvive q.layout device image → IsRuledBy q.layout q.ruling image → StandsUnder q (present q) image
 stands-survived q device image kept slots words ruled = every-image-stands q device image kept slots words ruled
 
 -- where a crash may leave the image
-pub stands-ruled : (q : State) (device : Device) (image : Image) → device.words ≡ total_words q.layout → IsKept q → SlotsHold q device → MayLeave device image → IsRuledBy q.layout (present q).ruled_by image → StandsUnder q (present q) image
+pub stands-ruled : (q : State) (device : Device) (image : Image) → device.words ≡ total_words q.layout → IsKept q → SlotsHold q device → MayLeave device image → IsRuledBy q.layout q.ruling image → StandsUnder q (present q) image
 stands-ruled q device image size kept slots may ruled = stands-survived q device image kept slots (survive q.layout device image size may) ruled
 
 -- a timestamp of the batch is one of the history with the batch
@@ -69,7 +69,7 @@ all-left_out p dropped (d ∷ drawn) has all = by (dropped d) refl (all-left_out
 
 -- under the record of the batch in hand: as the state in which it is covered says
 pub stands-covered : (q : State) (hand : Hand) (image : Image) → StandsUnder (state_covered q hand) (present (state_covered q hand)) image
-    → StandsUnder q (record { ruled_by = (present (state_covered q hand)).ruled_by; commits = q.history ++ hand.commits }) image
+    → StandsUnder q (record { ruled_by = (state_covered q hand).ruling; commits = q.history ++ hand.commits }) image
 stands-covered q hand image s = record {
   stands = record {
     sound = s.stands.sound;
@@ -81,6 +81,7 @@ stands-covered q hand image s = record {
     reserved = s.stands.reserved;
   };
   ruled = s.ruled;
+  laid_out = s.laid_out;
 }
 
 pub stands-first : (q : State) (more : List Cover) (image : Image) → StandsUnder q (present q) image → StandsAsOne q (present q ∷ more) image
@@ -88,31 +89,31 @@ stands-first q more image s = (present q, (0, omega arith, refl), s)
 
 -- where the batch in hand is covered
 pub stands-second : (q : State) (hand : Hand) (image : Image) → q.hand ≡ Some hand
-    → StandsUnder q (record { ruled_by = (present (state_covered q hand)).ruled_by; commits = q.history ++ hand.commits }) image → StandsAt q image
+    → StandsUnder q (record { ruled_by = (state_covered q hand).ruling; commits = q.history ++ hand.commits }) image → StandsAt q image
 stands-second q hand image in_hand s =
-    let cover : Cover = record { ruled_by = (present (state_covered q hand)).ruled_by; commits = q.history ++ hand.commits } in
+    let cover : Cover = record { ruled_by = (state_covered q hand).ruling; commits = q.history ++ hand.commits } in
     (cover, subst (λ (h : Option Hand). Contains (present q ∷ of_hand q h) cover) (sym in_hand) (1, omega arith, refl), s)
 
 -- one record rules
-pub stands-held : (q : State) (device : Device) → IsKept q → SlotsHold q device → HoldsRecord q.layout (present q).ruled_by device → (image : Image) → MayLeave device image → StandsAt q image
+pub stands-held : (q : State) (device : Device) → IsKept q → SlotsHold q device → HoldsRecord q.layout q.ruling device → (image : Image) → MayLeave device image → StandsAt q image
 stands-held q device kept slots holds image may =
-    stands-first q (of_hand q q.hand) image (stands-ruled q device image holds.stands.size kept slots may (holds_ruled q.layout (present q).ruled_by device holds image may))
+    stands-first q (of_hand q q.hand) image (stands-ruled q device image holds.stands.size kept slots may (holds_ruled q.layout q.ruling device holds image may))
 
 -- the record of the batch in hand is being written
 pub stands-covering : (q : State) (device : Device) (cycle : Cycle) (batch : Option InHand) (t : ℕ) (writes : List Write) → IsKept q → SlotsHold q device → IsCycleOf q cycle batch t writes
     → IsCovering q (state_covered q (hand_of q cycle t writes)) device cycle.writing → (image : Image) → MayLeave device image → StandsAt q image
-stands-covering q device cycle batch t writes kept slots of covering image may = by (ruled_meanwhile (present q).ruled_by cycle.writing device covering.replaces image may)
+stands-covering q device cycle batch t writes kept slots of covering image may = by (ruled_meanwhile q.ruling cycle.writing device covering.replaces image may)
   where
     size : device.words ≡ total_words q.layout
     size = covering.replaces.stands.size ∙ ap (λ (a : Layout). total_words a) of.layout
 
-    by : IsRuledBy cycle.writing.layout (present q).ruled_by image ⊎ (IsTrue (is_gate_stored cycle.writing.stage) × IsRuledBy cycle.writing.layout cycle.writing.target image) → StandsAt q image
+    by : IsRuledBy cycle.writing.layout q.ruling image ⊎ (IsTrue (is_gate_stored cycle.writing.stage) × IsRuledBy cycle.writing.layout cycle.writing.target image) → StandsAt q image
     by (inl old) =
         stands-first q (of_hand q q.hand) image
-        (stands-ruled q device image size kept slots may (subst (λ (a : Layout). IsRuledBy a (present q).ruled_by image) of.layout old))
+        (stands-ruled q device image size kept slots may (subst (λ (a : Layout). IsRuledBy a q.ruling image) of.layout old))
     by (inr new) =
         let covered : State = state_covered q (hand_of q cycle t writes) in
-        let ruled : IsRuledBy q.layout (present covered).ruled_by image =
+        let ruled : IsRuledBy q.layout covered.ruling image =
         subst (λ (r : Record). IsRuledBy q.layout r image) of.target (subst (λ (a : Layout). IsRuledBy a cycle.writing.target image) of.layout new.1) in
         stands-second q (hand_of q cycle t writes) image of.in_hand
         (stands-covered q (hand_of q cycle t writes) image (stands-ruled covered device image size covering.keeps covering.slots may ruled))

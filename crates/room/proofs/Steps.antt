@@ -1,5 +1,5 @@
 -- Steps that leave the room as it is.
-use Rattle.std.proofs.Common.{◌≡◌, ℕ, ◌+◌, ◌≤◌, refl, sym, ap, subst, arith}
+use Rattle.std.proofs.Common.{◌≡◌, ℕ, ◌+◌, ◌≤◌, refl, sym, ◌∙◌, ap, subst, arith}
 use Rattle.base.specs.declared.fault.Fault.{Fault}
 use Rattle.base.specs.declared.fault.Fault.TheVariants.{Device as DeviceFault}
 use Rattle.base.specs.declared.step.Step.{Step}
@@ -60,13 +60,14 @@ pub same-operations : (device : Device) (n : ℕ) → operations_of device ≤ o
 same-operations device n = omega arith
 
 -- what stands for one state stands for another with the same commits, records and next timestamp
-pub stands-alike : (q q' : State) (image : Image) → drawn_of q' ≡ drawn_of q → q'.next ≡ q.next → covers_at q' ≡ covers_at q → StandsAt q image → StandsAt q' image
-stands-alike q q' image drawn next covers s = (
+pub stands-alike : (q q' : State) (image : Image) → q'.layout ≡ q.layout → drawn_of q' ≡ drawn_of q → q'.next ≡ q.next → covers_at q' ≡ covers_at q → StandsAt q image → StandsAt q' image
+stands-alike q q' image layout drawn next covers s = (
   s.0,
   subst (λ (l : List Cover). Contains l s.0) (sym covers) s.1,
   record {
     stands = subst (λ (d : List Commit). Stands image s.0.commits d q'.next) (sym drawn) (subst (λ (n : ℕ). Stands image s.0.commits (drawn_of q) n) (sym next) s.2.stands);
     ruled = s.2.ruled;
+    laid_out = s.2.laid_out ∙ sym layout;
   },
 )
 

@@ -127,8 +127,8 @@ fails state old new q step orderly orderly' shown made numbers down unrefused op
     failed-stands image s = by q.hand s
       where
         by : (hand : Option Hand) → StandsAsOne q (present q ∷ of_hand q hand) image → StandsAsOne (record q { failed = true }) (present q ∷ of_hand (record q { failed = true }) hand) image
-        by None s = (s.0, s.1, record { stands = s.2.stands; ruled = s.2.ruled })
-        by (Some hand) s = (s.0, s.1, record { stands = s.2.stands; ruled = s.2.ruled })
+        by None s = (s.0, s.1, record { stands = s.2.stands; ruled = s.2.ruled; laid_out = s.2.laid_out })
+        by (Some hand) s = (s.0, s.1, record { stands = s.2.stands; ruled = s.2.ruled; laid_out = s.2.laid_out })
 
 -- ---- a tick of the batch in hand
 
@@ -140,7 +140,7 @@ operates-in_hand q hand in_hand = ap (λ (h : Option Hand). is_some h) in_hand
 
 -- with this batch in hand, or another
 hand-within : (q : State) (hand : Hand) (image : Image) → StandsAt (record q { hand = Some hand }) image → StandsWithin q (record q { hand = Some hand }) image
-hand-within q hand image s = (s.0, within, record { stands = s.2.stands; ruled = s.2.ruled })
+hand-within q hand image s = (s.0, within, record { stands = s.2.stands; ruled = s.2.ruled; laid_out = s.2.laid_out })
   where
     within : Contains (covers_at q ++ (of_hand q (Some hand) ++ present q ∷ [])) s.0
     within = elim (Contains-append_cases (present q ∷ []) (of_hand q (Some hand)) s.0 s.1) [
@@ -334,7 +334,7 @@ flushes state old new q cycle count slot line orderly orderly' shown up is stage
     let log : HoldsLog q' device' (Some (Drawn t writes (length writes))) (Some cycle') old.batch = (
       refl,
       cycle-ticked q cycle cycle' old.batch t writes h.of refl refl,
-      (holds_record_kept q.layout device device' size (keeps_log-flushed q.layout 0 line made) (present q).ruled_by holds.0, holds.1, ready),
+      (holds_record_kept q.layout device device' size (keeps_log-flushed q.layout 0 line made) q.ruling holds.0, holds.1, ready),
     ) in
     let works = works-ticked q (Some hand') device device' t writes (Some cycle) (Some cycle') old.batch old.batch old.slots h.works (slots-shrink h.works.slots (shrinks-by_flush q.layout 0 line made)) log in
     let shown' = shows-ticked state old new q hand' t writes cycle' old.batch shown numbers (session ∙ h.is) cycle_is batch slots down works in
@@ -359,6 +359,7 @@ covers-whole q device t writes cycle batch free works = record {
   stamped = is_stamped-whole t writes;
   alone = λ key has. refl;
   commits = refl;
+  gate = refl;
   persisted = refl;
   gaps = refl;
   longs = refl;
@@ -402,18 +403,18 @@ covering-begun q device device' t writes cycle batch free count up works of past
         slots-cover_commit q (hand_of q cycle t writes) (stamped_whole t writes) device' covers_it up works.kept
         (settled-whole q device device' t writes cycle batch free count works (lines-in_hand q cycle batch t writes of) past holds.2 made) (slots-shrink works.slots (shrinks-by_fence q.layout 0 made))
 
-    fits : IsRecordFor q.layout (present (state_covered q (hand_of q cycle t writes))).ruled_by
+    fits : IsRecordFor q.layout (state_covered q (hand_of q cycle t writes)).ruling
     fits = record { limits = works.kept.layout; well_formed = keeps.formed; numbered = omega arith; in_range = of.numbered }
 
-    writing : cycle.writing ≡ begun q.layout (present (state_covered q (hand_of q cycle t writes))).ruled_by
+    writing : cycle.writing ≡ begun q.layout (state_covered q (hand_of q cycle t writes)).ruling
     writing = λ i. record { layout = of.layout i; target = of.target i; stage = holds.1 i }
 
-    replaces : IsReplacing (present q).ruled_by cycle.writing device'
+    replaces : IsReplacing q.ruling cycle.writing device'
     replaces =
-        subst (λ (p : Progress). IsReplacing (present q).ruled_by p device') (sym writing)
-        (replacing_begun q.layout (present q).ruled_by (present (state_covered q (hand_of q cycle t writes))).ruled_by device'
+        subst (λ (p : Progress). IsReplacing q.ruling p device') (sym writing)
+        (replacing_begun q.layout q.ruling (state_covered q (hand_of q cycle t writes)).ruling device'
         (record {
-          holds = holds_record_kept q.layout device device' (ap (λ (d : Device). d.words) made) (keeps_log-fenced q.layout 0 made) (present q).ruled_by holds.0;
+          holds = holds_record_kept q.layout device device' (ap (λ (d : Device). d.words) made) (keeps_log-fenced q.layout 0 made) q.ruling holds.0;
           next = refl;
           fits = fits;
         }))
@@ -498,7 +499,7 @@ pub record MakesTick (p p' : Progress) (old new : Device) : Type 0 where
 
 covering-ticked : (q q' : State) (p p' : Progress) (old new : Device) → q.layout ≡ p.layout → q'.layout ≡ q.layout → IsCovering q q' old p → MakesTick p p' old new → IsCovering q q' new p'
 covering-ticked q q' p p' old new layout same covering made = record {
-  replaces = made.replaces (present q).ruled_by covering.replaces;
+  replaces = made.replaces q.ruling covering.replaces;
   keeps = covering.keeps;
   slots = slots-shrink covering.slots (shrinks-outside q'.layout p old new (sym layout ∙ sym same) covering.replaces.writing.limits made.outside);
 }
@@ -549,7 +550,7 @@ sessions-covered q more t n stamped writes = by (nat_eq n 2)
     by false = refl
 
 works-covered : (q : State) (device device' : Device) (t : ℕ) (writes : List Write) (cycle : Cycle) (batch batch' : Option InHand) (free : List Bool) → Works q device (Some (Drawn t writes (length writes))) (Some cycle) batch free
-    → IsKept (state_covered q (hand_of q cycle t writes)) → SlotsHold (state_covered q (hand_of q cycle t writes)) device' → HoldsRecord q.layout (present (state_covered q (hand_of q cycle t writes))).ruled_by device'
+    → IsKept (state_covered q (hand_of q cycle t writes)) → SlotsHold (state_covered q (hand_of q cycle t writes)) device' → HoldsRecord q.layout (state_covered q (hand_of q cycle t writes)).ruling device'
     → Works (state_covered q (hand_of q cycle t writes)) device' (Some (Covered t)) None batch' free
 works-covered q device device' t writes cycle batch batch' free works kept slots holds = record {
   sessions = λ n. works.sessions n ∙ sessions-covered q (length (q.history ++ commit_of t writes ∷ [])) t n (length writes) writes;
@@ -585,9 +586,9 @@ covers-last state old mid new q cycle p' reply orderly orderly' shown up is stag
     (ap (λ (s : CycleStage). slice_get (stages lines) (ticks_of lines cycle s)) stage ∙ stage-reached lines cycle.writing.stage staged made.under_way ∙ sym reaches) in
     let done : p'.stage ≡ Done = ap (λ (p : Progress). p.stage) made.advances ∙ ap (λ (s : WritingStage). after_stage s) (done-next cycle.writing.stage made.under_way (sym reaches)) in
     let layout : p'.layout ≡ q.layout = ap (λ (p : Progress). p.layout) made.advances ∙ h.of.layout in
-    let target : p'.target ≡ (present q').ruled_by = ap (λ (p : Progress). p.target) made.advances ∙ h.of.target in
-    let holds : HoldsRecord q.layout (present q').ruled_by device' =
-    subst (λ (r : Record). HoldsRecord q.layout r device') target (subst (λ (a : Layout). HoldsRecord a p'.target device') layout (made.done (present q).ruled_by covering_q.replaces done)) in
+    let target : p'.target ≡ q'.ruling = ap (λ (p : Progress). p.target) made.advances ∙ h.of.target in
+    let holds : HoldsRecord q.layout q'.ruling device' =
+    subst (λ (r : Record). HoldsRecord q.layout r device') target (subst (λ (a : Layout). HoldsRecord a p'.target device') layout (made.done q.ruling covering_q.replaces done)) in
     let c = covering-ticked q q' cycle.writing p' device device' (sym h.of.layout) refl covering_q made in
     let session : new.session ≡ Some (Covered t) = room.session ∙ ap (λ (r : Record). let s : Option Session = Some (Covered r.persisted) in s) target in
     let works : Works q' device' new.session new.cycle new.batch new.slots =
@@ -600,7 +601,7 @@ covers-last state old mid new q cycle p' reply orderly orderly' shown up is stag
     let reply_is : reply ≡ CoveredReply (batch_of q hand) = told ∙ ap covering (batch ∙ h.of.covers.1) ∙ ap (λ (b : Batch). CoveredReply b) h.of.covers.2.batch in (
       q',
       covers state old new q hand reply orderly orderly' shown one (shown.agrees.failed ∙ up) h.of.in_hand next reply_is
-          (λ image may. stands-ruled q' device' image holds.stands.size c.keeps c.slots may (holds_ruled q.layout (present q').ruled_by device' holds image may)) shown',
+          (λ image may. stands-ruled q' device' image holds.stands.size c.keeps c.slots may (holds_ruled q.layout q'.ruling device' holds image may)) shown',
     )
 
 -- ---- what the fields say

@@ -8,7 +8,7 @@ use Rattle.base.specs.Commits.{Commit, after, last_writer}
 use Rattle.base.specs.Layout.{Layout}
 use Rattle.base.specs.Stands.{Stands, has_timestamp}
 use Rattle.base.specs.Images.{Image}
-use Rattle.base.specs.Machine.{State, Version, Writer, BySession, ByCommit, Session as PlainSession, Cover, present, replaced, drawn_of, covers_at, StandsAt}
+use Rattle.base.specs.Machine.{State, Version, Writer, BySession, ByCommit, Session as PlainSession, Cover, replaced, drawn_of, covers_at, StandsAt}
 use Rattle.pmem.specs.Device.{Device}
 use Rattle.pmem.specs.declared.device.Pmem.{Ghosts}
 use Rattle.txn.specs.declared.write.Write.{Write}
@@ -30,7 +30,7 @@ use Rattle.room.proofs.Standing.{stands-works}
 
 -- ---- what a working room shows
 
-pub shows-works : {D : Type 0} {G : Ghosts D} (state : D → Device) (room : Room D G) (q : State) → q.layout ≡ room.numbers.geometry → (present q).ruled_by ≡ room.numbers.record → q.next ≡ room.numbers.next → q.swept ≡ false → q.failed ≡ room.failed
+pub shows-works : {D : Type 0} {G : Ghosts D} (state : D → Device) (room : Room D G) (q : State) → q.layout ≡ room.numbers.geometry → q.ruling ≡ room.numbers.record → q.next ≡ room.numbers.next → q.swept ≡ false → q.failed ≡ room.failed
     → Works q (state room.device) room.session room.cycle room.batch room.slots → Shows state room q
 shows-works state room q layout ruled next swept failed works = record {
   stands = stands-works q (state room.device) room.session room.cycle room.batch room.slots works;
@@ -46,13 +46,14 @@ works-along q device s s' c c' b b' f f' same_s same_c same_b same_f works =
 
 -- ---- what a state stands for is what the one before it stood for
 
-pub stands-back : (q q' : State) (image : Image) → drawn_of q' ≡ drawn_of q → q'.next ≡ q.next → covers_at q' ≡ covers_at q → StandsAt q' image → StandsAt q image
-stands-back q q' image drawn next covers s = (
+pub stands-back : (q q' : State) (image : Image) → q'.layout ≡ q.layout → drawn_of q' ≡ drawn_of q → q'.next ≡ q.next → covers_at q' ≡ covers_at q → StandsAt q' image → StandsAt q image
+stands-back q q' image layout drawn next covers s = (
   s.0,
   subst (λ (cs : List Cover). Contains cs s.0) covers s.1,
   record {
     stands = subst (λ (ds : List Commit). Stands image s.0.commits ds q.next) drawn (subst (λ (n : ℕ). Stands image s.0.commits (drawn_of q') n) next s.2.stands);
     ruled = s.2.ruled;
+    laid_out = s.2.laid_out ∙ layout;
   },
 )
 
@@ -64,7 +65,7 @@ is_apart (Some (Drawn t writes stamped)) = not (nat_eq stamped (length writes))
 is_apart _ = true
 
 pub nothing_in_hand : (q : State) (device : Device) (session : Option Session) (cycle : Option Cycle) (batch : Option InHand) → is_apart session ≡ true → HoldsLog q device session cycle batch
-    → (cycle ≡ None) × (q.hand ≡ None) × HoldsRecord q.layout (present q).ruled_by device
+    → (cycle ≡ None) × (q.hand ≡ None) × HoldsRecord q.layout q.ruling device
 nothing_in_hand q device session None batch apart log = (refl, log.0, log.1)
 nothing_in_hand q device None (Some cycle) batch apart log = absurd log
 nothing_in_hand q device (Some (Active o)) (Some cycle) batch apart log = absurd log
@@ -81,7 +82,7 @@ free-same {q} {q'} {free} layout held has = record {
 
 -- what does not change of the agreement
 pub agrees-moved : {D : Type 0} {G : Ghosts D} (state : D → Device) (old new : Room D G) (q q' : State) → Agrees state old q → new.numbers ≡ old.numbers
-    → q'.layout ≡ q.layout → (present q').ruled_by ≡ (present q).ruled_by → q'.next ≡ q.next → q'.swept ≡ q.swept → q'.failed ≡ new.failed
+    → q'.layout ≡ q.layout → q'.ruling ≡ q.ruling → q'.next ≡ q.next → q'.swept ≡ q.swept → q'.failed ≡ new.failed
     → (new.failed ≡ false → Works q' (state new.device) new.session new.cycle new.batch new.slots) → Agrees state new q'
 agrees-moved state old new q q' agrees numbers layout ruled next swept failed works = record {
   layout = layout ∙ agrees.layout ∙ ap (λ (n : Numbers). n.geometry) (sym numbers);
@@ -116,7 +117,7 @@ holds-writes q q' writer writes layout held history h = record { rising = h.risi
     placed write is = record { own = own (version_by write.key writer) write.row write.slot is.own; replaces = replaces write.key write.replaces is.replaces }
 
 -- the fields that a session goes by stay
-pub holds-session : (q q' : State) (session : Option Session) → q'.layout ≡ q.layout → q'.held ≡ q.held → q'.history ≡ q.history → q'.persisted ≡ q.persisted → q'.next ≡ q.next
+pub holds-session : (q q' : State) (session : Option Session) → q'.layout ≡ q.layout → q'.held ≡ q.held → q'.history ≡ q.history → q'.ruling.persisted ≡ q.ruling.persisted → q'.next ≡ q.next
     → HoldsSession q session → HoldsSession q' session
 holds-session q q' None layout held history persisted next h = next ∙ h ∙ ap (λ (n : ℕ). n + 1) (sym persisted)
 holds-session q q' (Some (Active writes)) layout held history persisted next h =
@@ -135,12 +136,12 @@ holds-session q q' (Some (Covered t)) layout held history persisted next h =
     (ap (λ (cs : List Commit). has_timestamp cs t) history ∙ h.0, next ∙ h.1 ∙ ap (λ (n : ℕ). n + 1) (sym persisted))
 holds-session q q' (Some ReadOnly) layout held history persisted next h = next ∙ h ∙ ap (λ (n : ℕ). n + 1) (sym persisted)
 
-pub log-rests : (q : State) (device : Device) (session : Option Session) (batch : Option InHand) → q.hand ≡ None → HoldsRecord q.layout (present q).ruled_by device → HoldsLog q device session None batch
+pub log-rests : (q : State) (device : Device) (session : Option Session) (batch : Option InHand) → q.hand ≡ None → HoldsRecord q.layout q.ruling device → HoldsLog q device session None batch
 log-rests q device session batch none holds = (none, holds)
 
 module _ (q : State) (old new : Device) (session : Option Session) (cycle : Option Cycle) (batch : Option InHand) (free : List Bool) (apart : is_apart session ≡ true) (works : Works q old session cycle batch free)
-    (log_moves : HoldsRecord q.layout (present q).ruled_by old → HoldsRecord q.layout (present q).ruled_by new) where
-  log_at : (cycle ≡ None) × (q.hand ≡ None) × HoldsRecord q.layout (present q).ruled_by old
+    (log_moves : HoldsRecord q.layout q.ruling old → HoldsRecord q.layout q.ruling new) where
+  log_at : (cycle ≡ None) × (q.hand ≡ None) × HoldsRecord q.layout q.ruling old
   log_at = nothing_in_hand q old session cycle batch apart works.log
 
   pub works-moved : SlotsHold q new → Works q new session cycle batch free

@@ -4,7 +4,7 @@ use Rattle.std.specs.Prelude.{None}
 use Rattle.base.specs.Images.{Image}
 use Rattle.base.specs.Layout.{Layout}
 use Rattle.base.specs.Records.{Record}
-use Rattle.base.specs.Machine.{State, present, closing_gate, StandsClosing, StandsClosed}
+use Rattle.base.specs.Machine.{State, closing_gate, StandsClosing, StandsClosed}
 use Rattle.pmem.specs.Device.{Device, MayLeave, LeavesOnly}
 use Rattle.pmem.specs.declared.device.Pmem.{Ghosts}
 use Rattle.log_area.specs.Rulings.{HoldsRecord, Spares}
@@ -39,20 +39,20 @@ module _ {D : Type 0} {G : Ghosts D} (state : D → Device) (room : Room D G) (n
       subst (λ (a : Layout). Spares (IsOutside (begun a (last_record q))) (state room.device) new) (sym shown.agrees.layout)
       (subst (λ (r : Record). Spares (IsOutside (begun room.numbers.geometry r)) (state room.device) new) target-is spares)
 
-  is_next : IsNextRecord room.numbers.geometry (present q).ruled_by target (state room.device)
+  is_next : IsNextRecord room.numbers.geometry q.ruling target (state room.device)
   is_next =
-      subst (λ (r : Record). IsNextRecord room.numbers.geometry (present q).ruled_by r (state room.device)) (sym target-is)
-      (subst (λ (a : Layout). IsNextRecord a (present q).ruled_by (last_record q) (state room.device)) shown.agrees.layout
+      subst (λ (r : Record). IsNextRecord room.numbers.geometry q.ruling r (state room.device)) (sym target-is)
+      (subst (λ (a : Layout). IsNextRecord a q.ruling (last_record q) (state room.device)) shown.agrees.layout
       (last-next q (state room.device) new last works.log.0 shown.agrees.swept works.kept works.slots works.log.1 numbered))
 
   pub written-images : ((ruling : Record) → IsNextRecord room.numbers.geometry ruling target (state room.device) → LeavesOnly (state room.device) new (IsRuledByEither room.numbers.geometry ruling target)) → LeavesOnly (state room.device) new (StandsClosing q)
   written-images ruled =
       last-images q (state room.device) new last works.log.0 shown.agrees.swept works.kept works.slots works.log.1 numbered spares-slots
-      (subst (λ (a : Layout). LeavesOnly (state room.device) new (IsRuledByEither a (present q).ruled_by (last_record q))) (sym shown.agrees.layout)
-      (subst (λ (r : Record). LeavesOnly (state room.device) new (IsRuledByEither room.numbers.geometry (present q).ruled_by r)) target-is (ruled (present q).ruled_by is_next)))
+      (subst (λ (a : Layout). LeavesOnly (state room.device) new (IsRuledByEither a q.ruling (last_record q))) (sym shown.agrees.layout)
+      (subst (λ (r : Record). LeavesOnly (state room.device) new (IsRuledByEither room.numbers.geometry q.ruling r)) target-is (ruled q.ruling is_next)))
 
   pub written-closed : ((ruling : Record) → IsNextRecord room.numbers.geometry ruling target (state room.device) → HoldsRecord room.numbers.geometry target new) → (image : Image) → MayLeave new image → StandsClosed q image
   written-closed holds =
       last-closed q (state room.device) new last works.log.0 shown.agrees.swept works.kept works.slots works.log.1 numbered spares-slots
       (subst (λ (a : Layout). HoldsRecord a (last_record q) new) (sym shown.agrees.layout)
-      (subst (λ (r : Record). HoldsRecord room.numbers.geometry r new) target-is (holds (present q).ruled_by is_next)))
+      (subst (λ (r : Record). HoldsRecord room.numbers.geometry r new) target-is (holds q.ruling is_next)))

@@ -3,8 +3,9 @@ use Rattle.std.specs.Prelude.{◌≡◌, ℕ, ◌+◌, ◌*◌, ◌^◌, ◌<◌
 use Rattle.std.specs.Option.{option_map}
 use Rattle.std.specs.Ordering.{nat_cmp}
 use Rattle.base.specs.Layout.{slot_words}
+use Rattle.base.specs.Records.{Record}
 use Rattle.base.specs.Stands.{has_timestamp}
-use Rattle.base.specs.Machine.{State, Hand, Version, Writer, BySession, ByCommit, is_nil, present, state_covered}
+use Rattle.base.specs.Machine.{State, Hand, Version, Writer, BySession, ByCommit, is_nil, state_covered}
 use Rattle.pmem.specs.Device.{Device, IsReady}
 use Rattle.pmem.specs.declared.device.Pmem.{Ghosts}
 use Rattle.txn.specs.declared.write.Write.{Write}
@@ -48,16 +49,16 @@ pub record HoldsWrites (q : State) (writer : Writer) (writes : List Write) : Typ
 pub record HoldsDrawn (q : State) (t : ℕ) (writes : List Write) (stamped : ℕ) : Type 0 where
   pub writes_some : is_nil writes ≡ false
   pub stamps : stamped ≤ length writes
-  pub follows : t ≡ q.persisted + 1
+  pub follows : t ≡ q.ruling.persisted + 1
   pub next : q.next ≡ t + 1
   pub early : t + 2 * q.layout.window < 2 ^ 62
 
 -- what holds of the session's writes and of the timestamps: nothing else is drawn
 abbrev pub HoldsSession : State → Option Session → Type 0
-HoldsSession q (Some (Active writes)) = HoldsWrites q (BySession 2) writes × (q.next ≡ q.persisted + 1)
+HoldsSession q (Some (Active writes)) = HoldsWrites q (BySession 2) writes × (q.next ≡ q.ruling.persisted + 1)
 HoldsSession q (Some (Drawn t writes stamped)) = HoldsWrites q (ByCommit t) writes × HoldsDrawn q t writes stamped
-HoldsSession q (Some (Covered t)) = (has_timestamp q.history t ≡ true) × (q.next ≡ q.persisted + 1)
-HoldsSession q _ = q.next ≡ q.persisted + 1
+HoldsSession q (Some (Covered t)) = (has_timestamp q.history t ≡ true) × (q.next ≡ q.ruling.persisted + 1)
+HoldsSession q _ = q.next ≡ q.ruling.persisted + 1
 
 -- ---- the committer
 
@@ -66,29 +67,30 @@ abbrev pub ticks_of : ℕ → Cycle → CycleStage → ℕ
 ticks_of lines cycle (FlushLines flushed) = 1 + flushed
 ticks_of lines cycle WriteRecord = 2 + lines + operations_before cycle.writing.stage
 
+-- the record that covers the one drawn commit
+abbrev pub record_for : State → ℕ → Record
+record_for q t = record { gate = q.ruling.gate + 1; persisted = t; dirty = q.next + q.layout.window; gaps = q.ruling.gaps; longs = [] }
+
 -- the batch in hand: the one drawn commit
 abbrev pub hand_of : State → Cycle → ℕ → List Write → Hand
 hand_of q cycle t writes = record {
   commits = commit_of t writes ∷ [];
-  persisted = t;
-  dirty = q.next + q.layout.window;
-  gaps = q.gaps;
-  longs = [];
+  target = record_for q t;
   ticks = ticks_of (length (touched writes)) cycle cycle.stage;
 }
 
 -- the batch is the one drawn commit, with the lines that it touches, in rising order
 pub record IsTaken (q : State) (in_hand : InHand) (t : ℕ) (writes : List Write) : Type 0 where
-  pub batch : in_hand.batch ≡ record { from = q.gate; stamp = q.gate + 1; persisted = t; commits = commit_of t writes ∷ [] }
+  pub batch : in_hand.batch ≡ record { from = q.ruling.gate; stamp = q.ruling.gate + 1; persisted = t; commits = commit_of t writes ∷ [] }
   pub lines : IsPermutation (touched writes) in_hand.lines.items
   pub rising : IsSorted nat_cmp in_hand.lines.items
 
 -- the record that is written covers the drawn commit alone
 pub record IsCycleOf (q : State) (cycle : Cycle) (batch : Option InHand) (t : ℕ) (writes : List Write) : Type 0 where
   pub layout : cycle.writing.layout ≡ q.layout
-  pub target : cycle.writing.target ≡ record { gate = q.gate + 1; persisted = t; dirty = q.next + q.layout.window; gaps = q.gaps; longs = [] }
+  pub target : cycle.writing.target ≡ record_for q t
   pub covers : (in_hand : InHand) × (batch ≡ Some in_hand) × IsTaken q in_hand t writes
-  pub numbered : q.gate + 1 < 2 ^ 62
+  pub numbered : q.ruling.gate + 1 < 2 ^ 62
   pub in_hand : q.hand ≡ Some (hand_of q cycle t writes)
 
 -- every word of the slot waits for the committer's fence alone
@@ -97,7 +99,7 @@ pub record IsLineFlushed (q : State) (device : Device) (slot : ℕ) : Type 0 whe
 
 -- what holds once the version in hand persists: the state in which the batch is covered may be shown as well
 pub record IsCovering (q q' : State) (device : Device) (writing : Progress) : Type 0 where
-  pub replaces : IsReplacing (present q).ruled_by writing device
+  pub replaces : IsReplacing q.ruling writing device
   pub keeps : IsKept q'
   pub slots : SlotsHold q' device
 
@@ -109,12 +111,12 @@ pub record AreFlushed (q : State) (device : Device) (flushed : ℕ) (lines : Lis
 -- what the committer has come to on the device
 abbrev pub HoldsStage : State → Device → Cycle → List ℕ → ℕ → List Write → CycleStage → Type 0
 HoldsStage q device cycle lines t writes (FlushLines flushed) =
-    HoldsRecord q.layout (present q).ruled_by device × (cycle.writing.stage ≡ StoreBody 1) × AreFlushed q device flushed lines
+    HoldsRecord q.layout q.ruling device × (cycle.writing.stage ≡ StoreBody 1) × AreFlushed q device flushed lines
 HoldsStage q device cycle lines t writes WriteRecord = IsCovering q (state_covered q (hand_of q cycle t writes)) device cycle.writing
 
 -- with nothing in hand the state's record rules alone
 abbrev pub HoldsLog : State → Device → Option Session → Option Cycle → Option InHand → Type 0
-HoldsLog q device session None batch = (q.hand ≡ None) × HoldsRecord q.layout (present q).ruled_by device
+HoldsLog q device session None batch = (q.hand ≡ None) × HoldsRecord q.layout q.ruling device
 HoldsLog q device (Some (Drawn t writes stamped)) (Some cycle) batch =
     (stamped ≡ length writes) × IsCycleOf q cycle batch t writes × HoldsStage q device cycle (lines_in batch) t writes cycle.stage
 HoldsLog q device _ (Some cycle) batch = ⊥
@@ -138,7 +140,7 @@ pub record Works (q : State) (device : Device) (session : Option Session) (cycle
 
 pub record Agrees {D : Type 0} {G : Ghosts D} (state : D → Device) (room : Room D G) (q : State) : Type 0 where
   pub layout : q.layout ≡ room.numbers.geometry
-  pub ruled : (present q).ruled_by ≡ room.numbers.record
+  pub ruled : q.ruling ≡ room.numbers.record
   pub next : q.next ≡ room.numbers.next
   pub swept : q.swept ≡ false
   pub failed : q.failed ≡ room.failed

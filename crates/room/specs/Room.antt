@@ -77,8 +77,8 @@ pub record RunsTo {D : Type 0} {G : Ghosts D} (state : D → Device) (old new : 
 
 -- the numbers and the gaps of the state
 pub record ShowsStatus (q : State) (status : Status) : Type 0 where
-  pub gate : status.gate ≡ q.gate
-  pub persisted : status.persisted ≡ q.persisted
-  pub dirty : status.dirty ≡ q.dirty
+  pub gate : status.gate ≡ q.ruling.gate
+  pub persisted : status.persisted ≡ q.ruling.persisted
+  pub dirty : status.dirty ≡ q.ruling.dirty
   pub next : status.next ≡ q.next
-  pub gaps : status.gaps ≡ q.gaps
+  pub gaps : status.gaps ≡ q.ruling.gaps

@@ -4,7 +4,7 @@ use Rattle.base.specs.declared.key.Key.{Key}
 use Rattle.base.specs.Commits.{after}
 use Rattle.base.specs.Layout.{Layout}
 use Rattle.base.specs.Records.{Record}
-use Rattle.base.specs.Machine.{State, present}
+use Rattle.base.specs.Machine.{State}
 use Rattle.pmem.specs.Device.{Device}
 use Rattle.invariant.specs.Kept.{IsKept, newest_of}
 use Rattle.invariant.specs.Slots.{SlotsHold}
@@ -12,7 +12,7 @@ use Rattle.invariant.specs.Slots.{SlotsHold}
 -- the state has this layout and this record, and the device's slots hold what it covers
 pub record HoldsTables (a : Layout) (ruling : Record) (device : Device) (q : State) : Type 0 where
   pub layout : q.layout ≡ a
-  pub ruled : (present q).ruled_by ≡ ruling
+  pub ruled : q.ruling ≡ ruling
   pub kept : IsKept q
   pub slots : SlotsHold q device
 

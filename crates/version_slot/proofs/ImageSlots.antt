@@ -1,5 +1,5 @@
 -- What the words of a slot hold, in the words of the definition of a sound image.
-use Rattle.std.proofs.Common.{◌≡◌, ℕ, zero, suc, ◌+◌, ◌-◌, ◌*◌, ◌/◌, ◌%◌, ◌^◌, ◌<◌, ◌≤◌, Bool, true, false, cond, eqb, ◌&&◌, ◌||◌, not, nat_eq, nat_lt, nat_le, Option, Some, None, List, [], ◌∷◌, length, get_or, take, drop, refl, sym, ◌∙◌, ap, arith}
+use Rattle.std.proofs.Common.{◌≡◌, ℕ, zero, suc, ◌+◌, ◌-◌, ◌*◌, ◌/◌, ◌%◌, ◌^◌, ◌<◌, ◌≤◌, Bool, true, false, cond, eqb, ◌&&◌, ◌||◌, not, nat_eq, nat_lt, Option, Some, None, List, [], ◌∷◌, length, get_or, take, drop, refl, sym, ◌∙◌, ap, arith}
 use Rattle.std.proofs.Math.Nat.{mul-le-mul_left}
 use Rattle.std.specs.Int.{to_le_bytes, w64}
 use Rattle.std.specs.List.{list_all, flat_map, slice_range}
@@ -7,8 +7,7 @@ use Rattle.std.proofs.lemmas.Bool.{eqb-true, ltb-false, le-ltb, eq-eqb}
 use Rattle.std.proofs.lemmas.List.{get_or-drop, get_or-take, get_or_past, length-drop, length-take-le, ext_get_or}
 use Rattle.std.proofs.lemmas.List.Concat.{get_or-flat_map}
 use Rattle.base.specs.Layout.{row_limit, slot_start, slot_words, total_words}
-use Rattle.base.specs.Images.{Image, layout_of, slot_word, begin_of, end_of, key_of, len_of, link_of, bytes_of, row_of, ruling, is_live, is_second, is_bad_slot}
-use Rattle.base.specs.Records.{is_committed}
+use Rattle.base.specs.Images.{Image, layout_of, slot_word, key_of, len_of, link_of, bytes_of, row_of, is_misfit}
 use Rattle.version_slot.specs.declared.words.Version.{Version}
 use Rattle.version_slot.specs.Words.{link_number, slot_byte, IsVersion}
 use Rattle.version_slot.proofs.Decoding.{words_3, byte_is, bytes_small, holds}
@@ -58,20 +57,7 @@ module _ (image : Image) (slot : ℕ) (within : slot < (layout_of image).slots) 
   pub byte_of : (i : ℕ) → i / 8 < slot_words (layout_of image).version - 4 → get_or (bytes_of image slot) i 0 ≡ slot_byte (slot_word image slot) i
   byte_of i lt = flat_byte _ i (omega (arith, range_length, lt)) ∙ ap (λ (n : ℕ). get_or (to_le_bytes w64 n) (i % 8) 0) (range_word (i / 8) lt)
 
--- ---- what is wrong with the words of a live slot, but that another one shows its key
-
-abbrev pub is_malformed : Image → ℕ → Bool
-is_malformed image slot =
-    nat_lt (row_limit (layout_of image).version) (len_of image slot)
-    || not (nat_eq (slot_word image slot 3 / 2 ^ 24 % 2 ^ 8) 0)
-    || not (list_all (nat_eq 0) (drop (len_of image slot) (bytes_of image slot)))
-    || nat_lt (layout_of image).slots (link_of image slot)
-
--- the rest of what makes a slot a bad one
-pub bad_slot : (image : Image) (slot : ℕ) → is_bad_slot image slot
-    ≡ (nat_le (ruling image).dirty (begin_of image slot) || nat_le (ruling image).dirty (end_of image slot)
-    || (is_live (is_committed (ruling image)) image slot && (is_malformed image slot || is_second image slot)))
-bad_slot image slot = refl
+-- ---- the words of a version
 
 limits_of : (version : ℕ) → (row_limit version ≤ 96) × (row_limit version ≤ 8 * (slot_words version - 4))
 limits_of version = by_test (eqb version 3)
@@ -140,7 +126,7 @@ module _ (image : Image) (slot : ℕ) (within : slot < (layout_of image).slots) 
         ∙ byte_of_row (len_of image slot + i) (omega (arith, lt, length-drop {A = ℕ} (len_of image slot) (bytes_of image slot), bytes_length image slot within whole))
         ∙ get_or_past v.row (len_of image slot + i) 0 (omega (arith, len_is))
 
-    pub well_formed : is_malformed image slot ≡ false
+    pub well_formed : is_misfit image slot ≡ false
     well_formed =
         let row : nat_lt (row_limit (layout_of image).version) (len_of image slot) ≡ false = le-ltb (row_limit (layout_of image).version) (len_of image slot) (omega (arith, len_is, is.fits.row)) in
         let unused : not (nat_eq (slot_word image slot 3 / 2 ^ 24 % 2 ^ 8) 0) ≡ false = ap not (eq-eqb (slot_word image slot 3 / 2 ^ 24 % 2 ^ 8) 0 (omega (arith, third, is.fits.table, short))) in
@@ -162,8 +148,8 @@ link-previous_in zero = refl
 link-previous_in (suc n) = omega arith
 
 module _ (image : Image) (slot : ℕ) (within : slot < (layout_of image).slots) (whole : total_words (layout_of image) ≤ length image) (one : (layout_of image).version ≡ 1)
-    (fit : (w : ℕ) → get_or image w 0 < 2 ^ 64) (well : is_malformed image slot ≡ false) where
-  parts : (is_malformed image slot ≡ false) × (nat_lt (row_limit (layout_of image).version) (len_of image slot) ≡ false) × (not (nat_eq (slot_word image slot 3 / 2 ^ 24 % 2 ^ 8) 0) ≡ false)
+    (fit : (w : ℕ) → get_or image w 0 < 2 ^ 64) (well : is_misfit image slot ≡ false) where
+  parts : (is_misfit image slot ≡ false) × (nat_lt (row_limit (layout_of image).version) (len_of image slot) ≡ false) × (not (nat_eq (slot_word image slot 3 / 2 ^ 24 % 2 ^ 8) 0) ≡ false)
       × (not (list_all (nat_eq 0) (drop (len_of image slot) (bytes_of image slot))) ≡ false) × (nat_lt (layout_of image).slots (link_of image slot) ≡ false)
   parts =
       let linked = or_false _ _ well in

@@ -9,14 +9,14 @@ use Rattle.base.specs.declared.step.Stage.TheVariants.{Chosen, LineFlushed, Line
 use Rattle.base.specs.declared.step.Reply.{Reply}
 use Rattle.base.specs.declared.step.Reply.TheVariants.{Began, Row, Done, Drawn as DrewAs, More, Stamped, Waiting, Committed, Idle, Ticked, Covered, Refused}
 use Rattle.base.specs.Commits.{after}
-use Rattle.base.specs.Machine.{State, Active, BySession, ByCommit, replaced, Stepped, most_operations, operates, refusal, present, closed}
+use Rattle.base.specs.Machine.{State, Active, BySession, ByCommit, replaced, Stepped, most_operations, operates, refusal, closed}
 use Rattle.base.specs.Openings.{opened}
 use Rattle.base.specs.Replay.{replies, end}
 use Rattle.worked.specs.Images.{with_words, formatted_image, covered_image, stamped_image, half_written_image, key_7, ab, commit_1, gap, record_of}
 
 -- gate, persisted, dirty and next
 abbrev pub numbers : State → List ℕ
-numbers q = q.gate ∷ q.persisted ∷ q.dirty ∷ q.next ∷ []
+numbers q = q.ruling.gate ∷ q.ruling.persisted ∷ q.ruling.dirty ∷ q.next ∷ []
 
 -- another key
 abbrev pub key_8 : Key
@@ -71,9 +71,9 @@ pub record FirstCommit : Type 0 where
   pub ticks_42 : replies inserted (ticks 42) ≡ cycle
   pub idle : replies committed (ticks 1) ≡ Idle ∷ []
   pub polls : replies inserted (Poll 2 ∷ ticks 42 ++ Poll 2 ∷ Poll 2 ∷ End 2 ∷ Poll 2 ∷ []) ≡ Waiting ∷ cycle ++ Committed 1 ∷ Committed 1 ∷ Done ∷ Refused NoSession ∷ []
-  pub covers : (numbers committed ≡ 3 ∷ 1 ∷ 10 ∷ 2 ∷ []) × (committed.history ≡ commit_1 ∷ []) × ((present committed).ruled_by ≡ record_of 3 1 10 [])
+  pub covers : (numbers committed ≡ 3 ∷ 1 ∷ 10 ∷ 2 ∷ []) × (committed.history ≡ commit_1 ∷ []) × (committed.ruling ≡ record_of 3 1 10 [])
   pub operations : map (most_operations inserted) (Begin ∷ Put 2 key_7 ab ∷ Stamp 2 ∷ CommitTick ∷ []) ≡ 0 ∷ 10 ∷ 2 ∷ 0 ∷ []
-  pub reopens : (numbers reopened ≡ 4 ∷ 9 ∷ 18 ∷ 10 ∷ []) × (reopened.gaps ≡ gap 2 9 ∷ []) × (replies reopened (Begin ∷ Get 2 key_7 ∷ Get 2 key_8 ∷ []) ≡ Began 2 ∷ Row (Some ab) ∷ Row None ∷ [])
+  pub reopens : (numbers reopened ≡ 4 ∷ 9 ∷ 18 ∷ 10 ∷ []) × (reopened.ruling.gaps ≡ gap 2 9 ∷ []) × (replies reopened (Begin ∷ Get 2 key_7 ∷ Get 2 key_8 ∷ []) ≡ Began 2 ∷ Row (Some ab) ∷ Row None ∷ [])
 
 -- the fence of the gate fails: nothing was acknowledged, and each later step is refused
 pub record FailedFence : Type 0 where
@@ -86,10 +86,10 @@ without = opened stamped_image [] (1 ∷ []) (gap 1 8 ∷ [])
 
 -- a commit that is stamped and not covered is lost for good, and its slot is free
 pub record LostCommit : Type 0 where
-  pub opens : (numbers without ≡ 3 ∷ 8 ∷ 17 ∷ 9 ∷ []) × (without.gaps ≡ gap 1 8 ∷ [])
+  pub opens : (numbers without ≡ 3 ∷ 8 ∷ 17 ∷ 9 ∷ []) × (without.ruling.gaps ≡ gap 1 8 ∷ [])
   pub again : replies without (Begin ∷ Get 2 key_7 ∷ Put 2 key_7 ab ∷ Draw 2 ∷ Stamp 2 ∷ []) ≡ Began 2 ∷ Row None ∷ Done ∷ DrewAs 9 ∷ Stamped ∷ []
   pub takes_slot_0 : (end without (Begin ∷ Put 2 key_7 ab ∷ [])).held 0 ≡ Some (record { key = key_7; writer = BySession 2 })
-  pub covers : (numbers (end without (insert ++ ticks 42)) ≡ 4 ∷ 9 ∷ 18 ∷ 10 ∷ []) × ((end without (insert ++ ticks 42)).gaps ≡ gap 1 8 ∷ [])
+  pub covers : (numbers (end without (insert ++ ticks 42)) ≡ 4 ∷ 9 ∷ 18 ∷ 10 ∷ []) × ((end without (insert ++ ticks 42)).ruling.gaps ≡ gap 1 8 ∷ [])
 
 -- a session that wrote nothing draws nothing
 pub record EmptyWriteSet : Type 0 where
@@ -181,10 +181,10 @@ full_window = record two_writers { next = 9 }
 
 -- the numbers near their limit
 abbrev pub near_limit : State
-near_limit = record two_writers { next = 4611686018427387888; dirty = 4611686018427387896 }
+near_limit = record two_writers { next = 4611686018427387888; ruling = record two_writers.ruling { dirty = 4611686018427387896 } }
 
 -- a draw is refused at the bound, and not below it
 pub record NoTimestampLeft : Type 0 where
-  pub window : (refusal full_window (Draw 2) ≡ Some WindowFull) × (refusal (record full_window { dirty = 10 }) (Draw 2) ≡ None)
+  pub window : (refusal full_window (Draw 2) ≡ Some WindowFull) × (refusal (record full_window { ruling = record full_window.ruling { dirty = 10 } }) (Draw 2) ≡ None)
   pub limit : (refusal near_limit (Draw 2) ≡ Some TimestampsOut) × (refusal (record near_limit { next = 4611686018427387887 }) (Draw 2) ≡ None)
-  pub records : (refusal (record inserted { gate = 4611686018427387903 }) CommitTick ≡ Some TimestampsOut) × (refusal (record inserted { gate = 4611686018427387902 }) CommitTick ≡ None) × (refusal (record start { gate = 4611686018427387903 }) CommitTick ≡ None)
+  pub records : (refusal (record inserted { ruling = record inserted.ruling { gate = 4611686018427387903 } }) CommitTick ≡ Some TimestampsOut) × (refusal (record inserted { ruling = record inserted.ruling { gate = 4611686018427387902 } }) CommitTick ≡ None) × (refusal (record start { ruling = record start.ruling { gate = 4611686018427387903 } }) CommitTick ≡ None)

@@ -31,7 +31,7 @@ returns-in-None g c = record {
         record {
           stepped = begin-stepped q (shown.agrees.failed ∙ c.if-self.false) none;
           shows = record {
-            stands = λ image may. stands-alike q (next_state q Begin) image refl refl refl (shown.stands image may);
+            stands = λ image may. stands-alike q (next_state q Begin) image refl refl refl refl (shown.stands image may);
             agrees = record {
               layout = shown.agrees.layout;
               ruled = shown.agrees.ruled;

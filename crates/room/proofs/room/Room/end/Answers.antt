@@ -28,7 +28,7 @@ returns g c = record {
         record {
           stepped = end-over q _ _ _ _ _ c.args.session _ (shown.agrees.failed ∙ c.if-self.false) over at works;
           shows = record {
-            stands = λ image may. stands-alike q (next_state q (End c.args.session)) image refl refl refl (shown.stands image may);
+            stands = λ image may. stands-alike q (next_state q (End c.args.session)) image refl refl refl refl (shown.stands image may);
             agrees = record {
               layout = shown.agrees.layout;
               ruled = shown.agrees.ruled;
