@@ -7,6 +7,7 @@ mod formatting;
 mod gaps;
 mod opening;
 mod slots;
+mod still;
 
 pub use formatting::format;
 pub use gaps::opened_gaps;
