@@ -4,3 +4,4 @@ pub mod Opened
 pub mod Fresh
 pub mod Words
 pub mod Still
+pub mod Read
