@@ -2,7 +2,7 @@
 use Rattle.std.proofs.Common.{◌≡◌, sym, ◌∙◌, ap, subst}
 use Rattle.base.specs.Images.{Image}
 use Rattle.pmem.specs.Device.{Device, restarted, image_of}
-use Rattle.console.proofs.Restarted.{image-restarted}
+use Rattle.recovery.proofs.Restarted.{image-restarted}
 
 -- what holds of the image that it began with holds of its words
 pub of-restarted : (P : Image → Type 0) (device : Device) → (image : Image) × P image × (device ≡ restarted image) → P (image_of device)

@@ -13,7 +13,7 @@ use Rattle.room.specs.Room.{Shows, StepsTo}
 use Rattle.room.specs.declared.room.Room.{Room}
 use Rattle.command_line.specs.ImageFile.{IsFileOf}
 use Rattle.console.specs.Kept.{Extends, Leads, KeepsHistory, KeepsHistories}
-use Rattle.console.proofs.Restarted.{image-restarted}
+use Rattle.recovery.proofs.Restarted.{image-restarted}
 
 pub extends-none : (history : List Commit) → Extends history history
 extends-none history = ([], sym (append-nil history))

@@ -1,5 +1,5 @@
 mod Kept
-mod Restarted
+mod Files
 mod Grown
 mod Obeyed
 mod Lives

@@ -21,7 +21,8 @@ use Rattle.console.specs.Lives.{Ends, IsBegun, IsLife, Lives, opened_text, close
 use Rattle.console.specs.Obeyed.{ObeysLines}
 use Rattle.console.proofs.Grown.{grows-lines}
 use Rattle.console.proofs.Kept.{keeps-at, keeps-closed}
-use Rattle.console.proofs.Restarted.{one_image, image-restarted}
+use Rattle.recovery.proofs.Restarted.{image-restarted}
+use Rattle.console.proofs.Files.{one_image}
 
 pub opened-so : (q : State) (gate persisted dirty next : ℕ) (gaps : List Gap) → gate ≡ q.gate → persisted ≡ q.persisted → dirty ≡ q.dirty → next ≡ q.next → gaps ≡ q.gaps
     → opened_line gate persisted dirty next gaps ++ 10 ∷ [] ≡ opened_text q ++ 10 ∷ []

@@ -95,7 +95,7 @@ fault-log image fault is =
     (option_or (some_if (is_near_limit image) TimestampsOut) (option_or (some_if (needs_sweep image) GapsFull) None)) fault is
 
 module _ (layout : Layout) (r : Record) (image : Image) (rules : IsRuledBy layout r image) where
-  gates-none : first_below (layout_of image).places (is_wrong_gate image) ≡ None
+  pub gates-none : first_below (layout_of image).places (is_wrong_gate image) ≡ None
   gates-none = subst (λ (n : ℕ). first_below n (is_wrong_gate image) ≡ None) (sym (ap (λ (l : Layout). l.places) rules.laid_out)) rules.gates
 
   pub fault-slots : (fault : Fault) → option_map (λ slot. Damaged (layout.places + slot)) (first_below layout.slots (is_bad_slot (ruling image) image)) ≡ Some fault → opening_fault image ≡ Some fault

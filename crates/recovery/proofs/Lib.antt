@@ -7,3 +7,6 @@ pub mod Lives
 pub mod Zeros
 pub mod Fresh
 pub mod Presented
+pub mod LiveRows
+pub mod WhatIsRead
+pub mod Restarted

@@ -1,6 +1,6 @@
 -- Visiting the slots one after another.
 use Rattle.std.proofs.Common.{◌≡◌, ◌⊎◌, inl, inr, ℕ, zero, suc, ◌+◌, ◌<◌, ◌≤◌, Bool, true, false, cond, not, ◌&&◌, ◌||◌, [], ◌∷◌, ◌++◌, refl, sym, ◌∙◌, ap, subst, arith, add-one, nat_eq, nat_le, ◌*◌, ◌^◌, length, get_or, lit<}
-use Rattle.std.specs.Prelude.{Option, Some, None, is_some}
+use Rattle.std.specs.Prelude.{Option, Some, None, is_some, IsSome, IfSome, IfNone, List}
 use Rattle.std.specs.Option.{option_or, option_map}
 use Rattle.std.specs.declared.cmp.Ordering.{Ordering}
 use Rattle.std.specs.declared.cmp.Ordering.TheVariants.{Less, Equal, Greater}
@@ -18,11 +18,11 @@ use Rattle.base.specs.Keys.{key_eq}
 use Rattle.base.specs.Layout.{Layout, slot_start, slot_words, total_words}
 use Rattle.base.specs.Records.{Record, is_committed}
 use Rattle.base.specs.Search.{first_below}
-use Rattle.base.specs.Images.{Image, layout_of, ruling, slot_word, begin_of, end_of, key_of, is_ahead, is_shown, is_misfit, is_bad_slot, is_second}
+use Rattle.base.specs.Images.{Image, layout_of, ruling, slot_word, begin_of, end_of, key_of, row_of, is_ahead, is_shown, is_misfit, is_bad_slot, is_second}
 use Rattle.pmem.specs.Device.{Device, value_of, image_of, IsOrderly}
 use Rattle.version_slot.specs.declared.words.Slot.{Slot}
 use Rattle.version_slot.specs.Words.{Fits, IsVersion, IsSlot, slot_at}
-use Rattle.version_slot.proofs.ImageSlots.{version_of, holds_version, well_formed, key_is}
+use Rattle.version_slot.proofs.ImageSlots.{version_of, holds_version, well_formed, key_is, row_is_of}
 use Rattle.recovery.specs.declared.slots.Found.TheVariants.{Bad, Live, Free}
 use Rattle.recovery.specs.Slots.{IsUnder, HasKeys, IsVisitFault, IsSlotsFault, found_in, free_below, bad_below, is_bad, is_free, key_cmp}
 
@@ -209,7 +209,7 @@ module _ (device : Device) (layout : Layout) (r : Record) (slot : ℕ) (size : d
   whole = omega (arith, length-image, size, ap total_words laid-out)
 
   -- a version that the device's words hold is one that the image's words hold
-  held : (s : Slot) → IsSlot layout (slot_at layout slot (value_of device)) s → IsVersion (layout_of (image_of device)) (slot_word (image_of device) slot) s.version
+  pub held : (s : Slot) → IsSlot layout (slot_at layout slot (value_of device)) s → IsVersion (layout_of (image_of device)) (slot_word (image_of device) slot) s.version
   held s is = record {
     each = λ w low high.
         let lt : w < 8 = omega (arith, high, wide-image) in
@@ -225,7 +225,7 @@ module _ (device : Device) (layout : Layout) (r : Record) (slot : ℕ) (size : d
       by (inr ge) = subst (λ (n : ℕ). n < 2 ^ 64) (sym (get_or_past (image_of device) w 0 (omega (arith, ge, length-image)))) (lit< tt)
 
   -- where nothing can be read, the words hold no version
-  none-held : IsOrderly device → ((s : Slot) → IsSlot layout (slot_at layout slot (value_of device)) s → ⊥) → is_misfit (image_of device) slot ≡ true
+  pub none-held : IsOrderly device → ((s : Slot) → IsSlot layout (slot_at layout slot (value_of device)) s → ⊥) → is_misfit (image_of device) slot ≡ true
   none-held orderly none = by (is_misfit (image_of device) slot) refl
     where
       by : (b : Bool) → is_misfit (image_of device) slot ≡ b → is_misfit (image_of device) slot ≡ true
@@ -244,6 +244,28 @@ module _ (device : Device) (layout : Layout) (r : Record) (slot : ℕ) (size : d
               fits = subst (λ (l : Layout). Fits l (version_of image slot)) laid-out version.fits;
             };
           }))
+
+  -- a live slot that isn't bad holds a version
+  pub read-some : IsOrderly device → (found : Option Slot) → IfNone found ((s : Slot) → IsSlot layout (slot_at layout slot (value_of device)) s → ⊥)
+      → is_free (image_of device) slot ≡ false → is_bad (image_of device) slot ≡ false → IsSome found
+  unfolding is_free is_bad
+  read-some orderly (Some s) none live good = refl
+  read-some orderly None none live good = by (is_ahead (ruling (image_of device)) (image_of device) slot) (is_shown (ruling (image_of device)) (image_of device) slot) (is_misfit (image_of device) slot) (none-held orderly none) live good
+    where
+      by : (ahead shown ill : Bool) → ill ≡ true → not shown ≡ false → (ahead || (shown && (ill || is_second (ruling (image_of device)) (image_of device) slot))) ≡ false → false ≡ true
+      by true shown ill is live good = sym good
+      by false false ill is live good = sym live
+      by false true false is live good = is
+      by false true true is live good = sym good
+
+  -- which is that of the image
+  pub read-row : (found : Option Slot) (s : Slot) → found ≡ Some s → IfSome found (IsSlot layout (slot_at layout slot (value_of device)))
+      → ◌≡◌ {A = Key × List ℕ} (s.version.key, s.version.row) (key_of (image_of device) slot, row_of (image_of device) slot)
+  read-row (Some other) s is some =
+      let same : other ≡ s = cc is in
+      let whose = held s (subst (IsSlot layout (slot_at layout slot (value_of device))) same some) in
+      λ i. (sym (key_is (image_of device) slot within whole s.version whose) i, sym (row_is_of (image_of device) slot within whole s.version whose) i)
+  read-row None s is some = absurd (cc is)
 
   choose : (ahead shown ill : Bool) (key : Key) → is_ahead (ruling (image_of device)) (image_of device) slot ≡ ahead → is_shown (ruling (image_of device)) (image_of device) slot ≡ shown → is_misfit (image_of device) slot ≡ ill → key_of (image_of device) slot ≡ key
       → found_in (image_of device) slot ≡ cond ahead Bad (cond shown (cond ill Bad (Live key)) Free)

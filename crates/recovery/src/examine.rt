@@ -1,6 +1,7 @@
 ghost use Rattle.std.specs.Prelude.{◌≡◌, ◌+◌, ◌*◌, ◌^◌, ◌<◌, ◌≤◌, ◌||◌, nat_le, IfOk, IfErr};
 ghost use Rattle.pmem.specs.Device.{image_of};
 ghost use Rattle.recovery.specs.Opened.{Examined as IsExaminedAs, Refuses};
+ghost use Rattle.recovery.specs.Read.{TellsLogFault};
 
 use crate::gaps::opened_gaps;
 use crate::slots::free_slots;
@@ -26,6 +27,7 @@ pub struct Examined {
 pub fn examine<D: Pmem>(alloc: Global, device: &D) -> Result<Examined, Fault>
     ensures ok { IfOk result (λ found. IsExaminedAs (image_of (D.state device.now)) found.geometry found.ruling found.gaps found.free.items) }
     ensures fault { IfErr result (Refuses (image_of (D.state device.now))) }
+    ensures log { IfErr result (TellsLogFault (image_of (D.state device.now))) }
 {
     let found = match latest(device) {
         Ok(found) => found,

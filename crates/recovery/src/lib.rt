@@ -6,8 +6,12 @@ mod examine;
 mod formatting;
 mod gaps;
 mod opening;
+mod reading;
+mod rows;
 mod slots;
+mod still;
 
 pub use formatting::format;
 pub use gaps::opened_gaps;
 pub use opening::{Life, Opened, open, open_device};
+pub use reading::{Found, read_image};

@@ -5,6 +5,7 @@ ghost use Rattle.base.specs.Stands.{Stands};
 ghost use Rattle.base.specs.Openings.{StandsOpening};
 ghost use Rattle.pmem.specs.Device.{LeavesOnly, IsAtRest, image_of};
 ghost use Rattle.recovery.specs.Opened.{HasOpened, IsRefusal};
+ghost use Rattle.recovery.specs.Read.{TellsLogFault};
 
 use crate::examine::{Examined, examine};
 use base::fault::Fault;
@@ -37,6 +38,9 @@ pub fn open<R: Threads + Sync, D: Pmem + Drop + Send + Sync>(
     requires at_rest { IsAtRest (D.state device) }
     ensures ok { IfOk result (λ opened. HasOpened (D.state device) (D.state opened.device) opened.geometry opened.ruling opened.next opened.free.items) }
     ensures fault { IfErr result (λ e. IsRefusal (opening_fault (image_of (D.state device))) (D.state device) (D.state e.1) e.0) }
+
+    // A fault of the superblock, of a gate or of the ruling record is told even where memory is wanting.
+    ensures log { IfErr result (λ e. TellsLogFault (image_of (D.state device)) e.0) }
 
     // A crash at any moment leaves the same history, under the record that ruled or the one that the opening writes.
     // What was drawn and not covered is left out.
@@ -79,6 +83,7 @@ pub fn open_device<D: Pmem>(alloc: Global, device: &mut D) -> Result<Life, Fault
     requires { IsAtRest (D.state device.old) }
     ensures ok { IfOk result (λ life. HasOpened (D.state device.old) (D.state device.new) life.geometry life.ruling life.next life.free.items) }
     ensures fault { IfErr result (IsRefusal (opening_fault (image_of (D.state device.old))) (D.state device.old) (D.state device.new)) }
+    ensures log { IfErr result (TellsLogFault (image_of (D.state device.old))) }
     ensures images { (history drawn : List Commit) (next : ℕ) → Stands (image_of (D.state device.old)) history drawn next
         → LeavesOnly (D.state device.old) (D.state device.new) (StandsOpening (image_of (D.state device.old)) history next) }
 {

@@ -7,7 +7,7 @@ use Rattle.base.specs.Stands.{Stands}
 use Rattle.pmem.specs.Device.{IsAtRest, image_of}
 use Rattle.pmem_model.specs.Sim.{device_of}
 use Rattle.room.specs.Room.{Shows}
-use Rattle.console.proofs.Restarted.{restarted-rests, image-restarted}
+use Rattle.recovery.proofs.Restarted.{restarted-rests, image-restarted}
 use Rattle.console.proofs.run.open.Goals as goal
 
 pub open-requires-clause-at_rest : goal.open-requires-clause-at_rest

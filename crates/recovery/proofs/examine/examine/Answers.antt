@@ -1,7 +1,8 @@
-use Rattle.std.proofs.Common.{◌≡◌, true, false, refl, sym, ◌∙◌}
+use Rattle.std.proofs.Common.{inl, ◌≡◌, true, false, refl, sym, ◌∙◌}
 use Rattle.pmem.specs.Device.{image_of}
 use Rattle.log_area.proofs.AtRest.{fits_image}
 use Rattle.recovery.proofs.Lives.{refuses-log, formed-new, formed-parts, under, window-small, refuses-slots, refuses-limit, refuses-full, examined, ruled-size}
+use Rattle.recovery.proofs.WhatIsRead.{tells-later}
 use Rattle.recovery.proofs.examine.examine.Goals as goal
 
 pub returns-in-Err-clause-fault : goal.returns-in-Err-clause-fault
@@ -42,3 +43,15 @@ pub returns-in-Err-opened_gaps-clause-fault : goal.returns-in-Err-opened_gaps-cl
 returns-in-Err-opened_gaps-clause-fault g c =
     refuses-full c.in-Ok.found.geometry c.in-Ok.found.target (image_of (g.D.Pmem.state c.args.device.now)) c.in-Ok.ensures.ok c.in-Ok-free_slots.ensures.good (sym c.is_near_limit.ensures ∙ c.if-is_near_limit.false)
     c.in-Err-opened_gaps.fault c.in-Err-opened_gaps.ensures.fault (λ few. let never : false ≡ true = c.in-Err-opened_gaps.ensures.fits.1 few in cc)
+
+pub returns-in-Err-clause-log : goal.returns-in-Err-clause-log
+returns-in-Err-clause-log g c = inl c.in-Err.ensures.fault
+
+pub returns-in-Err-free_slots-clause-log : goal.returns-in-Err-free_slots-clause-log
+returns-in-Err-free_slots-clause-log g c = tells-later c.in-Ok.found.geometry c.in-Ok.found.target (image_of (g.D.Pmem.state c.args.device.now)) c.in-Ok.ensures.ok c.in-Err-free_slots.fault
+
+pub returns-then-is_near_limit-clause-log : goal.returns-then-is_near_limit-clause-log
+returns-then-is_near_limit-clause-log g c = tells-later c.in-Ok.found.geometry c.in-Ok.found.target (image_of (g.D.Pmem.state c.args.device.now)) c.in-Ok.ensures.ok _
+
+pub returns-in-Err-opened_gaps-clause-log : goal.returns-in-Err-opened_gaps-clause-log
+returns-in-Err-opened_gaps-clause-log g c = tells-later c.in-Ok.found.geometry c.in-Ok.found.target (image_of (g.D.Pmem.state c.args.device.now)) c.in-Ok.ensures.ok c.in-Err-opened_gaps.fault

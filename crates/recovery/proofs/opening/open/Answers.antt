@@ -11,3 +11,6 @@ returns-in-Err-clause-fault g c = c.in-Err.ensures.fault
 
 pub returns-in-Err-clause-images : goal.returns-in-Err-clause-images
 returns-in-Err-clause-images g c = c.in-Err.ensures.images
+
+pub returns-in-Err-clause-log : goal.returns-in-Err-clause-log
+returns-in-Err-clause-log g c = c.in-Err.ensures.log

@@ -3,6 +3,7 @@ use Rattle.pmem.specs.Device.{image_of}
 use Rattle.recovery.specs.declared.opening.Life.{Life}
 use Rattle.recovery.specs.Opened.{HasOpened}
 use Rattle.recovery.proofs.Lives.{some-dirty, limit, gate-limit, target-is, device-words, next-target, images-meanwhile, has-opened, images-refused, refusal-examined, refusal-device}
+use Rattle.recovery.proofs.WhatIsRead.{tells-examined}
 use Rattle.recovery.proofs.opening.open_device.Goals as goal
 
 pub returns-in-Err-clause-fault : goal.returns-in-Err-clause-fault
@@ -66,3 +67,11 @@ returns-in-Ok-write_record-clause-ok g c =
     let follows = next-target old new orderly c.requires f.geometry f.ruling f.gaps f.free.items ex target same in
     let has = has-opened old new orderly c.requires f.geometry f.ruling f.gaps f.free.items ex target same (c.in-Ok-write_record.ensures.holds f.ruling follows) c.in-Ok-write_record.ensures.outside c.in-Ok-write_record.ensures.made f.ruling.dirty refl in
     subst (λ (life : Life). HasOpened old new life.geometry life.ruling life.next life.free.items) (sym c.begun.ensures) has
+
+pub returns-in-Err-clause-log : goal.returns-in-Err-clause-log
+returns-in-Err-clause-log g c = c.in-Err.ensures.log
+
+pub returns-in-Err-write_record-clause-log : goal.returns-in-Err-write_record-clause-log
+returns-in-Err-write_record-clause-log g c =
+    let f = c.in-Ok.found in
+    tells-examined (image_of (g.D.Pmem.state c.args.device.now)) f.geometry f.ruling f.gaps f.free.items c.in-Ok.ensures.ok c.in-Err-write_record.fault

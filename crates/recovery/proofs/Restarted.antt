@@ -1,10 +1,9 @@
 -- A device that begins with these words.
-use Rattle.std.proofs.Common.{◌≡◌, ℕ, ◌<◌, Bool, true, false, cond, List, [], ◌∷◌, Some, nat_lt, length, get_or, refl, sym, ◌∙◌, arith}
+use Rattle.std.proofs.Common.{◌≡◌, ℕ, ◌<◌, Bool, true, false, cond, List, [], ◌∷◌, Some, nat_lt, length, get_or, refl, ◌∙◌, arith}
 use Rattle.std.proofs.lemmas.Bool.{lt-ltb}
 use Rattle.std.proofs.lemmas.List.{ext_get_or}
 use Rattle.std.proofs.lemmas.List.FromFn.{length-map-range_with_len, get_or-map-range_with_len}
 use Rattle.pmem.specs.Device.{Entry, newest, survivors_in, restarted, IsAtRest, image_of, value_of}
-use Rattle.command_line.specs.ImageFile.{HoldsWords}
 
 -- the one entry of a word
 abbrev first : ℕ → Entry
@@ -30,9 +29,3 @@ image-restarted words =
     ext_get_or 0 (image_of (restarted words)) words size (λ word lt.
     get_or-map-range_with_len (value_of (restarted words)) 0 (length words) word word 0 (omega (arith, lt, size)) (omega arith)
     ∙ value-restarted words word (omega (arith, lt, size)))
-
--- a file holds the words of one image
-pub one_image : (file a b : List ℕ) → HoldsWords file a → HoldsWords file b → a ≡ b
-one_image file a b ha hb =
-    let size : length a ≡ length b = omega (arith, ha.size, hb.size) in
-    ext_get_or 0 a b size (λ word lt. ha.each word lt ∙ sym (hb.each word (omega (arith, lt, size))))

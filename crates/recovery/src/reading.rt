@@ -1,0 +1,55 @@
+ghost use Rattle.std.specs.Prelude.{IfOk, IfErr};
+ghost use Rattle.pmem.specs.Device.{image_of};
+ghost use Rattle.recovery.specs.Read.{IsRead, IsReadRefusal};
+
+use crate::rows::live_rows;
+use crate::slots::free_slots;
+use crate::still::Still;
+use base::fault::Fault;
+use base::geometry::Geometry;
+use base::key::Key;
+use base::row::Row;
+use log_area::{Record, latest};
+use pmem::Pmem;
+use std::alloc::Global;
+use std::thread::Threads;
+
+/// What a sound image holds.
+#[derive(Drop)]
+pub struct Found {
+    pub geometry: Geometry,
+    pub ruling: Record,
+    /// The key and the row of each live slot, in order of the slots.
+    pub rows: Vec<(Key, Row)>,
+}
+
+/// Reads an image without opening it, and so also one whose opening would find no timestamps left. It is refused for what
+/// is wrong with it.
+pub fn read_image<R: Threads + Sync>(_rt: &R, alloc: Global, words: &[u64]) -> Result<Found, Fault>
+    ensures ok { IfOk result (λ found. IsRead words.now found.geometry found.ruling found.rows.items) }
+    ensures fault { IfErr result (IsReadRefusal words.now) }
+{
+    read_device(alloc, &Still::of(words))
+}
+
+fn read_device<D: Pmem>(alloc: Global, device: &D) -> Result<Found, Fault>
+    ensures ok { IfOk result (λ found. IsRead (image_of (D.state device.now)) found.geometry found.ruling found.rows.items) }
+    ensures fault { IfErr result (IsReadRefusal (image_of (D.state device.now))) }
+{
+    let found = match latest(device) {
+        Ok(found) => found,
+        Err(fault) => return Err(fault),
+    };
+    let free = match free_slots(alloc, device, found.geometry, found.target) {
+        Ok(free) => free,
+        Err(fault) => return Err(fault),
+    };
+    match live_rows(alloc, device, found.geometry, free.as_slice()) {
+        Ok(rows) => Ok(Found {
+            geometry: found.geometry,
+            ruling: found.target,
+            rows,
+        }),
+        Err(_) => Err(Fault::OutOfMemory),
+    }
+}

@@ -1,0 +1,46 @@
+ghost use Rattle.std.specs.Prelude.{◌≡◌, ◌<◌, true, false, None, IfOk};
+ghost use Rattle.base.specs.Layout.{total_words};
+ghost use Rattle.base.specs.Images.{key_of, row_of, ruling};
+ghost use Rattle.pmem.specs.Device.{image_of};
+ghost use Rattle.recovery.specs.Slots.{IsUnder, bad_below, free_below, is_bad, is_free};
+ghost use Rattle.recovery.specs.Read.{rows_below};
+
+use base::geometry::Geometry;
+use base::key::Key;
+use base::row::Row;
+use pmem::Pmem;
+use std::alloc::{AllocError, Global};
+
+// The keys and rows of the slots that aren't free, in order of the slots, of which none is bad.
+pub fn live_rows<D: Pmem>(
+    alloc: Global,
+    device: &D,
+    geometry: Geometry,
+    free: &[bool],
+) -> Result<Vec<(Key, Row)>, AllocError>
+    requires size { (D.state device.now).words ≡ total_words geometry }
+    requires under { IsUnder geometry (ruling (image_of (D.state device.now))) (image_of (D.state device.now)) }
+    requires free { free.now ≡ free_below (image_of (D.state device.now)) geometry.slots }
+    requires good { bad_below (image_of (D.state device.now)) geometry.slots ≡ None }
+    ensures { IfOk result (λ rows. rows.items ≡ rows_below (image_of (D.state device.now)) geometry.slots) }
+{
+    let mut rows = Vec::new(alloc);
+    for slot in 0..geometry.slots() {
+        if !free[slot as usize] {
+            rows.push(live_row(device, geometry, slot))?;
+        }
+    }
+    Ok(rows)
+}
+
+fn live_row<D: Pmem>(device: &D, geometry: Geometry, slot: u64) -> (Key, Row)
+    requires size { (D.state device.now).words ≡ total_words geometry }
+    requires under { IsUnder geometry (ruling (image_of (D.state device.now))) (image_of (D.state device.now)) }
+    requires slot { slot < geometry.slots }
+    requires live { is_free (image_of (D.state device.now)) slot ≡ false }
+    requires good { is_bad (image_of (D.state device.now)) slot ≡ false }
+    ensures { result ≡ (key_of (image_of (D.state device.now)) slot, row_of (image_of (D.state device.now)) slot) }
+{
+    let held = version_slot::read(device, geometry, slot).unwrap();
+    (held.version.key, held.version.row)
+}
