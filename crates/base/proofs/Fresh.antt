@@ -13,7 +13,7 @@ use Rattle.base.specs.Search.{first_below, first_of, some_if}
 use Rattle.base.specs.Images.{Image, superblock_word, layout_of, is_formatted, has_good_geometry, gate_at, place_words, is_wrong_gate, greatest_gate, ruling_place, is_ruled, ruling, end_of, is_shown, is_misfit, is_second, is_bad_slot, damage, opening_fault, is_near_limit, needs_sweep}
 use Rattle.base.specs.Stands.{Stands}
 use Rattle.base.specs.Fresh.{superblock_words, first_record, fresh_word, fresh_image}
-use Rattle.base.specs.Laws.{FreshStands}
+use Rattle.base.specs.Laws.{StandsEmpty}
 use Rattle.base.proofs.Spelling.{get_or-range, length-range, record_in-is, is_record-is}
 
 -- ---- the greatest of several
@@ -260,6 +260,6 @@ module _ (layout : Layout) (limits : is_in_limits layout ≡ true) where
       nothing : (row : List ℕ) → None ≡ Some row → ⊥
       nothing row e = cc
 
-  pub fresh-stands : FreshStands layout
+  pub fresh-stands : StandsEmpty layout (fresh_image layout)
   unfolding image
   fresh-stands = record { stands = stands; ruled = fresh-ruling; laid_out = laid; opens = opens }

@@ -7,7 +7,7 @@ use Rattle.base.specs.Stands.{Stands}
 use Rattle.base.specs.Machine.{State, StandsClosed, closing_fault}
 use Rattle.pmem.specs.Device.{Device, MayLeave}
 use Rattle.pmem.specs.declared.device.Pmem.{Ghosts}
-use Rattle.recovery.specs.Fresh.{fresh_image}
+use Rattle.base.specs.Fresh.{fresh_image}
 use Rattle.room.specs.Room.{Shows}
 use Rattle.room.specs.declared.room.Room.{Room}
 use Rattle.command_line.specs.ImageFile.{HoldsWords, IsFileOf}

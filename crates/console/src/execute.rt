@@ -2,7 +2,7 @@ ghost use Rattle.std.specs.Prelude.{◌≡◌, ◌≤◌, ◌↔◌, ◌++◌, �
 ghost use Rattle.std.specs.Io.KnownBytes.{Appends};
 ghost use Rattle.base.specs.Layout.{total_words};
 ghost use Rattle.command_line.specs.ImageFile.{IsFileOf};
-ghost use Rattle.recovery.specs.Fresh.{fresh_image};
+ghost use Rattle.base.specs.Fresh.{fresh_image};
 ghost use Rattle.console.specs.BadLine.{BlamesNoLine, EndsAtBadLine, IfBadLine, IsBadLineAnd, IsRunAnd, Tells, TellsBadLine};
 ghost use Rattle.console.specs.Kept.{Leaves};
 ghost use Rattle.console.specs.Lives.{Prints};

@@ -1,6 +1,6 @@
 ghost use Rattle.std.specs.Prelude.{IfOk};
 ghost use Rattle.command_line.specs.ImageFile.{IsFileOf};
-ghost use Rattle.recovery.specs.Fresh.{fresh_image};
+ghost use Rattle.base.specs.Fresh.{fresh_image};
 
 use base::fault::Fault;
 use base::geometry::Geometry;

@@ -10,11 +10,13 @@ use Rattle.base.specs.Images.{Image, is_formatted, superblock_word}
 use Rattle.pmem.specs.Device.{Device, Survives, value_of, image_of, LeavesOnly, Keeps}
 use Rattle.pmem.proofs.Images.{leaves_trans, leaves_weaken}
 use Rattle.pmem.proofs.Steps.{only-settled}
-use Rattle.log_area.specs.Rulings.{Holds, Makes, Spares, OldOrStored, gate_word, superblock_words}
+use Rattle.log_area.specs.Rulings.{Holds, Makes, Spares, OldOrStored, gate_word}
 use Rattle.log_area.specs.Writings.{IsWriting, IsOutside, begun, finished}
 use Rattle.log_area.proofs.Rulings.{some_places, log_within}
 use Rattle.log_area.proofs.Kept.{holds_kept}
-use Rattle.recovery.specs.Fresh.{first_record, fresh_word, fresh_image, IsFormatting}
+use Rattle.base.specs.Fresh.{superblock_words, first_record, fresh_word, fresh_image}
+use Rattle.base.proofs.Fresh.{low-word, inside-word, outside-word}
+use Rattle.recovery.specs.Fresh.{IsFormatting}
 use Rattle.recovery.proofs.Opens.{version-one}
 
 -- ---- images
@@ -81,9 +83,6 @@ module _ (old mid new : Device) (layout : Layout) (u : IsBegun old mid layout) (
 
 -- ---- words
 
-low-word : (layout : Layout) (word : ℕ) → word < 8 → fresh_word layout word ≡ get_or (superblock_words layout) word 0
-low-word layout word h = λ i. cond (lt-ltb word 8 h i) (get_or (superblock_words layout) word 0) (cond (nat_le 40 word && nat_lt word 72) (record_word first_record (word - 40)) 0)
-
 module _ (layout : Layout) (limits : is_in_limits layout ≡ true) where
   places : (2 ≤ layout.places) × (layout.places ≤ 64)
   places = some_places layout limits
@@ -97,17 +96,6 @@ module _ (layout : Layout) (limits : is_in_limits layout ≡ true) where
     limits = limits;
     at = (omega arith, omega arith, subst (λ (n : ℕ). Holds device n 0) (sym first-place) empty, λ w low high. absurd (omega (arith, low, high)));
   }
-
-  inside-word : (word : ℕ) → 40 ≤ word → word < 72 → fresh_word layout word ≡ record_word first_record (word - 40)
-  inside-word word low high =
-      λ i. cond (le-ltb word 8 (omega (arith, low)) i) (get_or (superblock_words layout) word 0) (cond (le-leb 40 word low i && lt-ltb word 72 high i) (record_word first_record (word - 40)) 0)
-
-  outside-word : (word : ℕ) → 8 ≤ word → (word < 40) ⊎ (72 ≤ word) → fresh_word layout word ≡ 0
-  outside-word word low (inl less) =
-      λ i. cond (le-ltb word 8 low i) (get_or (superblock_words layout) word 0) (cond (lt-leb 40 word less i && nat_lt word 72) (record_word first_record (word - 40)) 0)
-  outside-word word low (inr more) =
-      (λ i. cond (le-ltb word 8 low i) (get_or (superblock_words layout) word 0) (cond (nat_le 40 word && le-ltb word 72 more i) (record_word first_record (word - 40)) 0))
-      ∙ ap (λ (b : Bool). cond b (record_word first_record (word - 40)) 0) (and_right (nat_le 40 word) false refl)
 
   -- ---- from stage to stage
 
@@ -168,7 +156,7 @@ module _ (layout : Layout) (limits : is_in_limits layout ≡ true) where
                 where
                   kept : (w < 40) ⊎ (72 ≤ w) → Holds d3 w (fresh_word layout w)
                   kept apart =
-                      subst (λ (n : ℕ). Holds d3 w n) (sym (outside-word w low apart))
+                      subst (λ (n : ℕ). Holds d3 w n) (sym (outside-word layout w low apart))
                       (holds_kept (s3.kept w (elim apart [ inl less ↦ inl (omega (arith, less, first-place)) | inr more ↦ inr (omega (arith, more, first-place)) ])) (h2 w low (omega (arith, high, size1))))
 
                   by : (w < 40) ⊎ (40 ≤ w) → (w < 72) ⊎ (72 ≤ w) → Holds d3 w (fresh_word layout w)
@@ -176,7 +164,7 @@ module _ (layout : Layout) (limits : is_in_limits layout ≡ true) where
                   by (inr more) (inr past) = kept (inr past)
                   by (inr more) (inl inside) =
                       let at : gate_word layout first_record + (w - 40) ≡ w = omega (arith, first-place, more) in
-                      subst (λ (n : ℕ). Holds d3 w n) (sym (inside-word w more inside)) (subst (λ (n : ℕ). Holds d3 n (record_word first_record (w - 40))) at (place-holds (w - 40) (omega (arith, more, inside))))
+                      subst (λ (n : ℕ). Holds d3 w n) (sym (inside-word layout w more inside)) (subst (λ (n : ℕ). Holds d3 n (record_word first_record (w - 40))) at (place-holds (w - 40) (omega (arith, more, inside))))
 
               fourth : (w : ℕ) → 1 ≤ w → w < d4.words → Holds d4 w (fresh_word layout w)
               fourth w low high = by (cases_lt w 8)

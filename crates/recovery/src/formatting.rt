@@ -1,8 +1,10 @@
 ghost use Rattle.std.specs.Prelude.{◌≡◌, ◌+◌, ◌/◌, ◌<◌, ℕ, IsTrue, IfErr, OnOk, OnErr};
 ghost use Rattle.base.specs.Layout.{is_in_limits, total_words};
-ghost use Rattle.pmem.specs.Device.{LeavesOnly, image_of};
+ghost use Rattle.pmem.specs.Device.{LeavesOnly, IsAtRest, image_of};
 ghost use Rattle.log_area.specs.Rulings.{Holds, Makes};
-ghost use Rattle.recovery.specs.Fresh.{first_record, fresh_word, fresh_image, IsFormatting, IsFormatRefusal};
+ghost use Rattle.base.specs.Fresh.{first_record, fresh_word, fresh_image};
+ghost use Rattle.base.specs.Laws.{StandsEmpty};
+ghost use Rattle.recovery.specs.Fresh.{IsFormatting, IsFormatRefusal};
 
 use crate::clearing::clear;
 use base::fault::Fault;
@@ -17,7 +19,9 @@ pub fn format<D: Pmem>(device: &mut D, geometry: Geometry) -> Result<(), Fault>
     ensures refusal { IfErr result (IsFormatRefusal geometry (D.state device.old) (D.state device.new)) }
     ensures made { OnOk result (Makes (total_words geometry + 33) (total_words geometry / 8 + 7) 6 (D.state device.old) (D.state device.new)) }
     ensures settled { OnOk result ((word : ℕ) → word < total_words geometry → Holds (D.state device.new) word (fresh_word geometry word)) }
+    ensures rest { OnOk result (IsAtRest (D.state device.new)) }
     ensures image { OnOk result (image_of (D.state device.new) ≡ fresh_image geometry) }
+    ensures empty { OnOk result (StandsEmpty geometry (image_of (D.state device.new))) }
     ensures images { LeavesOnly (D.state device.old) (D.state device.new) (IsFormatting (D.state device.old) geometry) }
 {
     if device.words() as u64 != geometry.words() {
