@@ -2,7 +2,7 @@
 use Rattle.std.specs.Prelude.{◌≡◌, ℕ, ◌^◌, List, [], ◌∷◌, ◌++◌, ◌⊎◌, Bool, true, not, Option, Some, None, codes}
 use Rattle.std.specs.List.{flat_map}
 use Rattle.std.specs.Str.Parse.{starts_with_minus}
-use Rattle.base.specs.Layout.{is_in_limits, layout_with}
+use Rattle.base.specs.Layout.{is_in_limits, layout_with, newest_version}
 use Rattle.command_line.specs.Numbers.{Text, number_below}
 use Rattle.command_line.specs.declared.orders.Choice.{Choice}
 use Rattle.command_line.specs.declared.orders.Choice.TheVariants.{Slots, Places, Window}
@@ -70,7 +70,7 @@ pub record SpellsFormat (words : List Text) (parts : List Part) (name : Text) (s
   pub slots_given : HasNumber parts Slots 1024 slots
   pub places_given : HasNumber parts Places 4 places
   pub window_given : HasNumber parts Window 64 window
-  pub limits : is_in_limits (layout_with slots places window) ≡ true
+  pub limits : is_in_limits (layout_with newest_version slots places window) ≡ true
 
 -- what follows `format` gives this order
 abbrev pub GivesFormat : List Text → Order → Type 0

@@ -1,11 +1,13 @@
--- The history only grows by commands and lines.
-use Rattle.std.proofs.Common.{◌≡◌, ℕ, suc, zero, List, [], ◌∷◌, inl, inr, Bool, sym, subst}
-use Rattle.std.specs.Prelude.{Option, Some, None}
+-- The history only grows by commands and lines, and the layout stays.
+use Rattle.std.proofs.Common.{◌≡◌, ℕ, suc, zero, List, [], ◌∷◌, inl, inr, Bool, true, false, refl, sym, ◌∙◌, ap, subst}
+use Rattle.std.specs.Prelude.{Option, Some, None, if◌then◌else◌}
 use Rattle.base.specs.declared.key.Key.{Key}
 use Rattle.base.specs.declared.step.Step.{Step}
 use Rattle.base.specs.declared.step.Step.TheVariants as step
 use Rattle.base.specs.declared.step.Reply.{Reply}
-use Rattle.base.specs.Machine.{State, Stepped}
+use Rattle.base.specs.declared.step.Stage.{Stage}
+use Rattle.base.specs.Commits.{Writes}
+use Rattle.base.specs.Machine.{State, Hand, Stepped, refused, answered, memory_refused, device_failed, next_state, next_stage, is_idle, writes_of, state_drawn, state_ticked, state_ticked_on}
 use Rattle.base.proofs.Growth.{extends-stepped}
 use Rattle.command_line.specs.Lines.{line_of}
 use Rattle.command_line.specs.Numbers.{Text}
@@ -18,18 +20,52 @@ use Rattle.console.specs.Kept.{Extends}
 use Rattle.console.specs.Obeyed.{Ticks, Puts, Answers, ComesTo, ObeysRead, ObeysLine, ObeysLines}
 use Rattle.console.proofs.Kept.{extends-none, extends-trans}
 
--- the history of the second begins with that of the first
+-- the history of the second begins with that of the first, and their layout is one
 abbrev pub Grows : State → State → Type 0
-Grows q q' = Extends q.history q'.history
+Grows q q' = Extends q.history q'.history × (q'.layout ≡ q.layout)
 
 grows-same : (q q' : State) → q' ≡ q → Grows q q'
-grows-same q q' e = subst (λ (p : State). Grows q p) (sym e) (extends-none q.history)
+grows-same q q' e = subst (λ (p : State). Grows q p) (sym e) (extends-none q.history, refl)
 
 grows-trans : (a b c : State) → Grows a b → Grows b c → Grows a c
-grows-trans a b c = extends-trans a.history b.history c.history
+grows-trans a b c first second = (extends-trans a.history b.history c.history first.0 second.0, second.1 ∙ first.1)
+
+laid-drawn : (q : State) (n : ℕ) (writes : Writes) → (state_drawn q n writes).layout ≡ q.layout
+laid-drawn q n [] = refl
+laid-drawn q n (write ∷ writes) = refl
+
+laid-idle : (q : State) (hand : Hand) (b : Bool) → (if b then q else record q { hand = Some hand }).layout ≡ q.layout
+laid-idle q hand true = refl
+laid-idle q hand false = refl
+
+laid-on : (q : State) (hand : Hand) (o : Option Stage) → (state_ticked_on q hand o).layout ≡ q.layout
+laid-on q hand None = refl
+laid-on q hand (Some stage) = refl
+
+laid-ticked : (q : State) (o : Option Hand) → (state_ticked q o).layout ≡ q.layout
+laid-ticked q None = laid-idle q _ (is_idle q)
+laid-ticked q (Some hand) = laid-on q hand (next_stage q hand)
+
+laid-next : (q : State) (one : Step) → (next_state q one).layout ≡ q.layout
+laid-next q step.Begin = refl
+laid-next q (step.Get n key) = refl
+laid-next q (step.Put n key row) = refl
+laid-next q (step.Delete n key) = refl
+laid-next q (step.Draw n) = laid-drawn q n (writes_of (q.sessions n))
+laid-next q (step.Stamp n) = refl
+laid-next q (step.Poll n) = refl
+laid-next q (step.Abort n) = refl
+laid-next q (step.End n) = refl
+laid-next q step.Commit = laid-ticked q q.hand
+
+laid-stepped : (q : State) (one : Step) (answer : Reply) (q' : State) → Stepped q one answer q' → q'.layout ≡ q.layout
+laid-stepped q one answer q' (refused fault is told same) = ap (λ (p : State). p.layout) same
+laid-stepped q one answer q' (answered un told is) = ap (λ (p : State). p.layout) is ∙ laid-next q one
+laid-stepped q one answer q' (memory_refused un takes told same) = ap (λ (p : State). p.layout) same
+laid-stepped q one answer q' (device_failed un operating told is) = ap (λ (p : State). p.layout) is
 
 grows-stepped : (q : State) (one : Step) (answer : Reply) (q' : State) → Stepped q one answer q' → Grows q q'
-grows-stepped = extends-stepped
+grows-stepped q one answer q' made = (extends-stepped q one answer q' made, laid-stepped q one answer q' made)
 
 grows-ticks : (goes_on : Reply → Bool) (more : ℕ) (q : State) (answer : Reply) (q' : State) → Ticks goes_on more q answer q' → Grows q q'
 grows-ticks goes_on zero q answer q' t = grows-stepped q step.Commit answer q' t

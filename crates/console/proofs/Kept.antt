@@ -1,11 +1,12 @@
 -- How the history is kept from an opening to a stop.
-use Rattle.std.proofs.Common.{◌≡◌, ℕ, List, [], ◌++◌, refl, sym, ◌∙◌, ap, subst, append-nil, append_assoc}
+use Rattle.std.proofs.Common.{◌≡◌, ℕ, Bool, true, false, cond, nat_eq, List, [], ◌++◌, refl, sym, ◌∙◌, ap, subst, append-nil, append_assoc}
 use Rattle.std.specs.Prelude.{Option, Some, None, All}
 use Rattle.std.proofs.lemmas.List.Elements.{All-nil, All-cons, All-contains}
 use Rattle.base.specs.declared.step.Step.{Step}
 use Rattle.base.specs.declared.step.Reply.{Reply}
 use Rattle.base.specs.Commits.{Commit}
-use Rattle.base.specs.Images.{Image}
+use Rattle.base.specs.Images.{Image, layout_of}
+use Rattle.base.specs.Layout.{Layout, opened_layout, opened_version}
 use Rattle.base.specs.Machine.{State, Stepped, Hand, Cover, StandsUnder, StandsAt, StandsClosed, drawn_of, covers_at, of_hand, present, closed, uncovered}
 use Rattle.pmem.specs.Device.{Device, restarted, image_of}
 use Rattle.pmem.specs.declared.device.Pmem.{Ghosts}
@@ -58,20 +59,31 @@ adds-hand q (Some hand) = All-cons (Adds q) _ [] (hand.commits, refl) (All-nil (
 adds-at : (q : State) → All (Adds q) (covers_at q)
 adds-at q = All-cons (Adds q) (present q) (of_hand q q.hand) (extends-none q.history) (adds-hand q q.hand)
 
-keeps-under : (history : List Commit) (q : State) (cover : Cover) (image : Image) → Extends history q.history → Adds q cover → StandsUnder q cover image → KeepsHistory history image
+keeps-under : (history : List Commit) (q : State) (cover : Cover) (image : Image) → Extends history q.history → Adds q cover → StandsUnder q cover image → KeepsHistory q.layout history image
 keeps-under history q cover image longer adds s =
-    record { kept = cover.commits; drawn = drawn_of q; next = q.next; longer = extends-trans history q.history cover.commits longer adds; stands = s.stands }
+    record { laid_out = s.laid_out; kept = cover.commits; drawn = drawn_of q; next = q.next; longer = extends-trans history q.history cover.commits longer adds; stands = s.stands }
 
-pub keeps-at : (history : List Commit) (q : State) (image : Image) → Extends history q.history → StandsAt q image → KeepsHistory history image
+pub keeps-at : (history : List Commit) (q : State) (image : Image) → Extends history q.history → StandsAt q image → KeepsHistory q.layout history image
 keeps-at history q image longer s = keeps-under history q s.0 image longer (All-contains (Adds q) (covers_at q) s.0 (adds-at q) s.1) s.2
 
-pub keeps-closed : (history : List Commit) (q : State) (image : Image) → Extends history q.history → StandsClosed q image → KeepsHistory history image
+pub keeps-closed : (history : List Commit) (q : State) (image : Image) → Extends history q.history → StandsClosed q image → KeepsHistory q.layout history image
 keeps-closed history q image longer s = keeps-under history q (closed q) image longer (uncovered q, refl) s
 
 -- A file
 
 pub file-restarted : (device : Device) (image : Image) (file : List ℕ) → device ≡ restarted image → IsFileOf (image_of device) file → IsFileOf image file
 file-restarted device image file is of = subst (λ (words : Image). IsFileOf words file) (ap image_of is ∙ image-restarted image) of
+
+-- what is open opens as it is
+opened-twice : (a : Layout) → opened_layout (opened_layout a) ≡ opened_layout a
+opened-twice a = by (nat_eq a.version 3) refl
+  where
+    by : (b : Bool) → nat_eq a.version 3 ≡ b → opened_layout (opened_layout a) ≡ opened_layout a
+    by b is = rw is (at b)
+      where
+        at : (b : Bool) → record a { version = opened_version (cond b 3 1) } ≡ record a { version = cond b 3 1 }
+        at true = refl
+        at false = refl
 
 -- a run after a run
 pub keeps-both : (first second third : List ℕ) → KeepsHistories first second → KeepsHistories second third → KeepsHistories first third
@@ -83,6 +95,7 @@ keeps-both first second third one two = record {
         image = end.image;
         of_image = end.of_image;
         keeps = record {
+          laid_out = end.keeps.laid_out ∙ ap opened_layout mid.keeps.laid_out ∙ opened-twice (layout_of image);
           kept = end.keeps.kept;
           drawn = end.keeps.drawn;
           next = end.keeps.next;

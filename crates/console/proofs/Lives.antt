@@ -3,7 +3,8 @@ use Rattle.std.proofs.Common.{◌≡◌, ℕ, List, [], ◌∷◌, ◌++◌, ref
 use Rattle.std.specs.Prelude.{Option, Some, None, codes}
 use Rattle.base.specs.declared.gap.Gap.{Gap}
 use Rattle.base.specs.Commits.{Commit}
-use Rattle.base.specs.Images.{Image, ruling}
+use Rattle.base.specs.Images.{Image, layout_of, ruling}
+use Rattle.base.specs.Layout.{Layout, opened_layout}
 use Rattle.base.specs.Machine.{State, closed}
 use Rattle.base.specs.Openings.{OpensAs}
 use Rattle.base.specs.Records.{Record}
@@ -24,7 +25,7 @@ use Rattle.console.proofs.Kept.{keeps-at, keeps-closed}
 use Rattle.recovery.proofs.Restarted.{image-restarted}
 use Rattle.console.proofs.Files.{one_image}
 
-pub opened-so : (q : State) (gate persisted dirty next : ℕ) (gaps : List Gap) → gate ≡ q.gate → persisted ≡ q.persisted → dirty ≡ q.dirty → next ≡ q.next → gaps ≡ q.gaps
+pub opened-so : (q : State) (gate persisted dirty next : ℕ) (gaps : List Gap) → gate ≡ q.ruling.gate → persisted ≡ q.ruling.persisted → dirty ≡ q.ruling.dirty → next ≡ q.next → gaps ≡ q.ruling.gaps
     → opened_line gate persisted dirty next gaps ++ 10 ∷ [] ≡ opened_text q ++ 10 ∷ []
 opened-so q gate persisted dirty next gaps a b c d e = rw (a, b, c, d, e) refl
 
@@ -52,17 +53,22 @@ rules-restarted device image r is rules = ap ruling (sym (ap image_of is ∙ ima
 opens-history : (image : Image) (history : List Commit) (q : State) → OpensAs image history [] q → q.history ≡ history
 opens-history image history q (gaps, is, e) = ap (λ (p : State). p.history) e
 
-file-of-end : (history : List Commit) (q : State) (keeps : Option Survivor) (said : Text) (file : List ℕ) → Extends history q.history → Ends q keeps said file → IsFileWith history file
+opens-layout : (image : Image) (history : List Commit) (q : State) → OpensAs image history [] q → q.layout ≡ opened_layout (layout_of image)
+opens-layout image history q (gaps, is, e) = ap (λ (p : State). p.layout) e
+
+file-of-end : (history : List Commit) (q : State) (keeps : Option Survivor) (said : Text) (file : List ℕ) → Extends history q.history → Ends q keeps said file → IsFileWith q.layout history file
 file-of-end history q (Some keeps) said file longer (image, bytes, stands, e) = record { image = image; of_image = bytes; keeps = keeps-at history q image longer stands }
 file-of-end history q None said file longer (image, bytes, stands, may, e) = record { image = image; of_image = bytes; keeps = keeps-closed history q image longer stands }
 
 file-of-life : (image : Image) (history : List Commit) (lines : List Text) (keeps : Option Survivor) (begun said ended : Text) (file : List ℕ)
-    → IsLife image history lines keeps begun said ended file → IsFileWith history file
+    → IsLife image history lines keeps begun said ended file → IsFileWith (opened_layout (layout_of image)) history file
 file-of-life image history lines keeps begun said ended file life =
     let b = life.begins in
-    file-of-end history b.last keeps ended file
-    (subst (λ (h : List Commit). Extends h b.last.history) (opens-history image history b.first b.opens) (grows-lines b.first lines said keeps b.last b.obeys))
-    life.ends
+    let grown = grows-lines b.first lines said keeps b.last b.obeys in
+    subst (λ (a : Layout). IsFileWith a history file) (grown.1 ∙ opens-layout image history b.first b.opens)
+    (file-of-end history b.last keeps ended file
+    (subst (λ (h : List Commit). Extends h b.last.history) (opens-history image history b.first b.opens) grown.0)
+    life.ends)
 
 pub lives-keep : (before : List ℕ) (input old new : Option (List ℕ)) (after : List ℕ) → Lives before input old new after → KeepsHistories before after
 lives-keep before input old new after lives = record {

@@ -1,8 +1,8 @@
 -- What FILE keeps of the history that its image stands for.
 use Rattle.std.specs.Prelude.{◌≡◌, ℕ, ◌++◌, List, None}
 use Rattle.base.specs.Commits.{Commit}
-use Rattle.base.specs.Layout.{layout_with}
-use Rattle.base.specs.Images.{Image}
+use Rattle.base.specs.Layout.{Layout, layout_with, newest_version, opened_layout}
+use Rattle.base.specs.Images.{Image, layout_of}
 use Rattle.base.specs.Stands.{Stands}
 use Rattle.base.specs.Machine.{State, StandsClosed, closing_fault}
 use Rattle.pmem.specs.Device.{Device, MayLeave}
@@ -27,25 +27,27 @@ pub record HasClosed {D : Type 0} {G : Ghosts D} (state : D → Device) (room : 
   pub each : (q : State) → Shows state room q → (image : Image) → MayLeave device image → StandsClosed q image
   pub may_close : (q : State) → Shows state room q → closing_fault q ≡ None
 
--- the image stands for a history that begins with this one
-pub record KeepsHistory (history : List Commit) (image : Image) : Type 0 where
+-- the image has this layout, and stands for a history that begins with this one
+pub record KeepsHistory (layout : Layout) (history : List Commit) (image : Image) : Type 0 where
+  pub laid_out : layout_of image ≡ layout
   pub kept : List Commit
   pub drawn : List Commit
   pub next : ℕ
   pub longer : Extends history kept
   pub stands : Stands image kept drawn next
 
--- the file is that of an image that stands for a history that begins with this one
-pub record IsFileWith (history : List Commit) (file : List ℕ) : Type 0 where
+-- the file is that of an image that has this layout and stands for a history that begins with this one
+pub record IsFileWith (layout : Layout) (history : List Commit) (file : List ℕ) : Type 0 where
   pub image : Image
   pub of_image : IsFileOf image file
-  pub keeps : KeepsHistory history image
+  pub keeps : KeepsHistory layout history image
 
--- whatever history the image in the old file stands for, the new file keeps
+-- whatever history the image in the old file stands for, the new file keeps, with the layout that the image has once it is open
 pub record KeepsHistories (before after : List ℕ) : Type 0 where
-  pub each : (image : Image) → HoldsWords before image → (history drawn : List Commit) (next : ℕ) → Stands image history drawn next → IsFileWith history after
+  pub each : (image : Image) → HoldsWords before image → (history drawn : List Commit) (next : ℕ) → Stands image history drawn next
+      → IsFileWith (opened_layout (layout_of image)) history after
 
 -- what a subcommand leaves in FILE: of a format the fresh image, of a run what keeps the histories
 abbrev pub Leaves : Order → List ℕ → List ℕ → Type 0
-Leaves (Format name slots places window) before after = IsFileOf (fresh_image (layout_with slots places window)) after
+Leaves (Format name slots places window) before after = IsFileOf (fresh_image (layout_with newest_version slots places window)) after
 Leaves (Run name) before after = KeepsHistories before after

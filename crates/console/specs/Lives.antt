@@ -3,7 +3,7 @@ use Rattle.std.specs.Prelude.{◌≡◌, ℕ, ◌-◌, List, [], ◌∷◌, ◌+
 use Rattle.std.specs.Io.KnownBytes.{Appends}
 use Rattle.base.specs.Commits.{Commit}
 use Rattle.base.specs.Images.{Image, opening_fault}
-use Rattle.base.specs.Layout.{layout_with, total_words}
+use Rattle.base.specs.Layout.{layout_with, newest_version, total_words}
 use Rattle.base.specs.Machine.{State, StandsAt, StandsClosed, closing_fault, closing_gate}
 use Rattle.base.specs.Openings.{OpensAs}
 use Rattle.base.specs.Stands.{Stands}
@@ -18,7 +18,7 @@ use Rattle.console.specs.Obeyed.{ObeysLines}
 
 -- the line of the opened state
 abbrev pub opened_text : State → Text
-opened_text q = opened_line q.gate q.persisted q.dirty q.next q.gaps
+opened_text q = opened_line q.ruling.gate q.ruling.persisted q.ruling.dirty q.next q.ruling.gaps
 
 -- the line of a close from the state
 abbrev pub closed_text : State → Text
@@ -69,5 +69,5 @@ pub record Lives (before : List ℕ) (input old new : Option (List ℕ)) (after 
 -- what a subcommand that ends well prints
 abbrev pub Prints : Order → List ℕ → Option (List ℕ) → Option (List ℕ) → Option (List ℕ) → List ℕ → Type 0
 Prints (Format name slots places window) before input old new after =
-    Appends old new ((codes "formatted " ++ (decimal (total_words (layout_with slots places window)) ++ codes " words")) ++ 10 ∷ [])
+    Appends old new ((codes "formatted " ++ (decimal (total_words (layout_with newest_version slots places window)) ++ codes " words")) ++ 10 ∷ [])
 Prints (Run name) before input old new after = Lives before input old new after

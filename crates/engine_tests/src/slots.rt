@@ -1,5 +1,5 @@
 ghost use Rattle.std.specs.Prelude.{◌≡◌, ◌<◌, ◌≤◌, IfOk, length};
-ghost use Rattle.base.specs.Layout.{layout_with};
+ghost use Rattle.base.specs.Layout.{layout_with, newest_version};
 ghost use Rattle.pmem_model.specs.Sim.{device_of};
 ghost use Rattle.version_slot.specs.Words.{link_number};
 
@@ -18,7 +18,7 @@ use version_slot::{Slot, Version};
 
 // Four slots and two places.
 fn geometry() -> Result<Geometry, Fault>
-    ensures { IfOk result (λ geometry. geometry ≡ layout_with 4 2 8) }
+    ensures { IfOk result (λ geometry. geometry ≡ layout_with newest_version 4 2 8) }
 {
     Geometry::new(4, 2, 8)
 }

@@ -6,7 +6,7 @@ use Rattle.base.specs.declared.step.Reply.{Reply}
 use Rattle.base.specs.declared.step.Reply.TheVariants.{Refused, Idle, Covered as CoveredReply}
 use Rattle.base.specs.Records.{Record}
 use Rattle.base.specs.Images.{Image}
-use Rattle.base.specs.Machine.{State, Stepped, most_operations, Run, final, StandsAt, StandsWithin, StandsAlong}
+use Rattle.base.specs.Machine.{State, Stepped, most_operations, most_operations_along, Run, final, StandsAt, StandsWithin, StandsAlong}
 use Rattle.pmem.specs.Device.{Device, MayLeave, LeavesOnly}
 use Rattle.pmem.specs.declared.device.Pmem.{Ghosts}
 use Rattle.room.specs.Agrees.{Agrees}
@@ -74,6 +74,7 @@ pub record RunsTo {D : Type 0} {G : Ghosts D} (state : D → Device) (old new : 
   pub shows : Shows state new (final q states)
   pub images : LeavesOnly (device_of state old) (device_of state new) (StandsAlong q states)
   pub failure : TellsFailure (device_of state old) (device_of state new) (Contains replies (Refused DeviceFault))
+  pub operations : operations_of (device_of state new) ≤ operations_of (device_of state old) + most_operations_along q steps states
 
 -- the numbers and the gaps of the state
 pub record ShowsStatus (q : State) (status : Status) : Type 0 where

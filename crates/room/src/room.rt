@@ -74,8 +74,9 @@ impl<D: Pmem + Drop + Send + Sync> Room<D> {
         ensures no_failure { IfOk result (λ room. HasNoFailure (D.state device) (device_of D.state room)) }
         ensures fault { IfErr result (λ e. IsRefusal (opening_fault (image_of (D.state device))) (D.state device) (D.state e.1) e.0) }
 
-        // It makes the operations of one record, and the words of the slots are settled as they were.
+        // It makes the operations of one record, and the words of superblock and slots are settled as they were.
         ensures made { IfOk result (λ room. Makes 32 5 2 (D.state device) (device_of D.state room)) }
+        ensures superblock { IfOk result (λ room. (word : ℕ) → word < 8 → Holds (device_of D.state room) word (value_of (D.state device) word)) }
         ensures slots { IfOk result (λ room. (word : ℕ) → 8 + 32 * (layout_of (image_of (D.state device))).places ≤ word → word < (D.state device).words
             → Holds (device_of D.state room) word (value_of (D.state device) word)) }
 

@@ -24,6 +24,9 @@ returns-in-Ok-clause-no_failure g c = c.in-Ok.ensures.ok.made.no_failures
 pub returns-in-Ok-clause-made : goal.returns-in-Ok-clause-made
 returns-in-Ok-clause-made g c = c.in-Ok.ensures.ok.made
 
+pub returns-in-Ok-clause-superblock : goal.returns-in-Ok-clause-superblock
+returns-in-Ok-clause-superblock g c = c.in-Ok.ensures.ok.superblock
+
 pub returns-in-Ok-clause-slots : goal.returns-in-Ok-clause-slots
 returns-in-Ok-clause-slots g c = λ word past within.
     c.in-Ok.ensures.ok.slots word (subst (λ (a : Layout). 8 + 32 * a.places ≤ word) (sym c.in-Ok.ensures.ok.layout_is) past) within
