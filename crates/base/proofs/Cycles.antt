@@ -7,6 +7,7 @@ use Rattle.std.proofs.Math.Seq.{get_or-append_seam}
 use Rattle.std.proofs.lemmas.Bool.{and_parts}
 use Rattle.std.proofs.lemmas.List.FromFn.{length-map-range_with_len}
 use Rattle.std.proofs.lemmas.Option.{slice_get-get_or, slice_get_past}
+use Rattle.base.specs.declared.fault.Fault.{Fault}
 use Rattle.base.specs.declared.step.Step.{Step}
 use Rattle.base.specs.declared.step.Step.TheVariants.{Commit as CommitTick}
 use Rattle.base.specs.declared.step.Stage.{Stage}
@@ -111,7 +112,7 @@ cycle-whole q none chooses_now ok =
   where
     by : (b : Bool) → q.failed ≡ b → b ≡ false
     by false is = refl
-    by true is = absurd (never (sym (rw is refl) ∙ ok))
-      where
-        never : refusal q CommitTick ≡ None → ⊥
-        never e = cc
+    by true is =
+        let some : is_none (refusal q CommitTick) ≡ false = rw is refl in
+        let nothing : is_none (refusal q CommitTick) ≡ true = ap (λ (o : Option Fault). is_none o) ok in
+        cc

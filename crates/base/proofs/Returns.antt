@@ -1,5 +1,5 @@
 -- What was left out by a stop never returns, and no timestamp is drawn twice over lives.
-use Rattle.std.proofs.Common.{◌≡◌, ℕ, ◌+◌, ◌<◌, ◌≤◌, Bool, true, false, cond, not, ◌||◌, ◌&&◌, nat_eq, nat_le, List, [], ◌∷◌, ◌++◌, refl, sym, ◌∙◌, ap, subst, append-nil, append_assoc, arith, inl, inr, map, get_or}
+use Rattle.std.proofs.Common.{◌≡◌, ℕ, ◌+◌, ◌<◌, ◌≤◌, Bool, true, false, cond, not, ◌||◌, ◌&&◌, nat_eq, nat_le, List, [], ◌∷◌, ◌++◌, take, refl, sym, ◌∙◌, ap, subst, append-nil, append_assoc, arith, inl, inr, map, get_or}
 use Rattle.std.specs.Prelude.{Option, Some, None, All, Result, Ok, Err, filter}
 use Rattle.std.specs.Option.{option_map_or}
 use Rattle.std.proofs.lemmas.Bool.{ne_eqb}
@@ -12,7 +12,7 @@ use Rattle.base.specs.declared.step.Reply.{Reply}
 use Rattle.base.specs.Commits.{Commit, Writes}
 use Rattle.base.specs.Stands.{has_timestamp}
 use Rattle.base.specs.Machine.{State, Drawn, Hand, Stepped, refused, answered, memory_refused, device_failed, Run, final, next_state, state_ticked, state_ticked_on, state_drawn, next_stage, is_idle, writes_of, counted, drawn_of, in_hand, uncovered, is_stamped, end_of_run, timestamp_of, chosen, taken_in_hand, Cover, covers_at, of_hand, present, covers_closing, closed}
-use Rattle.base.specs.Restrictions.{most_in_batch}
+use Rattle.base.specs.Restrictions.{Limits, in_one_batch}
 use Rattle.base.specs.Lives.{World, IsWorld, Opening, Opens, Fails, Numbers, Asked, Report, StopsAt, EndsAs, LifeAs, Lives, RunsUp, left_out}
 use Rattle.base.specs.Laws.{RiseBetween, drawn_in, drawn_over, StayOut}
 use Rattle.base.proofs.Growth.{rise-append, run-rise}
@@ -59,10 +59,18 @@ fresh-drawn from q n (write ∷ writes) f =
       hand = widen-all from q.next (q.next + 1) (in_hand q) (omega arith) f.hand;
     }
 
+-- what holds of each commit holds of those that one batch takes
+pub all-in_one : {X : Type 0} (P : X → Type 0) (limits : Limits) (xs : List X) → All P xs → All P (in_one_batch limits xs)
+all-in_one P limits xs all = by limits.one_commit
+  where
+    by : (b : Bool) → All P (cond b (take 1 xs) xs)
+    by true = All-take P 1 xs all
+    by false = all
+
 chosen-within : (from : ℕ) (q : State) → Fresh from q → All (Within from q.next) (chosen q)
 chosen-within from q f =
     let test : Drawn → Bool = λ d. is_stamped d && nat_le d.commit.timestamp (end_of_run q) in
-    All-take (Within from q.next) most_in_batch (map (λ (d : Drawn). d.commit) (filter test q.drawn))
+    all-in_one (Within from q.next) q.limits (map (λ (d : Drawn). d.commit) (filter test q.drawn))
     (All-map (Within from q.next) (λ d. d.commit) (filter test q.drawn) (All-filter test (λ d. Within from q.next d.commit) q.drawn f.drawn))
 
 fresh-idle : (from : ℕ) (q : State) (b : Bool) → Fresh from q → Fresh from (cond b q (record q { hand = Some (taken_in_hand q) }))

@@ -125,7 +125,7 @@ begun-free q n session ok is_at = ne_eqb n (unwrap_or (free_session q) 0) (λ sa
         let f : is_none (refusal q Begin) ≡ false = refuses-full q (ap (λ (o : Option ℕ). is_none o) e) in
         let g : is_none (refusal q Begin) ≡ true = ap (λ (o : Option Fault). is_none o) ok in
         cc
-    taken (Some m) e same = busy m (same ∙ ap (λ (o : Option ℕ). unwrap_or o 0) e) (find-passes (λ k. is_none (q.sessions k)) session_numbers m e)
+    taken (Some m) e same = busy m (same ∙ ap (λ (o : Option ℕ). unwrap_or o 0) e) (find-passes (λ k. is_none (q.sessions k)) (session_numbers q) m e)
 
 other : (n m : ℕ) (session : Option Session) (q : State) → nat_eq n m ≡ false → replaced m session q.sessions n ≡ q.sessions n
 other n m session q apart = ap (λ (b : Bool). cond b session (q.sessions n)) apart

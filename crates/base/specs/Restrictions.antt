@@ -1,16 +1,26 @@
--- What the first stages leave out. Each restriction is one definition, that of the sweep two, here or under the word
--- "Restriction" where it is used, and goes with the stage that it names.
-use Rattle.std.specs.Prelude.{ℕ, List}
+-- What the first stages leave out. A state has its limits, so that all that is said of states holds with and without
+-- them; what goes with the stage that sweeps at opening stands here too.
+use Rattle.std.specs.Prelude.{ℕ, Bool, true, false, List, take, if◌then◌else◌}
 use Rattle.base.specs.declared.gap.Gap.{Gap}
 
--- how many sessions may be open at once; 62 from the stage of many sessions on
-abbrev pub most_sessions : ℕ
-most_sessions = 1
+-- what an engine does not do yet
+pub record Limits : Type 0 where
+  pub sessions : ℕ  -- how many may be open at once
+  pub one_commit : Bool  -- a batch takes one commit, and not all that follow one another
+  pub keeps_window : Bool  -- records without commits keep the window open
 
--- how many commits a batch takes; as many as follow one another from the stage of group commit on
-abbrev pub most_in_batch : ℕ
-most_in_batch = 1
+-- those of the room as it is
+abbrev pub first_limits : Limits
+first_limits = record { sessions = 1; one_commit = true; keeps_window = false }
 
--- the gaps that an opening goes on with; none if there are more than eight, from the stage that sweeps them on
+-- those of the whole engine
+abbrev pub whole_limits : Limits
+whole_limits = record { sessions = 62; one_commit = false; keeps_window = true }
+
+-- what one batch takes of the commits that follow one another
+abbrev pub in_one_batch : {X : Type 0} → Limits → List X → List X
+in_one_batch limits xs = if limits.one_commit then take 1 xs else xs
+
+-- how many gaps an opening goes on with; none if there are more than eight, from the stage that sweeps them on
 abbrev pub gaps_kept : List Gap → List Gap
 gaps_kept gaps = gaps
