@@ -1,7 +1,5 @@
 -- What is told of a sound image.
 use Rattle.std.specs.Prelude.{◌≡◌, ◌↔◌, ℕ, List, Option, Some, None}
-use Rattle.std.specs.declared.cmp.Ordering.{Ordering}
-use Rattle.std.specs.Ordering.{nat_cmp, ordering_then}
 use Rattle.std.specs.Map.{update_all}
 use Rattle.base.specs.declared.key.Key.{Key}
 use Rattle.base.specs.declared.gap.Gap.{Gap}
@@ -27,7 +25,3 @@ pub record Reports (image : Image) (gate persisted dirty : ℕ) (gaps : List Gap
 -- the last row that a list has at a key
 abbrev pub last_at : List (Key × List ℕ) → Key → Option (List ℕ)
 last_at rows = update_all key_eq (λ key. None) rows
-
--- the order of keys
-abbrev pub key_cmp : Key → Key → Ordering
-key_cmp a b = ordering_then (nat_cmp a.table b.table) (nat_cmp a.key b.key)

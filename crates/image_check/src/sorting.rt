@@ -2,7 +2,8 @@ ghost use Rattle.std.specs.Prelude.{◌≡◌, IfOk, IsTrue, map};
 ghost use Rattle.std.specs.BTreeMap.{IsOrdered, get};
 ghost use Rattle.base.specs.Keys.{is_rising, lookup_key};
 ghost use Rattle.base.specs.declared.key.Key.{Key as KeyValue};
-ghost use Rattle.image_check.specs.Checked.{key_cmp, last_at};
+ghost use Rattle.recovery.specs.Slots.{key_cmp};
+ghost use Rattle.image_check.specs.Checked.{last_at};
 
 use base::key::Key;
 use base::row::Row;
@@ -10,10 +11,7 @@ use std::alloc::{AllocError, Global};
 use std::collections::BTreeMap;
 
 // The rows by rising key, of each key the last.
-pub fn by_rising_key(
-    alloc: Global,
-    rows: Vec<(Key, Row)>,
-) -> Result<Vec<(Key, Row)>, AllocError>
+pub fn by_rising_key(alloc: Global, rows: Vec<(Key, Row)>) -> Result<Vec<(Key, Row)>, AllocError>
     ensures rising { IfOk result (λ sorted. IsTrue (is_rising (map (λ row. row.0) sorted.items))) }
     ensures same { IfOk result (λ sorted. (key : KeyValue) → lookup_key sorted.items key ≡ last_at rows.items key) }
 {
