@@ -8,7 +8,7 @@ use Rattle.base.specs.declared.fault.Fault.TheVariants.{BadGeometry, NotFormatte
 use Rattle.base.specs.Search.{first_below, some_if}
 use Rattle.base.specs.Layout.{Layout, is_known_version}
 use Rattle.base.specs.Records.{Record}
-use Rattle.base.specs.Images.{Image, damage, layout_of, ruling, is_formatted, has_good_geometry, is_wrong_gate, is_ruled, ruling_place, is_bad_slot, IsRuledBy}
+use Rattle.base.specs.Images.{Image, IsSound, damage, layout_of, ruling, is_formatted, has_good_geometry, is_wrong_gate, is_ruled, ruling_place, is_bad_slot, IsRuledBy}
 use Rattle.log_area.specs.Rulings.{log_damage}
 use Rattle.recovery.specs.Slots.{IsUnder, IsSlotsFault, bad_below}
 use Rattle.recovery.specs.Read.{IsRead, IsReadRefusal, TellsLogFault, rows_below}
@@ -82,3 +82,11 @@ module _ (layout : Layout) (r : Record) (image : Image) (rules : IsRuledBy layou
 -- what is answered where an image was examined
 pub tells-examined : (image : Image) (layout : Layout) (r : Record) (gaps : List Gap) (free : List Bool) → Examined image layout r gaps free → (fault : Fault) → TellsLogFault image fault
 tells-examined image layout r gaps free ex = tells-later layout r image (is image layout r gaps free ex).rules
+
+-- want of memory is all that a sound image is refused for
+pub memory-read : (image : Image) → IsSound image → IsReadRefusal image OutOfMemory
+memory-read image sound = inr (log-sound (log_damage image) refl, refl)
+  where
+    log-sound : (o : Option Fault) → log_damage image ≡ o → log_damage image ≡ None
+    log-sound None is = is
+    log-sound (Some fault) is = absurd (cc (sym sound ∙ log-first image fault is))

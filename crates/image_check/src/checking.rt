@@ -1,0 +1,48 @@
+ghost use Rattle.std.specs.Prelude.{IfOk, IfErr};
+ghost use Rattle.recovery.specs.Read.{IsReadRefusal};
+ghost use Rattle.image_check.specs.Checked.{Reports};
+
+use crate::sorting::by_rising_key;
+use base::Ts;
+use base::fault::Fault;
+use base::gap::Gaps;
+use base::key::Key;
+use base::row::Row;
+use recovery::read_image;
+use std::alloc::Global;
+use std::thread::Threads;
+
+/// What a sound image holds.
+#[derive(Drop)]
+pub struct Report {
+    /// The number of the record that rules it.
+    pub gate: u64,
+    pub persisted: Ts,
+    pub dirty: Ts,
+    pub gaps: Gaps,
+    /// The rows of its tables, by rising key.
+    pub rows: Vec<(Key, Row)>,
+}
+
+/// Tests all words of an image that count, and tells what it holds. It opens nothing, so it also checks an image whose
+/// opening would find no timestamps left. An image that isn't sound is refused for the first thing that is wrong with it.
+pub fn check<R: Threads + Sync>(rt: &R, alloc: Global, words: &[u64]) -> Result<Report, Fault>
+    ensures ok { IfOk result (λ report. Reports words.now report.gate report.persisted report.dirty report.gaps report.rows.items) }
+    ensures fault { IfErr result (IsReadRefusal words.now) }
+{
+    let found = match read_image(rt, alloc, words) {
+        Ok(found) => found,
+        Err(fault) => return Err(fault),
+    };
+    let ruling = found.ruling;
+    match by_rising_key(alloc, found.rows) {
+        Ok(rows) => Ok(Report {
+            gate: ruling.gate(),
+            persisted: ruling.persisted(),
+            dirty: ruling.dirty(),
+            gaps: ruling.gaps(),
+            rows,
+        }),
+        Err(_) => Err(Fault::OutOfMemory),
+    }
+}
