@@ -75,7 +75,7 @@ kept-failed q kept = kept-alike q (record q { failed = true }) (λ n. refl) kept
 
 -- a session that begins has no writes, as the number that it takes
 begins : (q : State) (n : ℕ) → free_session q ≡ Some n → [] ≡ writes_of (q.sessions (unwrap_or (free_session q) 0))
-begins q n free = sym (ap (λ (o : Option ℕ). writes_of (q.sessions (unwrap_or o 0))) free ∙ by_session (q.sessions n) (find-passes (λ n. is_none (q.sessions n)) session_numbers n free))
+begins q n free = sym (ap (λ (o : Option ℕ). writes_of (q.sessions (unwrap_or o 0))) free ∙ by_session (q.sessions n) (find-passes (λ n. is_none (q.sessions n)) (session_numbers q) n free))
   where
     by_session : (o : Option Session) → is_none o ≡ true → writes_of o ≡ []
     by_session None none = refl

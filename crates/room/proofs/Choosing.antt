@@ -68,7 +68,7 @@ pub idles : {D : Type 0} {G : Ghosts D} (state : D → Device) (room : Room D G)
 idles state room q orderly shown up none un =
     let works = shown.agrees.works up in
     let rest = at-rest q (state room.device) room.session room.cycle room.batch none works.log in
-    let idle = idle-unless_stamped q room.session works.drawn un in
+    let idle = idle-unless_stamped q room.session works.limits works.unswept works.drawn un in
     stays state room q CommitTick Idle orderly shown
     (answered (refusal-tick q false (shown.agrees.failed ∙ up) (ap (λ (b : Bool). b && nat_le (2 ^ 62) (q.ruling.gate + 1)) (chooses-as q true rest.0 idle)))
     (sym (ap (ticked q) rest.0 ∙ ap (λ (b : Bool). idle_or b) idle)) (sym (ap (state_ticked q) rest.0 ∙ ap (λ (b : Bool). q_or q b) idle))) (λ told. cc)
@@ -85,7 +85,7 @@ waiting : {D : Type 0} {G : Ghosts D} (state : D → Device) (room : Room D G) (
 waiting state room q t writes shown up none is =
     let works : Works q (state room.device) (Some (Drawn t writes (length writes))) None room.batch room.slots =
     works-along q (state room.device) room.session (Some (Drawn t writes (length writes))) room.cycle None room.batch room.batch room.slots room.slots (sym is) (sym none) refl refl (shown.agrees.works up) in
-    record { works = works; rests = works.log.0; rules = works.log.1; busy = busy-stamped q t writes works.drawn works.holds.1.follows }
+    record { works = works; rests = works.log.0; rules = works.log.1; busy = busy-stamped q t writes works.limits works.unswept works.drawn works.holds.1.follows }
 
 chooses-here : (q : State) (b : Bool) → q.hand ≡ None → is_idle q ≡ false → nat_le (2 ^ 62) (q.ruling.gate + 1) ≡ b → (chooses q CommitTick && nat_le (2 ^ 62) (q.ruling.gate + 1)) ≡ b
 chooses-here q b none busy is = ap (λ (c : Bool). c && nat_le (2 ^ 62) (q.ruling.gate + 1)) (chooses-as q false none busy) ∙ is
@@ -129,7 +129,7 @@ begins state old new q t writes cycle taken orderly shown up none is more stage 
     let q' : State = record q { hand = Some hand } in
     let unrefused = refusal-tick q false (shown.agrees.failed ∙ up) (chooses-here q false w.rests w.busy (gate-test state old q false shown more)) in
     let first : ticks_of (length (touched writes)) cycle cycle.stage ≡ 1 = ap (λ (s : CycleStage). ticks_of (length (touched writes)) cycle s) stage in
-    let is_taken = taken-whole q cycle t writes w.works.drawn w.works.holds.1.follows shown.agrees.swept first in
+    let is_taken = taken-whole q cycle t writes w.works.limits w.works.drawn w.works.holds.1.follows shown.agrees.swept first in
     let rules = shown.agrees.ruled in
     let below : q.ruling.gate + 1 < 2 ^ 62 = leb-false (2 ^ 62) (q.ruling.gate + 1) (gate-test state old q false shown more) in
     let same_batch : taken.batch ≡ record { from = q.ruling.gate; stamp = q.ruling.gate + 1; persisted = t; commits = commit_of t writes ∷ [] } =

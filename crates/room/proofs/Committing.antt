@@ -13,10 +13,10 @@ use Rattle.std.proofs.lemmas.List.FromFn.{get_or-map-range_with_len, length-map-
 use Rattle.base.specs.declared.key.Key.{Key}
 use Rattle.base.specs.Commits.{Commit, after}
 use Rattle.base.specs.Layout.{Layout, slot_words, slot_start, most_longs}
-use Rattle.base.specs.Restrictions.{most_in_batch}
+use Rattle.base.specs.Restrictions.{Limits, first_limits, in_one_batch}
 use Rattle.base.specs.declared.step.Stage.{Stage}
 use Rattle.base.specs.declared.step.Stage.TheVariants.{Chosen, LineFlushed, LinesFenced, BodyStored, BodyFlushed, BodyFenced, GateStored, GateFlushed}
-use Rattle.base.specs.Machine.{State, Version, Writer, Drawn as DrawnCommit, is_stamped, may_be_covered, unstamped_below, end_of_run, chosen, reach, passed_over, is_nil, is_idle, taken_in_hand, version_lines, lines_of_write, lines_of, stages}
+use Rattle.base.specs.Machine.{State, Version, Writer, Drawn as DrawnCommit, is_stamped, may_be_covered, unstamped_below, end_of_run, chosen, reach, passed_over, is_nil, has_other_reason_to_write, is_idle, taken_in_hand, version_lines, lines_of_write, lines_of, stages}
 use Rattle.log_area.specs.declared.stage.WritingStage.{WritingStage}
 use Rattle.log_area.specs.declared.stage.WritingStage.TheVariants.{StoreBody, FlushBody, FenceBody, StoreGate, FlushGate, FenceGate, Done}
 use Rattle.log_area.specs.Stages.{IsStage, next_stage, reached_by, operations_before}
@@ -63,44 +63,60 @@ end-whole q t writes drawn next =
     ∙ ap (λ (b : Bool). fold max q.ruling.persisted (map (λ (d : DrawnCommit). d.commit.timestamp) (cond b (stamped_whole t writes ∷ []) []))) (may_be q t writes drawn)
     ∙ max-next q.ruling.persisted t next
 
-chosen-of : (q : State) (ds : List DrawnCommit) → q.drawn ≡ ds → chosen q ≡ take most_in_batch (map (λ (d : DrawnCommit). d.commit) (filter (λ (d : DrawnCommit). is_stamped d && nat_le d.commit.timestamp (end_of_run q)) ds))
-chosen-of q ds drawn = ap (λ (ds : List DrawnCommit). take most_in_batch (map (λ (d : DrawnCommit). d.commit) (filter (λ (d : DrawnCommit). is_stamped d && nat_le d.commit.timestamp (end_of_run q)) ds))) drawn
+chosen-of : (q : State) (ds : List DrawnCommit) → q.limits ≡ first_limits → q.drawn ≡ ds → chosen q ≡ take 1 (map (λ (d : DrawnCommit). d.commit) (filter (λ (d : DrawnCommit). is_stamped d && nat_le d.commit.timestamp (end_of_run q)) ds))
+chosen-of q ds limits drawn =
+    ap (λ (limits : Limits). in_one_batch limits (map (λ (d : DrawnCommit). d.commit) (filter (λ (d : DrawnCommit). is_stamped d && nat_le d.commit.timestamp (end_of_run q)) q.drawn))) limits
+    ∙ ap (λ (ds : List DrawnCommit). take 1 (map (λ (d : DrawnCommit). d.commit) (filter (λ (d : DrawnCommit). is_stamped d && nat_le d.commit.timestamp (end_of_run q)) ds))) drawn
 
-pub chosen-whole : (q : State) (t : ℕ) (writes : List Write) → q.drawn ≡ stamped_whole t writes ∷ [] → t ≡ q.ruling.persisted + 1 → chosen q ≡ commit_of t writes ∷ []
-chosen-whole q t writes drawn next =
-    chosen-of q (stamped_whole t writes ∷ []) drawn
-    ∙ ap (λ (b : Bool). take most_in_batch (map (λ (d : DrawnCommit). d.commit) (cond b (stamped_whole t writes ∷ []) [])))
+pub chosen-whole : (q : State) (t : ℕ) (writes : List Write) → q.limits ≡ first_limits → q.drawn ≡ stamped_whole t writes ∷ [] → t ≡ q.ruling.persisted + 1 → chosen q ≡ commit_of t writes ∷ []
+chosen-whole q t writes limits drawn next =
+    chosen-of q (stamped_whole t writes ∷ []) limits drawn
+    ∙ ap (λ (b : Bool). take 1 (map (λ (d : DrawnCommit). d.commit) (cond b (stamped_whole t writes ∷ []) [])))
     (and_from (is_stamped (stamped_whole t writes)) (nat_le t (end_of_run q)) (is_stamped-whole t writes)
     (ap (λ (end : ℕ). nat_le t end) (end-whole q t writes drawn next) ∙ le-leb t t (omega arith)))
 
 -- a drawn commit with keys left to stamp isn't chosen
-chosen-part : (q : State) (t : ℕ) (writes : List Write) (stamped : ℕ) → q.drawn ≡ drawn_by (Some (Drawn t writes stamped)) → nat_eq stamped (length writes) ≡ false → chosen q ≡ []
-chosen-part q t writes stamped drawn part =
-    chosen-of q (drawn_by (Some (Drawn t writes stamped))) drawn
-    ∙ ap (λ (b : Bool). take most_in_batch (map (λ (d : DrawnCommit). d.commit) (cond (b && nat_le t (end_of_run q)) (drawn_by (Some (Drawn t writes stamped))) [])))
+chosen-part : (q : State) (t : ℕ) (writes : List Write) (stamped : ℕ) → q.limits ≡ first_limits → q.drawn ≡ drawn_by (Some (Drawn t writes stamped)) → nat_eq stamped (length writes) ≡ false → chosen q ≡ []
+chosen-part q t writes stamped limits drawn part =
+    chosen-of q (drawn_by (Some (Drawn t writes stamped))) limits drawn
+    ∙ ap (λ (b : Bool). take 1 (map (λ (d : DrawnCommit). d.commit) (cond (b && nat_le t (end_of_run q)) (drawn_by (Some (Drawn t writes stamped))) [])))
     (ap (nat_eq stamped) (length-plain_writes writes) ∙ part)
 
-pub idle-unless_stamped : (q : State) (session : Option Session) → q.drawn ≡ drawn_by session → awaits session ≡ false → is_idle q ≡ true
-idle-unless_stamped q None drawn un = ap (λ (cs : List Commit). is_nil cs && true) (chosen-of q [] drawn)
-idle-unless_stamped q (Some (Active writes)) drawn un = ap (λ (cs : List Commit). is_nil cs && true) (chosen-of q [] drawn)
-idle-unless_stamped q (Some (Drawn t writes stamped)) drawn un = ap (λ (cs : List Commit). is_nil cs && true) (chosen-part q t writes stamped drawn un)
-idle-unless_stamped q (Some (Covered t)) drawn un = ap (λ (cs : List Commit). is_nil cs && true) (chosen-of q [] drawn)
-idle-unless_stamped q (Some ReadOnly) drawn un = ap (λ (cs : List Commit). is_nil cs && true) (chosen-of q [] drawn)
+-- nothing else is a reason for a record
+no-other-reason : (q : State) → q.limits ≡ first_limits → q.swept ≡ false → has_other_reason_to_write q ≡ false
+no-other-reason q limits unswept = rw (limits, unswept) refl
 
-pub busy-stamped : (q : State) (t : ℕ) (writes : List Write) → q.drawn ≡ stamped_whole t writes ∷ [] → t ≡ q.ruling.persisted + 1 → is_idle q ≡ false
-busy-stamped q t writes drawn next = ap (λ (cs : List Commit). is_nil cs && true) (chosen-whole q t writes drawn next)
+idle-by : (q : State) (cs : List Commit) → q.limits ≡ first_limits → q.swept ≡ false → chosen q ≡ cs → is_idle q ≡ is_nil cs
+idle-by q cs limits unswept is = (λ i. is_nil (is i) && not (no-other-reason q limits unswept i)) ∙ and_true (is_nil cs)
+  where
+    and_true : (b : Bool) → b && true ≡ b
+    and_true true = refl
+    and_true false = refl
 
-pub taken-whole : (q : State) (cycle : Cycle) (t : ℕ) (writes : List Write) → q.drawn ≡ stamped_whole t writes ∷ [] → t ≡ q.ruling.persisted + 1 → q.swept ≡ false → ticks_of (length (touched writes)) cycle cycle.stage ≡ 1
+chosen-none : (q : State) (session : Option Session) → q.limits ≡ first_limits → q.drawn ≡ drawn_by session → awaits session ≡ false → chosen q ≡ []
+chosen-none q None limits drawn un = chosen-of q [] limits drawn
+chosen-none q (Some (Active writes)) limits drawn un = chosen-of q [] limits drawn
+chosen-none q (Some (Drawn t writes stamped)) limits drawn un = chosen-part q t writes stamped limits drawn un
+chosen-none q (Some (Covered t)) limits drawn un = chosen-of q [] limits drawn
+chosen-none q (Some ReadOnly) limits drawn un = chosen-of q [] limits drawn
+
+pub idle-unless_stamped : (q : State) (session : Option Session) → q.limits ≡ first_limits → q.swept ≡ false → q.drawn ≡ drawn_by session → awaits session ≡ false → is_idle q ≡ true
+idle-unless_stamped q session limits unswept drawn un = idle-by q [] limits unswept (chosen-none q session limits drawn un)
+
+pub busy-stamped : (q : State) (t : ℕ) (writes : List Write) → q.limits ≡ first_limits → q.swept ≡ false → q.drawn ≡ stamped_whole t writes ∷ [] → t ≡ q.ruling.persisted + 1 → is_idle q ≡ false
+busy-stamped q t writes limits unswept drawn next = idle-by q (commit_of t writes ∷ []) limits unswept (chosen-whole q t writes limits drawn next)
+
+pub taken-whole : (q : State) (cycle : Cycle) (t : ℕ) (writes : List Write) → q.limits ≡ first_limits → q.drawn ≡ stamped_whole t writes ∷ [] → t ≡ q.ruling.persisted + 1 → q.swept ≡ false → ticks_of (length (touched writes)) cycle cycle.stage ≡ 1
     → taken_in_hand q ≡ hand_of q cycle t writes
-taken-whole q cycle t writes drawn next unswept first = λ i. record {
-  commits = chosen-whole q t writes drawn next i;
+taken-whole q cycle t writes limits drawn next unswept first = λ i. record {
+  commits = chosen-whole q t writes limits drawn next i;
   target = record { gate = q.ruling.gate + 1; persisted = reached i; dirty = q.next + q.layout.window; gaps = gaps i; longs = passed i };
   ticks = sym first i;
 }
   where
     reached : reach q ≡ t
     reached =
-        ap (λ (cs : List Commit). fold max q.ruling.persisted (map (λ (commit : Commit). commit.timestamp) cs)) (chosen-whole q t writes drawn next) ∙ max-next q.ruling.persisted t next
+        ap (λ (cs : List Commit). fold max q.ruling.persisted (map (λ (commit : Commit). commit.timestamp) cs)) (chosen-whole q t writes limits drawn next) ∙ max-next q.ruling.persisted t next
 
     gaps : (cond q.swept [] q.ruling.gaps) ≡ q.ruling.gaps
     gaps = ap (λ (b : Bool). cond b [] q.ruling.gaps) unswept

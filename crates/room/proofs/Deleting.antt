@@ -86,6 +86,8 @@ module _ (q : State) (device : Device) (key : Key) (writes : List Write) (cycle 
         sessions = put-sessions q (Some (Active writes)) _ (Active (with_write_at (deletion key replaces) writes)) works.sessions (further-value q writes (works.sessions 2) (deletion key replaces));
         drawn = works.drawn;
         holds = (holds-deleted q key replaces writes room is works.holds.0, works.holds.1);
+        limits = works.limits;
+        unswept = works.unswept;
         free_slots = has;
         kept = kept-given q 2 key works.kept;
         slots = slots-given q 2 key device up works.slots;
@@ -138,6 +140,8 @@ module _ (q : State) (device : Device) (writes : List Write) (cycle : Option Cyc
         sessions = λ m. sessions-set (plain_session (length q.history)) q.sessions (Some (Active writes)) None None m (works.sessions m) refl;
         drawn = works.drawn;
         holds = works.holds.1;
+        limits = works.limits;
+        unswept = works.unswept;
         free_slots = record { size = gives.size ∙ works.free_slots.size; each = λ slot lt. free-aborted slot lt (is_held_by 2 (q.held slot)) refl };
         kept = kept-aborted q 2 works.kept;
         slots = slots-aborted q 2 device up works.slots;

@@ -102,6 +102,8 @@ works-read q device cycle batch free works =
       sessions = λ m. sessions-set (plain_session (length q.history)) q.sessions (Some (Active [])) (Some ReadOnly) (Some WroteNothing) m (works.sessions m) refl;
       drawn = works.drawn;
       holds = works.holds.1;
+      limits = works.limits;
+      unswept = works.unswept;
       free_slots = free-same refl refl works.free_slots;
       kept = subst (λ (s : State). IsKept s) after_it (kept-draw_nothing q 2 none works.kept);
       slots = subst (λ (s : State). SlotsHold s device) after_it (slots-draw_nothing q 2 device none works.slots);
@@ -173,6 +175,8 @@ works-drawn q device write writes cycle batch free room early works =
         holds-drawn q write writes (write ∷ writes) works.holds.0,
         record { writes_some = refl; stamps = omega arith; follows = works.holds.1; next = refl; early = leb-false (2 ^ 62) (q.next + 2 * q.layout.window) early },
       );
+      limits = works.limits;
+      unswept = works.unswept;
       free_slots = record { size = works.free_slots.size; each = λ slot lt. works.free_slots.each slot lt ∙ ap (λ (b : Bool). Some b) (sym (free-drawn 2 q.next (q.held slot))) };
       kept = subst (λ (s : State). IsKept s) after_it (kept-draw q 2 (plain_write write) (plain_writes writes) has (below-end q.next q.ruling.dirty works.kept.reserved room) works.kept);
       slots = subst (λ (s : State). SlotsHold s device) after_it (slots-draw q 2 (plain_write write) (plain_writes writes) device has works.kept works.slots);

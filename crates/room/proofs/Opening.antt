@@ -142,6 +142,8 @@ module _ (old new : Device) (layout : Layout) (r : Record) (next : ℕ) (free : 
         sessions = λ n. none-open (plain_session (length history)) (nat_eq n 2);
         drawn = refl;
         holds = one-before (ruling (image_of old)).persisted (ruling (image_of old)).dirty (formed-ruling (image_of old) (faultless (image_of old) stands.sound)).rising;
+        limits = refl;
+        unswept = refl;
         free_slots = record { size = free-counted old new layout r next free opened ∙ ap (λ (l : Layout). l.slots) opened.layout_is; each = free-each };
         kept = opened-kept_under (layout_of (image_of old)) (ruling (image_of old)) (image_of old) history lost (opened_gaps (ruling (image_of old))) opening;
         slots = opened-holds_under (layout_of (image_of old)) (ruling (image_of old)) (image_of old) history lost (opened_gaps (ruling (image_of old))) new opening rests;

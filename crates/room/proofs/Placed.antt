@@ -217,6 +217,8 @@ module _ (q : State) (old new : Device) (key : Key) (row : List ℕ) (slot : ℕ
         sessions = put-sessions q (Some (Active writes)) _ (Active (with_write_at (stored_write key row slot replaces) writes)) works.sessions (further-value q writes reading (stored_write key row slot replaces));
         drawn = works.drawn;
         holds = (holds-put q key row slot replaces writes holder room is works.holds.0, works.holds.1);
+        limits = works.limits;
+        unswept = works.unswept;
         free_slots = has;
         kept = kept;
         slots = slots;

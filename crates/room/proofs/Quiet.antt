@@ -6,6 +6,7 @@ use Rattle.room.specs.declared.cycle.InHand.{InHand}
 use Rattle.base.specs.declared.step.Step.TheVariants.{Begin, Poll, End}
 use Rattle.base.specs.declared.step.Reply.TheVariants.{Began, Done, Waiting, Committed}
 use Rattle.base.specs.Stands.{has_timestamp}
+use Rattle.base.specs.Restrictions.{first_limits}
 use Rattle.base.specs.Machine.{State, Session as PlainSession, Drew, WroteNothing, IsDrawn, IsStamped, IsCovered, Stepped, answered, refusal, free_session, next_state, with_session, replaced, allows, standing_of, polled, writes_of}
 use Rattle.pmem.specs.Device.{Device}
 use Rattle.invariant.specs.Kept.{IsKept}
@@ -43,8 +44,8 @@ log-none q device session (Some cycle) batch never log = absurd (never cycle log
 
 -- ---- Begin
 
-pub begin-stepped : (q : State) → q.failed ≡ false → q.sessions 2 ≡ None → Stepped q Begin (Began 2) (next_state q Begin)
-begin-stepped q works none = answered (refusal-begin q works none) (ap (λ (o : Option ℕ). Began (unwrap_or o 0)) (sym (free_session-none q none))) refl
+pub begin-stepped : (q : State) → q.limits ≡ first_limits → q.failed ≡ false → q.sessions 2 ≡ None → Stepped q Begin (Began 2) (next_state q Begin)
+begin-stepped q limits works none = answered (refusal-begin q limits works none) (ap (λ (o : Option ℕ). Began (unwrap_or o 0)) (sym (free_session-none q limits none))) refl
 
 log-begun : (q : State) (device : Device) (cycle : Option Cycle) (batch : Option InHand) → HoldsLog q device None cycle batch → HoldsLog q device (Some (Active [])) cycle batch
 log-begun q device None batch log = log
@@ -60,6 +61,8 @@ works-begun_at q device cycle batch free n is works kept slots = record {
       (sessions-set (plain_session (length q.history)) q.sessions None (Some (Active [])) (Some (Rattle.base.specs.Machine.Active (length q.history) [])) m (works.sessions m) refl);
   drawn = works.drawn;
   holds = (record { rising = refl; few = omega arith; placed = λ write in_set. absurd (omega (arith, in_set.1)) }, works.holds);
+  limits = works.limits;
+  unswept = works.unswept;
   free_slots = record { size = works.free_slots.size; each = works.free_slots.each };
   kept = kept;
   slots = slots;
@@ -73,8 +76,8 @@ works-begun_at q device cycle batch free n is works kept slots = record {
 pub works-begun : (q : State) (device : Device) (cycle : Option Cycle) (batch : Option InHand) (free : List Bool) → q.sessions 2 ≡ None → Works q device None cycle batch free
     → Works (next_state q Begin) device (Some (Active [])) cycle batch free
 works-begun q device cycle batch free none works =
-    works-begun_at q device cycle batch free (unwrap_or (free_session q) 0) (ap (λ (o : Option ℕ). unwrap_or o 0) (free_session-none q none)) works
-    (kept-begin q 2 (free_session-none q none) works.kept) (slots-begin q 2 device (free_session-none q none) works.slots)
+    works-begun_at q device cycle batch free (unwrap_or (free_session q) 0) (ap (λ (o : Option ℕ). unwrap_or o 0) (free_session-none q works.limits none)) works
+    (kept-begin q 2 (free_session-none q works.limits none) works.kept) (slots-begin q 2 device (free_session-none q works.limits none) works.slots)
 
 -- ---- Poll
 
@@ -147,6 +150,8 @@ works-ended q device found cycle batch free n is over works =
           (sessions-set (plain_session (length q.history)) q.sessions (Some found) None None m (works.sessions m) refl);
       drawn = over-drawn q found over works.drawn;
       holds = over-next q found over works.holds;
+      limits = works.limits;
+      unswept = works.unswept;
       free_slots = record { size = works.free_slots.size; each = works.free_slots.each };
       kept = kept-end q n none works.kept;
       slots = slots-end q n device none works.slots;

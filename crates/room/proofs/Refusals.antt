@@ -7,6 +7,7 @@ use Rattle.base.specs.declared.fault.Fault.{Fault}
 use Rattle.base.specs.declared.fault.Fault.TheVariants.{Failed, SessionsFull, NoSession, WrongState}
 use Rattle.base.specs.declared.step.Step.{Step}
 use Rattle.base.specs.declared.step.Step.TheVariants.{Begin, Get, Put, Draw, Stamp, Poll, End}
+use Rattle.base.specs.Restrictions.{first_limits}
 use Rattle.base.specs.Search.{some_if}
 use Rattle.base.specs.Machine.{State, Session, refusal, allows, standing_of, free_session}
 
@@ -17,14 +18,14 @@ some_failed b rest h = rw h refl
 pub refusal-failed : (q : State) (step : Step) → q.failed ≡ true → refusal q step ≡ Some Failed
 refusal-failed q step h = some_failed q.failed _ h
 
-pub refusal-begin_full : (q : State) (session : Session) → q.failed ≡ false → q.sessions 2 ≡ Some session → refusal q Begin ≡ Some SessionsFull
-refusal-begin_full q session works found = rw (works, found) refl
+pub refusal-begin_full : (q : State) (session : Session) → q.limits ≡ first_limits → q.failed ≡ false → q.sessions 2 ≡ Some session → refusal q Begin ≡ Some SessionsFull
+refusal-begin_full q session limits works found = rw (limits, works, found) refl
 
-pub refusal-begin : (q : State) → q.failed ≡ false → q.sessions 2 ≡ None → refusal q Begin ≡ None
-refusal-begin q works none = rw (works, none) refl
+pub refusal-begin : (q : State) → q.limits ≡ first_limits → q.failed ≡ false → q.sessions 2 ≡ None → refusal q Begin ≡ None
+refusal-begin q limits works none = rw (limits, works, none) refl
 
-pub free_session-none : (q : State) → q.sessions 2 ≡ None → free_session q ≡ Some 2
-free_session-none q none = rw none refl
+pub free_session-none : (q : State) → q.limits ≡ first_limits → q.sessions 2 ≡ None → free_session q ≡ Some 2
+free_session-none q limits none = rw (limits, none) refl
 
 -- a step of a session that isn't open
 pub refusal-get_absent : (q : State) (n : ℕ) (key : Key) → q.failed ≡ false → q.sessions n ≡ None → refusal q (Get n key) ≡ Some NoSession

@@ -215,6 +215,8 @@ module _ (q : State) (old new : Device) (t : ℕ) (writes : List Write) (stamped
       holds-writes q (next_state q (Stamp 2)) (ByCommit t) writes refl refl refl works.holds.0,
       record { writes_some = works.holds.1.writes_some; stamps = omega (arith, early); follows = works.holds.1.follows; next = works.holds.1.next; early = works.holds.1.early },
     );
+    limits = works.limits;
+    unswept = works.unswept;
     free_slots = free-same refl refl works.free_slots;
     kept = kept-stamp q 2 works.kept;
     slots = slots-stamp_any q 2 old new write.slot write.replaces t (drawn_now t writes stamped) write.key write.row timestamp_is next own replaced up works.kept (has-stamps stamps) works.slots;

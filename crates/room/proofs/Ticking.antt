@@ -191,6 +191,8 @@ works-ticked q hand device device' t writes cycle cycle' batch batch' free works
   sessions = works.sessions;
   drawn = works.drawn;
   holds = holds-session q (record q { hand = hand }) (Some (Drawn t writes (length writes))) refl refl refl refl refl works.holds;
+  limits = works.limits;
+  unswept = works.unswept;
   free_slots = record { size = works.free_slots.size; each = works.free_slots.each };
   kept = kept-with_hand q hand works.kept;
   slots = slots-with_hand q hand device' slots;
@@ -558,6 +560,8 @@ works-covered q device device' t writes cycle batch batch' free works kept slots
       ap (filter (λ (d : DrawnCommit). not (has_timestamp (commit_of t writes ∷ []) d.commit.timestamp))) works.drawn
       ∙ ap (λ (b : Bool). cond (not (b || false)) (stamped_whole t writes ∷ []) []) (eq-eqb t t refl);
   holds = (has-batch q.history (commit_of t writes ∷ []) t (or_left (nat_eq t t) false (eq-eqb t t refl)), works.holds.1.next);
+  limits = works.limits;
+  unswept = works.unswept;
   free_slots = record { size = works.free_slots.size; each = works.free_slots.each };
   kept = kept;
   slots = slots;

@@ -149,6 +149,8 @@ module _ (q : State) (old new : Device) (session : Option Session) (cycle : Opti
     sessions = works.sessions;
     drawn = works.drawn;
     holds = works.holds;
+    limits = works.limits;
+    unswept = works.unswept;
     free_slots = works.free_slots;
     kept = works.kept;
     slots = slots;
@@ -160,6 +162,8 @@ module _ (q : State) (old new : Device) (session : Option Session) (cycle : Opti
     sessions = works.sessions;
     drawn = works.drawn;
     holds = holds-session q (record q { failed = true }) session refl refl refl refl refl works.holds;
+    limits = works.limits;
+    unswept = works.unswept;
     free_slots = free-same refl refl works.free_slots;
     kept = kept-failed q works.kept;
     slots = slots;

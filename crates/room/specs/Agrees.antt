@@ -5,6 +5,7 @@ use Rattle.std.specs.Ordering.{nat_cmp}
 use Rattle.base.specs.Layout.{slot_words}
 use Rattle.base.specs.Records.{Record}
 use Rattle.base.specs.Stands.{has_timestamp}
+use Rattle.base.specs.Restrictions.{first_limits}
 use Rattle.base.specs.Machine.{State, Hand, Version, Writer, BySession, ByCommit, is_nil, state_covered}
 use Rattle.pmem.specs.Device.{Device, IsReady}
 use Rattle.pmem.specs.declared.device.Pmem.{Ghosts}
@@ -133,6 +134,8 @@ pub record Works (q : State) (device : Device) (session : Option Session) (cycle
   pub sessions : (n : ℕ) → q.sessions n ≡ option_map (plain_session (length q.history)) (session_at session n)
   pub drawn : q.drawn ≡ drawn_by session
   pub holds : HoldsSession q session
+  pub limits : q.limits ≡ first_limits
+  pub unswept : q.swept ≡ false
   pub free_slots : HasFree q free
   pub kept : IsKept q
   pub slots : SlotsHold q device

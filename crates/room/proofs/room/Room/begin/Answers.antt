@@ -20,7 +20,7 @@ pub returns-in-Some : goal.returns-in-Some
 returns-in-Some g c = record {
   step = λ q shown.
       let found = plain-found q _ _ _ _ _ 2 _ (shown.agrees.works c.if-self.false) c.in-Some.is in
-      (q, refuses g.D.Pmem.state c.args.self.now q Begin SessionsFull (g.met.D.Pmem.orderly _) shown (refusal-begin_full q _ (shown.agrees.failed ∙ c.if-self.false) found) (λ told. cc));
+      (q, refuses g.D.Pmem.state c.args.self.now q Begin SessionsFull (g.met.D.Pmem.orderly _) shown (refusal-begin_full q _ (shown.agrees.works c.if-self.false).limits (shown.agrees.failed ∙ c.if-self.false) found) (λ told. cc));
 }
 
 pub returns-in-None : goal.returns-in-None
@@ -29,7 +29,7 @@ returns-in-None g c = record {
       let none = plain-found q _ _ _ _ _ 2 _ (shown.agrees.works c.if-self.false) c.in-None.is in (
         next_state q Begin,
         record {
-          stepped = begin-stepped q (shown.agrees.failed ∙ c.if-self.false) none;
+          stepped = begin-stepped q (shown.agrees.works c.if-self.false).limits (shown.agrees.failed ∙ c.if-self.false) none;
           shows = record {
             stands = λ image may. stands-alike q (next_state q Begin) image refl refl refl refl (shown.stands image may);
             agrees = record {
