@@ -11,7 +11,7 @@ use Rattle.base.specs.Stands.{has_timestamp}
 use Rattle.base.specs.Machine.{State, Drawn, Hand, present, state_covered, StandsUnder}
 
 -- what all have that a filter leaves, and each that it drops, all have
-all-filtered : (p : Commit → Bool) (drop : Drawn → Bool) (ds : List Drawn) → ((d : Drawn) → drop d ≡ true → p d.commit ≡ true) → list_all p (map (λ d. d.commit) (filter (λ d. not (drop d)) ds)) ≡ true → list_all p (map (λ d. d.commit) ds) ≡ true
+pub all-filtered : (p : Commit → Bool) (drop : Drawn → Bool) (ds : List Drawn) → ((d : Drawn) → drop d ≡ true → p d.commit ≡ true) → list_all p (map (λ d. d.commit) (filter (λ d. not (drop d)) ds)) ≡ true → list_all p (map (λ d. d.commit) ds) ≡ true
 all-filtered p drop [] dropped all = refl
 all-filtered p drop (d ∷ ds) dropped all = by_test (drop d) refl all (all-filtered p drop ds dropped)
   where

@@ -11,7 +11,7 @@ use Rattle.base.specs.declared.step.Step.TheVariants.{Stamp, Commit as CommitTic
 use Rattle.base.specs.Commits.{Commit}
 use Rattle.base.specs.Layout.{Layout, total_words, slot_start, slot_words, is_in_limits}
 use Rattle.base.specs.Stands.{has_timestamp}
-use Rattle.base.specs.Machine.{State, Cover, present, closed, in_hand, drawn_of, next_state, StandsClosing}
+use Rattle.base.specs.Machine.{State, Cover, closed, in_hand, drawn_of, next_state, StandsClosing}
 use Rattle.pmem.specs.Device.{Device, IsOrderly, IsReady, IsSettled, LeavesOnly, flushed, fenced, failed}
 use Rattle.pmem.specs.declared.device.Pmem.{Ghosts}
 use Rattle.pmem.proofs.Images.{leaves_refl, leaves_trans, leaves_weaken, leaves-flushed, leaves-fenced, leaves-failed}

@@ -15,7 +15,8 @@ use Rattle.base.specs.Records.{is_committed}
 use Rattle.base.specs.Stands.{Stands, has_timestamp}
 use Rattle.base.specs.Machine.{State, Cover, Drawn, Hand, Stepped, refused, answered, memory_refused, device_failed, refusal, is_idle, next_stage, state_ticked, state_ticked_on, state_covered, standing_gaps, present, of_hand, covers_at, covers_closing, closed, uncovered, drawn_of, StandsUnder, StandsAt, StandsWithin, StandsClosing}
 use Rattle.room.specs.Closing.{ClosesAs}
-use Rattle.room.proofs.Standing.{has-batch, all-left_out, stands-covered}
+use Rattle.room.proofs.Standing.{has-batch}
+use Rattle.invariant.proofs.Covers.{all-filtered, stands-in_hand}
 use Rattle.room.proofs.Ticking.{refusal-in_hand}
 
 -- ---- covers
@@ -151,7 +152,7 @@ under-covered q hand more cover image is s = record {
     sound = s.stands.sound;
     tables = s.stands.tables;
     covered = s.stands.covered;
-    left_out = all-left_out (λ (c : Commit). has_timestamp cover.commits c.timestamp || not (is_committed (ruling image) c.timestamp)) (λ (d : Drawn). has_timestamp hand.commits d.commit.timestamp) q.drawn
+    left_out = all-filtered (λ (c : Commit). has_timestamp cover.commits c.timestamp || not (is_committed (ruling image) c.timestamp)) (λ (d : Drawn). has_timestamp hand.commits d.commit.timestamp) q.drawn
         (λ d in_batch. or_left (has_timestamp cover.commits d.commit.timestamp) (not (is_committed (ruling image) d.commit.timestamp)) (has d.commit.timestamp in_batch))
         s.stands.left_out;
     reserved = s.stands.reserved;
@@ -180,7 +181,7 @@ tick-covers q hand in_hand gate gaps = record {
     last image s = subst (λ (c : Cover). StandsUnder q c image) is_closed (under-covered q hand (uncovered (state_covered q hand)) (closed (state_covered q hand)) image refl s)
 
     now : (image : Image) → StandsUnder (state_covered q hand) (present (state_covered q hand)) image → StandsUnder q (present (state_covered q hand)) image
-    now image s = stands-covered q hand image s
+    now image s = stands-in_hand q hand image s
 
     by : (image : Image) (cover : Cover) → StandsUnder (state_covered q hand) cover image → Contains (covers_at (state_covered q hand)) cover ⊎ Contains (closed (state_covered q hand) ∷ []) cover → StandsClosing q image
     by image cover s (inl c) =

@@ -29,7 +29,8 @@ use Rattle.room.specs.Closing.{HasPersisted, is_all_stamped}
 use Rattle.room.specs.Sessions.{drawn_by}
 use Rattle.room.proofs.Closing.{at-closing, closing-last}
 use Rattle.room.proofs.Committing.{stamped_whole, is_stamped-whole}
-use Rattle.room.proofs.Standing.{stands-survived, stands-first, stands-covered, word-within}
+use Rattle.room.proofs.Standing.{stands-survived, stands-first, word-within}
+use Rattle.invariant.proofs.Covers.{stands-in_hand}
 use Rattle.room.proofs.Ticking.{slot-outside, shrinks-outside}
 use Rattle.room.proofs.Touching.{touches-own, touches-ended}
 
@@ -174,7 +175,7 @@ module _ (q : State) (old new : Device) (last : IsLast q old) (in_hand_none : q.
   last-stands : (device : Device) (image : Image) → SlotsHold (last_state q) device → SlotsSurvive q.layout device image → IsRuledBy q.layout (last_record q) image → StandsClosed q image
   last-stands device image held words ruled =
       subst (λ (c : Cover). StandsUnder q c image) cover-is
-      (stands-covered q (last_hand q) image
+      (stands-in_hand q (last_hand q) image
       (stands-survived (last_state q) device image last.keeps held words (subst (λ (r : Record). IsRuledBy q.layout r image) (sym last-ruled) ruled)))
 
   module _ (spares : Spares (IsOutside (begun q.layout (last_record q))) old new) where

@@ -26,3 +26,4 @@ pub mod Placed
 pub mod Opening
 pub mod Finding
 pub mod Getting
+pub mod Runs

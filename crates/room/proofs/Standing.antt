@@ -1,17 +1,16 @@
 -- Every image that a working room may leave stands for what it shows.
-use Rattle.std.proofs.Common.{◌≡◌, ◌⊎◌, inl, inr, ℕ, ◌+◌, ◌*◌, ◌<◌, Bool, true, false, cond, not, ◌||◌, ◌&&◌, List, [], ◌∷◌, ◌++◌, refl, sym, ◌∙◌, ap, subst, arith}
-use Rattle.std.specs.Prelude.{Option, Some, None, IsTrue, map, filter, nat_eq, Contains}
-use Rattle.std.specs.List.{list_all}
-use Rattle.std.proofs.lemmas.Bool.{and_parts, and_from, or_left, or_right}
+use Rattle.std.proofs.Common.{◌≡◌, ◌⊎◌, inl, inr, ℕ, ◌+◌, ◌*◌, ◌<◌, Bool, true, List, ◌∷◌, ◌++◌, refl, sym, ◌∙◌, ap, subst, arith}
+use Rattle.std.specs.Prelude.{Option, Some, None, IsTrue, nat_eq, Contains}
+use Rattle.std.proofs.lemmas.Bool.{or_right}
 use Rattle.std.proofs.lemmas.Nat.{mul-add-lt}
 use Rattle.std.proofs.lemmas.List.Folds.{list_any-append}
 use Rattle.room.specs.declared.cycle.InHand.{InHand}
 use Rattle.base.specs.Commits.{Commit}
 use Rattle.base.specs.Layout.{Layout, total_words, slot_words}
-use Rattle.base.specs.Records.{Record, is_committed}
+use Rattle.base.specs.Records.{Record}
 use Rattle.base.specs.Stands.{has_timestamp}
-use Rattle.base.specs.Images.{Image, ruling, IsRuledBy}
-use Rattle.base.specs.Machine.{State, Hand, Cover, Drawn as DrawnCommit, present, of_hand, state_covered, StandsUnder, StandsAsOne, StandsAt}
+use Rattle.base.specs.Images.{Image, IsRuledBy}
+use Rattle.base.specs.Machine.{State, Hand, Cover, present, of_hand, state_covered, StandsUnder, StandsAsOne, StandsAt}
 use Rattle.pmem.specs.Device.{Device, MayLeave}
 use Rattle.log_area.specs.Rulings.{HoldsRecord}
 use Rattle.log_area.specs.Stages.{is_gate_stored}
@@ -19,6 +18,7 @@ use Rattle.log_area.proofs.Replacing.{holds_ruled, ruled_meanwhile}
 use Rattle.invariant.specs.Theorem.{SlotsSurvive}
 use Rattle.invariant.specs.Kept.{IsKept}
 use Rattle.invariant.specs.Slots.{SlotsHold, word_of}
+use Rattle.invariant.proofs.Covers.{stands-in_hand}
 use Rattle.invariant.proofs.Standing.{every-image-stands}
 use Rattle.room.specs.declared.cycle.Cycle.{Cycle}
 use Rattle.room.specs.declared.cycle.CycleStage.{CycleStage}
@@ -52,38 +52,6 @@ pub has-batch : (history batch : List Commit) (t : ℕ) → has_timestamp batch 
 has-batch history batch t has =
     list_any-append (λ (c : Commit). nat_eq c.timestamp t) history batch ∙ or_right (has_timestamp history t) (has_timestamp batch t) has
 
--- what all have that a filter leaves, and each that it drops, all have
-pub all-left_out : (p : Commit → Bool) (dropped : DrawnCommit → Bool) (drawn : List DrawnCommit) → ((d : DrawnCommit) → dropped d ≡ true → p d.commit ≡ true)
-    → list_all p (map (λ (d : DrawnCommit). d.commit) (filter (λ (d : DrawnCommit). not (dropped d)) drawn)) ≡ true → list_all p (map (λ (d : DrawnCommit). d.commit) drawn) ≡ true
-all-left_out p dropped [] has all = refl
-all-left_out p dropped (d ∷ drawn) has all = by (dropped d) refl (all-left_out p dropped drawn has) all
-  where
-    by : (b : Bool) → dropped d ≡ b
-        → (list_all p (map (λ (d : DrawnCommit). d.commit) (filter (λ (d : DrawnCommit). not (dropped d)) drawn)) ≡ true → list_all p (map (λ (d : DrawnCommit). d.commit) drawn) ≡ true)
-        → list_all p (map (λ (d : DrawnCommit). d.commit) (cond (not b) (d ∷ filter (λ (d : DrawnCommit). not (dropped d)) drawn) (filter (λ (d : DrawnCommit). not (dropped d)) drawn))) ≡ true
-        → p d.commit && list_all p (map (λ (d : DrawnCommit). d.commit) drawn) ≡ true
-    by true is rest left = and_from (p d.commit) (list_all p (map (λ (d : DrawnCommit). d.commit) drawn)) (has d is) (rest left)
-    by false is rest left =
-        let both = and_parts (p d.commit) (list_all p (map (λ (d : DrawnCommit). d.commit) (filter (λ (d : DrawnCommit). not (dropped d)) drawn))) left in
-        and_from (p d.commit) (list_all p (map (λ (d : DrawnCommit). d.commit) drawn)) both.0 (rest both.1)
-
--- under the record of the batch in hand: as the state in which it is covered says
-pub stands-covered : (q : State) (hand : Hand) (image : Image) → StandsUnder (state_covered q hand) (present (state_covered q hand)) image
-    → StandsUnder q (record { ruled_by = (state_covered q hand).ruling; commits = q.history ++ hand.commits }) image
-stands-covered q hand image s = record {
-  stands = record {
-    sound = s.stands.sound;
-    tables = s.stands.tables;
-    covered = s.stands.covered;
-    left_out = all-left_out (λ (c : Commit). has_timestamp (q.history ++ hand.commits) c.timestamp || not (is_committed (ruling image) c.timestamp)) (λ (d : DrawnCommit). has_timestamp hand.commits d.commit.timestamp) q.drawn
-        (λ d in_batch. or_left (has_timestamp (q.history ++ hand.commits) d.commit.timestamp) (not (is_committed (ruling image) d.commit.timestamp)) (has-batch q.history hand.commits d.commit.timestamp in_batch))
-        s.stands.left_out;
-    reserved = s.stands.reserved;
-  };
-  ruled = s.ruled;
-  laid_out = s.laid_out;
-}
-
 pub stands-first : (q : State) (more : List Cover) (image : Image) → StandsUnder q (present q) image → StandsAsOne q (present q ∷ more) image
 stands-first q more image s = (present q, (0, omega arith, refl), s)
 
@@ -116,7 +84,7 @@ stands-covering q device cycle batch t writes kept slots of covering image may =
         let ruled : IsRuledBy q.layout covered.ruling image =
         subst (λ (r : Record). IsRuledBy q.layout r image) of.target (subst (λ (a : Layout). IsRuledBy a cycle.writing.target image) of.layout new.1) in
         stands-second q (hand_of q cycle t writes) image of.in_hand
-        (stands-covered q (hand_of q cycle t writes) image (stands-ruled covered device image size covering.keeps covering.slots may ruled))
+        (stands-in_hand q (hand_of q cycle t writes) image (stands-ruled covered device image size covering.keeps covering.slots may ruled))
 
 -- at each instant between two steps
 pub stands-works : (q : State) (device : Device) (session : Option Session) (cycle : Option Cycle) (batch : Option InHand) (free : List Bool) → Works q device session cycle batch free → (image : Image) → MayLeave device image → StandsAt q image

@@ -54,7 +54,8 @@ use Rattle.room.specs.Sessions.{plain_session, session_at, commit_of, lines_in}
 use Rattle.room.specs.Fits.{is_under_way, fits_cycle}
 use Rattle.room.specs.Room.{Shows, StepsTo, HasFailed, HasCovered, covering, operations_of}
 use Rattle.invariant.proofs.Standing.{known-version}
-use Rattle.room.proofs.Standing.{stands-ruled, stands-covered, stands-second, word-within, has-batch}
+use Rattle.invariant.proofs.Covers.{stands-in_hand}
+use Rattle.room.proofs.Standing.{stands-ruled, stands-second, word-within, has-batch}
 use Rattle.room.proofs.Working.{shows-works, works-along, holds-session}
 use Rattle.room.proofs.Touching.{past-end, touches-own, touches-ended}
 use Rattle.room.proofs.Committing.{stamped_whole, is_stamped-whole, lines-taken, stage-line, stage-fence, stage-reached, operations-next, done-next, word-line}
@@ -177,7 +178,7 @@ covers state old new q hand reply orderly orderly' shown one up in_hand next tol
   shows = shown';
   images = leaves_one (state old.device) (state new.device) (StandsWithin q (state_covered q hand)) one.continues one.clock orderly orderly'
       (λ image may. StandsAt-within q (state_covered q hand) image (shown.stands image may))
-      (λ image may. StandsAt-within q (state_covered q hand) image (stands-second q hand image in_hand (stands-covered q hand image (after_it image may))));
+      (λ image may. StandsAt-within q (state_covered q hand) image (stands-second q hand image in_hand (stands-in_hand q hand image (after_it image may))));
   failure = record { no_fewer = omega (arith, one.failures); cause = λ refused. absurd (cc); shown = λ less. absurd (omega (arith, less, one.failures)) };
   operations = omega (arith, one.count, one_at_most q hand in_hand);
 }

@@ -3,6 +3,7 @@
 
 mod cycle;
 mod giving;
+mod law;
 mod numbers;
 mod room;
 mod session;
@@ -11,6 +12,7 @@ mod status;
 mod tables;
 
 use cycle::{Cycle, CycleStage, InHand};
+pub use law::steps_run;
 use numbers::Numbers;
 pub use room::Room;
 use session::Session;
