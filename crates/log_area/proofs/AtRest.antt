@@ -9,8 +9,9 @@ use Rattle.base.specs.Records.{Record, IsRecord, record_word}
 use Rattle.base.specs.Search.{first_below, first_of, some_if}
 use Rattle.base.proofs.Histories.{first_below-none}
 use Rattle.base.specs.Images.{Image, superblock_word, layout_of, gate_at, place_words, is_wrong_gate, greatest_gate, ruling_place, is_bad_slot, damage, IsRuledBy, place_of}
-use Rattle.pmem.specs.Device.{Device, image_of, IsAtRest}
-use Rattle.log_area.specs.Rulings.{Holds, IsLaidOut, IsEarlierGate, IsRecordFor, HoldsRecord, superblock_words, gate_word}
+use Rattle.pmem.specs.Device.{Device}
+use Rattle.pmem.specs.Words.{image_of, IsAtRest, IsSettledAt}
+use Rattle.log_area.specs.Rulings.{IsLaidOut, IsEarlierGate, IsRecordFor, HoldsRecord, superblock_words, gate_word}
 use Rattle.base.proofs.Spelling.{get_or-range, is_record-holds}
 use Rattle.log_area.proofs.Rulings.{greatest-each, place_below, log_within}
 use Rattle.log_area.proofs.Heads.{image_size, image_word, laid_size, laid_limits, laid_known}
@@ -123,5 +124,5 @@ rest_holds layout r device rest is = record {
     fits : IsRecordFor layout r
     fits = fits_image layout r (image_of device) is
 
-    word_held : (word value : ℕ) → word < device.words → get_or (image_of device) word 0 ≡ value → Holds device word value
+    word_held : (word value : ℕ) → word < device.words → get_or (image_of device) word 0 ≡ value → IsSettledAt device word value
     word_held word value within e = record { settled = rest word within; holds = sym (image_word device word within) ∙ e }

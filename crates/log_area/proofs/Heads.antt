@@ -9,10 +9,11 @@ use Rattle.base.specs.declared.fault.Fault.TheVariants.{NotFormatted, Version, B
 use Rattle.base.specs.Layout.{Layout, total_words, is_in_limits, is_known_version, newest_version}
 use Rattle.base.specs.Search.{first_of, some_if}
 use Rattle.base.specs.Images.{Image, superblock_word, layout_of, is_formatted, has_good_geometry}
-use Rattle.pmem.specs.Device.{Device, value_of, image_of, IsSettled, IsReady, IsOrderly, stored, flushed, fenced}
-use Rattle.pmem.proofs.Steps.{value-stored_same, settled-ready, ready-flushed}
-use Rattle.log_area.specs.Rulings.{Holds, Makes, IsLaidOut, IsHead, layout_damage}
-use Rattle.log_area.proofs.Kept.{kept-stored, kept-flushed, kept-fenced}
+use Rattle.pmem.specs.Device.{Device, IsOrderly, stored, flushed, fenced}
+use Rattle.pmem.specs.Words.{value_of, image_of, IsSettled, IsReady, IsSettledAt, Makes}
+use Rattle.pmem.proofs.Changes.{stored-shrinks, flushed-shrinks, stored-value, flushed-ready, fenced-settled_at}
+use Rattle.pmem.proofs.Counts.{makes-stored}
+use Rattle.log_area.specs.Rulings.{IsLaidOut, IsHead, layout_damage}
 
 below : (w n : ℕ) → w < n + 1 → w ≢ n → w < n
 below w n h other = elim (cases_lt w n) [ inl less ↦ less | inr least ↦ absurd (other (omega (arith, h, least))) ]
@@ -64,24 +65,17 @@ loaded_more image words start k value lt is before j h = elim (cases_eq j k) [
 pub stored_more : (words : List ℕ) (word : ℕ) (old new : Device) → new ≡ stored word (get_or words word 0) old → ((w : ℕ) → 1 ≤ w → w < word → value_of old w ≡ get_or words w 0)
     → (w : ℕ) → 1 ≤ w → w < word + 1 → value_of new w ≡ get_or words w 0
 stored_more words word old new is before w low h = elim (cases_eq w word) [
-  | inl same ↦ ap (value_of new) same ∙ ap (λ (d : Device). value_of d word) is ∙ value-stored_same word (get_or words word 0) old ∙ ap (λ (n : ℕ). get_or words n 0) (sym same)
-  | inr other ↦ (kept-stored word (get_or words word 0) w is other).value ∙ before w low (below w word h other)
+  | inl same ↦ ap (value_of new) same ∙ stored-value old new word (get_or words word 0) is ∙ ap (λ (n : ℕ). get_or words n 0) (sym same)
+  | inr other ↦ (stored-shrinks word (get_or words word 0) w is other).value ∙ before w low (below w word h other)
 ]
 
-pub made_more : (word : ℕ) (start old new : Device) (value : ℕ) → 1 ≤ word → new ≡ stored word value old → Makes (word - 1) 0 0 start old → Makes (word + 1 - 1) 0 0 start new
-made_more word start old new value low is made = record {
-  stores_made = omega (arith, ap (λ (d : Device). d.stores) is, made.stores_made, low);
-  flushes_made = ap (λ (d : Device). d.flushes) is ∙ made.flushes_made;
-  fences_made = ap (λ (d : Device). d.fences) is ∙ made.fences_made;
-  no_failures = ap (λ (d : Device). d.failures) is ∙ made.no_failures;
-}
+pub made_more : (word : ℕ) (start old new : Device) (value : ℕ) → 1 ≤ word → new ≡ stored word value old → Makes (word - 1) 0 0 0 start old → Makes (word + 1 - 1) 0 0 0 start new
+made_more word start old new value low is made = let more : word - 1 + 1 ≡ word + 1 - 1 = omega (arith, low) in subst (λ (n : ℕ). Makes n 0 0 0 start new) more (makes-stored (word - 1) 0 0 0 made word value is)
 
 pub line_holds : (words : List ℕ) (actor : ℕ) (old mid new : Device) → IsOrderly old → 8 ≤ old.words → mid ≡ flushed actor 0 old → new ≡ fenced actor mid → ((w : ℕ) → 1 ≤ w → w < 8 → value_of old w ≡ get_or words w 0)
-    → (w : ℕ) → 1 ≤ w → w < 8 → Holds new w (get_or words w 0)
-line_holds words actor old mid new orderly size flush fence values w low high = record {
-  settled = subst (λ (d : Device). IsSettled d w) (sym fence) (settled-ready actor mid w (subst (λ (d : Device). IsReady d actor w) (sym flush) (ready-flushed actor 0 old w orderly (omega (arith, high, size)) (omega (arith, high)))));
-  holds = (kept-fenced {old = mid} actor w fence).value ∙ (kept-flushed {old = old} actor 0 w flush).value ∙ values w low high;
-}
+    → (w : ℕ) → 1 ≤ w → w < 8 → IsSettledAt new w (get_or words w 0)
+line_holds words actor old mid new orderly size flush fence values w low high =
+    fenced-settled_at mid new actor w (get_or words w 0) fence (flushed-ready old mid actor 0 w flush orderly (omega (arith, high, size)) (omega (arith, high))) ((flushed-shrinks {old = old} actor 0 w flush).value ∙ values w low high)
 
 -- ---- what a right superblock says
 

@@ -3,12 +3,13 @@ use Rattle.std.specs.Prelude.{◌≡◌, ◌≢◌, ◌⊎◌, ℕ, ◌+◌, ◌
 use Rattle.base.specs.Layout.{Layout, total_words, is_in_limits}
 use Rattle.base.specs.Records.{Record, record_word}
 use Rattle.base.specs.Images.{Image, IsRuledBy, place_of}
-use Rattle.pmem.specs.Device.{Device, Survives, value_of, IsReady}
+use Rattle.pmem.specs.Device.{Device}
+use Rattle.pmem.specs.Words.{Survives, value_of, IsReady, IsSettledAt}
 use Rattle.pmem.specs.Trace.{Operation, store_op, flush_op, fence_op, failure}
 use Rattle.log_area.specs.declared.stage.WritingStage.{WritingStage}
 use Rattle.log_area.specs.declared.stage.WritingStage.TheVariants.{StoreBody, FlushBody, FenceBody, StoreGate, FlushGate, FenceGate, Done}
 use Rattle.log_area.specs.Stages.{next_stage, is_gate_stored}
-use Rattle.log_area.specs.Rulings.{Holds, HasRecord, HoldsRecord, HasEarlierGate, IsEarlierGate, IsRecordFor, gate_word}
+use Rattle.log_area.specs.Rulings.{HasRecord, HoldsRecord, HasEarlierGate, IsEarlierGate, IsRecordFor, gate_word}
 
 -- the record that is written, and how far that is
 pub record Progress : Type 0 where
@@ -56,7 +57,7 @@ IsReadyTo start end device = (w : ℕ) → 1 ≤ w → w < end → IsReady devic
 
 -- the body is the record's, whatever a crash leaves
 abbrev pub HoldsBody : ℕ → Record → Device → Type 0
-HoldsBody start r device = (w : ℕ) → 1 ≤ w → w < 32 → Holds device (start + w) (record_word r w)
+HoldsBody start r device = (w : ℕ) → 1 ≤ w → w < 32 → IsSettledAt device (start + w) (record_word r w)
 
 -- a crash leaves the gate with what it held before, or with the record's number
 abbrev pub HasEitherGate : ℕ → Record → ℕ → Device → Type 0
@@ -65,13 +66,13 @@ HasEitherGate start r before device =
 
 -- what the words of the place hold at a stage, where the gate held this before
 abbrev pub IsAt : WritingStage → ℕ → Record → ℕ → Device → Type 0
-IsAt (StoreBody word) start r before device = (1 ≤ word) × (word < 32) × Holds device start before × HasBodyTo start r word device
-IsAt (FlushBody line) start r before device = (line < 4) × Holds device start before × HasBodyTo start r 32 device × IsReadyTo start (8 * line) device
-IsAt FenceBody start r before device = Holds device start before × HasBodyTo start r 32 device × IsReadyTo start 32 device
-IsAt StoreGate start r before device = Holds device start before × HoldsBody start r device
+IsAt (StoreBody word) start r before device = (1 ≤ word) × (word < 32) × IsSettledAt device start before × HasBodyTo start r word device
+IsAt (FlushBody line) start r before device = (line < 4) × IsSettledAt device start before × HasBodyTo start r 32 device × IsReadyTo start (8 * line) device
+IsAt FenceBody start r before device = IsSettledAt device start before × HasBodyTo start r 32 device × IsReadyTo start 32 device
+IsAt StoreGate start r before device = IsSettledAt device start before × HoldsBody start r device
 IsAt FlushGate start r before device = HasEitherGate start r before device × HoldsBody start r device
 IsAt FenceGate start r before device = HasEitherGate start r before device × HoldsBody start r device × IsReady device committer start
-IsAt Done start r before device = Holds device start r.gate × HoldsBody start r device
+IsAt Done start r before device = IsSettledAt device start r.gate × HoldsBody start r device
 
 -- the writing has come so far; the gate held this before
 pub record IsWriting (before : ℕ) (p : Progress) (device : Device) : Type 0 where

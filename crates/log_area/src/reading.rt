@@ -3,7 +3,7 @@ ghost use Rattle.base.specs.Layout.{newest_version, total_words};
 ghost use Rattle.base.specs.Records.{IsRecord};
 ghost use Rattle.base.specs.Search.{first_below};
 ghost use Rattle.base.specs.Images.{gate_at, greatest_gate, is_wrong_gate, place_words, IsRuledBy};
-ghost use Rattle.pmem.specs.Device.{image_of};
+ghost use Rattle.pmem.specs.Words.{image_of};
 ghost use Rattle.log_area.specs.Codec.{NoneFits};
 ghost use Rattle.log_area.specs.Rulings.{IsLaidOut, log_damage};
 

@@ -32,9 +32,10 @@ impl Writing {
     ghost use Rattle.std.specs.Prelude.{◌≡◌, ◌≢◌, ◌↔◌, ◌+◌, ◌^◌, ◌<◌, ◌≤◌, ℕ, IsTrue, IfOk, IfErr, OnOk, OnErr};
     ghost use Rattle.base.specs.Layout.{total_words};
     ghost use Rattle.base.specs.Records.{Record as Value};
-    ghost use Rattle.pmem.specs.Device.{LeavesOnly, failed};
+    ghost use Rattle.pmem.specs.Device.{failed};
+    ghost use Rattle.pmem.specs.Words.{LeavesOnly, Spares};
     ghost use Rattle.pmem.specs.Trace.{applied};
-    ghost use Rattle.log_area.specs.Rulings.{HoldsRecord, Spares};
+    ghost use Rattle.log_area.specs.Rulings.{HoldsRecord};
     ghost use Rattle.log_area.specs.Stages.{IsStage, reached_by};
     ghost use Rattle.log_area.specs.Writings.{begun, advanced, start_of, operation_of, IsWriting, IsReplacing, IsRuledMeanwhile, IsOutside};
 

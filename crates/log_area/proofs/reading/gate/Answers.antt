@@ -1,5 +1,5 @@
 use Rattle.std.proofs.Common.{◌<◌, ◌∙◌, sym, ap, ℕ, get_or, arith}
-use Rattle.pmem.specs.Device.{image_of}
+use Rattle.pmem.specs.Words.{image_of}
 use Rattle.log_area.proofs.Heads.{image_size, image_word, laid_size}
 use Rattle.log_area.proofs.reading.gate.Goals as goal
 

@@ -2,7 +2,7 @@ use Rattle.std.proofs.Common.{◌+◌, ◌≤◌, length, subst, List, ℕ, arit
 use Rattle.std.specs.Prelude.{IfSome, IfNone}
 use Rattle.base.specs.Layout.{newest_version}
 use Rattle.base.specs.Records.{IsRecord}
-use Rattle.pmem.specs.Device.{image_of}
+use Rattle.pmem.specs.Words.{image_of}
 use Rattle.log_area.specs.Codec.{NoneFits}
 use Rattle.log_area.proofs.Heads.{image_size, laid_size}
 use Rattle.log_area.proofs.Finding.{place_read}

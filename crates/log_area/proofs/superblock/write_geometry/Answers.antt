@@ -1,8 +1,7 @@
 use Rattle.std.proofs.Common.{◌≡◌, ◌⊎◌, inl, inr, ℕ, ◌<◌, ◌≤◌, List, get_or, subst, arith}
-use Rattle.pmem.specs.Device.{value_of}
-use Rattle.log_area.specs.Rulings.{Holds}
+use Rattle.pmem.specs.Words.{value_of, IsSettledAt}
 use Rattle.log_area.proofs.Heads.{stored_more, made_more, line_holds}
-use Rattle.log_area.proofs.Runs.{spares_trans, spares-stored, spares-flushed, spares-fenced, spares-failed}
+use Rattle.pmem.proofs.Spares.{spares_trans, spares-stored, spares-flushed, spares-fenced, spares-failed}
 use Rattle.log_area.proofs.superblock.write_geometry.Goals as goal
 
 abbrev Other : ℕ → Type 0
@@ -57,7 +56,7 @@ returns-clause-holds g c =
     let inv = c.loop-word.invariant in
     let done : c.loop-word.word ≡ 8 = omega (arith, c.loop-word-test.false, c.loop-word.auto.word-end, c.loop-word.auto.word) in
     let values : (w : ℕ) → 1 ≤ w → w < 8 → value_of (state before) w ≡ get_or c.superblock-words.result w 0 = λ w low high. inv.values w low (omega (arith, high, done)) in
-    subst (λ (l : List ℕ). (w : ℕ) → 1 ≤ w → w < 8 → Holds (state c.fence.new.self) w (get_or l w 0)) c.superblock-words.ensures
+    subst (λ (l : List ℕ). (w : ℕ) → 1 ≤ w → w < 8 → IsSettledAt (state c.fence.new.self) w (get_or l w 0)) c.superblock-words.ensures
     (line_holds c.superblock-words.result c.new-committer.result.number (state before) (state c.flush.new.self) (state c.fence.new.self) (orderly before) (omega (arith, c.requires, inv.others.left.continues.same_words)) c.in_ok-flush.ensures.ok c.in_ok-fence.ensures.ok values)
 
 pub returns-clause-others : goal.returns-clause-others
