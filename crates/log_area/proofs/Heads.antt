@@ -6,7 +6,7 @@ use Rattle.std.proofs.lemmas.List.FromFn.{length-map-range_with_len, get_or-map-
 use Rattle.std.proofs.lemmas.Bool.{cases_lt, cases_eq, and_parts, and_left, lt-leb, leb-true, eqb-true}
 use Rattle.base.specs.declared.fault.Fault.{Fault}
 use Rattle.base.specs.declared.fault.Fault.TheVariants.{NotFormatted, Version, BadGeometry}
-use Rattle.base.specs.Layout.{Layout, total_words, is_in_limits, is_known_version, newest_version}
+use Rattle.base.specs.Layout.{Layout, total_words, is_in_limits, is_known_version}
 use Rattle.base.specs.Search.{first_of, some_if}
 use Rattle.base.specs.Images.{Image, superblock_word, layout_of, is_formatted, has_good_geometry}
 use Rattle.pmem.specs.Device.{Device, IsOrderly, stored, flushed, fenced}
@@ -97,8 +97,3 @@ module _ (layout : Layout) (image : Image) (laid : IsLaidOut layout image) where
 
   pub laid_known : is_known_version (layout_of image).version ≡ true
   laid_known = (and_parts (is_known_version (layout_of image).version) _ parts.0).0
-
-  pub laid_version : newest_version ≡ (layout_of image).version
-  laid_version =
-      let both = and_parts (nat_le 1 (layout_of image).version) _ laid_known in
-      omega (arith, leb-true 1 (layout_of image).version both.0, leb-true (layout_of image).version 1 both.1)

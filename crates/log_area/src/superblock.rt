@@ -44,10 +44,10 @@ fn geometry_in(words: &[u64; 8], count: usize) -> Result<Geometry, Fault>
     if words[0] != FORMATTED {
         return Err(Fault::NotFormatted);
     }
-    if words[1] != 1 {
+    if !Geometry::is_known_version(words[1]) {
         return Err(Fault::Version(words[1]));
     }
-    let geometry = match Geometry::new(words[2], words[3], words[4]) {
+    let geometry = match Geometry::of_version(words[1], words[2], words[3], words[4]) {
         Ok(geometry) => geometry,
         Err(_) => return Err(Fault::BadGeometry),
     };
@@ -79,9 +79,8 @@ pub fn write_geometry<D: Pmem>(device: &mut D, geometry: Geometry) -> Result<(),
     for word in 1..8 {
         device.store(word, words[word])?;
     }
-    let committer = Actor::new(0);
-    device.flush(committer, 0)?;
-    device.fence(committer)?;
+    device.flush(Actor::COMMITTER, 0)?;
+    device.fence(Actor::COMMITTER)?;
     Ok(())
 }
 

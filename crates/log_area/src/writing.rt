@@ -116,12 +116,12 @@ impl Writing {
                 device.store(start + word as usize, self.target.word(word as usize))
             }
             WritingStage::FlushBody(line) => {
-                device.flush(Actor::new(0), start / 8 + line as usize)
+                device.flush(Actor::COMMITTER, start / 8 + line as usize)
             }
-            WritingStage::FenceBody => device.fence(Actor::new(0)),
+            WritingStage::FenceBody => device.fence(Actor::COMMITTER),
             WritingStage::StoreGate => device.store(start, self.target.gate()),
-            WritingStage::FlushGate => device.flush(Actor::new(0), start / 8),
-            WritingStage::FenceGate => device.fence(Actor::new(0)),
+            WritingStage::FlushGate => device.flush(Actor::COMMITTER, start / 8),
+            WritingStage::FenceGate => device.fence(Actor::COMMITTER),
             WritingStage::Done => Ok(()),
         }
     }
@@ -131,7 +131,7 @@ impl Writing {
         ensures within { result + 32 ≤ total_words self.now.layout }
         ensures low { result < 2 ^ 32 }
     {
-        let place = self.target.gate() % self.geometry.places();
-        8 + 32 * place as usize
+        let geometry = self.geometry;
+        geometry.place_start(self.target.gate() % geometry.places())
     }
 }
