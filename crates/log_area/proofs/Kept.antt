@@ -1,10 +1,10 @@
 -- What leaves a word as it is.
-use Rattle.std.proofs.Common.{◌≡◌, ◌≢◌, inl, inr, ℕ, ◌+◌, ◌*◌, ◌<◌, ◌≤◌, true, refl, sym, ◌∙◌, ap, subst, arith}
+use Rattle.std.proofs.Common.{◌≡◌, ℕ, ◌+◌, ◌*◌, ◌<◌, ◌≤◌, true, sym, ◌∙◌, ap, subst, arith}
 use Rattle.base.specs.Layout.{Layout, place_start, is_in_limits}
 use Rattle.base.specs.Records.{Record, record_word}
-use Rattle.pmem.specs.Device.{Device, stored, flushed, fenced, failed}
-use Rattle.pmem.specs.Words.{value_of, IsReady, IsSettledAt, OnlyShrinks}
-use Rattle.pmem.proofs.Changes.{stored-shrinks, flushed-shrinks, fenced-shrinks, failed-shrinks, settled_at-shrinks}
+use Rattle.pmem.specs.Device.{Device, flushed, fenced, failed}
+use Rattle.pmem.specs.Words.{value_of, IsReady, OnlyShrinks}
+use Rattle.pmem.proofs.Changes.{flushed-shrinks, fenced-shrinks, failed-shrinks, settled_at-shrinks}
 use Rattle.log_area.specs.declared.stage.WritingStage.{WritingStage}
 use Rattle.log_area.specs.declared.stage.WritingStage.TheVariants.{StoreBody, FlushBody, FenceBody, StoreGate, FlushGate, FenceGate, Done}
 use Rattle.log_area.specs.Rulings.{HasRecord, HoldsRecord, HasEarlierGate, IsEarlierGate, gate_word}
@@ -94,10 +94,6 @@ module _ (p : Progress) (old new : Device) (size : new.words ≡ old.words) (kep
   }
 
 -- ---- other actors
-
--- an operation of another actor between two of the writing: a store outside the log area, a flush, a fence or a failure
-pub keeps_log-stored : (layout : Layout) {old new : Device} (word value : ℕ) → 8 + 32 * layout.places ≤ word → new ≡ stored word value old → KeepsLog layout old new
-keeps_log-stored layout word value high is other h = stored-shrinks word value other is (λ e. omega (arith, e, h, high))
 
 pub keeps_log-flushed : (layout : Layout) {old new : Device} (actor line : ℕ) → new ≡ flushed actor line old → KeepsLog layout old new
 keeps_log-flushed layout actor line is word h = flushed-shrinks actor line word is

@@ -2,8 +2,8 @@ ghost use Rattle.std.specs.Prelude.{◌≡◌, ◌&&◌, nat_le};
 ghost use Rattle.base.specs.Records.{is_in};
 
 use crate::order::are_in_order;
-use base::{NUMBER_LIMIT, Ts};
 use base::gap::{Gap, Gaps};
+use base::{NUMBER_LIMIT, Ts};
 use std::marker::Model;
 
 /// A group commit record: its number (the gate), the persisted and the dirty timestamp, and the gaps.
