@@ -18,7 +18,10 @@ fn main(rt: HostRuntime) -> Result<(), Error> {
     for word in env::args(&rt)?.skip(1) {
         timed = timed || word.as_str() == "time";
     }
-    for (slots, places) in [(4, Geometry::LEAST_PLACES), (Geometry::MOST_SLOTS, Geometry::MOST_PLACES)] {
+    for (slots, places) in [
+        (4, Geometry::LEAST_PLACES),
+        (Geometry::MOST_SLOTS, Geometry::MOST_PLACES),
+    ] {
         let words = Geometry::new(slots, places, 8)?.words() as usize;
         let mut device = SimPmem::from_words(rt.alloc(), &vec![in rt.alloc(); 0; words]?)?;
         device.reserve(STORES_IN_A_ROUND * ROUNDS)?;

@@ -4,9 +4,7 @@ use base::fault::Fault;
 use base::gap::{Gap, Gaps};
 use base::geometry::Geometry;
 use base::step::Stage;
-use log_area::{
-    FORMATTED, Record, Writing, latest, read_geometry, write_geometry, write_record,
-};
+use log_area::{FORMATTED, Record, Writing, latest, read_geometry, write_geometry, write_record};
 use pmem::{Pmem, set_word};
 use pmem_model::{Choice, SimPmem};
 use std::alloc::Global;
