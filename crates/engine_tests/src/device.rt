@@ -172,7 +172,8 @@ fn fuse_and_single_fault(rt: HostRuntime) -> Result<(), Fault> {
     play(&rt, rt.alloc(), ACTS)
 }
 
-// Each allocation may be refused. The first answer that differs is OutOfMemory, and a store's is Device.
+// Each allocation may be refused. The first answer that differs is OutOfMemory, and a store's is Device: its word keeps
+// its value then.
 #[test]
 fn refused_memory_is_told(rt: HostRuntime) {
     match SimPmem::from_words(rt.alloc(), &[3; 2]) {
@@ -184,24 +185,40 @@ fn refused_memory_is_told(rt: HostRuntime) {
 fn assert_stores(rt: &impl Abort, device: SimPmem) {
     let mut device = device;
     for value in 0..40 {
+        let before = second_word(rt, &device);
         if let Err(fault) = operate(rt, &mut device, Operation::Store(1, value)) {
             assert_eq!(rt; fault, Fault::Device);
+            assert_eq!(rt; second_word(rt, &device), before);
+            assert_crash(rt, &device, &Choice::Oldest, 3);
+            assert_crash(rt, &device, &Choice::Newest, before);
             return;
         }
+        assert_eq!(rt; second_word(rt, &device), value);
     }
     assert_eq!(rt; operate(rt, &mut device, Operation::Flush(0)), Ok(()));
+    assert_crash(rt, &device, &Choice::Oldest, 3);
     assert_eq!(rt; operate(rt, &mut device, Operation::Fence(0)), Ok(()));
-    assert_crash(rt, &device);
+    assert_crash(rt, &device, &Choice::Oldest, 39);
+    match device.image() {
+        Ok(image) => assert_eq!(rt; image.as_slice(), [3, 39].as_slice()),
+        Err(fault) => assert_eq!(rt; fault, Fault::OutOfMemory),
+    }
     assert_reserve(rt, device);
 }
 
-fn assert_crash(rt: &impl Abort, device: &SimPmem) {
-    match device.crash(&Choice::Oldest) {
-        Ok(after) => assert!(rt; after.at_rest()),
-        Err(fault) => assert_eq!(rt; fault, Fault::OutOfMemory),
-    }
-    match device.image() {
-        Ok(image) => assert_eq!(rt; image.as_slice(), [3, 39].as_slice()),
+fn second_word(rt: &impl Abort, device: &SimPmem) -> u64 {
+    assert!(rt; device.words() == 2);
+    device.load(1)
+}
+
+// A crash of this choice leaves 3 in word 0 and this value in word 1.
+fn assert_crash(rt: &impl Abort, device: &SimPmem, choice: &Choice, want: u64) {
+    match device.crash(choice) {
+        Ok(after) => {
+            assert!(rt; after.at_rest());
+            assert!(rt; after.words() == 2);
+            assert_eq!(rt; (after.load(0), after.load(1)), (3, want));
+        }
         Err(fault) => assert_eq!(rt; fault, Fault::OutOfMemory),
     }
 }

@@ -4,7 +4,7 @@ use base::gap::Gap;
 use base::geometry::Geometry;
 use base::key::Key;
 use base::row::Row;
-use base::step::{Note, Reply, Stage, Step};
+use base::step::{Note, Stage, Step};
 use log_area::FORMATTED;
 use pmem::Pmem;
 use pmem_model::SimPmem;
@@ -109,20 +109,7 @@ pub fn assert_replies(rt: &impl Abort, room: &mut Room<SimPmem>, steps: &[(Step,
 
 /// Makes a step, and notes its reply.
 pub fn step(room: &mut Room<SimPmem>, step: Step) -> Note {
-    match room.step(step) {
-        Reply::Began(session) => Note::Began(session),
-        Reply::Row(row) => Note::Row(row),
-        Reply::Done => Note::Done,
-        Reply::Drawn(timestamp) => Note::Drawn(timestamp),
-        Reply::More => Note::More,
-        Reply::Stamped => Note::Stamped,
-        Reply::Waiting => Note::Waiting,
-        Reply::Committed(timestamp) => Note::Committed(timestamp),
-        Reply::Idle => Note::Idle,
-        Reply::Ticked(stage) => Note::Ticked(stage),
-        Reply::Covered(batch) => Note::Covered(batch.stamp()),
-        Reply::Refused(fault) => Note::Refused(fault),
-    }
+    Note::from(&room.step(step))
 }
 
 /// A transaction that writes the row, up to its stamp.

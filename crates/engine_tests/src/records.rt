@@ -56,9 +56,9 @@ fn assert_words(rt: &impl Abort, record: Record, words: &[u64]) {
 #[test]
 fn eight_gaps_are_written_and_read(rt: HostRuntime) -> Result<(), Fail> {
     let record = Record::new(7, 40, 50, eight_gaps(&rt));
-    assert!(rt; record.is_well_formed());
+    assert!(rt; record.is_well_formed(1));
     assert_words(&rt, record, &WORDS);
-    let read = Record::from_words(&WORDS).ok_or("no record")?;
+    let read = Record::from_words(&WORDS, 1).ok_or("no record")?;
     assert!(rt; read == record);
     assert!(rt; (read.gate(), read.persisted(), read.dirty()) == (7, 40, 50));
     assert!(rt; read.gaps().as_slice().len() == 8);

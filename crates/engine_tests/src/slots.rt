@@ -129,11 +129,42 @@ fn take(device: &mut SimPmem, slots: &mut SlotAlloc) -> Result<u64, Fault>
     ensures words { (device_of device.new).words ≡ 104 }
     ensures slots { length slots.new ≡ 4 }
 {
-    slots.take(device, geometry()?, Actor::new(2))
+    slots.take(device, geometry()?, Actor::session(2))
+}
+
+// Takes a slot three times: which slots are free, where they are two at most.
+fn take_three(device: &mut SimPmem, slots: &mut SlotAlloc) -> [Result<u64, Fault>; 3]
+    requires words { (device_of device.old).words ≡ 104 }
+    requires slots { length slots.old ≡ 4 }
+    ensures words { (device_of device.new).words ≡ 104 }
+    ensures slots { length slots.new ≡ 4 }
+{
+    let first = take(device, slots);
+    let second = take(device, slots);
+    [first, second, take(device, slots)]
 }
 
 #[test]
-fn slots_out(rt: HostRuntime) -> Result<(), Fault> {
+fn free_slots(rt: HostRuntime) -> Result<(), Fault> {
+    let mut device = zeroed(rt.alloc())?;
+    let free = vec![in rt.alloc(); false, true, false, true].or(Err(Fault::OutOfMemory))?;
+    let mut slots = SlotAlloc::new(free);
+    let none = Err(Fault::SlotsOut);
+    assert!(rt; take_three(&mut device, &mut slots) == [Ok(1), Ok(3), none]);
+    assert!(rt; take_three(&mut device, &mut slots) == [none, none, none]);
+    slots.give(3);
+    slots.give(0);
+    assert!(rt; take_three(&mut device, &mut slots) == [Ok(0), Ok(3), none]);
+    slots.give(2);
+    device.set_fuse(Some(0));
+    assert!(rt; take(&mut device, &mut slots) == Err(Fault::Device));
+    device.set_fuse(None);
+    assert!(rt; take_three(&mut device, &mut slots) == [Ok(2), none, none]);
+    Ok(())
+}
+
+#[test]
+fn taken_slot_is_cleared(rt: HostRuntime) -> Result<(), Fault> {
     let mut device = zeroed(rt.alloc())?;
     let free = vec![in rt.alloc(); false, true, false, true].or(Err(Fault::OutOfMemory))?;
     let mut slots = SlotAlloc::new(free);
@@ -141,9 +172,5 @@ fn slots_out(rt: HostRuntime) -> Result<(), Fault> {
     assert!(rt; device.survivors(80) == 2);
     assert!(rt; take(&mut device, &mut slots) == Ok(1));
     assert!(rt; (device.survivors(80), device.load(80)) == (1, 0));
-    assert!(rt; take(&mut device, &mut slots) == Ok(3));
-    assert!(rt; take(&mut device, &mut slots) == Err(Fault::SlotsOut));
-    slots.give(1);
-    assert!(rt; take(&mut device, &mut slots) == Ok(1));
     Ok(())
 }

@@ -6,6 +6,7 @@ use base::gap::{Gap, Gaps};
 use base::geometry::Geometry;
 use base::key::Key;
 use base::row::Row;
+use base::step::{Note, Reply};
 
 const KEY: Key = Key { table: 1, key: 7 };
 
@@ -25,6 +26,10 @@ fn geometries(rt: HostRuntime) {
         (1, 4, 2, 8)
     );
     assert_eq!(rt; least.slot_start(1), 80);
+    assert_eq!(rt; least.slot_line(1), 10);
+    assert_eq!(rt; least.place_start(1), 40);
+    assert!(rt; Geometry::is_known_version(1) && !Geometry::is_known_version(2));
+    assert!(rt; matches!(Geometry::of_version(2, 4, 2, 8), Err(Fault::BadGeometry)));
     let Ok(greatest) = Geometry::new(65_536, 64, 1_024) else {
         panic!(rt; "refused")
     };
@@ -56,6 +61,7 @@ fn faults(rt: HostRuntime) {
     ];
     for (fault, number, text) in faults {
         assert_eq!(rt; fault.number(), number);
+        assert!(rt; text.starts_with(fault.name()));
         let Ok(shown) = format!(in rt.alloc(); "{fault}") else {
             panic!(rt; "no memory")
         };
@@ -85,11 +91,15 @@ fn commits_and_batches(rt: HostRuntime) {
     assert_eq!(rt; (batch.from(), batch.stamp(), batch.persisted()), (2, 3, 5));
     assert_eq!(rt; batch.commits().len(), 2);
     assert_eq!(rt; batch.commits()[1].timestamp(), 5);
+    assert!(rt; Note::from(&Reply::Covered(batch)) == Note::Covered(3));
+    assert!(rt; Note::from(&Reply::Drawn(5)) == Note::Drawn(5));
 }
 
 #[test]
 fn actors(rt: HostRuntime) {
     assert_eq!(rt; Actor::new(63).number, 63);
+    assert_eq!(rt; Actor::session(2).number, 2);
+    assert_eq!(rt; (Actor::COMMITTER.number, Actor::COLLECTOR.number), (0, 1));
 }
 
 #[test]

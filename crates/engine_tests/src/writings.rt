@@ -1,12 +1,11 @@
 use crate::fixture::{assert_words, fresh_words};
+use base::actor::Actor;
 use base::fault::Fault;
 use base::gap::{Gap, Gaps};
 use base::geometry::Geometry;
 use base::step::Stage;
-use log_area::{
-    FORMATTED, Record, Writing, latest, read_geometry, set_word, write_geometry, write_record,
-};
-use pmem::Pmem;
+use log_area::{FORMATTED, Record, Writing, latest, read_geometry, write_geometry, write_record};
+use pmem::{Pmem, set_word};
 use pmem_model::{Choice, SimPmem};
 use std::alloc::Global;
 use std::process::Abort;
@@ -101,7 +100,7 @@ fn half_written_record_is_not_read(rt: HostRuntime) -> Result<(), Fault> {
 
 fn set_first_word(rt: &impl Abort, device: &mut SimPmem, value: u64) -> Result<(), Fault> {
     assert!(rt; 0 < device.words());
-    set_word(device, 0, value)
+    set_word(device, Actor::COMMITTER, 0, value)
 }
 
 // Writes the superblock anew. Between its two steps it can't be read.

@@ -1,38 +1,21 @@
 -- What a device at rest holds, from its image, and which images are sound.
-use Rattle.std.proofs.Common.{◌≡◌, ◌⊎◌, inl, inr, ℕ, zero, suc, ◌+◌, ◌%◌, ◌^◌, ◌<◌, ◌≤◌, not, [], ◌∷◌, length, get_or, refl, sym, ◌∙◌, ap, subst, arith, lit<, nat_eq, nat_le}
-use Rattle.std.specs.Prelude.{None}
-use Rattle.std.specs.Option.{option_map}
+use Rattle.std.proofs.Common.{◌≡◌, ◌⊎◌, inl, inr, ℕ, zero, suc, ◌+◌, ◌%◌, ◌^◌, ◌<◌, ◌≤◌, not, length, get_or, refl, sym, ◌∙◌, ap, subst, arith, lit<, nat_eq, nat_le}
 use Rattle.std.proofs.lemmas.Bool.{and_parts, and_cases, or_parts, leb-false, eqb-true, eqb-false, not-false, not-true}
-use Rattle.base.specs.declared.fault.Fault.TheVariants.{NotFormatted, Version, BadGeometry, Damaged}
 use Rattle.base.specs.Layout.{Layout, place_start, total_words, is_in_limits}
 use Rattle.base.specs.Records.{Record, IsRecord, record_word}
-use Rattle.base.specs.Search.{first_below, first_of, some_if}
 use Rattle.base.proofs.Histories.{first_below-none}
-use Rattle.base.specs.Images.{Image, superblock_word, layout_of, gate_at, place_words, is_wrong_gate, greatest_gate, ruling_place, ruling, is_bad_slot, damage, IsRuledBy, place_of}
-use Rattle.pmem.specs.Device.{Device, image_of, IsAtRest}
-use Rattle.log_area.specs.Rulings.{Holds, IsLaidOut, IsEarlierGate, IsRecordFor, HoldsRecord, superblock_words, gate_word}
+use Rattle.base.specs.Images.{Image, superblock_word, layout_of, gate_at, place_words, is_wrong_gate, greatest_gate, ruling_place, IsRuledBy, place_of}
+use Rattle.pmem.specs.Device.{Device}
+use Rattle.pmem.specs.Words.{image_of, IsAtRest, IsSettledAt}
+use Rattle.log_area.specs.Rulings.{IsLaidOut, IsEarlierGate, IsRecordFor, HoldsRecord, superblock_words, gate_word}
 use Rattle.base.proofs.Spelling.{get_or-range, is_record-holds}
 use Rattle.log_area.proofs.Rulings.{greatest-each, place_below, log_within}
-use Rattle.log_area.proofs.Heads.{image_size, image_word, laid_size, laid_limits, laid_known}
+use Rattle.log_area.proofs.Heads.{image_size, image_word, laid_size, laid_limits}
 use Rattle.log_area.proofs.Finding.{own_gate, ruling_is}
 
 module _ (layout : Layout) (r : Record) (image : Image) (is : IsRuledBy layout r image) where
   pub laid : IsLaidOut layout image
   laid = record { formatted = is.formatted; geometry = is.geometry; laid_out = is.laid_out }
-
-  -- where no slot is bad either, nothing is wrong
-  pub ruled_sound : first_below layout.slots (is_bad_slot (ruling image) image) ≡ None → damage image ≡ None
-  ruled_sound slots =
-      let gates : first_below (layout_of image).places (is_wrong_gate image) ≡ None = ap (λ (l : Layout). first_below l.places (is_wrong_gate image)) is.laid_out ∙ is.gates in
-      let none : first_below (layout_of image).slots (is_bad_slot (ruling image) image) ≡ None = ap (λ (l : Layout). first_below l.slots (is_bad_slot (ruling image) image)) is.laid_out ∙ slots in
-      (λ i. first_of (
-      some_if (not (is.formatted i)) NotFormatted
-      ∷ some_if (not (laid_known layout image laid i)) (Version (layout_of image).version)
-      ∷ some_if (not (is.geometry i)) BadGeometry
-      ∷ option_map Damaged (gates i)
-      ∷ some_if (not (is.well_ruled i)) (Damaged (ruling_place image))
-      ∷ option_map (λ slot. Damaged ((layout_of image).places + slot)) (none i)
-      ∷ []))
 
   some : greatest_gate image ≡ 0 → ⊥
   some = eqb-false (greatest_gate image) 0 (not-true (nat_eq (greatest_gate image) 0) (and_parts (not (nat_eq (greatest_gate image) 0)) _ is.well_ruled).0)
@@ -123,5 +106,5 @@ rest_holds layout r device rest is = record {
     fits : IsRecordFor layout r
     fits = fits_image layout r (image_of device) is
 
-    word_held : (word value : ℕ) → word < device.words → get_or (image_of device) word 0 ≡ value → Holds device word value
+    word_held : (word value : ℕ) → word < device.words → get_or (image_of device) word 0 ≡ value → IsSettledAt device word value
     word_held word value within e = record { settled = rest word within; holds = sym (image_word device word within) ∙ e }

@@ -7,7 +7,7 @@ use Rattle.std.proofs.lemmas.Bool.Decides.{nat_tests}
 use Rattle.std.proofs.lemmas.List.{nil_from_length, ext_get_or, length-drop, drop_more}
 use Rattle.std.proofs.lemmas.Option.{unwrap_or-slice_get}
 use Rattle.base.specs.declared.gap.Gap.{Gap}
-use Rattle.base.specs.Layout.{newest_version, most_longs}
+use Rattle.base.specs.Layout.{most_longs}
 use Rattle.base.specs.Records.{Record, IsRecord, record_word, is_well_formed, no_gap, is_in, are_apart, are_rising}
 use Rattle.base.proofs.Spelling.{record_word-first, record_word-last, same_gap, same_record, few_gaps}
 use Rattle.log_area.specs.Codec.{IsReadFrom, are_within}
@@ -35,11 +35,11 @@ pub apart_next : (gaps : List Gap) (i j : ℕ) (test : Bool) → i ≡ j + 1 →
 apart_next gaps i j test is h t = apart_step gaps i j is h ∙ ap (λ (b : Bool). b && are_apart (drop i gaps)) (sym t)
 
 -- the parts of the test that are left where there are few gaps and no long commits
-pub formed-parts : (r : Record) → length r.gaps ≤ 8 → r.longs ≡ []
-    → is_well_formed newest_version r ≡ ((nat_lt r.persisted r.dirty && nat_lt r.dirty (2 ^ 62)) && (are_within r.persisted r.gaps && are_apart r.gaps))
-formed-parts r few none =
+pub formed-parts : (version : ℕ) (r : Record) → length r.gaps ≤ 8 → r.longs ≡ []
+    → is_well_formed version r ≡ ((nat_lt r.persisted r.dirty && nat_lt r.dirty (2 ^ 62)) && (are_within r.persisted r.gaps && are_apart r.gaps))
+formed-parts version r few none =
     (λ i. nat_lt r.persisted r.dirty && nat_lt r.dirty (2 ^ 62)
-    && le-leb (length r.gaps) 8 few i && nat_le (length (none i)) (most_longs newest_version)
+    && le-leb (length r.gaps) 8 few i && le-leb (length r.longs) (most_longs version) (omega (arith, ap (length {A = ℕ}) none)) i
     && are_within r.persisted r.gaps && are_apart r.gaps
     && list_all (λ t. nat_le 1 t && nat_le t r.persisted && not (is_in r.gaps t)) (none i) && are_rising (none i))
     ∙ parts (nat_lt r.persisted r.dirty && nat_lt r.dirty (2 ^ 62)) (are_within r.persisted r.gaps) (are_apart r.gaps)
@@ -52,9 +52,9 @@ formed-parts r few none =
 
 -- ---- one record fits
 
-module _ (words : List ℕ) (r : Record) (is : IsRecord newest_version words r) where
+module _ (version : ℕ) (words : List ℕ) (r : Record) (without : most_longs version ≡ 0) (is : IsRecord version words r) where
   few : (length r.gaps ≤ 8) × (length r.longs ≤ 0)
-  few = few_gaps newest_version r is.well_formed
+  few = let both = few_gaps version r is.well_formed in (both.0, omega (arith, both.1, without))
 
   pub count-words : get_or words 3 0 ≡ length r.gaps
   count-words = omega (arith, is.each 3 (lit< tt), few.1)

@@ -9,7 +9,7 @@ use Rattle.std.proofs.lemmas.List.Sums.{fold_push}
 use Rattle.std.proofs.lemmas.Bool.{cases_lt, and_from, and_left, and_right, and_cases, or_parts, not-false, eq-eqb, eqb-true, ne_eqb, not_from_true, not_from_false, false_from_ne_true}
 use Rattle.base.specs.declared.fault.Fault.{Fault}
 use Rattle.base.specs.declared.fault.Fault.TheVariants.{NotFormatted, Version, BadGeometry, Damaged}
-use Rattle.base.specs.Layout.{Layout, place_start, newest_version, is_known_version}
+use Rattle.base.specs.Layout.{Layout, place_start, is_known_version}
 use Rattle.base.specs.Records.{Record, IsRecord, record_in, is_record}
 use Rattle.base.specs.Search.{first_below, first_of, some_if}
 use Rattle.base.proofs.Histories.{first_below-none}
@@ -17,7 +17,7 @@ use Rattle.base.specs.Images.{Image, layout_of, is_formatted, has_good_geometry,
 use Rattle.log_area.specs.Codec.{NoneFits}
 use Rattle.log_area.specs.Rulings.{IsLaidOut, layout_damage, log_damage}
 use Rattle.base.proofs.Spelling.{get_or-range, length-range, record_in-is, is_record-is, is_record-holds}
-use Rattle.log_area.proofs.Heads.{laid_known, laid_version}
+use Rattle.log_area.proofs.Heads.{laid_known}
 
 -- ---- searches
 
@@ -102,7 +102,7 @@ module _ (layout : Layout) (image : Image) (laid : IsLaidOut layout image) where
       pub ruling_is : ruling_place image ≡ greatest_gate image % layout.places
       ruling_is = ap (λ (b : Bool). cond b 1 (greatest_gate image % (layout_of image).places)) test ∙ ap (λ (n : ℕ). greatest_gate image % n) places_is
 
-      pub no_record : (place : ℕ) → place ≡ greatest_gate image % layout.places → NoneFits (place_words image place) → log_damage image ≡ Some (Damaged place)
+      pub no_record : (place : ℕ) → place ≡ greatest_gate image % layout.places → NoneFits layout.version (place_words image place) → log_damage image ≡ Some (Damaged place)
       no_record place at none =
           log_is None false place right
           (and_right (not (nat_eq (greatest_gate image) 0)) _ (false_from_ne_true (is_record (layout_of image).version (place_words image (ruling_place image))) fails))
@@ -112,8 +112,8 @@ module _ (layout : Layout) (image : Image) (laid : IsLaidOut layout image) where
           fails holds =
               let here : ruling_place image ≡ place = ruling_is ∙ sym at in
               let words = place_words image place in
-              let passes : is_record newest_version words ≡ true = (λ i. is_record (laid_version layout image laid i) (place_words image (sym here i))) ∙ holds in
-              none (record_in words) (is_record-holds newest_version words passes)
+              let passes : is_record layout.version words ≡ true = (λ i. is_record (sym laid.laid_out i).version (place_words image (sym here i))) ∙ holds in
+              none (record_in words) (is_record-holds layout.version words passes)
 
       -- the gate that was found is at its place
       pub own_gate : gate_at image (greatest_gate image % layout.places) ≡ greatest_gate image
@@ -134,15 +134,15 @@ module _ (layout : Layout) (image : Image) (laid : IsLaidOut layout image) where
                     ap (gate_at image) to ∙ is
               ]
 
-      pub ruled_by_read : (place : ℕ) (r : Record) → place ≡ greatest_gate image % layout.places → IsRecord newest_version (place_words image place) r → IsRuledBy layout r image
+      pub ruled_by_read : (place : ℕ) (r : Record) → place ≡ greatest_gate image % layout.places → IsRecord layout.version (place_words image place) r → IsRuledBy layout r image
       ruled_by_read place r at holds = record {
         formatted = laid.formatted;
         geometry = laid.geometry;
         laid_out = laid.laid_out;
         gates = right;
         well_ruled = and_from (not (nat_eq (greatest_gate image) 0)) _ (not_from_false _ test)
-            ((λ i. is_record (sym (laid_version layout image laid) i) (place_words image (here i))) ∙ is_record-is newest_version (place_words image place) r holds);
-        by_record = ap (λ (p : ℕ). record_in (place_words image p)) here ∙ record_in-is newest_version (place_words image place) r holds;
+            ((λ i. is_record (laid.laid_out i).version (place_words image (here i))) ∙ is_record-is layout.version (place_words image place) r holds);
+        by_record = ap (λ (p : ℕ). record_in (place_words image p)) here ∙ record_in-is layout.version (place_words image place) r holds;
         at_place = ruling_is ∙ ap (λ (n : ℕ). n % layout.places) (sym gate_is);
       }
         where

@@ -1,80 +1,33 @@
 -- What leaves a word as it is.
-use Rattle.std.proofs.Common.{◌≡◌, ◌≢◌, inl, inr, ℕ, ◌+◌, ◌*◌, ◌<◌, ◌≤◌, true, refl, sym, ◌∙◌, ap, subst, arith}
+use Rattle.std.proofs.Common.{◌≡◌, ℕ, ◌+◌, ◌*◌, ◌<◌, ◌≤◌, true, sym, ◌∙◌, ap, subst, arith}
 use Rattle.base.specs.Layout.{Layout, place_start, is_in_limits}
 use Rattle.base.specs.Records.{Record, record_word}
-use Rattle.pmem.specs.Device.{Device, value_of, IsReady, stored, flushed, fenced, failed}
-use Rattle.pmem.proofs.Steps.{value-stored_other, value-flushed, value-fenced, survives-stored, survives-flushed, survives-fenced, settled-stored, settled-flushed, settled-fenced, ready-stored, ready-flushed_by, ready-fenced}
+use Rattle.pmem.specs.Device.{Device, flushed, fenced, failed}
+use Rattle.pmem.specs.Words.{value_of, IsReady, OnlyShrinks}
+use Rattle.pmem.proofs.Changes.{flushed-shrinks, fenced-shrinks, failed-shrinks, settled_at-shrinks}
 use Rattle.log_area.specs.declared.stage.WritingStage.{WritingStage}
 use Rattle.log_area.specs.declared.stage.WritingStage.TheVariants.{StoreBody, FlushBody, FenceBody, StoreGate, FlushGate, FenceGate, Done}
-use Rattle.log_area.specs.Rulings.{Holds, HasRecord, HoldsRecord, HasEarlierGate, IsEarlierGate, IsKept, gate_word}
+use Rattle.log_area.specs.Rulings.{HasRecord, HoldsRecord, HasEarlierGate, IsEarlierGate, gate_word}
 use Rattle.log_area.specs.Writings.{Progress, start_of, HoldsBody, HasEitherGate, IsAt, IsWriting, IsReplacing}
 use Rattle.log_area.proofs.Rulings.{place_below}
 
--- ---- operations
-
-pub kept_refl : (device : Device) (word : ℕ) → IsKept device device word
-kept_refl device word = record { value = refl; survivors = λ x there. there; settled = λ s. s; ready = λ actor r. r }
-
-pub kept_trans : {old mid new : Device} {word : ℕ} → IsKept old mid word → IsKept mid new word → IsKept old new word
-kept_trans a b = record {
-  value = b.value ∙ a.value;
-  survivors = λ x there. a.survivors x (b.survivors x there);
-  settled = λ s. b.settled (a.settled s);
-  ready = λ actor r. b.ready actor (a.ready actor r);
-}
-
-pub kept-stored : {old new : Device} (word value : ℕ) (other : ℕ) → new ≡ stored word value old → other ≢ word → IsKept old new other
-kept-stored {old} {new} word value other is apart = subst (λ (d : Device). IsKept old d other) (sym is) (record {
-  value = value-stored_other word value old other apart;
-  survivors = λ x there. elim (survives-stored word value old other x there) [ inl this ↦ absurd (apart this.0) | inr before ↦ before ];
-  settled = settled-stored word value old other apart;
-  ready = λ actor. ready-stored word value old actor other apart;
-})
-
-pub kept-flushed : {old new : Device} (actor line : ℕ) (word : ℕ) → new ≡ flushed actor line old → IsKept old new word
-kept-flushed {old} {new} actor line word is = subst (λ (d : Device). IsKept old d word) (sym is) (record {
-  value = value-flushed actor line old word;
-  survivors = survives-flushed actor line old word;
-  settled = settled-flushed actor line old word;
-  ready = λ by. ready-flushed_by actor line old by word;
-})
-
-pub kept-fenced : {old new : Device} (actor : ℕ) (word : ℕ) → new ≡ fenced actor old → IsKept old new word
-kept-fenced {old} {new} actor word is = subst (λ (d : Device). IsKept old d word) (sym is) (record {
-  value = value-fenced actor old word;
-  survivors = survives-fenced actor old word;
-  settled = settled-fenced actor old word;
-  ready = λ by. ready-fenced actor old by word;
-})
-
-pub kept-failed : {old new : Device} (word : ℕ) → new ≡ failed old → IsKept old new word
-kept-failed {old} {new} word is = subst (λ (d : Device). IsKept old d word) (sym is) (record {
-  value = refl;
-  survivors = λ x there. there;
-  settled = λ s. s;
-  ready = λ actor r. r;
-})
-
 -- ---- facts of words that are kept
 
-pub holds_kept : {old new : Device} {word value : ℕ} → IsKept old new word → Holds old word value → Holds new word value
-holds_kept kept holds = record { settled = kept.settled holds.settled; holds = kept.value ∙ holds.holds }
-
-pub gate_kept : (layout : Layout) (number place : ℕ) {old new : Device} → IsKept old new (place_start place) → HasEarlierGate layout number old place → HasEarlierGate layout number new place
+pub gate_kept : (layout : Layout) (number place : ℕ) {old new : Device} → OnlyShrinks old new (place_start place) → HasEarlierGate layout number old place → HasEarlierGate layout number new place
 gate_kept layout number place kept gate = record {
   settled = kept.settled gate.settled;
   earlier = subst (IsEarlierGate layout number place) (sym kept.value) gate.earlier;
 }
 
-module _ (old new : Device) (start : ℕ) (r : Record) (before : ℕ) (kept : (word : ℕ) → start ≤ word → word < start + 32 → IsKept old new word) where
-  gate : IsKept old new start
+module _ (old new : Device) (start : ℕ) (r : Record) (before : ℕ) (kept : (word : ℕ) → start ≤ word → word < start + 32 → OnlyShrinks old new word) where
+  gate : OnlyShrinks old new start
   gate = kept start (omega arith) (omega arith)
 
   body : HoldsBody start r old → HoldsBody start r new
-  body holds w low high = holds_kept (kept (start + w) (omega arith) (omega arith)) (holds w low high)
+  body holds w low high = settled_at-shrinks (kept (start + w) (omega arith) (omega arith)) (holds w low high)
 
   either : HasEitherGate start r before old → HasEitherGate start r before new
-  either has = (gate.value ∙ has.0, λ x there. has.1 x (gate.survivors x there))
+  either has = (gate.value ∙ has.0, λ x there. has.1 x (gate.survives x there))
 
   value : (w : ℕ) → w < 32 → value_of old (start + w) ≡ record_word r w → value_of new (start + w) ≡ record_word r w
   value w high is = (kept (start + w) (omega arith) (omega arith)).value ∙ is
@@ -83,31 +36,31 @@ module _ (old new : Device) (start : ℕ) (r : Record) (before : ℕ) (kept : (w
   ready w high is = (kept (start + w) (omega arith) (omega arith)).ready 0 is
 
   pub at_kept : (stage : WritingStage) → IsAt stage start r before old → IsAt stage start r before new
-  at_kept (StoreBody word) is = (is.0, is.1, holds_kept gate is.2, λ w low high. value w (omega (arith, is.1)) (is.3 w low high))
+  at_kept (StoreBody word) is = (is.0, is.1, settled_at-shrinks gate is.2, λ w low high. value w (omega (arith, is.1)) (is.3 w low high))
   at_kept (FlushBody line) is =
-      (is.0, holds_kept gate is.1, λ w low high. value w high (is.2 w low high), λ w low high. ready w (omega (arith, is.0)) (is.3 w low high))
-  at_kept FenceBody is = (holds_kept gate is.0, λ w low high. value w high (is.1 w low high), λ w low high. ready w high (is.2 w low high))
-  at_kept StoreGate is = (holds_kept gate is.0, body is.1)
+      (is.0, settled_at-shrinks gate is.1, λ w low high. value w high (is.2 w low high), λ w low high. ready w (omega (arith, is.0)) (is.3 w low high))
+  at_kept FenceBody is = (settled_at-shrinks gate is.0, λ w low high. value w high (is.1 w low high), λ w low high. ready w high (is.2 w low high))
+  at_kept StoreGate is = (settled_at-shrinks gate is.0, body is.1)
   at_kept FlushGate is = (either is.0, body is.1)
   at_kept FenceGate is = (either is.0, body is.1, gate.ready 0 is.2)
-  at_kept Done is = (holds_kept gate is.0, body is.1)
+  at_kept Done is = (settled_at-shrinks gate is.0, body is.1)
 
 -- ---- the log area is kept
 
 -- the words of the superblock and the log area are kept
 abbrev pub KeepsLog : Layout → Device → Device → Type 0
-KeepsLog layout old new = (word : ℕ) → word < 8 + 32 * layout.places → IsKept old new word
+KeepsLog layout old new = (word : ℕ) → word < 8 + 32 * layout.places → OnlyShrinks old new word
 
 place_within : (layout : Layout) (r : Record) (word : ℕ) → is_in_limits layout ≡ true → word < gate_word layout r + 32 → word < 8 + 32 * layout.places
 place_within layout r word limits h = omega (arith, h, place_below layout r limits)
 
 pub record_kept : (layout : Layout) (r : Record) {old new : Device} → new.words ≡ old.words
-    → ((word : ℕ) → word < 8 → IsKept old new word) → ((w : ℕ) → w < 32 → IsKept old new (gate_word layout r + w)) → HasRecord layout r old → HasRecord layout r new
+    → ((word : ℕ) → word < 8 → OnlyShrinks old new word) → ((w : ℕ) → w < 32 → OnlyShrinks old new (gate_word layout r + w)) → HasRecord layout r old → HasRecord layout r new
 record_kept layout r size superblock place has = record {
   size = size ∙ has.size;
   fits = has.fits;
-  superblock = λ word h. holds_kept (superblock word h) (has.superblock word h);
-  place = λ w h. holds_kept (place w h) (has.place w h);
+  superblock = λ word h. settled_at-shrinks (superblock word h) (has.superblock word h);
+  place = λ w h. settled_at-shrinks (place w h) (has.place w h);
 }
 
 module _ (layout : Layout) (old new : Device) (size : new.words ≡ old.words) (kept : KeepsLog layout old new) where
@@ -142,18 +95,14 @@ module _ (p : Progress) (old new : Device) (size : new.words ≡ old.words) (kep
 
 -- ---- other actors
 
--- an operation of another actor between two of the writing: a store outside the log area, a flush, a fence or a failure
-pub keeps_log-stored : (layout : Layout) {old new : Device} (word value : ℕ) → 8 + 32 * layout.places ≤ word → new ≡ stored word value old → KeepsLog layout old new
-keeps_log-stored layout word value high is other h = kept-stored word value other is (λ e. omega (arith, e, h, high))
-
 pub keeps_log-flushed : (layout : Layout) {old new : Device} (actor line : ℕ) → new ≡ flushed actor line old → KeepsLog layout old new
-keeps_log-flushed layout actor line is word h = kept-flushed actor line word is
+keeps_log-flushed layout actor line is word h = flushed-shrinks actor line word is
 
 pub keeps_log-fenced : (layout : Layout) {old new : Device} (actor : ℕ) → new ≡ fenced actor old → KeepsLog layout old new
-keeps_log-fenced layout actor is word h = kept-fenced actor word is
+keeps_log-fenced layout actor is word h = fenced-shrinks actor word is
 
 pub keeps_log-failed : (layout : Layout) {old new : Device} → new ≡ failed old → KeepsLog layout old new
-keeps_log-failed layout is word h = kept-failed word is
+keeps_log-failed layout is word h = failed-shrinks word is
 
 pub replacing_failed : (p : Progress) (r : Record) {old new : Device} → new ≡ failed old → IsReplacing r p old → IsReplacing r p new
 replacing_failed p r {old} {new} is replacing = replacing_kept p old new (ap (λ (d : Device). d.words) is) (keeps_log-failed p.layout is) r replacing

@@ -5,14 +5,15 @@ use Rattle.std.proofs.lemmas.Bool.{cases_lt, cases_eq}
 use Rattle.base.specs.Layout.{Layout, place_start, total_words, is_in_limits}
 use Rattle.base.specs.Records.{Record, record_word}
 use Rattle.base.specs.Images.{gate_at, IsRuledBy, place_of}
-use Rattle.pmem.specs.Device.{Device, Survives, value_of, IsOrderly, MayLeave, LeavesOnly, failed}
+use Rattle.pmem.specs.Device.{Device, IsOrderly, MayLeave, failed}
+use Rattle.pmem.specs.Words.{Survives, value_of, LeavesOnly, IsSettledAt, HasOldWords, Spares}
 use Rattle.pmem.specs.Trace.{Operation, store_op, flush_op, fence_op, failure, applied}
 use Rattle.pmem.proofs.Steps.{only-settled}
 use Rattle.pmem.proofs.Images.{leaves-stored, leaves-flushed, leaves-fenced, leaves-failed}
 use Rattle.log_area.specs.declared.stage.WritingStage.{WritingStage}
 use Rattle.log_area.specs.declared.stage.WritingStage.TheVariants.{StoreBody, FlushBody, FenceBody, StoreGate, FlushGate, FenceGate, Done}
 use Rattle.log_area.specs.Stages.{IsStage, next_stage, is_gate_stored}
-use Rattle.log_area.specs.Rulings.{Holds, HoldsRecord, HasEarlierGate, IsEarlierGate, HasOldWords, Spares, gate_word, superblock_words}
+use Rattle.log_area.specs.Rulings.{HoldsRecord, HasEarlierGate, IsEarlierGate, gate_word, superblock_words}
 use Rattle.log_area.specs.Writings.{Progress, begun, advanced, start_of, operation_of, HoldsBody, HasEitherGate, IsAt, IsReplacing, IsRuledMeanwhile, IsOutside, IsNextRecord}
 use Rattle.log_area.proofs.Kept.{gate_kept, record_kept}
 use Rattle.log_area.proofs.Rulings.{ruled_by, some_places, place_below, log_within}
@@ -20,7 +21,7 @@ use Rattle.log_area.proofs.Ticks.{outside_kept, writing_next, same_words}
 
 -- ---- words of an image
 
-held : (device : Device) (image : List ℕ) (word value : ℕ) → MayLeave device image → word < device.words → Holds device word value → get_or image word 0 ≡ value
+held : (device : Device) (image : List ℕ) (word value : ℕ) → MayLeave device image → word < device.words → IsSettledAt device word value → get_or image word 0 ≡ value
 held device image word value left lt holds = only-settled device word (get_or image word 0) holds.settled (left.each word lt) ∙ holds.holds
 
 in_log : (layout : Layout) (device : Device) (r : Record) (w : ℕ) → device.words ≡ total_words layout → is_in_limits layout ≡ true → w < 32 → gate_word layout r + w < device.words
@@ -102,7 +103,7 @@ module _ (old : Record) (p : Progress) (device : Device) (is : IsReplacing old p
   at_gate : (image : List ℕ) → MayLeave device image → Survives device (start_of p) (get_or image (start_of p) 0)
   at_gate image left = left.each (start_of p) (omega (arith, size, log_within layout, place_below layout p.target is.fits.limits))
 
-  gate_held : (image : List ℕ) (value : ℕ) → MayLeave device image → Holds device (start_of p) value → get_or image (start_of p) 0 ≡ value
+  gate_held : (image : List ℕ) (value : ℕ) → MayLeave device image → IsSettledAt device (start_of p) value → get_or image (start_of p) 0 ≡ value
   gate_held image value left holds = only-settled device (start_of p) (get_or image (start_of p) 0) holds.settled (at_gate image left) ∙ holds.holds
 
   either : (image : List ℕ) → MayLeave device image → HasEitherGate (start_of p) p.target is.before device → HoldsBody (start_of p) p.target device → IsRuledBy layout old image ⊎ IsRuledBy layout p.target image
@@ -121,7 +122,7 @@ ruled_meanwhile old p device is image left = by_stage p.stage refl
     with_stage : (stage : WritingStage) → p.stage ≡ stage → IsRuledMeanwhile old (record p { stage = stage }) image → IsRuledMeanwhile old p image
     with_stage stage same ruled = subst (λ (s : WritingStage). IsRuledMeanwhile old (record p { stage = s }) image) (sym same) ruled
 
-    by_gate : (stage : WritingStage) → p.stage ≡ stage → Holds device (start_of p) is.before → IsRuledMeanwhile old p image
+    by_gate : (stage : WritingStage) → p.stage ≡ stage → IsSettledAt device (start_of p) is.before → IsRuledMeanwhile old p image
     by_gate stage same holds = inl (old_rules old p device is image left (gate_held old p device is image is.before left holds))
 
     by_either : (stage : WritingStage) → p.stage ≡ stage → (IsRuledBy p.layout p.target image → IsRuledMeanwhile old (record p { stage = stage }) image)
@@ -174,8 +175,8 @@ replacing_done old p device is done = record {
     at : IsAt Done (start_of p) p.target is.before device
     at = subst (λ (s : WritingStage). IsAt s (start_of p) p.target is.before device) done is.writing.at
 
-    word_of : (w : ℕ) → w < 32 → Holds device (start_of p + w) (record_word p.target w)
-    word_of zero h = let here : start_of p + 0 ≡ start_of p = omega arith in subst (λ (n : ℕ). Holds device n p.target.gate) (sym here) at.0
+    word_of : (w : ℕ) → w < 32 → IsSettledAt device (start_of p + w) (record_word p.target w)
+    word_of zero h = let here : start_of p + 0 ≡ start_of p = omega arith in subst (λ (n : ℕ). IsSettledAt device n p.target.gate) (sym here) at.0
     word_of (suc w) h = at.1 (suc w) (omega arith) h
 
 -- ---- a tick
@@ -201,7 +202,7 @@ module _ (before after : Device) (orderly : IsOrderly before) (orderly' : IsOrde
     kept = outside_kept p staged made;
     left = leaves_applied (HasOldWords (IsOutside p) before) (operation_of p) made
         (λ image left word h outside. left.each word h)
-        (λ image left word h outside. (outside_kept p staged made word outside).survivors (get_or image word 0) (left.each word (omega (arith, h, same_words p before after made))));
+        (λ image left word h outside. (outside_kept p staged made word outside).survives (get_or image word 0) (left.each word (omega (arith, h, same_words p before after made))));
   }
 
 module _ (old : Record) (p : Progress) (before after : Device) (orderly : IsOrderly before) (orderly' : IsOrderly after) where

@@ -5,7 +5,8 @@ use Rattle.base.specs.Layout.{Layout, place_start, total_words, is_in_limits}
 use Rattle.base.specs.Records.{Record, record_word, is_well_formed}
 use Rattle.base.specs.Search.{first_of}
 use Rattle.base.specs.Images.{Image, superblock_word, layout_of, is_formatted, has_good_geometry, faults_of, place_of}
-use Rattle.pmem.specs.Device.{Device, Survives, value_of, IsSettled, IsReady, LeavesOnly}
+use Rattle.pmem.specs.Device.{Device}
+use Rattle.pmem.specs.Words.{value_of, IsSettled, IsSettledAt}
 
 -- what is wrong with an image, the slots aside
 abbrev pub log_damage : Image → Option Fault
@@ -36,11 +37,6 @@ superblock_words layout =
 abbrev pub gate_word : Layout → Record → ℕ
 gate_word layout r = place_start (place_of layout r)
 
--- the word has one survivor, this one
-pub record Holds (device : Device) (word value : ℕ) : Type 0 where
-  pub settled : IsSettled device word
-  pub holds : value_of device word ≡ value
-
 -- what may stand in a place's gate while the record of this number rules
 pub record IsEarlierGate (layout : Layout) (number place gate : ℕ) : Type 0 where
   pub at_place : (gate ≡ 0) ⊎ (gate % layout.places ≡ place)
@@ -62,37 +58,10 @@ pub record IsRecordFor (layout : Layout) (r : Record) : Type 0 where
 pub record HasRecord (layout : Layout) (r : Record) (device : Device) : Type 0 where
   pub size : device.words ≡ total_words layout
   pub fits : IsRecordFor layout r
-  pub superblock : (word : ℕ) → word < 8 → Holds device word (slice_index (superblock_words layout) word)
-  pub place : (w : ℕ) → w < 32 → Holds device (gate_word layout r + w) (record_word r w)
+  pub superblock : (word : ℕ) → word < 8 → IsSettledAt device word (slice_index (superblock_words layout) word)
+  pub place : (w : ℕ) → w < 32 → IsSettledAt device (gate_word layout r + w) (record_word r w)
 
 -- and no other record may rule
 pub record HoldsRecord (layout : Layout) (r : Record) (device : Device) : Type 0 where
   pub stands : HasRecord layout r device
   pub gates : (place : ℕ) → place < layout.places → HasEarlierGate layout r.gate device place
-
--- a word keeps its value, gains no survivor, and what was settled or ready stays so
-pub record IsKept (old new : Device) (word : ℕ) : Type 0 where
-  pub value : value_of new word ≡ value_of old word
-  pub survivors : (x : ℕ) → Survives new word x → Survives old word x
-  pub settled : IsSettled old word → IsSettled new word
-  pub ready : (actor : ℕ) → IsReady old actor word → IsReady new actor word
-
--- each of these words has a survivor that it had on the device
-abbrev pub HasOldWords : (ℕ → Type 0) → Device → Image → Type 0
-HasOldWords spared device image = (word : ℕ) → word < device.words → spared word → Survives device word (slice_index image word)
-
--- these words are kept, and so is what a crash leaves in them meanwhile
-pub record Spares (spared : ℕ → Type 0) (old new : Device) : Type 0 where
-  pub kept : (word : ℕ) → spared word → IsKept old new word
-  pub left : LeavesOnly old new (HasOldWords spared old)
-
--- so many operations succeeded, and none failed
-pub record Makes (stores flushes fences : ℕ) (old new : Device) : Type 0 where
-  pub stores_made : new.stores ≡ old.stores + stores
-  pub flushes_made : new.flushes ≡ old.flushes + flushes
-  pub fences_made : new.fences ≡ old.fences + fences
-  pub no_failures : new.failures ≡ old.failures
-
--- one of the word's survivors, or the value in the word that it is stored in
-abbrev pub OldOrStored : Device → ℕ → ℕ → ℕ → ℕ → Type 0
-OldOrStored device stored value word x = Survives device word x ⊎ ((word ≡ stored) × (x ≡ value))

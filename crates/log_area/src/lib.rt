@@ -14,6 +14,6 @@ pub use reading::latest;
 pub use record::Record;
 pub use ruling::Ruling;
 pub use stage::WritingStage;
-pub use superblock::{FORMATTED, read_geometry, set_word, write_geometry};
+pub use superblock::{FORMATTED, read_geometry, write_geometry};
 pub use write::write_record;
 pub use writing::Writing;

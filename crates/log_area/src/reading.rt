@@ -1,14 +1,14 @@
 ghost use Rattle.std.specs.Prelude.{◌≡◌, ◌*◌, ◌%◌, ◌^◌, ◌+◌, ◌<◌, ◌≤◌, ◌&&◌, ◌||◌, not, max, nat_eq, nat_le, IfOk, IfErr, IfSome, IfNone, Some};
-ghost use Rattle.base.specs.Layout.{newest_version, total_words};
 ghost use Rattle.base.specs.Records.{IsRecord};
 ghost use Rattle.base.specs.Search.{first_below};
 ghost use Rattle.base.specs.Images.{gate_at, greatest_gate, is_wrong_gate, place_words, IsRuledBy};
-ghost use Rattle.pmem.specs.Device.{image_of};
+ghost use Rattle.pmem.specs.Words.{image_of};
 ghost use Rattle.log_area.specs.Codec.{NoneFits};
 ghost use Rattle.log_area.specs.Rulings.{IsLaidOut, log_damage};
 
 use crate::superblock::{load_words, read_geometry};
 use crate::{Record, Ruling};
+use base::NUMBER_LIMIT;
 use base::fault::Fault;
 use base::geometry::Geometry;
 use pmem::Pmem;
@@ -61,7 +61,7 @@ fn is_misplaced(gate: u64, place: u64, places: u64) -> bool
     requires { 0 < places }
     ensures { result ≡ (not (nat_eq gate 0) && (nat_le (2 ^ 62) gate || not (nat_eq (gate % places) place))) }
 {
-    gate != 0 && (gate >= 1 << 62 || gate % places != place)
+    gate != 0 && (gate >= NUMBER_LIMIT || gate % places != place)
 }
 
 // The gate of a place.
@@ -70,18 +70,8 @@ fn gate<D: Pmem>(device: &D, geometry: Geometry, place: u64) -> u64
     requires place { place < geometry.places }
     ensures { result ≡ gate_at (image_of (D.state device.now)) place }
 {
-    let start = first_word(geometry, place);
+    let start = geometry.place_start(place);
     device.load(start)
-}
-
-fn first_word(geometry: Geometry, place: u64) -> usize
-    requires { place < geometry.places }
-    ensures word { result ≡ 8 + 32 * place }
-    ensures within { result + 32 ≤ total_words geometry }
-    ensures low { result < 2 ^ 32 }
-{
-    let _places = geometry.places();
-    8 + 32 * place as usize
 }
 
 fn greatest_gate<D: Pmem>(device: &D, geometry: Geometry) -> u64
@@ -105,11 +95,11 @@ fn greater(a: u64, b: u64) -> u64
 fn read_record<D: Pmem>(device: &D, geometry: Geometry, place: u64) -> Option<Record>
     requires laid_out { IsLaidOut geometry (image_of (D.state device.now)) }
     requires place { place < geometry.places }
-    ensures read { IfSome result (IsRecord newest_version (place_words (image_of (D.state device.now)) place)) }
-    ensures refused { IfNone result (NoneFits (place_words (image_of (D.state device.now)) place)) }
+    ensures read { IfSome result (IsRecord geometry.version (place_words (image_of (D.state device.now)) place)) }
+    ensures refused { IfNone result (NoneFits geometry.version (place_words (image_of (D.state device.now)) place)) }
 {
-    let start = first_word(geometry, place);
+    let start = geometry.place_start(place);
     let mut words = [0; 32];
     load_words(device, start, &mut words);
-    Record::from_words(&words)
+    Record::from_words(&words, geometry.version())
 }

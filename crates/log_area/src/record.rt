@@ -2,8 +2,8 @@ ghost use Rattle.std.specs.Prelude.{◌≡◌, ◌&&◌, nat_le};
 ghost use Rattle.base.specs.Records.{is_in};
 
 use crate::order::are_in_order;
-use base::Ts;
 use base::gap::{Gap, Gaps};
+use base::{NUMBER_LIMIT, Ts};
 use std::marker::Model;
 
 /// A group commit record: its number (the gate), the persisted and the dirty timestamp, and the gaps.
@@ -28,7 +28,7 @@ impl Model for Record {
 
 impl Record {
     ghost use Rattle.std.specs.Prelude.{ℕ, ◌<◌, ◌≤◌, ◌↔◌, ◌^◌, nat_lt, [], IfSome, IfNone, IsTrue, length, slice_index};
-    ghost use Rattle.base.specs.Layout.{newest_version};
+    ghost use Rattle.base.specs.Layout.{most_longs};
     ghost use Rattle.base.specs.Records.{Record as Value, IsRecord, is_committed, is_well_formed, record_word};
     ghost use Rattle.log_area.specs.Codec.{IsReadFrom, NoneFits, FillsWords};
 
@@ -105,13 +105,14 @@ impl Record {
         }
     }
 
-    /// The record that a place's words hold, if they hold one.
-    pub fn from_words(words: &[u64]) -> Option<Record>
-        ensures read { IfSome result (IsRecord newest_version words.now) }
-        ensures refused { IfNone result (NoneFits words.now) }
+    /// The record that a place's words hold in an image of this version, if they hold one. Long commits aren't read yet.
+    pub fn from_words(words: &[u64], version: u64) -> Option<Record>
+        requires { most_longs version ≡ 0 }
+        ensures read { IfSome result (IsRecord version words.now) }
+        ensures refused { IfNone result (NoneFits version words.now) }
     {
         let record = Record::candidate(words)?;
-        if record.is_well_formed() && record.fills(words) {
+        if record.is_well_formed(version) && record.fills(words) {
             Some(record)
         } else {
             None
@@ -123,7 +124,7 @@ impl Record {
         ensures read { IfSome result (IsReadFrom words.now) }
         ensures refused { IfNone result (length words.now ≡ 32 → 8 < slice_index words.now 3) }
     {
-        if words.len() != 32 || words[3] > 8 {
+        if words.len() != 32 || words[3] > Gaps::LIMIT as u64 {
             return None;
         }
         let mut gaps = Gaps::none();
@@ -136,17 +137,19 @@ impl Record {
         Some(Record::new(words[0], words[1], words[2], gaps))
     }
 
-    /// Are its timestamps and gaps such as a sound image may have?
-    pub fn is_well_formed(&self) -> bool
-        ensures { result ≡ is_well_formed newest_version self.now }
+    /// Are its timestamps and gaps such as a sound image of this version may have? No version forbids a record without
+    /// long commits.
+    pub fn is_well_formed(&self, version: u64) -> bool
+        ensures { result ≡ is_well_formed version self.now }
     {
+        let _ = version;
         self.has_rising_timestamps() && are_in_order(self.gaps.as_slice(), self.persisted)
     }
 
     fn has_rising_timestamps(&self) -> bool
         ensures { result ≡ (nat_lt self.now.persisted self.now.dirty && nat_lt self.now.dirty (2 ^ 62)) }
     {
-        self.persisted < self.dirty && self.dirty < 1 << 62
+        self.persisted < self.dirty && self.dirty < NUMBER_LIMIT
     }
 
     // Has each of the words what a place that holds the record has there?

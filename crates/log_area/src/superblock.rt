@@ -1,7 +1,7 @@
-ghost use Rattle.std.specs.Prelude.{◌≡◌, ◌≢◌, ◌⊎◌, ◌+◌, ◌^◌, ◌<◌, ◌≤◌, ◌&&◌, nat_eq, ℕ, length, slice_index, IfOk, IfErr, OnOk, OnErr, Some, List};
+ghost use Rattle.std.specs.Prelude.{◌≡◌, ◌⊎◌, ◌+◌, ◌^◌, ◌<◌, ◌≤◌, ◌&&◌, nat_eq, ℕ, length, slice_index, IfOk, IfErr, OnOk, OnErr, Some, List};
 ghost use Rattle.base.specs.Layout.{total_words};
-ghost use Rattle.pmem.specs.Device.{Keeps, image_of};
-ghost use Rattle.log_area.specs.Rulings.{Holds, IsLaidOut, IsHead, Makes, OldOrStored, Spares, layout_damage, superblock_words};
+ghost use Rattle.pmem.specs.Words.{HasOneFailure, IsSettledAt, Makes, Spares, image_of};
+ghost use Rattle.log_area.specs.Rulings.{IsLaidOut, IsHead, layout_damage, superblock_words};
 
 use base::actor::Actor;
 use base::fault::Fault;
@@ -44,10 +44,10 @@ fn geometry_in(words: &[u64; 8], count: usize) -> Result<Geometry, Fault>
     if words[0] != FORMATTED {
         return Err(Fault::NotFormatted);
     }
-    if words[1] != 1 {
+    if !Geometry::is_known_version(words[1]) {
         return Err(Fault::Version(words[1]));
     }
-    let geometry = match Geometry::new(words[2], words[3], words[4]) {
+    let geometry = match Geometry::of_version(words[1], words[2], words[3], words[4]) {
         Ok(geometry) => geometry,
         Err(_) => return Err(Fault::BadGeometry),
     };
@@ -69,19 +69,18 @@ fn has_good_end(words: &[u64; 8], count: usize, total: u64) -> bool
 pub fn write_geometry<D: Pmem>(device: &mut D, geometry: Geometry) -> Result<(), Fault>
     requires { 8 ≤ (D.state device.old).words }
     ensures fault { IfErr result (λ fault. fault ≡ Fault.Device) }
-    ensures made { OnOk result (Makes 7 1 1 (D.state device.old) (D.state device.new)) }
-    ensures failed { OnErr result ((D.state device.new).failures ≡ (D.state device.old).failures + 1) }
+    ensures made { OnOk result (Makes 7 1 1 0 (D.state device.old) (D.state device.new)) }
+    ensures failed { OnErr result (HasOneFailure (D.state device.old) (D.state device.new)) }
     ensures holds { OnOk result ((word : ℕ) → 1 ≤ word → word < 8
-        → Holds (D.state device.new) word (slice_index (superblock_words geometry) word)) }
+        → IsSettledAt (D.state device.new) word (slice_index (superblock_words geometry) word)) }
     ensures others { Spares (λ word. (word ≡ 0) ⊎ (8 ≤ word)) (D.state device.old) (D.state device.new) }
 {
     let words = superblock(geometry);
     for word in 1..8 {
         device.store(word, words[word])?;
     }
-    let committer = Actor::new(0);
-    device.flush(committer, 0)?;
-    device.fence(committer)?;
+    device.flush(Actor::COMMITTER, 0)?;
+    device.fence(Actor::COMMITTER)?;
     Ok(())
 }
 
@@ -98,21 +97,4 @@ fn superblock(geometry: Geometry) -> [u64; 8]
         0,
         0,
     ]
-}
-
-/// Stores one word, and waits until it persists. The formatter sets word 0 so, to 0 first and to `FORMATTED` at last.
-pub fn set_word<D: Pmem>(device: &mut D, word: usize, value: u64) -> Result<(), Fault>
-    requires { word < (D.state device.old).words }
-    ensures fault { IfErr result (λ fault. fault ≡ Fault.Device) }
-    ensures made { OnOk result (Makes 1 1 1 (D.state device.old) (D.state device.new)) }
-    ensures failed { OnErr result ((D.state device.new).failures ≡ (D.state device.old).failures + 1) }
-    ensures holds { OnOk result (Holds (D.state device.new) word value) }
-    ensures keeps { Keeps (D.state device.old) (D.state device.new) (OldOrStored (D.state device.old) word value) }
-    ensures others { Spares (λ other. other ≢ word) (D.state device.old) (D.state device.new) }
-{
-    device.store(word, value)?;
-    let committer = Actor::new(0);
-    device.flush(committer, word / 8)?;
-    device.fence(committer)?;
-    Ok(())
 }

@@ -1,8 +1,8 @@
 ghost use Rattle.std.specs.Prelude.{◌≡◌, ◌+◌, ℕ, IfErr, OnOk, OnErr};
 ghost use Rattle.base.specs.Layout.{total_words};
 ghost use Rattle.base.specs.Records.{Record as Value};
-ghost use Rattle.pmem.specs.Device.{LeavesOnly};
-ghost use Rattle.log_area.specs.Rulings.{HoldsRecord, Makes, Spares};
+ghost use Rattle.pmem.specs.Words.{HasOneFailure, LeavesOnly, Makes, Spares};
+ghost use Rattle.log_area.specs.Rulings.{HoldsRecord};
 ghost use Rattle.log_area.specs.Writings.{begun, finished, IsWriting, IsNextRecord, IsRuledByEither, IsOutside};
 
 use crate::{Record, Writing};
@@ -19,8 +19,8 @@ pub fn write_record<D: Pmem>(
     requires { (D.state device.old).words ≡ total_words geometry }
 
     ensures fault { IfErr result (λ fault. fault ≡ Fault.Device) }
-    ensures made { OnOk result (Makes 32 5 2 (D.state device.old) (D.state device.new)) }
-    ensures failed { OnErr result ((D.state device.new).failures ≡ (D.state device.old).failures + 1) }
+    ensures made { OnOk result (Makes 32 5 2 0 (D.state device.old) (D.state device.new)) }
+    ensures failed { OnErr result (HasOneFailure (D.state device.old) (D.state device.new)) }
 
     // What it makes of the place's words, and of the others.
     ensures place { OnOk result ((before : ℕ) → IsWriting before (begun geometry target) (D.state device.old)

@@ -32,9 +32,10 @@ impl Writing {
     ghost use Rattle.std.specs.Prelude.{◌≡◌, ◌≢◌, ◌↔◌, ◌+◌, ◌^◌, ◌<◌, ◌≤◌, ℕ, IsTrue, IfOk, IfErr, OnOk, OnErr};
     ghost use Rattle.base.specs.Layout.{total_words};
     ghost use Rattle.base.specs.Records.{Record as Value};
-    ghost use Rattle.pmem.specs.Device.{LeavesOnly, failed};
+    ghost use Rattle.pmem.specs.Device.{failed};
+    ghost use Rattle.pmem.specs.Words.{LeavesOnly, Spares};
     ghost use Rattle.pmem.specs.Trace.{applied};
-    ghost use Rattle.log_area.specs.Rulings.{HoldsRecord, Spares};
+    ghost use Rattle.log_area.specs.Rulings.{HoldsRecord};
     ghost use Rattle.log_area.specs.Stages.{IsStage, reached_by};
     ghost use Rattle.log_area.specs.Writings.{begun, advanced, start_of, operation_of, IsWriting, IsReplacing, IsRuledMeanwhile, IsOutside};
 
@@ -115,12 +116,12 @@ impl Writing {
                 device.store(start + word as usize, self.target.word(word as usize))
             }
             WritingStage::FlushBody(line) => {
-                device.flush(Actor::new(0), start / 8 + line as usize)
+                device.flush(Actor::COMMITTER, start / 8 + line as usize)
             }
-            WritingStage::FenceBody => device.fence(Actor::new(0)),
+            WritingStage::FenceBody => device.fence(Actor::COMMITTER),
             WritingStage::StoreGate => device.store(start, self.target.gate()),
-            WritingStage::FlushGate => device.flush(Actor::new(0), start / 8),
-            WritingStage::FenceGate => device.fence(Actor::new(0)),
+            WritingStage::FlushGate => device.flush(Actor::COMMITTER, start / 8),
+            WritingStage::FenceGate => device.fence(Actor::COMMITTER),
             WritingStage::Done => Ok(()),
         }
     }
@@ -130,7 +131,7 @@ impl Writing {
         ensures within { result + 32 ≤ total_words self.now.layout }
         ensures low { result < 2 ^ 32 }
     {
-        let place = self.target.gate() % self.geometry.places();
-        8 + 32 * place as usize
+        let geometry = self.geometry;
+        geometry.place_start(self.target.gate() % geometry.places())
     }
 }

@@ -1,2 +1,1 @@
-pub mod Clears
 pub mod Lowest

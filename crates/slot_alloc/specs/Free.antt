@@ -1,8 +1,7 @@
 -- Free slots.
-use Rattle.std.specs.Prelude.{◌≡◌, ◌⊎◌, ℕ, Bool, false, List, length, slice_index_or, Option, Some}
+use Rattle.std.specs.Prelude.{◌≡◌, ℕ, Bool, false, List, length, slice_index_or, Option, Some}
 use Rattle.base.specs.Layout.{Layout, slot_start}
 use Rattle.base.specs.Search.{first_below}
-use Rattle.pmem.specs.Device.{Device, Survives}
 
 abbrev pub is_free : List Bool → ℕ → Bool
 is_free free slot = slice_index_or free slot false
@@ -14,6 +13,6 @@ lowest_free free = first_below (length free) (is_free free)
 abbrev pub IsBeginOfLowest : Layout → List Bool → ℕ → Type 0
 IsBeginOfLowest layout free word = (slot : ℕ) × (lowest_free free ≡ Some slot) × (word ≡ slot_start layout slot)
 
--- one of the word's old survivors, or 0 in the begin of the lowest free slot
-abbrev pub OldOrCleared : Device → Layout → List Bool → ℕ → ℕ → Type 0
-OldOrCleared device layout free word x = Survives device word x ⊎ (IsBeginOfLowest layout free word × (x ≡ 0))
+-- 0 in the begin of the lowest free slot
+abbrev pub IsClear : Layout → List Bool → ℕ → ℕ → Type 0
+IsClear layout free word x = IsBeginOfLowest layout free word × (x ≡ 0)

@@ -1,8 +1,7 @@
-use crate::clearing::clear;
 use base::actor::Actor;
 use base::fault::Fault;
 use base::geometry::Geometry;
-use pmem::Pmem;
+use pmem::{Pmem, set_word};
 use std::marker::Model;
 
 /// Which slots are free. Contracts see a truth value for each slot.
@@ -20,11 +19,11 @@ impl Model for SlotAlloc {
 }
 
 impl SlotAlloc {
-    ghost use Rattle.std.specs.Prelude.{◌≡◌, ◌≢◌, ◌⊎◌, ◌↔◌, ◌+◌, ◌/◌, ◌<◌, ◌≤◌, [], ◌∷◌, true, false, ℕ, length, slice_set, Err, None, Some, IfErr, IfOk, IsErrOf, OnErr, OnOk};
+    ghost use Rattle.std.specs.Prelude.{◌≡◌, ◌≢◌, ◌⊎◌, ◌↔◌, ◌+◌, ◌/◌, ◌<◌, ◌≤◌, true, false, ℕ, length, slice_set, Err, None, Some, IfErr, IfOk, IsErrOf, OnErr, OnOk};
     ghost use Rattle.base.specs.Layout.{slot_start, total_words};
-    ghost use Rattle.pmem.specs.Device.{fenced, flushed, stored, survivors_in, Keeps};
-    ghost use Rattle.slot_alloc.specs.Clearing.{HasMade, IsNotStored};
-    ghost use Rattle.slot_alloc.specs.Free.{lowest_free, IsBeginOfLowest, OldOrCleared};
+    ghost use Rattle.pmem.specs.Device.{fenced, flushed, stored};
+    ghost use Rattle.pmem.specs.Words.{IsSettledAt, Keeps, Makes, OldOr, OnlyShrinks};
+    ghost use Rattle.slot_alloc.specs.Free.{lowest_free, IsBeginOfLowest, IsClear};
     ghost use Rattle.base.specs.declared.fault.Fault.TheVariants.{Device, SlotsOut};
 
     /// The slots that are free, by their numbers.
@@ -66,28 +65,28 @@ impl SlotAlloc {
 
         ensures lowest { IfOk result (λ slot. lowest_free self.old ≡ Some slot) }
         ensures taken { IfOk result (λ slot. self.new ≡ slice_set self.old slot false) }
-        ensures cleared { IfOk result (λ slot. survivors_in ((D.state device.new).history (slot_start geometry slot)) ≡ 0 ∷ []) }
+        ensures cleared { IfOk result (λ slot. IsSettledAt (D.state device.new) (slot_start geometry slot) 0) }
         ensures run { IfOk result (λ slot. D.state device.new
             ≡ fenced actor.number (flushed actor.number (slot_start geometry slot / 8) (stored (slot_start geometry slot) 0 (D.state device.old)))) }
-        ensures made { OnOk result (HasMade 1 1 1 0 (D.state device.old) (D.state device.new)) }
+        ensures made { OnOk result (Makes 1 1 1 0 (D.state device.old) (D.state device.new)) }
 
         // At an error the free slots are as before. With no free slot nothing is done.
         ensures err { OnErr result (self.new ≡ self.old) }
         ensures out { (result ≡ Err SlotsOut) ↔ (lowest_free self.old ≡ None) }
         ensures unmoved { result ≡ Err SlotsOut → D.state device.new ≡ D.state device.old }
         ensures fault { IfErr result (λ fault. (fault ≡ SlotsOut) ⊎ (fault ≡ Device)) }
-        ensures failed { result ≡ Err Device → (stores : ℕ) × (flushes : ℕ) × (stores ≤ 1) × (flushes ≤ stores) × HasMade stores flushes 0 1 (D.state device.old) (D.state device.new) }
+        ensures failed { result ≡ Err Device → (stores : ℕ) × (flushes : ℕ) × (stores ≤ 1) × (flushes ≤ stores) × Makes stores flushes 0 1 (D.state device.old) (D.state device.new) }
 
         // No word but the begin of the lowest free slot is stored.
         ensures size { (D.state device.new).words ≡ (D.state device.old).words }
-        ensures others { (word : ℕ) → ¬ IsBeginOfLowest geometry self.old word → IsNotStored (D.state device.old) (D.state device.new) word }
-        ensures keeps { Keeps (D.state device.old) (D.state device.new) (OldOrCleared (D.state device.old) geometry self.old) }
+        ensures others { (word : ℕ) → ¬ IsBeginOfLowest geometry self.old word → OnlyShrinks (D.state device.old) (D.state device.new) word }
+        ensures keeps { Keeps (D.state device.old) (D.state device.new) (OldOr (D.state device.old) (IsClear geometry self.old)) }
     {
         let slot = match self.lowest() {
             Some(slot) => slot,
             None => return Err(Fault::SlotsOut),
         };
-        match clear(device, actor, geometry.slot_start(slot)) {
+        match set_word(device, actor, geometry.slot_start(slot), 0) {
             Ok(()) => {}
             Err(fault) => return Err(fault),
         }

@@ -1,7 +1,6 @@
 //! Which slots are free.
 #![tactic(auto)]
 
-mod clearing;
 mod free;
 
 pub use free::SlotAlloc;

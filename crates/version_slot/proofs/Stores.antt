@@ -2,22 +2,17 @@
 use Rattle.std.proofs.Common.{◌≡◌, ◌⊎◌, inl, inr, ℕ, ◌+◌, ◌-◌, ◌<◌, ◌≤◌, Bool, cond, List, ◌∷◌, Result, Ok, Err, OnOk, OnErr, length, get_or, take, drop, refl, sym, ◌∙◌, ap, subst, arith}
 use Rattle.std.proofs.lemmas.Bool.{cases_eq, ne_eqb}
 use Rattle.std.proofs.lemmas.List.{get_or-drop, get_or-take, length-drop, length-take-le}
-use Rattle.pmem.specs.Device.{Entry, Device, survivors_in, stored, failed, value_of, IsOrderly, IsWithin, Keeps}
+use Rattle.pmem.specs.Device.{Entry, Device, survivors_in, stored, failed, IsOrderly}
+use Rattle.pmem.specs.Words.{value_of, Keeps, OldOr}
 use Rattle.pmem.proofs.Steps.{history-stored_other, value-stored_same, value-stored_other, survivors-stored_same}
-use Rattle.pmem.proofs.Images.{leaves_weaken}
-use Rattle.pmem.proofs.Runs.{keeps_none, keeps-stored, keeps-failed}
+use Rattle.pmem.proofs.Counts.{makes_none, makes-stored, makes-failed}
+use Rattle.pmem.proofs.Runs.{keeps_none, keeps_weaken, keeps-stored, keeps-failed}
 use Rattle.base.specs.Layout.{Layout, slot_start, slot_words}
 use Rattle.version_slot.specs.declared.words.Version.{Version}
 use Rattle.version_slot.specs.Words.{filled_word, version_word, slot_at, Fits, IsVersion}
-use Rattle.version_slot.specs.Filling.{OldOrRun, StoresRun, Fills, OldOrFilled}
+use Rattle.version_slot.specs.Filling.{IsOfRun, IsFill, StoresRun, Fills}
 
-pub keeps_weaken : {old new : Device} {P Q : ℕ → ℕ → Type 0} → ((word x : ℕ) → P word x → Q word x) → Keeps old new P → Keeps old new Q
-keeps_weaken {old} {new} {P} {Q} weaker keeps = record {
-  images = leaves_weaken {P = IsWithin old.words P} {Q = IsWithin old.words Q} (λ image all word lt. weaker word (get_or image word 0) (all word lt)) keeps.images;
-  now = λ word x there. weaker word x (keeps.now word x there);
-}
-
-longer : (old : Device) (first : ℕ) (value : ℕ → ℕ) (n m : ℕ) → n ≤ m → (word x : ℕ) → OldOrRun old first value n word x → OldOrRun old first value m word x
+longer : (old : Device) (first : ℕ) (value : ℕ → ℕ) (n m : ℕ) → n ≤ m → (word x : ℕ) → OldOr old (IsOfRun first value n) word x → OldOr old (IsOfRun first value m) word x
 longer old first value n m le word x (inl old_one) = inl old_one
 longer old first value n m le word x (inr new_one) = inr (new_one.0, omega (arith, new_one.1), new_one.2, new_one.3)
 
@@ -26,11 +21,8 @@ run_none first value device orderly = record {
   values = λ k lt. absurd (omega arith);
   survivors = λ k lt. absurd (omega arith);
   others = λ word outside. refl;
-  keeps = keeps_none device (OldOrRun device first value 0) orderly (λ word x there. inl there);
-  stores = omega arith;
-  flushes = refl;
-  fences = refl;
-  failures = omega arith;
+  keeps = keeps_none device (OldOr device (IsOfRun first value 0)) orderly (λ word x there. inl there);
+  made = makes_none device;
 }
 
 module _ (first : ℕ) (value : ℕ → ℕ) (n : ℕ) (old mid : Device) (run : StoresRun first value n 0 old mid) where
@@ -58,10 +50,7 @@ module _ (first : ℕ) (value : ℕ → ℕ) (n : ℕ) (old mid : Device) (run :
     survivors = subst (λ (d : Device). (k : ℕ) → k < n + 1 → survivors_in (d.history (first + k)) ≡ value k ∷ survivors_in (old.history (first + k))) (sym is) survivors_more;
     others = subst (λ (d : Device). (word : ℕ) → (word < first) ⊎ (first + (n + 1) ≤ word) → d.history word ≡ old.history word) (sym is) others_more;
     keeps = keeps-stored (first + n) (value n) orderly orderly' (keeps_weaken (longer old first value n (n + 1) (omega arith)) run.keeps) is (inr (n, omega arith, refl, refl));
-    stores = omega (arith, ap (λ (d : Device). d.stores) is, run.stores);
-    flushes = ap (λ (d : Device). d.flushes) is ∙ run.flushes;
-    fences = ap (λ (d : Device). d.fences) is ∙ run.fences;
-    failures = ap (λ (d : Device). d.failures) is ∙ run.failures;
+    made = makes-stored n 0 0 0 run.made (first + n) (value n) is;
   }
 
   pub run_failed : (new : Device) → IsOrderly mid → IsOrderly new → new ≡ failed mid → StoresRun first value n 1 old new
@@ -70,10 +59,7 @@ module _ (first : ℕ) (value : ℕ → ℕ) (n : ℕ) (old mid : Device) (run :
     survivors = subst (λ (d : Device). (k : ℕ) → k < n → survivors_in (d.history (first + k)) ≡ value k ∷ survivors_in (old.history (first + k))) (sym is) run.survivors;
     others = subst (λ (d : Device). (word : ℕ) → (word < first) ⊎ (first + n ≤ word) → d.history word ≡ old.history word) (sym is) run.others;
     keeps = keeps-failed orderly orderly' run.keeps is;
-    stores = ap (λ (d : Device). d.stores) is ∙ run.stores;
-    flushes = ap (λ (d : Device). d.flushes) is ∙ run.flushes;
-    fences = ap (λ (d : Device). d.fences) is ∙ run.fences;
-    failures = omega (arith, ap (λ (d : Device). d.failures) is, run.failures);
+    made = makes-failed n 0 0 0 run.made is;
   }
 
 -- the same values
@@ -83,17 +69,14 @@ run_same first value value' n failed old new same run = record {
   survivors = λ k lt. run.survivors k lt ∙ ap (λ (x : ℕ). x ∷ survivors_in (old.history (first + k))) (same k lt);
   others = run.others;
   keeps = keeps_weaken each run.keeps;
-  stores = run.stores;
-  flushes = run.flushes;
-  fences = run.fences;
-  failures = run.failures;
+  made = run.made;
 }
   where
-    each : (word x : ℕ) → OldOrRun old first value n word x → OldOrRun old first value' n word x
+    each : (word x : ℕ) → OldOr old (IsOfRun first value n) word x → OldOr old (IsOfRun first value' n) word x
     each word x (inl old_one) = inl old_one
     each word x (inr new_one) = inr (new_one.0, new_one.1, new_one.2, new_one.3 ∙ same new_one.0 new_one.1)
 
-pub run_longer : (first : ℕ) (value : ℕ → ℕ) (n m failed : ℕ) (old new : Device) → n ≤ m → StoresRun first value n failed old new → Keeps old new (OldOrRun old first value m)
+pub run_longer : (first : ℕ) (value : ℕ → ℕ) (n m failed : ℕ) (old new : Device) → n ≤ m → StoresRun first value n failed old new → Keeps old new (OldOr old (IsOfRun first value m))
 run_longer first value n m failed old new le run = keeps_weaken (longer old first value n m le) run.keeps
 
 -- ---- filling a slot
@@ -137,5 +120,5 @@ filled_version layout slot v failed old new fits run = record {
   fits = fits;
 }
 
-pub filled_keeps : (layout : Layout) (slot : ℕ) (v : Version) (n failed : ℕ) (old new : Device) → n ≤ slot_words layout.version - 1 → Fills layout slot v n failed old new → Keeps old new (OldOrFilled old layout slot v)
+pub filled_keeps : (layout : Layout) (slot : ℕ) (v : Version) (n failed : ℕ) (old new : Device) → n ≤ slot_words layout.version - 1 → Fills layout slot v n failed old new → Keeps old new (OldOr old (IsFill layout slot v))
 filled_keeps layout slot v n failed old new le run = run_longer (slot_start layout slot + 1) (λ k. filled_word v (k + 1)) n (slot_words layout.version - 1) failed old new le run

@@ -1,6 +1,6 @@
 ghost use Rattle.std.specs.Prelude.{◌≡◌, ◌<◌, IfSome, IfNone};
 ghost use Rattle.base.specs.Layout.{slot_start, total_words};
-ghost use Rattle.pmem.specs.Device.{value_of};
+ghost use Rattle.pmem.specs.Words.{value_of};
 ghost use Rattle.version_slot.specs.Words.{IsSlot, slot_at};
 
 use crate::words::Slot;

@@ -1,7 +1,7 @@
 ghost use Rattle.std.specs.Prelude.{◌≡◌, ◌+◌, ◌-◌, ◌^◌, ◌<◌, ◌≤◌, ℕ, length, slice_index, IfErr, OnErr, OnOk};
 ghost use Rattle.base.specs.Layout.{slot_start, slot_words, total_words};
-ghost use Rattle.pmem.specs.Device.{value_of, Keeps};
-ghost use Rattle.version_slot.specs.Filling.{Fills, OldOrFilled, SameBeside, Stamps, StoresRun};
+ghost use Rattle.pmem.specs.Words.{Keeps, OldOr, value_of};
+ghost use Rattle.version_slot.specs.Filling.{Fills, IsFill, SameBeside, Stamps, StoresRun};
 ghost use Rattle.version_slot.specs.Words.{IsVersion, link_number, slot_at};
 
 use crate::words::Version;
@@ -25,7 +25,7 @@ pub fn fill<D: Pmem>(
     ensures fault { IfErr result (λ fault. fault ≡ Fault.Device) }
     ensures size { (D.state device.new).words ≡ (D.state device.old).words }
     ensures others { SameBeside geometry slot (D.state device.old) (D.state device.new) }
-    ensures keeps { Keeps (D.state device.old) (D.state device.new) (OldOrFilled (D.state device.old) geometry slot version.now) }
+    ensures keeps { Keeps (D.state device.old) (D.state device.new) (OldOr (D.state device.old) (IsFill geometry slot version.now)) }
 {
     let words = version.words();
     store_all(device, geometry.slot_start(slot) + 1, &words[1..])

@@ -1,6 +1,6 @@
 use Rattle.std.proofs.Common.{◌<◌, ◌∙◌, sym, arith}
 use Rattle.base.specs.Images.{is_wrong_gate}
-use Rattle.pmem.specs.Device.{image_of}
+use Rattle.pmem.specs.Words.{image_of}
 use Rattle.log_area.proofs.Finding.{first_below-found}
 use Rattle.log_area.proofs.reading.first_wrong_gate.Goals as goal
 

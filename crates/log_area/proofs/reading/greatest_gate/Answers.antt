@@ -1,6 +1,6 @@
 use Rattle.std.proofs.Common.{◌∙◌, ap, ℕ, max}
 use Rattle.base.specs.Images.{gate_at}
-use Rattle.pmem.specs.Device.{image_of}
+use Rattle.pmem.specs.Words.{image_of}
 use Rattle.log_area.proofs.Finding.{greatest_more}
 use Rattle.log_area.proofs.reading.greatest_gate.Goals as goal
 

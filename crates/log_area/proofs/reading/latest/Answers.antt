@@ -1,5 +1,5 @@
 use Rattle.std.proofs.Common.{◌∙◌, sym, ◌%◌}
-use Rattle.pmem.specs.Device.{image_of}
+use Rattle.pmem.specs.Words.{image_of}
 use Rattle.log_area.proofs.Finding.{damage_first, no_record, ruled_by_read}
 use Rattle.log_area.proofs.reading.latest.Goals as goal
 

@@ -1,5 +1,5 @@
 use Rattle.std.proofs.Common.{◌<◌, ◌+◌, ◌∙◌, sym, length, arith}
-use Rattle.pmem.specs.Device.{image_of}
+use Rattle.pmem.specs.Words.{image_of}
 use Rattle.log_area.proofs.Heads.{image_word, loaded_more}
 use Rattle.log_area.proofs.superblock.load_words.Goals as goal
 

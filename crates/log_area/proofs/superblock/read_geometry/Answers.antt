@@ -1,5 +1,5 @@
 use Rattle.std.proofs.Common.{◌∙◌, sym, arith}
-use Rattle.pmem.specs.Device.{image_of}
+use Rattle.pmem.specs.Words.{image_of}
 use Rattle.log_area.proofs.Heads.{image_size, too_short, laid_out_at, damage_at, head_of}
 use Rattle.log_area.proofs.superblock.read_geometry.Goals as goal
 

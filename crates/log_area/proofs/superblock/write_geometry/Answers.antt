@@ -1,8 +1,7 @@
 use Rattle.std.proofs.Common.{◌≡◌, ◌⊎◌, inl, inr, ℕ, ◌<◌, ◌≤◌, List, get_or, subst, arith}
-use Rattle.pmem.specs.Device.{value_of}
-use Rattle.log_area.specs.Rulings.{Holds}
+use Rattle.pmem.specs.Words.{value_of, IsSettledAt}
 use Rattle.log_area.proofs.Heads.{stored_more, made_more, line_holds}
-use Rattle.log_area.proofs.Runs.{spares_trans, spares-stored, spares-flushed, spares-fenced, spares-failed}
+use Rattle.pmem.proofs.Spares.{spares_trans, spares-stored, spares-flushed, spares-fenced, spares-failed}
 use Rattle.log_area.proofs.superblock.write_geometry.Goals as goal
 
 abbrev Other : ℕ → Type 0
@@ -46,7 +45,7 @@ returns-in_err-fence-clause-others g c =
     let before = c.loop-word.device in
     let inv = c.loop-word.invariant in
     spares_trans (spares_trans inv.others
-    (spares-flushed Other (state before) (state c.flush.new.self) (orderly before) (orderly c.flush.new.self) c.new-committer.result.number 0 c.in_ok-flush.ensures.ok))
+    (spares-flushed Other (state before) (state c.flush.new.self) (orderly before) (orderly c.flush.new.self) 0 0 c.in_ok-flush.ensures.ok))
     (spares-failed Other (state c.flush.new.self) (state c.fence.new.self) (orderly c.flush.new.self) (orderly c.fence.new.self) c.in_err-fence.ensures.err)
 
 pub returns-clause-holds : goal.returns-clause-holds
@@ -57,8 +56,8 @@ returns-clause-holds g c =
     let inv = c.loop-word.invariant in
     let done : c.loop-word.word ≡ 8 = omega (arith, c.loop-word-test.false, c.loop-word.auto.word-end, c.loop-word.auto.word) in
     let values : (w : ℕ) → 1 ≤ w → w < 8 → value_of (state before) w ≡ get_or c.superblock-words.result w 0 = λ w low high. inv.values w low (omega (arith, high, done)) in
-    subst (λ (l : List ℕ). (w : ℕ) → 1 ≤ w → w < 8 → Holds (state c.fence.new.self) w (get_or l w 0)) c.superblock-words.ensures
-    (line_holds c.superblock-words.result c.new-committer.result.number (state before) (state c.flush.new.self) (state c.fence.new.self) (orderly before) (omega (arith, c.requires, inv.others.left.continues.same_words)) c.in_ok-flush.ensures.ok c.in_ok-fence.ensures.ok values)
+    subst (λ (l : List ℕ). (w : ℕ) → 1 ≤ w → w < 8 → IsSettledAt (state c.fence.new.self) w (get_or l w 0)) c.superblock-words.ensures
+    (line_holds c.superblock-words.result 0 (state before) (state c.flush.new.self) (state c.fence.new.self) (orderly before) (omega (arith, c.requires, inv.others.left.continues.same_words)) c.in_ok-flush.ensures.ok c.in_ok-fence.ensures.ok values)
 
 pub returns-clause-others : goal.returns-clause-others
 returns-clause-others g c =
@@ -67,5 +66,5 @@ returns-clause-others g c =
     let before = c.loop-word.device in
     let inv = c.loop-word.invariant in
     spares_trans (spares_trans inv.others
-    (spares-flushed Other (state before) (state c.flush.new.self) (orderly before) (orderly c.flush.new.self) c.new-committer.result.number 0 c.in_ok-flush.ensures.ok))
-    (spares-fenced Other (state c.flush.new.self) (state c.fence.new.self) (orderly c.flush.new.self) (orderly c.fence.new.self) c.new-committer.result.number c.in_ok-fence.ensures.ok)
+    (spares-flushed Other (state before) (state c.flush.new.self) (orderly before) (orderly c.flush.new.self) 0 0 c.in_ok-flush.ensures.ok))
+    (spares-fenced Other (state c.flush.new.self) (state c.fence.new.self) (orderly c.flush.new.self) (orderly c.fence.new.self) 0 c.in_ok-fence.ensures.ok)

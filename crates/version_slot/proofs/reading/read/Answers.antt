@@ -1,6 +1,6 @@
 use Rattle.std.proofs.Common.{◌+◌, ◌∙◌, ℕ, ap, arith}
 use Rattle.std.proofs.lemmas.List.{length-set}
-use Rattle.pmem.specs.Device.{value_of}
+use Rattle.pmem.specs.Words.{value_of}
 use Rattle.version_slot.specs.Words.{slot_at}
 use Rattle.version_slot.proofs.Decoding.{set_more}
 use Rattle.version_slot.proofs.reading.read.Goals as goal

@@ -1,5 +1,5 @@
 use Rattle.std.proofs.Common.{◌≡◌, ◌<◌, ℕ, length, slice_index}
-use Rattle.pmem.specs.Device.{value_of}
+use Rattle.pmem.specs.Words.{value_of}
 use Rattle.version_slot.specs.Words.{slot_at}
 use Rattle.version_slot.proofs.reading.read.Given as goal
 

@@ -1,8 +1,8 @@
 use Rattle.std.proofs.Common.{subst}
-use Rattle.pmem.specs.Device.{LeavesOnly}
+use Rattle.pmem.specs.Words.{LeavesOnly}
 use Rattle.log_area.specs.Writings.{Progress, IsWriting, IsReplacing, IsRuledMeanwhile, IsOutside}
 use Rattle.log_area.proofs.Kept.{replacing_failed}
-use Rattle.log_area.proofs.Runs.{spares-failed}
+use Rattle.pmem.proofs.Spares.{spares-failed}
 use Rattle.log_area.proofs.Ticks.{moved, staged_too, writing_next}
 use Rattle.log_area.proofs.Replacing.{replacing_next, replacing_done, images_next, spares_next, images_failed}
 use Rattle.log_area.proofs.writing.Writing.tick.Goals as goal

@@ -1,6 +1,6 @@
 use Rattle.std.proofs.Common.{[], ◌∷◌, ◌++◌, arith, sym, ◌∙◌}
 use Rattle.std.proofs.lemmas.List.FromFn.{map-range_with_len_more}
-use Rattle.pmem.specs.Device.{value_of}
+use Rattle.pmem.specs.Words.{value_of}
 use Rattle.pmem_model.specs.Sim.{device_of}
 use Rattle.pmem_model.proofs.sim.SimPmem.last_values.Goals as goal
 

@@ -1,6 +1,6 @@
 use Rattle.std.proofs.Common.{◌≡◌, map}
 use Rattle.std.specs.List.{range_with_len}
-use Rattle.pmem.specs.Device.{value_of}
+use Rattle.pmem.specs.Words.{value_of}
 use Rattle.pmem_model.specs.Sim.{device_of}
 use Rattle.pmem_model.proofs.sim.SimPmem.last_values.Given as goal
 
