@@ -1,7 +1,8 @@
 -- What a device that begins with an image has of it.
 use Rattle.std.proofs.Common.{◌≡◌, sym, ◌∙◌, ap, subst}
 use Rattle.base.specs.Images.{Image}
-use Rattle.pmem.specs.Device.{Device, restarted, image_of}
+use Rattle.pmem.specs.Device.{Device, restarted}
+use Rattle.pmem.specs.Words.{image_of}
 use Rattle.recovery.proofs.Restarted.{image-restarted}
 
 -- what holds of the image that it began with holds of its words

@@ -9,7 +9,8 @@ use Rattle.base.specs.Machine.{State, closed}
 use Rattle.base.specs.Openings.{OpensAs}
 use Rattle.base.specs.Records.{Record}
 use Rattle.base.specs.Stands.{Stands}
-use Rattle.pmem.specs.Device.{Device, MayLeave, restarted, image_of}
+use Rattle.pmem.specs.Device.{Device, MayLeave, restarted}
+use Rattle.pmem.specs.Words.{image_of}
 use Rattle.pmem.specs.declared.device.Pmem.{Ghosts}
 use Rattle.room.specs.Room.{Shows, device_of}
 use Rattle.room.specs.declared.room.Room.{Room}

@@ -10,12 +10,14 @@ use Rattle.base.specs.Commits.{Commit, after, writes_key, last_writer}
 use Rattle.base.specs.Records.{is_committed, are_rising}
 use Rattle.base.specs.Stands.{has_timestamp}
 use Rattle.base.specs.Machine.{State, Drawn, Hand, Version, Writer, BySession, ByCommit, drawn_at, state_covered}
-use Rattle.pmem.specs.Device.{Device, value_of, IsSettled}
+use Rattle.pmem.specs.Device.{Device}
+use Rattle.pmem.specs.Words.{value_of, IsSettled}
 use Rattle.pmem.proofs.Steps.{only-settled}
+use Rattle.pmem.proofs.Changes.{each-settled, each-weaken}
 use Rattle.invariant.specs.Slots.{word_of, IsCounted, Filled, Begun, Newest, Replaced, row_in, is_key_stamped, class_of_drawn, class_by, class_of_version, class_of, HoldsAs, IsLive, IsFilled, IsStamped, SlotHolds, SlotsHold}
 use Rattle.invariant.specs.Kept.{IsKept, version_by, newest_of}
 use Rattle.invariant.specs.Moves.{Carries, EndCarries, IsSlotSettled, IsCommitSettled, CoversCommit, CoversNone}
-use Rattle.invariant.proofs.Moves.{within-slot, each-settled, each-weaken, ends-carry, ends-stay, newest-held, class-alike, slot-carries, shrinks-slot_refl}
+use Rattle.invariant.proofs.Moves.{within-slot, ends-carry, ends-stay, newest-held, class-alike, slot-carries, shrinks-slot_refl}
 use Rattle.invariant.proofs.Living.{living-newest}
 use Rattle.invariant.proofs.Lookups.{find-passes, find-all}
 use Rattle.invariant.proofs.Reaching.{well_formed-further, committed-this}

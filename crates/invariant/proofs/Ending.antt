@@ -2,11 +2,13 @@
 use Rattle.std.proofs.Common.{◌≡◌, ◌≢◌, ◌⊎◌, inl, inr, ℕ, ◌<◌, sym, ◌∙◌, ap, subst, arith, Option, Some, None}
 use Rattle.std.proofs.lemmas.Bool.{cases_eq}
 use Rattle.base.specs.Layout.{Layout}
-use Rattle.pmem.specs.Device.{Device, Survives, stored}
+use Rattle.pmem.specs.Device.{Device, stored}
+use Rattle.pmem.specs.Words.{Survives}
 use Rattle.pmem.proofs.Steps.{value-stored_same, survives-stored}
+use Rattle.pmem.proofs.Changes.{shrinks_trans, stored-shrinks, each-shrinks, each-weaken}
 use Rattle.invariant.specs.Slots.{word_of}
 use Rattle.invariant.specs.Moves.{ShrinksSlot, ShrinksSlots, ShrinksOthers, IsStampedWith, IsEndedWith, HasStamps}
-use Rattle.invariant.proofs.Moves.{within-slot, words-apart_within, shrinks-word_stored, shrinks-word_trans, shrinks-slot_trans, each-shrinks, each-weaken}
+use Rattle.invariant.proofs.Moves.{within-slot, words-apart_within, shrinks-slot_trans}
 
 pub cases-at : (at : Option ℕ) (slot : ℕ) → (at ≡ Some slot) ⊎ (at ≡ Some slot → ⊥)
 cases-at None slot = inr (λ e. cc e)
@@ -22,7 +24,7 @@ pub stamped-shrinks : {a : Layout} {old mid new : Device} {slot t : ℕ} → IsS
 stamped-shrinks {a} stamp shrinks = record {
   begin = (shrinks.each 0 (within-slot a.version 0 (omega arith))).value ∙ stamp.begin;
   survives = each-shrinks (shrinks.each 0 (within-slot a.version 0 (omega arith))) (λ x is. is) stamp.survives;
-  others = λ w one lt. shrinks-word_trans (stamp.others w one lt) (shrinks.each w lt);
+  others = λ w one lt. shrinks_trans (stamp.others w one lt) (shrinks.each w lt);
 }
 
 -- t is stored in the end
@@ -30,7 +32,7 @@ pub ended-stored : (a : Layout) (device : Device) (slot t : ℕ) → IsEndedWith
 ended-stored a device slot t = record {
   end = value-stored_same (word_of a slot 1) t device;
   survives = record { each = λ x there. by_case x (survives-stored (word_of a slot 1) t device (word_of a slot 1) x there) };
-  others = λ w lt apart. shrinks-word_stored (word_of a slot 1) t device (word_of a slot w) (words-apart_within a slot w 1 apart);
+  others = λ w lt apart. stored-shrinks (word_of a slot 1) t (word_of a slot w) refl (words-apart_within a slot w 1 apart);
 }
   where
     by_case : (x : ℕ) → ((word_of a slot 1 ≡ word_of a slot 1) × (x ≡ t)) ⊎ Survives device (word_of a slot 1) x → Survives device (word_of a slot 1) x ⊎ (x ≡ t)
@@ -41,14 +43,14 @@ pub ended-shrinks : {a : Layout} {old mid new : Device} {slot t : ℕ} → IsEnd
 ended-shrinks {a} ended shrinks = record {
   end = (shrinks.each 1 (within-slot a.version 1 (omega arith))).value ∙ ended.end;
   survives = each-shrinks (shrinks.each 1 (within-slot a.version 1 (omega arith))) (λ x is. is) ended.survives;
-  others = λ w lt apart. shrinks-word_trans (ended.others w lt apart) (shrinks.each w lt);
+  others = λ w lt apart. shrinks_trans (ended.others w lt apart) (shrinks.each w lt);
 }
 
 pub ended-before : {a : Layout} {old mid new : Device} {slot t : ℕ} → ShrinksSlot a old mid slot → IsEndedWith a mid new slot t → IsEndedWith a old new slot t
 ended-before {a} {old} {mid} {new} {slot} {t} shrinks ended = record {
   end = ended.end;
   survives = each-weaken by_case ended.survives;
-  others = λ w lt apart. shrinks-word_trans (shrinks.each w lt) (ended.others w lt apart);
+  others = λ w lt apart. shrinks_trans (shrinks.each w lt) (ended.others w lt apart);
 }
   where
     by_case : (x : ℕ) → Survives mid (word_of a slot 1) x ⊎ (x ≡ t) → Survives old (word_of a slot 1) x ⊎ (x ≡ t)

@@ -3,12 +3,14 @@ use Rattle.std.proofs.Common.{◌≡◌, ◌⊎◌, inl, inr, ℕ, ◌+◌, ◌*
 use Rattle.base.specs.declared.key.Key.{Key}
 use Rattle.base.specs.Layout.{Layout, slot_words}
 use Rattle.base.specs.Machine.{State, Drawn, Version, BySession, ByCommit, drawn_at, writes_of}
-use Rattle.pmem.specs.Device.{Device, Survives, IsReady, IsOrderly, stored, flushed, fenced}
+use Rattle.pmem.specs.Device.{Device, IsOrderly, stored, flushed, fenced}
+use Rattle.pmem.specs.Words.{Survives, IsReady, EachSurvivor, IsSettledAt, OnlyShrinks}
 use Rattle.pmem.proofs.Steps.{value-stored_same, value-stored_other, survives-stored, only-settled, settled-stored, settled-ready, ready-flushed}
-use Rattle.invariant.specs.Slots.{word_of, EachSurvivor, IsSettledAt, row_in, is_key_stamped, class_of_version, HoldsAs, IsWaiting, SlotHolds, SlotsHold}
+use Rattle.pmem.proofs.Changes.{stored-shrinks, each-shrinks}
+use Rattle.invariant.specs.Slots.{word_of, row_in, is_key_stamped, class_of_version, HoldsAs, IsWaiting, SlotHolds, SlotsHold}
 use Rattle.invariant.specs.Kept.{IsKept, version_by}
-use Rattle.invariant.specs.Moves.{ShrinksWord, ShrinksSlot, ShrinksOthers, IsCleared, IsStampedWith, IsSlotSettled}
-use Rattle.invariant.proofs.Moves.{within-slot, words-apart_within, shrinks-word_stored, each-shrinks, slots-but_one, slots-failed, slot-taking, slot-filling, slot-refilling}
+use Rattle.invariant.specs.Moves.{ShrinksSlot, ShrinksOthers, IsCleared, IsStampedWith, IsSlotSettled}
+use Rattle.invariant.proofs.Moves.{within-slot, words-apart_within, slots-but_one, slots-failed, slot-taking, slot-filling, slot-refilling}
 use Rattle.invariant.proofs.Stamping.{waits-unstamped, slot-stamping}
 
 -- ---- the begin is made 0
@@ -59,7 +61,7 @@ pub stamped-stored : (a : Layout) (device : Device) (slot t : ℕ) → IsSettled
 stamped-stored a device slot t begin = record {
   begin = value-stored_same (word_of a slot 0) t device;
   survives = record { each = λ x there. by_case x (survives-stored (word_of a slot 0) t device (word_of a slot 0) x there) };
-  others = λ w one lt. shrinks-word_stored (word_of a slot 0) t device (word_of a slot w) (words-apart_within a slot w 0 (λ e. omega (arith, e, one)));
+  others = λ w one lt. stored-shrinks (word_of a slot 0) t (word_of a slot w) refl (words-apart_within a slot w 0 (λ e. omega (arith, e, one)));
 }
   where
     by_case : (x : ℕ) → ((word_of a slot 0 ≡ word_of a slot 0) × (x ≡ t)) ⊎ Survives device (word_of a slot 0) x → (x ≡ 0) ⊎ (x ≡ t)
@@ -80,7 +82,7 @@ begin-unstamped q device slot t d key held found not_yet up h = (waits-unstamped
 
 pub slots-taking : (q : State) (old new : Device) (slot : ℕ) → IsKept q → q.held slot ≡ None → ShrinksOthers q.layout slot old new
     → EachSurvivor new (word_of q.layout slot 0) (λ x. (x ≡ 0) ⊎ Survives old (word_of q.layout slot 0) x)
-    → ShrinksWord old new (word_of q.layout slot 1)
+    → OnlyShrinks old new (word_of q.layout slot 1)
     → SlotsHold q old → SlotsHold q new
 slots-taking q old new slot kept free others begin end h =
     slots-but_one slot h others (λ lt. slot-taking q old new slot kept free (h.each slot lt) begin record { each = λ x there. end.survives x there })
@@ -99,7 +101,7 @@ slots-refilling q old new slot n key kept own others cleared h =
 pub slots-stamping : (q : State) (old new : Device) (slot t : ℕ) (d : Drawn) (key : Key) → q.held slot ≡ Some (version_by key (ByCommit t))
     → drawn_at q t ≡ Some d → is_key_stamped d key ≡ false → IsKept q → ShrinksOthers q.layout slot old new
     → EachSurvivor new (word_of q.layout slot 0) (λ x. (x ≡ 0) ⊎ (x ≡ t))
-    → ShrinksWord old new (word_of q.layout slot 1)
+    → OnlyShrinks old new (word_of q.layout slot 1)
     → SlotsHold q old → SlotsHold (record q { failed = true }) new
 slots-stamping q old new slot t d key held found not_yet kept others begin end h =
     slots-failing q old new slot h others (λ lt. slot-stamping q old new slot t d key lt held found not_yet kept begin end (h.each slot lt))

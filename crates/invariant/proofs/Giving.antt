@@ -7,10 +7,11 @@ use Rattle.base.specs.Keys.{key_eq, lookup_key}
 use Rattle.base.specs.Commits.{with_write, last_writer}
 use Rattle.base.specs.Machine.{State, Session, Active, Version, Writer, BySession, ByCommit, replaced, writes_of, begun_of, with_session, with_writes, is_by, is_own_at, own_slot}
 use Rattle.pmem.specs.Device.{Device}
+use Rattle.pmem.proofs.Changes.{each-settled, each-weaken}
 use Rattle.invariant.specs.Slots.{row_in, class_of_version, HoldsAs, IsDead, IsWaiting, SlotHolds, SlotsHold}
 use Rattle.invariant.specs.Kept.{IsKept, version_by, newest_of}
 use Rattle.invariant.specs.Moves.{Carries}
-use Rattle.invariant.proofs.Moves.{each-settled, each-weaken, ends-stay, class-alike, slot-carries, shrinks-slot_refl}
+use Rattle.invariant.proofs.Moves.{ends-stay, class-alike, slot-carries, shrinks-slot_refl}
 use Rattle.invariant.proofs.Putting.{own-at, own_slot-none}
 use Rattle.invariant.proofs.Lookups.{same-keys, apart-keys, key_eq-refl, lookup-with_write_same, lookup-with_write_other, replaced-same, replaced-other}
 

@@ -6,8 +6,9 @@ use Rattle.base.specs.declared.key.Key.{Key}
 use Rattle.base.specs.Commits.{after, last_writer}
 use Rattle.base.specs.Records.{is_committed}
 use Rattle.base.specs.Machine.{State, Drawn, Version, Writer, BySession, ByCommit, drawn_at}
-use Rattle.pmem.specs.Device.{Device, Survives}
-use Rattle.invariant.specs.Slots.{word_of, EachSurvivor, IsNever, IsCounted, is_drawn_on, is_key_stamped, row_in, class_by, class_of_version, class_of_drawn, IsDead, IsWaiting, IsLive, IsStamped, HoldsAs, Newest, Replaced, Filled, Begun, SlotHolds}
+use Rattle.pmem.specs.Device.{Device}
+use Rattle.pmem.specs.Words.{Survives, EachSurvivor}
+use Rattle.invariant.specs.Slots.{word_of, IsNever, IsCounted, is_drawn_on, is_key_stamped, row_in, class_by, class_of_version, class_of_drawn, IsDead, IsWaiting, IsLive, IsStamped, HoldsAs, Newest, Replaced, Filled, Begun, SlotHolds}
 use Rattle.invariant.specs.Kept.{IsKept, version_by, newest_of}
 use Rattle.invariant.proofs.Marks.{are_drawn, above-found, none-found, uncommitted-never, uncommitted-above, uncommitted-drawn, committed-persisted, passes-last_writer}
 

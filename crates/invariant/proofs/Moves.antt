@@ -7,12 +7,14 @@ use Rattle.base.specs.Layout.{Layout, slot_start, slot_words, total_words}
 use Rattle.base.specs.Keys.{lookup_key}
 use Rattle.base.specs.Commits.{after, last_writer}
 use Rattle.base.specs.Machine.{State, Drawn, Version, Writer, BySession, ByCommit, drawn_at, writes_of}
-use Rattle.pmem.specs.Device.{Entry, Device, newest, survivors_in, IsAmong, Survives, MayLeave, stored, flushed, fenced, failed}
+use Rattle.pmem.specs.Device.{Entry, Device, newest, survivors_in, IsAmong, MayLeave, stored, flushed, fenced, failed}
+use Rattle.pmem.specs.Words.{Survives, EachSurvivor, IsSettledAt, OnlyShrinks}
 use Rattle.pmem.proofs.Steps.{history-stored_other, value-flushed, value-fenced, survives-flushed, survives-fenced, only-settled, settled-flushed, settled-fenced}
-use Rattle.invariant.specs.Slots.{word_of, EachSurvivor, IsSettledAt, Spells, IsNever, IsCounted, is_drawn_on, Class, Free, Filled, Begun, Newest, Replaced, row_in, is_key_stamped, class_of_drawn, class_by, class_of_version, class_of, IsDead, IsFilled, IsWaiting, HoldsAs, SlotHolds, SlotsHold}
+use Rattle.pmem.proofs.Changes.{shrinks_refl, shrinks_trans, flushed-shrinks, fenced-shrinks, failed-shrinks, stored-shrinks, each-shrinks, each-settled, each-weaken, settled_at-shrinks}
+use Rattle.invariant.specs.Slots.{word_of, Spells, IsNever, IsCounted, is_drawn_on, Class, Free, Filled, Begun, Newest, Replaced, row_in, is_key_stamped, class_of_drawn, class_by, class_of_version, class_of, IsDead, IsFilled, IsWaiting, HoldsAs, SlotHolds, SlotsHold}
 use Rattle.invariant.specs.Kept.{IsKept, version_by, newest_of}
 use Rattle.invariant.specs.Theorem.{SlotsSurvive}
-use Rattle.invariant.specs.Moves.{ShrinksWord, ShrinksSlot, ShrinksSlots, ShrinksOthers, IsCleared, IsHarmless, Carries, EndCarries, EndsCarry, laid_out}
+use Rattle.invariant.specs.Moves.{ShrinksSlot, ShrinksSlots, ShrinksOthers, IsCleared, IsHarmless, Carries, EndCarries, EndsCarry, laid_out}
 
 -- ---- places
 
@@ -53,71 +55,33 @@ word-above_log a slot w word before e = omega (arith, before, e)
 pub words-apart_within : (a : Layout) (slot w v : ℕ) → w ≢ v → word_of a slot w ≢ word_of a slot v
 words-apart_within a slot w v apart e = apart (omega (arith, e))
 
--- ---- one word
-
-pub shrinks-word_refl : (device : Device) (word : ℕ) → ShrinksWord device device word
-shrinks-word_refl device word = record { value = refl; survives = λ x there. there; settled = λ settled. settled }
-
-pub shrinks-word_trans : {old mid new : Device} {word : ℕ} → ShrinksWord old mid word → ShrinksWord mid new word → ShrinksWord old new word
-shrinks-word_trans a b = record {
-  value = b.value ∙ a.value;
-  survives = λ x there. a.survives x (b.survives x there);
-  settled = λ settled. b.settled (a.settled settled);
-}
-
-pub shrinks-word_flushed : (actor line : ℕ) (device : Device) (word : ℕ) → ShrinksWord device (flushed actor line device) word
-shrinks-word_flushed actor line device word = record {
-  value = value-flushed actor line device word;
-  survives = λ x there. survives-flushed actor line device word x there;
-  settled = λ settled. settled-flushed actor line device word settled;
-}
-
-pub shrinks-word_fenced : (actor : ℕ) (device : Device) (word : ℕ) → ShrinksWord device (fenced actor device) word
-shrinks-word_fenced actor device word = record {
-  value = value-fenced actor device word;
-  survives = λ x there. survives-fenced actor device word x there;
-  settled = λ settled. settled-fenced actor device word settled;
-}
-
-pub shrinks-word_failed : (device : Device) (word : ℕ) → ShrinksWord device (failed device) word
-shrinks-word_failed device word = record { value = refl; survives = λ x there. there; settled = λ settled. settled }
-
-pub shrinks-word_stored : (at value : ℕ) (device : Device) (word : ℕ) → word ≢ at → ShrinksWord device (stored at value device) word
-shrinks-word_stored at value device word apart =
-    let same = history-stored_other at value device word apart in
-    record {
-      value = ap newest same;
-      survives = λ x there. subst (λ (h : List Entry). IsAmong (survivors_in h) x) same there;
-      settled = λ settled. subst (λ (h : List Entry). survivors_in h ≡ newest h ∷ []) (sym same) settled;
-    }
-
 -- ---- a slot, and all slots
 
 pub shrinks-slot_refl : (a : Layout) (device : Device) (slot : ℕ) → ShrinksSlot a device device slot
-shrinks-slot_refl a device slot = record { each = λ w lt. shrinks-word_refl device (word_of a slot w) }
+shrinks-slot_refl a device slot = record { each = λ w lt. shrinks_refl device (word_of a slot w) }
 
 pub shrinks-slot_trans : {a : Layout} {old mid new : Device} {slot : ℕ} → ShrinksSlot a old mid slot → ShrinksSlot a mid new slot → ShrinksSlot a old new slot
-shrinks-slot_trans x y = record { each = λ w lt. shrinks-word_trans (x.each w lt) (y.each w lt) }
+shrinks-slot_trans x y = record { each = λ w lt. shrinks_trans (x.each w lt) (y.each w lt) }
 
 pub shrinks-slot_flushed : (a : Layout) (actor line : ℕ) (device : Device) (slot : ℕ) → ShrinksSlot a device (flushed actor line device) slot
-shrinks-slot_flushed a actor line device slot = record { each = λ w lt. shrinks-word_flushed actor line device (word_of a slot w) }
+shrinks-slot_flushed a actor line device slot = record { each = λ w lt. flushed-shrinks actor line (word_of a slot w) refl }
 
 pub shrinks-slot_fenced : (a : Layout) (actor : ℕ) (device : Device) (slot : ℕ) → ShrinksSlot a device (fenced actor device) slot
-shrinks-slot_fenced a actor device slot = record { each = λ w lt. shrinks-word_fenced actor device (word_of a slot w) }
+shrinks-slot_fenced a actor device slot = record { each = λ w lt. fenced-shrinks actor (word_of a slot w) refl }
 
 pub shrinks-slot_failed : (a : Layout) (device : Device) (slot : ℕ) → ShrinksSlot a device (failed device) slot
-shrinks-slot_failed a device slot = record { each = λ w lt. shrinks-word_failed device (word_of a slot w) }
+shrinks-slot_failed a device slot = record { each = λ w lt. failed-shrinks (word_of a slot w) refl }
 
 -- a store into the log area
 pub shrinks-slot_stored : (a : Layout) (word value : ℕ) (device : Device) (slot : ℕ) → word < slot_start a 0 → ShrinksSlot a device (stored word value device) slot
 shrinks-slot_stored a word value device slot before = record {
-  each = λ w lt. shrinks-word_stored word value device (word_of a slot w) (word-above_log a slot w word before);
+  each = λ w lt. stored-shrinks word value (word_of a slot w) refl (word-above_log a slot w word before);
 }
 
 -- a store into another slot
 pub shrinks-slot_stored_at : (a : Layout) (at v value : ℕ) (device : Device) (slot : ℕ) → slot ≢ at → v < slot_words a.version → ShrinksSlot a device (stored (word_of a at v) value device) slot
 shrinks-slot_stored_at a at v value device slot apart lt = record {
-  each = λ w in_slot. shrinks-word_stored (word_of a at v) value device (word_of a slot w) (words-apart a slot at w v apart in_slot lt);
+  each = λ w in_slot. stored-shrinks (word_of a at v) value (word_of a slot w) refl (words-apart a slot at w v apart in_slot lt);
 }
 
 pub shrinks_refl : (a : Layout) (device : Device) → ShrinksSlots a device device
@@ -167,27 +131,14 @@ others_trans x y = record { each = λ slot lt apart. shrinks-slot_trans (x.each 
 pub others-stored : (a : Layout) (but w value : ℕ) (device : Device) → w < slot_words a.version → ShrinksOthers a but device (stored (word_of a but w) value device)
 others-stored a but w value device lt_w = record { each = λ slot lt apart. shrinks-slot_stored_at a but w value device slot apart lt_w }
 
--- ---- what survives in a word that shrinks
-
-pub each-shrinks : {old new : Device} {word : ℕ} {P Q : ℕ → Type 0} → ShrinksWord old new word → ((x : ℕ) → P x → Q x) → EachSurvivor old word P → EachSurvivor new word Q
-each-shrinks on f e = record { each = λ x there. f x (e.each x (on.survives x there)) }
-
-settled_at-shrinks : {old new : Device} {word value : ℕ} → ShrinksWord old new word → IsSettledAt old word value → IsSettledAt new word value
-settled_at-shrinks on s = record { settled = on.settled s.settled; holds = on.value ∙ s.holds }
-
--- where a word is settled at a value, only that survives
-pub each-settled : {device : Device} {word value : ℕ} → IsSettledAt device word value → EachSurvivor device word (λ x. x ≡ value)
-each-settled {device} {word} s = record { each = λ x there. only-settled device word x s.settled there ∙ s.holds }
-
-pub each-weaken : {device : Device} {word : ℕ} {P Q : ℕ → Type 0} → ((x : ℕ) → P x → Q x) → EachSurvivor device word P → EachSurvivor device word Q
-each-weaken f e = record { each = λ x there. f x (e.each x there) }
+-- ---- values
 
 pub spells-same : {a : Layout} {value other : ℕ → ℕ} {slot : ℕ} {key : Key} {row : List ℕ} → ((w : ℕ) → 2 ≤ w → w < slot_words a.version → other (word_of a slot w) ≡ value (word_of a slot w)) → Spells a value slot key row → Spells a other slot key row
 spells-same same s = record { read = λ image is size words. s.read image is size (λ w two lt. words w two lt ∙ same w two lt) }
 
 -- ---- a slot's class stays, and the state carries what it is held by
 
-pub filled-carries : (q p : State) (old new : Device) (slot : ℕ) (key : Key) (row : List ℕ) → ((w : ℕ) → 1 ≤ w → w < slot_words q.layout.version → ShrinksWord old new (word_of q.layout slot w)) → IsFilled q old slot key row → IsFilled (laid_out q.layout p) new slot key row
+pub filled-carries : (q p : State) (old new : Device) (slot : ℕ) (key : Key) (row : List ℕ) → ((w : ℕ) → 1 ≤ w → w < slot_words q.layout.version → OnlyShrinks old new (word_of q.layout slot w)) → IsFilled q old slot key row → IsFilled (laid_out q.layout p) new slot key row
 filled-carries q p old new slot key row on f = record {
   ended = (on 1 (omega arith) (within-slot q.layout.version 1 (omega arith))).value ∙ f.ended;
   spells = spells-same (λ w two lt. (on w (omega arith) lt).value) f.spells;
@@ -202,7 +153,7 @@ as_class-carries q p old new slot (Filled key row) on ends shrinks h = record {
   filled = λ up. filled-carries q p old new slot key row (λ w one lt. shrinks.each w lt) (h.filled (on.failed up));
 }
   where
-    first : ShrinksWord old new (word_of q.layout slot 0)
+    first : OnlyShrinks old new (word_of q.layout slot 0)
     first = shrinks.each 0 (within-slot q.layout.version 0 (omega arith))
 
     harmless : q.failed ≡ true → (x : ℕ) → IsNever q x ⊎ IsTrue (is_drawn_on q key x) → IsHarmless (laid_out q.layout p) key x
@@ -228,10 +179,10 @@ as_class-carries q p old new slot (Newest key row) on ends shrinks h = record {
   spells = spells-same (λ w two lt. (shrinks.each w lt).value) h.spells;
 }
   where
-    first : ShrinksWord old new (word_of q.layout slot 0)
+    first : OnlyShrinks old new (word_of q.layout slot 0)
     first = shrinks.each 0 (within-slot q.layout.version 0 (omega arith))
 
-    second : ShrinksWord old new (word_of q.layout slot 1)
+    second : OnlyShrinks old new (word_of q.layout slot 1)
     second = shrinks.each 1 (within-slot q.layout.version 1 (omega arith))
 
     harmless : (x : ℕ) → IsNever q x ⊎ IsTrue (is_drawn_on q key x) → IsHarmless (laid_out q.layout p) key x

@@ -18,7 +18,8 @@ use Rattle.base.specs.Images.{Image, layout_of, key_of, row_of, begin_of, end_of
 use Rattle.base.specs.Stands.{Stands}
 use Rattle.base.specs.Openings.{IsOpenedGaps, opening_record, held_under, opened_under, opened}
 use Rattle.base.specs.Machine.{State, Version, BySession, ByCommit}
-use Rattle.pmem.specs.Device.{Device, Survives, value_of, IsSettled, image_of}
+use Rattle.pmem.specs.Device.{Device}
+use Rattle.pmem.specs.Words.{Survives, value_of, IsSettled, image_of}
 use Rattle.base.specs.Search.{first_below, first_of, some_if}
 use Rattle.base.proofs.Histories.{first_below-none, key_eq-same, no_bad_slot}
 use Rattle.pmem.proofs.Steps.{only-settled}

@@ -8,10 +8,11 @@ use Rattle.base.specs.Keys.{key_eq, lookup_key}
 use Rattle.base.specs.Commits.{with_write}
 use Rattle.base.specs.Machine.{State, Session, Active, Version, Writer, BySession, ByCommit, replaced, held_at, held_with, held_after_put, writes_of, begun_of, with_session, is_by, is_own_at, own_slot, free_slot, next_state}
 use Rattle.pmem.specs.Device.{Device}
+use Rattle.pmem.proofs.Changes.{each-settled, each-weaken}
 use Rattle.invariant.specs.Slots.{class_of_version, HoldsAs, IsWaiting, SlotHolds, SlotsHold}
 use Rattle.invariant.specs.Kept.{IsKept, version_by}
 use Rattle.invariant.specs.Moves.{ShrinksSlot, ShrinksOthers, IsRefilled, Carries}
-use Rattle.invariant.proofs.Moves.{each-settled, each-weaken, cleared-begin_before, cleared-end_before, ends-stay, class-alike, slot-carries}
+use Rattle.invariant.proofs.Moves.{cleared-begin_before, cleared-end_before, ends-stay, class-alike, slot-carries}
 use Rattle.invariant.proofs.Lookups.{same-keys, key_eq-refl, cases-keys, lookup-with_write_same, lookup-with_write_other, first_below-some, first_below-none, first_below-lowest, first_below-nowhere, replaced-same, replaced-other}
 
 abbrev with_put : State → ℕ → Key → List ℕ → (ℕ → Option Version) → State

@@ -10,11 +10,13 @@ use Rattle.base.specs.Keys.{key_eq, lookup_key}
 use Rattle.base.specs.Commits.{Commit, after, last_writer, writes_key}
 use Rattle.base.specs.Records.{are_rising}
 use Rattle.base.specs.Machine.{State, Drawn, Version, Writer, BySession, ByCommit, drawn_at, timestamp_of, counted, next_state}
-use Rattle.pmem.specs.Device.{Device, Survives}
-use Rattle.invariant.specs.Slots.{word_of, EachSurvivor, IsCounted, is_drawn_on, Filled, Begun, Newest, Replaced, row_in, is_key_stamped, class_of_drawn, class_by, class_of_version, class_of, HoldsAs, IsWaiting, IsLive, SlotHolds, SlotsHold}
+use Rattle.pmem.specs.Device.{Device}
+use Rattle.pmem.specs.Words.{Survives, EachSurvivor, OnlyShrinks}
+use Rattle.pmem.proofs.Changes.{each-shrinks, each-weaken}
+use Rattle.invariant.specs.Slots.{word_of, IsCounted, is_drawn_on, Filled, Begun, Newest, Replaced, row_in, is_key_stamped, class_of_drawn, class_by, class_of_version, class_of, HoldsAs, IsWaiting, IsLive, SlotHolds, SlotsHold}
 use Rattle.invariant.specs.Kept.{IsKept, version_by, newest_of}
-use Rattle.invariant.specs.Moves.{ShrinksWord, IsStampedWith, IsEndedWith, HasStamps, IsHeldAt, StampsNext, IsHarmless, Carries, IsStampedBy, EndCarries}
-use Rattle.invariant.proofs.Moves.{within-slot, each-shrinks, each-weaken, spells-same, filled-carries, ends-carry, newest-held, slot-carries, slot-shrink, slot-failed}
+use Rattle.invariant.specs.Moves.{IsStampedWith, IsEndedWith, HasStamps, IsHeldAt, StampsNext, IsHarmless, Carries, IsStampedBy, EndCarries}
+use Rattle.invariant.proofs.Moves.{within-slot, spells-same, filled-carries, ends-carry, newest-held, slot-carries, slot-shrink, slot-failed}
 use Rattle.invariant.proofs.Marks.{none-found}
 use Rattle.invariant.proofs.Lookups.{key_eq-refl, key_eq-apart, lookup-of_write}
 use Rattle.invariant.proofs.Histories.{all-weaken, find-any, any-take_more, last_writer-covered, drawn_at-bounds}
@@ -242,7 +244,7 @@ ended-live q drawn down old new slot t key row ends still this only live = recor
   spells = spells-same (λ w two lt. (ends.others w lt (λ e. omega (arith, e, two))).value) live.spells;
 }
   where
-    first : ShrinksWord old new (word_of q.layout slot 0)
+    first : OnlyShrinks old new (word_of q.layout slot 0)
     first = ends.others 0 (within-slot q.layout.version 0 (omega arith)) (λ e. absurd (cc e))
 
     harmless : (x : ℕ) → IsHarmless q key x → IsHarmless (record q { drawn = drawn; failed = down }) key x
@@ -393,7 +395,7 @@ slots-stamped q old new begun ended t d key row next this replaces up kept has h
 pub slot-stamping : (q : State) (old new : Device) (slot t : ℕ) (d : Drawn) (key : Key) → slot < q.layout.slots → q.held slot ≡ Some (version_by key (ByCommit t))
     → drawn_at q t ≡ Some d → is_key_stamped d key ≡ false → IsKept q
     → EachSurvivor new (word_of q.layout slot 0) (λ x. (x ≡ 0) ⊎ (x ≡ t))
-    → ShrinksWord old new (word_of q.layout slot 1)
+    → OnlyShrinks old new (word_of q.layout slot 1)
     → SlotHolds q old slot → SlotHolds (record q { failed = true }) new slot
 slot-stamping q old new slot t d key lt held found not_yet kept begin end h = record {
   begin_before = begin-stamped q new slot t key lt held kept begin;

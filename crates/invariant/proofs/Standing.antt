@@ -16,7 +16,8 @@ use Rattle.base.specs.Images.{Image, layout_of, is_formatted, has_good_geometry,
 use Rattle.base.proofs.Histories.{key_eq-true}
 use Rattle.base.specs.Stands.{has_timestamp}
 use Rattle.base.specs.Machine.{State, drawn_of}
-use Rattle.pmem.specs.Device.{Device, Survives, value_of}
+use Rattle.pmem.specs.Device.{Device}
+use Rattle.pmem.specs.Words.{Survives, value_of}
 use Rattle.pmem.proofs.Steps.{only-settled}
 use Rattle.invariant.specs.Slots.{word_of, HasVersion, IsLive, SlotsHold}
 use Rattle.invariant.specs.Kept.{IsKept, newest_of}

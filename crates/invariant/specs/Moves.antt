@@ -5,21 +5,16 @@ use Rattle.base.specs.declared.key.Key.{Key}
 use Rattle.base.specs.Layout.{Layout, slot_words}
 use Rattle.base.specs.Commits.{writes_key}
 use Rattle.base.specs.Machine.{State, Drawn, Hand, Version, ByCommit, drawn_at, is_stamped}
-use Rattle.pmem.specs.Device.{Device, Survives, value_of, IsSettled}
-use Rattle.invariant.specs.Slots.{word_of, EachSurvivor, IsSettledAt, Spells, IsNever, IsCounted, is_drawn_on, is_key_stamped, Class, Newest}
+use Rattle.pmem.specs.Device.{Device}
+use Rattle.pmem.specs.Words.{Survives, value_of, IsSettled, EachSurvivor, IsSettledAt, OnlyShrinks}
+use Rattle.invariant.specs.Slots.{word_of, Spells, IsNever, IsCounted, is_drawn_on, is_key_stamped, Class, Newest}
 use Rattle.invariant.specs.Kept.{version_by, newest_of}
 
 -- ---- the device
 
--- the word keeps its last value, and no further value may survive in it
-pub record ShrinksWord (old new : Device) (word : ℕ) : Type 0 where
-  pub value : value_of new word ≡ value_of old word
-  pub survives : (x : ℕ) → Survives new word x → Survives old word x
-  pub settled : IsSettled old word → IsSettled new word
-
--- each word of the slot does so
+-- each word of the slot keeps its last value, and no further value may survive in it
 pub record ShrinksSlot (a : Layout) (old new : Device) (slot : ℕ) : Type 0 where
-  pub each : (w : ℕ) → w < slot_words a.version → ShrinksWord old new (word_of a slot w)
+  pub each : (w : ℕ) → w < slot_words a.version → OnlyShrinks old new (word_of a slot w)
 
 -- each slot does so
 pub record ShrinksSlots (a : Layout) (old new : Device) : Type 0 where
@@ -44,13 +39,13 @@ pub record IsRefilled (a : Layout) (old new : Device) (slot : ℕ) (key : Key) (
 pub record IsStampedWith (a : Layout) (old new : Device) (slot t : ℕ) : Type 0 where
   pub begin : value_of new (word_of a slot 0) ≡ t
   pub survives : EachSurvivor new (word_of a slot 0) (λ x. (x ≡ 0) ⊎ (x ≡ t))
-  pub others : (w : ℕ) → 1 ≤ w → w < slot_words a.version → ShrinksWord old new (word_of a slot w)
+  pub others : (w : ℕ) → 1 ≤ w → w < slot_words a.version → OnlyShrinks old new (word_of a slot w)
 
 -- the slot's end has t, and beside it only what survived before; its other words are as they were
 pub record IsEndedWith (a : Layout) (old new : Device) (slot t : ℕ) : Type 0 where
   pub end : value_of new (word_of a slot 1) ≡ t
   pub survives : EachSurvivor new (word_of a slot 1) (λ x. Survives old (word_of a slot 1) x ⊎ (x ≡ t))
-  pub others : (w : ℕ) → w < slot_words a.version → (w ≡ 1 → ⊥) → ShrinksWord old new (word_of a slot w)
+  pub others : (w : ℕ) → w < slot_words a.version → (w ≡ 1 → ⊥) → OnlyShrinks old new (word_of a slot w)
 
 -- t is the begin of one slot and the end of another, where there are such; the other slots are as they were
 pub record HasStamps (a : Layout) (old new : Device) (begun ended : Option ℕ) (t : ℕ) : Type 0 where

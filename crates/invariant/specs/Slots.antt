@@ -8,22 +8,14 @@ use Rattle.base.specs.Layout.{Layout, slot_start, slot_words, total_words}
 use Rattle.base.specs.Records.{is_in, is_committed}
 use Rattle.base.specs.Images.{Image, layout_of, key_of, row_of, is_misfit}
 use Rattle.base.specs.Machine.{State, Drawn, Version, Writer, BySession, ByCommit, drawn_at, writes_of}
-use Rattle.pmem.specs.Device.{Device, Survives, value_of, IsSettled}
+use Rattle.pmem.specs.Device.{Device}
+use Rattle.pmem.specs.Words.{value_of, IsSettled, EachSurvivor, IsSettledAt}
 
 -- ---- words
 
 -- the place of a slot's word on the device
 abbrev pub word_of : Layout → ℕ → ℕ → ℕ
 word_of a slot w = slot_start a slot + w
-
--- each value that a crash may leave in the word has P
-pub record EachSurvivor (device : Device) (word : ℕ) (P : ℕ → Type 0) : Type 0 where
-  pub each : (x : ℕ) → Survives device word x → P x
-
--- a crash leaves the word with this value
-pub record IsSettledAt (device : Device) (word value : ℕ) : Type 0 where
-  pub settled : IsSettled device word
-  pub holds : value_of device word ≡ value
 
 -- ---- versions
 

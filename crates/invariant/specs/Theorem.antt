@@ -3,7 +3,8 @@ use Rattle.std.specs.Prelude.{ℕ, ◌<◌, slice_index}
 use Rattle.base.specs.Layout.{Layout, slot_words}
 use Rattle.base.specs.Images.{Image, IsRuledBy}
 use Rattle.base.specs.Machine.{State, present, StandsUnder}
-use Rattle.pmem.specs.Device.{Device, Survives}
+use Rattle.pmem.specs.Device.{Device}
+use Rattle.pmem.specs.Words.{Survives}
 use Rattle.invariant.specs.Slots.{word_of, SlotsHold}
 use Rattle.invariant.specs.Kept.{IsKept}
 

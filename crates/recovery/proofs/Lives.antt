@@ -14,15 +14,15 @@ use Rattle.base.specs.Records.{Record, opened_gaps, is_well_formed}
 use Rattle.base.specs.Images.{Image, damage, layout_of, ruling, is_shown, opening_fault, is_near_limit, needs_sweep, IsRuledBy}
 use Rattle.base.specs.Stands.{Stands}
 use Rattle.base.specs.Openings.{opening_record, StandsOpening}
-use Rattle.pmem.specs.Device.{Device, value_of, IsAtRest, IsOrderly, LeavesOnly, image_of}
-use Rattle.pmem.proofs.Images.{leaves_refl, leaves_weaken}
+use Rattle.pmem.specs.Device.{Device, IsOrderly}
+use Rattle.pmem.specs.Words.{value_of, IsAtRest, LeavesOnly, image_of, Spares, Makes, HasOldWords}
+use Rattle.pmem.proofs.Images.{leaves_refl, leaves_weaken, leaves_both}
 use Rattle.pmem.proofs.Rest.{left_at_rest}
 use Rattle.pmem.proofs.Steps.{only-settled}
-use Rattle.log_area.specs.Rulings.{IsRecordFor, HoldsRecord, Spares, Makes, HasOldWords, log_damage}
+use Rattle.log_area.specs.Rulings.{IsRecordFor, HoldsRecord, log_damage}
 use Rattle.log_area.specs.Writings.{IsNextRecord, IsRuledByEither, IsOutside, begun}
-use Rattle.log_area.proofs.Runs.{leaves_both}
 use Rattle.log_area.proofs.Rulings.{place_below}
-use Rattle.log_area.proofs.Kept.{holds_kept}
+use Rattle.pmem.proofs.Changes.{settled_at-shrinks}
 use Rattle.std.specs.List.{range_with_len}
 use Rattle.recovery.specs.Slots.{IsUnder, IsSlotsFault, free_below, bad_below}
 use Rattle.recovery.specs.Opened.{HasSlotsOf, Refuses, IsExamined, Examined, HasOpened, IsRefusal}
@@ -214,7 +214,7 @@ module _ (old new : Device) (orderly : IsOrderly old) (rest : IsAtRest old) (lay
       (either-before image (subst (λ (x : Record). IsRuledByEither layout r x image) made both.0)) in
       leaves_weaken step (leaves_both ruled spares.left)
 
-  pub has-opened : (target : Record) → target ≡ opening_record layout r (opened_gaps r) → HoldsRecord layout target new → Spares (IsOutside (begun layout target)) old new → Makes 32 5 2 old new
+  pub has-opened : (target : Record) → target ≡ opening_record layout r (opened_gaps r) → HoldsRecord layout target new → Spares (IsOutside (begun layout target)) old new → Makes 32 5 2 0 old new
       → (next : ℕ) → next ≡ r.dirty → HasOpened old new layout target next free
   unfolding free_below
   has-opened target made holds spares makes next next-is =
@@ -226,8 +226,8 @@ module _ (old new : Device) (orderly : IsOrderly old) (rest : IsAtRest old) (lay
         next_is = next-is ∙ ap (λ (x : Record). x.dirty) (sym rules.by_record);
         free_is = e.free_are ∙ ap (λ (n : ℕ). map (λ slot. not (is_shown (ruling (image_of old)) (image_of old) slot)) (range_with_len 0 n)) (ap (λ (l : Layout). l.slots) (sym rules.laid_out));
         holds = holds;
-        superblock = λ word lt. holds_kept (spares.kept word (before_it target word lt)) (record { settled = rest word (within word lt); holds = refl });
-        slots = λ word le lt. holds_kept (spares.kept word (outside target word le)) (record { settled = rest word lt; holds = refl });
+        superblock = λ word lt. settled_at-shrinks (spares.kept word (before_it target word lt)) (record { settled = rest word (within word lt); holds = refl });
+        slots = λ word le lt. settled_at-shrinks (spares.kept word (outside target word le)) (record { settled = rest word lt; holds = refl });
         made = makes;
       }
 

@@ -11,7 +11,8 @@ use Rattle.base.proofs.Histories.{opens-sound}
 use Rattle.base.specs.Stands.{Stands}
 use Rattle.base.specs.Machine.{present, StandsUnder}
 use Rattle.base.specs.Openings.{OpensAs, opening_record, opened}
-use Rattle.pmem.specs.Device.{Device, value_of, image_of, MayLeave}
+use Rattle.pmem.specs.Device.{Device, MayLeave}
+use Rattle.pmem.specs.Words.{value_of, image_of}
 use Rattle.pmem.proofs.Steps.{only-settled}
 use Rattle.log_area.proofs.Replacing.{holds_ruled}
 use Rattle.recovery.specs.Opened.{HasSlotsOf, HasOpened}

@@ -3,7 +3,8 @@ use Rattle.std.proofs.Common.{◌≡◌, ℕ, ◌<◌, Bool, true, false, cond, 
 use Rattle.std.proofs.lemmas.Bool.{lt-ltb}
 use Rattle.std.proofs.lemmas.List.{ext_get_or}
 use Rattle.std.proofs.lemmas.List.FromFn.{length-map-range_with_len, get_or-map-range_with_len}
-use Rattle.pmem.specs.Device.{Entry, newest, survivors_in, restarted, IsAtRest, image_of, value_of}
+use Rattle.pmem.specs.Device.{Entry, newest, survivors_in, restarted}
+use Rattle.pmem.specs.Words.{IsAtRest, image_of, value_of}
 
 -- the one entry of a word
 abbrev first : ℕ → Entry

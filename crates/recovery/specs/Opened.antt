@@ -8,8 +8,9 @@ use Rattle.base.specs.Layout.{Layout}
 use Rattle.base.specs.Records.{Record, opened_gaps}
 use Rattle.base.specs.Images.{Image, layout_of, ruling, is_shown, opening_fault, IsRuledBy}
 use Rattle.base.specs.Openings.{opening_record}
-use Rattle.pmem.specs.Device.{Device, value_of, image_of}
-use Rattle.log_area.specs.Rulings.{HoldsRecord, Holds, Makes}
+use Rattle.pmem.specs.Device.{Device}
+use Rattle.pmem.specs.Words.{value_of, image_of, IsSettledAt, Makes}
+use Rattle.log_area.specs.Rulings.{HoldsRecord}
 use Rattle.recovery.specs.Slots.{free_below}
 
 -- the words after the log area are the same
@@ -45,9 +46,9 @@ pub record HasOpened (old new : Device) (layout : Layout) (r : Record) (next : �
   pub next_is : next ≡ (ruling (image_of old)).dirty
   pub free_is : free ≡ free_in (image_of old)
   pub holds : HoldsRecord layout r new
-  pub superblock : (word : ℕ) → word < 8 → Holds new word (value_of old word)
-  pub slots : (word : ℕ) → 8 + 32 * layout.places ≤ word → word < old.words → Holds new word (value_of old word)
-  pub made : Makes 32 5 2 old new
+  pub superblock : (word : ℕ) → word < 8 → IsSettledAt new word (value_of old word)
+  pub slots : (word : ℕ) → 8 + 32 * layout.places ≤ word → word < old.words → IsSettledAt new word (value_of old word)
+  pub made : Makes 32 5 2 0 old new
 
 -- Why an opening is refused: for its own reason or for want of memory, and then nothing was done to the device; or
 -- because an operation failed, where nothing spoke against it

@@ -1,6 +1,5 @@
 ghost use Rattle.std.specs.Prelude.{◌≡◌, ◌+◌, ◌-◌, ◌*◌, ◌/◌, ◌<◌, ◌≤◌, ℕ, IfErr, OnOk, OnErr};
-ghost use Rattle.pmem.specs.Device.{IsReady, value_of};
-ghost use Rattle.log_area.specs.Rulings.{Holds, Makes, Spares};
+ghost use Rattle.pmem.specs.Words.{IsReady, value_of, IsSettledAt, Makes, Spares};
 
 use base::actor::Actor;
 use base::fault::Fault;
@@ -12,8 +11,8 @@ pub fn clear<D: Pmem>(device: &mut D) -> Result<(), Fault>
     requires lines { (D.state device.old).words ≡ 8 * ((D.state device.old).words / 8) }
     ensures fault { IfErr result (λ fault. fault ≡ Fault.Device) }
     ensures failed { OnErr result ((D.state device.new).failures ≡ (D.state device.old).failures + 1) }
-    ensures made { OnOk result (Makes ((D.state device.old).words - 8) ((D.state device.old).words / 8 - 1) 1 (D.state device.old) (D.state device.new)) }
-    ensures holds { OnOk result ((word : ℕ) → 8 ≤ word → word < (D.state device.old).words → Holds (D.state device.new) word 0) }
+    ensures made { OnOk result (Makes ((D.state device.old).words - 8) ((D.state device.old).words / 8 - 1) 1 0 (D.state device.old) (D.state device.new)) }
+    ensures holds { OnOk result ((word : ℕ) → 8 ≤ word → word < (D.state device.old).words → IsSettledAt (D.state device.new) word 0) }
     ensures others { Spares (λ word. word < 8) (D.state device.old) (D.state device.new) }
 {
     let words = device.words();
@@ -30,7 +29,7 @@ fn store_zeros<D: Pmem>(device: &mut D, words: usize) -> Result<(), Fault>
     requires within { words ≤ (D.state device.old).words }
     ensures fault { IfErr result (λ fault. fault ≡ Fault.Device) }
     ensures failed { OnErr result ((D.state device.new).failures ≡ (D.state device.old).failures + 1) }
-    ensures made { OnOk result (Makes (words - 8) 0 0 (D.state device.old) (D.state device.new)) }
+    ensures made { OnOk result (Makes (words - 8) 0 0 0 (D.state device.old) (D.state device.new)) }
     ensures zero { OnOk result ((word : ℕ) → 8 ≤ word → word < words → value_of (D.state device.new) word ≡ 0) }
     ensures others { Spares (λ word. word < 8) (D.state device.old) (D.state device.new) }
 {
@@ -46,7 +45,7 @@ fn flush_lines<D: Pmem>(device: &mut D, lines: usize) -> Result<(), Fault>
     requires within { 8 * lines ≤ (D.state device.old).words }
     ensures fault { IfErr result (λ fault. fault ≡ Fault.Device) }
     ensures failed { OnErr result ((D.state device.new).failures ≡ (D.state device.old).failures + 1) }
-    ensures made { OnOk result (Makes 0 (lines - 1) 0 (D.state device.old) (D.state device.new)) }
+    ensures made { OnOk result (Makes 0 (lines - 1) 0 0 (D.state device.old) (D.state device.new)) }
     ensures ready { OnOk result ((word : ℕ) → 8 ≤ word → word < 8 * lines → IsReady (D.state device.new) 0 word) }
     ensures values { OnOk result ((word : ℕ) → value_of (D.state device.new) word ≡ value_of (D.state device.old) word) }
     ensures others { Spares (λ word. word < 8) (D.state device.old) (D.state device.new) }

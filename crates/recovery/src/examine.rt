@@ -1,5 +1,5 @@
 ghost use Rattle.std.specs.Prelude.{◌≡◌, ◌+◌, ◌*◌, ◌^◌, ◌<◌, ◌≤◌, ◌||◌, nat_le, IfOk, IfErr};
-ghost use Rattle.pmem.specs.Device.{image_of};
+ghost use Rattle.pmem.specs.Words.{image_of};
 ghost use Rattle.recovery.specs.Opened.{Examined as IsExaminedAs, Refuses};
 ghost use Rattle.recovery.specs.Read.{TellsLogFault};
 

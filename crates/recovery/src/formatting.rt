@@ -1,7 +1,6 @@
 ghost use Rattle.std.specs.Prelude.{◌≡◌, ◌+◌, ◌/◌, ◌<◌, ℕ, IsTrue, IfErr, OnOk, OnErr};
 ghost use Rattle.base.specs.Layout.{is_in_limits, total_words};
-ghost use Rattle.pmem.specs.Device.{LeavesOnly, IsAtRest, image_of};
-ghost use Rattle.log_area.specs.Rulings.{Holds, Makes};
+ghost use Rattle.pmem.specs.Words.{LeavesOnly, IsAtRest, image_of, IsSettledAt, Makes};
 ghost use Rattle.base.specs.Fresh.{first_record, fresh_word, fresh_image};
 ghost use Rattle.base.specs.Laws.{StandsEmpty};
 ghost use Rattle.recovery.specs.Fresh.{IsFormatting, IsFormatRefusal};
@@ -17,8 +16,8 @@ use pmem::Pmem;
 /// isn't formatted, or the new one.
 pub fn format<D: Pmem>(device: &mut D, geometry: Geometry) -> Result<(), Fault>
     ensures refusal { IfErr result (IsFormatRefusal geometry (D.state device.old) (D.state device.new)) }
-    ensures made { OnOk result (Makes (total_words geometry + 33) (total_words geometry / 8 + 7) 6 (D.state device.old) (D.state device.new)) }
-    ensures settled { OnOk result ((word : ℕ) → word < total_words geometry → Holds (D.state device.new) word (fresh_word geometry word)) }
+    ensures made { OnOk result (Makes (total_words geometry + 33) (total_words geometry / 8 + 7) 6 0 (D.state device.old) (D.state device.new)) }
+    ensures settled { OnOk result ((word : ℕ) → word < total_words geometry → IsSettledAt (D.state device.new) word (fresh_word geometry word)) }
     ensures rest { OnOk result (IsAtRest (D.state device.new)) }
     ensures image { OnOk result (image_of (D.state device.new) ≡ fresh_image geometry) }
     ensures empty { OnOk result (StandsEmpty geometry (image_of (D.state device.new))) }
@@ -39,8 +38,8 @@ fn write_fresh<D: Pmem>(device: &mut D, geometry: Geometry) -> Result<(), Fault>
     requires limits { IsTrue (is_in_limits geometry) }
     ensures fault { IfErr result (λ fault. fault ≡ Fault.Device) }
     ensures failed { OnErr result ((D.state device.new).failures ≡ (D.state device.old).failures + 1) }
-    ensures made { OnOk result (Makes (total_words geometry + 33) (total_words geometry / 8 + 7) 6 (D.state device.old) (D.state device.new)) }
-    ensures settled { OnOk result ((word : ℕ) → word < total_words geometry → Holds (D.state device.new) word (fresh_word geometry word)) }
+    ensures made { OnOk result (Makes (total_words geometry + 33) (total_words geometry / 8 + 7) 6 0 (D.state device.old) (D.state device.new)) }
+    ensures settled { OnOk result ((word : ℕ) → word < total_words geometry → IsSettledAt (D.state device.new) word (fresh_word geometry word)) }
     ensures images { LeavesOnly (D.state device.old) (D.state device.new) (IsFormatting (D.state device.old) geometry) }
 {
     set_word(device, 0, 0)?;

@@ -3,7 +3,7 @@ ghost use Rattle.base.specs.Commits.{Commit};
 ghost use Rattle.base.specs.Images.{opening_fault};
 ghost use Rattle.base.specs.Stands.{Stands};
 ghost use Rattle.base.specs.Openings.{StandsOpening};
-ghost use Rattle.pmem.specs.Device.{LeavesOnly, IsAtRest, image_of};
+ghost use Rattle.pmem.specs.Words.{LeavesOnly, IsAtRest, image_of};
 ghost use Rattle.recovery.specs.Opened.{HasOpened, IsRefusal};
 ghost use Rattle.recovery.specs.Read.{TellsLogFault};
 

@@ -1,5 +1,5 @@
 ghost use Rattle.std.specs.Prelude.{IfOk, IfErr};
-ghost use Rattle.pmem.specs.Device.{image_of};
+ghost use Rattle.pmem.specs.Words.{image_of};
 ghost use Rattle.recovery.specs.Read.{IsRead, IsReadRefusal};
 
 use crate::rows::live_rows;

@@ -1,7 +1,7 @@
 ghost use Rattle.std.specs.Prelude.{◌≡◌, ◌<◌, true, false, None, IfOk};
 ghost use Rattle.base.specs.Layout.{total_words};
 ghost use Rattle.base.specs.Images.{key_of, row_of, ruling};
-ghost use Rattle.pmem.specs.Device.{image_of};
+ghost use Rattle.pmem.specs.Words.{image_of};
 ghost use Rattle.recovery.specs.Slots.{IsUnder, bad_below, free_below, is_bad, is_free};
 ghost use Rattle.recovery.specs.Read.{rows_below};
 

@@ -2,7 +2,7 @@ ghost use Rattle.std.specs.Prelude.{◌≡◌, ◌&&◌, ◌+◌, not, ◌<◌, 
 ghost use Rattle.std.specs.BTreeSet.{contains};
 ghost use Rattle.base.specs.Layout.{total_words};
 ghost use Rattle.base.specs.Records.{is_committed};
-ghost use Rattle.pmem.specs.Device.{image_of};
+ghost use Rattle.pmem.specs.Words.{image_of};
 ghost use Rattle.recovery.specs.Slots.{IsUnder, HasKeys, IsVisitFault, IsSlotsFault, found_in, free_below, bad_below, is_bad, is_free, key_cmp};
 
 use base::Ts;

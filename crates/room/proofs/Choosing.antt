@@ -14,7 +14,8 @@ use Rattle.base.specs.Records.{Record}
 use Rattle.base.specs.Search.{some_if}
 use Rattle.base.specs.Machine.{State, answered, memory_refused, Hand, refusal, chooses, ticked, state_ticked, is_idle, taken_in_hand, StandsWithin}
 use Rattle.base.proofs.Runs.{StandsAt-within}
-use Rattle.pmem.specs.Device.{Device, IsOrderly, LeavesOnly}
+use Rattle.pmem.specs.Device.{Device, IsOrderly}
+use Rattle.pmem.specs.Words.{LeavesOnly, operations_of}
 use Rattle.pmem.specs.declared.device.Pmem.{Ghosts}
 use Rattle.pmem.proofs.Images.{leaves_refl}
 use Rattle.log_area.specs.Rulings.{HoldsRecord}
@@ -30,7 +31,7 @@ use Rattle.room.specs.declared.room.Room.{Room}
 use Rattle.txn.specs.WriteSets.{touched}
 use Rattle.room.specs.Agrees.{Works, HoldsLog, HoldsStage, AreFlushed, IsTaken, IsCycleOf, hand_of, ticks_of}
 use Rattle.room.specs.Sessions.{awaits, commit_of, lines_in}
-use Rattle.room.specs.Room.{Shows, StepsTo, operations_of}
+use Rattle.room.specs.Room.{Shows, StepsTo}
 use Rattle.room.proofs.Steps.{stays, refuses}
 use Rattle.room.proofs.Working.{works-along}
 use Rattle.room.proofs.Committing.{idle-unless_stamped, busy-stamped, taken-whole}

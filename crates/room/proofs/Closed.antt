@@ -8,7 +8,8 @@ use Rattle.base.specs.declared.fault.Fault.TheVariants.{Failed, TimestampsOut, D
 use Rattle.base.specs.Images.{Image}
 use Rattle.base.specs.Search.{first_of, some_if}
 use Rattle.base.specs.Machine.{State, closing_gate, closing_fault, StandsClosing, StandsClosed}
-use Rattle.pmem.specs.Device.{Device, IsOrderly, MayLeave, LeavesOnly}
+use Rattle.pmem.specs.Device.{Device, IsOrderly, MayLeave}
+use Rattle.pmem.specs.Words.{LeavesOnly}
 use Rattle.pmem.specs.declared.device.Pmem.{Ghosts}
 use Rattle.pmem.proofs.Images.{leaves_refl, leaves_trans, leaves_weaken}
 use Rattle.room.specs.declared.room.Room.{Room}

@@ -12,7 +12,8 @@ use Rattle.base.specs.Commits.{Commit}
 use Rattle.base.specs.Layout.{Layout, total_words, slot_start, slot_words, is_in_limits}
 use Rattle.base.specs.Stands.{has_timestamp}
 use Rattle.base.specs.Machine.{State, Cover, closed, in_hand, drawn_of, next_state, StandsClosing}
-use Rattle.pmem.specs.Device.{Device, IsOrderly, IsReady, IsSettled, LeavesOnly, flushed, fenced, failed}
+use Rattle.pmem.specs.Device.{Device, IsOrderly, flushed, fenced, failed}
+use Rattle.pmem.specs.Words.{IsReady, IsSettled, LeavesOnly}
 use Rattle.pmem.specs.declared.device.Pmem.{Ghosts}
 use Rattle.pmem.proofs.Images.{leaves_refl, leaves_trans, leaves_weaken, leaves-flushed, leaves-fenced, leaves-failed}
 use Rattle.log_area.proofs.Kept.{KeepsLog, holds_record_kept, keeps_log-flushed, keeps_log-fenced}

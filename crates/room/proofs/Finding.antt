@@ -12,7 +12,8 @@ use Rattle.base.specs.Layout.{Layout, slot_words, total_words, is_in_limits}
 use Rattle.base.specs.Images.{Image, layout_of, slot_word}
 use Rattle.base.specs.Records.{Record, is_committed}
 use Rattle.base.specs.Machine.{State}
-use Rattle.pmem.specs.Device.{Device, IsOrderly, Survives, value_of, image_of}
+use Rattle.pmem.specs.Device.{Device, IsOrderly}
+use Rattle.pmem.specs.Words.{Survives, value_of, image_of}
 use Rattle.invariant.specs.Slots.{word_of, HasVersion, Spells, IsLive, SlotHolds}
 use Rattle.invariant.proofs.Living.{IsLiving, IsOut, unbegun, ended, Outcome, outcome, living-newest, uncounted-end}
 use Rattle.version_slot.specs.declared.words.Slot.{Slot}

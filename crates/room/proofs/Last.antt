@@ -9,8 +9,9 @@ use Rattle.base.specs.Images.{Image, IsRuledBy}
 use Rattle.base.specs.Layout.{most_longs}
 use Rattle.base.specs.Records.{Record, is_in, are_apart, are_rising, is_well_formed}
 use Rattle.base.specs.Machine.{State, ByCommit, Hand, Cover, Drawn as DrawnCommit, present, standing_gaps, uncovered, state_covered, closed, closing_gate, StandsUnder, StandsClosing, StandsClosed}
-use Rattle.pmem.specs.Device.{Device, MayLeave, LeavesOnly}
-use Rattle.log_area.specs.Rulings.{HoldsRecord, HasOldWords, Spares}
+use Rattle.pmem.specs.Device.{Device, MayLeave}
+use Rattle.pmem.specs.Words.{LeavesOnly, HasOldWords, Spares}
+use Rattle.log_area.specs.Rulings.{HoldsRecord}
 use Rattle.log_area.specs.Writings.{begun, IsOutside, IsNextRecord, IsRuledByEither}
 use Rattle.log_area.proofs.Replacing.{holds_ruled}
 use Rattle.invariant.specs.Kept.{IsKept}

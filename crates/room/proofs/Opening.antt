@@ -16,9 +16,10 @@ use Rattle.base.specs.Images.{Image, layout_of, ruling, is_shown, damage, is_nea
 use Rattle.base.specs.Stands.{Stands}
 use Rattle.base.specs.Openings.{OpensAs, IsOpenedGaps, opening_record, opened_under}
 use Rattle.base.specs.Machine.{State, Session as PlainSession}
-use Rattle.pmem.specs.Device.{Device, value_of, image_of}
+use Rattle.pmem.specs.Device.{Device}
+use Rattle.pmem.specs.Words.{value_of, image_of, IsSettledAt}
 use Rattle.pmem.specs.declared.device.Pmem.{Ghosts}
-use Rattle.log_area.specs.Rulings.{Holds, HoldsRecord}
+use Rattle.log_area.specs.Rulings.{HoldsRecord}
 use Rattle.invariant.specs.Slots.{word_of}
 use Rattle.invariant.proofs.Standing.{size-of}
 use Rattle.invariant.proofs.Opening.{same_opened, whole-of, opening-of, RestsOn, opened-kept_under, opened-holds_under}
@@ -108,9 +109,9 @@ module _ (old new : Device) (layout : Layout) (r : Record) (next : ℕ) (free : 
   word-on slot w h below = subst (λ (n : ℕ). word_of (layout_of (image_of old)) slot w < n) (sym size) (word-within (layout_of (image_of old)) slot w h below)
 
   held-word : (slot w : ℕ) → slot < (layout_of (image_of old)).slots → w < slot_words (layout_of (image_of old)).version
-      → Holds new (word_of (layout_of (image_of old)) slot w) (value_of old (word_of (layout_of (image_of old)) slot w))
+      → IsSettledAt new (word_of (layout_of (image_of old)) slot w) (value_of old (word_of (layout_of (image_of old)) slot w))
   held-word slot w h below =
-      subst (λ (l : Layout). (word : ℕ) → 8 + 32 * l.places ≤ word → word < old.words → Holds new word (value_of old word)) opened.layout_is opened.slots
+      subst (λ (l : Layout). (word : ℕ) → 8 + 32 * l.places ≤ word → word < old.words → IsSettledAt new word (value_of old word)) opened.layout_is opened.slots
       (word_of (layout_of (image_of old)) slot w) (above-log (layout_of (image_of old)) slot w) (word-on slot w h below)
 
   value-there : (word : ℕ) → word < old.words → value_of old word ≡ slice_index (image_of old) word

@@ -18,19 +18,19 @@ use Rattle.base.specs.declared.step.Reply.{Reply}
 use Rattle.base.specs.declared.step.Reply.TheVariants.{Refused, Done}
 use Rattle.base.specs.Machine.{State, Version, BySession, Active as IsReading, most_writes, answered, refused, device_failed, refusal, next_state, replaced, own_slot, free_slot, held_after_put, StandsAt, StandsWithin, lacks_slot}
 use Rattle.base.proofs.Runs.{StandsAt-within}
-use Rattle.pmem.specs.Device.{Device, Survives, MayLeave, LeavesOnly, Keeps, IsOrderly, Entry, newest, survivors_in, value_of, stored}
+use Rattle.pmem.specs.Device.{Device, MayLeave, IsOrderly, Entry, newest, survivors_in, stored}
+use Rattle.pmem.specs.Words.{Survives, LeavesOnly, Keeps, value_of, Makes, OnlyShrinks, OldOr, IsSettledAt}
 use Rattle.pmem.specs.declared.device.Pmem.{Ghosts}
 use Rattle.pmem.proofs.Images.{leaves_refl, leaves_trans}
 use Rattle.txn.specs.declared.write.Write.{Write}
 use Rattle.txn.specs.WriteSets.{HasRoomFor, write_of, with_write_at, plain_writes}
-use Rattle.slot_alloc.specs.Clearing.{HasMade, IsNotStored}
-use Rattle.slot_alloc.specs.Free.{lowest_free, is_free, IsBeginOfLowest, OldOrCleared}
+use Rattle.slot_alloc.specs.Free.{lowest_free, is_free, IsBeginOfLowest, IsClear}
 use Rattle.version_slot.specs.Filling.{Fills}
 use Rattle.version_slot.specs.Words.{filled_word, IsVersion, slot_at}
 use Rattle.log_area.proofs.Kept.{holds_record_kept}
 use Rattle.invariant.specs.Kept.{IsKept, version_by, newest_of}
 use Rattle.invariant.specs.Moves.{ShrinksOthers}
-use Rattle.invariant.specs.Slots.{SlotsHold, IsSettledAt, word_of}
+use Rattle.invariant.specs.Slots.{SlotsHold, word_of}
 use Rattle.invariant.proofs.Lookups.{replaced-same, replaced-other}
 use Rattle.invariant.proofs.Moves.{within-slot, words-apart, words-apart_within, others-stored, shrinks-word_stored, slots-failed}
 use Rattle.invariant.proofs.Putting.{own_slot-held, free_slot-some, held-own, held-taken, kept-put_own, kept-put_taking, slots-put_own, slots-put_taking}
@@ -142,8 +142,8 @@ module _ (q : State) (old mid : Device) (slot : ℕ) (session : Option Session) 
       (log-stored q.layout (word_of q.layout slot 0) 0 old (omega arith) q.ruling)
       (slots-failed q (stored (word_of q.layout slot 0) 0 old) works-taking.slots)
 
-  module _ (keeps : Keeps old mid (OldOrCleared old q.layout free)) (others : (word : ℕ) → (IsBeginOfLowest q.layout free word → ⊥) → IsNotStored old mid word) where
-    not_stored : (word : ℕ) → word ≢ word_of q.layout slot 0 → IsNotStored old mid word
+  module _ (keeps : Keeps old mid (OldOr old (IsClear q.layout free))) (others : (word : ℕ) → (IsBeginOfLowest q.layout free word → ⊥) → OnlyShrinks old mid word) where
+    not_stored : (word : ℕ) → word ≢ word_of q.layout slot 0 → OnlyShrinks old mid word
     not_stored word unlike = others word (begin-alone q.layout free slot lowest word unlike)
 
     take_others : ShrinksOthers q.layout slot old mid
@@ -153,7 +153,7 @@ module _ (q : State) (old mid : Device) (slot : ℕ) (session : Option Session) 
       };
     }
 
-    take_begin : (x : ℕ) → OldOrCleared old q.layout free (word_of q.layout slot 0) x → (x ≡ 0) ⊎ Survives old (word_of q.layout slot 0) x
+    take_begin : (x : ℕ) → OldOr old (IsClear q.layout free) (word_of q.layout slot 0) x → (x ≡ 0) ⊎ Survives old (word_of q.layout slot 0) x
     take_begin x (inl there) = inr there
     take_begin x (inr part) = inl part.1
 
@@ -323,7 +323,7 @@ module _ (q : State) (device : Device) (key : Key) (row : List ℕ) (writes : Li
 -- the version is stored in the slot, or the device fails meanwhile; a slot may have been taken before
 module _ {D : Type 0} {G : Ghosts D} (state : D → Device) (old mid new : Room D G) (q : State) (key : Key) (row : List ℕ) (slot : ℕ) (replaces : Option ℕ) (writes : List Write) (reply : Reply) (shown : Shows state old q)
     (numbers : mid.numbers ≡ old.numbers) (cycle : mid.cycle ≡ old.cycle) (batch : mid.batch ≡ old.batch) (still_up : mid.failed ≡ old.failed) (allowed : refusal q (Put 2 key row) ≡ None)
-    (taken : ℕ) (few : taken ≤ 1) (made : HasMade taken taken taken 0 (state old.device) (state mid.device)) (mid_images : (q' : State) → LeavesOnly (state old.device) (state mid.device) (StandsWithin q q')) where
+    (taken : ℕ) (few : taken ≤ 1) (made : Makes taken taken taken 0 (state old.device) (state mid.device)) (mid_images : (q' : State) → LeavesOnly (state old.device) (state mid.device) (StandsWithin q q')) where
   layout_mid : q.layout ≡ mid.numbers.geometry
   layout_mid = shown.agrees.layout ∙ ap (λ (n : Numbers). n.geometry) (sym numbers)
 
@@ -463,13 +463,13 @@ module _ {D : Type 0} {G : Ghosts D} (state : D → Device) (old : Room D G) (q 
     )
 
     module _ (mid new : Room D G) (slot : ℕ) (reply : Reply) (numbers : mid.numbers ≡ old.numbers) (cycle : mid.cycle ≡ old.cycle) (batch : mid.batch ≡ old.batch) (lowest : lowest_free old.slots ≡ Some slot)
-        (keeps : Keeps (state old.device) (state mid.device) (OldOrCleared (state old.device) old.numbers.geometry old.slots))
-        (others : (word : ℕ) → (IsBeginOfLowest old.numbers.geometry old.slots word → ⊥) → IsNotStored (state old.device) (state mid.device) word) where
-      keeps_q : Keeps (state old.device) (state mid.device) (OldOrCleared (state old.device) q.layout old.slots)
-      keeps_q = subst (λ (a : Layout). Keeps (state old.device) (state mid.device) (OldOrCleared (state old.device) a old.slots)) (sym shown.agrees.layout) keeps
+        (keeps : Keeps (state old.device) (state mid.device) (OldOr (state old.device) (IsClear old.numbers.geometry old.slots)))
+        (others : (word : ℕ) → (IsBeginOfLowest old.numbers.geometry old.slots word → ⊥) → OnlyShrinks (state old.device) (state mid.device) word) where
+      keeps_q : Keeps (state old.device) (state mid.device) (OldOr (state old.device) (IsClear q.layout old.slots))
+      keeps_q = subst (λ (a : Layout). Keeps (state old.device) (state mid.device) (OldOr (state old.device) (IsClear a old.slots))) (sym shown.agrees.layout) keeps
 
-      others_q : (word : ℕ) → (IsBeginOfLowest q.layout old.slots word → ⊥) → IsNotStored (state old.device) (state mid.device) word
-      others_q = subst (λ (a : Layout). (word : ℕ) → (IsBeginOfLowest a old.slots word → ⊥) → IsNotStored (state old.device) (state mid.device) word) (sym shown.agrees.layout) others
+      others_q : (word : ℕ) → (IsBeginOfLowest q.layout old.slots word → ⊥) → OnlyShrinks (state old.device) (state mid.device) word
+      others_q = subst (λ (a : Layout). (word : ℕ) → (IsBeginOfLowest a old.slots word → ⊥) → OnlyShrinks (state old.device) (state mid.device) word) (sym shown.agrees.layout) others
 
       at_mid : Works q (state mid.device) (Some (Active writes)) old.cycle old.batch old.slots
       at_mid = works-taken q (state old.device) (state mid.device) slot (Some (Active writes)) old.cycle old.batch old.slots refl old_works lowest keeps_q others_q
@@ -481,7 +481,7 @@ module _ {D : Type 0} {G : Ghosts D} (state : D → Device) (old : Room D G) (q 
       mid_refusal = taking-refusal q (state old.device) key row writes old.cycle old.batch old.slots old_up old_works room unheld short slot lowest
 
       -- the device failed while the slot was taken
-      put-taking_fails : state new.device ≡ state mid.device → TellsOfDevice mid new reply → (stores flushes : ℕ) → stores ≤ 1 → flushes ≤ stores → HasMade stores flushes 0 1 (state old.device) (state mid.device)
+      put-taking_fails : state new.device ≡ state mid.device → TellsOfDevice mid new reply → (stores flushes : ℕ) → stores ≤ 1 → flushes ≤ stores → Makes stores flushes 0 1 (state old.device) (state mid.device)
           → StepsTo state old new (Put 2 key row) reply q (record q { failed = true })
       put-taking_fails same tells stores flushes few fewer made = record {
         stepped = device_failed mid_refusal refl tells.told refl;
@@ -502,7 +502,7 @@ module _ {D : Type 0} {G : Ghosts D} (state : D → Device) (old : Room D G) (q 
           failures = ap (λ (d : Device). d.failures) same ∙ made.failures
 
       -- the slot is taken, and the version then stored in it or not
-      pub put-taken_steps : mid.slots ≡ set old.slots slot false → mid.failed ≡ old.failed → survivors_in ((state mid.device).history (slot_start old.numbers.geometry slot)) ≡ 0 ∷ [] → HasMade 1 1 1 0 (state old.device) (state mid.device)
+      pub put-taken_steps : mid.slots ≡ set old.slots slot false → mid.failed ≡ old.failed → survivors_in ((state mid.device).history (slot_start old.numbers.geometry slot)) ≡ 0 ∷ [] → Makes 1 1 1 0 (state old.device) (state mid.device)
           → HasFilled state mid new writes slot key row replaces reply ⊎ FailsFilling state mid new slot key row replaces reply → (q' : State) × StepsTo state old new (Put 2 key row) reply q q'
       put-taken_steps slots still_up cleared made =
           put-either state old mid new q key row slot replaces writes reply shown numbers cycle batch still_up mid_refusal 1 (omega arith) made mid_images
@@ -528,9 +528,9 @@ module _ {D : Type 0} {G : Ghosts D} (state : D → Device) (old : Room D G) (q 
 
     -- the device failed while the slot that was to be taken was cleared
     pub put-taking_steps : (mid new : Room D G) (reply : Reply) → TellsOfDevice mid new reply → mid.numbers ≡ old.numbers → mid.cycle ≡ old.cycle → mid.batch ≡ old.batch → (lowest_free old.slots ≡ None → ⊥)
-        → Keeps (state old.device) (state mid.device) (OldOrCleared (state old.device) old.numbers.geometry old.slots)
-        → ((word : ℕ) → (IsBeginOfLowest old.numbers.geometry old.slots word → ⊥) → IsNotStored (state old.device) (state mid.device) word)
-        → ((stores : ℕ) × (flushes : ℕ) × (stores ≤ 1) × (flushes ≤ stores) × HasMade stores flushes 0 1 (state old.device) (state mid.device))
+        → Keeps (state old.device) (state mid.device) (OldOr (state old.device) (IsClear old.numbers.geometry old.slots))
+        → ((word : ℕ) → (IsBeginOfLowest old.numbers.geometry old.slots word → ⊥) → OnlyShrinks (state old.device) (state mid.device) word)
+        → ((stores : ℕ) × (flushes : ℕ) × (stores ≤ 1) × (flushes ≤ stores) × Makes stores flushes 0 1 (state old.device) (state mid.device))
         → state new.device ≡ state mid.device → (q' : State) × StepsTo state old new (Put 2 key row) reply q q'
     put-taking_steps mid new reply tells numbers cycle batch some keeps others made same = by_lowest (lowest_free old.slots) refl
       where

@@ -25,7 +25,8 @@ use Rattle.txn.proofs.Rising.{find_from_at}
 use Rattle.log_area.specs.Rulings.{HoldsRecord}
 use Rattle.invariant.specs.Kept.{IsKept, version_by, newest_of}
 use Rattle.invariant.specs.Moves.{HasStamps, IsHeldAt, StampsNext}
-use Rattle.invariant.specs.Slots.{SlotsHold, IsSettledAt, word_of, is_key_stamped}
+use Rattle.invariant.specs.Slots.{SlotsHold, word_of, is_key_stamped}
+use Rattle.pmem.specs.Words.{IsSettledAt}
 use Rattle.invariant.proofs.Stamping.{kept-stamp, slots-stamp_any, slots-stamping_any, next-alone, held-there, deletion-nowhere, absent-nowhere, apart-newest}
 use Rattle.invariant.proofs.Filling.{begin-unstamped}
 use Rattle.room.specs.declared.cycle.Cycle.{Cycle}

@@ -5,16 +5,17 @@ use Rattle.std.proofs.lemmas.Bool.{cases_lt, cases_order}
 use Rattle.base.specs.Images.{Image}
 use Rattle.base.specs.Layout.{Layout, slot_start, slot_words}
 use Rattle.base.specs.Records.{Record}
-use Rattle.pmem.specs.Device.{Device, MayLeave, LeavesOnly, IsOrderly, Survives, value_of}
+use Rattle.pmem.specs.Device.{Device, MayLeave, IsOrderly}
+use Rattle.pmem.specs.Words.{LeavesOnly, Survives, value_of, OldOr, OnlyShrinks, IsSettledAt, operations_of}
 use Rattle.pmem.proofs.Images.{leaves_refl, leaves_trans}
 use Rattle.txn.specs.declared.write.Write.{Write}
-use Rattle.version_slot.specs.Filling.{OldOrRun, StoresRun, Stamps}
+use Rattle.version_slot.specs.Filling.{StoresRun, Stamps, IsOfRun}
 use Rattle.log_area.specs.Rulings.{HoldsRecord}
-use Rattle.invariant.specs.Moves.{ShrinksWord, ShrinksSlots, ShrinksOthers, IsStampedWith, IsEndedWith, HasStamps}
-use Rattle.invariant.specs.Slots.{word_of, IsSettledAt}
-use Rattle.invariant.proofs.Moves.{within-slot, each-settled, shrinks_refl}
+use Rattle.invariant.specs.Moves.{ShrinksSlots, ShrinksOthers, IsStampedWith, IsEndedWith, HasStamps}
+use Rattle.invariant.specs.Slots.{word_of}
+use Rattle.invariant.proofs.Moves.{within-slot, shrinks_refl}
+use Rattle.pmem.proofs.Changes.{each-settled}
 use Rattle.invariant.proofs.Ending.{stamps-none, stamps-begun, stamps-ended, stamps-shrink}
-use Rattle.room.specs.Room.{operations_of}
 use Rattle.room.specs.Storing.{StampsAt, StampsWrite, FailsAt, FailsStampingWrite}
 use Rattle.room.proofs.Storing.{shrinks-same, run_others, run_record, run_before, run_after, survives_still, run_leaves}
 
@@ -33,15 +34,15 @@ module _ (a : Layout) (slot v t n failed : ℕ) (old new : Device) (of_two : v <
   pub stamping_record : (r : Record) → HoldsRecord a r old → HoldsRecord a r new
   stamping_record = run_record a slot v n failed (word_of a slot v) refl fits_word (λ k. t) old new run
 
-  pub stamping_word : (w : ℕ) → (w ≡ v → ⊥) → ShrinksWord old new (word_of a slot w)
+  pub stamping_word : (w : ℕ) → (w ≡ v → ⊥) → OnlyShrinks old new (word_of a slot w)
   stamping_word w apart = by_order (cases_order w v)
     where
-      by_order : (w ≡ v) ⊎ ((w < v) ⊎ (v < w)) → ShrinksWord old new (word_of a slot w)
+      by_order : (w ≡ v) ⊎ ((w < v) ⊎ (v < w)) → OnlyShrinks old new (word_of a slot w)
       by_order (inl same) = absurd (apart same)
       by_order (inr (inl before)) = shrinks-same (word_of a slot w) (run_before a slot v n failed (word_of a slot v) refl fits_word (λ k. t) old new run w before)
       by_order (inr (inr after)) = shrinks-same (word_of a slot w) (run_after a slot v n failed (word_of a slot v) refl fits_word (λ k. t) old new run w (omega (arith, after, le)))
 
-  old_or_stamp : (x : ℕ) → OldOrRun old (word_of a slot v) (λ k. t) n (word_of a slot v) x → Survives old (word_of a slot v) x ⊎ (x ≡ t)
+  old_or_stamp : (x : ℕ) → OldOr old (IsOfRun (word_of a slot v) (λ k. t) n) (word_of a slot v) x → Survives old (word_of a slot v) x ⊎ (x ≡ t)
   old_or_stamp x (inl there) = inl there
   old_or_stamp x (inr part) = inr part.3
 

@@ -10,12 +10,13 @@ use Rattle.base.proofs.Runs.{StandsAt-within}
 use Rattle.std.specs.Prelude.{Some, List, Contains}
 use Rattle.base.specs.Commits.{Commit}
 use Rattle.base.specs.Stands.{Stands}
-use Rattle.pmem.specs.Device.{Device, IsOrderly, LeavesOnly, MayLeave}
+use Rattle.pmem.specs.Device.{Device, IsOrderly, MayLeave}
+use Rattle.pmem.specs.Words.{LeavesOnly, operations_of}
 use Rattle.pmem.specs.declared.device.Pmem.{Ghosts}
 use Rattle.pmem.proofs.Images.{leaves_refl}
 use Rattle.room.specs.declared.room.Room.{Room}
 use Rattle.base.specs.Images.{Image}
-use Rattle.room.specs.Room.{Shows, StepsTo, TellsFailure, operations_of}
+use Rattle.room.specs.Room.{Shows, StepsTo, TellsFailure}
 
 -- a step that leaves the room and the state as they are
 pub stays : {D : Type 0} {G : Ghosts D} (state : D → Device) (room : Room D G) (q : State) (step : Step) (reply : Reply)

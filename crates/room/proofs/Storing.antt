@@ -5,30 +5,30 @@ use Rattle.std.proofs.lemmas.Bool.{cases_lt, cases_eq, cases_order}
 use Rattle.base.specs.Images.{Image, layout_of, slot_word}
 use Rattle.base.specs.Layout.{Layout, slot_start, slot_words, total_words}
 use Rattle.base.specs.Records.{Record}
-use Rattle.pmem.specs.Device.{Entry, Device, newest, survivors_in, IsAmong, IsReadyIn, MayLeave, LeavesOnly, Survives, value_of, Keeps, stored}
+use Rattle.pmem.specs.Device.{Entry, Device, newest, survivors_in, IsAmong, IsReadyIn, MayLeave, stored}
+use Rattle.pmem.specs.Words.{LeavesOnly, Survives, value_of, Keeps, OnlyShrinks, OldOr, IsSettledAt}
 use Rattle.pmem.proofs.Steps.{history-stored_other, survivors-stored_same}
-use Rattle.slot_alloc.specs.Clearing.{IsNotStored}
-use Rattle.slot_alloc.specs.Free.{lowest_free, OldOrCleared}
+use Rattle.slot_alloc.specs.Free.{lowest_free, IsClear}
 use Rattle.version_slot.specs.declared.words.Version.{Version}
-use Rattle.version_slot.specs.Filling.{OldOrRun, StoresRun, Fills}
+use Rattle.version_slot.specs.Filling.{StoresRun, Fills, IsOfRun}
 use Rattle.version_slot.specs.Words.{filled_word, IsVersion, slot_at}
 use Rattle.version_slot.proofs.ImageSlots.{key_is, row_is_of, well_formed}
-use Rattle.log_area.specs.Rulings.{HoldsRecord, IsKept as IsKeptWord}
+use Rattle.log_area.specs.Rulings.{HoldsRecord}
 use Rattle.log_area.proofs.Kept.{KeepsLog, holds_record_kept}
-use Rattle.invariant.specs.Moves.{ShrinksWord, ShrinksOthers, IsCleared, IsRefilled}
-use Rattle.invariant.specs.Slots.{word_of, IsSettledAt, Spells, HasVersion}
+use Rattle.invariant.specs.Moves.{ShrinksOthers, IsCleared, IsRefilled}
+use Rattle.invariant.specs.Slots.{word_of, Spells, HasVersion}
 use Rattle.invariant.proofs.Moves.{within-slot}
 
 -- ---- a word with the history that it had
 
-pub shrinks-same : {old new : Device} (word : ℕ) → new.history word ≡ old.history word → ShrinksWord old new word
+pub shrinks-same : {old new : Device} (word : ℕ) → new.history word ≡ old.history word → OnlyShrinks old new word
 shrinks-same word same = record {
   value = ap newest same;
   survives = λ x there. subst (λ (h : List Entry). IsAmong (survivors_in h) x) same there;
   settled = λ settled. subst (λ (h : List Entry). survivors_in h ≡ newest h ∷ []) (sym same) settled;
 }
 
-kept-same : {old new : Device} (word : ℕ) → new.history word ≡ old.history word → IsKeptWord old new word
+kept-same : {old new : Device} (word : ℕ) → new.history word ≡ old.history word → OnlyShrinks old new word
 kept-same word same = record {
   value = ap newest same;
   survivors = λ x there. subst (λ (h : List Entry). IsAmong (survivors_in h) x) same there;
@@ -36,7 +36,7 @@ kept-same word same = record {
   ready = λ actor ready. subst (IsReadyIn actor) (sym same) ready;
 }
 
-pub settled_at-same : {old new : Device} (word value : ℕ) → ShrinksWord old new word → IsSettledAt old word value → IsSettledAt new word value
+pub settled_at-same : {old new : Device} (word value : ℕ) → OnlyShrinks old new word → IsSettledAt old word value → IsSettledAt new word value
 settled_at-same word value on at = record { settled = on.settled at.settled; holds = on.value ∙ at.holds }
 
 -- ---- words beside a run within a slot
@@ -96,7 +96,7 @@ module _ (first : ℕ) (value : ℕ → ℕ) (n failed : ℕ) (old new : Device)
           let list = ap (λ (i : ℕ). survivors_in (new.history i)) (sym place) ∙ run.survivors (word - first) (omega arith) in
           subst (λ (l : List ℕ). IsAmong l x) (sym list) (inr (subst (λ (i : ℕ). IsAmong (survivors_in (old.history i)) x) (sym place) there))
 
-  survives_new : (word x : ℕ) → OldOrRun old first value n word x → Survives new word x
+  survives_new : (word x : ℕ) → OldOr old (IsOfRun first value n) word x → Survives new word x
   survives_new word x (inl there) = survives_still word x there
   survives_new word x (inr part) =
       subst (λ (i : ℕ). IsAmong (survivors_in (new.history i)) x) (sym part.2)
@@ -113,8 +113,8 @@ module _ (first : ℕ) (value : ℕ → ℕ) (n failed : ℕ) (old new : Device)
   }
 
 -- while the lowest free slot is taken: no more than what a store of 0 in its begin leaves
-module _ (a : Layout) (free : List Bool) (slot : ℕ) (lowest : lowest_free free ≡ Some slot) (old new : Device) (keeps : Keeps old new (OldOrCleared old a free)) where
-  pub survives_cleared : (word x : ℕ) → OldOrCleared old a free word x → Survives (stored (word_of a slot 0) 0 old) word x
+module _ (a : Layout) (free : List Bool) (slot : ℕ) (lowest : lowest_free free ≡ Some slot) (old new : Device) (keeps : Keeps old new (OldOr old (IsClear a free))) where
+  pub survives_cleared : (word x : ℕ) → OldOr old (IsClear a free) word x → Survives (stored (word_of a slot 0) 0 old) word x
   survives_cleared word x (inl there) = by_place (cases_eq word (word_of a slot 0))
     where
       by_place : (word ≡ word_of a slot 0) ⊎ (word ≢ word_of a slot 0) → Survives (stored (word_of a slot 0) 0 old) word x
@@ -139,10 +139,10 @@ module _ (a : Layout) (free : List Bool) (slot : ℕ) (lowest : lowest_free free
   }
 
 -- what is no word of that begin shrinks
-pub shrinks-not_stored : {old new : Device} {word : ℕ} → IsNotStored old new word → ShrinksWord old new word
+pub shrinks-not_stored : {old new : Device} {word : ℕ} → OnlyShrinks old new word → OnlyShrinks old new word
 shrinks-not_stored is = record { value = is.value; survives = is.survivors; settled = is.settled }
 
-pub kept-not_stored : {old new : Device} {word : ℕ} → IsNotStored old new word → IsKeptWord old new word
+pub kept-not_stored : {old new : Device} {word : ℕ} → OnlyShrinks old new word → OnlyShrinks old new word
 kept-not_stored is = record { value = is.value; survivors = is.survivors; settled = is.settled; ready = is.ready }
 
 -- ---- the row that is stored is there to be read
@@ -183,7 +183,7 @@ module _ (a : Layout) (slot n failed : ℕ) (v : Version) (old new : Device) (le
   pub filling_record : (r : Record) → HoldsRecord a r old → HoldsRecord a r new
   filling_record = run_record a slot 1 n failed (slot_start a slot + 1) first_at fits_slot (λ k. filled_word v (k + 1)) old new run
 
-  end_word : (x : ℕ) → OldOrRun old (slot_start a slot + 1) (λ k. filled_word v (k + 1)) n (word_of a slot 1) x → (x ≡ 0) ⊎ Survives old (word_of a slot 1) x
+  end_word : (x : ℕ) → OldOr old (IsOfRun (slot_start a slot + 1) (λ k. filled_word v (k + 1)) n) (word_of a slot 1) x → (x ≡ 0) ⊎ Survives old (word_of a slot 1) x
   end_word x (inl there) = inr there
   end_word x (inr part) =
       let zero : part.0 ≡ 0 = omega (arith, part.2) in

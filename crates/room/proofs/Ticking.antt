@@ -21,14 +21,15 @@ use Rattle.base.specs.Stands.{has_timestamp}
 use Rattle.base.specs.Images.{Image}
 use Rattle.base.specs.Machine.{State, ByCommit, answered, device_failed, Hand, Drawn as DrawnCommit, present, of_hand, covers_at, state_covered, refusal, operates, most_operations, ticked, ticked_on, state_ticked, state_ticked_on, next_stage, stages, batch_of, StandsUnder, StandsAsOne, StandsAt, StandsWithin}
 use Rattle.base.proofs.Runs.{StandsAt-within}
-use Rattle.pmem.specs.Device.{Device, IsOrderly, MayLeave, Continues, IsSettled, IsReady, stored, flushed, fenced, failed}
+use Rattle.pmem.specs.Device.{Device, IsOrderly, MayLeave, stored, flushed, fenced, failed}
+use Rattle.pmem.specs.Words.{Continues, IsSettled, IsReady, OnlyShrinks, operations_of}
 use Rattle.pmem.specs.declared.device.Pmem.{Ghosts}
 use Rattle.pmem.specs.Trace.{applied}
 use Rattle.pmem.proofs.Images.{leaves_one, leaves-failed, continues-stored, continues-flushed, continues-fenced}
 use Rattle.pmem.proofs.Steps.{settled-ready, ready-flushed, ready-flushed_by}
 use Rattle.log_area.specs.declared.stage.WritingStage.{WritingStage}
 use Rattle.log_area.specs.declared.stage.WritingStage.TheVariants.{StoreBody, FlushBody, FenceBody, StoreGate, FlushGate, FenceGate, Done}
-use Rattle.log_area.specs.Rulings.{HoldsRecord, IsRecordFor, IsKept as IsKeptWord}
+use Rattle.log_area.specs.Rulings.{HoldsRecord, IsRecordFor}
 use Rattle.log_area.specs.Stages.{IsStage, reached_by, operations_before, next_stage as after_stage}
 use Rattle.log_area.specs.Writings.{Progress, begun, advanced, start_of, operation_at, operation_of, IsAt, IsReplacing, IsOutside}
 use Rattle.log_area.proofs.Kept.{holds_record_kept, keeps_log-flushed, keeps_log-fenced}
@@ -52,7 +53,7 @@ use Rattle.room.specs.declared.room.Room.{Room}
 use Rattle.room.specs.Agrees.{Works, HoldsLog, HoldsStage, IsCycleOf, IsCovering, IsLineFlushed, AreFlushed, hand_of, ticks_of}
 use Rattle.room.specs.Sessions.{plain_session, session_at, commit_of, lines_in}
 use Rattle.room.specs.Fits.{is_under_way, fits_cycle}
-use Rattle.room.specs.Room.{Shows, StepsTo, HasFailed, HasCovered, covering, operations_of}
+use Rattle.room.specs.Room.{Shows, StepsTo, HasFailed, HasCovered, covering}
 use Rattle.invariant.proofs.Standing.{known-version}
 use Rattle.invariant.proofs.Covers.{stands-in_hand}
 use Rattle.room.proofs.Standing.{stands-ruled, stands-second, word-within, has-batch}
@@ -482,7 +483,7 @@ slot-outside a p slot w same limits = inr above
     above = omega (arith, place_below p.layout p.target limits, places)
 
 -- the writing keeps the slots
-pub shrinks-outside : (a : Layout) (p : Progress) (old new : Device) → p.layout ≡ a → is_in_limits p.layout ≡ true → ((word : ℕ) → IsOutside p word → IsKeptWord old new word) → ShrinksSlots a old new
+pub shrinks-outside : (a : Layout) (p : Progress) (old new : Device) → p.layout ≡ a → is_in_limits p.layout ≡ true → ((word : ℕ) → IsOutside p word → OnlyShrinks old new word) → ShrinksSlots a old new
 shrinks-outside a p old new same limits kept = record {
   each = λ slot lt. record {
     each = λ w below.
@@ -496,7 +497,7 @@ pub record MakesTick (p p' : Progress) (old new : Device) : Type 0 where
   pub under_way : is_under_way p.stage ≡ true
   pub advances : p' ≡ advanced p
   pub operation : new ≡ applied (operation_of p) old
-  pub outside : (word : ℕ) → IsOutside p word → IsKeptWord old new word
+  pub outside : (word : ℕ) → IsOutside p word → OnlyShrinks old new word
   pub replaces : (ruling : Record) → IsReplacing ruling p old → IsReplacing ruling p' new
   pub done : (ruling : Record) → IsReplacing ruling p old → p'.stage ≡ Done → HoldsRecord p'.layout p'.target new
 

@@ -5,9 +5,10 @@ use Rattle.base.specs.Images.{Image}
 use Rattle.base.specs.Layout.{Layout}
 use Rattle.base.specs.Records.{Record}
 use Rattle.base.specs.Machine.{State, closing_gate, StandsClosing, StandsClosed}
-use Rattle.pmem.specs.Device.{Device, MayLeave, LeavesOnly}
+use Rattle.pmem.specs.Device.{Device, MayLeave}
+use Rattle.pmem.specs.Words.{LeavesOnly, Spares}
 use Rattle.pmem.specs.declared.device.Pmem.{Ghosts}
-use Rattle.log_area.specs.Rulings.{HoldsRecord, Spares}
+use Rattle.log_area.specs.Rulings.{HoldsRecord}
 use Rattle.log_area.specs.Writings.{begun, IsOutside, IsNextRecord, IsRuledByEither}
 use Rattle.room.specs.declared.numbers.Numbers.{Numbers}
 use Rattle.room.specs.declared.room.Room.{Room}

@@ -7,7 +7,8 @@ use Rattle.base.specs.Records.{Record}
 use Rattle.base.specs.Stands.{has_timestamp}
 use Rattle.base.specs.Restrictions.{first_limits}
 use Rattle.base.specs.Machine.{State, Hand, Version, Writer, BySession, ByCommit, is_nil, state_covered}
-use Rattle.pmem.specs.Device.{Device, IsReady}
+use Rattle.pmem.specs.Device.{Device}
+use Rattle.pmem.specs.Words.{IsReady}
 use Rattle.pmem.specs.declared.device.Pmem.{Ghosts}
 use Rattle.txn.specs.declared.write.Write.{Write}
 use Rattle.txn.specs.WriteSets.{IsRising, touched}

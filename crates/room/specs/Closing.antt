@@ -5,7 +5,8 @@ use Rattle.base.specs.declared.fault.Fault.TheVariants.{Device as DeviceFault}
 use Rattle.base.specs.Images.{Image}
 use Rattle.base.specs.Layout.{Layout, slot_words}
 use Rattle.base.specs.Machine.{State, closing_gate, closing_fault, StandsClosing, StandsClosed}
-use Rattle.pmem.specs.Device.{Device, IsReady, LeavesOnly}
+use Rattle.pmem.specs.Device.{Device}
+use Rattle.pmem.specs.Words.{IsReady, LeavesOnly, HasNoFailure}
 use Rattle.pmem.specs.declared.device.Pmem.{Ghosts}
 use Rattle.txn.specs.declared.write.Write.{Write}
 use Rattle.txn.specs.WriteSets.{touched}
@@ -20,7 +21,7 @@ use Rattle.room.specs.declared.cycle.InHand.{InHand}
 use Rattle.room.specs.declared.session.Session.{Session}
 use Rattle.room.specs.declared.session.Session.TheVariants.{Drawn}
 use Rattle.room.specs.declared.room.Room.{Room}
-use Rattle.room.specs.Room.{Shows, HasNoFailure, device_of}
+use Rattle.room.specs.Room.{Shows, device_of}
 use Rattle.room.specs.Sessions.{lines_in}
 
 -- ---- ticks

@@ -7,7 +7,8 @@ use Rattle.base.specs.declared.step.Reply.TheVariants.{Refused, Idle, Covered as
 use Rattle.base.specs.Records.{Record}
 use Rattle.base.specs.Images.{Image}
 use Rattle.base.specs.Machine.{State, Stepped, most_operations, most_operations_along, Run, final, StandsAt, StandsWithin, StandsAlong}
-use Rattle.pmem.specs.Device.{Device, MayLeave, LeavesOnly}
+use Rattle.pmem.specs.Device.{Device, MayLeave}
+use Rattle.pmem.specs.Words.{LeavesOnly}
 use Rattle.pmem.specs.declared.device.Pmem.{Ghosts}
 use Rattle.room.specs.Agrees.{Agrees}
 use Rattle.room.specs.declared.cycle.InHand.{InHand}

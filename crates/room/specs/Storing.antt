@@ -5,7 +5,8 @@ use Rattle.base.specs.declared.fault.Fault.TheVariants.{Device as DeviceFault}
 use Rattle.base.specs.declared.step.Reply.{Reply}
 use Rattle.base.specs.declared.step.Reply.TheVariants.{Done, More, Stamped, Refused}
 use Rattle.base.specs.Layout.{Layout, slot_start, slot_words}
-use Rattle.pmem.specs.Device.{Device, value_of}
+use Rattle.pmem.specs.Device.{Device}
+use Rattle.pmem.specs.Words.{value_of}
 use Rattle.pmem.specs.declared.device.Pmem.{Ghosts}
 use Rattle.txn.specs.declared.write.Write.{Write}
 use Rattle.txn.specs.WriteSets.{with_write_at}

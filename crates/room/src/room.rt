@@ -55,10 +55,9 @@ impl<D: Pmem + Drop + Send + Sync> Room<D> {
     ghost use Rattle.base.specs.Stands.{Stands};
     ghost use Rattle.base.specs.Machine.{State};
     ghost use Rattle.base.specs.Openings.{OpensAs, StandsOpening};
-    ghost use Rattle.pmem.specs.Device.{LeavesOnly, IsAtRest, value_of, image_of};
-    ghost use Rattle.log_area.specs.Rulings.{Holds, Makes};
+    ghost use Rattle.pmem.specs.Words.{LeavesOnly, IsAtRest, value_of, image_of, IsSettledAt, Makes, HasNoFailure};
     ghost use Rattle.recovery.specs.Opened.{IsRefusal};
-    ghost use Rattle.room.specs.Room.{Shows, device_of, HasNoFailure};
+    ghost use Rattle.room.specs.Room.{Shows, device_of};
 
     /// Opens a device at rest, and gives it back where it is refused.
     pub fn open<R: Threads + Sync>(rt: &R, alloc: Global, device: D) -> Result<Room<D>, (Fault, D)>
@@ -75,10 +74,10 @@ impl<D: Pmem + Drop + Send + Sync> Room<D> {
         ensures fault { IfErr result (λ e. IsRefusal (opening_fault (image_of (D.state device))) (D.state device) (D.state e.1) e.0) }
 
         // It makes the operations of one record, and the words of superblock and slots are settled as they were.
-        ensures made { IfOk result (λ room. Makes 32 5 2 (D.state device) (device_of D.state room)) }
-        ensures superblock { IfOk result (λ room. (word : ℕ) → word < 8 → Holds (device_of D.state room) word (value_of (D.state device) word)) }
+        ensures made { IfOk result (λ room. Makes 32 5 2 0 (D.state device) (device_of D.state room)) }
+        ensures superblock { IfOk result (λ room. (word : ℕ) → word < 8 → IsSettledAt (device_of D.state room) word (value_of (D.state device) word)) }
         ensures slots { IfOk result (λ room. (word : ℕ) → 8 + 32 * (layout_of (image_of (D.state device))).places ≤ word → word < (D.state device).words
-            → Holds (device_of D.state room) word (value_of (D.state device) word)) }
+            → IsSettledAt (device_of D.state room) word (value_of (D.state device) word)) }
 
         // A crash at any moment leaves the same history, under the record that ruled or the one that the
         // opening writes. What was drawn and not covered is left out.
@@ -120,7 +119,7 @@ impl<D: Pmem + Drop> Room<D> {
     ghost use Rattle.std.specs.Prelude.{ℕ, ◌+◌, ◌^◌, None, Some, IfSome, IfNone, IfOk, IfErr, OnOk, OnErr, MatchResult};
     ghost use Rattle.base.specs.Images.{Image};
     ghost use Rattle.base.specs.Machine.{State, StandsClosing, StandsClosed, closing_gate, closing_fault};
-    ghost use Rattle.pmem.specs.Device.{LeavesOnly, MayLeave};
+    ghost use Rattle.pmem.specs.Device.{MayLeave};
     ghost use Rattle.base.specs.declared.step.Step.TheVariants.{Begin, Get, Put, Delete, Draw, Stamp, Poll, Abort, End, Commit};
     ghost use Rattle.txn.specs.WriteSets.{HasRoomFor, write_of};
     ghost use Rattle.room.specs.declared.cycle.CycleStage.TheVariants.{FlushLines};
@@ -131,7 +130,7 @@ impl<D: Pmem + Drop> Room<D> {
     ghost use Rattle.room.specs.Fits.{fits_slot, fits_write, fits_writes};
     ghost use Rattle.room.specs.Sessions.{session_at, awaits, lines_in, HasNoSlot, IsActiveAt, is_active_at, inactive_fault};
     ghost use Rattle.room.specs.Tables.{HoldsTables, IsNewestAt, Replaces};
-    ghost use Rattle.room.specs.Room.{Shows, device_of, StepsTo, ShowsStatus, HasFailed, HasCovered, HasNoFailure, covering};
+    ghost use Rattle.room.specs.Room.{Shows, device_of, StepsTo, ShowsStatus, HasFailed, HasCovered, covering};
     ghost use Rattle.invariant.specs.Moves.{IsSlotSettled};
     ghost use Rattle.room.specs.Closing.{IsClosingRefusal, GoesOn, IsDonePart, IsFailedPart, IsFlushPart, KeepsAllButDevice, IsSlotReady, AreReadyAt, IsReadyFor, AreReadyFor, HasPersisted, is_all_stamped, drawn_writes};
     ghost use Rattle.room.specs.Storing.{TellsOfDevice, HasFilled, FailsFilling, HasDeleted, HasStamped, FailsStamping};

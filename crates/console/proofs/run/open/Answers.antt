@@ -4,7 +4,7 @@ use Rattle.base.specs.Images.{Image, opening_fault}
 use Rattle.base.specs.Machine.{State}
 use Rattle.base.specs.Openings.{OpensAs}
 use Rattle.base.specs.Stands.{Stands}
-use Rattle.pmem.specs.Device.{IsAtRest, image_of}
+use Rattle.pmem.specs.Words.{IsAtRest, image_of}
 use Rattle.pmem_model.specs.Sim.{device_of}
 use Rattle.room.specs.Room.{Shows}
 use Rattle.recovery.proofs.Restarted.{restarted-rests, image-restarted}

@@ -1,6 +1,7 @@
 use Rattle.std.proofs.Common.{◌∷◌, ◌++◌, [], subst}
 use Rattle.std.specs.Prelude.{codes}
-use Rattle.pmem.specs.Device.{Device, image_of}
+use Rattle.pmem.specs.Device.{Device}
+use Rattle.pmem.specs.Words.{image_of}
 use Rattle.pmem_model.specs.Chosen.{IsChosen}
 use Rattle.pmem_model.specs.Sim.{device_of}
 use Rattle.command_line.specs.Texts.{survivor_text}

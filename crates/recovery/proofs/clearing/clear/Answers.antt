@@ -1,6 +1,6 @@
 use Rattle.std.proofs.Common.{ℕ, ◌-◌, ◌/◌, ◌<◌, ◌∙◌, subst, arith}
-use Rattle.log_area.specs.Rulings.{Makes}
-use Rattle.log_area.proofs.Runs.{spares_trans, spares-fenced, spares-failed}
+use Rattle.pmem.specs.Words.{Makes}
+use Rattle.pmem.proofs.Spares.{spares_trans, spares-fenced, spares-failed}
 use Rattle.recovery.proofs.Zeros.{holds-fenced, made-clear}
 use Rattle.recovery.proofs.clearing.clear.Goals as goal
 
@@ -36,6 +36,6 @@ returns-clause-holds g c =
 pub returns-clause-made : goal.returns-clause-made
 returns-clause-made g c =
     let state = g.D.Pmem.state in
-    subst (λ (n : ℕ). Makes (n - 8) (n / 8 - 1) 1 (state c.args.device.now) (state c.fence.new.self)) c.words-words.ensures
+    subst (λ (n : ℕ). Makes (n - 8) (n / 8 - 1) 1 0 (state c.args.device.now) (state c.fence.new.self)) c.words-words.ensures
     (made-clear (c.words-words.result - 8) (c.words-words.result / 8 - 1) (state c.args.device.now) (state c.store_zeros.new.device) (state c.flush_lines.new.device) (state c.fence.new.self) c.new-committer.result.number
     c.in_ok-store_zeros.ensures.made c.in_ok-flush_lines.ensures.made c.in_ok-fence.ensures.ok)

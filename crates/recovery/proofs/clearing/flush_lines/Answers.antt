@@ -1,6 +1,7 @@
 use Rattle.std.proofs.Common.{◌≡◌, ℕ, ◌-◌, ◌<◌, refl, ◌∙◌, subst, arith}
-use Rattle.log_area.specs.Rulings.{Makes}
-use Rattle.log_area.proofs.Runs.{spares_none, spares_trans, spares-flushed, spares-failed, makes_none}
+use Rattle.pmem.specs.Words.{Makes}
+use Rattle.pmem.proofs.Spares.{spares_none, spares_trans, spares-flushed, spares-failed}
+use Rattle.pmem.proofs.Counts.{makes_none}
 use Rattle.recovery.proofs.Zeros.{ready_more, value-line, made-flush}
 use Rattle.recovery.proofs.clearing.flush_lines.Goals as goal
 
@@ -47,4 +48,4 @@ returns-clause-ready g c =
 pub returns-clause-made : goal.returns-clause-made
 returns-clause-made g c =
     let done : c.loop-line.line ≡ c.args.lines = omega (arith, c.loop-line-test.false, c.loop-line.auto.line-end c.requires.some) in
-    subst (λ (n : ℕ). Makes 0 (n - 1) 0 (g.D.Pmem.state c.args.device.now) (g.D.Pmem.state c.loop-line.device)) done c.loop-line.invariant.made
+    subst (λ (n : ℕ). Makes 0 (n - 1) 0 0 (g.D.Pmem.state c.args.device.now) (g.D.Pmem.state c.loop-line.device)) done c.loop-line.invariant.made

@@ -1,6 +1,7 @@
 use Rattle.std.proofs.Common.{◌≡◌, ℕ, ◌-◌, ◌<◌, subst, arith}
-use Rattle.log_area.specs.Rulings.{Makes}
-use Rattle.log_area.proofs.Runs.{spares_none, spares_trans, spares-stored, spares-failed, makes_none}
+use Rattle.pmem.specs.Words.{Makes}
+use Rattle.pmem.proofs.Spares.{spares_none, spares_trans, spares-stored, spares-failed}
+use Rattle.pmem.proofs.Counts.{makes_none}
 use Rattle.recovery.proofs.Zeros.{zero_more, made-store}
 use Rattle.recovery.proofs.clearing.store_zeros.Goals as goal
 
@@ -45,4 +46,4 @@ returns-clause-zero g c =
 pub returns-clause-made : goal.returns-clause-made
 returns-clause-made g c =
     let done : c.loop-word.word ≡ c.args.words = omega (arith, c.loop-word-test.false, c.loop-word.auto.word-end c.requires.some) in
-    subst (λ (n : ℕ). Makes (n - 8) 0 0 (g.D.Pmem.state c.args.device.now) (g.D.Pmem.state c.loop-word.device)) done c.loop-word.invariant.made
+    subst (λ (n : ℕ). Makes (n - 8) 0 0 0 (g.D.Pmem.state c.args.device.now) (g.D.Pmem.state c.loop-word.device)) done c.loop-word.invariant.made

@@ -4,7 +4,7 @@ use Rattle.base.specs.Images.{Image}
 use Rattle.base.specs.Fresh.{fresh_image}
 use Rattle.base.specs.Laws.{StandsEmpty}
 use Rattle.base.proofs.Fresh.{fresh-stands}
-use Rattle.pmem.specs.Device.{image_of}
+use Rattle.pmem.specs.Words.{image_of}
 use Rattle.recovery.proofs.Fresh.{image-fresh}
 use Rattle.recovery.proofs.formatting.format.Goals as goal
 

@@ -1,6 +1,6 @@
 use Rattle.std.proofs.Common.{ℕ, subst, arith}
 use Rattle.base.specs.Records.{Record}
-use Rattle.log_area.specs.Rulings.{Spares}
+use Rattle.pmem.specs.Words.{Spares}
 use Rattle.log_area.specs.Writings.{IsOutside, IsWriting, begun, finished}
 use Rattle.log_area.proofs.Rulings.{log_within}
 use Rattle.recovery.proofs.Fresh.{stage1-images, enough1, size1, begun2, size2, begun3, begun4, stage5-images, all-settled, all-made}

@@ -1,5 +1,5 @@
 use Rattle.std.proofs.Common.{sym, refl, subst}
-use Rattle.pmem.specs.Device.{image_of}
+use Rattle.pmem.specs.Words.{image_of}
 use Rattle.recovery.specs.declared.opening.Life.{Life}
 use Rattle.recovery.specs.Opened.{HasOpened}
 use Rattle.recovery.proofs.Lives.{some-dirty, limit, gate-limit, target-is, device-words, next-target, images-meanwhile, has-opened, images-refused, refusal-examined, refusal-device}

@@ -1,4 +1,4 @@
-use Rattle.pmem.specs.Device.{image_of}
+use Rattle.pmem.specs.Words.{image_of}
 use Rattle.recovery.proofs.Lives.{under, ruled-size}
 use Rattle.recovery.proofs.WhatIsRead.{refusal-log, refusal-slots, under-own, is-read}
 use Rattle.recovery.proofs.reading.read_device.Goals as goal

@@ -1,6 +1,6 @@
 use Rattle.std.proofs.Common.{◌∙◌, ap, subst, IfOk, IfErr}
 use Rattle.base.specs.Images.{Image}
-use Rattle.pmem.specs.Device.{image_of}
+use Rattle.pmem.specs.Words.{image_of}
 use Rattle.recovery.specs.Read.{IsRead, IsReadRefusal}
 use Rattle.recovery.proofs.Restarted.{image-restarted}
 use Rattle.recovery.proofs.reading.read_image.Goals as goal

@@ -1,5 +1,5 @@
 use Rattle.base.specs.Images.{ruling}
-use Rattle.pmem.specs.Device.{image_of}
+use Rattle.pmem.specs.Words.{image_of}
 use Rattle.recovery.proofs.Visits.{read-some, read-row}
 use Rattle.recovery.proofs.rows.live_row.Goals as goal
 

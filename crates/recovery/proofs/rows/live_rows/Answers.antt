@@ -1,6 +1,6 @@
 use Rattle.std.proofs.Common.{ℕ, false, Vec, Global, List, [], ◌∷◌, ◌++◌, sym, ◌∙◌, ap, length, arith}
 use Rattle.base.specs.declared.key.Key.{Key}
-use Rattle.pmem.specs.Device.{image_of}
+use Rattle.pmem.specs.Words.{image_of}
 use Rattle.recovery.proofs.LiveRows.{rows-none, rows-live, rows-free, free-is, free-size, good-at}
 use Rattle.recovery.proofs.rows.live_rows.Goals as goal
 use Rattle.recovery.proofs.rows.live_rows.Goals.{then-not-free-slot+in_ok-push, else-not-free-slot}

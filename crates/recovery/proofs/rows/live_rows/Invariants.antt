@@ -1,5 +1,5 @@
 use Rattle.std.proofs.Common.{◌≡◌}
-use Rattle.pmem.specs.Device.{image_of}
+use Rattle.pmem.specs.Words.{image_of}
 use Rattle.recovery.specs.Read.{rows_below}
 use Rattle.recovery.proofs.rows.live_rows.Given as goal
 

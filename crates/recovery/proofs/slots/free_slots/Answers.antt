@@ -3,7 +3,7 @@ use Rattle.std.specs.List.{list_any}
 use Rattle.std.specs.BTreeSet.{contains}
 use Rattle.std.specs.BTreeMap.{is_at}
 use Rattle.base.specs.declared.key.Key.{Key}
-use Rattle.pmem.specs.Device.{image_of}
+use Rattle.pmem.specs.Words.{image_of}
 use Rattle.recovery.specs.Slots.{key_cmp}
 use Rattle.recovery.proofs.Visits.{keys-none, free-none, free-more, bad-none, bad-more, slots-visit, slots-memory}
 use Rattle.recovery.proofs.slots.free_slots.Goals as goal

@@ -1,6 +1,6 @@
 use Rattle.std.proofs.Common.{◌≡◌, None}
 use Rattle.std.specs.BTreeSet.{contains}
-use Rattle.pmem.specs.Device.{image_of}
+use Rattle.pmem.specs.Words.{image_of}
 use Rattle.recovery.specs.Slots.{HasKeys, bad_below, free_below, key_cmp}
 use Rattle.recovery.proofs.slots.free_slots.Given as goal
 

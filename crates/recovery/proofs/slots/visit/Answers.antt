@@ -4,7 +4,7 @@ use Rattle.std.specs.BTreeMap.{is_at}
 use Rattle.std.proofs.lemmas.Bool.{not-true, not-false}
 use Rattle.base.specs.declared.key.Key.{Key}
 use Rattle.base.specs.declared.fault.Fault.TheVariants.{Damaged}
-use Rattle.pmem.specs.Device.{image_of}
+use Rattle.pmem.specs.Words.{image_of}
 use Rattle.recovery.specs.Slots.{key_cmp}
 use Rattle.recovery.proofs.Visits.{found-free, found-live, found-bad, keys-free, keys-live, second-seen}
 use Rattle.recovery.proofs.slots.visit.Goals as goal
