@@ -10,7 +10,7 @@ use Rattle.base.specs.Machine.{State, Drawn, Version, Writer, BySession, ByCommi
 use Rattle.pmem.specs.Device.{Entry, Device, newest, survivors_in, IsAmong, MayLeave, stored, flushed, fenced, failed}
 use Rattle.pmem.specs.Words.{Survives, EachSurvivor, IsSettledAt, OnlyShrinks}
 use Rattle.pmem.proofs.Steps.{history-stored_other, value-flushed, value-fenced, survives-flushed, survives-fenced, only-settled, settled-flushed, settled-fenced}
-use Rattle.pmem.proofs.Changes.{shrinks_refl, shrinks_trans, flushed-shrinks, fenced-shrinks, failed-shrinks, stored-shrinks, each-shrinks, each-settled, each-weaken, settled_at-shrinks}
+use Rattle.pmem.proofs.Changes.{shrinks_refl as word_refl, shrinks_trans as word_trans, flushed-shrinks, fenced-shrinks, failed-shrinks, stored-shrinks, each-shrinks, each-settled, each-weaken, settled_at-shrinks}
 use Rattle.invariant.specs.Slots.{word_of, Spells, IsNever, IsCounted, is_drawn_on, Class, Free, Filled, Begun, Newest, Replaced, row_in, is_key_stamped, class_of_drawn, class_by, class_of_version, class_of, IsDead, IsFilled, IsWaiting, HoldsAs, SlotHolds, SlotsHold}
 use Rattle.invariant.specs.Kept.{IsKept, version_by, newest_of}
 use Rattle.invariant.specs.Theorem.{SlotsSurvive}
@@ -58,10 +58,10 @@ words-apart_within a slot w v apart e = apart (omega (arith, e))
 -- ---- a slot, and all slots
 
 pub shrinks-slot_refl : (a : Layout) (device : Device) (slot : ℕ) → ShrinksSlot a device device slot
-shrinks-slot_refl a device slot = record { each = λ w lt. shrinks_refl device (word_of a slot w) }
+shrinks-slot_refl a device slot = record { each = λ w lt. word_refl device (word_of a slot w) }
 
 pub shrinks-slot_trans : {a : Layout} {old mid new : Device} {slot : ℕ} → ShrinksSlot a old mid slot → ShrinksSlot a mid new slot → ShrinksSlot a old new slot
-shrinks-slot_trans x y = record { each = λ w lt. shrinks_trans (x.each w lt) (y.each w lt) }
+shrinks-slot_trans x y = record { each = λ w lt. word_trans (x.each w lt) (y.each w lt) }
 
 pub shrinks-slot_flushed : (a : Layout) (actor line : ℕ) (device : Device) (slot : ℕ) → ShrinksSlot a device (flushed actor line device) slot
 shrinks-slot_flushed a actor line device slot = record { each = λ w lt. flushed-shrinks actor line (word_of a slot w) refl }

@@ -7,9 +7,11 @@ use Rattle.base.proofs.Histories.{first_below-none}
 use Rattle.base.specs.Images.{Image, superblock_word, layout_of, gate_at, place_words, is_wrong_gate, greatest_gate, ruling_place, IsRuledBy, place_of}
 use Rattle.pmem.specs.Device.{Device}
 use Rattle.pmem.specs.Words.{image_of, IsAtRest, IsSettledAt}
-use Rattle.log_area.specs.Rulings.{IsLaidOut, IsEarlierGate, IsRecordFor, HoldsRecord, superblock_words, gate_word}
+use Rattle.log_area.specs.Rulings.{IsLaidOut, IsEarlierGate, IsRecordFor, HoldsRecord, gate_word}
+use Rattle.base.specs.Fresh.{superblock_words}
 use Rattle.base.proofs.Spelling.{get_or-range, is_record-holds}
-use Rattle.log_area.proofs.Rulings.{greatest-each, place_below, log_within}
+use Rattle.base.proofs.Fresh.{greatest-each}
+use Rattle.log_area.proofs.Rulings.{place_below, log_within}
 use Rattle.log_area.proofs.Heads.{image_size, image_word, laid_size, laid_limits}
 use Rattle.log_area.proofs.Finding.{own_gate, ruling_is}
 

@@ -1,10 +1,10 @@
 ghost use Rattle.std.specs.Prelude.{◌≡◌, ◌*◌, ◌%◌, ◌^◌, ◌+◌, ◌<◌, ◌≤◌, ◌&&◌, ◌||◌, not, max, nat_eq, nat_le, IfOk, IfErr, IfSome, IfNone, Some};
 ghost use Rattle.base.specs.Records.{IsRecord};
 ghost use Rattle.base.specs.Search.{first_below};
-ghost use Rattle.base.specs.Images.{gate_at, greatest_gate, is_wrong_gate, place_words, IsRuledBy};
+ghost use Rattle.base.specs.Images.{gate_at, greatest_gate, is_wrong_gate, place_words, IsRuledBy, log_damage};
 ghost use Rattle.pmem.specs.Words.{image_of};
 ghost use Rattle.log_area.specs.Codec.{NoneFits};
-ghost use Rattle.log_area.specs.Rulings.{IsLaidOut, log_damage};
+ghost use Rattle.log_area.specs.Rulings.{IsLaidOut};
 
 use crate::superblock::{load_words, read_geometry};
 use crate::{Record, Ruling};

@@ -1,7 +1,8 @@
 ghost use Rattle.std.specs.Prelude.{◌≡◌, ◌⊎◌, ◌+◌, ◌^◌, ◌<◌, ◌≤◌, ◌&&◌, nat_eq, ℕ, length, slice_index, IfOk, IfErr, OnOk, OnErr, Some, List};
 ghost use Rattle.base.specs.Layout.{total_words};
 ghost use Rattle.pmem.specs.Words.{HasOneFailure, IsSettledAt, Makes, Spares, image_of};
-ghost use Rattle.log_area.specs.Rulings.{IsLaidOut, IsHead, layout_damage, superblock_words};
+ghost use Rattle.log_area.specs.Rulings.{IsLaidOut, IsHead, layout_damage};
+ghost use Rattle.base.specs.Fresh.{superblock_words};
 
 use base::actor::Actor;
 use base::fault::Fault;

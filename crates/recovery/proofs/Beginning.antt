@@ -10,8 +10,7 @@ use Rattle.base.specs.declared.fault.Fault.TheVariants.{BadGeometry, NotFormatte
 use Rattle.base.specs.Layout.{Layout, newest_version, is_known_version}
 use Rattle.base.specs.Records.{Record, with_gap, opened_gaps, is_well_formed}
 use Rattle.base.specs.Search.{first_below, some_if}
-use Rattle.base.specs.Images.{Image, damage, layout_of, is_formatted, has_good_geometry, is_wrong_gate, is_ruled, ruling_place, ruling, is_bad_slot, is_near_limit, needs_sweep, opening_fault, IsRuledBy}
-use Rattle.log_area.specs.Rulings.{log_damage}
+use Rattle.base.specs.Images.{Image, damage, layout_of, is_formatted, has_good_geometry, is_wrong_gate, is_ruled, ruling_place, ruling, is_bad_slot, is_near_limit, needs_sweep, opening_fault, IsRuledBy, log_damage}
 use Rattle.base.specs.Openings.{opening_record}
 use Rattle.recovery.proofs.Formed.{IsFormed}
 use Rattle.recovery.proofs.Added.{opens, opened-gaps}

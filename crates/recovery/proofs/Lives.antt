@@ -11,7 +11,7 @@ use Rattle.base.specs.Search.{some_if}
 use Rattle.base.specs.Commits.{Commit}
 use Rattle.base.specs.Layout.{Layout, newest_version, total_words, is_known_version, is_in_limits, is_between}
 use Rattle.base.specs.Records.{Record, opened_gaps, is_well_formed}
-use Rattle.base.specs.Images.{Image, damage, layout_of, ruling, is_shown, opening_fault, is_near_limit, needs_sweep, IsRuledBy}
+use Rattle.base.specs.Images.{Image, damage, layout_of, ruling, is_shown, opening_fault, is_near_limit, needs_sweep, IsRuledBy, log_damage}
 use Rattle.base.specs.Stands.{Stands}
 use Rattle.base.specs.Openings.{opening_record, StandsOpening}
 use Rattle.pmem.specs.Device.{Device, IsOrderly}
@@ -19,7 +19,7 @@ use Rattle.pmem.specs.Words.{value_of, IsAtRest, LeavesOnly, image_of, Spares, M
 use Rattle.pmem.proofs.Images.{leaves_refl, leaves_weaken, leaves_both}
 use Rattle.pmem.proofs.Rest.{left_at_rest}
 use Rattle.pmem.proofs.Steps.{only-settled}
-use Rattle.log_area.specs.Rulings.{IsRecordFor, HoldsRecord, log_damage}
+use Rattle.log_area.specs.Rulings.{IsRecordFor, HoldsRecord}
 use Rattle.log_area.specs.Writings.{IsNextRecord, IsRuledByEither, IsOutside, begun}
 use Rattle.log_area.proofs.Rulings.{place_below}
 use Rattle.pmem.proofs.Changes.{settled_at-shrinks}

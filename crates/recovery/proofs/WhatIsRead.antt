@@ -8,8 +8,7 @@ use Rattle.base.specs.declared.fault.Fault.TheVariants.{BadGeometry, NotFormatte
 use Rattle.base.specs.Search.{first_below, some_if}
 use Rattle.base.specs.Layout.{Layout, is_known_version}
 use Rattle.base.specs.Records.{Record}
-use Rattle.base.specs.Images.{Image, IsSound, damage, layout_of, ruling, is_formatted, has_good_geometry, is_wrong_gate, is_ruled, ruling_place, is_bad_slot, IsRuledBy}
-use Rattle.log_area.specs.Rulings.{log_damage}
+use Rattle.base.specs.Images.{Image, IsSound, damage, layout_of, ruling, is_formatted, has_good_geometry, is_wrong_gate, is_ruled, ruling_place, is_bad_slot, IsRuledBy, log_damage}
 use Rattle.recovery.specs.Slots.{IsUnder, IsSlotsFault, bad_below}
 use Rattle.recovery.specs.Read.{IsRead, IsReadRefusal, TellsLogFault, rows_below}
 use Rattle.recovery.proofs.Opens.{known-good}

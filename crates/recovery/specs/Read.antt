@@ -6,8 +6,7 @@ use Rattle.base.specs.declared.fault.Fault.{Fault}
 use Rattle.base.specs.declared.fault.Fault.TheVariants.{OutOfMemory}
 use Rattle.base.specs.Layout.{Layout}
 use Rattle.base.specs.Records.{Record}
-use Rattle.base.specs.Images.{Image, IsSound, damage, layout_of, ruling, key_of, row_of, is_shown}
-use Rattle.log_area.specs.Rulings.{log_damage}
+use Rattle.base.specs.Images.{Image, IsSound, damage, layout_of, ruling, key_of, row_of, is_shown, log_damage}
 
 -- a slot's key and row, where it is live
 abbrev pub row_at : Image → ℕ → List (Key × List ℕ)

@@ -18,8 +18,7 @@ pub fn clear<D: Pmem>(device: &mut D) -> Result<(), Fault>
     let words = device.words();
     store_zeros(device, words)?;
     flush_lines(device, words / 8)?;
-    let committer = Actor::new(0);
-    device.fence(committer)?;
+    device.fence(Actor::COMMITTER)?;
     Ok(())
 }
 
@@ -50,9 +49,8 @@ fn flush_lines<D: Pmem>(device: &mut D, lines: usize) -> Result<(), Fault>
     ensures values { OnOk result ((word : ℕ) → value_of (D.state device.new) word ≡ value_of (D.state device.old) word) }
     ensures others { Spares (λ word. word < 8) (D.state device.old) (D.state device.new) }
 {
-    let committer = Actor::new(0);
     for line in 1..lines {
-        device.flush(committer, line)?;
+        device.flush(Actor::COMMITTER, line)?;
     }
     Ok(())
 }

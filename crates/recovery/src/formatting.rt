@@ -6,11 +6,12 @@ ghost use Rattle.base.specs.Laws.{StandsEmpty};
 ghost use Rattle.recovery.specs.Fresh.{IsFormatting, IsFormatRefusal};
 
 use crate::clearing::clear;
+use base::actor::Actor;
 use base::fault::Fault;
 use base::gap::Gaps;
 use base::geometry::Geometry;
-use log_area::{FORMATTED, Record, set_word, write_geometry, write_record};
-use pmem::Pmem;
+use log_area::{FORMATTED, Record, write_geometry, write_record};
+use pmem::{Pmem, set_word};
 
 /// Makes a new image of a device. A format that is stopped leaves what a crash before it could have left, an image that
 /// isn't formatted, or the new one.
@@ -42,11 +43,11 @@ fn write_fresh<D: Pmem>(device: &mut D, geometry: Geometry) -> Result<(), Fault>
     ensures settled { OnOk result ((word : ℕ) → word < total_words geometry → IsSettledAt (D.state device.new) word (fresh_word geometry word)) }
     ensures images { LeavesOnly (D.state device.old) (D.state device.new) (IsFormatting (D.state device.old) geometry) }
 {
-    set_word(device, 0, 0)?;
+    set_word(device, Actor::COMMITTER, 0, 0)?;
     clear(device)?;
     write_record(device, geometry, first_record())?;
     write_geometry(device, geometry)?;
-    let done = set_word(device, 0, FORMATTED)?;
+    let done = set_word(device, Actor::COMMITTER, 0, FORMATTED)?;
     Ok(done)
 }
 

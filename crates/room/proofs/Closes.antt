@@ -36,7 +36,7 @@ use Rattle.room.specs.Room.{Shows, StepsTo, device_of}
 use Rattle.room.specs.Storing.{HasStamped, FailsStamping}
 use Rattle.room.proofs.Closing.{at-closing, closes_refl, closes_trans, closes-same, within-same, tick-within, tick-closes}
 use Rattle.room.proofs.Stamped.{stamped-drawn, stamped-steps, stamping-steps}
-use Rattle.room.proofs.Stamps.{Makes, write-makes, failing-makes}
+use Rattle.room.proofs.Stamps.{MakesAtMost, write-makes, failing-makes}
 use Rattle.room.proofs.Working.{works-along, agrees-moved}
 use Rattle.room.proofs.Standing.{stands-works, word-within}
 use Rattle.room.proofs.Ticking.{found-in_hand, version-one}
@@ -128,7 +128,7 @@ module _ {D : Type 0} {G : Ghosts D} (state : D → Device) (old new : Room D G)
   part-stamped has works = record {
     works = works;
     no_failure =
-        let made : Makes 2 0 (state old.device) (state new.device) = write-makes old.numbers.geometry write t (state old.device) (state new.device) has.stamps in
+        let made : MakesAtMost 2 0 (state old.device) (state new.device) = write-makes old.numbers.geometry write t (state old.device) (state new.device) has.stamps in
         omega (arith, made.failures);
     goes_on = λ q shown.
         let steps = stamped-steps state old new q t writes stamped write reply orderly shown up session at has in
@@ -164,7 +164,7 @@ module _ {D : Type 0} {G : Ghosts D} (state : D → Device) (old new : Room D G)
       by (inr fails) = record {
         told = refl;
         failure =
-            let made : Makes 2 1 (state old.device) (state new.device) = failing-makes old.numbers.geometry write t (state old.device) (state new.device) fails.stamps in
+            let made : MakesAtMost 2 1 (state old.device) (state new.device) = failing-makes old.numbers.geometry write t (state old.device) (state new.device) fails.stamps in
             omega (arith, made.failures);
         images = λ q shown.
             leaves_weaken (within-same q (record q { failed = true }) refl refl) (stamping-steps state old new q t writes stamped write reply orderly shown up session at fails).images;

@@ -32,7 +32,8 @@ use Rattle.invariant.specs.Kept.{IsKept, version_by, newest_of}
 use Rattle.invariant.specs.Moves.{ShrinksOthers}
 use Rattle.invariant.specs.Slots.{SlotsHold, word_of}
 use Rattle.invariant.proofs.Lookups.{replaced-same, replaced-other}
-use Rattle.invariant.proofs.Moves.{within-slot, words-apart, words-apart_within, others-stored, shrinks-word_stored, slots-failed}
+use Rattle.pmem.proofs.Changes.{stored-shrinks}
+use Rattle.invariant.proofs.Moves.{within-slot, words-apart, words-apart_within, others-stored, slots-failed}
 use Rattle.invariant.proofs.Putting.{own_slot-held, free_slot-some, held-own, held-taken, kept-put_own, kept-put_taking, slots-put_own, slots-put_taking}
 use Rattle.invariant.proofs.Filling.{taking-stored, begin-own, slots-taking, slots-filling, slots-refilling}
 use Rattle.room.specs.declared.cycle.Cycle.{Cycle}
@@ -47,7 +48,7 @@ use Rattle.room.specs.Storing.{TellsOfDevice, HasFilled, FailsFilling, version_a
 use Rattle.room.specs.Tables.{Replaces}
 use Rattle.room.proofs.Standing.{stands-works}
 use Rattle.room.proofs.Steps.{quiet}
-use Rattle.room.proofs.Storing.{log-stored, run_leaves, survives_cleared, taking_leaves, shrinks-not_stored, kept-not_stored, filling_others, filling_record, filling_cleared, filling_refilled}
+use Rattle.room.proofs.Storing.{log-stored, run_leaves, survives_cleared, taking_leaves, filling_others, filling_record, filling_cleared, filling_refilled}
 use Rattle.room.proofs.Working.{stands-back, works-along, is_apart, nothing_in_hand, free-same, agrees-moved, log-rests, works-moved, works-failed, put-sessions}
 use Rattle.room.proofs.Wrote.{found-in, own-has, own-absent, further-value, room-plain, full-plain, room-found, holds-further, replaces-moved, placed-moved}
 
@@ -101,16 +102,6 @@ free-taken q q' free slot version has lt layout held = record {
         ∙ ap is_none (sym (replaced-same slot (Some version) q.held k is))
     at k under (inr apart) = get_or-set_other free slot k false false apart ∙ free-at q free has k under ∙ ap is_none (sym (replaced-other slot (Some version) q.held k apart))
 
-settled-alone : (device : Device) (word : ℕ) → survivors_in (device.history word) ≡ 0 ∷ [] → IsSettledAt device word 0
-settled-alone device word is = record { settled = is ∙ ap (λ (x : ℕ). x ∷ []) (sym none); holds = none }
-  where
-    of : (h : List Entry) → survivors_in h ≡ 0 ∷ [] → newest h ≡ 0
-    of [] e = refl
-    of (entry ∷ older) e = ap (λ (l : List ℕ). get_or l 0 0) e
-
-    none : newest (device.history word) ≡ 0
-    none = of (device.history word) is
-
 -- no word but the begin of the slot is stored while it is taken
 begin-alone : (a : Layout) (free : List Bool) (slot : ℕ) → lowest_free free ≡ Some slot → (word : ℕ) → word ≢ word_of a slot 0 → IsBeginOfLowest a free word → ⊥
 begin-alone a free slot lowest word apart part =
@@ -133,7 +124,7 @@ module _ (q : State) (old mid : Device) (slot : ℕ) (session : Option Session) 
       (slots-taking q old (stored (word_of q.layout slot 0) 0 old) slot works.kept taken_at.1
       (others-stored q.layout slot 0 0 old (within-slot q.layout.version 0 (omega arith)))
       (taking-stored q.layout old slot)
-      (shrinks-word_stored (word_of q.layout slot 0) 0 old (word_of q.layout slot 1) (words-apart_within q.layout slot 1 0 (λ e. omega (arith, e))))
+      (stored-shrinks (word_of q.layout slot 0) 0 (word_of q.layout slot 1) refl (words-apart_within q.layout slot 1 0 (λ e. omega (arith, e))))
       works.slots)
 
   works-taking_failed : Works (record q { failed = true }) (stored (word_of q.layout slot 0) 0 old) session cycle batch free
@@ -149,7 +140,7 @@ module _ (q : State) (old mid : Device) (slot : ℕ) (session : Option Session) 
     take_others : ShrinksOthers q.layout slot old mid
     take_others = record {
       each = λ s lt unlike. record {
-        each = λ w in_slot. shrinks-not_stored (not_stored (word_of q.layout s w) (words-apart q.layout s slot w 0 unlike in_slot (within-slot q.layout.version 0 (omega arith))));
+        each = λ w in_slot. not_stored (word_of q.layout s w) (words-apart q.layout s slot w 0 unlike in_slot (within-slot q.layout.version 0 (omega arith)));
       };
     }
 
@@ -161,10 +152,10 @@ module _ (q : State) (old mid : Device) (slot : ℕ) (session : Option Session) 
     works-taken =
         works-moved q old mid session cycle batch free apart works
         (holds_record_kept q.layout old mid keeps.images.continues.same_words
-        (λ word lt. kept-not_stored (not_stored word (λ e. absurd (omega (arith, e, lt))))) q.ruling)
+        (λ word lt. not_stored word (λ e. absurd (omega (arith, e, lt)))) q.ruling)
         (slots-taking q old mid slot works.kept taken_at.1 take_others
         record { each = λ x there. take_begin x (keeps.now (word_of q.layout slot 0) x there) }
-        (shrinks-not_stored (not_stored (word_of q.layout slot 1) (words-apart_within q.layout slot 1 0 (λ e. omega (arith, e)))))
+        (not_stored (word_of q.layout slot 1) (words-apart_within q.layout slot 1 0 (λ e. omega (arith, e))))
         works.slots)
 
     -- what may be left then may be left by the store alone
@@ -348,11 +339,11 @@ module _ {D : Type 0} {G : Ghosts D} (state : D → Device) (old mid new : Room 
         (run_leaves (slot_start q.layout slot + 1) (λ k. filled_word (version_after key row replaces) (k + 1)) (slot_words q.layout.version - 1) 0 (state mid.device) (state new.device) run (StandsWithin q (next_state q (Put 2 key row)))
         (λ image may. StandsAt-within q (next_state q (Put 2 key row)) image (stands-back q (next_state q (Put 2 key row)) image refl refl refl refl (stands image may))));
     failure = record {
-      no_fewer = omega (arith, run.failures, made.failures);
+      no_fewer = omega (arith, run.made.failures_made, made.failures_made);
       cause = λ told. absurd (other (sym has.told ∙ told));
-      shown = λ less. absurd (omega (arith, less, run.failures, made.failures));
+      shown = λ less. absurd (omega (arith, less, run.made.failures_made, made.failures_made));
     };
-    operations = omega (arith, run.stores, run.flushes, run.fences, made.stores, made.flushes, made.fences, few, within-slot q.layout.version 1 (omega arith));
+    operations = omega (arith, run.made.stores_made, run.made.flushes_made, run.made.fences_made, made.stores_made, made.flushes_made, made.fences_made, few, within-slot q.layout.version 1 (omega arith));
   }
     where
       other : ◌≡◌ {A = Reply} Done (Refused DeviceFault) → ⊥
@@ -377,11 +368,11 @@ module _ {D : Type 0} {G : Ghosts D} (state : D → Device) (old mid new : Room 
         (run_leaves (slot_start q.layout slot + 1) (λ k. filled_word (version_after key row replaces) (k + 1)) fails.part.0 1 (state mid.device) (state new.device) run (StandsWithin q (record q { failed = true }))
         (λ image may. StandsAt-within q (record q { failed = true }) image (stands-back q (record q { failed = true }) image refl refl refl refl (stands image may))));
     failure = record {
-      no_fewer = omega (arith, run.failures, made.failures);
-      cause = λ told. omega (arith, run.failures, made.failures);
+      no_fewer = omega (arith, run.made.failures_made, made.failures_made);
+      cause = λ told. omega (arith, run.made.failures_made, made.failures_made);
       shown = λ less. fails.tells.told;
     };
-    operations = omega (arith, run.stores, run.flushes, run.fences, below, made.stores, made.flushes, made.fences, few);
+    operations = omega (arith, run.made.stores_made, run.made.flushes_made, run.made.fences_made, below, made.stores_made, made.flushes_made, made.fences_made, few);
   }
     where
       run : Fills q.layout slot (version_after key row replaces) fails.part.0 1 (state mid.device) (state new.device)
@@ -417,7 +408,7 @@ module _ {D : Type 0} {G : Ghosts D} (state : D → Device) (old : Room D G) (q 
   put-own_steps new write slot reply orderly found own =
       put-either state old old new q key row slot write.replaces writes reply shown refl refl refl refl
       (own-refusal q (state old.device) (state new.device) key row slot write.replaces writes old.cycle old.batch old.slots old_up old_works room replaces at.0 at.1 short)
-      0 (omega arith) (record { stores = omega arith; flushes = omega arith; fences = omega arith; failures = omega arith })
+      0 (omega arith) (record { stores_made = omega arith; flushes_made = omega arith; fences_made = omega arith; failures_made = omega arith })
       (λ q'. leaves_refl (state old.device) (StandsWithin q q') orderly (λ image may. StandsAt-within q q' image (shown.stands image may)))
       (λ has. works-own q (state old.device) (state new.device) key row slot write.replaces writes old.cycle old.batch old.slots old_up old_works room replaces at.0 at.1 (run has) (version has))
       (works-own_failed q (state old.device) (state new.device) key row slot write.replaces writes old.cycle old.batch old.slots old_up old_works room replaces at.0 at.1)
@@ -495,14 +486,14 @@ module _ {D : Type 0} {G : Ghosts D} (state : D → Device) (old : Room D G) (q 
           cause = λ told. omega (arith, failures);
           shown = λ less. tells.told;
         };
-        operations = omega (arith, made.stores, made.flushes, made.fences, few, fewer, ap (λ (d : Device). d.stores) same, ap (λ (d : Device). d.flushes) same, ap (λ (d : Device). d.fences) same);
+        operations = omega (arith, made.stores_made, made.flushes_made, made.fences_made, few, fewer, ap (λ (d : Device). d.stores) same, ap (λ (d : Device). d.flushes) same, ap (λ (d : Device). d.fences) same);
       }
         where
           failures : (state new.device).failures ≡ (state old.device).failures + 1
-          failures = ap (λ (d : Device). d.failures) same ∙ made.failures
+          failures = ap (λ (d : Device). d.failures) same ∙ made.failures_made
 
       -- the slot is taken, and the version then stored in it or not
-      pub put-taken_steps : mid.slots ≡ set old.slots slot false → mid.failed ≡ old.failed → survivors_in ((state mid.device).history (slot_start old.numbers.geometry slot)) ≡ 0 ∷ [] → Makes 1 1 1 0 (state old.device) (state mid.device)
+      pub put-taken_steps : mid.slots ≡ set old.slots slot false → mid.failed ≡ old.failed → IsSettledAt (state mid.device) (slot_start old.numbers.geometry slot) 0 → Makes 1 1 1 0 (state old.device) (state mid.device)
           → HasFilled state mid new writes slot key row replaces reply ⊎ FailsFilling state mid new slot key row replaces reply → (q' : State) × StepsTo state old new (Put 2 key row) reply q q'
       put-taken_steps slots still_up cleared made =
           put-either state old mid new q key row slot replaces writes reply shown numbers cycle batch still_up mid_refusal 1 (omega arith) made mid_images
@@ -512,7 +503,7 @@ module _ {D : Type 0} {G : Ghosts D} (state : D → Device) (old : Room D G) (q 
         where
           begin : IsSettledAt (state mid.device) (word_of q.layout slot 0) 0
           begin = subst (λ (w : ℕ). IsSettledAt (state mid.device) w 0) (plus (slot_start q.layout slot))
-              (settled-alone (state mid.device) (slot_start q.layout slot) (subst (λ (a : Layout). survivors_in ((state mid.device).history (slot_start a slot)) ≡ 0 ∷ []) (sym shown.agrees.layout) cleared))
+              (subst (λ (a : Layout). IsSettledAt (state mid.device) (slot_start a slot) 0) (sym shown.agrees.layout) cleared)
             where
               plus : (n : ℕ) → n ≡ n + 0
               plus n = omega arith

@@ -42,7 +42,7 @@ use Rattle.room.specs.Storing.{FailsAt, StampsWrite, FailsStampingWrite, HasStam
 use Rattle.room.specs.Tables.{Replaces}
 use Rattle.room.proofs.Refusals.{refusal-stamp, refusal-stamp_misplaced}
 use Rattle.room.proofs.Sessions.{not-covered, session-is}
-use Rattle.room.proofs.Stamps.{Makes, begun-stamps, ended-stamps, fails-stamps, write-record, failing-record, write-leaves, failing-leaves, write-makes, failing-makes}
+use Rattle.room.proofs.Stamps.{MakesAtMost, begun-stamps, ended-stamps, fails-stamps, write-record, failing-record, write-leaves, failing-leaves, write-makes, failing-makes}
 use Rattle.room.proofs.Standing.{stands-works}
 use Rattle.room.proofs.Working.{works-along, stands-back, is_apart, nothing_in_hand, free-same, agrees-moved, holds-writes, works-failed}
 
@@ -276,7 +276,7 @@ module _ {D : Type 0} {G : Ghosts D} (state : D → Device) (old new : Room D G)
       other true e = cc e
       other false e = cc e
 
-      made : Makes 2 0 (state old.device) (state new.device)
+      made : MakesAtMost 2 0 (state old.device) (state new.device)
       made = write-makes old.numbers.geometry write t (state old.device) (state new.device) has.stamps
 
       works : Works (next_state q (Stamp 2)) (state new.device) (Some (Drawn t writes (stamped + 1))) old.cycle old.batch old.slots
@@ -306,7 +306,7 @@ module _ {D : Type 0} {G : Ghosts D} (state : D → Device) (old new : Room D G)
     operations = made.few;
   }
     where
-      made : Makes 2 1 (state old.device) (state new.device)
+      made : MakesAtMost 2 1 (state old.device) (state new.device)
       made = failing-makes old.numbers.geometry write t (state old.device) (state new.device) fails.stamps
 
       failing : FailsStampingWrite q.layout write t (state old.device) (state new.device)

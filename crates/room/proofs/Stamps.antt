@@ -17,7 +17,8 @@ use Rattle.invariant.proofs.Moves.{within-slot, shrinks_refl}
 use Rattle.pmem.proofs.Changes.{each-settled}
 use Rattle.invariant.proofs.Ending.{stamps-none, stamps-begun, stamps-ended, stamps-shrink}
 use Rattle.room.specs.Storing.{StampsAt, StampsWrite, FailsAt, FailsStampingWrite}
-use Rattle.room.proofs.Storing.{shrinks-same, run_others, run_record, run_before, run_after, survives_still, run_leaves}
+use Rattle.pmem.proofs.Changes.{shrinks-same}
+use Rattle.room.proofs.Storing.{run_others, run_record, run_before, run_after, survives_still, run_leaves}
 
 -- ---- one word
 
@@ -168,28 +169,28 @@ failing-leaves a write t old new (inr later) P here = failed-leaves a write.slot
 -- ---- how many operations were made
 
 -- at most so many were made, and so many failed
-pub record Makes (most failed : ℕ) (old new : Device) : Type 0 where
+pub record MakesAtMost (most failed : ℕ) (old new : Device) : Type 0 where
   pub few : operations_of new ≤ operations_of old + most
   pub failures : new.failures ≡ old.failures + failed
 
-run-makes : (first : ℕ) (value : ℕ → ℕ) (n failed : ℕ) (old new : Device) → StoresRun first value n failed old new → Makes n failed old new
-run-makes first value n failed old new run = record { few = omega (arith, run.stores, run.flushes, run.fences); failures = run.failures }
+run-makes : (first : ℕ) (value : ℕ → ℕ) (n failed : ℕ) (old new : Device) → StoresRun first value n failed old new → MakesAtMost n failed old new
+run-makes first value n failed old new run = record { few = omega (arith, run.made.stores_made, run.made.flushes_made, run.made.fences_made); failures = run.made.failures_made }
 
-at-makes : (a : Layout) (v t : ℕ) (o : Option ℕ) (old new : Device) → StampsAt a v o t old new → Makes 1 0 old new
-at-makes a v t None old new same = subst (λ (d : Device). Makes 1 0 old d) (sym same) (record { few = omega arith; failures = omega arith })
+at-makes : (a : Layout) (v t : ℕ) (o : Option ℕ) (old new : Device) → StampsAt a v o t old new → MakesAtMost 1 0 old new
+at-makes a v t None old new same = subst (λ (d : Device). MakesAtMost 1 0 old d) (sym same) (record { few = omega arith; failures = omega arith })
 at-makes a v t (Some slot) old new run = run-makes (slot_start a slot + v) (λ k. t) 1 0 old new run
 
-fails-makes : (a : Layout) (v t : ℕ) (o : Option ℕ) (old new : Device) → FailsAt a v o t old new → Makes 0 1 old new
+fails-makes : (a : Layout) (v t : ℕ) (o : Option ℕ) (old new : Device) → FailsAt a v o t old new → MakesAtMost 0 1 old new
 fails-makes a v t None old new fails = absurd fails
 fails-makes a v t (Some slot) old new run = run-makes (slot_start a slot + v) (λ k. t) 0 1 old new run
 
-pub write-makes : (a : Layout) (write : Write) (t : ℕ) (old new : Device) → StampsWrite a write t old new → Makes 2 0 old new
+pub write-makes : (a : Layout) (write : Write) (t : ℕ) (old new : Device) → StampsWrite a write t old new → MakesAtMost 2 0 old new
 write-makes a write t old new stamps =
     let first = at-makes a 0 t write.slot old stamps.0 stamps.1 in
     let second = at-makes a 1 t write.replaces stamps.0 new stamps.2 in
     record { few = omega (arith, first.few, second.few); failures = omega (arith, first.failures, second.failures) }
 
-pub failing-makes : (a : Layout) (write : Write) (t : ℕ) (old new : Device) → FailsStampingWrite a write t old new → Makes 2 1 old new
+pub failing-makes : (a : Layout) (write : Write) (t : ℕ) (old new : Device) → FailsStampingWrite a write t old new → MakesAtMost 2 1 old new
 failing-makes a write t old new (inl first) =
     let made = fails-makes a 0 t write.slot old new first in
     record { few = omega (arith, made.few); failures = made.failures }

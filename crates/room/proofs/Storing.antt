@@ -15,29 +15,10 @@ use Rattle.version_slot.specs.Words.{filled_word, IsVersion, slot_at}
 use Rattle.version_slot.proofs.ImageSlots.{key_is, row_is_of, well_formed}
 use Rattle.log_area.specs.Rulings.{HoldsRecord}
 use Rattle.log_area.proofs.Kept.{KeepsLog, holds_record_kept}
+use Rattle.pmem.proofs.Changes.{shrinks-same, settled_at-shrinks}
 use Rattle.invariant.specs.Moves.{ShrinksOthers, IsCleared, IsRefilled}
 use Rattle.invariant.specs.Slots.{word_of, Spells, HasVersion}
 use Rattle.invariant.proofs.Moves.{within-slot}
-
--- ---- a word with the history that it had
-
-pub shrinks-same : {old new : Device} (word : ℕ) → new.history word ≡ old.history word → OnlyShrinks old new word
-shrinks-same word same = record {
-  value = ap newest same;
-  survives = λ x there. subst (λ (h : List Entry). IsAmong (survivors_in h) x) same there;
-  settled = λ settled. subst (λ (h : List Entry). survivors_in h ≡ newest h ∷ []) (sym same) settled;
-}
-
-kept-same : {old new : Device} (word : ℕ) → new.history word ≡ old.history word → OnlyShrinks old new word
-kept-same word same = record {
-  value = ap newest same;
-  survivors = λ x there. subst (λ (h : List Entry). IsAmong (survivors_in h) x) same there;
-  settled = λ settled. subst (λ (h : List Entry). survivors_in h ≡ newest h ∷ []) (sym same) settled;
-  ready = λ actor ready. subst (IsReadyIn actor) (sym same) ready;
-}
-
-pub settled_at-same : {old new : Device} (word value : ℕ) → OnlyShrinks old new word → IsSettledAt old word value → IsSettledAt new word value
-settled_at-same word value on at = record { settled = on.settled at.settled; holds = on.value ∙ at.holds }
 
 -- ---- words beside a run within a slot
 
@@ -70,7 +51,7 @@ module _ (a : Layout) (slot v n failed : ℕ) (first : ℕ) (at : first ≡ word
   run_after w le = run.others (word_of a slot w) (inr (omega (arith, at, le)))
 
   pub run_log : KeepsLog a old new
-  run_log word lt = kept-same word (run.others word (inl (omega (arith, at, lt))))
+  run_log word lt = shrinks-same word (run.others word (inl (omega (arith, at, lt))))
 
   pub run_record : (r : Record) → HoldsRecord a r old → HoldsRecord a r new
   run_record = holds_record_kept a old new run.keeps.images.continues.same_words run_log
@@ -80,7 +61,7 @@ pub log-stored : (a : Layout) (word value : ℕ) (old : Device) → 8 + 32 * a.p
 log-stored a word value old high r = holds_record_kept a old (stored word value old) refl keeps r
   where
     keeps : KeepsLog a old (stored word value old)
-    keeps other lt = kept-same other (history-stored_other word value old other (λ e. absurd (omega (arith, e, lt, high))))
+    keeps other lt = shrinks-same other (history-stored_other word value old other (λ e. absurd (omega (arith, e, lt, high))))
 
 -- ---- what may be left meanwhile
 
@@ -138,13 +119,6 @@ module _ (a : Layout) (free : List Bool) (slot : ℕ) (lowest : lowest_free free
     });
   }
 
--- what is no word of that begin shrinks
-pub shrinks-not_stored : {old new : Device} {word : ℕ} → OnlyShrinks old new word → OnlyShrinks old new word
-shrinks-not_stored is = record { value = is.value; survives = is.survivors; settled = is.settled }
-
-pub kept-not_stored : {old new : Device} {word : ℕ} → OnlyShrinks old new word → OnlyShrinks old new word
-kept-not_stored is = record { value = is.value; survivors = is.survivors; settled = is.settled; ready = is.ready }
-
 -- ---- the row that is stored is there to be read
 
 pub spells-version : (a : Layout) (slot : ℕ) (value : ℕ → ℕ) (v : Version) → slot < a.slots → IsVersion a (slot_at a slot value) v → Spells a value slot v.key v.row
@@ -191,7 +165,7 @@ module _ (a : Layout) (slot n failed : ℕ) (v : Version) (old new : Device) (le
 
   pub filling_cleared : IsSettledAt old (word_of a slot 0) 0 → IsCleared a old new slot
   filling_cleared begin = record {
-    begin = settled_at-same (word_of a slot 0) 0 (shrinks-same (word_of a slot 0) (run_before a slot 1 n failed (slot_start a slot + 1) first_at fits_slot (λ k. filled_word v (k + 1)) old new run 0 (omega arith))) begin;
+    begin = settled_at-shrinks (shrinks-same (word_of a slot 0) (run_before a slot 1 n failed (slot_start a slot + 1) first_at fits_slot (λ k. filled_word v (k + 1)) old new run 0 (omega arith))) begin;
     end = record { each = λ x there. end_word x (run.keeps.now (word_of a slot 1) x there) };
   }
 

@@ -487,8 +487,7 @@ pub shrinks-outside : (a : Layout) (p : Progress) (old new : Device) → p.layou
 shrinks-outside a p old new same limits kept = record {
   each = λ slot lt. record {
     each = λ w below.
-        let k = kept (word_of a slot w) (slot-outside a p slot w same limits) in
-        record { value = k.value; survives = k.survivors; settled = k.settled };
+        kept (word_of a slot w) (slot-outside a p slot w same limits);
   };
 }
 

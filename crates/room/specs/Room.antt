@@ -8,7 +8,7 @@ use Rattle.base.specs.Records.{Record}
 use Rattle.base.specs.Images.{Image}
 use Rattle.base.specs.Machine.{State, Stepped, most_operations, most_operations_along, Run, final, StandsAt, StandsWithin, StandsAlong}
 use Rattle.pmem.specs.Device.{Device, MayLeave}
-use Rattle.pmem.specs.Words.{LeavesOnly}
+use Rattle.pmem.specs.Words.{LeavesOnly, operations_of}
 use Rattle.pmem.specs.declared.device.Pmem.{Ghosts}
 use Rattle.room.specs.Agrees.{Agrees}
 use Rattle.room.specs.declared.cycle.InHand.{InHand}
@@ -53,13 +53,6 @@ pub record TellsFailure (old new : Device) (told : Type 0) : Type 0 where
   pub no_fewer : old.failures ≤ new.failures
   pub cause : told → old.failures < new.failures
   pub shown : old.failures < new.failures → told
-
--- how many operations the device has made
-abbrev pub operations_of : Device → ℕ
-operations_of device = device.stores + device.flushes + device.fences
-
-abbrev pub HasNoFailure : Device → Device → Type 0
-HasNoFailure old new = new.failures ≡ old.failures
 
 -- the step leads from q to q', which the room shows then
 pub record StepsTo {D : Type 0} {G : Ghosts D} (state : D → Device) (old new : Room D G) (step : Step) (reply : Reply) (q q' : State) : Type 0 where

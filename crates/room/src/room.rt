@@ -45,9 +45,6 @@ pub struct Room<D: Pmem> {
 /// The number of the one session that may be open, and of the actor that stores for it.
 const SESSION: u8 = 2;
 
-/// The committer's actor.
-const COMMITTER: u8 = 0;
-
 impl<D: Pmem + Drop + Send + Sync> Room<D> {
     ghost use Rattle.std.specs.Prelude.{List, ℕ, ◌+◌, ◌*◌, ◌<◌, ◌≤◌, None, IfOk, IfErr, MatchResult};
     ghost use Rattle.base.specs.Commits.{Commit};
@@ -120,6 +117,7 @@ impl<D: Pmem + Drop> Room<D> {
     ghost use Rattle.base.specs.Images.{Image};
     ghost use Rattle.base.specs.Machine.{State, StandsClosing, StandsClosed, closing_gate, closing_fault};
     ghost use Rattle.pmem.specs.Device.{MayLeave};
+    ghost use Rattle.pmem.specs.Words.{LeavesOnly, HasNoFailure};
     ghost use Rattle.base.specs.declared.step.Step.TheVariants.{Begin, Get, Put, Delete, Draw, Stamp, Poll, Abort, End, Commit};
     ghost use Rattle.txn.specs.WriteSets.{HasRoomFor, write_of};
     ghost use Rattle.room.specs.declared.cycle.CycleStage.TheVariants.{FlushLines};
@@ -296,7 +294,7 @@ impl<D: Pmem + Drop> Room<D> {
         let geometry = self.numbers.geometry;
         match self
             .slots
-            .take(&mut self.device, geometry, Actor::new(SESSION))
+            .take(&mut self.device, geometry, Actor::session(SESSION))
         {
             Ok(slot) => self.store_version(writes, slot, key, row, replaces),
             Err(fault) => match fault {
@@ -674,8 +672,8 @@ impl<D: Pmem + Drop> Room<D> {
         ensures step { (q : State) → Shows D.state self.old q → (q' : State) × StepsTo D.state self.old self.new Commit result q q' }
         ensures goes_on { GoesOn D.state cycle self.old self.new }
     {
-        let line = self.numbers.geometry.slot_start(slot) / 8;
-        match self.device.flush(Actor::new(COMMITTER), line) {
+        let line = self.numbers.geometry.slot_line(slot);
+        match self.device.flush(Actor::COMMITTER, line) {
             Ok(()) => {
                 self.cycle = Some(Cycle {
                     stage: CycleStage::FlushLines(flushed + 1),
@@ -696,7 +694,7 @@ impl<D: Pmem + Drop> Room<D> {
         ensures step { (q : State) → Shows D.state self.old q → (q' : State) × StepsTo D.state self.old self.new Commit result q q' }
         ensures goes_on { GoesOn D.state cycle self.old self.new }
     {
-        match self.device.fence(Actor::new(COMMITTER)) {
+        match self.device.fence(Actor::COMMITTER) {
             Ok(()) => {
                 self.cycle = Some(Cycle {
                     stage: CycleStage::WriteRecord,
@@ -930,8 +928,8 @@ impl<D: Pmem + Drop> Room<D> {
         ensures ready { OnOk result (IsSlotReady self.old.numbers.geometry (device_of D.state self.new) slot) }
         ensures err { IfErr result (IsFailedPart D.state self.old self.new) }
     {
-        let first = self.numbers.geometry.slot_start(slot);
-        self.device.flush(Actor::new(COMMITTER), first / 8)
+        let line = self.numbers.geometry.slot_line(slot);
+        self.device.flush(Actor::COMMITTER, line)
     }
 
     // Waits until what the committer has flushed persists.
@@ -944,7 +942,7 @@ impl<D: Pmem + Drop> Room<D> {
             → IsSlotSettled self.new.numbers.geometry (device_of D.state self.new) slot) }
         ensures err { IfErr result (IsFailedPart D.state self.old self.new) }
     {
-        self.device.fence(Actor::new(COMMITTER))
+        self.device.fence(Actor::COMMITTER)
     }
 
     // Writes the record under which all that is drawn is covered.

@@ -32,9 +32,9 @@ loop-line-preserved g c =
     let before = c.loop-line.device in
     let inv = c.loop-line.invariant in
     let line = c.loop-line.line in
-    let actor = c.new-committer.result.number in
+    let actor : ℕ = 0 in
     record {
-      ready = ready_more line (state before) (state c.flush.new.self) actor (orderly before) c.new-committer.ensures (omega (arith, c.loop-line-test.true, c.requires.within, inv.others.left.continues.same_words)) c.in_ok-flush.ensures.ok inv.ready;
+      ready = ready_more line (state before) (state c.flush.new.self) actor (orderly before) refl (omega (arith, c.loop-line-test.true, c.requires.within, inv.others.left.continues.same_words)) c.in_ok-flush.ensures.ok inv.ready;
       values = λ w. value-line line (state before) (state c.flush.new.self) actor w c.in_ok-flush.ensures.ok ∙ inv.values w;
       others = spares_trans inv.others (spares-flushed Low (state before) (state c.flush.new.self) (orderly before) (orderly c.flush.new.self) actor line c.in_ok-flush.ensures.ok);
       made = made-flush line (state c.args.device.now) (state before) (state c.flush.new.self) actor c.loop-line.auto.line c.in_ok-flush.ensures.ok inv.made;

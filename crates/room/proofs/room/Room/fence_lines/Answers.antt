@@ -1,5 +1,4 @@
-use Rattle.std.proofs.Common.{ℕ, refl, ◌∙◌, ap}
-use Rattle.pmem.specs.Device.{fenced}
+use Rattle.std.proofs.Common.{refl}
 use Rattle.room.proofs.Ticking.{fences, tick-refused, one-by_fence}
 use Rattle.room.proofs.Ticks.{left-fenced, goes_on-made, goes_on-failed}
 use Rattle.room.proofs.room.Room.fence_lines.Goals as goal
@@ -8,10 +7,10 @@ pub returns-in-Ok : goal.returns-in-Ok
 returns-in-Ok g c = record {
   step = λ q shown.
       fences g.D.Pmem.state c.args.self.now _ q c.args.cycle c.args.flushed (g.met.D.Pmem.orderly _) (g.met.D.Pmem.orderly _) shown c.requires.works c.requires.in_hand c.requires.stage c.requires.all
-      (c.in-Ok.ensures.ok ∙ ap (λ (n : ℕ). fenced n (g.D.Pmem.state c.args.self.now.device)) c.new.ensures)
+      (c.in-Ok.ensures.ok)
       refl refl refl refl refl refl;
   goes_on =
-      goes_on-made g.D.Pmem.state c.args.self.now _ c.args.cycle (one-by_fence c.new.result.number _ _ c.in-Ok.ensures.ok)
+      goes_on-made g.D.Pmem.state c.args.self.now _ c.args.cycle (one-by_fence 0 _ _ c.in-Ok.ensures.ok)
       c.requires.works refl (left-fenced c.args.self.now.batch c.args.cycle.writing.stage c.args.cycle.stage c.args.flushed c.requires.stage);
 }
 

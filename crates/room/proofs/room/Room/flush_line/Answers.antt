@@ -1,5 +1,4 @@
-use Rattle.std.proofs.Common.{ℕ, ◌/◌, refl, ◌∙◌, ap}
-use Rattle.pmem.specs.Device.{flushed}
+use Rattle.std.proofs.Common.{refl}
 use Rattle.room.proofs.Ticking.{flushes, tick-refused, one-by_flush}
 use Rattle.room.proofs.Ticks.{left-flushed, goes_on-made, goes_on-failed}
 use Rattle.room.proofs.room.Room.flush_line.Goals as goal
@@ -8,12 +7,12 @@ pub returns-in-Ok : goal.returns-in-Ok
 returns-in-Ok g c = record {
   step = λ q shown.
       flushes g.D.Pmem.state c.args.self.now _ q c.args.cycle c.args.flushed c.args.slot _ (g.met.D.Pmem.orderly _) (g.met.D.Pmem.orderly _) shown c.requires.works c.requires.in_hand c.requires.stage c.requires.line c.requires.slot
-      (ap (λ (n : ℕ). n / 8) c.slot_start-line.ensures.value)
-      (c.in-Ok.ensures.ok ∙ ap (λ (n : ℕ). flushed n (c.slot_start-line.result / 8) (g.D.Pmem.state c.args.self.now.device)) c.new.ensures)
+      c.slot_line-line.ensures.value
+      (c.in-Ok.ensures.ok)
       refl refl refl refl refl refl;
   goes_on =
       goes_on-made g.D.Pmem.state c.args.self.now _ c.args.cycle
-      (one-by_flush c.new.result.number (c.slot_start-line.result / 8) _ _ c.in-Ok.ensures.ok)
+      (one-by_flush 0 c.slot_line-line.result _ _ c.in-Ok.ensures.ok)
       c.requires.works refl (left-flushed c.args.self.now.batch c.args.cycle.writing.stage c.args.cycle.stage c.args.flushed c.args.slot c.requires.stage c.requires.line);
 }
 

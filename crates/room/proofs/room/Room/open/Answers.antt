@@ -1,4 +1,4 @@
-use Rattle.std.proofs.Common.{◌+◌, ◌*◌, ◌≤◌, List, Bool, length, refl, sym, ◌∙◌, ap, subst}
+use Rattle.std.proofs.Common.{◌+◌, ◌*◌, ◌≤◌, List, Bool, length, refl, sym, ◌∙◌, ap, subst, arith}
 use Rattle.base.specs.Layout.{Layout}
 use Rattle.room.proofs.Opening.{shows-opened, free-counted}
 use Rattle.room.proofs.room.Room.open.Goals as goal
@@ -19,7 +19,7 @@ pub returns-in-Ok-clause-may_open : goal.returns-in-Ok-clause-may_open
 returns-in-Ok-clause-may_open g c = c.in-Ok.ensures.ok.opens
 
 pub returns-in-Ok-clause-no_failure : goal.returns-in-Ok-clause-no_failure
-returns-in-Ok-clause-no_failure g c = c.in-Ok.ensures.ok.made.no_failures
+returns-in-Ok-clause-no_failure g c = omega (arith, c.in-Ok.ensures.ok.made.failures_made)
 
 pub returns-in-Ok-clause-made : goal.returns-in-Ok-clause-made
 returns-in-Ok-clause-made g c = c.in-Ok.ensures.ok.made
