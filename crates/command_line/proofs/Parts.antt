@@ -127,9 +127,3 @@ file_words words rest first old new e1 given set =
     let shown : AreGiven (first.now ∷ texts rest) new = shows_file (texts rest) first.now old new given set in
     let P : List Text → Type 0 = λ ws. AreGiven ws new in
     subst P (sym all) shown
-
-pub run_words : (words rest : List (Bor Text)) (first d : Bor Text) → words ≡ first ∷ rest → first.now ≡ codes "run" → length rest ≡ 1
-    → texts words ≡ codes "run" ∷ (get_or rest 0 d).now ∷ []
-run_words words [] first d e is_run one = absurd (omega arith)
-run_words words (name ∷ []) first d e is_run one = ap texts e ∙ ap (λ w. w ∷ name.now ∷ []) is_run
-run_words words (name ∷ more ∷ rest) first d e is_run one = absurd (omega arith)

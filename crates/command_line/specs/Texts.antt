@@ -5,6 +5,7 @@ use Rattle.base.specs.declared.fault.Fault.{Fault}
 use Rattle.base.specs.declared.fault.Fault.TheVariants as fault
 use Rattle.base.specs.Faults.{number_of}
 use Rattle.base.specs.declared.gap.Gap.{Gap}
+use Rattle.base.specs.declared.key.Key.{Key}
 use Rattle.command_line.specs.Numbers.{Text}
 use Rattle.command_line.specs.Rows.{row_text}
 use Rattle.command_line.specs.declared.command.Survivor.{Survivor}
@@ -72,11 +73,27 @@ opened_line gate persisted dirty next gaps =
 abbrev pub closed_line : ℕ → ℕ → ℕ → Text
 closed_line gate persisted dirty = codes "closed gate " ++ (decimal gate ++ (codes " p " ++ (decimal persisted ++ (codes " d " ++ decimal dirty))))
 
+-- the line of a sound image, with these numbers and gaps of its ruling record
+abbrev pub sound_line : ℕ → ℕ → ℕ → List Gap → Text
+sound_line gate persisted dirty gaps =
+    codes "sound gate " ++ (decimal gate ++ (codes " p " ++ (decimal persisted ++ (codes " d " ++ (decimal dirty ++ (codes " gaps" ++ gaps_text gaps))))))
+
+-- the line of a row and its key
+abbrev pub entry_text : Key → List ℕ → Text
+entry_text key row = decimal key.table ++ (codes " " ++ (decimal key.key ++ (codes " " ++ row_text row)))
+
+-- the line of a number of rows
+abbrev pub end_line : ℕ → Text
+end_line rows = codes "end " ++ decimal rows
+
 -- a printed line
 abbrev pub text_of : Printed → Text
 text_of (printed.Opened gate persisted dirty next gaps) = opened_line gate persisted dirty next gaps.now
 text_of (printed.Closed gate persisted dirty) = closed_line gate persisted dirty
 text_of (printed.Formatted words) = codes "formatted " ++ (decimal words ++ codes " words")
+text_of (printed.Sound gate persisted dirty gaps) = sound_line gate persisted dirty gaps.now
+text_of (printed.Entry key row) = entry_text key row.now
+text_of (printed.End rows) = end_line rows
 text_of (printed.Session session) = codes "session " ++ decimal session
 text_of (printed.Row bytes) = codes "row " ++ row_text bytes.now
 text_of printed.NoRow = codes "none"

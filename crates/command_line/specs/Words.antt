@@ -7,7 +7,7 @@ use Rattle.command_line.specs.Numbers.{Text, number_below}
 use Rattle.command_line.specs.declared.orders.Choice.{Choice}
 use Rattle.command_line.specs.declared.orders.Choice.TheVariants.{Slots, Places, Window}
 use Rattle.command_line.specs.declared.orders.Order.{Order}
-use Rattle.command_line.specs.declared.orders.Order.TheVariants.{Format, Run}
+use Rattle.command_line.specs.declared.orders.Order.TheVariants.{Format, Run, Check}
 
 -- the text is a file's name: it doesn't begin with '-'
 abbrev pub is_file_name : Text → Bool
@@ -77,9 +77,16 @@ abbrev pub GivesFormat : List Text → Order → Type 0
 GivesFormat words (Format name slots places window) =
     (parts : List Part) × SpellsFormat words parts name.now slots places window
 GivesFormat words (Run name) = ⊥
+GivesFormat words (Check name) = ⊥
+
+-- the words are one, a file's name
+pub record IsOneFile (words : List Text) (name : Text) : Type 0 where
+  pub only : words ≡ name ∷ []
+  pub named : is_file_name name ≡ true
 
 -- the words give this order: the subcommand, a file's name, and numbers within their limits
 abbrev pub Gives : List Text → Order → Type 0
 Gives words (Format name slots places window) =
     (rest : List Text) × (words ≡ codes "format" ∷ rest) × GivesFormat rest (Format name slots places window)
-Gives words (Run name) = (words ≡ codes "run" ∷ name.now ∷ []) × (is_file_name name.now ≡ true)
+Gives words (Run name) = (rest : List Text) × (words ≡ codes "run" ∷ rest) × IsOneFile rest name.now
+Gives words (Check name) = (rest : List Text) × (words ≡ codes "check" ∷ rest) × IsOneFile rest name.now

@@ -1,6 +1,6 @@
 ghost use Rattle.std.specs.Prelude.{◌≡◌, ◌∷◌, ◌++◌, IfSome, IfOk};
 ghost use Rattle.command_line.specs.Lines.{texts};
-ghost use Rattle.command_line.specs.Words.{Gives, GivesFormat, is_file_name, option_word};
+ghost use Rattle.command_line.specs.Words.{Gives, GivesFormat, IsOneFile, is_file_name, option_word};
 ghost use Rattle.command_line.specs.Given.{AreGiven, SetsFile, SetsNumber};
 
 use crate::number::number;
@@ -28,13 +28,24 @@ pub(crate) fn spelled_order<'a>(words: &[&'a str]) -> Option<Order<'a>>
 {
     let (name, rest) = words.split_first()?;
     if *name == "format" {
-        return spelled_format(rest);
+        spelled_format(rest)
+    } else if *name == "run" {
+        let file = one_file(rest)?;
+        Some(Order::Run { file })
+    } else if *name == "check" {
+        let file = one_file(rest)?;
+        Some(Order::Check { file })
+    } else {
+        None
     }
-    if *name != "run" {
-        return None;
-    }
-    match rest {
-        [file] if is_file_name(file) => Some(Order::Run { file }),
+}
+
+// The file's name that is all of the words.
+fn one_file<'a>(words: &[&'a str]) -> Option<&'a str>
+    ensures { IfSome result (λ file. IsOneFile (texts words.now) file.now) }
+{
+    match words {
+        [file] if is_file_name(file) => Some(file),
         _ => None,
     }
 }

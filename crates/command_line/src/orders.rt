@@ -15,6 +15,10 @@ pub enum Order<'a> {
     Run {
         file: &'a str,
     },
+    /// The image in the file is tested, and what it holds is told.
+    Check {
+        file: &'a str,
+    },
 }
 
 /// An option of `format`.

@@ -2,11 +2,12 @@ ghost use Rattle.std.specs.Prelude.{◌≡◌, ◌++◌, ◌∷◌, [], IfOk, On
 ghost use Rattle.std.specs.String.{string_bytes};
 ghost use Rattle.std.specs.Io.KnownBytes.{Appends};
 ghost use Rattle.command_line.specs.Rows.{row_text};
-ghost use Rattle.command_line.specs.Texts.{fault_details, fault_name, gaps_text, refused_text, survivor_text, text_of};
+ghost use Rattle.command_line.specs.Texts.{entry_text, fault_details, fault_name, gaps_text, refused_text, survivor_text, text_of};
 
 use crate::command::Survivor;
 use base::fault::Fault;
 use base::gap::Gap;
+use base::key::Key;
 use std::alloc::{AllocError, Global};
 use std::io;
 use std::io::Write;
@@ -31,6 +32,22 @@ pub enum Printed<'a> {
     },
     Formatted {
         words: u64,
+    },
+    /// An image is sound: the gate, the timestamps and the gaps of its ruling record.
+    Sound {
+        gate: u64,
+        persisted: u64,
+        dirty: u64,
+        gaps: &'a [Gap],
+    },
+    /// A row of an image, with its key.
+    Entry {
+        key: Key,
+        row: &'a [u8],
+    },
+    /// How many rows an image has.
+    End {
+        rows: usize,
     },
     Session(u8),
     Row(&'a [u8]),
@@ -83,6 +100,17 @@ pub fn text(alloc: Global, line: &Printed) -> Result<String, AllocError>
             dirty,
         } => format!(in alloc; "closed gate {gate} p {persisted} d {dirty}"),
         Printed::Formatted { words } => format!(in alloc; "formatted {words} words"),
+        Printed::Sound {
+            gate,
+            persisted,
+            dirty,
+            gaps,
+        } => {
+            let gaps = gaps_text(alloc, gaps)?;
+            format!(in alloc; "sound gate {gate} p {persisted} d {dirty} gaps{gaps}")
+        }
+        Printed::Entry { key, row } => entry_line(alloc, key, row),
+        Printed::End { rows } => format!(in alloc; "end {rows}"),
         Printed::Session(session) => format!(in alloc; "session {session}"),
         Printed::Row(bytes) => row_line(alloc, bytes),
         Printed::NoRow => String::from_str(alloc, "none"),
@@ -105,11 +133,26 @@ pub fn text(alloc: Global, line: &Printed) -> Result<String, AllocError>
 fn row_line(alloc: Global, bytes: &[u8]) -> Result<String, AllocError>
     ensures { IfOk result (λ text. string_bytes text ≡ codes "row " ++ row_text bytes.now) }
 {
+    let row = row_text(alloc, bytes)?;
+    format!(in alloc; "row {row}")
+}
+
+fn entry_line(alloc: Global, key: Key, bytes: &[u8]) -> Result<String, AllocError>
+    ensures { IfOk result (λ text. string_bytes text ≡ entry_text key bytes.now) }
+{
+    let table = key.table;
+    let number = key.key;
+    let row = row_text(alloc, bytes)?;
+    format!(in alloc; "{table} {number} {row}")
+}
+
+fn row_text(alloc: Global, bytes: &[u8]) -> Result<String, AllocError>
+    ensures { IfOk result (λ text. string_bytes text ≡ row_text bytes.now) }
+{
     if bytes.is_empty() {
-        return String::from_str(alloc, "row -");
+        return String::from_str(alloc, "-");
     }
-    let digits = hex::encode(alloc, bytes)?;
-    format!(in alloc; "row {digits}")
+    hex::encode(alloc, bytes)
 }
 
 fn stopped_line(alloc: Global, keeps: Survivor) -> Result<String, AllocError>

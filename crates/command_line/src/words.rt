@@ -5,7 +5,7 @@ ghost use Rattle.command_line.specs.Words.{Gives};
 use crate::given::spelled_order;
 use crate::orders::{Order, WordFault};
 use clap::error::ErrorKind;
-use clap::{Arg, ArgAction, ArgMatches, Command, value_parser};
+use clap::{Arg, ArgAction, Command, value_parser};
 use std::alloc::{AllocError, Global};
 
 /// What the words after the program's name ask for: a subcommand, a file, and numbers that have
@@ -13,19 +13,20 @@ use std::alloc::{AllocError, Global};
 pub fn order<'a>(alloc: Global, words: &'a [&'a str]) -> Result<Order<'a>, WordFault>
     ensures { IfOk result (λ order. Gives (texts words.now) order) }
 {
-    let mut command = command_line(alloc)?;
-    let matches = match command.try_get_matches_from_mut(words) {
-        Ok(matches) => matches,
-        Err(error) => return Err(word_fault(alloc, &error)),
-    };
-    let found = found_order(&matches);
     match spelled_order(words) {
-        Some(order) if found == Some(order) => Ok(order),
-        _ => {
-            let error = command.error(ErrorKind::InvalidValue, UNUSUAL_WORDS)?;
-            Err(word_fault(alloc, &error))
-        }
+        Some(order) => Ok(order),
+        None => Err(bad_words(alloc, words)?),
     }
+}
+
+// What to say of words that give no order: help where it was asked for, and else what is wrong with them.
+fn bad_words<'a>(alloc: Global, words: &'a [&'a str]) -> Result<WordFault, AllocError> {
+    let mut command = command_line(alloc)?;
+    let error = match command.try_get_matches_from_mut(words) {
+        Err(error) => error,
+        Ok(_) => command.error(ErrorKind::InvalidValue, UNUSUAL_WORDS)?,
+    };
+    Ok(word_fault(alloc, &error))
 }
 
 const UNUSUAL_WORDS: &str =
@@ -39,26 +40,10 @@ fn word_fault(alloc: Global, error: &clap::Error) -> WordFault {
     }
 }
 
-fn found_order<'a>(matches: &ArgMatches<'a>) -> Option<Order<'a>> {
-    let (name, given) = matches.subcommand()?;
-    let file = given.get_str("FILE")?;
-    if name == "run" {
-        return Some(Order::Run { file });
-    }
-    let slots = given.get_one::<u64>("slots")?;
-    let places = given.get_one::<u64>("places")?;
-    let window = given.get_one::<u64>("window")?;
-    Some(Order::Format {
-        file,
-        slots,
-        places,
-        window,
-    })
-}
-
 fn command_line<'a>(alloc: Global) -> Result<Command<'a>, AllocError> {
     let format = format_command(alloc)?;
     let run = run_command(alloc)?;
+    let check = check_command(alloc)?;
     let command = Command::new(alloc, "wbl")
         .no_binary_name(true)
         .bin_name("wbl")?
@@ -67,7 +52,8 @@ fn command_line<'a>(alloc: Global) -> Result<Command<'a>, AllocError> {
         )
         .subcommand_required(true)
         .subcommand(format)?
-        .subcommand(run)?;
+        .subcommand(run)?
+        .subcommand(check)?;
     Ok(command)
 }
 
@@ -108,6 +94,15 @@ const RUN_EXAMPLE: &str = "Example: wbl run db.img, with the lines
   poll 2
 puts the row 6162 under key 7 of table 1, and commits it. At the end of the input the image is
 closed and written back.";
+
+fn check_command<'a>(alloc: Global) -> Result<Command<'a>, AllocError> {
+    Command::new(alloc, "check")
+        .about("Tests the image in FILE without opening it, and prints its rows")
+        .after_help(
+            "Example: wbl check db.img\nprints: sound gate 3 p 1 d 10 gaps -\n        1 7 6162\n        end 1",
+        )
+        .arg(file_argument(alloc))
+}
 
 fn file_argument<'a>(alloc: Global) -> Arg<'a> {
     Arg::new(alloc, "FILE")

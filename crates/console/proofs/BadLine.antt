@@ -17,7 +17,7 @@ use Rattle.command_line.specs.Texts.{text_of}
 use Rattle.command_line.specs.declared.command.Command.{Command}
 use Rattle.command_line.specs.declared.command.Survivor.{Survivor}
 use Rattle.command_line.specs.declared.orders.Order.{Order}
-use Rattle.command_line.specs.declared.orders.Order.TheVariants.{Format, Run}
+use Rattle.command_line.specs.declared.orders.Order.TheVariants.{Format, Run, Check}
 use Rattle.command_line.specs.declared.printed.Printed.TheVariants as printed
 use Rattle.console.specs.BadLine.{BlamesNoLine, EndsAtBadLine, IfBadLine, IsBadLineAnd, IsPassed, IsRunAnd, MeetsBadLine, Tells, TellsBadLine, kept_by, kept_in}
 use Rattle.console.specs.Input.{BeginsWith}
@@ -108,5 +108,6 @@ pub told-so : (order : Order) (stop : Stop) (file : List ℕ) (input old mid new
 told-so order (Refused fault) file input old mid new met told = absurd told
 told-so order (Broken reason) file input old mid new met told = absurd told
 told-so (Format name slots places window) (NotACommand number) file input old mid new met told = absurd met
+told-so (Check name) (NotACommand number) file input old mid new met told = absurd met
 told-so (Run name) (NotACommand number) file input old mid new met told =
     (number, ends-so file input old mid new number (text_of (printed.NotACommand number) ++ 10 ∷ []) met told)

@@ -1,5 +1,6 @@
 mod Kept
 mod Files
+mod Rows
 mod Grown
 mod Obeyed
 mod Lives

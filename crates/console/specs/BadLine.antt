@@ -17,7 +17,7 @@ use Rattle.command_line.specs.declared.command.Command.{Command}
 use Rattle.command_line.specs.declared.command.Command.TheVariants.{Crash}
 use Rattle.command_line.specs.declared.command.Survivor.{Survivor}
 use Rattle.command_line.specs.declared.orders.Order.{Order}
-use Rattle.command_line.specs.declared.orders.Order.TheVariants.{Format, Run}
+use Rattle.command_line.specs.declared.orders.Order.TheVariants.{Format, Run, Check}
 use Rattle.command_line.specs.declared.printed.Printed.TheVariants as printed
 use Rattle.console.specs.Input.{BeginsWith}
 use Rattle.console.specs.Lives.{IsBegun}
@@ -106,3 +106,4 @@ BlamesNoLine stop = IfBadLine (λ number. ⊥) stop
 abbrev pub IsRunAnd : Order → Type 0 → Type 0
 IsRunAnd (Format name slots places window) P = ⊥
 IsRunAnd (Run name) P = P
+IsRunAnd (Check name) P = ⊥

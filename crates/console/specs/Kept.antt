@@ -1,5 +1,5 @@
 -- What FILE keeps of the history that its image stands for.
-use Rattle.std.specs.Prelude.{◌≡◌, ℕ, ◌++◌, List, None}
+use Rattle.std.specs.Prelude.{◌≡◌, ℕ, ◌++◌, List, None, Bool, true, false, ⊤}
 use Rattle.base.specs.Commits.{Commit}
 use Rattle.base.specs.Layout.{Layout, layout_with, newest_version, opened_layout}
 use Rattle.base.specs.Images.{Image, layout_of}
@@ -12,7 +12,7 @@ use Rattle.room.specs.Room.{Shows}
 use Rattle.room.specs.declared.room.Room.{Room}
 use Rattle.command_line.specs.ImageFile.{HoldsWords, IsFileOf}
 use Rattle.command_line.specs.declared.orders.Order.{Order}
-use Rattle.command_line.specs.declared.orders.Order.TheVariants.{Format, Run}
+use Rattle.command_line.specs.declared.orders.Order.TheVariants.{Format, Run, Check}
 
 -- the list begins with this history
 abbrev pub Extends : List Commit → List Commit → Type 0
@@ -51,3 +51,16 @@ pub record KeepsHistories (before after : List ℕ) : Type 0 where
 abbrev pub Leaves : Order → List ℕ → List ℕ → Type 0
 Leaves (Format name slots places window) before after = IsFileOf (fresh_image (layout_with newest_version slots places window)) after
 Leaves (Run name) before after = KeepsHistories before after
+Leaves (Check name) before after = ⊥
+
+-- a subcommand that ends well writes FILE, but for a check
+abbrev pub writes_file : Order → Bool
+writes_file (Format name slots places window) = true
+writes_file (Run name) = true
+writes_file (Check name) = false
+
+-- where the order is a check, this
+abbrev pub IfCheck : Order → Type 0 → Type 0
+IfCheck (Format name slots places window) P = ⊤
+IfCheck (Run name) P = ⊤
+IfCheck (Check name) P = P

@@ -4,3 +4,4 @@ pub mod Lives
 pub mod Input
 pub mod Crash
 pub mod BadLine
+pub mod Checked

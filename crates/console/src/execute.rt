@@ -1,12 +1,14 @@
-ghost use Rattle.std.specs.Prelude.{◌≡◌, ◌≤◌, ◌↔◌, ◌++◌, ◌∷◌, [], codes, decimal, IfErr, IfOk, IfSome, IsSome, OnOk};
+ghost use Rattle.std.specs.Prelude.{◌≡◌, ◌≤◌, ◌↔◌, ◌++◌, ◌∷◌, [], codes, decimal, IfErr, IfOk, IfSome, IsSome, IsTrue, OnOk, is_some};
 ghost use Rattle.std.specs.Io.KnownBytes.{Appends};
 ghost use Rattle.base.specs.Layout.{total_words};
 ghost use Rattle.command_line.specs.ImageFile.{IsFileOf};
 ghost use Rattle.base.specs.Fresh.{fresh_image};
 ghost use Rattle.console.specs.BadLine.{BlamesNoLine, EndsAtBadLine, IfBadLine, IsBadLineAnd, IsRunAnd, Tells, TellsBadLine};
-ghost use Rattle.console.specs.Kept.{Leaves};
+ghost use Rattle.console.specs.Checked.{PrintsChecked};
+ghost use Rattle.console.specs.Kept.{IfCheck, Leaves, writes_file};
 ghost use Rattle.console.specs.Lives.{Prints};
 
+use crate::checking::check_file;
 use crate::ended::Ended;
 use crate::format::fresh_file;
 use crate::run::run;
@@ -36,17 +38,15 @@ pub fn execute<T: Threads + Sync, R: Read, W: Write>(
 ) -> Ended
     ensures status { result.status ≤ 2 }
 
-    // There is something for FILE exactly where the status is 0.
-    ensures written { IsSome result.file ↔ (result.status ≡ 0) }
+    // There is something for FILE exactly where the status is 0, but for a check.
+    ensures written { IsSome result.file ↔ ((result.status ≡ 0) × IsTrue (writes_file order.now)) }
     ensures file { IfSome result.file (λ left. Leaves order.now file.now left.items) }
     ensures printed { IfSome result.file (λ left. Prints order.now file.now (R.remaining input.old) (W.contents output.old) (W.contents output.new) left.items) }
+    ensures checked { result.status ≡ 0 → IfCheck order.now (PrintsChecked file.now (W.contents output.old) (W.contents output.new)) }
     ensures bad_line { result.status ≡ 2 → IsRunAnd order.now (TellsBadLine file.now (R.remaining input.old) (W.contents output.old) (W.contents output.new)) }
 {
     match obey(rt, alloc, order, file, input, output) {
-        Ok(file) => Ended {
-            status: 0,
-            file: Some(file),
-        },
+        Ok(file) => Ended { status: 0, file },
         Err(stop) => Ended {
             status: tell(alloc, &stop, output),
             file: None,
@@ -54,7 +54,7 @@ pub fn execute<T: Threads + Sync, R: Read, W: Write>(
     }
 }
 
-// What FILE is to hold.
+// What FILE is to hold, or `None` where it stays as it is.
 fn obey<T: Threads + Sync, R: Read, W: Write>(
     rt: &T,
     alloc: Global,
@@ -62,9 +62,11 @@ fn obey<T: Threads + Sync, R: Read, W: Write>(
     file: &[u8],
     input: &mut R,
     output: &mut W,
-) -> Result<Vec<u8>, Stop>
-    ensures file { IfOk result (λ left. Leaves order.now file.now left.items) }
-    ensures printed { IfOk result (λ left. Prints order.now file.now (R.remaining input.old) (W.contents output.old) (W.contents output.new) left.items) }
+) -> Result<Option<Vec<u8>>, Stop>
+    ensures written { IfOk result (λ kept. is_some kept ≡ writes_file order.now) }
+    ensures file { IfOk result (λ kept. IfSome kept (λ left. Leaves order.now file.now left.items)) }
+    ensures printed { IfOk result (λ kept. IfSome kept (λ left. Prints order.now file.now (R.remaining input.old) (W.contents output.old) (W.contents output.new) left.items)) }
+    ensures checked { OnOk result (IfCheck order.now (PrintsChecked file.now (W.contents output.old) (W.contents output.new))) }
     ensures bad_line { IfErr result (IfBadLine (λ number. IsRunAnd order.now (EndsAtBadLine file.now (R.remaining input.old) (W.contents output.old) (W.contents output.new) number []))) }
 {
     match *order {
@@ -73,8 +75,21 @@ fn obey<T: Threads + Sync, R: Read, W: Write>(
             places,
             window,
             ..
-        } => format(alloc, Geometry::new(slots, places, window)?, output),
-        Order::Run { .. } => run(rt, alloc, file, input, output),
+        } => {
+            let geometry = Geometry::new(slots, places, window)?;
+            match format(alloc, geometry, output) {
+                Ok(left) => Ok(Some(left)),
+                Err(stop) => Err(stop),
+            }
+        }
+        Order::Run { .. } => match run(rt, alloc, file, input, output) {
+            Ok(left) => Ok(Some(left)),
+            Err(stop) => Err(stop),
+        },
+        Order::Check { .. } => match check_file(rt, alloc, file, output) {
+            Ok(()) => Ok(None),
+            Err(stop) => Err(stop),
+        },
     }
 }
 

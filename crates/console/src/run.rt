@@ -23,7 +23,6 @@ use base::fault::Fault;
 use command_line::command::Survivor;
 use command_line::image_file::{file_of_words, words_of_file};
 use command_line::printed::{Printed, print};
-use log_area::latest;
 use pmem_model::{Choice, SimPmem};
 use room::Room;
 use std::alloc::Global;
@@ -141,14 +140,15 @@ fn close<W: Write>(alloc: Global, room: Room<SimPmem>, output: &mut W) -> Result
         × ((q : State) → Shows device_of room q → Ends q None said left.items)) }
     ensures blames { IfErr result BlamesNoLine }
 {
+    let gate = room.closing_gate();
+    let next = room.status().next;
     let closed = close_room(room)?;
     let device = closed.crash(&Choice::Oldest)?;
-    let ruling = latest(&device)?.target;
     let file = file_of_device(alloc, &device)?;
     let line = Printed::Closed {
-        gate: ruling.gate(),
-        persisted: ruling.persisted(),
-        dirty: ruling.dirty(),
+        gate,
+        persisted: next.saturating_sub(1),
+        dirty: next,
     };
     print(alloc, output, &line)?;
     Ok(file)

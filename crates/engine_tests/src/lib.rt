@@ -3,6 +3,8 @@
 #![tactic(auto)]
 
 #[cfg(test)]
+mod checks;
+#[cfg(test)]
 mod closing;
 #[cfg(test)]
 mod crashes;
@@ -24,6 +26,8 @@ mod lives;
 mod memory;
 #[cfg(test)]
 mod program;
+#[cfg(test)]
+mod program_checks;
 #[cfg(test)]
 mod records;
 #[cfg(test)]

@@ -12,10 +12,10 @@ use std::{io, str};
 
 const RUN: Order<'static> = Order::Run { file: "db.img" };
 
-const FIRST_LIFE: &str = "begin\nput 2 1 7 6162\ndraw 2\nstamp 2\n";
+pub const FIRST_LIFE: &str = "begin\nput 2 1 7 6162\ndraw 2\nstamp 2\n";
 
 /// What a format with these numbers and 2 places leaves.
-fn fresh<H: Threads + Sync + Abort>(
+pub fn fresh<H: Threads + Sync + Abort>(
     rt: &H,
     alloc: Global,
     slots: u64,
@@ -34,12 +34,12 @@ fn fresh<H: Threads + Sync + Abort>(
     Ok(ended.file.ok_or("no file")?)
 }
 
-fn small<H: Threads + Sync + Abort>(rt: &H, alloc: Global) -> Result<Vec<u8>, Fail> {
+pub fn small<H: Threads + Sync + Abort>(rt: &H, alloc: Global) -> Result<Vec<u8>, Fail> {
     fresh(rt, alloc, 4, "formatted 104 words\n")
 }
 
 /// Obeys the lines over the file, and asserts what is printed and the status. What FILE is to hold.
-fn ended<H: Threads + Sync + Abort>(
+pub fn ended<H: Threads + Sync + Abort>(
     rt: &H,
     alloc: Global,
     file: &[u8],
@@ -56,7 +56,7 @@ fn ended<H: Threads + Sync + Abort>(
 }
 
 /// The same of lines that end well. What FILE holds then.
-fn runs<H: Threads + Sync + Abort>(
+pub fn runs<H: Threads + Sync + Abort>(
     rt: &H,
     alloc: Global,
     file: &[u8],
@@ -67,7 +67,7 @@ fn runs<H: Threads + Sync + Abort>(
 }
 
 /// The same of lines that end with this status, and leave FILE as it was.
-fn ends<H: Threads + Sync + Abort>(
+pub fn ends<H: Threads + Sync + Abort>(
     rt: &H,
     alloc: Global,
     file: &[u8],
@@ -81,7 +81,7 @@ fn ends<H: Threads + Sync + Abort>(
 }
 
 /// The file with other values in these words.
-fn changed(
+pub fn changed(
     rt: &impl Abort,
     alloc: Global,
     file: &[u8],
@@ -96,7 +96,7 @@ fn changed(
     Ok(file_of_words(alloc, words.as_slice())?)
 }
 
-fn word(rt: &impl Abort, alloc: Global, file: &[u8], word: usize) -> Result<u64, Fail> {
+pub fn word(rt: &impl Abort, alloc: Global, file: &[u8], word: usize) -> Result<u64, Fail> {
     let words = words_of_file(alloc, file)?;
     assert!(rt; word < words.len());
     Ok(words[word])
@@ -694,8 +694,8 @@ fn nothing_is_read_after_a_crash(rt: HostRuntime) -> Result<(), Fail> {
 
 /// Takes so many bytes, and then fails.
 #[derive(Drop)]
-struct Short {
-    left: usize,
+pub struct Short {
+    pub left: usize,
 }
 
 impl Write for Short {

@@ -760,6 +760,21 @@ impl<D: Pmem + Drop> Room<D> {
         }
     }
 
+    /// The number of the record that a close would write last.
+    pub fn closing_gate(&self) -> u64
+        ensures { (q : State) → Shows D.state self.now q → q.failed ≡ false → result ≡ closing_gate q }
+    {
+        self.numbers.record.gate() + self.records_to_close()
+    }
+
+    // How many records a close would write.
+    fn records_to_close(&self) -> u64
+        ensures limit { result ≤ 2 }
+        ensures value { (q : State) → Shows D.state self.now q → self.now.failed ≡ false → self.now.numbers.record.gate + result ≡ closing_gate q }
+    {
+        if self.cycle.is_some() { 2 } else { 1 }
+    }
+
     // Covers all that is drawn, under a record that reserves no timestamp.
     fn cover_all(&mut self) -> Result<(), Fault>
         ensures images { (q : State) → Shows D.state self.old q → LeavesOnly (device_of D.state self.old) (device_of D.state self.new) (StandsClosing q) }
@@ -784,7 +799,7 @@ impl<D: Pmem + Drop> Room<D> {
     fn is_past_last_record(&self) -> bool
         ensures { (q : State) → Shows D.state self.now q → self.now.failed ≡ false → result ≡ nat_le (2 ^ 62) (closing_gate q) }
     {
-        let records = if self.cycle.is_some() { 2 } else { 1 };
+        let records = self.records_to_close();
         self.numbers.lacks_records(records)
     }
 

@@ -1,6 +1,9 @@
 //! The program wbl: reads FILE, does the work of a subcommand, and writes FILE.
 #![tactic(auto)]
 
+mod files;
+
+use crate::files::replace;
 use anyhow::Error;
 use base::geometry::Geometry;
 use command_line::image_file::MOST_FILE_BYTES;
@@ -16,7 +19,7 @@ use std::io::Read;
 use std::process::ExitCode;
 use std::rt::Files;
 use std::thread::Threads;
-use std::{env, fs, io};
+use std::{env, io};
 
 /// The exit status where a file or memory failed.
 const FAILED: u8 = 1;
@@ -77,25 +80,29 @@ fn obey<H: Files + Input + Print + Threads + Sync>(
     let Some(bytes) = file else {
         return Ok(status);
     };
-    if fs::write(rt, name_of(order), bytes).is_err() {
-        return refuse(rt, alloc, &Printed::FileFault);
+    match replace(rt, alloc, name_of(order), bytes.as_slice()) {
+        Ok(()) => Ok(status),
+        Err(_) => refuse(rt, alloc, &Printed::FileFault),
     }
-    Ok(status)
 }
 
 fn name_of<'a>(order: &Order<'a>) -> &'a str {
     match *order {
         Order::Format { file, .. } => file,
         Order::Run { file } => file,
+        Order::Check { file } => file,
     }
 }
 
 // What FILE holds, of which no more is read than shows that it is too long.
 fn read_file(rt: &impl Files, alloc: Global, order: &Order) -> io::Result<Vec<u8>> {
     let mut bytes = Vec::new(alloc);
-    if let Order::Run { file } = order {
-        let most = MOST_FILE_BYTES as u64 + 1;
-        File::open(rt, *file)?.take(most).read_to_end(&mut bytes)?;
+    match *order {
+        Order::Format { .. } => {}
+        Order::Run { file } | Order::Check { file } => {
+            let most = MOST_FILE_BYTES as u64 + 1;
+            File::open(rt, file)?.take(most).read_to_end(&mut bytes)?;
+        }
     }
     Ok(bytes)
 }
