@@ -1,0 +1,80 @@
+use crate::history::{Front, Naming};
+use crate::shelf::Shelf;
+use crate::token::Token;
+use base::fault::Fault;
+use base::key::Key;
+use base::row::Row;
+use left_right::ReadHandle;
+use std::marker::Model;
+
+/// Reads what is published, and waits for nobody. Contracts see it as the list that it has seen or learnt.
+#[derive(Drop)]
+pub struct Reader<J: Naming> {
+    pub(crate) handle: ReadHandle<Shelf<J>>,
+    pub(crate) front: Front<J>,
+}
+
+impl<J: Naming> Model for Reader<J> {
+    ghost use Rattle.base.specs.Published as lists;
+
+    ghost Value = { lists.Published };
+
+    ghost use Rattle.board.specs.Changes.{list_of};
+
+    ghost view = { λ r. list_of r.front };
+}
+
+impl<J: Naming> Reader<J> {
+    ghost use Rattle.std.specs.Prelude.{◌≡◌, ◌⊎◌, Ok};
+    ghost use Rattle.board.specs.Views.{Saw, SawNothing, answer};
+    ghost use Rattle.board.specs.Lists.{Begins};
+    ghost use Rattle.base.specs.Published.{last_stamp};
+
+    /// The lowest and the last stamp that may be read.
+    #[tactic(auto, using(crate::proofs::Rules::begins_self))]
+    pub fn at(&mut self) -> Result<(u64, u64), Fault>
+        ensures { Saw self.old self.new result (λ list. Ok (list.floor, last_stamp list)) ⊎ SawNothing self.old self.new result }
+    {
+        let Some(guard) = self.handle.enter() else {
+            return Err(Fault::Shut);
+        };
+        let shelf: &Shelf<J> = &*guard;
+        if !self.front.begins(shelf.front()) {
+            return Err(Fault::Shut);
+        }
+        self.front.is_published();
+        self.front = shelf.front().again();
+        Ok((shelf.floor(), shelf.last()))
+    }
+
+    /// The row of the key after the batches up to the stamp.
+    #[tactic(auto, using(crate::proofs::Rules::begins_self))]
+    pub fn read(&mut self, stamp: u64, key: Key) -> Result<Option<Row>, Fault>
+        ensures { Saw self.old self.new result (λ list. answer list stamp key) ⊎ SawNothing self.old self.new result }
+    {
+        let Some(guard) = self.handle.enter() else {
+            return Err(Fault::Shut);
+        };
+        let shelf: &Shelf<J> = &*guard;
+        if !self.front.begins(shelf.front()) {
+            return Err(Fault::Shut);
+        }
+        self.front.is_published();
+        self.front = shelf.front().again();
+        shelf.read(stamp, &key)
+    }
+
+    /// Takes in what was published when the token was made. From now on it sees no less.
+    #[tactic(auto, using(crate::proofs::Rules::begins_self))]
+    pub fn learn(&mut self, token: &Token<J>)
+        ensures known { Begins self.old self.new }
+        ensures told { Begins token.now self.new }
+        ensures one { (self.new ≡ self.old) ⊎ (self.new ≡ token.now) }
+    {
+        self.front.is_published();
+        token.front.is_published();
+        if self.front.begins(&token.front) {
+            self.front = token.front.again();
+        }
+    }
+}
