@@ -9,3 +9,5 @@ pub mod Staying
 pub mod Standing
 pub mod Puts
 pub mod Settling
+pub mod Reading
+pub mod Halving
