@@ -10,4 +10,3 @@ pub mod Standing
 pub mod Puts
 pub mod Settling
 pub mod Reading
-pub mod Halving

@@ -192,27 +192,18 @@ impl<J: Naming> Shelf<J> {
     }
 }
 
-ghost use Rattle.std.specs.Prelude.{◌≡◌, Option, IfOk, IsTrue, map};
-ghost use Rattle.base.specs.Keys.{is_rising, lookup_key};
+ghost use Rattle.std.specs.Prelude.{◌≡◌, Option, IfOk};
+ghost use Rattle.base.specs.Keys.{lookup_key};
 ghost use Rattle.board.specs.Cells.{after_commits, after_batches};
 
 // What a commit writes under the key.
 fn written(writes: &[(Key, Option<Row>)], key: &Key) -> Option<Option<Row>>
-    requires rising { IsTrue (is_rising (map (λ write. write.0) writes.now)) }
     ensures { result ≡ lookup_key writes.now key.now }
 {
-    let mut rest = writes;
-    while rest.len() > 0 {
-        let middle = rest.len() / 2;
-        let (at, row) = rest[middle];
-        if at == *key {
-            return Some(row);
+    for write in writes {
+        if write.0 == *key {
+            return Some(write.1);
         }
-        rest = if at.is_below(key) {
-            &rest[middle + 1..]
-        } else {
-            &rest[..middle]
-        };
     }
     None
 }
