@@ -1,0 +1,12 @@
+pub mod Fronts
+pub mod Adding
+pub mod Rules
+pub mod Ends
+pub mod Cells
+pub mod Covers
+pub mod Growing
+pub mod Staying
+pub mod Standing
+pub mod Puts
+pub mod Settling
+pub mod Reading

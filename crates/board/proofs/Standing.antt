@@ -1,0 +1,35 @@
+-- What is stored still stands for the published list after a change.
+use Rattle.std.proofs.Common.{◌≡◌, ℕ, ◌≤◌, max, List, [], ◌∷◌, ◌++◌, Option, refl, sym, ap, ◌∙◌, arith}
+use Rattle.std.proofs.lemmas.List.Sums.{fold_push}
+use Rattle.base.specs.declared.key.Key.{Key}
+use Rattle.base.specs.Keys.{lookup_key}
+use Rattle.base.specs.Batches.{Batch}
+use Rattle.base.specs.Published.{Published, row_at}
+use Rattle.board.specs.declared.change.Change.TheVariants.{Add, Raise}
+use Rattle.board.specs.Changes.{changed}
+use Rattle.board.specs.Cells.{after_batch, after_batches}
+use Rattle.board.specs.Stored.{Stands}
+use Rattle.board.proofs.Cells.{laid-batches}
+use Rattle.board.proofs.Ends.{last_from-push, persisted_from-push}
+
+pub stands_add : (stamp persisted floor : ℕ) (rows : List (Key × List ℕ)) (batches : List Batch) (list : Published) (batch : Batch) → Stands stamp persisted floor rows batches list
+    → Stands stamp persisted floor rows (batches ++ batch ∷ []) (changed list (Add batch))
+stands_add stamp persisted floor rows batches list batch h = record {
+  floor_is = h.floor_is;
+  last = last_from-push stamp batches batch ∙ sym (last_from-push list.stamp list.batches batch);
+  persisted_is = persisted_from-push persisted batches batch ∙ sym (persisted_from-push list.persisted list.batches batch);
+  rows_are = λ at key le.
+      let row : Option (List ℕ) = lookup_key list.rows key in
+      fold_push (after_batch key at) (lookup_key rows key) batches batch
+      ∙ (ap (λ (r : Option (List ℕ)). after_batch key at r batch) (h.rows_are at key le ∙ laid-batches (lookup_key list.rows) list.batches at key)
+      ∙ (sym (fold_push (after_batch key at) row list.batches batch) ∙ sym (laid-batches (lookup_key list.rows) (list.batches ++ batch ∷ []) at key)));
+}
+
+pub stands_raise : (stamp persisted floor : ℕ) (rows : List (Key × List ℕ)) (batches : List Batch) (list : Published) (to : ℕ) → Stands stamp persisted floor rows batches list
+    → Stands stamp persisted (max floor to) rows batches (changed list (Raise to))
+stands_raise stamp persisted floor rows batches list to h = record {
+  floor_is = ap (λ (n : ℕ). max n to) h.floor_is;
+  last = h.last;
+  persisted_is = h.persisted_is;
+  rows_are = λ at key le. h.rows_are at key (omega (arith, le));
+}

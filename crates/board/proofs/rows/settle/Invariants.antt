@@ -1,0 +1,7 @@
+use Rattle.base.specs.Published.{Published}
+use Rattle.board.specs.Stored.{Stands}
+use Rattle.board.proofs.rows.settle.Given as goal
+
+abbrev pub invariant-loop : goal.invariant-loop
+invariant-loop l =
+    (list : Published) → Stands l.initial.last.0 l.initial.last.1 l.floor l.initial.rows.entries l.initial.batches.items list → Stands l.last.0 l.last.1 l.floor l.rows.entries l.batches.items list

@@ -1,0 +1,14 @@
+-- What is stored stands for a published list from its floor on: batches that are not above it are laid into the rows.
+use Rattle.std.specs.Prelude.{ℕ, ◌≤◌, ◌≡◌, List}
+use Rattle.base.specs.declared.key.Key.{Key}
+use Rattle.base.specs.Keys.{lookup_key}
+use Rattle.base.specs.Batches.{Batch}
+use Rattle.base.specs.Published.{Published, last_from, last_stamp, row_at}
+use Rattle.board.specs.Lists.{persisted_from, last_persisted}
+use Rattle.board.specs.Cells.{after_batches}
+
+pub record Stands (stamp persisted floor : ℕ) (rows : List (Key × List ℕ)) (batches : List Batch) (list : Published) : Type 0 where
+  pub floor_is : floor ≡ list.floor
+  pub last : last_from stamp batches ≡ last_stamp list
+  pub persisted_is : persisted_from persisted batches ≡ last_persisted list
+  pub rows_are : (at : ℕ) (key : Key) → list.floor ≤ at → after_batches key at (lookup_key rows key) batches ≡ row_at list at key

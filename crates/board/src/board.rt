@@ -1,0 +1,247 @@
+use crate::change::{Change, Start};
+use crate::history::{Book, Front, History, Naming};
+use crate::reader::Reader;
+use crate::shelf::{Shelf, Step};
+use crate::token::Token;
+use base::Ts;
+use base::batch::Batch;
+use base::fault::Fault;
+use base::key::Key;
+use base::row::Row;
+use left_right::{Absorb, WriteHandle};
+use std::alloc::{AllocError, Global};
+use std::marker::Model;
+use std::sync::Wait;
+
+/// A value that is made by a history, and operations each of which adds a change to it.
+pub trait Kept<O> {
+    ghost use Rattle.std.specs.Prelude.{List};
+    ghost use Rattle.board.specs.declared.change.Change.{Change};
+
+    ghost log: { Self → List Change };
+
+    ghost change: { O → Change };
+}
+
+impl<J: Naming> Kept<Step<J>> for Shelf<J> {
+    ghost log = { λ s. s };
+
+    ghost change = { λ step. step.change };
+}
+
+/// What the one writer holds. Its drop waits for those that are reading, and readers see nothing from then on.
+#[derive(Drop)]
+pub struct Desk<J: Naming, T: Absorb<O> + Kept<O> + Drop, O: Drop, R: Wait + Drop> {
+    handle: WriteHandle<T, O, R>,
+    book: Book<J>,
+    // The history, with what waits, and where its list ends.
+    front: Front<J>,
+    stamp: u64,
+    persisted: Ts,
+    // What waits last, where there was no memory to hand it over.
+    kept: Option<O>,
+}
+
+/// The board of a history.
+pub type Board<J, R> = Desk<J, Shelf<J>, Step<J>, R>;
+
+impl<J: Naming, T: Absorb<O> + Kept<O> + Drop, O: Drop, R: Wait + Drop> Model for Desk<J, T, O, R> {
+    ghost use Rattle.board.specs.Shown as views;
+
+    ghost Value = { views.Shown };
+
+    ghost use Rattle.std.specs.Prelude.{◌≡◌, ◌<◌, ◌++◌, length, map};
+    ghost use Rattle.left_right.specs.Handles.{published, pending};
+    ghost use Rattle.base.specs.Published.{last_stamp};
+    ghost use Rattle.board.specs.Changes.{list_of};
+    ghost use Rattle.board.specs.Lists.{last_persisted};
+    ghost use Rattle.board.specs.Shown.{one_or_none};
+
+    ghost view = { λ b. record { list = list_of (T.log (published b.handle)); waits = map T.change (pending b.handle ++ one_or_none b.kept) } };
+
+    ghost invariant = { λ b. (0 < length (T.log (published b.handle))) × (b.front ≡ T.log (published b.handle) ++ map T.change (pending b.handle ++ one_or_none b.kept)) × (b.stamp ≡ last_stamp (list_of b.front)) × (b.persisted ≡ last_persisted (list_of b.front)) };
+}
+
+impl<J: Naming, R: Wait + Drop> Desk<J, Shelf<J>, Step<J>, R> {
+    ghost use Rattle.std.specs.Prelude.{◌≡◌, ◌⊎◌, ◌<◌, ◌≤◌, length, [], Ok, Some, None, All, IfOk, IfErr, MatchResult, vec_capacity};
+    ghost use Rattle.base.specs.declared.fault.Fault.TheVariants.{OutOfMemory};
+    ghost use Rattle.base.specs.Published.{last_stamp};
+    ghost use Rattle.board.specs.declared.change.Change.TheVariants.{Add, Raise};
+    ghost use Rattle.board.specs.Changes.{changed};
+    ghost use Rattle.board.specs.Lists.{Fits, IsPublished, last_persisted};
+    ghost use Rattle.board.specs.Openings.{opening};
+    ghost use Rattle.board.specs.Shown.{whole, shown, waiting};
+
+    /// Publishes the rows alone, and makes readers that have seen them: so many, or fewer.
+    pub fn open(
+        rt: R,
+        alloc: Global,
+        history: History,
+        stamp: u64,
+        persisted: Ts,
+        rows: &[(Key, Row)],
+        readers: usize,
+    ) -> Result<(Desk<J, Shelf<J>, Step<J>, R>, Vec<Reader<J>>), Fault>
+        requires name { history ≡ J.book }
+        requires readers { (0 < readers) × (readers ≤ 8) }
+        ensures board { IfOk result (λ opened. opened.0 ≡ record { list = opening stamp persisted rows.now; waits = [] }) }
+        ensures readers { IfOk result (λ opened. (0 < length opened.1.items) × (length opened.1.items ≤ readers) × All (λ reader. reader ≡ opened.0.list) opened.1.items) }
+        ensures fault { IfErr result (λ fault. fault ≡ OutOfMemory) }
+    {
+        let Ok(board) = Desk::alone(rt, alloc, history, stamp, persisted, rows, readers) else {
+            return Err(Fault::OutOfMemory);
+        };
+        let Ok(made) = Vec::with_capacity(alloc, readers) else {
+            return Err(Fault::OutOfMemory);
+        };
+        let made = board.readers(made, readers);
+        if made.is_empty() {
+            return Err(Fault::OutOfMemory);
+        }
+        Ok((board, made))
+    }
+
+    // The board without readers, with room for so many.
+    fn alone(
+        rt: R,
+        alloc: Global,
+        history: History,
+        stamp: u64,
+        persisted: Ts,
+        rows: &[(Key, Row)],
+        readers: usize,
+    ) -> Result<Desk<J, Shelf<J>, Step<J>, R>, AllocError>
+        requires name { history ≡ J.book }
+        requires readers { (0 < readers) × (readers ≤ 8) }
+        ensures { IfOk result (λ board. board ≡ record { list = opening stamp persisted rows.now; waits = [] }) }
+    {
+        let start = Start {
+            stamp,
+            persisted,
+            rows: rows.to_vec(alloc)?,
+        };
+        let Some((book, front)) = history.begun::<J>(&Change::Begin(start)) else {
+            return Err(AllocError);
+        };
+        let first = Shelf::new(alloc, front.again(), stamp, persisted, rows)?;
+        let second = Shelf::new(alloc, front.again(), stamp, persisted, rows)?;
+        Ok(Desk {
+            handle: WriteHandle::new(alloc, rt, first, second, readers)?,
+            book,
+            front,
+            stamp,
+            persisted,
+            kept: None,
+        })
+    }
+
+    // Makes readers, as many as there is room for in the list, or fewer.
+    fn readers(&self, none: Vec<Reader<J>>, readers: usize) -> Vec<Reader<J>>
+        requires { (none.items ≡ []) × (readers ≤ vec_capacity none) }
+        ensures count { length result.items ≤ readers }
+        ensures readers { All (λ reader. reader ≡ self.now.list) result.items }
+    {
+        let mut made = none;
+        for _ in 0..readers {
+            let Ok(handle) = self.handle.handle() else {
+                break;
+            };
+            let front = self.handle.published().front().again();
+            made.push_reserved(Reader { handle, front });
+        }
+        made
+    }
+
+    /// The last stamp and the timestamp persisted then, with what waits.
+    pub fn last(&self) -> (u64, Ts)
+        ensures { result ≡ (last_stamp (whole self.now), last_persisted (whole self.now)) }
+    {
+        (self.stamp, self.persisted)
+    }
+
+    /// Publishes what waits and then the batch. Where memory runs out, the batch comes back, or waits with the others.
+    pub fn publish(&mut self, batch: Batch) -> Result<(), (Fault, Option<Batch>)>
+        requires { Fits (whole self.old) batch }
+        ensures { MatchResult result (λ _. self.new ≡ shown (waiting self.old (Add batch))) (λ e. ((e ≡ (OutOfMemory, Some batch)) × (self.new ≡ self.old)) ⊎ ((e ≡ (OutOfMemory, None)) × (self.new ≡ waiting self.old (Add batch)))) }
+    {
+        match self.add(Change::Add(batch)) {
+            Ok(()) => self.flush().map_err(|fault| (fault, None)),
+            Err(Change::Add(batch)) => Err((Fault::OutOfMemory, Some(batch))),
+            Err(_) => Err((Fault::OutOfMemory, None)),
+        }
+    }
+
+    /// Publishes what waits, and raises the lowest stamp that may be read to this one, where it is lower.
+    pub fn prune(&mut self, stamp: u64) -> Result<(), Fault>
+        requires { stamp ≤ last_stamp self.old.list }
+        ensures below { stamp ≤ self.old.list.floor → (result ≡ Ok tt) × (self.new ≡ self.old) }
+        ensures above { self.old.list.floor < stamp → MatchResult result (λ _. self.new ≡ shown (waiting self.old (Raise stamp))) (λ fault. (fault ≡ OutOfMemory) × ((self.new ≡ self.old) ⊎ (self.new ≡ waiting self.old (Raise stamp)))) }
+    {
+        if stamp <= self.handle.published().floor() {
+            return Ok(());
+        }
+        match self.add(Change::Raise(stamp)) {
+            Ok(()) => self.flush(),
+            Err(_) => Err(Fault::OutOfMemory),
+        }
+    }
+
+    /// Publishes what waits.
+    pub fn flush(&mut self) -> Result<(), Fault>
+        ensures { MatchResult result (λ _. self.new ≡ shown self.old) (λ fault. (fault ≡ OutOfMemory) × (self.new ≡ self.old)) }
+    {
+        self.hand_over();
+        if self.kept.is_some() {
+            return Err(Fault::OutOfMemory);
+        }
+        if self.handle.publish().is_err() {
+            return Err(Fault::OutOfMemory);
+        }
+        Ok(())
+    }
+
+    // Adds a change to the history, where it waits. Where memory runs out, it comes back.
+    fn add(&mut self, change: Change) -> Result<(), Change>
+        requires { IsPublished (whole self.old) → IsPublished (changed (whole self.old) change) }
+        ensures { MatchResult result (λ _. self.new ≡ waiting self.old change) (λ back. (back ≡ change) × (self.new ≡ self.old)) }
+    {
+        self.hand_over();
+        if self.kept.is_some() {
+            return Err(change);
+        }
+        self.front.is_published();
+        let Some(front) = self.front.then(&self.book, &change) else {
+            return Err(change);
+        };
+        let (stamp, persisted) = change.end((self.stamp, self.persisted));
+        self.stamp = stamp;
+        self.persisted = persisted;
+        self.front = front.again();
+        self.kept = Some(Step { change, front });
+        self.hand_over();
+        Ok(())
+    }
+
+    // Hands over what was kept, where there is memory.
+    fn hand_over(&mut self)
+        ensures { self.new ≡ self.old }
+    {
+        if let Some(step) = self.kept.take() {
+            if let Err(step) = self.handle.append(step) {
+                self.kept = Some(step);
+            }
+        }
+    }
+
+    /// Tells what is published.
+    pub fn token(&self) -> Token<J>
+        ensures { result ≡ self.now.list }
+    {
+        let shelf = self.handle.published();
+        Token {
+            front: shelf.front().again(),
+            stamp: shelf.last(),
+            persisted: shelf.last_persisted(),
+        }
+    }
+}

@@ -1,0 +1,20 @@
+//! Published batches: one writer publishes them, and readers that never wait read them.
+#![tactic(auto)]
+
+mod board;
+pub mod change;
+pub mod history;
+pub mod law;
+pub mod reader;
+mod rows;
+pub mod shelf;
+pub mod token;
+
+pub use board::{Board, Desk, Kept};
+pub use history::{History, Naming};
+pub use reader::Reader;
+pub use shelf::{Shelf, Step};
+pub use token::Token;
+
+#[cfg(test)]
+mod tests;

@@ -1,0 +1,243 @@
+ghost use Rattle.board.specs.Rules.{Ends};
+
+use crate::change::Change;
+use crate::history::{Front, Naming};
+use crate::rows::{Rows, row_of, rows_of, settle};
+use base::Ts;
+use base::batch::{Batch, Commit};
+use base::fault::Fault;
+use base::key::Key;
+use base::row::Row;
+use left_right::Absorb;
+use std::alloc::{AllocError, Global};
+use std::marker::Model;
+
+/// A change, and evidence that the history has it: the history up to it.
+#[derive(Drop)]
+pub struct Step<J: Naming> {
+    pub change: Change,
+    pub front: Front<J>,
+    pub ghost ends: { Ends front change },
+}
+
+/// What is published. Contracts see it as the history that it was made by, which is the book's.
+#[derive(Drop)]
+pub struct Shelf<J: Naming> {
+    // Of the last batch that was laid into the rows, or of the rows alone.
+    stamp: u64,
+    persisted: Ts,
+    rows: Rows,
+    batches: Vec<Batch>,
+    floor: u64,
+    front: Front<J>,
+    alloc: Global,
+}
+
+impl<J: Naming> Model for Shelf<J> {
+    ghost use Rattle.std.specs.Prelude.{List};
+    ghost use Rattle.board.specs.declared.change.Change.{Change};
+
+    ghost Value = { List Change };
+
+    ghost use Rattle.board.specs.Changes.{list_of};
+    ghost use Rattle.board.specs.Stored.{Stands};
+
+    ghost view = { λ s. s.front };
+
+    ghost invariant = { λ s. Stands s.stamp s.persisted s.floor s.rows.entries s.batches.items (list_of s.front) };
+}
+
+impl<J: Naming> Absorb<Step<J>> for Shelf<J> {
+    ghost use Rattle.std.specs.Prelude.{[], ◌∷◌, ◌++◌};
+
+    type State = Shelf<J>;
+
+    ghost state = { λ s. s };
+
+    ghost applied = { λ log step. log ++ step.change ∷ [] };
+
+    fn absorb_first(&mut self, step: &Step<J>, _other: &Shelf<J>) -> Result<(), AllocError> {
+        if !self.front.is_next(&step.front) {
+            return Err(AllocError);
+        }
+        match &step.change {
+            Change::Begin(_) => Err(AllocError),
+            Change::Add(batch) => {
+                let batch = copy_of(self.alloc, batch)?;
+                self.add(batch, &step.front)
+            }
+            Change::Raise(stamp) => {
+                self.raise(*stamp, &step.front);
+                Ok(())
+            }
+        }
+    }
+}
+
+impl<J: Naming> Shelf<J> {
+    ghost use Rattle.std.specs.Prelude.{◌≡◌, ◌≤◌, ◌<◌, ◌++◌, ◌∷◌, [], length, if◌then◌else◌, is_ok, IfOk};
+    ghost use Rattle.base.specs.Published.{last_stamp, row_at};
+    ghost use Rattle.board.specs.declared.change.Change.TheVariants.{Add, Raise};
+    ghost use Rattle.board.specs.Changes.{list_of};
+    ghost use Rattle.board.specs.Openings.{opening};
+    ghost use Rattle.board.specs.Lists.{IsPublished, last_persisted};
+    ghost use Rattle.board.specs.Views.{answer};
+    ghost use Rattle.board.specs.Cells.{after_batches};
+
+    /// The rows alone, at their stamp.
+    pub(crate) fn new(
+        alloc: Global,
+        front: Front<J>,
+        stamp: u64,
+        persisted: Ts,
+        rows: &[(Key, Row)],
+    ) -> Result<Shelf<J>, AllocError>
+        requires { list_of front ≡ opening stamp persisted rows.now }
+        ensures { IfOk result (λ shelf. shelf ≡ front) }
+    {
+        let rows = rows_of(alloc, rows)?;
+        Ok(Shelf {
+            stamp,
+            persisted,
+            rows,
+            batches: Vec::new(alloc),
+            floor: stamp,
+            front,
+            alloc,
+        })
+    }
+
+    // Adds the batch, by which the history goes on to the front.
+    fn add(&mut self, batch: Batch, front: &Front<J>) -> Result<(), AllocError>
+        requires { front.now ≡ self.old ++ Add batch ∷ [] }
+        ensures { self.new ≡ (if is_ok result then front.now else self.old) }
+    {
+        self.front.is_published();
+        self.batches.push(batch).map_err(|_| AllocError)?;
+        self.front = front.again();
+        Ok(())
+    }
+
+    // Raises the floor, by which the history goes on to the front.
+    fn raise(&mut self, stamp: u64, front: &Front<J>)
+        requires { front.now ≡ self.old ++ Raise stamp ∷ [] }
+        ensures { self.new ≡ front.now }
+    {
+        self.front.is_published();
+        self.front = front.again();
+        self.floor = self.floor.max(stamp);
+        let (stamp, persisted) = settle(
+            &mut self.rows,
+            &mut self.batches,
+            self.floor,
+            (self.stamp, self.persisted),
+        );
+        self.stamp = stamp;
+        self.persisted = persisted;
+    }
+
+    /// The history that it was made by.
+    pub(crate) fn front(&self) -> &Front<J>
+        ensures front { result.now ≡ self.now }
+    {
+        &self.front
+    }
+
+    /// The lowest stamp that may be read.
+    pub(crate) fn floor(&self) -> u64
+        ensures { result ≡ (list_of self.now).floor }
+    {
+        self.floor
+    }
+
+    /// The timestamp persisted at the last stamp.
+    pub(crate) fn last_persisted(&self) -> Ts
+        ensures { result ≡ last_persisted (list_of self.now) }
+    {
+        match self.batches.last() {
+            Some(batch) => batch.persisted(),
+            None => self.persisted,
+        }
+    }
+
+    /// The row of the key after the batches up to the stamp, or why there is no answer.
+    pub(crate) fn read(&self, stamp: u64, key: &Key) -> Result<Option<Row>, Fault>
+        ensures { result ≡ answer (list_of self.now) stamp key.now }
+    {
+        if stamp < self.floor {
+            return Err(Fault::TooOld);
+        }
+        if self.last() < stamp {
+            return Err(Fault::NotYet);
+        }
+        Ok(self.row(stamp, key))
+    }
+
+    /// The last stamp that may be read.
+    pub(crate) fn last(&self) -> u64
+        ensures { result ≡ last_stamp (list_of self.now) }
+    {
+        match self.batches.last() {
+            Some(batch) => batch.stamp(),
+            None => self.stamp,
+        }
+    }
+
+    /// The row of the key after the batches up to the stamp.
+    pub(crate) fn row(&self, stamp: u64, key: &Key) -> Option<Row>
+        requires { (list_of self.now).floor ≤ stamp }
+        ensures { result ≡ row_at (list_of self.now) stamp key.now }
+    {
+        newest(row_of(&self.rows, key), &self.batches, stamp, key)
+    }
+}
+
+ghost use Rattle.std.specs.Prelude.{◌≡◌, Option, IfOk};
+ghost use Rattle.base.specs.Keys.{lookup_key};
+ghost use Rattle.board.specs.Cells.{after_commits, after_batches};
+
+// What a commit writes under the key.
+fn written(writes: &[(Key, Option<Row>)], key: &Key) -> Option<Option<Row>>
+    ensures { result ≡ lookup_key writes.now key.now }
+{
+    for write in writes {
+        if write.0 == *key {
+            return Some(write.1);
+        }
+    }
+    None
+}
+
+// The row after the commits.
+fn overlaid(row: Option<Row>, commits: &[Commit], key: &Key) -> Option<Row>
+    ensures { result ≡ after_commits key.now row commits.now }
+{
+    let mut row = row;
+    for commit in commits {
+        if let Some(written) = written(commit.writes(), key) {
+            row = written;
+        }
+    }
+    row
+}
+
+// The row after the batches up to the stamp.
+fn newest(row: Option<Row>, batches: &[Batch], stamp: u64, key: &Key) -> Option<Row>
+    ensures { result ≡ after_batches key.now stamp row batches.now }
+{
+    let mut row = row;
+    for batch in batches {
+        if batch.stamp() <= stamp {
+            row = overlaid(row, batch.commits(), key);
+        }
+    }
+    row
+}
+
+// A copy of the batch.
+fn copy_of(alloc: Global, batch: &Batch) -> Result<Batch, AllocError>
+    ensures { IfOk result (λ copy. copy ≡ batch.now) }
+{
+    let commits = batch.commits().to_vec(alloc)?;
+    Ok(Batch::new(batch.from(), batch.stamp(), batch.persisted(), commits))
+}

@@ -1,0 +1,47 @@
+use crate::history::{Front, Naming};
+use base::Ts;
+use std::marker::Model;
+
+/// What was published when it was made. Contracts see it as that list.
+#[derive(Drop)]
+pub struct Token<J: Naming> {
+    pub(crate) front: Front<J>,
+    pub(crate) stamp: u64,
+    pub(crate) persisted: Ts,
+}
+
+impl<J: Naming> Model for Token<J> {
+    ghost use Rattle.base.specs.Published as lists;
+
+    ghost Value = { lists.Published };
+
+    ghost use Rattle.std.specs.Prelude.{◌≡◌};
+    ghost use Rattle.base.specs.Published.{last_stamp};
+    ghost use Rattle.board.specs.Changes.{list_of};
+    ghost use Rattle.board.specs.Lists.{last_persisted};
+
+    ghost view = { λ t. list_of t.front };
+
+    ghost invariant = { λ t. (t.stamp ≡ last_stamp (list_of t.front)) × (t.persisted ≡ last_persisted (list_of t.front)) };
+}
+
+impl<J: Naming> Token<J> {
+    ghost use Rattle.std.specs.Prelude.{◌≡◌, ◌<◌, ◌↔◌, IsTrue};
+    ghost use Rattle.base.specs.Published.{last_stamp};
+    ghost use Rattle.board.specs.Lists.{has_commit};
+
+    /// The last stamp that was published.
+    pub fn stamp(&self) -> u64
+        ensures { result ≡ last_stamp self.now }
+    {
+        self.stamp
+    }
+
+    /// Whether a published batch holds the commit.
+    pub fn covers(&self, timestamp: Ts) -> bool
+        ensures { self.now.persisted < timestamp → IsTrue result ↔ IsTrue (has_commit self.now timestamp) }
+    {
+        self.front.is_published();
+        timestamp <= self.persisted
+    }
+}
