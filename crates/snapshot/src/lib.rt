@@ -72,7 +72,15 @@ mod tests {
         let snapshot = Snapshot::new(18, gaps);
         assert_eq!(rt; snapshot.persisted(), 18);
         assert!(rt; snapshot.gaps().holds(9));
-        for (ts, covered) in [(0, false), (1, true), (2, false), (9, false), (10, true), (18, true), (19, false)] {
+        for (ts, covered) in [
+            (0, false),
+            (1, true),
+            (2, false),
+            (9, false),
+            (10, true),
+            (18, true),
+            (19, false),
+        ] {
             assert_eq!(rt; snapshot.covers(ts), covered, "{ts}");
         }
         Ok(())
