@@ -1,0 +1,2 @@
+pub mod WithGap
+pub mod Tidy

@@ -1,0 +1,52 @@
+-- A list of gaps with a range put in is such a list, where it has at most eight.
+use Rattle.std.proofs.Common.{◌≡◌, ℕ, ◌≤◌, Bool, true, ◌&&◌, List, [], ◌∷◌, length, refl, arith, nat_le}
+use Rattle.std.specs.List.{list_all}
+use Rattle.std.proofs.lemmas.Bool.{and_parts, and_from, le-leb}
+use Rattle.std.proofs.lemmas.Bool.Decides.{nat_tests}
+use Rattle.base.specs.declared.gap.Gap.{Gap}
+use Rattle.base.specs.Records.{Record, with_gap, is_well_formed}
+use Rattle.gap_list.specs.GapLists.{is_gap_list}
+use Rattle.gap_list.proofs.WithGap.{are_up, both, with_gap-all, with_gap-are_apart}
+
+abbrev is_from_one : Gap → Bool
+is_from_one gap = nat_le 1 gap.first && nat_le gap.first gap.last
+
+both-from_one : (a b : Gap) → is_from_one a ≡ true → is_from_one b ≡ true → is_from_one (both a b) ≡ true
+both-from_one a b f g = grind (arith, nat_tests)
+
+pub up-from_one : (gaps : List Gap) → list_all is_from_one gaps ≡ true → are_up gaps ≡ true
+up-from_one [] all = refl
+up-from_one (gap ∷ gaps) all =
+    let parts = and_parts _ _ all in
+    and_from _ _ (and_parts _ _ parts.0).1 (up-from_one gaps parts.1)
+
+-- none of the list's gaps is empty
+pub gap_list-up : (gaps : List Gap) → is_gap_list gaps ≡ true → are_up gaps ≡ true
+gap_list-up gaps tidy = up-from_one gaps (and_parts _ _ (and_parts _ _ tidy).0).0
+
+pub with_gap-tidy : (added : Gap) (gaps : List Gap) → 1 ≤ added.first → added.first ≤ added.last → is_gap_list gaps ≡ true → length (with_gap added gaps) ≤ 8 → is_gap_list (with_gap added gaps) ≡ true
+with_gap-tidy added gaps from goes tidy few =
+    let parts = and_parts _ _ (and_parts _ _ tidy).0 in
+    let here : is_from_one added ≡ true = and_from _ _ (le-leb 1 added.first from) (le-leb added.first added.last goes) in
+    and_from _ _ (and_from _ _ (with_gap-all is_from_one both-from_one added gaps here parts.0) (with_gap-are_apart added gaps goes (up-from_one gaps parts.0) parts.1)) (le-leb (length (with_gap added gaps)) 8 few)
+
+-- the gaps of a record that may rule are such a list
+pub well_formed-tidy : (version : ℕ) (r : Record) → is_well_formed version r ≡ true → is_gap_list r.gaps ≡ true
+well_formed-tidy version r h =
+    let apart = and_parts _ _ (and_parts _ _ (and_parts _ _ h).0).0 in
+    let within = and_parts _ _ apart.0 in
+    let few = and_parts _ _ (and_parts _ _ within.0).0 in
+    and_from _ _ (and_from _ _ (from_one r.gaps within.1) apart.1) few.1
+  where
+    from_one : (gaps : List Gap) → list_all (λ gap. nat_le 1 gap.first && nat_le gap.first gap.last && nat_le gap.last r.persisted) gaps ≡ true → list_all is_from_one gaps ≡ true
+    from_one [] all = refl
+    from_one (gap ∷ gaps) all =
+        let parts = and_parts _ _ all in
+        and_from _ _ (and_parts _ _ parts.0).0 (from_one gaps parts.1)
+
+-- no gap ends past a timestamp that neither the list nor the range goes past
+pub with_gap-within : (last : ℕ) (added : Gap) (gaps : List Gap) → added.last ≤ last → list_all (λ gap. nat_le gap.last last) gaps ≡ true → list_all (λ gap. nat_le gap.last last) (with_gap added gaps) ≡ true
+with_gap-within last added gaps le all = with_gap-all (λ gap. nat_le gap.last last) joins added gaps (le-leb added.last last le) all
+  where
+    joins : (a b : Gap) → nat_le a.last last ≡ true → nat_le b.last last ≡ true → nat_le (both a b).last last ≡ true
+    joins a b f g = grind (arith, nat_tests)

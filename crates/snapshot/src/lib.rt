@@ -1,0 +1,88 @@
+//! Which commits a reader sees.
+#![tactic(auto)]
+
+ghost use Rattle.std.specs.Prelude.{◌≡◌};
+
+use base::Ts;
+use gap_list::GapList;
+use std::marker::Model;
+
+/// The commits that a record covers.
+#[derive(Clone, Copy, PartialEq, Eq)]
+pub struct Snapshot {
+    persisted: Ts,
+    gaps: GapList,
+}
+
+impl Model for Snapshot {
+    ghost use Rattle.std.specs.Prelude.{[]};
+    ghost use Rattle.snapshot.specs.Snapshots.{Seen};
+
+    ghost Value = { Seen };
+
+    ghost view = { λ s. record { persisted = s.persisted; gaps = s.gaps; longs = [] } };
+
+    ghost inverse = { λ s. record { persisted = s.persisted; gaps = s.gaps } };
+}
+
+impl Snapshot {
+    ghost use Rattle.std.specs.Prelude.{[]};
+    ghost use Rattle.base.specs.Records.{Record, is_committed};
+    ghost use Rattle.snapshot.specs.Snapshots.{covers, seen_by};
+
+    /// What a record with these numbers and these gaps covers.
+    pub fn new(persisted: Ts, gaps: GapList) -> Snapshot
+        ensures { result ≡ record { persisted = persisted; gaps = gaps; longs = [] } }
+    {
+        Snapshot { persisted, gaps }
+    }
+
+    /// The last timestamp that is covered or lies in a gap.
+    pub fn persisted(&self) -> Ts
+        ensures { result ≡ self.now.persisted }
+    {
+        self.persisted
+    }
+
+    /// The timestamps up to it that count for nothing.
+    pub fn gaps(&self) -> GapList
+        ensures { result ≡ self.now.gaps }
+    {
+        self.gaps
+    }
+
+    /// Whether the commit of this timestamp is covered: whether a record with these numbers commits it.
+    pub fn covers(&self, ts: Ts) -> bool
+        ensures covers { result ≡ covers self.now ts }
+        ensures of_record { (r : Record) → self.now ≡ seen_by r → result ≡ is_committed r ts }
+    {
+        1 <= ts && ts <= self.persisted && !self.gaps.holds(ts)
+    }
+}
+
+#[cfg(test)]
+mod tests {
+    use super::*;
+    use std::test::Fail;
+
+    #[test]
+    fn commits_in_gaps_are_not_covered(rt: HostRuntime) -> Result<(), Fail> {
+        let mut gaps = GapList::none();
+        gaps.add(2, 9)?;
+        let snapshot = Snapshot::new(18, gaps);
+        assert_eq!(rt; snapshot.persisted(), 18);
+        assert!(rt; snapshot.gaps().holds(9));
+        for (ts, covered) in [
+            (0, false),
+            (1, true),
+            (2, false),
+            (9, false),
+            (10, true),
+            (18, true),
+            (19, false),
+        ] {
+            assert_eq!(rt; snapshot.covers(ts), covered, "{ts}");
+        }
+        Ok(())
+    }
+}
