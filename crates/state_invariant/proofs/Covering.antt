@@ -132,6 +132,7 @@ module _ (o : Origin) (q : State) (hand : Hand) (kept : Keeps o q) (k : KeepsHan
   origin-covered = record {
     formed = kept.numbers.origin.formed;
     opened = omega (arith, opened-le, length-append q.history hand.commits);
+    next = kept.numbers.origin.next;
     before = ap (λ (cs : List Commit). list_all (λ c. is_committed o.ruling c.timestamp) cs) (take-now o.opened opened-le) ∙ kept.numbers.origin.before;
     since = ap (λ (cs : List Commit). list_all (λ c. nat_lt o.ruling.persisted c.timestamp) cs) since-now
         ∙ all-append (λ c. nat_lt o.ruling.persisted c.timestamp) (covered_since o q) hand.commits kept.numbers.origin.since (all-by_timestamp (nat_lt o.ruling.persisted) hand.commits batch-above);

@@ -86,6 +86,7 @@ pub record KeepsHand (q : State) (hand : Hand) : Type 0 where
 pub record KeepsOrigin (o : Origin) (q : State) : Type 0 where
   pub formed : IsTrue (is_well_formed q.layout.version o.ruling)
   pub opened : o.opened ≤ length q.history
+  pub next : o.ruling.persisted < q.next
   -- it commits what was covered before the life, and nothing that the life drew
   pub before : IsTrue (list_all (λ commit. is_committed o.ruling commit.timestamp) (take o.opened q.history))
   pub since : IsTrue (list_all (λ commit. nat_lt o.ruling.persisted commit.timestamp) (covered_since o q))
