@@ -12,11 +12,11 @@ use Rattle.base.specs.Keys.{lookup_key, key_eq, is_rising}
 use Rattle.base.specs.Commits.{Writes, Commit, after, writes_key, last_writer}
 use Rattle.base.specs.Records.{is_committed, are_rising}
 use Rattle.base.specs.Stands.{has_timestamp}
-use Rattle.base.specs.Machine.{State, Session, Active, Drew, WroteNothing, Drawn, Hand, Version, Writer, BySession, ByCommit, replaced, drawn_at, drawn_of, writes_of, begun_of, is_by, by_commit, state_drawn, next_state, refusal, unseen_by, conflict_of}
+use Rattle.base.specs.Machine.{State, Session, Active, Drew, WroteNothing, Drawn, Hand, Version, Writer, BySession, ByCommit, replaced, drawn_at, drawn_of, writes_of, begun_of, is_by, by_commit, state_drawn, next_state, refusal, unseen_by, conflict_of, is_nil}
 use Rattle.state_invariant.specs.Kept.{Origin, KeepsHand, KeepsOrigin, KeepsNumbers, DrawsInOrder, Owns, Keeps, IsInUse, HasSlot, wanted, row_in, row_by, row_from, commit_at, commits_of_life, covered_since, version_by, last_of}
 use Rattle.state_invariant.proofs.Lookups.{same-keys, replaced-same, replaced-other, find-none, find-all}
 use Rattle.state_invariant.proofs.Lists.{all-drop, all-weaken, all-one_more, rising-one_more, find-map}
-use Rattle.state_invariant.proofs.Commits.{commit_at-none, timestamp-all, commit_at-append, drawn_at-timestamp, uncommitted-above}
+use Rattle.state_invariant.proofs.Commits.{commit_at-none, commit_at-some, commit_at-has, timestamp-all, commit_at-append, drawn_at-timestamp, uncommitted-above}
 use Rattle.state_invariant.proofs.Refusals.{IsAllowed, allowed, active}
 use Rattle.state_invariant.proofs.Sessions.{SessionKeeps, keeps-session, session-keeps, each-set}
 
@@ -131,11 +131,35 @@ module _ (o : Origin) (q : State) (n : ℕ) (write : Key × Option (List ℕ)) (
       clash : Some d ≡ None → ⊥
       clash e = cc e
 
+  -- ---- the commits of the life
+
+  life-drawn : (t : ℕ) → t ≢ q.next → commit_at (commits_of_life o then) t ≡ commit_at (commits_of_life o q) t
+  life-drawn t apart =
+      commit_at-append (covered_since o q) (drawn_of then) t
+      ∙ ap (λ (c : Option Commit). option_or (commit_at (covered_since o q) t) c)
+      (find-map (λ (c : Commit). nat_eq c.timestamp t) (λ (d : Drawn). d.commit) then.drawn ∙ ap (λ (d : Option Drawn). option_map (λ (d : Drawn). d.commit) d) (found-old q (write ∷ rest) t apart)
+      ∙ sym (find-map (λ (c : Commit). nat_eq c.timestamp t) (λ (d : Drawn). d.commit) q.drawn))
+      ∙ sym (commit_at-append (covered_since o q) (drawn_of q) t)
+
+  life-new : commit_at (commits_of_life o then) q.next ≡ Some newest.commit
+  life-new =
+      commit_at-append (covered_since o q) (drawn_of then) q.next
+      ∙ ap (λ (c : Option Commit). option_or c (commit_at (drawn_of then) q.next)) (commit_at-none (covered_since o q) q.next (unlike (has_timestamp (covered_since o q) q.next) refl))
+      ∙ find-map (λ (c : Commit). nat_eq c.timestamp q.next) (λ (d : Drawn). d.commit) then.drawn
+      ∙ ap (λ (d : Option Drawn). option_map (λ (d : Drawn). d.commit) d) (found-new o q (write ∷ rest) kept.numbers)
+    where
+      unlike : (b : Bool) → has_timestamp (covered_since o q) q.next ≡ b → b ≡ false
+      unlike false is = refl
+      unlike true is =
+          let counts = timestamp-all (is_committed q.ruling) (covered_since o q) q.next (all-drop (λ c. is_committed q.ruling c.timestamp) o.opened q.history kept.numbers.covered) is in
+          absurd (true≢false (sym counts ∙ uncommitted-above q.ruling q.next kept.numbers.persisted))
+
   hand-drawn : (hand : Hand) → KeepsHand q hand → KeepsHand then hand
   hand-drawn hand k = record {
     gate = k.gate;
     formed = k.formed;
     persisted = omega (arith, k.persisted);
+    further = k.further;
     reserved = k.reserved;
     window = omega (arith, k.window);
     gaps = k.gaps;
@@ -150,14 +174,21 @@ module _ (o : Origin) (q : State) (n : ℕ) (write : Key × Option (List ℕ)) (
   origin-drawn = let k = kept.numbers.origin in record {
     formed = k.formed;
     opened = k.opened;
-    next = omega (arith, k.next);
+    further = k.further;
     before = k.before;
     since = k.since;
-    drawn = all-one_more (λ d. nat_lt o.ruling.persisted d.commit.timestamp) q.drawn newest k.drawn (lt-ltb o.ruling.persisted q.next k.next);
+    drawn = all-one_more (λ d. nat_lt o.ruling.persisted d.commit.timestamp) q.drawn newest k.drawn (lt-ltb o.ruling.persisted q.next (omega (arith, k.further, kept.numbers.persisted)));
     distinct = k.distinct;
+    each = λ t above below. each t above below (cases_eq t q.next);
     still = k.still;
     gaps = k.gaps;
   }
+    where
+      each : (t : ℕ) → o.ruling.persisted < t → t < q.next + 1 → (t ≡ q.next) ⊎ (t ≢ q.next) → has_timestamp (commits_of_life o then) t ≡ true
+      each t above below (inl now) = commit_at-some (commits_of_life o then) t newest.commit (ap (commit_at (commits_of_life o then)) now ∙ life-new)
+      each t above below (inr apart) =
+          let found = commit_at-has (commits_of_life o q) t (kept.numbers.origin.each t above (omega arith)) in
+          commit_at-some (commits_of_life o then) t found.0 (life-drawn t apart ∙ found.1)
 
   numbers-drawn : KeepsNumbers o then
   numbers-drawn = let k = kept.numbers in record {
@@ -218,16 +249,6 @@ module _ (o : Origin) (q : State) (n : ℕ) (write : Key × Option (List ℕ)) (
       drew_before t (inl covered) = inl covered
       drew_before t (inr (d, found)) = inr (d, found-old_still t d found)
 
-  -- ---- the versions
-
-  life-drawn : (t : ℕ) → t ≢ q.next → commit_at (commits_of_life o then) t ≡ commit_at (commits_of_life o q) t
-  life-drawn t apart =
-      commit_at-append (covered_since o q) (drawn_of then) t
-      ∙ ap (λ (c : Option Commit). option_or (commit_at (covered_since o q) t) c)
-      (find-map (λ (c : Commit). nat_eq c.timestamp t) (λ (d : Drawn). d.commit) then.drawn ∙ ap (λ (d : Option Drawn). option_map (λ (d : Drawn). d.commit) d) (found-old q (write ∷ rest) t apart)
-      ∙ sym (find-map (λ (c : Commit). nat_eq c.timestamp t) (λ (d : Drawn). d.commit) q.drawn))
-      ∙ sym (commit_at-append (covered_since o q) (drawn_of q) t)
-
   -- those of commits have the rows that they had
   pub wanted-old : (key : Key) (t : ℕ) → t < q.next → wanted o then (version_by key (ByCommit t)) ≡ wanted o q (version_by key (ByCommit t))
   wanted-old key t lt = ap (row_by o then key t) (life-drawn t (λ same. omega (arith, same, lt))) ∙ by_found (commit_at (commits_of_life o q) t)
@@ -238,22 +259,7 @@ module _ (o : Origin) (q : State) (n : ℕ) (write : Key × Option (List ℕ)) (
 
   -- those that its session wrote too
   pub wanted-new : (key : Key) → wanted o then (version_by key (ByCommit q.next)) ≡ wanted o q (version_by key (BySession n))
-  wanted-new key =
-      ap (row_by o then key q.next)
-      (commit_at-append (covered_since o q) (drawn_of then) q.next
-      ∙ ap (λ (c : Option Commit). option_or c (commit_at (drawn_of then) q.next)) (none-covered)
-      ∙ find-map (λ (c : Commit). nat_eq c.timestamp q.next) (λ (d : Drawn). d.commit) then.drawn
-      ∙ ap (λ (d : Option Drawn). option_map (λ (d : Drawn). d.commit) d) (found-new o q (write ∷ rest) kept.numbers))
-      ∙ ap (λ (ws : Writes). row_in ws key) (sym has_writes)
-    where
-      none-covered : commit_at (covered_since o q) q.next ≡ None
-      none-covered = commit_at-none (covered_since o q) q.next (unlike (has_timestamp (covered_since o q) q.next) refl)
-        where
-          unlike : (b : Bool) → has_timestamp (covered_since o q) q.next ≡ b → b ≡ false
-          unlike false is = refl
-          unlike true is =
-              let counts = timestamp-all (is_committed q.ruling) (covered_since o q) q.next (all-drop (λ c. is_committed q.ruling c.timestamp) o.opened q.history kept.numbers.covered) is in
-              absurd (true≢false (sym counts ∙ uncommitted-above q.ruling q.next kept.numbers.persisted))
+  wanted-new key = ap (row_by o then key q.next) life-new ∙ ap (λ (ws : Writes). row_in ws key) (sym has_writes)
 
   writes-others : (m : ℕ) → m ≢ n → writes_of (then.sessions m) ≡ writes_of (q.sessions m)
   writes-others m apart = ap writes_of (replaced-other n (Some (Drew q.next)) q.sessions m apart)
@@ -273,11 +279,11 @@ module _ (o : Origin) (q : State) (n : ℕ) (write : Key × Option (List ℕ)) (
     where
       used : (m : ℕ) → IsInUse then m → IsInUse q m
       used m (inl all) = inl all
-      used m (inr (session, writes, active)) = inr (session, writes, each-set (λ (s : Option Session). s ≡ Some (Active m writes) → q.sessions session ≡ Some (Active m writes)) n (Some (Drew q.next)) (λ k. q.sessions session) (λ e. cc e) (λ k e. e) session (by (cases_eq session n)))
+      used m (inr (session, writes, active)) = inr (session, writes, by (cases_eq session n))
         where
-          by : (session ≡ n) ⊎ (session ≢ n) → replaced n (Some (Drew q.next)) (λ (k : ℕ). q.sessions session) session ≡ Some (Active m writes)
+          by : (session ≡ n) ⊎ (session ≢ n) → q.sessions session ≡ Some (Active m writes)
           by (inl is) = let clash : Some (Drew q.next) ≡ Some (Active m writes) = sym (replaced-same n (Some (Drew q.next)) q.sessions session is) ∙ active in cc clash
-          by (inr apart) = replaced-other n (Some (Drew q.next)) (λ (k : ℕ). q.sessions session) session apart ∙ sym (replaced-other n (Some (Drew q.next)) q.sessions session apart) ∙ active
+          by (inr apart) = sym (replaced-other n (Some (Drew q.next)) q.sessions session apart) ∙ active
 
       old_version : (a : ℕ) (w : Version) → w.writer ≡ ByCommit q.next → q.held a ≡ Some w → q.held a ≡ Some (version_by w.key (ByCommit q.next))
       old_version a w is at = at ∙ ap (λ (x : Writer). Some (version_by w.key x)) is
@@ -335,3 +341,33 @@ module _ (o : Origin) (q : State) (n : ℕ) (write : Key × Option (List ℕ)) (
 
   pub keeps-drawn : Keeps o then
   keeps-drawn = record { numbers = numbers-drawn; draws = draws-drawn; owns = owns-drawn }
+
+-- ---- the step
+
+pub keeps-draw : (o : Origin) (q : State) (n : ℕ) → Keeps o q → refusal q (Draw n) ≡ None → Keeps o (next_state q (Draw n))
+keeps-draw o q n kept none = by (writes_of (q.sessions n)) refl
+  where
+    nothing : writes_of (q.sessions n) ≡ [] → Keeps o (state_drawn q n [])
+    nothing is = keeps-session o q n (Some WroteNothing) kept record { sorted = refl; drew = λ t e. cc e; snapshot = λ begun writes e. cc e } (sym is)
+
+    facts : IsAllowed q (Draw n)
+    facts = allowed q (Draw n) none
+
+    less : (b : Bool) → b ≡ true → (b && nat_eq q.next q.ruling.dirty) ≡ false → q.next < q.ruling.dirty
+    less true is e = omega (arith, eqb-false q.next q.ruling.dirty e, kept.numbers.reserved)
+    less false is e = cc is
+
+    fits : (b c : Bool) → b ≡ true → (b && nat_le (2 ^ 62) (q.next + 2 * q.layout.window) || c) ≡ false → q.next + 2 * q.layout.window < 2 ^ 62
+    fits true c is e = leb-false (2 ^ 62) (q.next + 2 * q.layout.window) (first _ c e)
+      where
+        first : (a b : Bool) → (a || b) ≡ false → a ≡ false
+        first true b e = e
+        first false b e = refl
+    fits false c is e = cc is
+
+    by : (ws : Writes) → writes_of (q.sessions n) ≡ ws → Keeps o (next_state q (Draw n))
+    by [] is = subst (λ (ws : Writes). Keeps o (state_drawn q n ws)) (sym is) (nothing is)
+    by (write ∷ rest) is =
+        let some : not (is_nil (writes_of (q.sessions n))) ≡ true = ap (λ (ws : Writes). not (is_nil ws)) is in
+        subst (λ (ws : Writes). Keeps o (state_drawn q n ws)) (sym is)
+        (keeps-drawn o q n write rest is (less _ some facts.window) (fits _ _ some facts.limits) facts.alone kept)

@@ -39,6 +39,7 @@ module _ (o : Origin) (q : State) (sessions : ℕ → Option Session) (held : �
     gate = k.gate;
     formed = k.formed;
     persisted = k.persisted;
+    further = k.further;
     reserved = k.reserved;
     window = k.window;
     gaps = k.gaps;
@@ -53,11 +54,12 @@ module _ (o : Origin) (q : State) (sessions : ℕ → Option Session) (held : �
   origin-held = let k = kept.numbers.origin in record {
     formed = k.formed;
     opened = k.opened;
-    next = k.next;
+    further = k.further;
     before = k.before;
     since = k.since;
     drawn = k.drawn;
     distinct = k.distinct;
+    each = k.each;
     still = k.still;
     gaps = k.gaps;
   }
