@@ -344,15 +344,14 @@ module _ (o : Origin) (q : State) (n : ℕ) (write : Key × Option (List ℕ)) (
 
 -- ---- the step
 
-pub keeps-draw : (o : Origin) (q : State) (n : ℕ) → Keeps o q → refusal q (Draw n) ≡ None → Keeps o (next_state q (Draw n))
-keeps-draw o q n kept none = by (writes_of (q.sessions n)) refl
+-- what is known where a draw isn't refused
+pub draw-facts : (o : Origin) (q : State) (n : ℕ) (write : Key × Option (List ℕ)) (rest : Writes) → Keeps o q → refusal q (Draw n) ≡ None → writes_of (q.sessions n) ≡ write ∷ rest
+    → (q.next < q.ruling.dirty) × (q.next + 2 * q.layout.window < 2 ^ 62) × (conflict_of q n ≡ None)
+draw-facts o q n write rest kept none is =
+    let facts = allowed q (Draw n) none in
+    let some : not (is_nil (writes_of (q.sessions n))) ≡ true = ap (λ (ws : Writes). not (is_nil ws)) is in
+    (less _ some facts.window, fits _ _ some facts.limits, facts.alone)
   where
-    nothing : writes_of (q.sessions n) ≡ [] → Keeps o (state_drawn q n [])
-    nothing is = keeps-session o q n (Some WroteNothing) kept record { sorted = refl; drew = λ t e. cc e; snapshot = λ begun writes e. cc e } (sym is)
-
-    facts : IsAllowed q (Draw n)
-    facts = allowed q (Draw n) none
-
     less : (b : Bool) → b ≡ true → (b && nat_eq q.next q.ruling.dirty) ≡ false → q.next < q.ruling.dirty
     less true is e = omega (arith, eqb-false q.next q.ruling.dirty e, kept.numbers.reserved)
     less false is e = cc is
@@ -365,9 +364,14 @@ keeps-draw o q n kept none = by (writes_of (q.sessions n)) refl
         first false b e = refl
     fits false c is e = cc is
 
+pub keeps-draw : (o : Origin) (q : State) (n : ℕ) → Keeps o q → refusal q (Draw n) ≡ None → Keeps o (next_state q (Draw n))
+keeps-draw o q n kept none = by (writes_of (q.sessions n)) refl
+  where
+    nothing : writes_of (q.sessions n) ≡ [] → Keeps o (state_drawn q n [])
+    nothing is = keeps-session o q n (Some WroteNothing) kept record { sorted = refl; drew = λ t e. cc e; snapshot = λ begun writes e. cc e } (sym is)
+
     by : (ws : Writes) → writes_of (q.sessions n) ≡ ws → Keeps o (next_state q (Draw n))
     by [] is = subst (λ (ws : Writes). Keeps o (state_drawn q n ws)) (sym is) (nothing is)
     by (write ∷ rest) is =
-        let some : not (is_nil (writes_of (q.sessions n))) ≡ true = ap (λ (ws : Writes). not (is_nil ws)) is in
-        subst (λ (ws : Writes). Keeps o (state_drawn q n ws)) (sym is)
-        (keeps-drawn o q n write rest is (less _ some facts.window) (fits _ _ some facts.limits) facts.alone kept)
+        let f = draw-facts o q n write rest kept none is in
+        subst (λ (ws : Writes). Keeps o (state_drawn q n ws)) (sym is) (keeps-drawn o q n write rest is f.0 f.1 f.2 kept)

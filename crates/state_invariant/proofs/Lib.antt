@@ -18,3 +18,4 @@ pub mod Reading
 pub mod Showing
 pub mod Stamps
 pub mod ShownCovering
+pub mod ShownSteps

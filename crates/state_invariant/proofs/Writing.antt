@@ -202,10 +202,10 @@ abbrev freed : (Option Version → Bool) → (ℕ → Option Version) → ℕ �
 freed test held slot = cond (test (held slot)) None (held slot)
 
 -- which slots may be freed: of sessions alone, and the sessions after it have no row there, and elsewhere what they had
-record MayFree (q : State) (sessions : ℕ → Option Session) (test : Option Version → Bool) : Type 0 where
-  commits : (key : Key) (t : ℕ) → test (Some (version_by key (ByCommit t))) ≡ false
-  stays : (key : Key) (m : ℕ) → test (Some (version_by key (BySession m))) ≡ false → lookup_key (writes_of (sessions m)) key ≡ lookup_key (writes_of (q.sessions m)) key
-  gone : (key : Key) (m : ℕ) (row : List ℕ) → test (Some (version_by key (BySession m))) ≡ true → lookup_key (writes_of (sessions m)) key ≡ Some (Some row) → ⊥
+pub record MayFree (q : State) (sessions : ℕ → Option Session) (test : Option Version → Bool) : Type 0 where
+  pub commits : (key : Key) (t : ℕ) → test (Some (version_by key (ByCommit t))) ≡ false
+  pub stays : (key : Key) (m : ℕ) → test (Some (version_by key (BySession m))) ≡ false → lookup_key (writes_of (sessions m)) key ≡ lookup_key (writes_of (q.sessions m)) key
+  pub gone : (key : Key) (m : ℕ) (row : List ℕ) → test (Some (version_by key (BySession m))) ≡ true → lookup_key (writes_of (sessions m)) key ≡ Some (Some row) → ⊥
 
 -- what holds a slot after it held it before
 pub held-before : (test : Option Version → Bool) (o : Option Version) (v : Version) → cond (test o) None o ≡ Some v → (o ≡ Some v) × (test (Some v) ≡ false)
@@ -239,7 +239,7 @@ held-freed o q sessions test kept may = record {
 
 -- ---- a session deletes a key's row: its own version is given back
 
-may-give : (q : State) (n : ℕ) (key : Key) → MayFree q (with_active q n key None) (is_own_at n key)
+pub may-give : (q : State) (n : ℕ) (key : Key) → MayFree q (with_active q n key None) (is_own_at n key)
 may-give q n key = record {
   commits = λ k t. refl;
   stays = λ k m not_own. lookup-there q n key None m k (λ same one. true≢false (sym (and_from (nat_eq m n) (key_eq k key) (eq-eqb m n same) (subst (λ (j : Key). key_eq k j ≡ true) one (key_eq-refl k))) ∙ not_own));
@@ -259,7 +259,7 @@ keeps-delete o q n key kept none =
 
 -- ---- a session ends without a commit: all of its versions are given back
 
-may-abort : (q : State) (n : ℕ) → MayFree q (replaced n None q.sessions) (is_held_by n)
+pub may-abort : (q : State) (n : ℕ) → MayFree q (replaced n None q.sessions) (is_held_by n)
 may-abort q n = record {
   commits = λ k t. refl;
   stays = λ k m other. ap (λ (s : Option Session). lookup_key (writes_of s) k) (replaced-other n None q.sessions m (eqb-false m n other));

@@ -1,6 +1,7 @@
 -- What follows for every life. Each law stands here in words that need no proof, and a public function promises it.
-use Rattle.std.specs.Prelude.{◌≡◌, ℕ, Some, None, List, length, slice_index}
+use Rattle.std.specs.Prelude.{◌≡◌, ℕ, Bool, true, false, Some, None, List, length, slice_index}
 use Rattle.base.specs.declared.step.Step.{Step}
+use Rattle.base.specs.declared.step.Step.TheVariants.{Put, Stamp}
 use Rattle.base.specs.declared.step.Reply.{Reply}
 use Rattle.base.specs.Machine.{State, Hand, Stepped, Run, final, state_covered}
 use Rattle.base.specs.Commits.{Commit}
@@ -34,3 +35,19 @@ pub record OpenedKeeps : Type 0 where
 abbrev pub Reading : Type 0
 Reading = (o : Origin) (q : State) (image : Image) (n : ℕ) → layout_of image ≡ q.layout → length image ≡ total_words q.layout → Keeps o q → SlotsShow o q (slice_index image) → IsInUse q n
     → ReadsAs o q image n
+
+-- ---- what the slots show
+
+-- covering the batch in hand keeps what the slots show, however many commits it has
+abbrev pub CoveringShows : Type 0
+CoveringShows = (o : Origin) (q : State) (hand : Hand) (value : ℕ → ℕ) → q.failed ≡ false → Keeps o q → q.hand ≡ Some hand → SlotsShow o q value → SlotsShow o (state_covered q hand) value
+
+-- the step stores in slots
+abbrev pub stores : Step → Bool
+stores (Put n key row) = true
+stores (Stamp n) = true
+stores _ = false
+
+-- the values may stay over any other step
+abbrev pub StepsShow : Type 0
+StepsShow = (o : Origin) (q : State) (step : Step) (reply : Reply) (q' : State) (value : ℕ → ℕ) → Keeps o q → Stepped q step reply q' → stores step ≡ false → SlotsShow o q value → SlotsShow o q' value

@@ -1,6 +1,6 @@
 //! What follows from the definitions. The functions do nothing: the contract of each is a law.
 
-ghost use Rattle.state_invariant.specs.Laws.{StepsKeep, RunsKeep, CoveringKeeps, OpenedKeeps, Reading};
+ghost use Rattle.state_invariant.specs.Laws.{StepsKeep, RunsKeep, CoveringKeeps, OpenedKeeps, Reading, CoveringShows, StepsShow};
 
 /// Every step keeps what a plain state of a life keeps: one that is answered or refused, one that is refused for want of
 /// memory, and one in which the device fails. So does every run.
@@ -9,9 +9,15 @@ pub fn steps_keep_the_state()
     ensures run { RunsKeep }
 {}
 
-/// A batch of any number of commits may be covered: the state then keeps what it kept.
+/// A batch of any number of commits may be covered: the state then keeps what it kept, and the slots show what it says.
 pub fn covering_keeps_the_state()
-    ensures { CoveringKeeps }
+    ensures keeps { CoveringKeeps }
+    ensures shows { CoveringShows }
+{}
+
+/// Over each step but a put and a stamp the slots show what the state says, with the values that they had.
+pub fn steps_keep_the_slots()
+    ensures { StepsShow }
 {}
 
 /// An opened state keeps it, and the words of its slots are those of the image that was opened.
