@@ -1,0 +1,5 @@
+pub mod Lookups
+pub mod Lists
+pub mod Commits
+pub mod Records
+pub mod Covering

@@ -1,0 +1,2 @@
+//! What every plain state of a life keeps, and what the words of its slots are.
+#![tactic(auto)]
