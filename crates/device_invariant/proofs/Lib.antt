@@ -1,0 +1,5 @@
+pub mod Words
+pub mod Living
+pub mod Standing
+pub mod Batches
+pub mod Says

@@ -1,0 +1,4 @@
+pub mod Words
+pub mod Slots
+pub mod Sweeps
+pub mod Log
