@@ -3,3 +3,5 @@ pub mod Living
 pub mod Standing
 pub mod Batches
 pub mod Says
+pub mod Stamps
+pub mod Covering
