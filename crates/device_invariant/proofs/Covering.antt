@@ -12,17 +12,17 @@ use Rattle.base.specs.Stands.{has_timestamp}
 use Rattle.base.specs.Machine.{State, Drawn, Hand, Version, Writer, BySession, ByCommit, drawn_at, is_stamped, state_covered}
 use Rattle.pmem.specs.Device.{Device, Survives, value_of, IsSettled}
 use Rattle.pmem.proofs.Steps.{only-settled}
-use Rattle.state_invariant.specs.Kept.{Origin, Keeps, KeepsHand, version_by, commit_at}
-use Rattle.state_invariant.specs.Shown.{word_of, is_drawn_on, is_key_stamped, SlotsShow}
+use Rattle.state_invariant.specs.Kept.{Origin, Keeps, KeepsHand, version_by, wanted, commit_at}
+use Rattle.state_invariant.specs.Shown.{word_of, is_drawn_on, is_key_stamped, Spells, SlotsShow}
 use Rattle.state_invariant.proofs.Commits.{commit_at-some, commit_at-place, distinct-rising, timestamp-all, drawn_at-timestamp}
-use Rattle.state_invariant.proofs.Covering.{batch-drawn, found-left, found-now, found-covered}
+use Rattle.state_invariant.proofs.Covering.{batch-drawn, found-left, found-now, wanted-now}
 use Rattle.device_invariant.specs.Words.{EachSurvivor}
 use Rattle.device_invariant.specs.Slots.{newest_of, NeverCounts, Counts, IsDead, IsLive, SlotHolds, SlotsHold}
 use Rattle.device_invariant.specs.Log.{is_own, is_ended, IsBatchSettled}
 use Rattle.device_invariant.specs.Sweeps.{IsSweeping}
 use Rattle.device_invariant.proofs.Words.{within-slot, each-settled, each-weaken}
 use Rattle.device_invariant.proofs.Batches.{any-left, IsLastOf, WritesNone, last-of}
-use Rattle.device_invariant.proofs.Says.{says-begun, says-newest, drawn-bounds, last-undrawn}
+use Rattle.device_invariant.proofs.Says.{says-begun, says-newest, wanted-newest}
 use Rattle.device_invariant.proofs.Stamps.{all-stamped, any-at, any-place, drawn-on, writes-held}
 
 -- the drawn commit with this timestamp is of the batch, and writes the key
@@ -121,7 +121,7 @@ module _ (o : Origin) (q : State) (hand : Hand) (device : Device) (kept : Keeps 
     live-own : (key : Key) (l : IsLastOf q.history hand.commits key) → q.held slot ≡ Some (version_by key (ByCommit l.commit.timestamp)) → IsLive now device slot key
     live-own key l held =
         let own = own-of key l in
-        let says = (says-begun o q kept (value_of device) shows slot l.commit.timestamp key own.drawn lt held own.found own.stamped).1 in
+        let says = (says-begun o q kept (value_of device) shows slot l.commit.timestamp key own.drawn lt held own.found own.stamped).2 in
         let whole = settled.own slot lt (ap (is_own hand.commits) held ∙ own.in_hand) in
         record {
           begin = whole.each 0 (within-slot q.layout.version 0 (omega arith));
@@ -179,6 +179,20 @@ module _ (o : Origin) (q : State) (hand : Hand) (device : Device) (kept : Keeps 
         dead : IsDead q device slot → IsDead now device slot
         dead (inl begin) = inl (nevers slot 0 lt (omega arith) begin)
         dead (inr end) = inr (counted end)
+
+  -- the newest versions then have their rows
+  pub written-covered : Keeps o now → (slot : ℕ) (key : Key) → slot < q.layout.slots → q.held slot ≡ Some (newest_of now key) → (row : List ℕ) × (after now.history key ≡ Some row) × Spells q.layout (value_of device) slot key row
+  written-covered kept' slot key lt held = by_last (last-of q.history hand.commits key)
+    where
+      by_last : IsLastOf q.history hand.commits key ⊎ WritesNone q.history hand.commits key → (row : List ℕ) × (after now.history key ≡ Some row) × Spells q.layout (value_of device) slot key row
+      by_last (inl l) =
+          let own = own-of key l in
+          let this : version_by key (ByCommit l.commit.timestamp) ≡ newest_of now key = ap (λ (t : ℕ). version_by key (ByCommit t)) (sym l.last) in
+          let says = says-begun o q kept (value_of device) shows slot l.commit.timestamp key own.drawn lt (held ∙ ap (λ (v : Version). Some v) (sym this)) own.found own.stamped in
+          (says.0, sym (wanted-newest o now kept' key) ∙ wanted-now o q hand kept k (newest_of now key) ∙ ap (wanted o q) (sym this) ∙ says.1, says.2.spells)
+      by_last (inr n) =
+          let says = says-newest o q kept (value_of device) shows slot key lt (held ∙ ap (λ (t : ℕ). Some (version_by key (ByCommit t))) n.last) in
+          (says.0, n.row ∙ says.1, says.2.spells)
 
   -- the slots hold for the state in which the batch is covered
   pub slots-covered : SlotsHold q device → SlotsHold now device

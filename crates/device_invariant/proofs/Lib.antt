@@ -5,3 +5,4 @@ pub mod Batches
 pub mod Says
 pub mod Stamps
 pub mod Covering
+pub mod Upheld

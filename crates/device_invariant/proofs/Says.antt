@@ -114,12 +114,13 @@ module _ (o : Origin) (q : State) (kept : Keeps o q) where
   module _ (value : ℕ → ℕ) (shows : SlotsShow o q value) where
     -- a version that a drawn commit has stamped
     pub says-begun : (slot t : ℕ) (key : Key) (d : Drawn) → slot < q.layout.slots → q.held slot ≡ Some (version_by key (ByCommit t)) → drawn_at q t ≡ Some d → is_key_stamped d key ≡ true
-        → (row : List ℕ) × IsBegun q value slot t key row
+        → (row : List ℕ) × (wanted o q (version_by key (ByCommit t)) ≡ Some row) × IsBegun q value slot t key row
     says-begun slot t key d lt held found stamped =
-        let row : List ℕ = unwrap_or (wanted o q (version_by key (ByCommit t))) [] in
+        let has = kept.owns.has slot (version_by key (ByCommit t)) lt held in
         let h1 : ShowsAs o q value slot (class_of_version o q (Some (version_by key (ByCommit t)))) = subst (λ (v : Option Version). ShowsAs o q value slot (class_of_version o q v)) held (shows.each slot lt) in
-        let h2 : ShowsAs o q value slot (class_of_drawn q key t row (Some d)) = subst (λ (f : Option Drawn). ShowsAs o q value slot (class_of_drawn q key t row f)) found h1 in
-        (row, subst (λ (b : Bool). ShowsAs o q value slot (cond b (Begun t key row) (Waiting key row))) stamped h2)
+        let h2 : ShowsAs o q value slot (class_of_drawn q key t (unwrap_or (wanted o q (version_by key (ByCommit t))) []) (Some d)) = subst (λ (f : Option Drawn). ShowsAs o q value slot (class_of_drawn q key t (unwrap_or (wanted o q (version_by key (ByCommit t))) []) f)) found h1 in
+        let h3 : ShowsAs o q value slot (class_of_drawn q key t has.0 (Some d)) = subst (λ (r : Option (List ℕ)). ShowsAs o q value slot (class_of_drawn q key t (unwrap_or r []) (Some d))) has.1 h2 in
+        (has.0, has.1, subst (λ (b : Bool). ShowsAs o q value slot (cond b (Begun t key has.0) (Waiting key has.0))) stamped h3)
 
     -- the newest version of a key
     pub says-newest : (slot : ℕ) (key : Key) → slot < q.layout.slots → q.held slot ≡ Some (newest_of q key) → (row : List ℕ) × (after q.history key ≡ Some row) × IsNewest o q value slot (last_writer q.history key) key row

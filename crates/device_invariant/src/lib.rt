@@ -2,3 +2,6 @@
 #![tactic(auto)]
 
 
+mod law;
+
+pub use law::every_image_stands;
