@@ -6,3 +6,5 @@ pub mod Says
 pub mod Stamps
 pub mod Covering
 pub mod Upheld
+pub mod Shrinking
+pub mod Ticking

@@ -89,7 +89,7 @@ module _ (o : Origin) (q : State) (device : Device) (image : Image) (u : Upholds
   -- where the state's record rules
   by_own : device.words ≡ total_words q.layout → IsRuledBy q.layout q.ruling image → StandsAt q image
   by_own size ruled =
-      (present q, Contains-append_left (present q ∷ []) (of_hand q q.hand) (present q) (Contains-push [] (present q)), stands-under q device image (safe o q (value_of device) u.keeps u.shows) u.slots (slots-survive size left) ruled)
+      (present q, Contains-append_left (present q ∷ []) (of_hand q q.hand) (present q) (Contains-push [] (present q)), stands-under q device image (safe o q (value_of device) u.keeps u.shows) u.holds.slots (slots-survive size left) ruled)
 
   by_hand : (hand : Option Hand) → q.hand ≡ hand → HoldsHand q device hand → StandsAt q image
   by_hand None is holds = by_own holds.stands.size (holds_ruled q.layout q.ruling device holds image left)
@@ -99,15 +99,15 @@ module _ (o : Origin) (q : State) (device : Device) (image : Image) (u : Upholds
     | inr new ↦
         let k = u.keeps.numbers.hand hand is in
         let kept : Keeps o (state_covered q hand) = keeps-covered o q hand u.keeps k in
-        let now : IsSafe (state_covered q hand) (value_of device) = safe-from o (state_covered q hand) (value_of device) kept (written-covered o q hand device u.keeps k u.shows u.sweeping recording.settled kept) in
+        let now : IsSafe (state_covered q hand) (value_of device) = safe-from o (state_covered q hand) (value_of device) kept (written-covered o q hand device u.keeps k u.shows u.holds.sweeping recording.settled kept) in
         (
           present (state_covered q hand),
           subst (λ (h : Option Hand). Contains (present q ∷ of_hand q h) (present (state_covered q hand))) (sym is)
           (Contains-append_right (present q ∷ []) (of_hand q (Some hand)) (present (state_covered q hand)) (Contains-push [] (present (state_covered q hand)))),
           stands-in_hand q hand image
-          (stands-under (state_covered q hand) device image now (slots-covered o q hand device u.keeps k u.shows u.sweeping recording.settled u.slots) (slots-survive recording.replaces.stands.size left) new.1),
+          (stands-under (state_covered q hand) device image now (slots-covered o q hand device u.keeps k u.shows u.holds.sweeping recording.settled u.holds.slots) (slots-survive recording.replaces.stands.size left) new.1),
         )
   ]
 
 pub every-image-stands : EveryImageStands
-every-image-stands o q device image u left = by_hand o q device image u left q.hand refl u.log
+every-image-stands o q device image u left = by_hand o q device image u left q.hand refl u.holds.log

@@ -1,5 +1,5 @@
 -- What the log area holds, and which lines of slots wait for the committer's fence, by the record and the ticks made.
-use Rattle.std.specs.Prelude.{◌≡◌, ◌≢◌, ◌⊎◌, ℕ, ◌+◌, ◌-◌, ◌*◌, ◌/◌, ◌<◌, ◌≤◌, Bool, true, false, ◌&&◌, nat_eq, if◌then◌else◌, List, [], ◌∷◌, take, Option, Some, None, Contains}
+use Rattle.std.specs.Prelude.{◌≡◌, ◌≢◌, ◌⊎◌, ℕ, ◌+◌, ◌-◌, ◌*◌, ◌/◌, ◌<◌, ◌≤◌, Bool, true, false, ◌&&◌, nat_eq, if◌then◌else◌, List, [], ◌∷◌, take, Option, Some, None}
 use Rattle.std.specs.List.{list_any, range_with_len, flat_map}
 use Rattle.base.specs.declared.key.Key.{Key}
 use Rattle.base.specs.Commits.{Commit, last_writer, writes_key}
@@ -60,10 +60,11 @@ lines_in q commits = flat_map (lines_at q commits) (range_with_len 0 q.layout.sl
 
 -- each word of the line waits for the committer's fence alone
 pub record IsLineReady (a : Layout) (device : Device) (line : Line) : Type 0 where
-  pub each : (w : ℕ) → w < 8 → IsReady device committer (word_of a line.slot (8 * line.part + w))
+  pub each : (w : ℕ) → line.slot < a.slots → 8 * line.part ≤ w → w < 8 * line.part + 8 → w < slot_words a.version → IsReady device committer (word_of a line.slot w)
 
-pub record AreReady (a : Layout) (device : Device) (lines : List Line) : Type 0 where
-  pub each : (line : Line) → Contains lines line → IsLineReady a device line
+abbrev pub AreReady : Layout → Device → List Line → Type 0
+AreReady a device [] = Unit {0}
+AreReady a device (line ∷ lines) = IsLineReady a device line × AreReady a device lines
 
 -- a crash leaves each word of the slot with its last value
 pub record IsSlotSettled (a : Layout) (device : Device) (slot : ℕ) : Type 0 where
