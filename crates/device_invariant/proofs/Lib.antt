@@ -8,3 +8,4 @@ pub mod Covering
 pub mod Upheld
 pub mod Shrinking
 pub mod Ticking
+pub mod Recording

@@ -93,7 +93,7 @@ slot-with_hand q hand device slot h = record {
   replaced = h.replaced;
 }
 
-with_hand : (q : State) (hand : Option Hand) (device : Device) → SlotsHold q device → IsSweeping q device → HoldsHand (record q { hand = hand }) device hand → HoldsState (record q { hand = hand }) device
+pub with_hand : (q : State) (hand : Option Hand) (device : Device) → SlotsHold q device → IsSweeping q device → HoldsHand (record q { hand = hand }) device hand → HoldsState (record q { hand = hand }) device
 with_hand q hand device slots sweeping log = record {
   slots = record { each = λ slot lt. slot-with_hand q hand device slot (slots.each slot lt) };
   log = log;
