@@ -132,18 +132,23 @@ module _ (o : Origin) (q : State) (hand : Hand) (kept : Keeps o q) (k : KeepsHan
   origin-covered = record {
     formed = kept.numbers.origin.formed;
     opened = omega (arith, opened-le, length-append q.history hand.commits);
+    further = omega (arith, kept.numbers.origin.further, k.further);
     before = ap (λ (cs : List Commit). list_all (λ c. is_committed o.ruling c.timestamp) cs) (take-now o.opened opened-le) ∙ kept.numbers.origin.before;
     since = ap (λ (cs : List Commit). list_all (λ c. nat_lt o.ruling.persisted c.timestamp) cs) since-now
         ∙ all-append (λ c. nat_lt o.ruling.persisted c.timestamp) (covered_since o q) hand.commits kept.numbers.origin.since (all-by_timestamp (nat_lt o.ruling.persisted) hand.commits batch-above);
     drawn = all-filter (λ d. nat_lt o.ruling.persisted d.commit.timestamp) is_left q.drawn kept.numbers.origin.drawn;
     distinct = ap are_distinct since-now ∙ distinct-append (covered_since o q) hand.commits kept.numbers.origin.distinct (distinct-rising hand.commits k.rising)
         (all-by_timestamp (λ t. not (has_timestamp (covered_since o q) t)) hand.commits (λ t has. not_from_false (has_timestamp (covered_since o q) t) (apart t (batch-uncommitted t has))));
+    each = λ t above below. has-now t (kept.numbers.origin.each t above below);
     still = λ t counts. k.still t (kept.numbers.origin.still t counts);
     gaps = by_gaps k.gaps kept.numbers.origin.gaps;
   }
     where
       covered-all : list_all (λ c. is_committed q.ruling c.timestamp) (covered_since o q) ≡ true
       covered-all = all-drop (λ c. is_committed q.ruling c.timestamp) o.opened q.history kept.numbers.covered
+
+      has-now : (t : ℕ) → has_timestamp (commits_of_life o q) t ≡ true → has_timestamp (commits_of_life o now) t ≡ true
+      has-now t has = let found = commit_at-has (commits_of_life o q) t has in commit_at-some (commits_of_life o now) t found.0 (life-now t ∙ found.1)
 
       apart : (t : ℕ) → is_committed q.ruling t ≡ false → has_timestamp (covered_since o q) t ≡ false
       apart t out = false_from_ne_true (has_timestamp (covered_since o q) t) (λ has. true≢false (sym (timestamp-all (is_committed q.ruling) (covered_since o q) t covered-all has) ∙ out))

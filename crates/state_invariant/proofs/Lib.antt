@@ -3,3 +3,7 @@ pub mod Lists
 pub mod Commits
 pub mod Records
 pub mod Covering
+pub mod Refusals
+pub mod Sessions
+pub mod Writing
+pub mod Drawing

@@ -71,6 +71,7 @@ pub record KeepsHand (q : State) (hand : Hand) : Type 0 where
   pub gate : hand.target.gate ≡ q.ruling.gate + 1
   pub formed : IsTrue (is_well_formed q.layout.version hand.target)
   pub persisted : hand.target.persisted < q.next
+  pub further : q.ruling.persisted ≤ hand.target.persisted
   pub reserved : q.ruling.dirty ≤ hand.target.dirty
   pub window : hand.target.dirty ≤ q.next + q.layout.window
   pub gaps : (hand.target.gaps ≡ q.ruling.gaps) ⊎ ((q.swept ≡ true) × (hand.target.gaps ≡ []))
@@ -86,11 +87,14 @@ pub record KeepsHand (q : State) (hand : Hand) : Type 0 where
 pub record KeepsOrigin (o : Origin) (q : State) : Type 0 where
   pub formed : IsTrue (is_well_formed q.layout.version o.ruling)
   pub opened : o.opened ≤ length q.history
+  pub further : o.ruling.persisted ≤ q.ruling.persisted
   -- it commits what was covered before the life, and nothing that the life drew
   pub before : IsTrue (list_all (λ commit. is_committed o.ruling commit.timestamp) (take o.opened q.history))
   pub since : IsTrue (list_all (λ commit. nat_lt o.ruling.persisted commit.timestamp) (covered_since o q))
   pub drawn : IsTrue (list_all (λ d. nat_lt o.ruling.persisted d.commit.timestamp) q.drawn)
   pub distinct : IsTrue (are_distinct (covered_since o q))
+  -- and each timestamp that it drew is of a commit that it covered or that is drawn still
+  pub each : (t : ℕ) → o.ruling.persisted < t → t < q.next → has_timestamp (commits_of_life o q) t ≡ true
   -- what it commits stays committed, and its gaps stand until they are swept
   pub still : (t : ℕ) → is_committed o.ruling t ≡ true → is_committed q.ruling t ≡ true
   pub gaps : (q.ruling.gaps ≡ o.ruling.gaps) ⊎ ((q.swept ≡ true) × (q.ruling.gaps ≡ []))

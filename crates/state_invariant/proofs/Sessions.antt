@@ -1,0 +1,196 @@
+-- One session changes, and with it what it holds.
+use Rattle.std.proofs.Common.{◌≡◌, ◌≢◌, ◌⊎◌, inl, inr, ℕ, ◌<◌, ◌≤◌, Bool, true, false, cond, ◌&&◌, ◌||◌, List, [], ◌∷◌, map, length, refl, sym, ◌∙◌, ap, subst, arith, Option, Some, None, true≢false}
+use Rattle.std.specs.Prelude.{nat_eq, nat_lt, unwrap_or}
+use Rattle.std.proofs.lemmas.Bool.{cases_eq, cases_order, and_parts, and_from, eqb-true, eq-eqb, lt-ltb, ltb-true, ne_eqb, or_left, or_right, cases_Bool}
+use Rattle.base.specs.declared.key.Key.{Key}
+use Rattle.base.specs.Keys.{key_eq, key_lt, lookup_key, is_rising}
+use Rattle.base.specs.Commits.{Writes, after, with_write}
+use Rattle.base.specs.Stands.{has_timestamp}
+use Rattle.base.specs.Machine.{State, Session, Active, Drew, Drawn, Hand, Version, Writer, BySession, ByCommit, drawn_at, writes_of, replaced, with_session}
+use Rattle.state_invariant.specs.Kept.{Origin, KeepsHand, KeepsOrigin, KeepsNumbers, DrawsInOrder, Owns, Keeps, IsInUse, HasSlot, wanted, row_in, version_by, last_of}
+use Rattle.state_invariant.proofs.Lookups.{replaced-same, replaced-other, same-keys}
+
+-- the state with these sessions and with this in the slots
+abbrev pub with_held : State → (ℕ → Option Session) → (ℕ → Option Version) → State
+with_held q sessions held = record q { sessions = sessions; held = held }
+
+-- what each session keeps
+pub record SessionKeeps (o : Origin) (q : State) (s : Option Session) : Type 0 where
+  pub sorted : is_rising (map (λ write. write.0) (writes_of s)) ≡ true
+  pub drew : (t : ℕ) → s ≡ Some (Drew t) → (has_timestamp q.history t ≡ true) ⊎ ((d : Drawn) × (drawn_at q t ≡ Some d))
+  pub snapshot : (begun : ℕ) (writes : Writes) → s ≡ Some (Active begun writes) → (o.opened ≤ begun) × (begun ≤ length q.history) × IsInUse q begun
+
+-- what the slots keep when sessions change
+pub record HeldKeeps (q : State) (sessions : ℕ → Option Session) (held : ℕ → Option Version) : Type 0 where
+  pub once : (a b : ℕ) (v : Version) → a < q.layout.slots → b < q.layout.slots → held a ≡ Some v → held b ≡ Some v → a ≡ b
+  -- commits hold what they did
+  pub was : (slot t : ℕ) (key : Key) → held slot ≡ Some (version_by key (ByCommit t)) → q.held slot ≡ Some (version_by key (ByCommit t))
+  pub stays : (slot t : ℕ) (key : Key) → q.held slot ≡ Some (version_by key (ByCommit t)) → held slot ≡ Some (version_by key (ByCommit t))
+  -- sessions hold what they write
+  pub has : (slot n : ℕ) (key : Key) → slot < q.layout.slots → held slot ≡ Some (version_by key (BySession n)) → (row : List ℕ) × (row_in (writes_of (sessions n)) key ≡ Some row)
+  pub owns : (n : ℕ) (key : Key) (row : List ℕ) → lookup_key (writes_of (sessions n)) key ≡ Some (Some row) → (slot : ℕ) × (slot < q.layout.slots) × (held slot ≡ Some (version_by key (BySession n)))
+
+module _ (o : Origin) (q : State) (sessions : ℕ → Option Session) (held : ℕ → Option Version) (kept : Keeps o q) (each : (n : ℕ) → SessionKeeps o q (sessions n)) where
+  abbrev then : State
+  then = with_held q sessions held
+
+  hand-held : (hand : Hand) → KeepsHand q hand → KeepsHand then hand
+  hand-held hand k = record {
+    gate = k.gate;
+    formed = k.formed;
+    persisted = k.persisted;
+    further = k.further;
+    reserved = k.reserved;
+    window = k.window;
+    gaps = k.gaps;
+    still = k.still;
+    batch = k.batch;
+    only = k.only;
+    drawn = k.drawn;
+    rising = k.rising;
+  }
+
+  origin-held : KeepsOrigin o then
+  origin-held = let k = kept.numbers.origin in record {
+    formed = k.formed;
+    opened = k.opened;
+    further = k.further;
+    before = k.before;
+    since = k.since;
+    drawn = k.drawn;
+    distinct = k.distinct;
+    each = k.each;
+    still = k.still;
+    gaps = k.gaps;
+  }
+
+  numbers-held : KeepsNumbers o then
+  numbers-held = let k = kept.numbers in record {
+    layout = k.layout;
+    formed = k.formed;
+    persisted = k.persisted;
+    reserved = k.reserved;
+    window = k.window;
+    room = k.room;
+    covered = k.covered;
+    drawn = k.drawn;
+    hand = λ hand is. hand-held hand (k.hand hand is);
+    origin = origin-held;
+    snapshots = λ n begun writes is. let s = (each n).snapshot begun writes is in (s.0, s.1);
+  }
+
+  draws-held : DrawsInOrder then
+  draws-held = let k = kept.draws in record {
+    rising = k.rising;
+    apart = k.apart;
+    counted = k.counted;
+    in_order = k.in_order;
+    sorted = λ n. (each n).sorted;
+    drew = λ n t is. (each n).drew t is;
+  }
+
+  owns-held : HeldKeeps q sessions held → Owns o then
+  owns-held h = record {
+    once = h.once;
+    has = λ slot v lt at. has slot v v.writer lt at refl;
+    before = λ slot t key lt at. kept.owns.before slot t key lt (h.was slot t key at);
+    by_session = h.owns;
+    by_draw = λ t key d row found wrote. let old = kept.owns.by_draw t key d row found wrote in (old.0, old.1, h.stays old.0 t key old.2);
+    at_snapshot = λ n key row in_use is. let old = kept.owns.at_snapshot n key row (used n in_use) is in (old.0, old.1, h.stays old.0 _ key old.2);
+  }
+    where
+      used : (n : ℕ) → IsInUse then n → IsInUse q n
+      used n (inl all) = inl all
+      used n (inr (session, writes, active)) = ((each session).snapshot n writes active).2
+
+      has : (slot : ℕ) (v : Version) (w : Writer) → slot < q.layout.slots → held slot ≡ Some v → v.writer ≡ w → (row : List ℕ) × (wanted o then v ≡ Some row)
+      has slot v (BySession n) lt at is =
+          let old = h.has slot n v.key lt (at ∙ ap (λ (w : Writer). Some (version_by v.key w)) is) in
+          (old.0, ap (λ (w : Writer). wanted o then (version_by v.key w)) is ∙ old.1)
+      has slot v (ByCommit t) lt at is =
+          let old = kept.owns.has slot v lt (h.was slot t v.key (at ∙ ap (λ (w : Writer). Some (version_by v.key w)) is) ∙ ap (λ (w : Writer). Some (version_by v.key w)) (sym is)) in
+          (old.0, same t is ∙ old.1)
+        where
+          same : (t : ℕ) → v.writer ≡ ByCommit t → wanted o then v ≡ wanted o q v
+          same t is = ap (λ (w : Writer). wanted o then (version_by v.key w)) is ∙ ap (λ (w : Writer). wanted o q (version_by v.key w)) (sym is)
+
+  pub keeps-held : HeldKeeps q sessions held → Keeps o then
+  keeps-held h = record { numbers = numbers-held; draws = draws-held; owns = owns-held h }
+
+-- ---- sessions as they are
+
+pub session-keeps : (o : Origin) (q : State) (n : ℕ) → Keeps o q → SessionKeeps o q (q.sessions n)
+session-keeps o q n kept = record {
+  sorted = kept.draws.sorted n;
+  drew = λ t is. kept.draws.drew n t is;
+  snapshot = λ begun writes is. let s = kept.numbers.snapshots n begun writes is in (s.0, s.1, inr (n, writes, is));
+}
+
+-- what each has, each has after one is set that has it
+pub each-set : (P : Option Session → Type 0) (n : ℕ) (s : Option Session) (sessions : ℕ → Option Session) → P s → ((m : ℕ) → P (sessions m)) → (m : ℕ) → P (replaced n s sessions m)
+each-set P n s sessions this each m = by (cases_eq m n)
+  where
+    by : (m ≡ n) ⊎ (m ≢ n) → P (replaced n s sessions m)
+    by (inl is) = subst P (sym (replaced-same n s sessions m is)) this
+    by (inr apart) = subst P (sym (replaced-other n s sessions m apart)) (each m)
+
+-- ---- a session that writes what it wrote
+
+-- its writes are the same, no snapshot is new to the state, and it has drawn nothing
+pub keeps-session : (o : Origin) (q : State) (n : ℕ) (s : Option Session) → Keeps o q → SessionKeeps o q s → writes_of s ≡ writes_of (q.sessions n) → Keeps o (with_session n s q)
+keeps-session o q n s kept its same =
+    keeps-held o q (replaced n s q.sessions) q.held kept (each-set (SessionKeeps o q) n s q.sessions its (λ m. session-keeps o q m kept)) record {
+      once = kept.owns.once;
+      was = λ slot t key at. at;
+      stays = λ slot t key at. at;
+      has = λ slot m key lt at. let old = kept.owns.has slot (version_by key (BySession m)) lt at in (old.0, ap (λ (ws : Writes). row_in ws key) (writes m) ∙ old.1);
+      owns = λ m key row is. kept.owns.by_session m key row (ap (λ (ws : Writes). lookup_key ws key) (sym (writes m)) ∙ is);
+    }
+  where
+    writes : (m : ℕ) → writes_of (replaced n s q.sessions m) ≡ writes_of (q.sessions m)
+    writes m = by (cases_eq m n)
+      where
+        by : (m ≡ n) ⊎ (m ≢ n) → writes_of (replaced n s q.sessions m) ≡ writes_of (q.sessions m)
+        by (inl is) = ap writes_of (replaced-same n s q.sessions m is) ∙ same ∙ ap (λ (k : ℕ). writes_of (q.sessions k)) (sym is)
+        by (inr apart) = ap writes_of (replaced-other n s q.sessions m apart)
+
+-- ---- a further write keeps the keys in order
+
+after-key : (a b : Key) → key_eq a b ≡ false → key_lt a b ≡ false → key_lt b a ≡ true
+after-key a b apart above = by_table (cases_order a.table b.table)
+  where
+    by_key : a.table ≡ b.table → (a.key ≡ b.key) ⊎ ((a.key < b.key) ⊎ (b.key < a.key)) → key_lt b a ≡ true
+    by_key same (inl one) = absurd (true≢false (sym (and_from (nat_eq a.table b.table) (nat_eq a.key b.key) (eq-eqb a.table b.table same) (eq-eqb a.key b.key one)) ∙ apart))
+    by_key same (inr (inl less)) = absurd (true≢false (sym (or_right (nat_lt a.table b.table) (nat_eq a.table b.table && nat_lt a.key b.key) (and_from (nat_eq a.table b.table) (nat_lt a.key b.key) (eq-eqb a.table b.table same) (lt-ltb a.key b.key less))) ∙ above))
+    by_key same (inr (inr more)) = or_right (nat_lt b.table a.table) (nat_eq b.table a.table && nat_lt b.key a.key) (and_from (nat_eq b.table a.table) (nat_lt b.key a.key) (eq-eqb b.table a.table (sym same)) (lt-ltb b.key a.key more))
+
+    by_table : (a.table ≡ b.table) ⊎ ((a.table < b.table) ⊎ (b.table < a.table)) → key_lt b a ≡ true
+    by_table (inl same) = by_key same (cases_order a.key b.key)
+    by_table (inr (inl less)) = absurd (true≢false (sym (or_left (nat_lt a.table b.table) (nat_eq a.table b.table && nat_lt a.key b.key) (lt-ltb a.table b.table less)) ∙ above))
+    by_table (inr (inr more)) = or_left (nat_lt b.table a.table) (nat_eq b.table a.table && nat_lt b.key a.key) (lt-ltb b.table a.table more)
+
+abbrev keys_of : Writes → List Key
+keys_of writes = map (λ write. write.0) writes
+
+sorted-above : (a key : Key) (value : Option (List ℕ)) (writes : Writes) → key_lt a key ≡ true → is_rising (a ∷ keys_of writes) ≡ true → is_rising (a ∷ keys_of (with_write key value writes)) ≡ true
+sorted-above a key value [] less rising = and_from (key_lt a key) true less refl
+sorted-above a key value (write ∷ writes) less rising =
+    let both = and_parts (key_lt a write.0) (is_rising (write.0 ∷ keys_of writes)) rising in
+    by (key_eq key write.0) refl (key_lt key write.0) refl both.0 both.1 (λ above. sorted-above write.0 key value writes above both.1)
+  where
+    by : (e : Bool) → key_eq key write.0 ≡ e → (l : Bool) → key_lt key write.0 ≡ l → key_lt a write.0 ≡ true → is_rising (write.0 ∷ keys_of writes) ≡ true
+        → (key_lt write.0 key ≡ true → is_rising (write.0 ∷ keys_of (with_write key value writes)) ≡ true)
+        → is_rising (a ∷ keys_of (cond e ((key, value) ∷ writes) (cond l ((key, value) ∷ write ∷ writes) (write ∷ with_write key value writes)))) ≡ true
+    by true is l lt first rest go = subst (λ (k : Key). is_rising (a ∷ k ∷ keys_of writes) ≡ true) (sym (same-keys key write.0 is)) rising
+    by false is true lt first rest go = and_from (key_lt a key) (key_lt key write.0 && is_rising (write.0 ∷ keys_of writes)) less (and_from (key_lt key write.0) (is_rising (write.0 ∷ keys_of writes)) lt rest)
+    by false is false lt first rest go = and_from (key_lt a write.0) (is_rising (write.0 ∷ keys_of (with_write key value writes))) first (go (after-key key write.0 is lt))
+
+pub sorted-with_write : (key : Key) (value : Option (List ℕ)) (writes : Writes) → is_rising (map (λ write. write.0) writes) ≡ true → is_rising (map (λ write. write.0) (with_write key value writes)) ≡ true
+sorted-with_write key value [] rising = refl
+sorted-with_write key value (write ∷ writes) rising = by (key_eq key write.0) refl (key_lt key write.0) refl
+  where
+    by : (e : Bool) → key_eq key write.0 ≡ e → (l : Bool) → key_lt key write.0 ≡ l
+        → is_rising (keys_of (cond e ((key, value) ∷ writes) (cond l ((key, value) ∷ write ∷ writes) (write ∷ with_write key value writes)))) ≡ true
+    by true is l lt = subst (λ (k : Key). is_rising (k ∷ keys_of writes) ≡ true) (sym (same-keys key write.0 is)) rising
+    by false is true lt = and_from (key_lt key write.0) (is_rising (write.0 ∷ keys_of writes)) lt rising
+    by false is false lt = sorted-above write.0 key value writes (after-key key write.0 is lt) rising
