@@ -9,3 +9,4 @@ pub mod Upheld
 pub mod Shrinking
 pub mod Ticking
 pub mod Recording
+pub mod Storing
