@@ -10,3 +10,4 @@ pub mod Shrinking
 pub mod Ticking
 pub mod Recording
 pub mod Storing
+pub mod Showing
