@@ -7,3 +7,6 @@ pub mod Refusals
 pub mod Sessions
 pub mod Writing
 pub mod Drawing
+pub mod Stamping
+pub mod Choosing
+pub mod Stepping

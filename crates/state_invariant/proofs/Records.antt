@@ -72,3 +72,41 @@ committed-this version r s e above gaps longs =
     (and_from (nat_le 1 s.persisted) (nat_le s.persisted s.persisted) (le-leb 1 s.persisted (omega arith)) (le-leb s.persisted s.persisted (omega arith)))
     (ap (λ (gs : List Gap). not (is_in gs s.persisted)) gaps ∙ ap not (above-gaps version r s.persisted e above)))
     (ap (λ (ls : List ℕ). not (list_any (nat_eq s.persisted) ls)) longs)
+
+-- it commits what it persists, where that lies in no gap and no long commits are named
+pub committed-in : (r : Record) (t : ℕ) → 1 ≤ t → t ≤ r.persisted → is_in r.gaps t ≡ false → r.longs ≡ [] → is_committed r t ≡ true
+committed-in r t from to out none =
+    and_from (nat_le 1 t && nat_le t r.persisted && not (is_in r.gaps t)) (not (list_any (nat_eq t) r.longs))
+    (and_from (nat_le 1 t && nat_le t r.persisted) (not (is_in r.gaps t)) (and_from (nat_le 1 t) (nat_le t r.persisted) (le-leb 1 t from) (le-leb t r.persisted to)) (ap not out))
+    (ap (λ (ls : List ℕ). not (list_any (nat_eq t) ls)) none)
+
+-- how many long commits a well-formed record names
+pub well_formed-longs : (version : ℕ) (r : Record) → is_well_formed version r ≡ true → length r.longs ≤ most_longs version
+well_formed-longs version r e =
+    let p = nat_lt r.persisted r.dirty && nat_lt r.dirty (2 ^ 62) in
+    let each = list_all (λ gap. nat_le 1 gap.first && nat_le gap.first gap.last && nat_le gap.last r.persisted) r.gaps in
+    let longs = list_all (λ t. nat_le 1 t && nat_le t r.persisted && not (is_in r.gaps t)) r.longs in
+    let a = and_parts (p && nat_le (length r.gaps) 8 && nat_le (length r.longs) (most_longs version) && each && are_apart r.gaps && longs) (are_rising r.longs) e in
+    let b = and_parts (p && nat_le (length r.gaps) 8 && nat_le (length r.longs) (most_longs version) && each && are_apart r.gaps) longs a.0 in
+    let c = and_parts (p && nat_le (length r.gaps) 8 && nat_le (length r.longs) (most_longs version) && each) (are_apart r.gaps) b.0 in
+    let d = and_parts (p && nat_le (length r.gaps) 8 && nat_le (length r.longs) (most_longs version)) each c.0 in
+    leb-true (length r.longs) (most_longs version) (and_parts (p && nat_le (length r.gaps) 8) (nat_le (length r.longs) (most_longs version)) d.0).1
+
+-- without its gaps and long commits it is well formed still
+pub well_formed-dropped : (version : ℕ) (r : Record) → is_well_formed version r ≡ true → is_well_formed version (record { gate = r.gate; persisted = r.persisted; dirty = r.dirty; gaps = []; longs = [] }) ≡ true
+well_formed-dropped version r e =
+    let p = nat_lt r.persisted r.dirty && nat_lt r.dirty (2 ^ 62) in
+    let each = list_all (λ gap. nat_le 1 gap.first && nat_le gap.first gap.last && nat_le gap.last r.persisted) r.gaps in
+    let longs = list_all (λ t. nat_le 1 t && nat_le t r.persisted && not (is_in r.gaps t)) r.longs in
+    let a = and_parts (p && nat_le (length r.gaps) 8 && nat_le (length r.longs) (most_longs version) && each && are_apart r.gaps && longs) (are_rising r.longs) e in
+    let b = and_parts (p && nat_le (length r.gaps) 8 && nat_le (length r.longs) (most_longs version) && each && are_apart r.gaps) longs a.0 in
+    let c = and_parts (p && nat_le (length r.gaps) 8 && nat_le (length r.longs) (most_longs version) && each) (are_apart r.gaps) b.0 in
+    let d = and_parts (p && nat_le (length r.gaps) 8 && nat_le (length r.longs) (most_longs version)) each c.0 in
+    let f = and_parts (p && nat_le (length r.gaps) 8) (nat_le (length r.longs) (most_longs version)) d.0 in
+    let g = and_parts p (nat_le (length r.gaps) 8) f.0 in
+    and_from (p && true && nat_le 0 (most_longs version) && true && true && true) true
+    (and_from (p && true && nat_le 0 (most_longs version) && true && true) true
+    (and_from (p && true && nat_le 0 (most_longs version) && true) true
+    (and_from (p && true && nat_le 0 (most_longs version)) true
+    (and_from (p && true) (nat_le 0 (most_longs version)) (and_from p true g.0 refl) (le-leb 0 (most_longs version) (omega arith)))
+    refl) refl) refl) refl

@@ -16,6 +16,10 @@ pub record Origin : Type 0 where
   pub opened : ℕ
   pub ruling : Record
 
+-- that of an opened state
+abbrev pub origin_of : State → Origin
+origin_of q = record { opened = length q.history; ruling = q.ruling }
+
 -- the commits that this life has covered, in log order
 abbrev pub covered_since : Origin → State → List Commit
 covered_since o q = drop o.opened q.history

@@ -1,3 +1,4 @@
 pub mod Kept
 pub mod Shown
 pub mod Links
+pub mod Laws

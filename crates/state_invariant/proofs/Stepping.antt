@@ -1,0 +1,125 @@
+-- Every step, whatever it answers, keeps what a state keeps.
+use Rattle.std.proofs.Common.{◌≡◌, ℕ, ◌+◌, Bool, true, false, cond, List, [], ◌∷◌, refl, sym, ap, subst, Option, Some, None}
+use Rattle.base.specs.declared.step.Step.{Step}
+use Rattle.base.specs.declared.step.Step.TheVariants.{Begin, Get, Put, Delete, Draw, Stamp, Poll, Abort, End, Commit as CommitTick}
+use Rattle.base.specs.declared.step.Stage.{Stage}
+use Rattle.base.specs.declared.step.Reply.{Reply}
+use Rattle.base.specs.Machine.{State, Hand, Stepped, refused, answered, memory_refused, device_failed, Run, final, next_state, refusal, state_ticked, state_ticked_on, next_stage, is_idle, taken_in_hand}
+use Rattle.state_invariant.specs.Kept.{Origin, KeepsHand, KeepsOrigin, KeepsNumbers, DrawsInOrder, Owns, Keeps}
+use Rattle.state_invariant.proofs.Covering.{keeps-covered}
+use Rattle.state_invariant.proofs.Choosing.{keeps-chosen}
+use Rattle.state_invariant.proofs.Drawing.{keeps-draw}
+use Rattle.state_invariant.proofs.Stamping.{keeps-stamp}
+use Rattle.state_invariant.proofs.Writing.{keeps-begin, keeps-put, keeps-delete, keeps-abort, keeps-end}
+
+-- ---- another batch in hand, or a device that failed
+
+abbrev pub with_hand : State → Option Hand → Bool → State
+with_hand q hand failed = record q { hand = hand; failed = failed }
+
+hand-as : (q : State) (other : Option Hand) (failed : Bool) (hand : Hand) → KeepsHand q hand → KeepsHand (with_hand q other failed) hand
+hand-as q other failed hand k = record {
+  gate = k.gate;
+  formed = k.formed;
+  persisted = k.persisted;
+  further = k.further;
+  reserved = k.reserved;
+  window = k.window;
+  gaps = k.gaps;
+  still = k.still;
+  batch = k.batch;
+  only = k.only;
+  drawn = k.drawn;
+  rising = k.rising;
+}
+
+pub keeps-with_hand : (o : Origin) (q : State) (hand : Option Hand) (failed : Bool) → Keeps o q → ((h : Hand) → hand ≡ Some h → KeepsHand q h) → Keeps o (with_hand q hand failed)
+keeps-with_hand o q hand failed kept keeps =
+    let n = kept.numbers in
+    let p = kept.numbers.origin in
+    let d = kept.draws in
+    let w = kept.owns in
+    record {
+      numbers = record {
+        layout = n.layout;
+        formed = n.formed;
+        persisted = n.persisted;
+        reserved = n.reserved;
+        window = n.window;
+        room = n.room;
+        covered = n.covered;
+        drawn = n.drawn;
+        hand = λ h is. hand-as q hand failed h (keeps h is);
+        origin = record { formed = p.formed; opened = p.opened; further = p.further; before = p.before; since = p.since; drawn = p.drawn; distinct = p.distinct; each = p.each; still = p.still; gaps = p.gaps };
+        snapshots = n.snapshots;
+      };
+      draws = record { rising = d.rising; apart = d.apart; counted = d.counted; in_order = d.in_order; sorted = d.sorted; drew = d.drew };
+      owns = record { once = w.once; has = w.has; before = w.before; by_session = w.by_session; by_draw = w.by_draw; at_snapshot = w.at_snapshot };
+    }
+
+-- a batch goes on
+hand-ticked : (q : State) (hand : Hand) → KeepsHand q hand → KeepsHand q (record hand { ticks = hand.ticks + 1 })
+hand-ticked q hand k = record {
+  gate = k.gate;
+  formed = k.formed;
+  persisted = k.persisted;
+  further = k.further;
+  reserved = k.reserved;
+  window = k.window;
+  gaps = k.gaps;
+  still = k.still;
+  batch = k.batch;
+  only = k.only;
+  drawn = k.drawn;
+  rising = k.rising;
+}
+
+-- ---- the committer's ticks
+
+same-some : {X : Type 0} (x y : X) → Some x ≡ Some y → x ≡ y
+same-some x y e = cc e
+
+keeps-ticked_on : (o : Origin) (q : State) (hand : Hand) (stage : Option Stage) → Keeps o q → q.hand ≡ Some hand → Keeps o (state_ticked_on q hand stage)
+keeps-ticked_on o q hand (Some stage) kept is =
+    keeps-with_hand o q (Some (record hand { ticks = hand.ticks + 1 })) q.failed kept
+    (λ h same. subst (KeepsHand q) (same-some (record hand { ticks = hand.ticks + 1 }) h same) (hand-ticked q hand (kept.numbers.hand hand is)))
+keeps-ticked_on o q hand None kept is = keeps-covered o q hand kept (kept.numbers.hand hand is)
+
+keeps-ticked : (o : Origin) (q : State) (hand : Option Hand) → Keeps o q → q.hand ≡ hand → Keeps o (state_ticked q hand)
+keeps-ticked o q None kept is = by (is_idle q)
+  where
+    by : (b : Bool) → Keeps o (cond b q (record q { hand = Some (taken_in_hand q) }))
+    by true = kept
+    by false = keeps-with_hand o q (Some (taken_in_hand q)) q.failed kept (λ h same. subst (KeepsHand q) (same-some (taken_in_hand q) h same) (keeps-chosen o q kept))
+keeps-ticked o q (Some hand) kept is = keeps-ticked_on o q hand (next_stage q hand) kept is
+
+-- ---- every step
+
+pub keeps-next : (o : Origin) (q : State) (step : Step) → Keeps o q → refusal q step ≡ None → Keeps o (next_state q step)
+keeps-next o q Begin kept none = keeps-begin o q kept none
+keeps-next o q (Get n key) kept none = kept
+keeps-next o q (Put n key row) kept none = keeps-put o q n key row kept none
+keeps-next o q (Delete n key) kept none = keeps-delete o q n key kept none
+keeps-next o q (Draw n) kept none = keeps-draw o q n kept none
+keeps-next o q (Stamp n) kept none = keeps-stamp o q n kept none
+keeps-next o q (Poll n) kept none = kept
+keeps-next o q (Abort n) kept none = keeps-abort o q n kept
+keeps-next o q (End n) kept none = keeps-end o q n kept none
+keeps-next o q CommitTick kept none = keeps-ticked o q q.hand kept refl
+
+pub keeps-failed : (o : Origin) (q : State) → Keeps o q → Keeps o (record q { failed = true })
+keeps-failed o q kept = keeps-with_hand o q q.hand true kept (λ h is. kept.numbers.hand h is)
+
+pub keeps-step : (o : Origin) (q : State) (step : Step) (reply : Reply) (q' : State) → Keeps o q → Stepped q step reply q' → Keeps o q'
+keeps-step o q step reply q' kept (refused fault is told same) = subst (Keeps o) (sym same) kept
+keeps-step o q step reply q' kept (answered none answer same) = subst (Keeps o) (sym same) (keeps-next o q step kept none)
+keeps-step o q step reply q' kept (memory_refused none takes told same) = subst (Keeps o) (sym same) kept
+keeps-step o q step reply q' kept (device_failed none makes told same) = subst (Keeps o) (sym same) (keeps-failed o q kept)
+
+pub keeps-run : (o : Origin) (q : State) (steps : List Step) (replies : List Reply) (states : List State) → Keeps o q → Run q steps replies states → Keeps o (final q states)
+keeps-run o q [] [] [] kept run = kept
+keeps-run o q (step ∷ steps) (reply ∷ replies) (q1 ∷ states) kept run = keeps-run o q1 steps replies states (keeps-step o q step reply q1 kept run.0) run.1
+keeps-run o q [] [] (q1 ∷ states) kept run = absurd run
+keeps-run o q [] (r1 ∷ replies) states kept run = absurd run
+keeps-run o q (s1 ∷ steps) [] states kept run = absurd run
+keeps-run o q (s1 ∷ steps) (r1 ∷ replies) [] kept run = absurd run
