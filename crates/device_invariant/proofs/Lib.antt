@@ -11,3 +11,4 @@ pub mod Ticking
 pub mod Recording
 pub mod Storing
 pub mod Showing
+pub mod Filling
