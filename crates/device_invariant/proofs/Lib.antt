@@ -12,3 +12,4 @@ pub mod Recording
 pub mod Storing
 pub mod Showing
 pub mod Filling
+pub mod Laws

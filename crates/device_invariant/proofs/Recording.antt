@@ -114,6 +114,11 @@ at-stage q hand stage device in_hand staged ticks h = by_hand (subst (HoldsHand 
         let same : r.stage ≡ stage = same-stage r.stage stage r.staged staged (omega (arith, ticks, r.ticks)) in
         (subst (λ (s : WritingStage). IsReplacing q.ruling (writing_at q hand s) device) same r.replaces, r.settled)
 
+-- the slots are spared
+pub operation-shrinks : (q : State) (hand : Hand) (stage : WritingStage) (old new : Device) → q.hand ≡ Some hand → IsStage stage → hand.ticks ≡ 2 + lines_of q hand.commits + operations_before stage
+    → new ≡ applied (operation_of (writing_at q hand stage)) old → HoldsState q old → ShrinksSlots q.layout old new
+operation-shrinks q hand stage old new in_hand staged ticks is h = spared q hand stage old new staged is (at-stage q hand stage old in_hand staged ticks h).0
+
 pub holds-operation : (q : State) (hand : Hand) (stage : WritingStage) (old new : Device) → IsOrderly old → IsOrderly new → q.hand ≡ Some hand → IsStage stage → stage ≢ Done → next_stage stage ≢ Done
     → hand.ticks ≡ 2 + lines_of q hand.commits + operations_before stage → new ≡ applied (operation_of (writing_at q hand stage)) old → HoldsState q old
     → HoldsState (record q { hand = Some (record hand { ticks = hand.ticks + 1 }) }) new

@@ -1,8 +1,73 @@
-ghost use Rattle.device_invariant.specs.Laws.{EveryImageStands};
+ghost use Rattle.device_invariant.specs.Laws.{EveryImageStands, FlushesKeep, FencesKeep, FailuresKeep, FailingKeeps, ChoosingKeeps, LineKeeps, LinesKeep, OperationKeeps, CoveringHolds, GapsDrop, ClearingKeeps, FillingKeeps, RefillingKeeps};
 
 /// Each image that a device may leave stands as between two steps of the plain state that it upholds, the layout included:
 /// under the state's record for its history, or under that of the batch in hand for the history with the batch. A
 /// failed state's too.
 pub fn every_image_stands()
     ensures { EveryImageStands }
+{}
+
+/// A flush by any actor keeps what a device upholds.
+pub fn flushes_keep()
+    ensures { FlushesKeep }
+{}
+
+/// So does a fence by any actor.
+pub fn fences_keep()
+    ensures { FencesKeep }
+{}
+
+/// An operation that fails, whichever it was, leaves a device that upholds the failed state.
+pub fn failures_keep()
+    ensures { FailuresKeep }
+{}
+
+/// What upholds a state upholds it failed: so a step that the device stopped midway may be shown as one that failed.
+pub fn failing_keeps()
+    ensures { FailingKeeps }
+{}
+
+/// The first tick of a cycle chooses a batch, of any number of commits, and makes no operation.
+pub fn choosing_keeps()
+    ensures { ChoosingKeeps }
+{}
+
+/// A tick that flushes the next line of the batch.
+pub fn line_keeps()
+    ensures { LineKeeps }
+{}
+
+/// The tick that fences the lines of the batch.
+pub fn lines_keep()
+    ensures { LinesKeep }
+{}
+
+/// A tick that makes the next operation of the record's writing.
+pub fn operation_keeps()
+    ensures { OperationKeeps }
+{}
+
+/// The last tick covers the batch, of any number of commits; swept gaps that the record drops need no care.
+pub fn covering_holds()
+    ensures { CoveringHolds }
+{}
+
+/// Swept gaps may be dropped.
+pub fn gaps_drop()
+    ensures { GapsDrop }
+{}
+
+/// A free slot may be cleared.
+pub fn clearing_keeps()
+    ensures { ClearingKeeps }
+{}
+
+/// A cleared slot that is free may be filled.
+pub fn filling_keeps()
+    ensures { FillingKeeps }
+{}
+
+/// A slot that a session holds may be filled again; a device that fails meanwhile leaves what upholds the failed state.
+pub fn refilling_keeps()
+    ensures { RefillingKeeps }
 {}
