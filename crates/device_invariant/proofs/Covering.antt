@@ -26,12 +26,48 @@ use Rattle.device_invariant.proofs.Says.{says-begun, says-newest, wanted-newest}
 use Rattle.device_invariant.proofs.Stamps.{all-stamped, any-at, any-place, drawn-on, writes-held}
 
 -- the drawn commit with this timestamp is of the batch, and writes the key
-record IsOwn (q : State) (hand : Hand) (key : Key) (t : ℕ) : Type 0 where
-  drawn : Drawn
-  found : drawn_at q t ≡ Some drawn
-  in_hand : has_timestamp hand.commits t ≡ true
-  writes : writes_key key drawn.commit ≡ true
-  stamped : is_key_stamped drawn key ≡ true
+pub record IsOwn (q : State) (hand : Hand) (key : Key) (t : ℕ) : Type 0 where
+  pub drawn : Drawn
+  pub found : drawn_at q t ≡ Some drawn
+  pub in_hand : has_timestamp hand.commits t ≡ true
+  pub writes : writes_key key drawn.commit ≡ true
+  pub stamped : is_key_stamped drawn key ≡ true
+
+-- ---- the commits of the batch
+
+module _ (o : Origin) (q : State) (hand : Hand) (kept : Keeps o q) (k : KeepsHand q hand) where
+  -- the commit of the batch that writes a key is the one drawn commit that does
+  pub own-of : (key : Key) (l : IsLastOf q.history hand.commits key) → IsOwn q hand key l.commit.timestamp
+  own-of key l =
+      let at : commit_at hand.commits l.commit.timestamp ≡ Some l.commit = commit_at-place hand.commits l.place l.commit (distinct-rising hand.commits k.rising) l.at in
+      let drawn = k.drawn l.commit.timestamp l.commit at in
+      let writes : writes_key key drawn.0.commit ≡ true = ap (λ (c : Commit). writes_key key c) drawn.2 ∙ ap (λ (v : Option (Option (List ℕ))). is_some v) l.writes in
+      record {
+        drawn = drawn.0;
+        found = drawn.1;
+        in_hand = commit_at-some hand.commits l.commit.timestamp l.commit at;
+        writes = writes;
+        stamped = all-stamped drawn.0 key drawn.3 writes;
+      }
+
+  pub one-of : (key : Key) (l : IsLastOf q.history hand.commits key) (t : ℕ) (d : Drawn) → drawn_at q t ≡ Some d → writes_key key d.commit ≡ true → t ≡ l.commit.timestamp
+  one-of key l t d found writes =
+      let own = own-of key l in
+      kept.draws.apart t l.commit.timestamp d own.drawn key found own.found writes own.writes
+
+  -- no commit of the batch writes the key
+  pub unwritten : (key : Key) (n : WritesNone q.history hand.commits key) (t : ℕ) (d : Drawn) → drawn_at q t ≡ Some d → writes_key key d.commit ≡ true → has_timestamp hand.commits t ≡ false
+  unwritten key n t d found writes = by_test (has_timestamp hand.commits t) refl
+    where
+      by_test : (b : Bool) → has_timestamp hand.commits t ≡ b → b ≡ false
+      by_test false is = refl
+      by_test true is =
+          let drawn = batch-drawn o q hand kept k t is in
+          let same : Some drawn.0 ≡ Some d = sym drawn.1 ∙ found in
+          let this : drawn.0 ≡ d = cc same in
+          sym (any-at (writes_key key) hand.commits t drawn.0.commit drawn.2 (ap (λ (d : Drawn). writes_key key d.commit) this ∙ writes)) ∙ n.none
+
+-- ---- the slots
 
 module _ (o : Origin) (q : State) (hand : Hand) (device : Device) (kept : Keeps o q) (k : KeepsHand q hand) (shows : SlotsShow o q (value_of device)) (sweeping : IsSweeping q device) (settled : IsBatchSettled q hand.commits device) where
   abbrev now : State
@@ -68,37 +104,6 @@ module _ (o : Origin) (q : State) (hand : Hand) (device : Device) (kept : Keeps 
       by_test true is = inl is
       by_test false is = inr (is, sym (found-left o q hand kept k t is) ∙ none)
 
-  -- the commit of the batch that writes a key is the one drawn commit that does
-  own-of : (key : Key) (l : IsLastOf q.history hand.commits key) → IsOwn q hand key l.commit.timestamp
-  own-of key l =
-      let at : commit_at hand.commits l.commit.timestamp ≡ Some l.commit = commit_at-place hand.commits l.place l.commit (distinct-rising hand.commits k.rising) l.at in
-      let drawn = k.drawn l.commit.timestamp l.commit at in
-      let writes : writes_key key drawn.0.commit ≡ true = ap (λ (c : Commit). writes_key key c) drawn.2 ∙ ap (λ (v : Option (Option (List ℕ))). is_some v) l.writes in
-      record {
-        drawn = drawn.0;
-        found = drawn.1;
-        in_hand = commit_at-some hand.commits l.commit.timestamp l.commit at;
-        writes = writes;
-        stamped = all-stamped drawn.0 key drawn.3 writes;
-      }
-
-  one-of : (key : Key) (l : IsLastOf q.history hand.commits key) (t : ℕ) (d : Drawn) → drawn_at q t ≡ Some d → writes_key key d.commit ≡ true → t ≡ l.commit.timestamp
-  one-of key l t d found writes =
-      let own = own-of key l in
-      kept.draws.apart t l.commit.timestamp d own.drawn key found own.found writes own.writes
-
-  -- no commit of the batch writes the key
-  unwritten : (key : Key) (n : WritesNone q.history hand.commits key) (t : ℕ) (d : Drawn) → drawn_at q t ≡ Some d → writes_key key d.commit ≡ true → in_batch t ≡ false
-  unwritten key n t d found writes = by_test (in_batch t) refl
-    where
-      by_test : (b : Bool) → in_batch t ≡ b → b ≡ false
-      by_test false is = refl
-      by_test true is =
-          let drawn = batch-drawn o q hand kept k t is in
-          let same : Some drawn.0 ≡ Some d = sym drawn.1 ∙ found in
-          let this : drawn.0 ≡ d = cc same in
-          sym (any-at (writes_key key) hand.commits t drawn.0.commit drawn.2 (ap (λ (d : Drawn). writes_key key d.commit) this ∙ writes)) ∙ n.none
-
   -- ---- one slot
 
   module _ (slot : ℕ) (lt : slot < q.layout.slots) (h : SlotHolds q device slot) where
@@ -116,11 +121,11 @@ module _ (o : Origin) (q : State) (hand : Hand) (device : Device) (kept : Keeps 
         by_end x there (inl is_never) = inl (never slot 1 lt (omega arith) x there is_never)
         by_end x there (inr drawn) =
             let found = drawn-on q key x kept.draws drawn in
-            inr (any-left hand.commits x key q.drawn (unwritten key n x found.0 found.1 found.2) drawn)
+            inr (any-left hand.commits x key q.drawn (unwritten o q hand kept k key n x found.0 found.1 found.2) drawn)
 
     live-own : (key : Key) (l : IsLastOf q.history hand.commits key) → q.held slot ≡ Some (version_by key (ByCommit l.commit.timestamp)) → IsLive now device slot key
     live-own key l held =
-        let own = own-of key l in
+        let own = own-of o q hand kept k key l in
         let says = (says-begun o q kept (value_of device) shows slot l.commit.timestamp key own.drawn lt held own.found own.stamped).2 in
         let whole = settled.own slot lt (ap (is_own hand.commits) held ∙ own.in_hand) in
         record {
@@ -140,7 +145,7 @@ module _ (o : Origin) (q : State) (hand : Hand) (device : Device) (kept : Keeps 
     -- a version that the batch ends
     ended-by : (key : Key) (l : IsLastOf q.history hand.commits key) → q.held slot ≡ Some (newest_of q key) → EachSurvivor device (word_of q.layout slot 1) (Counts now)
     ended-by key l held =
-        let own = own-of key l in
+        let own = own-of o q hand kept k key l in
         let says = (says-newest o q kept (value_of device) shows slot key lt held).2 in
         let is : value_of device (word_of q.layout slot 1) ≡ l.commit.timestamp = says.ended l.commit.timestamp own.drawn own.found own.stamped in
         let writes : list_any (writes_key key) hand.commits ≡ true = any-place (writes_key key) hand.commits l.place l.commit l.at (ap (λ (v : Option (Option (List ℕ))). is_some v) l.writes) in
@@ -157,8 +162,8 @@ module _ (o : Origin) (q : State) (hand : Hand) (device : Device) (kept : Keeps 
 
         -- a version of the batch is the last on its key
         by_own : IsLastOf q.history hand.commits key ⊎ WritesNone q.history hand.commits key → (d : Drawn) → drawn_at q t ≡ Some d → in_batch t ≡ true → ⊥
-        by_own (inl l) d found has = other (one-of key l t d found (writes-held o q kept slot t key d lt held found) ∙ sym l.last)
-        by_own (inr n) d found has = true≢false (sym has ∙ unwritten key n t d found (writes-held o q kept slot t key d lt held found))
+        by_own (inl l) d found has = other (one-of o q hand kept k key l t d found (writes-held o q kept slot t key d lt held found) ∙ sym l.last)
+        by_own (inr n) d found has = true≢false (sym has ∙ unwritten o q hand kept k key n t d found (writes-held o q kept slot t key d lt held found))
 
         by_drawn : (in_batch t ≡ true) ⊎ ((in_batch t ≡ false) × (drawn_at q t ≡ None)) → EachSurvivor device (word_of q.layout slot 1) (Counts now)
         by_drawn (inl has) = let drawn = batch-drawn o q hand kept k t has in absurd (by_own (last-of q.history hand.commits key) drawn.0 drawn.1 has)
@@ -186,7 +191,7 @@ module _ (o : Origin) (q : State) (hand : Hand) (device : Device) (kept : Keeps 
     where
       by_last : IsLastOf q.history hand.commits key ⊎ WritesNone q.history hand.commits key → (row : List ℕ) × (after now.history key ≡ Some row) × Spells q.layout (value_of device) slot key row
       by_last (inl l) =
-          let own = own-of key l in
+          let own = own-of o q hand kept k key l in
           let this : version_by key (ByCommit l.commit.timestamp) ≡ newest_of now key = ap (λ (t : ℕ). version_by key (ByCommit t)) (sym l.last) in
           let says = says-begun o q kept (value_of device) shows slot l.commit.timestamp key own.drawn lt (held ∙ ap (λ (v : Version). Some v) (sym this)) own.found own.stamped in
           (says.0, sym (wanted-newest o now kept' key) ∙ wanted-now o q hand kept k (newest_of now key) ∙ ap (wanted o q) (sym this) ∙ says.1, says.2.spells)

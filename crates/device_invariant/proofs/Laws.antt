@@ -151,7 +151,7 @@ gaps-drop q r device swept none still s h = record { each = λ slot lt. gap-slot
 -- ---- stores
 
 -- the other slots show what they did, and this one something of its own
-shows-but_one : (o : Origin) (q : State) (old new : Device) (slot w value : ℕ) → w < slot_words q.layout.version → new ≡ stored (word_of q.layout slot w) value old → SlotShows o q (value_of new) slot → SlotsShow o q (value_of old) → SlotsShow o q (value_of new)
+pub shows-but_one : (o : Origin) (q : State) (old new : Device) (slot w value : ℕ) → w < slot_words q.layout.version → new ≡ stored (word_of q.layout slot w) value old → SlotShows o q (value_of new) slot → SlotsShow o q (value_of old) → SlotsShow o q (value_of new)
 shows-but_one o q old new slot w value low is this shows = record { each = λ s lt. by_place s lt (cases_eq s slot) }
   where
     by_place : (s : ℕ) → s < q.layout.slots → (s ≡ slot) ⊎ (s ≢ slot) → SlotShows o q (value_of new) s

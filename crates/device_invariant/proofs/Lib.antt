@@ -13,3 +13,4 @@ pub mod Storing
 pub mod Showing
 pub mod Filling
 pub mod Laws
+pub mod Stamping

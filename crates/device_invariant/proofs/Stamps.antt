@@ -34,6 +34,20 @@ all-stamped d key all has =
     let whole : length d.commit.writes ≤ d.stamped = omega (arith, eqb-true d.stamped (length d.commit.writes) all) in
     ap (λ (ws : Writes). list_any (λ write. key_eq write.0 key) ws) (take_all d.stamped d.commit.writes whole) ∙ writes-any key d.commit.writes has
 
+-- what a commit has stamped it writes
+stamped-among : (key : Key) (n : ℕ) (writes : Writes) → list_any (λ write. key_eq write.0 key) (take n writes) ≡ true → is_some (lookup_key writes key) ≡ true
+stamped-among key zero writes any = absurd (cc any)
+stamped-among key (suc n) [] any = absurd (cc any)
+stamped-among key (suc n) (write ∷ writes) any = by_test (key_eq write.0 key) any (stamped-among key n writes)
+  where
+    by_test : (b : Bool) → (b || list_any (λ write. key_eq write.0 key) (take n writes)) ≡ true → (list_any (λ write. key_eq write.0 key) (take n writes) ≡ true → is_some (lookup_key writes key) ≡ true)
+        → is_some (cond b (Some write.1) (lookup_key writes key)) ≡ true
+    by_test true any rest = refl
+    by_test false any rest = rest any
+
+pub stamped-writes : (d : Drawn) (key : Key) → is_key_stamped d key ≡ true → writes_key key d.commit ≡ true
+stamped-writes d key is = stamped-among key d.stamped d.commit.writes is
+
 -- ---- lists of commits
 
 -- a commit that is found passes for one of them

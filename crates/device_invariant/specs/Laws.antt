@@ -1,10 +1,11 @@
 -- What a device that upholds a plain state promises, and which moves keep it.
-use Rattle.std.specs.Prelude.{◌≡◌, ◌≢◌, ◌⊎◌, ℕ, ◌+◌, ◌^◌, ◌<◌, ◌≤◌, true, length, slice_get, [], Option, Some, None, IsTrue}
+use Rattle.std.specs.Prelude.{◌≡◌, ◌≢◌, ◌⊎◌, ℕ, ◌+◌, ◌^◌, ◌<◌, ◌≤◌, true, false, length, slice_get, [], Option, Some, None, IsTrue}
 use Rattle.base.specs.declared.key.Key.{Key}
 use Rattle.base.specs.Layout.{slot_words}
 use Rattle.base.specs.Records.{Record, is_in, is_committed}
 use Rattle.base.specs.Images.{Image}
-use Rattle.base.specs.Machine.{State, Hand, BySession, lines_of, state_covered, StandsAt}
+use Rattle.base.specs.Commits.{writes_key}
+use Rattle.base.specs.Machine.{State, Drawn, Hand, BySession, ByCommit, drawn_at, lines_of, state_covered, StandsAt}
 use Rattle.pmem.specs.Device.{Device, IsOrderly, MayLeave, stored, flushed, fenced, failed}
 use Rattle.pmem.specs.Trace.{applied}
 use Rattle.log_area.specs.declared.stage.WritingStage.{WritingStage}
@@ -13,8 +14,8 @@ use Rattle.log_area.specs.Stages.{IsStage, next_stage, operations_before}
 use Rattle.log_area.specs.Rulings.{Holds}
 use Rattle.log_area.specs.Writings.{operation_of, committer}
 use Rattle.state_invariant.specs.Kept.{Origin, KeepsHand, version_by}
-use Rattle.state_invariant.specs.Shown.{word_of}
-use Rattle.device_invariant.specs.Slots.{SlotsHold}
+use Rattle.state_invariant.specs.Shown.{word_of, is_key_stamped}
+use Rattle.device_invariant.specs.Slots.{newest_of, SlotsHold}
 use Rattle.device_invariant.specs.Sweeps.{IsSweeping}
 use Rattle.device_invariant.specs.Log.{Line, lines_in, line_number, writing_at}
 use Rattle.device_invariant.specs.Upholds.{HoldsState, Upholds}
@@ -104,3 +105,16 @@ abbrev pub RefillingKeeps : Type 0
 RefillingKeeps =
     (o : Origin) (q : State) (slot n w value : ℕ) (key : Key) (old new : Device) → slot < q.layout.slots → q.held slot ≡ Some (version_by key (BySession n)) → 1 ≤ w → w < slot_words q.layout.version → (w ≡ 1 → value ≡ 0)
     → new ≡ stored (word_of q.layout slot w) value old → Upholds o (record q { failed = true }) old → Upholds o (record q { failed = true }) new
+
+-- A drawn commit's timestamp is stored in the begin of a version of its that isn't stamped: until its write is counted as
+-- stamped it is the failed state that is upheld
+abbrev pub StampsBegin : Type 0
+StampsBegin =
+    (o : Origin) (q : State) (slot t : ℕ) (key : Key) (d : Drawn) (old new : Device) → q.failed ≡ true → slot < q.layout.slots → q.held slot ≡ Some (version_by key (ByCommit t)) → drawn_at q t ≡ Some d → is_key_stamped d key ≡ false
+    → new ≡ stored (word_of q.layout slot 0) t old → Upholds o q old → Upholds o q new
+
+-- and in the end of the newest version on the key of a write of its that isn't stamped
+abbrev pub StampsEnd : Type 0
+StampsEnd =
+    (o : Origin) (q : State) (slot t : ℕ) (key : Key) (d : Drawn) (old new : Device) → slot < q.layout.slots → q.held slot ≡ Some (newest_of q key) → drawn_at q t ≡ Some d → writes_key key d.commit ≡ true → is_key_stamped d key ≡ false
+    → new ≡ stored (word_of q.layout slot 1) t old → Upholds o q old → Upholds o q new

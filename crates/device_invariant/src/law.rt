@@ -1,4 +1,4 @@
-ghost use Rattle.device_invariant.specs.Laws.{EveryImageStands, FlushesKeep, FencesKeep, FailuresKeep, FailingKeeps, ChoosingKeeps, LineKeeps, LinesKeep, OperationKeeps, CoveringHolds, GapsDrop, ClearingKeeps, FillingKeeps, RefillingKeeps};
+ghost use Rattle.device_invariant.specs.Laws.{EveryImageStands, FlushesKeep, FencesKeep, FailuresKeep, FailingKeeps, ChoosingKeeps, LineKeeps, LinesKeep, OperationKeeps, CoveringHolds, GapsDrop, ClearingKeeps, FillingKeeps, RefillingKeeps, StampsBegin, StampsEnd};
 
 /// Each image that a device may leave stands as between two steps of the plain state that it upholds, the layout included:
 /// under the state's record for its history, or under that of the batch in hand for the history with the batch. A
@@ -70,4 +70,14 @@ pub fn filling_keeps()
 /// A slot that a session holds may be filled again; a device that fails meanwhile leaves what upholds the failed state.
 pub fn refilling_keeps()
     ensures { RefillingKeeps }
+{}
+
+/// A drawn commit may be stored in the begin of its version. It is the failed state that is upheld: so a device that fails at the end of the version that it replaces leaves one.
+pub fn stamps_begin()
+    ensures { StampsBegin }
+{}
+
+/// And in the end of the version that it replaces.
+pub fn stamps_end()
+    ensures { StampsEnd }
 {}
