@@ -10,3 +10,8 @@ pub mod Drawing
 pub mod Stamping
 pub mod Choosing
 pub mod Stepping
+pub mod Spelling
+pub mod OpenedGaps
+pub mod Opening
+pub mod Log
+pub mod Reading

@@ -1,12 +1,12 @@
 -- What the words of the slots are, from the plain state: their present values alone.
-use Rattle.std.specs.Prelude.{ℕ, ◌+◌, ◌<◌, ◌≤◌, ◌≡◌, ◌⊎◌, Bool, true, false, ◌&&◌, ◌||◌, nat_eq, if◌then◌else◌, List, [], length, take, drop, slice_get, slice_index, IsTrue, Option, Some, None, unwrap_or}
+use Rattle.std.specs.Prelude.{ℕ, ◌+◌, ◌<◌, ◌≤◌, ◌≡◌, ◌⊎◌, ◌↔◌, Bool, true, false, ◌&&◌, ◌||◌, nat_eq, if◌then◌else◌, List, [], length, take, drop, slice_get, slice_index, IsTrue, Option, Some, None, unwrap_or}
 use Rattle.std.specs.List.{list_any}
 use Rattle.base.specs.declared.key.Key.{Key}
 use Rattle.base.specs.Keys.{key_eq}
-use Rattle.base.specs.Commits.{Commit, writes_key, last_writer}
+use Rattle.base.specs.Commits.{Commit, after, writes_key, last_writer}
 use Rattle.base.specs.Layout.{Layout, slot_start, slot_words, total_words}
 use Rattle.base.specs.Records.{is_in, is_committed}
-use Rattle.base.specs.Images.{Image, layout_of, key_of, row_of, is_misfit}
+use Rattle.base.specs.Images.{Image, layout_of, key_of, row_of, is_live, is_misfit, Shown}
 use Rattle.base.specs.Stands.{has_timestamp}
 use Rattle.base.specs.Machine.{State, Drawn, Version, Writer, BySession, ByCommit, drawn_at}
 use Rattle.state_invariant.specs.Kept.{Origin, IsInUse, wanted}
@@ -137,3 +137,12 @@ SlotShows o q value slot = ShowsAs o q value slot (class_of o q slot)
 -- in every slot
 pub record SlotsShow (o : Origin) (q : State) (value : ℕ → ℕ) : Type 0 where
   pub each : (slot : ℕ) → slot < q.layout.slots → SlotShows o q value slot
+
+-- ---- reading
+
+-- What a snapshot of the first n commits sees in an image, the slots whose begin it counts and whose end it doesn't, are
+-- the rows of the tables after those commits, each key once
+pub record ReadsAs (o : Origin) (q : State) (image : Image) (n : ℕ) : Type 0 where
+  pub rows : (key : Key) (row : List ℕ) → Shown (counts_at o q n) image key row ↔ (after (take n q.history) key ≡ Some row)
+  pub once : (a b : ℕ) → a < q.layout.slots → b < q.layout.slots → is_live (counts_at o q n) image a ≡ true → is_live (counts_at o q n) image b ≡ true → key_of image a ≡ key_of image b → a ≡ b
+  pub fits : (slot : ℕ) → slot < q.layout.slots → is_live (counts_at o q n) image slot ≡ true → is_misfit image slot ≡ false

@@ -1,0 +1,405 @@
+-- An opened state keeps what every state keeps, and its slots show what it says.
+use Rattle.std.proofs.Common.{◌≡◌, ◌⊎◌, inl, inr, ℕ, ◌+◌, ◌-◌, ◌*◌, ◌^◌, ◌<◌, ◌≤◌, Bool, true, false, not, ◌&&◌, ◌||◌, List, [], ◌∷◌, ◌++◌, length, take, drop, refl, sym, ◌∙◌, ap, subst, nat_eq, cond, arith}
+use Rattle.std.specs.Prelude.{slice_index, Option, Some, None, unwrap_or, is_some, fold, nat_le, nat_lt, if◌then◌else◌, ◌↔◌}
+use Rattle.std.specs.List.{list_all, range_with_len}
+use Rattle.std.specs.Option.{option_or, option_map}
+use Rattle.std.proofs.lemmas.List.{take_all, drop_all}
+use Rattle.std.proofs.lemmas.Bool.{and_parts, and_from, and_right, and_cases, or_parts, or_left, cases_order, leb-true, leb-false, ltb-false, le-leb, lt-ltb, eq-eqb, eqb-true, not-true, not-false, cond-true, cond-false, false≢true, true≢false}
+use Rattle.base.specs.declared.key.Key.{Key}
+use Rattle.base.specs.declared.gap.Gap.{Gap}
+use Rattle.base.specs.declared.fault.Fault.{Fault}
+use Rattle.base.specs.declared.fault.Fault.TheVariants.{BadGeometry, NotFormatted, Damaged, Version as VersionFault, TimestampsOut, GapsFull}
+use Rattle.base.specs.Keys.{key_eq, lookup_key}
+use Rattle.base.specs.Commits.{Commit, Tables, overlaid, laid, no_rows, writes_key, after, last_writer}
+use Rattle.base.specs.Layout.{Layout, slot_words, total_words, is_between, is_in_limits, is_known_version, opened_version}
+use Rattle.base.specs.Records.{Record, record_word, record_in, is_record, is_in, is_committed, is_well_formed, opened_gaps}
+use Rattle.base.specs.Images.{Image, layout_of, key_of, row_of, begin_of, end_of, is_live, is_shown, is_ahead, is_misfit, is_second, ShownUnder, ruling, ruling_place, place_words, greatest_gate, is_formatted, has_good_geometry, is_wrong_gate, is_ruled, is_bad_slot, damage, log_faults, faults_of, IsSound, opening_fault, needs_sweep, is_near_limit}
+use Rattle.base.specs.Search.{first_below, first_of, some_if}
+use Rattle.base.specs.Stands.{Stands}
+use Rattle.base.specs.Openings.{IsOpenedGaps, OpensAs, opened, opened_under, held_under}
+use Rattle.base.specs.Machine.{State, Version, Writer, BySession, ByCommit}
+use Rattle.base.proofs.Histories.{first_below-none, key_eq-same, no_bad_slot}
+use Rattle.base.proofs.GapLists.{opened-gaps, one_gap_list}
+use Rattle.state_invariant.specs.Kept.{Origin, origin_of, Keeps, HasSlot, IsInUse, wanted, version_by, last_of, commit_at, row_by, are_distinct}
+use Rattle.state_invariant.specs.Shown.{word_of, counts_at, Spells, IsNever, IsHidden, HasBegun, IsNewest, ShowsAs, SlotsShow, class_of_version, Newest, Replaced}
+use Rattle.state_invariant.proofs.Commits.{committed-bounds}
+use Rattle.state_invariant.proofs.OpenedGaps.{record_over, same-committed_over, formed-over, formed-parts}
+use Rattle.state_invariant.proofs.Spelling.{some_words, spells-image}
+
+-- ---- what an opening finds
+
+pub record IsOpening (a : Layout) (r : Record) (image : Image) (history : List Commit) (gaps : List Gap) : Type 0 where
+  pub layout : layout_of image ≡ a
+  pub limits : is_in_limits a ≡ true
+  pub size : length image ≡ total_words a
+  pub formed : is_well_formed a.version r ≡ true
+  pub room : r.dirty + 2 * a.window < 2 ^ 62
+  pub good : (slot : ℕ) → slot < a.slots → is_bad_slot r image slot ≡ false
+  pub tables : (key : Key) (row : List ℕ) → ShownUnder r image key row ↔ (after history key ≡ Some row)
+  pub covered : list_all (λ commit. is_committed r commit.timestamp) history ≡ true
+  pub gaps_cover : IsOpenedGaps r gaps
+  pub few : length gaps ≤ 8
+
+-- what a slot is that isn't bad
+record IsGood (r : Record) (image : Image) (slot : ℕ) : Type 0 where
+  begin : begin_of image slot < r.dirty
+  end : end_of image slot < r.dirty
+  fits : is_shown r image slot ≡ true → is_misfit image slot ≡ false
+  first : is_shown r image slot ≡ true → is_second r image slot ≡ false
+
+live-parts : (live misfit second : Bool) → (live && (misfit || second)) ≡ false → live ≡ true → (misfit ≡ false) × (second ≡ false)
+live-parts true misfit second e is = or_parts misfit second e
+live-parts false misfit second e is = absurd (false≢true is)
+
+good-slot : (r : Record) (image : Image) (slot : ℕ) → is_bad_slot r image slot ≡ false → IsGood r image slot
+good-slot r image slot e =
+    let both = or_parts (is_ahead r image slot) (is_shown r image slot && (is_misfit image slot || is_second r image slot)) e in
+    let marks = or_parts (nat_le r.dirty (begin_of image slot)) (nat_le r.dirty (end_of image slot)) both.0 in
+    record {
+      begin = leb-false r.dirty (begin_of image slot) marks.0;
+      end = leb-false r.dirty (end_of image slot) marks.1;
+      fits = λ is. (live-parts (is_shown r image slot) (is_misfit image slot) (is_second r image slot) both.1 is).0;
+      first = λ is. (live-parts (is_shown r image slot) (is_misfit image slot) (is_second r image slot) both.1 is).1;
+    }
+
+not_some : (o : Option ℕ) → is_some o ≡ false → o ≡ None
+not_some None e = refl
+not_some (Some x) e = cc
+
+-- two live slots of a key are one
+one-lower : (r : Record) (image : Image) (lower slot : ℕ) → lower < slot → IsGood r image slot → is_shown r image lower ≡ true → is_shown r image slot ≡ true → key_of image lower ≡ key_of image slot → ⊥
+one-lower r image lower slot less good live_lower live same =
+    let test : ℕ → Bool = λ l. is_shown r image l && key_eq (key_of image l) (key_of image slot) in
+    let none : first_below slot test ≡ None = not_some (first_below slot test) (good.first live) in
+    let keys : key_eq (key_of image lower) (key_of image slot) ≡ true = subst (λ (k : Key). key_eq (key_of image lower) k ≡ true) same (key_eq-same (key_of image lower)) in
+    let both : test lower ≡ true = and_from (is_shown r image lower) (key_eq (key_of image lower) (key_of image slot)) live_lower keys in
+    false≢true (sym (first_below-none slot test none lower less) ∙ both)
+
+one-live : (r : Record) (image : Image) (a b : ℕ) → IsGood r image a → IsGood r image b → is_shown r image a ≡ true → is_shown r image b ≡ true → key_of image a ≡ key_of image b → a ≡ b
+one-live r image a b good_a good_b live_a live_b same = by (cases_order a b)
+  where
+    by : (a ≡ b) ⊎ ((a < b) ⊎ (b < a)) → a ≡ b
+    by (inl is) = is
+    by (inr (inl less)) = absurd (one-lower r image a b less good_b live_a live_b same)
+    by (inr (inr more)) = absurd (one-lower r image b a more good_a live_b live_a (sym same))
+
+-- ---- the versions that live slots are given
+
+abbrev version_in : Image → List Commit → ℕ → Version
+version_in image history slot = version_by (key_of image slot) (ByCommit (last_writer history (key_of image slot)))
+
+record IsHeldAs (r : Record) (image : Image) (history : List Commit) (slot : ℕ) (version : Version) : Type 0 where
+  live : is_shown r image slot ≡ true
+  is : version_in image history slot ≡ version
+
+cond-some : {X : Type 0} (b : Bool) (x y : X) → cond b (Some x) None ≡ Some y → (b ≡ true) × (x ≡ y)
+cond-some true x y e = (refl, cc)
+cond-some false x y e = cc
+
+held-as : (a : Layout) (r : Record) (image : Image) (history : List Commit) (slot : ℕ) (version : Version) → held_under a r image history slot ≡ Some version → IsHeldAs r image history slot version
+held-as a r image history slot version e =
+    let both = cond-some (nat_lt slot a.slots && is_shown r image slot) (version_in image history slot) version e in
+    record { live = (and_parts (nat_lt slot a.slots) (is_shown r image slot) both.0).1; is = both.1 }
+
+held-live : (a : Layout) (r : Record) (image : Image) (history : List Commit) (slot : ℕ) → slot < a.slots → is_shown r image slot ≡ true → held_under a r image history slot ≡ Some (version_in image history slot)
+held-live a r image history slot h live =
+    cond-true (nat_lt slot a.slots && is_shown r image slot) (Some (version_in image history slot)) None (and_from (nat_lt slot a.slots) (is_shown r image slot) (lt-ltb slot a.slots h) live)
+
+held-none : (a : Layout) (r : Record) (image : Image) (history : List Commit) (slot : ℕ) → is_shown r image slot ≡ false → held_under a r image history slot ≡ None
+held-none a r image history slot dead = cond-false (nat_lt slot a.slots && is_shown r image slot) (Some (version_in image history slot)) None (and_right (nat_lt slot a.slots) (is_shown r image slot) dead)
+
+by_commit-same : (t u : ℕ) → ByCommit t ≡ ByCommit u → t ≡ u
+by_commit-same t u e = cc
+
+not_session : (t n : ℕ) → ByCommit t ≡ BySession n → ⊥
+not_session t n e = cc
+
+none-some : {X : Type 0} (x : X) → ◌≡◌ {A = Option X} None (Some x) → ⊥
+none-some x e = cc
+
+-- where there is a row, its key's last writer passes what each commit passes
+passes-from : (test : ℕ → Bool) (key : Key) (row : List ℕ) (tables : Tables) (t : ℕ) (history : List Commit)
+    → ((row : List ℕ) → tables key ≡ Some row → test t ≡ true) → list_all (λ commit. test commit.timestamp) history ≡ true
+    → laid tables history key ≡ Some row → test (fold (λ t commit. cond (writes_key key commit) commit.timestamp t) t history) ≡ true
+passes-from test key row tables t [] first all e = first row e
+passes-from test key row tables t (commit ∷ history) first all e =
+    let both = and_parts (test commit.timestamp) (list_all (λ commit. test commit.timestamp) history) all in
+    passes-from test key row (overlaid commit.writes tables) (cond (writes_key key commit) commit.timestamp t) history (by both.0 (lookup_key commit.writes key)) both.1 e
+  where
+    by : test commit.timestamp ≡ true → (o : Option (Option (List ℕ))) → (row : List ℕ) → unwrap_or o (tables key) ≡ Some row → test (cond (is_some o) commit.timestamp t) ≡ true
+    by passes None row e = first row e
+    by passes (Some value) row e = passes
+
+pub passes-last_writer : (test : ℕ → Bool) (key : Key) (row : List ℕ) (history : List Commit) → list_all (λ commit. test commit.timestamp) history ≡ true → after history key ≡ Some row → test (last_writer history key) ≡ true
+passes-last_writer test key row history all e = passes-from test key row no_rows 0 history (λ row e. absurd (none-some row e)) all e
+
+narrower : (dirty window limit : ℕ) → dirty + 2 * window < limit → dirty + window < limit
+narrower dirty window limit h = omega (arith, h)
+
+has-window : (a : Layout) → is_in_limits a ≡ true → 0 < a.window
+has-window a e =
+    let one = and_parts (is_known_version a.version) (is_between 1 65536 a.slots && (is_between 2 64 a.places && is_between 4 1024 a.window)) e in
+    let two = and_parts (is_between 1 65536 a.slots) (is_between 2 64 a.places && is_between 4 1024 a.window) one.1 in
+    let three = and_parts (is_between 2 64 a.places) (is_between 4 1024 a.window) two.1 in
+    omega (arith, leb-true 4 a.window (and_parts (nat_le 4 a.window) (nat_le a.window 1024) three.1).0)
+
+-- what the opened record doesn't commit, though it lies below the old dirty timestamp, is 0 or in a gap
+never-parts : (t persisted : ℕ) (i : Bool) → t ≤ persisted → (nat_le 1 t && nat_le t persisted && not i && not false) ≡ false → (t ≡ 0) ⊎ (i ≡ true)
+never-parts t persisted true h e = inr refl
+never-parts t persisted false h e = inl (by (nat_le 1 t) (nat_le t persisted) refl (le-leb t persisted h) e)
+  where
+    by : (b c : Bool) → nat_le 1 t ≡ b → c ≡ true → (b && c && true && true) ≡ false → t ≡ 0
+    by true true is most e = absurd (true≢false e)
+    by true false is most e = absurd (false≢true most)
+    by false c is most e = let less = leb-false 1 t is in omega (arith, less)
+
+never-over : (r : Record) (window : ℕ) (gaps : List Gap) (t : ℕ) → IsOpenedGaps r gaps → t < r.dirty → is_committed r t ≡ false → (t ≡ 0) ⊎ (is_in gaps t ≡ true)
+never-over r window gaps t opened h e = never-parts t (r.dirty - 1) (is_in gaps t) (omega (arith, h)) (same-committed_over r window gaps t opened h ∙ e)
+
+covered-over : (r : Record) (window : ℕ) (gaps : List Gap) (history : List Commit) → IsOpenedGaps r gaps → r.persisted < r.dirty
+    → list_all (λ commit. is_committed r commit.timestamp) history ≡ true → list_all (λ commit. is_committed (record_over r window gaps) commit.timestamp) history ≡ true
+covered-over r window gaps [] opened less all = refl
+covered-over r window gaps (commit ∷ history) opened less all =
+    let both = and_parts (is_committed r commit.timestamp) (list_all (λ commit. is_committed r commit.timestamp) history) all in
+    let most = committed-bounds r commit.timestamp both.0 in
+    and_from (is_committed (record_over r window gaps) commit.timestamp) (list_all (λ commit. is_committed (record_over r window gaps) commit.timestamp) history)
+    (same-committed_over r window gaps commit.timestamp opened (omega (arith, most.1, less)) ∙ both.0) (covered-over r window gaps history opened less both.1)
+
+-- ---- the opened state
+
+module _ (a : Layout) (r : Record) (image : Image) (history : List Commit) (lost : List ℕ) (gaps : List Gap) (opening : IsOpening a r image history gaps) where
+  abbrev start : State
+  start = opened_under a r image history lost gaps
+
+  abbrev begins : Origin
+  begins = origin_of start
+
+  less : r.persisted < r.dirty
+  less = (formed-parts a.version r opening.formed).persisted
+
+  good : (slot : ℕ) → slot < a.slots → IsGood r image slot
+  good slot h = good-slot r image slot (opening.good slot h)
+
+  -- a live slot has a row of the history
+  live-row : (slot : ℕ) → slot < a.slots → is_shown r image slot ≡ true → after history (key_of image slot) ≡ Some (row_of image slot)
+  live-row slot h live = (opening.tables (key_of image slot) (row_of image slot)).0 (slot, subst (λ (l : Layout). slot < l.slots) (sym opening.layout) h, live, refl, refl)
+
+  writer-before : (key : Key) (row : List ℕ) → after history key ≡ Some row → last_writer history key < r.dirty
+  writer-before key row e = let most = committed-bounds r (last_writer history key) (passes-last_writer (is_committed r) key row history opening.covered e) in omega (arith, most.1, less)
+
+  all-taken : take (length history) history ≡ history
+  all-taken = take_all (length history) history (omega arith)
+
+  none-since : drop (length history) history ≡ []
+  none-since = drop_all (length history) history (omega arith)
+
+  wanted-opened : (key : Key) (row : List ℕ) → after history key ≡ Some row → wanted begins start (version_by key (ByCommit (last_writer history key))) ≡ Some row
+  wanted-opened key row is =
+      ap (λ (cs : List Commit). row_by begins start key (last_writer history key) (commit_at (cs ++ []) (last_writer history key))) none-since
+      ∙ ap (λ (cs : List Commit). if nat_eq (last_writer cs key) (last_writer history key) then after cs key else None) all-taken
+      ∙ ap (λ (b : Bool). if b then after history key else None) (eq-eqb (last_writer history key) (last_writer history key) refl) ∙ is
+
+  opened-keeps : Keeps begins start
+  opened-keeps = record {
+    numbers = record {
+      layout = opening.limits;
+      formed = formed-over a.version r a.window gaps opening.formed opening.gaps_cover opening.few (has-window a opening.limits) (narrower r.dirty a.window (2 ^ 62) opening.room);
+      persisted = omega (arith, less);
+      reserved = omega arith;
+      window = omega arith;
+      room = omega (arith, opening.room);
+      covered = covered-over r a.window gaps history opening.gaps_cover less opening.covered;
+      drawn = refl;
+      hand = λ hand is. absurd (none-some hand is);
+      origin = record {
+        formed = formed-over a.version r a.window gaps opening.formed opening.gaps_cover opening.few (has-window a opening.limits) (narrower r.dirty a.window (2 ^ 62) opening.room);
+        opened = omega arith;
+        further = omega arith;
+        before = ap (λ (cs : List Commit). list_all (λ commit. is_committed (record_over r a.window gaps) commit.timestamp) cs) all-taken ∙ covered-over r a.window gaps history opening.gaps_cover less opening.covered;
+        since = ap (λ (cs : List Commit). list_all (λ commit. nat_lt (r.dirty - 1) commit.timestamp) cs) none-since;
+        drawn = refl;
+        distinct = ap are_distinct none-since;
+        each = λ t above below. absurd (omega (arith, above, below));
+        still = λ t counts. counts;
+        gaps = inl refl;
+      };
+      snapshots = λ n begun writes is. absurd (none-some _ is);
+    };
+    draws = record {
+      rising = refl;
+      apart = λ t u d e key found_d found_e writes_d writes_e. absurd (none-some d found_d);
+      counted = refl;
+      in_order = refl;
+      sorted = λ n. refl;
+      drew = λ n t is. absurd (none-some _ is);
+    };
+    owns = record {
+      once = λ x y version hx hy ex ey.
+          let held_x = held-as a r image history x version ex in
+          let held_y = held-as a r image history y version ey in
+          one-live r image x y (good x hx) (good y hy) held_x.live held_y.live (ap (λ (v : Version). v.key) held_x.is ∙ sym (ap (λ (v : Version). v.key) held_y.is));
+      has = λ slot v h e.
+          let held = held-as a r image history slot v e in
+          (row_of image slot, subst (λ (w : Version). wanted begins start w ≡ Some (row_of image slot)) held.is (wanted-opened (key_of image slot) (row_of image slot) (live-row slot h held.live)));
+      before = λ slot t key h e.
+          let held = held-as a r image history slot (version_by key (ByCommit t)) e in
+          let same : last_writer history (key_of image slot) ≡ t = by_commit-same (last_writer history (key_of image slot)) t (ap (λ (v : Version). v.writer) held.is) in
+          omega (arith, same, writer-before (key_of image slot) (row_of image slot) (live-row slot h held.live));
+      by_session = λ n key row e. absurd (none-some (Some row) e);
+      by_draw = λ t key d row found e. absurd (none-some d found);
+      at_snapshot = λ n key row in_use e. at_snapshot n key row in_use e;
+    };
+  }
+    where
+      shown : (key : Key) (row : List ℕ) → after history key ≡ Some row → HasSlot start (version_by key (ByCommit (last_writer history key)))
+      shown key row e =
+          let found = (opening.tables key row).1 e in
+          let within : found.0 < a.slots = subst (λ (l : Layout). found.0 < l.slots) opening.layout found.1 in
+          (found.0, within, held-live a r image history found.0 within found.2 ∙ ap (λ (k : Key). Some (version_by k (ByCommit (last_writer history k)))) found.3)
+
+      at_snapshot : (n : ℕ) (key : Key) (row : List ℕ) → IsInUse start n → after (take n history) key ≡ Some row → HasSlot start (last_of start n key)
+      at_snapshot n key row (inr (session, writes, active)) e = absurd (none-some _ active)
+      at_snapshot n key row (inl all) e =
+          let same : take n history ≡ history = take_all n history (omega (arith, all)) in
+          subst (λ (cs : List Commit). HasSlot start (version_by key (ByCommit (last_writer cs key)))) (sym same) (shown key row (sym (ap (λ (cs : List Commit). after cs key) same) ∙ e))
+
+  -- ---- what the slots show
+
+  abbrev value : ℕ → ℕ
+  value word = slice_index image word
+
+  begin-value : (slot : ℕ) → value (word_of a slot 0) ≡ begin_of image slot
+  begin-value slot = ap (λ (l : Layout). slice_index image (word_of l slot 0)) (sym opening.layout)
+
+  end-value : (slot : ℕ) → value (word_of a slot 1) ≡ end_of image slot
+  end-value slot = ap (λ (l : Layout). slice_index image (word_of l slot 1)) (sym opening.layout)
+
+  never : (t : ℕ) → t < r.dirty → is_committed r t ≡ false → IsNever begins t
+  never t h e = never-over r a.window gaps t opening.gaps_cover h e
+
+  shows-live : (slot : ℕ) → slot < a.slots → is_shown r image slot ≡ true → IsNewest begins start value slot (last_writer history (key_of image slot)) (key_of image slot) (row_of image slot)
+  shows-live slot h live =
+      let counts = and_parts (is_committed r (begin_of image slot)) (not (is_committed r (end_of image slot))) live in
+      record {
+        begin = record {
+          own = λ above. absurd (omega (arith, above, writer-before (key_of image slot) (row_of image slot) (live-row slot h live)));
+          earlier = λ le. ap (is_committed (record_over r a.window gaps)) (begin-value slot) ∙ same-committed_over r a.window gaps (begin_of image slot) opening.gaps_cover (good slot h).begin ∙ counts.0;
+        };
+        end = inl (subst (IsNever begins) (sym (end-value slot)) (never (end_of image slot) (good slot h).end (not-true (is_committed r (end_of image slot)) counts.1)));
+        ended = λ u d found is. absurd (none-some d found);
+        spells = spells-image a image slot opening.layout opening.size ((good slot h).fits live);
+      }
+
+  shows-dead : (slot : ℕ) → slot < a.slots → is_shown r image slot ≡ false → IsHidden begins start (value (word_of a slot 0)) (value (word_of a slot 1))
+  shows-dead slot h dead = by (and_cases (is_committed r (begin_of image slot)) (not (is_committed r (end_of image slot))) dead)
+    where
+      by : (is_committed r (begin_of image slot) ≡ false) ⊎ (not (is_committed r (end_of image slot)) ≡ false) → IsHidden begins start (value (word_of a slot 0)) (value (word_of a slot 1))
+      by (inl unbegun) = inl (subst (IsNever begins) (sym (begin-value slot)) (never (begin_of image slot) (good slot h).begin unbegun))
+      by (inr ended) = inr (λ n in_use.
+          or_left (is_committed (record_over r a.window gaps) (value (word_of a slot 1))) _
+          (ap (is_committed (record_over r a.window gaps)) (end-value slot) ∙ same-committed_over r a.window gaps (end_of image slot) opening.gaps_cover (good slot h).end ∙ not-false (is_committed r (end_of image slot)) ended))
+
+  opened-shows : SlotsShow begins start value
+  opened-shows = record { each = λ slot h. by slot h (is_shown r image slot) refl }
+    where
+      by : (slot : ℕ) → slot < a.slots → (b : Bool) → is_shown r image slot ≡ b → ShowsAs begins start value slot (class_of_version begins start (held_under a r image history slot))
+      by slot h true live =
+          subst (λ (o : Option Version). ShowsAs begins start value slot (class_of_version begins start o)) (sym (held-live a r image history slot h live))
+          (subst (λ (o : Option (List ℕ)). ShowsAs begins start value slot (cond (nat_eq (last_writer history (key_of image slot)) (last_writer history (key_of image slot))) (Newest (last_writer history (key_of image slot)) (key_of image slot) (unwrap_or o [])) (Replaced (last_writer history (key_of image slot)) (key_of image slot) (unwrap_or o []))))
+          (sym (wanted-opened (key_of image slot) (row_of image slot) (live-row slot h live)))
+          (subst (λ (b : Bool). ShowsAs begins start value slot (cond b (Newest (last_writer history (key_of image slot)) (key_of image slot) (row_of image slot)) (Replaced (last_writer history (key_of image slot)) (key_of image slot) (row_of image slot))))
+          (sym (eq-eqb (last_writer history (key_of image slot)) (last_writer history (key_of image slot)) refl))
+          (shows-live slot h live)))
+      by slot h false dead = subst (λ (o : Option Version). ShowsAs begins start value slot (class_of_version begins start o)) (sym (held-none a r image history slot dead)) (shows-dead slot h dead)
+
+-- ---- what the image says
+
+known-one : (version : ℕ) → is_known_version version ≡ true → opened_version version ≡ version
+known-one version known =
+    let both = and_parts (nat_le 1 version) (nat_le version 1) known in
+    let one : 1 ≡ version = omega (arith, leb-true 1 version both.0, leb-true version 1 both.1) in
+    subst (λ (v : ℕ). opened_version v ≡ v) one refl
+
+same_opened : (image : Image) (history : List Commit) (lost : List ℕ) (gaps : List Gap) → is_known_version (layout_of image).version ≡ true
+    → opened_under (layout_of image) (ruling image) image history lost gaps ≡ opened image history lost gaps
+same_opened image history lost gaps known = ap (λ (v : ℕ). opened_under (record (layout_of image) { version = v }) (ruling image) image history lost gaps) (sym (known-one (layout_of image).version known))
+
+size-of : (image : Image) → has_good_geometry image ≡ true → (is_in_limits (layout_of image) ≡ true) × (length image ≡ total_words (layout_of image))
+size-of image good =
+    let limits : Bool = is_in_limits (layout_of image) in
+    let total : Bool = nat_eq (slice_index image 5) (total_words (layout_of image)) in
+    let size : Bool = nat_eq (length image) (slice_index image 5) in
+    let rest : Bool = nat_eq (slice_index image 6) 0 in
+    let three = and_parts (limits && total) size (and_parts (limits && total && size) rest (and_parts (limits && total && size && rest) (nat_eq (slice_index image 7) 0) good).0).0 in
+    let two = and_parts limits total three.0 in
+    (two.0, eqb-true (length image) (slice_index image 5) three.1 ∙ eqb-true (slice_index image 5) (total_words (layout_of image)) two.1)
+
+or-none : {X : Type 0} → (a b : Option X) → option_or a b ≡ None → (a ≡ None) × (b ≡ None)
+or-none None b e = (refl, e)
+or-none (Some x) b e = cc
+
+some_if-none : (b : Bool) (fault : Fault) → some_if b fault ≡ None → b ≡ false
+some_if-none true fault e = cc
+some_if-none false fault e = refl
+
+formed-record : (version : ℕ) (words : List ℕ) → is_record version words ≡ true → is_well_formed version (record_in words) ≡ true
+formed-record version words e =
+    (and_parts (nat_eq (length words) 32 && list_all (λ w. nat_eq (slice_index words w) (record_word (record_in words) w)) (range_with_len 0 32)) (is_well_formed version (record_in words)) e).1
+
+-- what the fields of a sound image are
+record IsWhole (image : Image) : Type 0 where
+  known : is_known_version (layout_of image).version ≡ true
+  geometry : has_good_geometry image ≡ true
+  ruled : is_ruled image ≡ true
+
+whole-of : (image : Image) → IsSound image → IsWhole image
+whole-of image sound =
+    let a = or-none _ _ sound in
+    let b = or-none _ _ a.1 in
+    let c = or-none _ _ b.1 in
+    let d = or-none _ _ c.1 in
+    let e = or-none _ _ d.1 in
+    record {
+      known = not-false (is_known_version (layout_of image).version) (some_if-none (not (is_known_version (layout_of image).version)) _ b.0);
+      geometry = not-false (has_good_geometry image) (some_if-none (not (has_good_geometry image)) _ c.0);
+      ruled = not-false (is_ruled image) (some_if-none (not (is_ruled image)) _ e.0);
+    }
+
+opening-of : (image : Image) (history drawn : List Commit) (next : ℕ) (gaps : List Gap) → opening_fault image ≡ None → Stands image history drawn next → IsOpenedGaps (ruling image) gaps
+    → IsOpening (layout_of image) (ruling image) image history gaps
+opening-of image history drawn next gaps opens stands covers =
+    let whole = whole-of image stands.sound in
+    let size = size-of image whole.geometry in
+    let formed : is_well_formed (layout_of image).version (ruling image) ≡ true =
+    formed-record (layout_of image).version (place_words image (ruling_place image)) (and_parts (not (nat_eq (greatest_gate image) 0)) (is_record (layout_of image).version (place_words image (ruling_place image))) whole.ruled).1 in
+    let a = or-none _ _ opens in
+    let b = or-none _ _ a.1 in
+    let c = or-none _ _ b.1 in
+    let limit = or_parts (nat_le (2 ^ 62) ((ruling image).dirty + 2 * (layout_of image).window)) (nat_le (2 ^ 62) ((ruling image).gate + 1)) (some_if-none (is_near_limit image) _ b.0) in
+    let same : opened_gaps (ruling image) ≡ gaps = one_gap_list (ruling image) (opened_gaps (ruling image)) gaps (opened-gaps (layout_of image).version (ruling image) formed) covers in
+    record {
+      layout = refl;
+      limits = size.0;
+      size = size.1;
+      formed = formed;
+      room = leb-false (2 ^ 62) ((ruling image).dirty + 2 * (layout_of image).window) limit.0;
+      good = λ slot h. no_bad_slot image stands.sound slot h;
+      tables = stands.tables;
+      covered = stands.covered;
+      gaps_cover = covers;
+      few = subst (λ (gs : List Gap). length gs ≤ 8) same (ltb-false 8 (length (opened_gaps (ruling image))) (some_if-none (needs_sweep image) _ c.0));
+    }
+
+-- ---- the theorems
+
+pub keeps-opened : (image : Image) (history drawn : List Commit) (next : ℕ) (lost : List ℕ) (q : State) → opening_fault image ≡ None → Stands image history drawn next → OpensAs image history lost q
+    → Keeps (origin_of q) q
+keeps-opened image history drawn next lost q opens stands (gaps, covers, is) =
+    subst (λ (p : State). Keeps (origin_of p) p) (same_opened image history lost gaps (whole-of image stands.sound).known ∙ sym is)
+    (opened-keeps (layout_of image) (ruling image) image history lost gaps (opening-of image history drawn next gaps opens stands covers))
+
+pub shows-opened : (image : Image) (history drawn : List Commit) (next : ℕ) (lost : List ℕ) (q : State) → opening_fault image ≡ None → Stands image history drawn next → OpensAs image history lost q
+    → SlotsShow (origin_of q) q (slice_index image)
+shows-opened image history drawn next lost q opens stands (gaps, covers, is) =
+    subst (λ (p : State). SlotsShow (origin_of p) p (slice_index image)) (same_opened image history lost gaps (whole-of image stands.sound).known ∙ sym is)
+    (opened-shows (layout_of image) (ruling image) image history lost gaps (opening-of image history drawn next gaps opens stands covers))
