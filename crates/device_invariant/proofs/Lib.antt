@@ -14,3 +14,5 @@ pub mod Showing
 pub mod Filling
 pub mod Laws
 pub mod Stamping
+pub mod Reading
+pub mod Opened

@@ -1,20 +1,22 @@
 -- What a device that upholds a plain state promises, and which moves keep it.
-use Rattle.std.specs.Prelude.{◌≡◌, ◌≢◌, ◌⊎◌, ℕ, ◌+◌, ◌^◌, ◌<◌, ◌≤◌, true, false, length, slice_get, [], Option, Some, None, IsTrue}
+use Rattle.std.specs.Prelude.{◌≡◌, ◌≢◌, ◌⊎◌, ℕ, ◌+◌, ◌^◌, ◌<◌, ◌≤◌, true, false, length, slice_get, slice_index, List, [], Option, Some, None, IsTrue}
 use Rattle.base.specs.declared.key.Key.{Key}
-use Rattle.base.specs.Layout.{slot_words}
+use Rattle.base.specs.Layout.{Layout, slot_words}
 use Rattle.base.specs.Records.{Record, is_in, is_committed}
-use Rattle.base.specs.Images.{Image}
-use Rattle.base.specs.Commits.{writes_key}
+use Rattle.base.specs.Images.{Image, opening_fault}
+use Rattle.base.specs.Openings.{OpensAs}
+use Rattle.base.specs.Stands.{Stands}
+use Rattle.base.specs.Commits.{Commit, writes_key}
 use Rattle.base.specs.Machine.{State, Drawn, Hand, BySession, ByCommit, drawn_at, lines_of, state_covered, StandsAt}
-use Rattle.pmem.specs.Device.{Device, IsOrderly, MayLeave, stored, flushed, fenced, failed}
+use Rattle.pmem.specs.Device.{Device, IsOrderly, MayLeave, image_of, stored, flushed, fenced, failed}
 use Rattle.pmem.specs.Trace.{applied}
 use Rattle.log_area.specs.declared.stage.WritingStage.{WritingStage}
 use Rattle.log_area.specs.declared.stage.WritingStage.TheVariants.{FenceGate, Done}
 use Rattle.log_area.specs.Stages.{IsStage, next_stage, operations_before}
-use Rattle.log_area.specs.Rulings.{Holds}
+use Rattle.log_area.specs.Rulings.{Holds, HoldsRecord}
 use Rattle.log_area.specs.Writings.{operation_of, committer}
-use Rattle.state_invariant.specs.Kept.{Origin, KeepsHand, version_by}
-use Rattle.state_invariant.specs.Shown.{word_of, is_key_stamped}
+use Rattle.state_invariant.specs.Kept.{Origin, origin_of, IsInUse, KeepsHand, version_by}
+use Rattle.state_invariant.specs.Shown.{word_of, is_key_stamped, ReadsAs}
 use Rattle.device_invariant.specs.Slots.{newest_of, SlotsHold}
 use Rattle.device_invariant.specs.Sweeps.{IsSweeping}
 use Rattle.device_invariant.specs.Log.{Line, lines_in, line_number, writing_at}
@@ -118,3 +120,21 @@ abbrev pub StampsEnd : Type 0
 StampsEnd =
     (o : Origin) (q : State) (slot t : ℕ) (key : Key) (d : Drawn) (old new : Device) → slot < q.layout.slots → q.held slot ≡ Some (newest_of q key) → drawn_at q t ≡ Some d → writes_key key d.commit ≡ true → is_key_stamped d key ≡ false
     → new ≡ stored (word_of q.layout slot 1) t old → Upholds o q old → Upholds o q new
+
+-- ---- reading
+
+-- in each state, a failed one too, each snapshot in use reads the rows of its tables in the words that the device has
+abbrev pub DevicesRead : Type 0
+DevicesRead = (o : Origin) (q : State) (device : Device) (n : ℕ) → IsOrderly device → Upholds o q device → IsInUse q n → ReadsAs o q (image_of device) n
+
+-- ---- openings
+
+-- a crash leaves the words of the slots as in the image
+pub record RestsOn (a : Layout) (device : Device) (image : Image) : Type 0 where
+  pub each : (slot w : ℕ) → slot < a.slots → w < slot_words a.version → Holds device (word_of a slot w) (slice_index image (word_of a slot w))
+
+-- where the slots are as the opening found them and the record that it wrote rules, the device upholds the opened state
+abbrev pub OpenedUpholds : Type 0
+OpenedUpholds =
+    (image : Image) (history drawn : List Commit) (next : ℕ) (lost : List ℕ) (q : State) (device : Device) → opening_fault image ≡ None → Stands image history drawn next → OpensAs image history lost q
+    → RestsOn q.layout device image → HoldsRecord q.layout q.ruling device → Upholds (origin_of q) q device

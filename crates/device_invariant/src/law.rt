@@ -1,4 +1,4 @@
-ghost use Rattle.device_invariant.specs.Laws.{EveryImageStands, FlushesKeep, FencesKeep, FailuresKeep, FailingKeeps, ChoosingKeeps, LineKeeps, LinesKeep, OperationKeeps, CoveringHolds, GapsDrop, ClearingKeeps, FillingKeeps, RefillingKeeps, StampsBegin, StampsEnd};
+ghost use Rattle.device_invariant.specs.Laws.{EveryImageStands, FlushesKeep, FencesKeep, FailuresKeep, FailingKeeps, ChoosingKeeps, LineKeeps, LinesKeep, OperationKeeps, CoveringHolds, GapsDrop, ClearingKeeps, FillingKeeps, RefillingKeeps, StampsBegin, StampsEnd, DevicesRead, OpenedUpholds};
 
 /// Each image that a device may leave stands as between two steps of the plain state that it upholds, the layout included:
 /// under the state's record for its history, or under that of the batch in hand for the history with the batch. A
@@ -80,4 +80,14 @@ pub fn stamps_begin()
 /// And in the end of the version that it replaces.
 pub fn stamps_end()
     ensures { StampsEnd }
+{}
+
+/// Each snapshot in use reads the rows of its tables in the words of a device, each key once, whatever is under way, and in a failed state too.
+pub fn devices_read()
+    ensures { DevicesRead }
+{}
+
+/// A device that an opening left upholds the opened state.
+pub fn opened_devices_uphold()
+    ensures { OpenedUpholds }
 {}
