@@ -68,7 +68,7 @@ found-later x ds u d rising found =
     ap (λ (b : Bool). cond b (Some x) (find (λ (d : Drawn). nat_eq d.commit.timestamp u) ds)) (ne_eqb (time_of x) u (λ e. omega (arith, e, a.0))) ∙ found
 
 -- some that passes is found by its timestamp
-any-by_timestamp : (r : Drawn → Bool) (ds : List Drawn) → are_rising (map time_of ds) ≡ true → list_any r ds ≡ true → (d : Drawn) × (find (λ (e : Drawn). nat_eq e.commit.timestamp (time_of d)) ds ≡ Some d) × (r d ≡ true)
+pub any-by_timestamp : (r : Drawn → Bool) (ds : List Drawn) → are_rising (map time_of ds) ≡ true → list_any r ds ≡ true → (d : Drawn) × (find (λ (e : Drawn). nat_eq e.commit.timestamp (time_of d)) ds ≡ Some d) × (r d ≡ true)
 any-by_timestamp r [] rising any = absurd (cc any)
 any-by_timestamp r (x ∷ ds) rising any =
     elim (or_cases (r x) (list_any r ds) any) [

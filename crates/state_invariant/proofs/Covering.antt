@@ -49,12 +49,12 @@ module _ (o : Origin) (q : State) (hand : Hand) (kept : Keeps o q) (k : KeepsHan
   drawn-all : (p : Drawn → Bool) (t : ℕ) (d : Drawn) → list_all p q.drawn ≡ true → drawn_at q t ≡ Some d → p d ≡ true
   drawn-all p t d all found = find-all (λ (d : Drawn). nat_eq d.commit.timestamp t) p q.drawn d all found
 
-  batch-above : (t : ℕ) → has_timestamp hand.commits t ≡ true → nat_lt o.ruling.persisted t ≡ true
+  pub batch-above : (t : ℕ) → has_timestamp hand.commits t ≡ true → nat_lt o.ruling.persisted t ≡ true
   batch-above t has =
       let drawn = batch-drawn t has in
       ap (nat_lt o.ruling.persisted) (sym (drawn_at-timestamp q t drawn.0 drawn.1)) ∙ drawn-all (λ d. nat_lt o.ruling.persisted d.commit.timestamp) t drawn.0 kept.numbers.origin.drawn drawn.1
 
-  batch-uncommitted : (t : ℕ) → has_timestamp hand.commits t ≡ true → is_committed q.ruling t ≡ false
+  pub batch-uncommitted : (t : ℕ) → has_timestamp hand.commits t ≡ true → is_committed q.ruling t ≡ false
   batch-uncommitted t has =
       let drawn = batch-drawn t has in
       let both = and_parts (not (is_committed q.ruling drawn.0.commit.timestamp)) (nat_lt drawn.0.commit.timestamp q.next)

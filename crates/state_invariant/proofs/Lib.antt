@@ -15,3 +15,6 @@ pub mod OpenedGaps
 pub mod Opening
 pub mod Log
 pub mod Reading
+pub mod Showing
+pub mod Stamps
+pub mod ShownCovering

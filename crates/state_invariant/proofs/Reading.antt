@@ -70,7 +70,7 @@ module _ (o : Origin) (q : State) (kept : Keeps o q) where
       uncounted n t (uncommitted-above o.ruling t above)
       (λ p. true≢false (sym (at-fact (λ c. is_committed q.ruling c.timestamp) q.history 0 p.place p.commit kept.numbers.covered (omega arith) p.at) ∙ ap (is_committed q.ruling) p.is ∙ out))
 
-  drawn-facts : (t : ℕ) (d : Drawn) → drawn_at q t ≡ Some d → (o.ruling.persisted < t) × (is_committed q.ruling t ≡ false)
+  pub drawn-facts : (t : ℕ) (d : Drawn) → drawn_at q t ≡ Some d → (o.ruling.persisted < t) × (is_committed q.ruling t ≡ false)
   drawn-facts t d found =
       let is : d.commit.timestamp ≡ t = drawn_at-timestamp q t d found in
       let above : o.ruling.persisted < d.commit.timestamp = ltb-true o.ruling.persisted d.commit.timestamp (find-all (λ (d : Drawn). nat_eq d.commit.timestamp t) (λ d. nat_lt o.ruling.persisted d.commit.timestamp) q.drawn d origin.drawn found) in
@@ -146,7 +146,7 @@ module _ (o : Origin) (q : State) (kept : Keeps o q) where
         never = λ j c le at same. absurd (omega (arith, above-origin j c le at, same, low));
       }
 
-  started : (key : Key) (row : List ℕ) (t begin : ℕ) → drawn_at q t ≡ None → wanted o q (version_by key (ByCommit t)) ≡ Some row → HasBegun o t begin → Started o q key row t begin
+  pub started : (key : Key) (row : List ℕ) (t begin : ℕ) → drawn_at q t ≡ None → wanted o q (version_by key (ByCommit t)) ≡ Some row → HasBegun o t begin → Started o q key row t begin
   started key row t begin undrawn is begun =
       by (commit_at (covered_since o q) t) refl (ap (row_by o q key t) (sym whole) ∙ is)
     where
