@@ -16,12 +16,14 @@ use Rattle.log_area.specs.Writings.{operation_of, committer}
 use Rattle.pmem.proofs.Changes.{flushed-shrinks, fenced-shrinks, failed-shrinks, stored-value}
 use Rattle.state_invariant.specs.Kept.{Origin, Keeps, KeepsHand, version_by}
 use Rattle.state_invariant.specs.Shown.{word_of, IsNever, is_drawn_on, SlotsShow, SlotShows, ShowsAs, class_of_version, class_of}
+use Rattle.state_invariant.proofs.Covering.{keeps-covered}
+use Rattle.state_invariant.proofs.ShownCovering.{shows-covered}
 use Rattle.state_invariant.proofs.Stepping.{keeps-with_hand, keeps-failed}
 use Rattle.device_invariant.specs.Slots.{NeverCounts, IsLive, SlotHolds, SlotsHold}
 use Rattle.device_invariant.specs.Sweeps.{IsSweeping}
 use Rattle.device_invariant.specs.Log.{HoldsHand, writing_at}
 use Rattle.device_invariant.specs.Upholds.{HoldsState, Upholds}
-use Rattle.device_invariant.specs.Laws.{FlushesKeep, FencesKeep, FailuresKeep, FailingKeeps, ChoosingKeeps, LineKeeps, LinesKeep, OperationKeeps, CoveringHolds, GapsDrop, ClearingKeeps, FillingKeeps, RefillingKeeps, one_tick_on}
+use Rattle.device_invariant.specs.Laws.{FlushesKeep, FencesKeep, FailuresKeep, FailingKeeps, ChoosingKeeps, LineKeeps, LinesKeep, OperationKeeps, CoveringKeeps, GapsDrop, ClearingKeeps, FillingKeeps, RefillingKeeps, one_tick_on}
 use Rattle.device_invariant.proofs.Words.{each-weaken, within-slot}
 use Rattle.device_invariant.proofs.Shrinking.{ShrinksSlots}
 use Rattle.device_invariant.proofs.Ticking.{holds-flushed, holds-fenced, holds-fails, holds-failed, holds-chosen, holds-line, holds-lines}
@@ -113,9 +115,14 @@ pub operation-keeps : OperationKeeps
 operation-keeps o q hand stage old new orderly orderly' in_hand staged un more ticks is u =
     upholds-ticked o q hand old new in_hand (operation-shrinks q hand stage old new in_hand staged ticks is u.holds) (holds-operation q hand stage old new orderly orderly' in_hand staged un more ticks is u.holds) u
 
-pub covering-holds : CoveringHolds
-covering-holds o q hand old new orderly orderly' in_hand ticks is u =
-    holds-covered o q hand old new orderly orderly' in_hand ticks is u.keeps (shows-shrink o q old new (same-values q old new (λ slot lt w low. fenced-shrinks committer (word_of q.layout slot w) is)) u.shows) u.holds
+pub covering-keeps : CoveringKeeps
+covering-keeps o q hand old new orderly orderly' up in_hand ticks is u =
+    let shows = shows-shrink o q old new (same-values q old new (λ slot lt w low. fenced-shrinks committer (word_of q.layout slot w) is)) u.shows in
+    record {
+      keeps = keeps-covered o q hand u.keeps (u.keeps.numbers.hand hand in_hand);
+      shows = shows-covered o q hand (value_of new) up u.keeps (u.keeps.numbers.hand hand in_hand) shows;
+      holds = holds-covered o q hand old new orderly orderly' in_hand ticks is u.keeps shows u.holds;
+    }
 
 -- ---- gaps
 

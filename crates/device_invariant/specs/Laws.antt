@@ -20,7 +20,7 @@ use Rattle.state_invariant.specs.Shown.{word_of, is_key_stamped, ReadsAs}
 use Rattle.device_invariant.specs.Slots.{newest_of, SlotsHold}
 use Rattle.device_invariant.specs.Sweeps.{IsSweeping}
 use Rattle.device_invariant.specs.Log.{Line, lines_in, line_number, writing_at}
-use Rattle.device_invariant.specs.Upholds.{HoldsState, Upholds}
+use Rattle.device_invariant.specs.Upholds.{Upholds}
 
 -- ---- images
 
@@ -75,11 +75,11 @@ OperationKeeps =
     (o : Origin) (q : State) (hand : Hand) (stage : WritingStage) (old new : Device) → IsOrderly old → IsOrderly new → q.hand ≡ Some hand → IsStage stage → stage ≢ Done → next_stage stage ≢ Done
     → hand.ticks ≡ 2 + lines_of q hand.commits + operations_before stage → new ≡ applied (operation_of (writing_at q hand stage)) old → Upholds o q old → Upholds o (one_tick_on q hand) new
 
--- the last one covers the batch, of however many commits: what may survive is then as the state with the batch covered says
-abbrev pub CoveringHolds : Type 0
-CoveringHolds =
-    (o : Origin) (q : State) (hand : Hand) (old new : Device) → IsOrderly old → IsOrderly new → q.hand ≡ Some hand → hand.ticks ≡ 2 + lines_of q hand.commits + operations_before FenceGate
-    → new ≡ fenced committer old → Upholds o q old → HoldsState (state_covered q hand) new
+-- the last one covers the batch, of however many commits
+abbrev pub CoveringKeeps : Type 0
+CoveringKeeps =
+    (o : Origin) (q : State) (hand : Hand) (old new : Device) → IsOrderly old → IsOrderly new → q.failed ≡ false → q.hand ≡ Some hand → hand.ticks ≡ 2 + lines_of q hand.commits + operations_before FenceGate
+    → new ≡ fenced committer old → Upholds o q old → Upholds o (state_covered q hand) new
 
 -- ---- gaps
 

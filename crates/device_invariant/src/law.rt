@@ -1,4 +1,4 @@
-ghost use Rattle.device_invariant.specs.Laws.{EveryImageStands, FlushesKeep, FencesKeep, FailuresKeep, FailingKeeps, ChoosingKeeps, LineKeeps, LinesKeep, OperationKeeps, CoveringHolds, GapsDrop, ClearingKeeps, FillingKeeps, RefillingKeeps, StampsBegin, StampsEnd, DevicesRead, OpenedUpholds};
+ghost use Rattle.device_invariant.specs.Laws.{EveryImageStands, FlushesKeep, FencesKeep, FailuresKeep, FailingKeeps, ChoosingKeeps, LineKeeps, LinesKeep, OperationKeeps, CoveringKeeps, GapsDrop, ClearingKeeps, FillingKeeps, RefillingKeeps, StampsBegin, StampsEnd, DevicesRead, OpenedUpholds};
 
 /// Each image that a device may leave stands as between two steps of the plain state that it upholds, the layout included:
 /// under the state's record for its history, or under that of the batch in hand for the history with the batch. A
@@ -47,9 +47,10 @@ pub fn operation_keeps()
     ensures { OperationKeeps }
 {}
 
-/// The last tick covers the batch, of any number of commits; swept gaps that the record drops need no care.
-pub fn covering_holds()
-    ensures { CoveringHolds }
+/// The last tick covers the batch, of any number of commits: the device then upholds the state with the batch covered, under
+/// a record that may have dropped gaps that were swept.
+pub fn covering_keeps()
+    ensures { CoveringKeeps }
 {}
 
 /// Swept gaps may be dropped.
