@@ -1,0 +1,199 @@
+-- A device that an opening left upholds the opened state.
+use Rattle.std.proofs.Common.{◌≡◌, ◌≢◌, ◌⊎◌, inl, inr, ℕ, ◌+◌, ◌<◌, ◌≤◌, Bool, true, false, cond, not, ◌&&◌, ◌||◌, List, [], ◌∷◌, ◌++◌, map, length, take, drop, refl, sym, ◌∙◌, ap, subst, arith, true≢false, nat_eq, nat_le}
+use Rattle.std.specs.Prelude.{Option, Some, None, IsTrue, slice_index, slice_get}
+use Rattle.std.specs.List.{find}
+use Rattle.std.specs.Option.{option_or}
+use Rattle.std.proofs.lemmas.Bool.{and_parts, or_parts, leb-true, leb-false, ne_eqb, or_cases, and_left}
+use Rattle.std.proofs.lemmas.List.{take_all, length-drop}
+use Rattle.base.specs.declared.key.Key.{Key}
+use Rattle.base.specs.declared.gap.Gap.{Gap}
+use Rattle.base.specs.declared.fault.Fault.{Fault}
+use Rattle.base.specs.declared.fault.Fault.TheVariants.{NotFormatted, Version as VersionFault}
+use Rattle.base.specs.Commits.{Commit, after, last_writer}
+use Rattle.base.specs.Layout.{Layout, slot_words, is_known_version, opened_version, opened_layout}
+use Rattle.base.specs.Search.{some_if, first_of}
+use Rattle.base.specs.Records.{is_in, is_committed}
+use Rattle.base.specs.Images.{Image, IsSound, layout_of, ruling, begin_of, end_of, is_formatted, is_bad_slot, is_ahead, is_shown, is_misfit, is_second, opening_fault}
+use Rattle.base.specs.Stands.{Stands, has_timestamp}
+use Rattle.base.specs.Openings.{OpensAs, opened}
+use Rattle.base.specs.Machine.{State, Drawn, Session, Version, BySession, ByCommit, drawn_at, drawn_of, writes_of}
+use Rattle.base.proofs.Histories.{no_bad_slot, opens-sound}
+use Rattle.pmem.specs.Device.{Device, Survives, value_of, IsSettled}
+use Rattle.log_area.specs.Rulings.{Holds, HoldsRecord}
+use Rattle.state_invariant.specs.Kept.{Origin, origin_of, Keeps, IsInUse, version_by, wanted, row_by, row_in, commit_at, commits_of_life, covered_since}
+use Rattle.state_invariant.specs.Shown.{word_of, IsNever, IsHidden, counts_at, is_drawn_on, SlotsShow, ShowsAs, class_of_version}
+use Rattle.state_invariant.proofs.Commits.{committed-bounds}
+use Rattle.state_invariant.proofs.Opening.{keeps-opened, shows-opened}
+use Rattle.device_invariant.specs.Words.{EachSurvivor}
+use Rattle.device_invariant.specs.Slots.{newest_of, NeverCounts, IsDead, IsLive, SlotHolds}
+use Rattle.device_invariant.specs.Log.{HoldsHand}
+use Rattle.device_invariant.specs.Upholds.{HoldsState, Upholds}
+use Rattle.device_invariant.specs.Laws.{RestsOn, OpenedUpholds}
+use Rattle.device_invariant.proofs.Words.{within-slot, each-settled, each-weaken}
+use Rattle.device_invariant.proofs.Says.{says-newest, last-committed}
+use Rattle.device_invariant.proofs.Showing.{shows-same}
+
+-- ---- lists
+
+nil-of : {X : Type 0} → (xs : List X) → length xs ≡ 0 → xs ≡ []
+nil-of [] e = refl
+nil-of (x ∷ xs) e = absurd (cc e)
+
+drop-whole : (xs : List Commit) (n : ℕ) → length xs ≤ n → drop n xs ≡ []
+drop-whole xs n le = nil-of (drop n xs) (omega (arith, length-drop n xs, le))
+
+-- ---- the layout
+
+or-none : {X : Type 0} → (a b : Option X) → option_or a b ≡ None → (a ≡ None) × (b ≡ None)
+or-none None b e = (refl, e)
+or-none (Some x) b e = absurd (cc e)
+
+some_if-none : (b : Bool) (fault : Fault) → some_if (not b) fault ≡ None → b ≡ true
+some_if-none true fault e = refl
+some_if-none false fault e = absurd (cc e)
+
+known-of : (image : Image) → IsSound image → is_known_version (layout_of image).version ≡ true
+known-of image sound =
+    some_if-none (is_known_version (layout_of image).version) (VersionFault (layout_of image).version)
+    (or-none (some_if (not (is_known_version (layout_of image).version)) (VersionFault (layout_of image).version)) _ (or-none (some_if (not (is_formatted image)) NotFormatted) _ sound).1).0
+
+same-layout : (image : Image) → IsSound image → layout_of image ≡ opened_layout (layout_of image)
+same-layout image sound =
+    let v : ℕ = (layout_of image).version in
+    let both = and_parts (nat_le 1 v) (nat_le v 1) (known-of image sound) in
+    let one : v ≡ 1 = omega (arith, leb-true 1 v both.0, leb-true v 1 both.1) in
+    ap (λ (n : ℕ). record (layout_of image) { version = n }) (one ∙ sym (ap opened_version one))
+
+-- ---- a state at rest
+
+-- nothing is open or drawn, and each begin and end was drawn before
+record IsFresh (q : State) (device : Device) : Type 0 where
+  drawn : q.drawn ≡ []
+  sessions : (n : ℕ) → q.sessions n ≡ None
+  settled : (slot w : ℕ) → slot < q.layout.slots → w < slot_words q.layout.version → IsSettled device (word_of q.layout slot w)
+  begins : (slot : ℕ) → slot < q.layout.slots → value_of device (word_of q.layout slot 0) < q.next
+  ends : (slot : ℕ) → slot < q.layout.slots → value_of device (word_of q.layout slot 1) < q.next
+
+module _ (q : State) (device : Device) (fresh : IsFresh q device) (kept : Keeps (origin_of q) q) (shows : SlotsShow (origin_of q) q (value_of device)) (slot : ℕ) (lt : slot < q.layout.slots) where
+  abbrev first : ℕ
+  first = word_of q.layout slot 0
+
+  abbrev second : ℕ
+  second = word_of q.layout slot 1
+
+  begin : EachSurvivor device first (λ x. x ≡ value_of device first)
+  begin = each-settled record { settled = fresh.settled slot 0 lt (within-slot q.layout.version 0 (omega arith)); holds = refl }
+
+  end : EachSurvivor device second (λ x. x ≡ value_of device second)
+  end = each-settled record { settled = fresh.settled slot 1 lt (within-slot q.layout.version 1 (omega arith)); holds = refl }
+
+  undrawn : (t : ℕ) (d : Drawn) → drawn_at q t ≡ Some d → ⊥
+  undrawn t d found = let none : ◌≡◌ {A = Option Drawn} None (Some d) = sym (ap (find (λ (d : Drawn). nat_eq d.commit.timestamp t)) fresh.drawn) ∙ found in cc none
+
+  dead : q.held slot ≡ None → IsDead q device slot
+  dead held = by_hidden (subst (λ (v : Option Version). ShowsAs (origin_of q) q (value_of device) slot (class_of_version (origin_of q) q v)) held (shows.each slot lt))
+    where
+      -- the whole history is what the opening found
+      none-since : drop (length q.history) (take (length q.history) q.history) ≡ []
+      none-since = drop-whole (take (length q.history) q.history) (length q.history) (omega (arith, ap (λ (cs : List Commit). length cs) (take_all (length q.history) q.history (omega arith))))
+
+      by_hidden : IsHidden (origin_of q) q (value_of device first) (value_of device second) → IsDead q device slot
+      by_hidden (inl never) = inl (each-weaken (λ x is. subst (NeverCounts q) (sym is) never) begin)
+      by_hidden (inr counted) = inr (each-weaken (λ x is. subst (λ (y : ℕ). is_committed q.ruling y ≡ true) (sym is)
+          (by_or (or_cases (is_committed q.ruling (value_of device second)) (has_timestamp (drop (length q.history) (take (length q.history) q.history)) (value_of device second)) (counted (length q.history) (inl refl))))) end)
+        where
+          by_or : (is_committed q.ruling (value_of device second) ≡ true) ⊎ (has_timestamp (drop (length q.history) (take (length q.history) q.history)) (value_of device second) ≡ true) → is_committed q.ruling (value_of device second) ≡ true
+          by_or (inl is) = is
+          by_or (inr is) = absurd (true≢false (sym is ∙ ap (λ (cs : List Commit). has_timestamp cs (value_of device second)) none-since))
+
+  -- a session has no version
+  no-session : (n : ℕ) (key : Key) → q.held slot ≡ Some (version_by key (BySession n)) → ⊥
+  no-session n key held =
+      let has = kept.owns.has slot (version_by key (BySession n)) lt held in
+      let none : ◌≡◌ {A = Option (List ℕ)} None (Some has.0) = sym (ap (λ (s : Option Session). row_in (writes_of s) key) (fresh.sessions n)) ∙ has.1 in
+      cc none
+
+  -- only the last commits have versions
+  only-last : (t : ℕ) (key : Key) → q.held slot ≡ Some (version_by key (ByCommit t)) → t ≢ last_writer q.history key → ⊥
+  only-last t key held other =
+      let has = kept.owns.has slot (version_by key (ByCommit t)) lt held in
+      let life : commits_of_life (origin_of q) q ≡ [] = ap (λ (cs : List Commit). cs ++ drawn_of q) (drop-whole q.history (length q.history) (omega arith)) ∙ ap (λ (ds : List Drawn). map (λ (d : Drawn). d.commit) ds) fresh.drawn in
+      let whole : take (length q.history) q.history ≡ q.history = take_all (length q.history) q.history (omega arith) in
+      let apart : nat_eq (last_writer (take (length q.history) q.history) key) t ≡ false = ap (λ (cs : List Commit). nat_eq (last_writer cs key) t) whole ∙ ne_eqb (last_writer q.history key) t (λ same. other (sym same)) in
+      let none : ◌≡◌ {A = Option (List ℕ)} None (Some has.0) =
+      sym (ap (λ (cs : List Commit). row_by (origin_of q) q key t (commit_at cs t)) life ∙ ap (λ (b : Bool). cond b (after (take (length q.history) q.history) key) None) apart) ∙ has.1 in
+      cc none
+
+  live : (key : Key) → q.held slot ≡ Some (newest_of q key) → IsLive q device slot key
+  live key held =
+      let says = (says-newest (origin_of q) q kept (value_of device) shows slot key lt held).2 in
+      record {
+        begin = fresh.settled slot 0 lt (within-slot q.layout.version 0 (omega arith));
+        counted = says.begin.earlier (low (last-committed (origin_of q) q kept key));
+        end = each-weaken (λ x is. subst (λ (y : ℕ). NeverCounts q y ⊎ IsTrue (is_drawn_on q key y)) (sym is) says.end) end;
+        settled = λ w two in_slot. fresh.settled slot w lt in_slot;
+      }
+    where
+      low : (last_writer q.history key ≡ 0) ⊎ (is_committed q.ruling (last_writer q.history key) ≡ true) → last_writer q.history key ≤ q.ruling.persisted
+      low (inl none) = omega (arith, none)
+      low (inr committed) = (committed-bounds q.ruling (last_writer q.history key) committed).1
+
+  fresh-holds : SlotHolds q device slot
+  fresh-holds = record {
+    begin_before = each-weaken (λ x is. subst (λ (y : ℕ). y < q.next) (sym is) (fresh.begins slot lt)) begin;
+    end_before = each-weaken (λ x is. subst (λ (y : ℕ). y < q.next) (sym is) (fresh.ends slot lt)) end;
+    free = dead;
+    own = λ n key held. absurd (no-session n key held);
+    drawn = λ t key d held found. absurd (undrawn t d found);
+    unstamped = λ t key d held found not_stamped up. absurd (undrawn t d found);
+    newest = live;
+    replaced = λ t key held none other. absurd (only-last t key held other);
+  }
+
+-- ---- an opened state
+
+pub opened-upholds : OpenedUpholds
+opened-upholds image history drawn next lost q device opens stands opened_as rests record_holds = record {
+  keeps = kept;
+  shows = shows;
+  holds = record {
+    slots = record { each = λ slot lt. fresh-holds q device fresh kept shows slot lt };
+    log = subst (HoldsHand q device) (sym (ap (λ (p : State). p.hand) opened_as.2)) record_holds;
+    sweeping = record { over = λ swept. absurd (true≢false (sym swept ∙ ap (λ (p : State). p.swept) opened_as.2)) };
+  };
+}
+  where
+    kept : Keeps (origin_of q) q
+    kept = keeps-opened image history drawn next lost q opens stands opened_as
+
+    shows : SlotsShow (origin_of q) q (value_of device)
+    shows = record {
+      each = λ slot lt.
+          shows-same (origin_of q) q (slice_index image) (value_of device) slot (λ w low. (rests.each slot w lt low).holds)
+          ((shows-opened image history drawn next lost q opens stands opened_as).each slot lt);
+    }
+
+    laid_out : q.layout ≡ layout_of image
+    laid_out = ap (λ (p : State). p.layout) opened_as.2 ∙ sym (same-layout image stands.sound)
+
+    good : (slot : ℕ) → slot < q.layout.slots → (begin_of image slot < (ruling image).dirty) × (end_of image slot < (ruling image).dirty)
+    good slot lt =
+        let sound = no_bad_slot image stands.sound slot (subst (λ (a : Layout). slot < a.slots) laid_out lt) in
+        let both = or_parts (is_ahead (ruling image) image slot) (is_shown (ruling image) image slot && (is_misfit image slot || is_second (ruling image) image slot)) sound in
+        let marks = or_parts (nat_le (ruling image).dirty (begin_of image slot)) (nat_le (ruling image).dirty (end_of image slot)) both.0 in
+        (leb-false (ruling image).dirty (begin_of image slot) marks.0, leb-false (ruling image).dirty (end_of image slot) marks.1)
+
+    below : (slot w x : ℕ) → slot < q.layout.slots → w < slot_words q.layout.version → slice_index image (word_of (layout_of image) slot w) ≡ x → x < (ruling image).dirty → value_of device (word_of q.layout slot w) < q.next
+    below slot w x lt low is less =
+        let there : value_of device (word_of q.layout slot w) ≡ x = (rests.each slot w lt low).holds ∙ ap (λ (a : Layout). slice_index image (word_of a slot w)) laid_out ∙ is in
+        let at : q.next ≡ (ruling image).dirty = ap (λ (p : State). p.next) opened_as.2 in
+        omega (arith, there, at, less)
+
+    fresh : IsFresh q device
+    fresh = record {
+      drawn = ap (λ (p : State). p.drawn) opened_as.2;
+      sessions = λ n. ap (λ (p : State). p.sessions n) opened_as.2;
+      settled = λ slot w lt low. (rests.each slot w lt low).settled;
+      begins = λ slot lt. below slot 0 (begin_of image slot) lt (within-slot q.layout.version 0 (omega arith)) refl (good slot lt).0;
+      ends = λ slot lt. below slot 1 (end_of image slot) lt (within-slot q.layout.version 1 (omega arith)) refl (good slot lt).1;
+    }

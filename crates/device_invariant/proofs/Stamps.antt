@@ -1,0 +1,120 @@
+-- What a commit has stamped, and what it writes.
+use Rattle.std.proofs.Common.{◌||◌, ◌≡◌, ◌≢◌, ◌⊎◌, inl, inr, ℕ, zero, suc, ◌<◌, ◌≤◌, Bool, true, false, cond, ◌&&◌, List, [], ◌∷◌, length, take, refl, sym, ◌∙◌, ap, subst, arith, Option, Some, None, is_some, true≢false, nat_eq}
+use Rattle.std.specs.Prelude.{slice_get, unwrap_or, nat_lt, map}
+use Rattle.std.specs.List.{list_any, list_all, find}
+use Rattle.std.specs.Option.{option_map, option_or}
+use Rattle.std.proofs.lemmas.Bool.{eqb-true, or_cases, or_left, or_right, and_parts, ltb-true}
+use Rattle.std.proofs.lemmas.List.{take_all}
+use Rattle.base.specs.declared.key.Key.{Key}
+use Rattle.base.specs.Keys.{key_eq, lookup_key}
+use Rattle.base.specs.Commits.{Writes, Commit, writes_key}
+use Rattle.base.specs.Stands.{has_timestamp}
+use Rattle.base.specs.Machine.{State, Drawn, ByCommit, drawn_at, drawn_of}
+use Rattle.base.specs.Records.{is_committed, are_rising}
+use Rattle.state_invariant.specs.Kept.{Origin, Keeps, DrawsInOrder, version_by, wanted, row_by, row_in, commit_at, commits_of_life, covered_since}
+use Rattle.state_invariant.specs.Shown.{is_key_stamped, is_drawn_on}
+use Rattle.state_invariant.proofs.Lists.{rising-above, rising-rest, all-drop}
+use Rattle.state_invariant.proofs.Commits.{commit_at-none, commit_at-append, commit_at-drawn, timestamp-all}
+use Rattle.device_invariant.proofs.Says.{drawn-bounds}
+
+-- ---- stamps
+
+writes-any : (key : Key) (writes : Writes) → is_some (lookup_key writes key) ≡ true → list_any (λ write. key_eq write.0 key) writes ≡ true
+writes-any key [] has = absurd (cc has)
+writes-any key (write ∷ writes) has = by_test (key_eq write.0 key) has (writes-any key writes)
+  where
+    by_test : (b : Bool) → is_some (cond b (Some write.1) (lookup_key writes key)) ≡ true → (is_some (lookup_key writes key) ≡ true → list_any (λ write. key_eq write.0 key) writes ≡ true)
+        → (b || list_any (λ write. key_eq write.0 key) writes) ≡ true
+    by_test true has rest = refl
+    by_test false has rest = rest has
+
+-- a stamped commit has stamped each key that it writes
+pub all-stamped : (d : Drawn) (key : Key) → nat_eq d.stamped (length d.commit.writes) ≡ true → writes_key key d.commit ≡ true → is_key_stamped d key ≡ true
+all-stamped d key all has =
+    let whole : length d.commit.writes ≤ d.stamped = omega (arith, eqb-true d.stamped (length d.commit.writes) all) in
+    ap (λ (ws : Writes). list_any (λ write. key_eq write.0 key) ws) (take_all d.stamped d.commit.writes whole) ∙ writes-any key d.commit.writes has
+
+-- what a commit has stamped it writes
+stamped-among : (key : Key) (n : ℕ) (writes : Writes) → list_any (λ write. key_eq write.0 key) (take n writes) ≡ true → is_some (lookup_key writes key) ≡ true
+stamped-among key zero writes any = absurd (cc any)
+stamped-among key (suc n) [] any = absurd (cc any)
+stamped-among key (suc n) (write ∷ writes) any = by_test (key_eq write.0 key) any (stamped-among key n writes)
+  where
+    by_test : (b : Bool) → (b || list_any (λ write. key_eq write.0 key) (take n writes)) ≡ true → (list_any (λ write. key_eq write.0 key) (take n writes) ≡ true → is_some (lookup_key writes key) ≡ true)
+        → is_some (cond b (Some write.1) (lookup_key writes key)) ≡ true
+    by_test true any rest = refl
+    by_test false any rest = rest any
+
+pub stamped-writes : (d : Drawn) (key : Key) → is_key_stamped d key ≡ true → writes_key key d.commit ≡ true
+stamped-writes d key is = stamped-among key d.stamped d.commit.writes is
+
+-- ---- lists of commits
+
+-- a commit that is found passes for one of them
+pub any-at : (p : Commit → Bool) (commits : List Commit) (t : ℕ) (c : Commit) → commit_at commits t ≡ Some c → p c ≡ true → list_any p commits ≡ true
+any-at p [] t c at passes = absurd (cc at)
+any-at p (x ∷ commits) t c at passes = by_test (nat_eq x.timestamp t) at (any-at p commits t c)
+  where
+    by_test : (b : Bool) → cond b (Some x) (commit_at commits t) ≡ Some c → (commit_at commits t ≡ Some c → p c ≡ true → list_any p commits ≡ true) → (p x || list_any p commits) ≡ true
+    by_test true is rest = let same : x ≡ c = cc is in or_left (p x) (list_any p commits) (ap p same ∙ passes)
+    by_test false is rest = or_right (p x) (list_any p commits) (rest is passes)
+
+pub any-place : (p : Commit → Bool) (commits : List Commit) (i : ℕ) (c : Commit) → slice_get commits i ≡ Some c → p c ≡ true → list_any p commits ≡ true
+any-place p [] i c at passes = absurd (cc at)
+any-place p (x ∷ commits) zero c at passes = let same : x ≡ c = cc at in or_left (p x) (list_any p commits) (ap p same ∙ passes)
+any-place p (x ∷ commits) (suc i) c at passes = or_right (p x) (list_any p commits) (any-place p commits i c at passes)
+
+-- ---- drawn commits
+
+-- where all are above a number, so is one that is found
+above-on : (low t : ℕ) (key : Key) (drawn : List Drawn) → list_all (nat_lt low) (map (λ (d : Drawn). d.commit.timestamp) drawn) ≡ true
+    → list_any (λ d. nat_eq d.commit.timestamp t && writes_key key d.commit) drawn ≡ true → low < t
+above-on low t key [] all any = absurd (cc any)
+above-on low t key (d ∷ drawn) all any =
+    let both = and_parts (nat_lt low d.commit.timestamp) (list_all (nat_lt low) (map (λ (d : Drawn). d.commit.timestamp) drawn)) all in
+    elim (or_cases (nat_eq d.commit.timestamp t && writes_key key d.commit) (list_any (λ d. nat_eq d.commit.timestamp t && writes_key key d.commit) drawn) any) [
+      | inl here ↦ subst (λ (u : ℕ). low < u) (eqb-true d.commit.timestamp t (and_parts (nat_eq d.commit.timestamp t) (writes_key key d.commit) here).0) (ltb-true low d.commit.timestamp both.0)
+      | inr later ↦ above-on low t key drawn both.1 later
+    ]
+
+found-on : (t : ℕ) (key : Key) (drawn : List Drawn) → are_rising (map (λ (d : Drawn). d.commit.timestamp) drawn) ≡ true → list_any (λ d. nat_eq d.commit.timestamp t && writes_key key d.commit) drawn ≡ true
+    → (d : Drawn) × (find (λ (d : Drawn). nat_eq d.commit.timestamp t) drawn ≡ Some d) × (writes_key key d.commit ≡ true)
+found-on t key [] rising any = absurd (cc any)
+found-on t key (d ∷ drawn) rising any = by_test (nat_eq d.commit.timestamp t) refl (or_cases (nat_eq d.commit.timestamp t && writes_key key d.commit) (list_any (λ d. nat_eq d.commit.timestamp t && writes_key key d.commit) drawn) any)
+    (found-on t key drawn (rising-rest d.commit.timestamp (map (λ (d : Drawn). d.commit.timestamp) drawn) rising))
+  where
+    by_test : (b : Bool) → nat_eq d.commit.timestamp t ≡ b → ((nat_eq d.commit.timestamp t && writes_key key d.commit) ≡ true) ⊎ (list_any (λ d. nat_eq d.commit.timestamp t && writes_key key d.commit) drawn ≡ true)
+        → (list_any (λ d. nat_eq d.commit.timestamp t && writes_key key d.commit) drawn ≡ true → (d : Drawn) × (find (λ (d : Drawn). nat_eq d.commit.timestamp t) drawn ≡ Some d) × (writes_key key d.commit ≡ true))
+        → (e : Drawn) × (cond b (Some d) (find (λ (d : Drawn). nat_eq d.commit.timestamp t) drawn) ≡ Some e) × (writes_key key e.commit ≡ true)
+    by_test true is (inl here) rest = (d, refl, (and_parts (nat_eq d.commit.timestamp t) (writes_key key d.commit) here).1)
+    by_test true is (inr later) rest =
+        let more : d.commit.timestamp < t = above-on d.commit.timestamp t key drawn (rising-above d.commit.timestamp (map (λ (d : Drawn). d.commit.timestamp) drawn) rising) later in
+        absurd (omega (arith, more, eqb-true d.commit.timestamp t is))
+    by_test false is (inl here) rest = absurd (true≢false (sym (and_parts (nat_eq d.commit.timestamp t) (writes_key key d.commit) here).0 ∙ is))
+    by_test false is (inr later) rest = rest later
+
+-- one on a key is found by its timestamp
+pub drawn-on : (q : State) (key : Key) (t : ℕ) → DrawsInOrder q → is_drawn_on q key t ≡ true → (d : Drawn) × (drawn_at q t ≡ Some d) × (writes_key key d.commit ≡ true)
+drawn-on q key t order any = found-on t key q.drawn order.rising any
+
+-- a drawn commit writes the keys of the slots that it holds
+pub writes-held : (o : Origin) (q : State) (kept : Keeps o q) (slot t : ℕ) (key : Key) (d : Drawn) → slot < q.layout.slots → q.held slot ≡ Some (version_by key (ByCommit t)) → drawn_at q t ≡ Some d → writes_key key d.commit ≡ true
+writes-held o q kept slot t key d lt held found =
+    let has = kept.owns.has slot (version_by key (ByCommit t)) lt held in
+    by_row (lookup_key d.commit.writes key) has.0 (sym (ap (row_by o q key t) in_life) ∙ has.1)
+  where
+    uncovered : (b : Bool) → has_timestamp (covered_since o q) t ≡ b → b ≡ false
+    uncovered false is = refl
+    uncovered true is =
+        let committed : is_committed q.ruling t ≡ true = timestamp-all (is_committed q.ruling) (covered_since o q) t (all-drop (λ (c : Commit). is_committed q.ruling c.timestamp) o.opened q.history kept.numbers.covered) is in
+        sym committed ∙ (drawn-bounds o q kept t d found).0
+
+    in_life : commit_at (commits_of_life o q) t ≡ Some d.commit
+    in_life =
+        commit_at-append (covered_since o q) (drawn_of q) t
+        ∙ ap (λ (c : Option Commit). option_or c (commit_at (drawn_of q) t)) (commit_at-none (covered_since o q) t (uncovered (has_timestamp (covered_since o q) t) refl))
+        ∙ commit_at-drawn q t ∙ ap (λ (f : Option Drawn). option_map (λ (d : Drawn). d.commit) f) found
+
+    by_row : (w : Option (Option (List ℕ))) → (row : List ℕ) → unwrap_or w None ≡ Some row → is_some w ≡ true
+    by_row None row is = absurd (cc is)
+    by_row (Some value) row is = refl

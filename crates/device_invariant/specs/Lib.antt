@@ -1,0 +1,6 @@
+pub mod Words
+pub mod Slots
+pub mod Sweeps
+pub mod Log
+pub mod Upholds
+pub mod Laws
