@@ -10,7 +10,8 @@ use Rattle.base.specs.Commits.{Commit, after, last_writer, writes_key}
 use Rattle.base.specs.Records.{is_in, is_committed}
 use Rattle.base.specs.Stands.{has_timestamp}
 use Rattle.base.specs.Machine.{State, Drawn, Hand, Version, Writer, BySession, ByCommit, drawn_at, is_stamped, state_covered}
-use Rattle.pmem.specs.Device.{Device, Survives, value_of, IsSettled}
+use Rattle.pmem.specs.Device.{Device}
+use Rattle.pmem.specs.Words.{Survives, value_of, IsSettled}
 use Rattle.pmem.proofs.Steps.{only-settled}
 use Rattle.state_invariant.specs.Kept.{Origin, Keeps, KeepsHand, version_by, wanted, commit_at}
 use Rattle.state_invariant.specs.Shown.{word_of, is_drawn_on, is_key_stamped, Spells, SlotsShow}

@@ -9,9 +9,9 @@ use Rattle.base.specs.Commits.{last_writer}
 use Rattle.base.specs.Layout.{Layout, slot_words, most_longs}
 use Rattle.base.specs.Records.{Record, is_in, is_well_formed, are_apart, are_rising}
 use Rattle.base.specs.Machine.{State, Hand, Version, Writer, BySession, ByCommit}
-use Rattle.pmem.specs.Device.{Device, Survives, value_of, OnlyShrinks, stored}
+use Rattle.pmem.specs.Device.{Device, stored}
+use Rattle.pmem.specs.Words.{Survives, value_of, OnlyShrinks, IsSettledAt}
 use Rattle.pmem.proofs.Changes.{stored-survives, stored-value}
-use Rattle.log_area.specs.Rulings.{Holds}
 use Rattle.state_invariant.specs.Kept.{Origin, Keeps, version_by}
 use Rattle.state_invariant.specs.Shown.{word_of}
 use Rattle.device_invariant.specs.Words.{EachSurvivor}
@@ -52,7 +52,7 @@ no_gap-zero (gap ∷ gaps) persisted all =
 
 -- where no drawn or covered commit holds the slot, this is what it has to hold
 undrawn-holds : (q : State) (new : Device) (slot : ℕ) → IsUndrawn q slot → EachSurvivor new (word_of q.layout slot 0) (λ x. x < q.next) → EachSurvivor new (word_of q.layout slot 1) (λ x. x < q.next)
-    → (q.held slot ≡ None → IsDead q new slot) → ((n : ℕ) (key : Key) → q.held slot ≡ Some (version_by key (BySession n)) → Holds new (word_of q.layout slot 0) 0) → SlotHolds q new slot
+    → (q.held slot ≡ None → IsDead q new slot) → ((n : ℕ) (key : Key) → q.held slot ≡ Some (version_by key (BySession n)) → IsSettledAt new (word_of q.layout slot 0) 0) → SlotHolds q new slot
 undrawn-holds q new slot undrawn begin end free own = record {
   begin_before = begin;
   end_before = end;
@@ -95,7 +95,7 @@ holds-cleared q old new slot some_next out lt free is h =
 
 -- a further word of a slot that is free or a session's is stored, behind a begin that is 0: as an end only 0
 pub holds-filled : (q : State) (old new : Device) (slot w value : ℕ) → 0 < q.next → is_in q.ruling.gaps 0 ≡ false → slot < q.layout.slots → IsUndrawn q slot → 1 ≤ w → w < slot_words q.layout.version → (w ≡ 1 → value ≡ 0)
-    → Holds old (word_of q.layout slot 0) 0 → new ≡ stored (word_of q.layout slot w) value old → HoldsState q old → HoldsState q new × Holds new (word_of q.layout slot 0) 0
+    → IsSettledAt old (word_of q.layout slot 0) 0 → new ≡ stored (word_of q.layout slot w) value old → HoldsState q old → HoldsState q new × IsSettledAt new (word_of q.layout slot 0) 0
 holds-filled q old new slot w value some_next out lt undrawn one low as_end zero is h = (
   holds-stored q old new slot w value low is (λ two. ap (is_in q.ruling.gaps) (as_end (omega (arith, one, two))) ∙ out) (λ hand in_hand. untouched-undrawn q hand slot undrawn)
   (undrawn-holds q new slot undrawn
@@ -107,7 +107,7 @@ holds-filled q old new slot w value some_next out lt undrawn one low as_end zero
   begin,
 )
   where
-    begin : Holds new (word_of q.layout slot 0) 0
+    begin : IsSettledAt new (word_of q.layout slot 0) 0
     begin = holds-shrinks (rest-stored q.layout old new slot w value 0 (λ e. omega (arith, e, one)) is) zero
 
     before : (x : ℕ) → ((word_of q.layout slot 1 ≡ word_of q.layout slot w) × (x ≡ value)) ⊎ Survives old (word_of q.layout slot 1) x → x < q.next

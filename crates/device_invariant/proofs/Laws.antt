@@ -7,10 +7,10 @@ use Rattle.base.specs.declared.gap.Gap.{Gap}
 use Rattle.base.specs.Layout.{slot_words}
 use Rattle.base.specs.Records.{Record, is_in, is_committed}
 use Rattle.base.specs.Machine.{State, Hand, Version, BySession, ByCommit}
-use Rattle.pmem.specs.Device.{Device, Survives, value_of, OnlyShrinks, stored, flushed, fenced, failed}
+use Rattle.pmem.specs.Device.{Device, stored, flushed, fenced, failed}
+use Rattle.pmem.specs.Words.{Survives, value_of, OnlyShrinks, IsSettledAt}
 use Rattle.pmem.proofs.Steps.{value-flushed, value-fenced}
 use Rattle.pmem.specs.Trace.{applied}
-use Rattle.log_area.specs.Rulings.{Holds}
 use Rattle.log_area.specs.Stages.{IsStage}
 use Rattle.log_area.specs.Writings.{operation_of, committer}
 use Rattle.pmem.proofs.Changes.{flushed-shrinks, fenced-shrinks, failed-shrinks, stored-value}

@@ -7,7 +7,8 @@ use Rattle.base.specs.declared.key.Key.{Key}
 use Rattle.base.specs.Commits.{after, last_writer, writes_key}
 use Rattle.base.specs.Records.{Record, is_in, is_committed}
 use Rattle.base.specs.Machine.{State, Drawn, Version, Writer, BySession, ByCommit, drawn_at}
-use Rattle.pmem.specs.Device.{Device, Survives, value_of}
+use Rattle.pmem.specs.Device.{Device}
+use Rattle.pmem.specs.Words.{Survives, value_of}
 use Rattle.state_invariant.specs.Kept.{version_by}
 use Rattle.state_invariant.specs.Shown.{word_of, is_drawn_on, Spells}
 use Rattle.device_invariant.specs.Words.{EachSurvivor}

@@ -18,8 +18,9 @@ use Rattle.base.specs.Stands.{Stands, has_timestamp}
 use Rattle.base.specs.Openings.{OpensAs, opened}
 use Rattle.base.specs.Machine.{State, Drawn, Session, Version, BySession, ByCommit, drawn_at, drawn_of, writes_of}
 use Rattle.base.proofs.Histories.{no_bad_slot, opens-sound}
-use Rattle.pmem.specs.Device.{Device, Survives, value_of, IsSettled}
-use Rattle.log_area.specs.Rulings.{Holds, HoldsRecord}
+use Rattle.pmem.specs.Device.{Device}
+use Rattle.pmem.specs.Words.{Survives, value_of, IsSettled, IsSettledAt}
+use Rattle.log_area.specs.Rulings.{HoldsRecord}
 use Rattle.state_invariant.specs.Kept.{Origin, origin_of, Keeps, IsInUse, version_by, wanted, row_by, row_in, commit_at, commits_of_life, covered_since}
 use Rattle.state_invariant.specs.Shown.{word_of, IsNever, IsHidden, counts_at, is_drawn_on, SlotsShow, ShowsAs, class_of_version}
 use Rattle.state_invariant.proofs.Commits.{committed-bounds}

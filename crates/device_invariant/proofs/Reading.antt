@@ -5,7 +5,8 @@ use Rattle.base.specs.Layout.{slot_words, total_words}
 use Rattle.base.specs.Images.{layout_of, IsRuledBy}
 use Rattle.base.specs.Records.{Record}
 use Rattle.base.specs.Machine.{State, Hand}
-use Rattle.pmem.specs.Device.{Device, value_of, image_of, IsOrderly, MayLeave, Survives}
+use Rattle.pmem.specs.Device.{Device, IsOrderly, MayLeave}
+use Rattle.pmem.specs.Words.{value_of, image_of, Survives}
 use Rattle.log_area.proofs.Heads.{image_size, image_word, laid_size}
 use Rattle.log_area.proofs.AtRest.{laid}
 use Rattle.log_area.proofs.Replacing.{holds_ruled, ruled_meanwhile}

@@ -6,7 +6,8 @@ use Rattle.base.specs.declared.gap.Gap.{Gap}
 use Rattle.base.specs.Layout.{Layout, slot_words, total_words}
 use Rattle.base.specs.Records.{is_in}
 use Rattle.base.specs.Machine.{State, Hand, lines_of, state_covered}
-use Rattle.pmem.specs.Device.{Device, value_of, OnlyShrinks, IsOrderly, fenced}
+use Rattle.pmem.specs.Device.{Device, IsOrderly, fenced}
+use Rattle.pmem.specs.Words.{value_of, OnlyShrinks}
 use Rattle.pmem.specs.Trace.{applied}
 use Rattle.log_area.specs.declared.stage.WritingStage.{WritingStage}
 use Rattle.log_area.specs.declared.stage.WritingStage.TheVariants.{StoreBody, FlushBody, FenceBody, StoreGate, FlushGate, FenceGate, Done}

@@ -4,7 +4,8 @@ use Rattle.std.specs.Prelude.{Option, Some, None, IsTrue, slice_index}
 use Rattle.base.specs.declared.key.Key.{Key}
 use Rattle.base.specs.Layout.{Layout, slot_words}
 use Rattle.base.specs.Machine.{State, Hand}
-use Rattle.pmem.specs.Device.{Device, value_of, OnlyShrinks}
+use Rattle.pmem.specs.Device.{Device}
+use Rattle.pmem.specs.Words.{value_of, OnlyShrinks}
 use Rattle.state_invariant.specs.Kept.{Origin, IsInUse}
 use Rattle.state_invariant.specs.Shown.{word_of, Spells, HasBegun, IsHidden, IsNever, counts_at, is_drawn_on, Class, Free, Waiting, Begun, Newest, Replaced, ShowsAs, SlotShows, SlotsShow, class_of}
 use Rattle.device_invariant.proofs.Words.{within-slot}

@@ -4,9 +4,9 @@ use Rattle.std.specs.Prelude.{Option, Some, None, slice_get}
 use Rattle.base.specs.Layout.{Layout, slot_start, slot_words, total_words}
 use Rattle.base.specs.Images.{place_of}
 use Rattle.base.specs.Machine.{State, Hand, Drawn}
-use Rattle.pmem.specs.Device.{Device, value_of, OnlyShrinks, stored, flushed, fenced, failed}
+use Rattle.pmem.specs.Device.{Device, stored, flushed, fenced, failed}
+use Rattle.pmem.specs.Words.{value_of, OnlyShrinks}
 use Rattle.pmem.proofs.Changes.{stored-shrinks, flushed-shrinks, fenced-shrinks, failed-shrinks}
-use Rattle.log_area.specs.Rulings.{IsKept}
 use Rattle.log_area.specs.Writings.{IsNextRecord}
 use Rattle.log_area.proofs.Kept.{KeepsLog, holds_record_kept, replacing_kept}
 use Rattle.state_invariant.specs.Shown.{word_of}
@@ -24,10 +24,10 @@ abbrev pub ShrinksSlots : Layout → Device → Device → Type 0
 ShrinksSlots a old new = (slot : ℕ) → slot < a.slots → ShrinksSlot a old new slot
 
 -- the log area's word for it
-pub is_kept : {old new : Device} {word : ℕ} → OnlyShrinks old new word → IsKept old new word
+pub is_kept : {old new : Device} {word : ℕ} → OnlyShrinks old new word → OnlyShrinks old new word
 is_kept s = record { value = s.value; survivors = s.survives; settled = s.settled; ready = s.ready }
 
-pub shrinks-kept : {old new : Device} {word : ℕ} → IsKept old new word → OnlyShrinks old new word
+pub shrinks-kept : {old new : Device} {word : ℕ} → OnlyShrinks old new word → OnlyShrinks old new word
 shrinks-kept s = record { value = s.value; survives = s.survivors; settled = s.settled; ready = s.ready }
 
 -- ---- the slots

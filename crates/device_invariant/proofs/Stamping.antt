@@ -10,9 +10,9 @@ use Rattle.base.specs.Layout.{Layout, slot_words}
 use Rattle.base.specs.Records.{is_in, is_committed}
 use Rattle.base.specs.Stands.{has_timestamp}
 use Rattle.base.specs.Machine.{State, Hand, Drawn, Version, Writer, BySession, ByCommit, drawn_at}
-use Rattle.pmem.specs.Device.{Device, Survives, value_of, OnlyShrinks, stored}
+use Rattle.pmem.specs.Device.{Device, stored}
+use Rattle.pmem.specs.Words.{Survives, value_of, OnlyShrinks, IsSettledAt}
 use Rattle.pmem.proofs.Changes.{stored-survives, stored-value}
-use Rattle.log_area.specs.Rulings.{Holds}
 use Rattle.state_invariant.specs.Kept.{Origin, Keeps, KeepsHand, version_by, wanted}
 use Rattle.state_invariant.specs.Shown.{word_of, IsNever, HasBegun, is_drawn_on, is_key_stamped, SlotsShow, SlotShows, ShowsAs, class_of_version, class_of_drawn, Begun, Waiting, Newest, Replaced, IsWaiting, IsNewest}
 use Rattle.state_invariant.proofs.Lists.{find-any}

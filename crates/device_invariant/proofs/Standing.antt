@@ -13,7 +13,8 @@ use Rattle.base.specs.Images.{Image, layout_of, begin_of, end_of, key_of, is_liv
 use Rattle.base.proofs.Histories.{key_eq-true}
 use Rattle.base.specs.Stands.{has_timestamp}
 use Rattle.base.specs.Machine.{State, Drawn, present, drawn_of, StandsUnder}
-use Rattle.pmem.specs.Device.{Device, Survives, value_of}
+use Rattle.pmem.specs.Device.{Device}
+use Rattle.pmem.specs.Words.{Survives, value_of}
 use Rattle.pmem.proofs.Steps.{only-settled}
 use Rattle.log_area.proofs.AtRest.{laid, ruled_sound}
 use Rattle.log_area.proofs.Heads.{laid_size}

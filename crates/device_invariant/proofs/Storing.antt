@@ -9,9 +9,9 @@ use Rattle.base.specs.Commits.{Commit, last_writer}
 use Rattle.base.specs.Layout.{Layout, slot_start, slot_words}
 use Rattle.base.specs.Records.{is_in}
 use Rattle.base.specs.Machine.{State, Hand, Drawn, Version, Writer, BySession, ByCommit, drawn_at, version_lines}
-use Rattle.pmem.specs.Device.{Device, Survives, value_of, OnlyShrinks, stored}
+use Rattle.pmem.specs.Device.{Device, stored}
+use Rattle.pmem.specs.Words.{Survives, value_of, OnlyShrinks, IsSettledAt}
 use Rattle.pmem.proofs.Changes.{stored-shrinks, stored-survives, stored-value}
-use Rattle.log_area.specs.Rulings.{Holds}
 use Rattle.log_area.specs.Writings.{IsNextRecord, committer}
 use Rattle.log_area.proofs.Kept.{KeepsLog, keeps_log-stored, holds_record_kept, replacing_kept}
 use Rattle.state_invariant.specs.Kept.{version_by}

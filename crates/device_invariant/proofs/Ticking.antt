@@ -10,13 +10,14 @@ use Rattle.base.specs.Layout.{Layout, slot_start, slot_words, total_words, is_in
 use Rattle.base.specs.Records.{is_in, is_well_formed}
 use Rattle.base.specs.Images.{place_of}
 use Rattle.base.specs.Machine.{State, Hand, Drawn, Version, version_lines, lines_of, state_covered}
-use Rattle.pmem.specs.Device.{Device, value_of, OnlyShrinks, IsOrderly, IsReady, IsSettled, stored, flushed, fenced, failed}
+use Rattle.pmem.specs.Device.{Device, IsOrderly, stored, flushed, fenced, failed}
+use Rattle.pmem.specs.Words.{value_of, OnlyShrinks, IsReady, IsSettled}
 use Rattle.pmem.specs.Trace.{applied}
 use Rattle.pmem.proofs.Changes.{stored-shrinks, flushed-shrinks, fenced-shrinks, failed-shrinks, flushed-ready, fenced-settles}
 use Rattle.log_area.specs.declared.stage.WritingStage.{WritingStage}
 use Rattle.log_area.specs.declared.stage.WritingStage.TheVariants.{StoreBody, FlushBody, FenceBody, StoreGate, FlushGate, FenceGate, Done}
 use Rattle.log_area.specs.Stages.{IsStage, next_stage, operations_before}
-use Rattle.log_area.specs.Rulings.{HoldsRecord, IsKept, IsRecordFor}
+use Rattle.log_area.specs.Rulings.{HoldsRecord, IsRecordFor}
 use Rattle.log_area.specs.Writings.{Progress, begun, advanced, start_of, operation_of, IsReplacing, IsOutside, IsNextRecord, committer}
 use Rattle.log_area.proofs.Kept.{KeepsLog, keeps_log-flushed, keeps_log-fenced, keeps_log-failed}
 use Rattle.log_area.proofs.Replacing.{replacing_begun, replacing_next, replacing_done}

@@ -13,7 +13,8 @@ use Rattle.base.specs.Records.{is_committed}
 use Rattle.base.specs.Images.{Image, ruling, IsRuledBy}
 use Rattle.base.specs.Stands.{has_timestamp}
 use Rattle.base.specs.Machine.{State, Drawn, Hand, ByCommit, present, of_hand, state_covered, StandsUnder, StandsAsOne, StandsAt}
-use Rattle.pmem.specs.Device.{Device, value_of, MayLeave}
+use Rattle.pmem.specs.Device.{Device, MayLeave}
+use Rattle.pmem.specs.Words.{value_of}
 use Rattle.log_area.proofs.Replacing.{holds_ruled, ruled_meanwhile}
 use Rattle.state_invariant.specs.Kept.{Origin, Keeps, version_by}
 use Rattle.state_invariant.specs.Shown.{Spells, SlotsShow}

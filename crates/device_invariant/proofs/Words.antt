@@ -3,9 +3,9 @@ use Rattle.std.proofs.Common.{◌≡◌, ◌≢◌, ◌⊎◌, inl, inr, ℕ, �
 use Rattle.std.specs.Prelude.{nat_eq}
 use Rattle.std.proofs.lemmas.Bool.{cases_order}
 use Rattle.base.specs.Layout.{Layout, slot_start, slot_words, total_words}
-use Rattle.pmem.specs.Device.{Device, Survives, MayLeave, OnlyShrinks}
+use Rattle.pmem.specs.Device.{Device, MayLeave}
+use Rattle.pmem.specs.Words.{Survives, OnlyShrinks, IsSettledAt}
 use Rattle.pmem.proofs.Steps.{only-settled}
-use Rattle.log_area.specs.Rulings.{Holds}
 use Rattle.state_invariant.specs.Shown.{word_of}
 use Rattle.device_invariant.specs.Words.{EachSurvivor}
 use Rattle.device_invariant.specs.Slots.{SlotsSurvive}
@@ -57,11 +57,11 @@ slots-survive {a} size left = record { each = λ slot w lt lt_w. left.each (word
 pub each-shrinks : {old new : Device} {word : ℕ} {P Q : ℕ → Type 0} → OnlyShrinks old new word → ((x : ℕ) → P x → Q x) → EachSurvivor old word P → EachSurvivor new word Q
 each-shrinks on f e = record { each = λ x there. f x (e.each x (on.survives x there)) }
 
-pub holds-shrinks : {old new : Device} {word value : ℕ} → OnlyShrinks old new word → Holds old word value → Holds new word value
+pub holds-shrinks : {old new : Device} {word value : ℕ} → OnlyShrinks old new word → IsSettledAt old word value → IsSettledAt new word value
 holds-shrinks on s = record { settled = on.settled s.settled; holds = on.value ∙ s.holds }
 
 -- where a word is settled at a value, only that survives
-pub each-settled : {device : Device} {word value : ℕ} → Holds device word value → EachSurvivor device word (λ x. x ≡ value)
+pub each-settled : {device : Device} {word value : ℕ} → IsSettledAt device word value → EachSurvivor device word (λ x. x ≡ value)
 each-settled {device} {word} s = record { each = λ x there. only-settled device word x s.settled there ∙ s.holds }
 
 pub each-weaken : {device : Device} {word : ℕ} {P Q : ℕ → Type 0} → ((x : ℕ) → P x → Q x) → EachSurvivor device word P → EachSurvivor device word Q

@@ -8,12 +8,13 @@ use Rattle.base.specs.Openings.{OpensAs}
 use Rattle.base.specs.Stands.{Stands}
 use Rattle.base.specs.Commits.{Commit, writes_key}
 use Rattle.base.specs.Machine.{State, Drawn, Hand, BySession, ByCommit, drawn_at, lines_of, state_covered, StandsAt}
-use Rattle.pmem.specs.Device.{Device, IsOrderly, MayLeave, image_of, stored, flushed, fenced, failed}
+use Rattle.pmem.specs.Device.{Device, IsOrderly, MayLeave, stored, flushed, fenced, failed}
+use Rattle.pmem.specs.Words.{image_of, IsSettledAt}
 use Rattle.pmem.specs.Trace.{applied}
 use Rattle.log_area.specs.declared.stage.WritingStage.{WritingStage}
 use Rattle.log_area.specs.declared.stage.WritingStage.TheVariants.{FenceGate, Done}
 use Rattle.log_area.specs.Stages.{IsStage, next_stage, operations_before}
-use Rattle.log_area.specs.Rulings.{Holds, HoldsRecord}
+use Rattle.log_area.specs.Rulings.{HoldsRecord}
 use Rattle.log_area.specs.Writings.{operation_of, committer}
 use Rattle.state_invariant.specs.Kept.{Origin, origin_of, IsInUse, KeepsHand, version_by}
 use Rattle.state_invariant.specs.Shown.{word_of, is_key_stamped, ReadsAs}
@@ -99,8 +100,8 @@ ClearingKeeps =
 -- a further word of a free slot whose begin is 0: as an end only 0
 abbrev pub FillingKeeps : Type 0
 FillingKeeps =
-    (o : Origin) (q : State) (slot w value : ℕ) (old new : Device) → slot < q.layout.slots → q.held slot ≡ None → Holds old (word_of q.layout slot 0) 0 → 1 ≤ w → w < slot_words q.layout.version → (w ≡ 1 → value ≡ 0)
-    → new ≡ stored (word_of q.layout slot w) value old → Upholds o q old → Upholds o q new × Holds new (word_of q.layout slot 0) 0
+    (o : Origin) (q : State) (slot w value : ℕ) (old new : Device) → slot < q.layout.slots → q.held slot ≡ None → IsSettledAt old (word_of q.layout slot 0) 0 → 1 ≤ w → w < slot_words q.layout.version → (w ≡ 1 → value ≡ 0)
+    → new ≡ stored (word_of q.layout slot w) value old → Upholds o q old → Upholds o q new × IsSettledAt new (word_of q.layout slot 0) 0
 
 -- a further word of a slot that a session holds: until all are stored it is the failed state that is upheld
 abbrev pub RefillingKeeps : Type 0
@@ -131,7 +132,7 @@ DevicesRead = (o : Origin) (q : State) (device : Device) (n : ℕ) → IsOrderly
 
 -- a crash leaves the words of the slots as in the image
 pub record RestsOn (a : Layout) (device : Device) (image : Image) : Type 0 where
-  pub each : (slot w : ℕ) → slot < a.slots → w < slot_words a.version → Holds device (word_of a slot w) (slice_index image (word_of a slot w))
+  pub each : (slot w : ℕ) → slot < a.slots → w < slot_words a.version → IsSettledAt device (word_of a slot w) (slice_index image (word_of a slot w))
 
 -- where the slots are as the opening found them and the record that it wrote rules, the device upholds the opened state
 abbrev pub OpenedUpholds : Type 0

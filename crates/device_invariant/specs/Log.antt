@@ -6,7 +6,8 @@ use Rattle.base.specs.Commits.{Commit, last_writer, writes_key}
 use Rattle.base.specs.Layout.{Layout, slot_start, slot_words}
 use Rattle.base.specs.Stands.{has_timestamp}
 use Rattle.base.specs.Machine.{State, Hand, Version, Writer, BySession, ByCommit, version_lines, lines_of}
-use Rattle.pmem.specs.Device.{Device, IsSettled, IsReady}
+use Rattle.pmem.specs.Device.{Device}
+use Rattle.pmem.specs.Words.{IsSettled, IsReady}
 use Rattle.log_area.specs.declared.stage.WritingStage.{WritingStage}
 use Rattle.log_area.specs.declared.stage.WritingStage.TheVariants.{Done}
 use Rattle.log_area.specs.Rulings.{HoldsRecord}

@@ -8,8 +8,8 @@ use Rattle.base.specs.Layout.{Layout, slot_start, slot_words}
 use Rattle.base.specs.Records.{is_in, is_committed}
 use Rattle.base.specs.Machine.{State, Drawn, Version, Writer, BySession, ByCommit, drawn_at}
 use Rattle.base.specs.Images.{Image}
-use Rattle.pmem.specs.Device.{Device, Survives, value_of, IsSettled}
-use Rattle.log_area.specs.Rulings.{Holds}
+use Rattle.pmem.specs.Device.{Device}
+use Rattle.pmem.specs.Words.{Survives, value_of, IsSettled, IsSettledAt}
 use Rattle.state_invariant.specs.Kept.{version_by}
 use Rattle.state_invariant.specs.Shown.{word_of, is_drawn_on, is_key_stamped}
 use Rattle.device_invariant.specs.Words.{EachSurvivor}
@@ -50,13 +50,13 @@ pub record SlotHolds (q : State) (device : Device) (slot : ℕ) : Type 0 where
   -- nobody holds it
   pub free : q.held slot ≡ None → IsDead q device slot
   -- the version of a session has no begin
-  pub own : (n : ℕ) (key : Key) → q.held slot ≡ Some (version_by key (BySession n)) → Holds device (word_of q.layout slot 0) 0
+  pub own : (n : ℕ) (key : Key) → q.held slot ≡ Some (version_by key (BySession n)) → IsSettledAt device (word_of q.layout slot 0) 0
   -- that of a drawn commit has its timestamp or none
   pub drawn : (t : ℕ) (key : Key) (d : Drawn) → q.held slot ≡ Some (version_by key (ByCommit t)) → drawn_at q t ≡ Some d
       → EachSurvivor device (word_of q.layout slot 0) (λ x. (x ≡ 0) ⊎ (x ≡ t))
   -- and none before it is stamped, unless the device failed within the stamp
   pub unstamped : (t : ℕ) (key : Key) (d : Drawn) → q.held slot ≡ Some (version_by key (ByCommit t)) → drawn_at q t ≡ Some d
-      → is_key_stamped d key ≡ false → q.failed ≡ false → Holds device (word_of q.layout slot 0) 0
+      → is_key_stamped d key ≡ false → q.failed ≡ false → IsSettledAt device (word_of q.layout slot 0) 0
   -- the newest covered version of a key
   pub newest : (key : Key) → q.held slot ≡ Some (newest_of q key) → IsLive q device slot key
   -- a version that a covered commit replaced

@@ -1,21 +1,20 @@
 -- A batch of any number of commits is chosen.
-use Rattle.std.proofs.Common.{◌||◌, ◌≡◌, ◌≢◌, ◌⊎◌, inl, inr, ℕ, zero, suc, ◌+◌, ◌*◌, ◌^◌, ◌<◌, ◌≤◌, Bool, true, false, cond, not, ◌&&◌, List, [], ◌∷◌, ◌++◌, map, filter, fold, take, length, refl, sym, ◌∙◌, ap, subst, arith, Option, Some, None, find, is_some, true≢false}
+use Rattle.std.proofs.Common.{◌||◌, ◌≡◌, ◌≢◌, ◌⊎◌, inl, inr, ℕ, zero, suc, ◌+◌, ◌<◌, ◌≤◌, Bool, true, false, cond, not, ◌&&◌, List, [], ◌∷◌, map, filter, fold, take, length, refl, sym, ◌∙◌, ap, subst, arith, Option, Some, None, find, true≢false}
 use Rattle.std.specs.Prelude.{nat_eq, nat_lt, nat_le, max, count_by}
 use Rattle.std.specs.List.{list_any, list_all}
 use Rattle.std.specs.Option.{option_map, option_or}
-use Rattle.std.proofs.lemmas.Bool.{cases_eq, cases_order, cases_lt, eq-eqb, eqb-true, ne_eqb, and_parts, and_from, ltb-true, lt-ltb, leb-true, leb-false, le-leb, lt-leb, or_cases, or_left, or_right, not_from_false, false_from_ne_true}
-use Rattle.base.specs.declared.gap.Gap.{Gap}
+use Rattle.std.proofs.lemmas.Bool.{cases_eq, cases_lt, eq-eqb, eqb-true, ne_eqb, and_parts, and_from, ltb-true, lt-ltb, leb-true, le-leb, or_cases, or_left, or_right, false_from_ne_true}
 use Rattle.base.specs.Commits.{Commit}
 use Rattle.base.specs.Layout.{Layout, is_in_limits, is_known_version, is_between, most_longs}
-use Rattle.base.specs.Records.{Record, is_committed, is_in, is_well_formed, are_rising, are_apart}
-use Rattle.base.specs.Restrictions.{most_in_batch}
+use Rattle.base.specs.Records.{is_committed, is_in, is_well_formed, are_rising}
+use Rattle.std.proofs.Math.Seq.{take-length}
 use Rattle.base.specs.Stands.{has_timestamp}
-use Rattle.base.specs.Machine.{State, Drawn, Hand, drawn_at, drawn_of, is_stamped, may_be_covered, unstamped_below, end_of_run, chosen, reach, passed_over, standing_gaps, target_of, taken_in_hand}
-use Rattle.state_invariant.specs.Kept.{Origin, KeepsHand, KeepsNumbers, DrawsInOrder, Keeps, commit_at, commits_of_life, covered_since}
+use Rattle.base.specs.Machine.{State, Drawn, drawn_at, drawn_of, is_stamped, may_be_covered, unstamped_below, end_of_run, chosen, reach, passed_over, standing_gaps, target_of, taken_in_hand}
+use Rattle.state_invariant.specs.Kept.{Origin, KeepsHand, KeepsNumbers, Keeps, commit_at, commits_of_life, covered_since}
 use Rattle.state_invariant.proofs.Lookups.{find-passes, find-all}
-use Rattle.state_invariant.proofs.Lists.{all-take, all-map, all-weaken, find-map, any-found, rising-above, rising-rest, rising-with, rising-filter, all-drop, all-filter_with}
-use Rattle.state_invariant.proofs.Commits.{commit_at-has, commit_at-some, commit_at-append, commit_at-drawn, commit_at-timestamp, drawn_at-timestamp, all-by_timestamp, timestamp-all, committed-bounds, uncommitted-above, uncommitted-gap}
-use Rattle.state_invariant.proofs.Records.{above-gaps, well_formed-further, well_formed-dropped, well_formed-longs, committed-in}
+use Rattle.state_invariant.proofs.Lists.{all-take, all-map, find-map, rising-above, rising-rest, rising-with, rising-filter, all-drop, all-filter_with}
+use Rattle.state_invariant.proofs.Commits.{commit_at-has, commit_at-some, commit_at-append, commit_at-drawn, drawn_at-timestamp, all-by_timestamp, timestamp-all, committed-bounds, uncommitted-gap}
+use Rattle.state_invariant.proofs.Records.{well_formed-further, well_formed-dropped, well_formed-longs, committed-in}
 use Rattle.state_invariant.proofs.Covering.{no_gap-above}
 
 -- ---- the greatest of a list
@@ -228,8 +227,17 @@ module _ (o : Origin) (q : State) (kept : Keeps o q) where
   abbrev run : List Commit
   run = map (λ d. d.commit) (filter fit q.drawn)
 
-  chosen-run : chosen q ≡ take most_in_batch run
-  chosen-run = refl
+  -- how many of the run one batch takes
+  count : ℕ
+  count = cond q.limits.one_commit 1 (length run)
+
+  chosen-run : chosen q ≡ take count run
+  unfolding count
+  chosen-run = by q.limits.one_commit
+    where
+      by : (b : Bool) → cond b (take 1 run) run ≡ take (cond b 1 (length run)) run
+      by true = refl
+      by false = sym (take-length run)
 
   rising : are_rising (map time_of q.drawn) ≡ true
   rising = kept.draws.rising
@@ -243,7 +251,7 @@ module _ (o : Origin) (q : State) (kept : Keeps o q) where
 
   -- what is chosen is drawn, and stamped
   chosen-drawn : (t : ℕ) (c : Commit) → commit_at (chosen q) t ≡ Some c → (d : Drawn) × (drawn_at q t ≡ Some d) × (d.commit ≡ c) × (is_stamped d ≡ true)
-  chosen-drawn t c found = by (find (λ (d : Drawn). nat_eq d.commit.timestamp t) (filter fit q.drawn)) refl (sym (find-map (λ (c : Commit). nat_eq c.timestamp t) (λ (d : Drawn). d.commit) (filter fit q.drawn)) ∙ found-taken most_in_batch t run c found)
+  chosen-drawn t c found = by (find (λ (d : Drawn). nat_eq d.commit.timestamp t) (filter fit q.drawn)) refl (sym (find-map (λ (c : Commit). nat_eq c.timestamp t) (λ (d : Drawn). d.commit) (filter fit q.drawn)) ∙ found-taken count t run c (subst (λ (cs : List Commit). commit_at cs t ≡ Some c) chosen-run found))
     where
       by : (x : Option Drawn) → find (λ (d : Drawn). nat_eq d.commit.timestamp t) (filter fit q.drawn) ≡ x → option_map (λ (d : Drawn). d.commit) x ≡ Some c → (d : Drawn) × (drawn_at q t ≡ Some d) × (d.commit ≡ c) × (is_stamped d ≡ true)
       by None is e = absurd (cc e)
@@ -305,13 +313,13 @@ module _ (o : Origin) (q : State) (kept : Keeps o q) where
       let stamped = run-stamped t d found far in
       let fits : fit d ≡ true = and_from (is_stamped d) (nat_le (time_of d) (end_of_run q)) stamped (le-leb (time_of d) (end_of_run q) (omega (arith, b.0, far))) in
       let has : has_timestamp run t ≡ true = any-map (λ (c : Commit). nat_eq c.timestamp t) (λ (d : Drawn). d.commit) (filter fit q.drawn) ∙ kept-by_filter fit q.drawn t d found fits in
-      (stamped, taken-before most_in_batch t run run-rising has any)
+      (stamped, subst (λ (cs : List Commit). has_timestamp cs t ≡ true) (sym chosen-run) (taken-before count t run run-rising has (subst (λ (cs : List Commit). list_any (nat_le t) (map (λ (c : Commit). c.timestamp) cs) ≡ true) chosen-run any)))
     where
       -- each that is chosen lies within the run
       chosen-within : list_all (λ c. nat_le c.timestamp (end_of_run q)) (chosen q) ≡ true
-      chosen-within = all-take (λ c. nat_le c.timestamp (end_of_run q)) most_in_batch run
+      chosen-within = subst (λ (cs : List Commit). list_all (λ c. nat_le c.timestamp (end_of_run q)) cs ≡ true) (sym chosen-run) (all-take (λ c. nat_le c.timestamp (end_of_run q)) count run
           (all-map (λ (c : Commit). nat_le c.timestamp (end_of_run q)) (λ (d : Drawn). d.commit) (filter fit q.drawn)
-          (all-filter_with (λ d. true) fit (λ d. nat_le d.commit.timestamp (end_of_run q)) q.drawn (λ d e passes. (and_parts (is_stamped d) (nat_le d.commit.timestamp (end_of_run q)) passes).1) (all-true q.drawn)))
+          (all-filter_with (λ d. true) fit (λ d. nat_le d.commit.timestamp (end_of_run q)) q.drawn (λ d e passes. (and_parts (is_stamped d) (nat_le d.commit.timestamp (end_of_run q)) passes).1) (all-true q.drawn))))
         where
           all-true : (ds : List Drawn) → list_all (λ d. true) ds ≡ true
           all-true [] = refl
@@ -396,7 +404,7 @@ module _ (o : Origin) (q : State) (kept : Keeps o q) where
     batch = all-by_timestamp (is_committed (target_of q)) (chosen q) (λ t has. let d = chosen-found t has in let b = bounds t d.0 d.1 in counts-target t (omega (arith, b.1)) (chosen-reached t has) (no_gap-above o q t kept.numbers.origin b.1));
     only = λ t counts out. only t counts out (cases_lt o.ruling.persisted t);
     drawn = chosen-drawn;
-    rising = rising-take most_in_batch run run-rising;
+    rising = subst (λ (cs : List Commit). are_rising (map (λ (c : Commit). c.timestamp) cs) ≡ true) (sym chosen-run) (rising-take count run run-rising);
   }
     where
       no_gap-counted : (t : ℕ) → is_committed q.ruling t ≡ true → is_in q.ruling.gaps t ≡ false

@@ -1,17 +1,16 @@
 -- Sessions begin, put, delete, abort and end.
-use Rattle.std.proofs.Common.{◌≡◌, ◌≢◌, ◌⊎◌, inl, inr, ℕ, ◌<◌, Bool, true, false, cond, ◌&&◌, List, [], ◌∷◌, length, map, find, ◌≤◌, refl, sym, ◌∙◌, ap, subst, arith, Option, Some, None, is_none, true≢false}
+use Rattle.std.proofs.Common.{◌≡◌, ◌≢◌, ◌⊎◌, inl, inr, ℕ, ◌<◌, Bool, true, false, cond, ◌&&◌, List, [], length, ◌≤◌, refl, sym, ◌∙◌, ap, subst, arith, Option, Some, None, is_none, true≢false}
 use Rattle.std.specs.Prelude.{nat_eq, unwrap_or}
-use Rattle.std.specs.Option.{option_map_or}
 use Rattle.std.proofs.lemmas.Bool.{cases_eq, eq-eqb, eqb-true, eqb-false, and_parts, and_from}
 use Rattle.base.specs.declared.key.Key.{Key}
 use Rattle.base.specs.declared.step.Step.TheVariants.{Begin, Put, Delete, Abort, End}
-use Rattle.base.specs.Keys.{key_eq, lookup_key, is_rising}
+use Rattle.base.specs.Keys.{key_eq, lookup_key}
 use Rattle.base.specs.Commits.{Writes, with_write}
-use Rattle.base.specs.Machine.{State, Session, Active, Drew, Version, Writer, BySession, ByCommit, replaced, held_at, held_with, held_after_put, held_after_delete, held_after_abort, writes_of, begun_of, with_session, is_by, is_own_at, is_held_by, own_slot, free_slot, free_session, session_numbers, next_state, refusal, allows}
+use Rattle.base.specs.Machine.{State, Session, Active, Version, Writer, BySession, ByCommit, replaced, held_at, held_with, held_after_put, held_after_delete, held_after_abort, writes_of, begun_of, is_by, is_own_at, is_held_by, own_slot, free_slot, free_session, session_numbers, next_state, refusal}
 use Rattle.state_invariant.specs.Kept.{Origin, Keeps, IsInUse, row_in, version_by}
-use Rattle.state_invariant.proofs.Lookups.{same-keys, key_eq-refl, apart-keys, cases-keys, lookup-with_write_same, lookup-with_write_other, first_below-some, first_below-none, replaced-same, replaced-other, find-passes}
-use Rattle.state_invariant.proofs.Refusals.{IsAllowed, allowed, active, ended-writes}
-use Rattle.state_invariant.proofs.Sessions.{SessionKeeps, HeldKeeps, with_held, keeps-held, keeps-session, session-keeps, each-set, sorted-with_write}
+use Rattle.state_invariant.proofs.Lookups.{same-keys, key_eq-refl, cases-keys, lookup-with_write_same, lookup-with_write_other, first_below-some, first_below-none, replaced-same, replaced-other, find-passes}
+use Rattle.state_invariant.proofs.Refusals.{allowed, active, ended-writes}
+use Rattle.state_invariant.proofs.Sessions.{SessionKeeps, HeldKeeps, keeps-held, keeps-session, session-keeps, each-set, sorted-with_write}
 
 -- ---- versions
 
@@ -300,7 +299,7 @@ free-session q has = by (free_session q) refl has
 
     by : (f : Option ℕ) → free_session q ≡ f → is_none f ≡ false → q.sessions (unwrap_or f 0) ≡ None
     by None is e = cc e
-    by (Some n) is e = by_none (q.sessions n) (find-passes (λ n. is_none (q.sessions n)) session_numbers n is)
+    by (Some n) is e = by_none (q.sessions n) (find-passes (λ n. is_none (q.sessions n)) (session_numbers q) n is)
 
 pub keeps-begin : (o : Origin) (q : State) → Keeps o q → refusal q Begin ≡ None → Keeps o (next_state q Begin)
 keeps-begin o q kept none =
