@@ -8,16 +8,16 @@ use Rattle.base.specs.Keys.{key_eq, lookup_key, is_rising}
 use Rattle.base.specs.Search.{first_below}
 use Rattle.base.specs.Layout.{Layout}
 use Rattle.base.specs.Records.{Record, is_committed}
-use Rattle.base.specs.Images.{Image, IsSound, layout_of, ruling, key_of, row_of, is_live}
+use Rattle.base.specs.Images.{Image, IsSound, layout_of, ruling, key_of, row_of, is_live, is_shown}
 use Rattle.base.proofs.Histories.{first_below-none, key_eq-true, key_eq-same, no_second}
-use Rattle.recovery.specs.Slots.{is_shown, is_free}
+use Rattle.recovery.specs.Slots.{is_free}
 use Rattle.recovery.specs.Read.{IsRead, rows_below}
 use Rattle.recovery.proofs.LiveRows.{rows-none, rows-live, rows-free}
 use Rattle.image_check.specs.Checked.{Reports, last_at}
 
 -- a slot below the number has the row at the key
 abbrev IsAt : Image → ℕ → Key → List ℕ → Type 0
-IsAt image n key row = (slot : ℕ) × (slot < n) × (is_shown image slot ≡ true) × (key_of image slot ≡ key) × (row_of image slot ≡ row)
+IsAt image n key row = (slot : ℕ) × (slot < n) × (is_shown (ruling image) image slot ≡ true) × (key_of image slot ≡ key) × (row_of image slot ≡ row)
 
 further : (image : Image) (n : ℕ) (key : Key) (row : List ℕ) → IsAt image n key row → IsAt image (n + 1) key row
 further image n key row at = (at.0, omega (arith, at.1), at.2, at.3, at.4)
@@ -33,7 +33,7 @@ split (suc k) (suc n) h = elim (split k n (omega (arith, h))) [ inl less ↦ inl
 
 module _ (image : Image) (sound : IsSound image) where
   -- two live slots have two keys
-  apart : (lower slot : ℕ) → lower < slot → slot < (layout_of image).slots → is_shown image lower ≡ true → is_shown image slot ≡ true → key_of image lower ≡ key_of image slot → false ≡ true
+  apart : (lower slot : ℕ) → lower < slot → slot < (layout_of image).slots → is_shown (ruling image) image lower ≡ true → is_shown (ruling image) image slot ≡ true → key_of image lower ≡ key_of image slot → false ≡ true
   apart lower slot less within shown-lower shown same =
       by (first_below slot (has_key image slot)) refl (no_second image sound slot within shown)
     where
@@ -54,7 +54,7 @@ module _ (image : Image) (sound : IsSound image) where
       where
         earlier : (at : IsAt image (slot + 1) key row) → (at.0 < slot) ⊎ (at.0 ≡ slot) → IsAt image slot key row
         earlier at (inl less) = (at.0, less, at.2, at.3, at.4)
-        earlier at (inr same) = absurd (cc (ap not (sym (ap (is_shown image) same) ∙ at.2), free))
+        earlier at (inr same) = absurd (cc (ap not (sym (ap (is_shown (ruling image) image) same) ∙ at.2), free))
 
     live-slot : is_free image slot ≡ false → (key : Key) (row : List ℕ) → (last_at (rows_below image (slot + 1)) key ≡ Some row) ↔ IsAt image (slot + 1) key row
     unfolding is_free
@@ -63,8 +63,8 @@ module _ (image : Image) (sound : IsSound image) where
       λ at. now key ∙ back at (split at.0 slot at.1),
     )
       where
-        shown : is_shown image slot ≡ true
-        shown = by (is_shown image slot) live
+        shown : is_shown (ruling image) image slot ≡ true
+        shown = by (is_shown (ruling image) image slot) live
           where
             by : (b : Bool) → not b ≡ false → b ≡ true
             by true e = refl
