@@ -98,12 +98,12 @@ pub holds-filled : (q : State) (old new : Device) (slot w value : ℕ) → 0 < q
     → IsSettledAt old (word_of q.layout slot 0) 0 → new ≡ stored (word_of q.layout slot w) value old → HoldsState q old → HoldsState q new × IsSettledAt new (word_of q.layout slot 0) 0
 holds-filled q old new slot w value some_next out lt undrawn one low as_end zero is h = (
   holds-stored q old new slot w value low is (λ two. ap (is_in q.ruling.gaps) (as_end (omega (arith, one, two))) ∙ out) (λ hand in_hand. untouched-undrawn q hand slot undrawn)
-  (undrawn-holds q new slot undrawn
-  (each-weaken (λ x e. omega (arith, e, some_next)) (each-settled begin))
-  (record { each = λ x there. before x (stored-survives old new (word_of q.layout slot w) value is (word_of q.layout slot 1) x there) })
-  (λ held. inl (each-weaken (λ x e. inl e) (each-settled begin)))
-  (λ n key held. begin))
-  h,
+      (undrawn-holds q new slot undrawn
+      (each-weaken (λ x e. omega (arith, e, some_next)) (each-settled begin))
+      (record { each = λ x there. before x (stored-survives old new (word_of q.layout slot w) value is (word_of q.layout slot 1) x there) })
+      (λ held. inl (each-weaken (λ x e. inl e) (each-settled begin)))
+      (λ n key held. begin))
+      h,
   begin,
 )
   where

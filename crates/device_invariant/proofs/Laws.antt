@@ -181,8 +181,7 @@ clearing-keeps o q slot old new lt free is u =
 pub filling-keeps : FillingKeeps
 filling-keeps o q slot w value old new lt free begin one low as_end is u =
     let zero = zero-facts o q u.keeps in
-    let filled = holds-filled q old new slot w value zero.0 zero.1 lt (inl free) one low as_end begin is u.holds in
-    (
+    let filled = holds-filled q old new slot w value zero.0 zero.1 lt (inl free) one low as_end begin is u.holds in (
       record { keeps = u.keeps; shows = shows-but_one o q old new slot w value low is (shows-free o q (value_of new) slot free filled.1.holds) u.shows; holds = filled.0 },
       filled.1,
     )

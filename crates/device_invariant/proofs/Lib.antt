@@ -16,3 +16,4 @@ pub mod Laws
 pub mod Stamping
 pub mod Reading
 pub mod Opened
+pub mod Holders

@@ -45,8 +45,7 @@ module _ (o : Origin) (q : State) (kept : Keeps o q) where
       let is : d.commit.timestamp ≡ t = drawn_at-timestamp q t d found in
       let both = and_parts (not (is_committed q.ruling d.commit.timestamp)) (nat_lt d.commit.timestamp q.next)
       (find-all (λ (d : Drawn). nat_eq d.commit.timestamp t) (λ (d : Drawn). not (is_committed q.ruling d.commit.timestamp) && nat_lt d.commit.timestamp q.next) q.drawn d kept.numbers.drawn found) in
-      let above = find-all (λ (d : Drawn). nat_eq d.commit.timestamp t) (λ (d : Drawn). nat_lt o.ruling.persisted d.commit.timestamp) q.drawn d kept.numbers.origin.drawn found in
-      (
+      let above = find-all (λ (d : Drawn). nat_eq d.commit.timestamp t) (λ (d : Drawn). nat_lt o.ruling.persisted d.commit.timestamp) q.drawn d kept.numbers.origin.drawn found in (
         ap (is_committed q.ruling) (sym is) ∙ not-true (is_committed q.ruling d.commit.timestamp) both.0,
         subst (λ (u : ℕ). u < q.next) is (ltb-true d.commit.timestamp q.next both.1),
         subst (λ (u : ℕ). o.ruling.persisted < u) is (ltb-true o.ruling.persisted d.commit.timestamp above),
@@ -129,8 +128,7 @@ module _ (o : Origin) (q : State) (kept : Keeps o q) where
         let has = kept.owns.has slot (newest_of q key) lt held in
         let h1 : ShowsAs o q value slot (class_of_version o q (Some (newest_of q key))) = subst (λ (v : Option Version). ShowsAs o q value slot (class_of_version o q v)) held (shows.each slot lt) in
         let h2 : ShowsAs o q value slot (class_of_drawn q key t (unwrap_or (wanted o q (newest_of q key)) []) None) = subst (λ (f : Option Drawn). ShowsAs o q value slot (class_of_drawn q key t (unwrap_or (wanted o q (newest_of q key)) []) f)) (last-undrawn key) h1 in
-        let h3 : ShowsAs o q value slot (class_of_drawn q key t has.0 None) = subst (λ (r : Option (List ℕ)). ShowsAs o q value slot (class_of_drawn q key t (unwrap_or r []) None)) has.1 h2 in
-        (
+        let h3 : ShowsAs o q value slot (class_of_drawn q key t has.0 None) = subst (λ (r : Option (List ℕ)). ShowsAs o q value slot (class_of_drawn q key t (unwrap_or r []) None)) has.1 h2 in (
           has.0,
           sym (wanted-newest key) ∙ has.1,
           subst (λ (b : Bool). ShowsAs o q value slot (cond b (Newest t key has.0) (Replaced t key has.0))) (eq-eqb t t refl) h3,

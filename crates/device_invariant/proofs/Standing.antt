@@ -65,12 +65,11 @@ module _ (q : State) (device : Device) (image : Image) (left : IsLeft q device i
   -- it has its row, that of the tables
   has-version : (slot : ℕ) (key : Key) → slot < q.layout.slots → IsLiving q device slot key → (row : List ℕ) × (after q.history key ≡ Some row) × HasVersion image slot key row
   has-version slot key h living =
-      let found = left.safe.written slot key h living.held in
-      (
+      let found = left.safe.written slot key h living.held in (
         found.0,
         found.1,
         found.2.read image left.layout left.size
-        (λ w from to. only-settled device (word_of q.layout slot w) (slice_index image (word_of q.layout slot w)) (living.live.settled w from to) (left.survive.each slot w h to)),
+            (λ w from to. only-settled device (word_of q.layout slot w) (slice_index image (word_of q.layout slot w)) (living.live.settled w from to) (left.survive.each slot w h to)),
       )
 
   outcome-of : (slot : ℕ) → slot < q.layout.slots → Outcome q device slot

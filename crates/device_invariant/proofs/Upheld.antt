@@ -100,13 +100,12 @@ module _ (o : Origin) (q : State) (device : Device) (image : Image) (u : Upholds
     | inr new ↦
         let k = u.keeps.numbers.hand hand is in
         let kept : Keeps o (state_covered q hand) = keeps-covered o q hand u.keeps k in
-        let now : IsSafe (state_covered q hand) (value_of device) = safe-from o (state_covered q hand) (value_of device) kept (written-covered o q hand device u.keeps k u.shows u.holds.sweeping recording.settled kept) in
-        (
+        let now : IsSafe (state_covered q hand) (value_of device) = safe-from o (state_covered q hand) (value_of device) kept (written-covered o q hand device u.keeps k u.shows u.holds.sweeping recording.settled kept) in (
           present (state_covered q hand),
           subst (λ (h : Option Hand). Contains (present q ∷ of_hand q h) (present (state_covered q hand))) (sym is)
-          (Contains-append_right (present q ∷ []) (of_hand q (Some hand)) (present (state_covered q hand)) (Contains-push [] (present (state_covered q hand)))),
+              (Contains-append_right (present q ∷ []) (of_hand q (Some hand)) (present (state_covered q hand)) (Contains-push [] (present (state_covered q hand)))),
           stands-in_hand q hand image
-          (stands-under (state_covered q hand) device image now (slots-covered o q hand device u.keeps k u.shows u.holds.sweeping recording.settled u.holds.slots) (slots-survive recording.replaces.stands.size left) new.1),
+              (stands-under (state_covered q hand) device image now (slots-covered o q hand device u.keeps k u.shows u.holds.sweeping recording.settled u.holds.slots) (slots-survive recording.replaces.stands.size left) new.1),
         )
   ]
 

@@ -7,17 +7,16 @@ use Rattle.base.specs.Images.{Image, opening_fault}
 use Rattle.base.specs.Openings.{OpensAs}
 use Rattle.base.specs.Stands.{Stands}
 use Rattle.base.specs.Commits.{Commit, writes_key}
-use Rattle.base.specs.Machine.{State, Drawn, Hand, BySession, ByCommit, drawn_at, lines_of, state_covered, StandsAt}
-use Rattle.pmem.specs.Device.{Device, IsOrderly, MayLeave, stored, flushed, fenced, failed}
-use Rattle.pmem.specs.Words.{image_of, IsSettledAt}
+use Rattle.base.specs.Machine.{State, Session, Drawn, Hand, Version, BySession, ByCommit, drawn_at, lines_of, state_covered, StandsAt}
+use Rattle.pmem.specs.Device.{Device, IsOrderly, MayLeave, value_of, image_of, stored, flushed, fenced, failed}
 use Rattle.pmem.specs.Trace.{applied}
 use Rattle.log_area.specs.declared.stage.WritingStage.{WritingStage}
 use Rattle.log_area.specs.declared.stage.WritingStage.TheVariants.{FenceGate, Done}
 use Rattle.log_area.specs.Stages.{IsStage, next_stage, operations_before}
 use Rattle.log_area.specs.Rulings.{HoldsRecord}
 use Rattle.log_area.specs.Writings.{operation_of, committer}
-use Rattle.state_invariant.specs.Kept.{Origin, origin_of, IsInUse, KeepsHand, version_by}
-use Rattle.state_invariant.specs.Shown.{word_of, is_key_stamped, ReadsAs}
+use Rattle.state_invariant.specs.Kept.{Origin, origin_of, IsInUse, Keeps, KeepsHand, version_by}
+use Rattle.state_invariant.specs.Shown.{word_of, is_key_stamped, SlotsShow, ReadsAs}
 use Rattle.device_invariant.specs.Slots.{newest_of, SlotsHold}
 use Rattle.device_invariant.specs.Sweeps.{IsSweeping}
 use Rattle.device_invariant.specs.Log.{Line, lines_in, line_number, writing_at}
@@ -121,6 +120,21 @@ abbrev pub StampsEnd : Type 0
 StampsEnd =
     (o : Origin) (q : State) (slot t : ℕ) (key : Key) (d : Drawn) (old new : Device) → slot < q.layout.slots → q.held slot ≡ Some (newest_of q key) → drawn_at q t ≡ Some d → writes_key key d.commit ≡ true → is_key_stamped d key ≡ false
     → new ≡ stored (word_of q.layout slot 1) t old → Upholds o q old → Upholds o q new
+
+-- ---- holders
+
+-- A slot's holder stays; or a session gives the slot back; or one takes it, whose begin is 0
+pub data ChangesHolder (q : State) (held : ℕ → Option Version) (device : Device) (slot : ℕ) : Type 0 where
+  stays : held slot ≡ q.held slot → ChangesHolder q held device slot
+  given_back : (n : ℕ) (key : Key) → q.held slot ≡ Some (version_by key (BySession n)) → held slot ≡ None → ChangesHolder q held device slot
+  taken : (n : ℕ) (key : Key) → q.held slot ≡ None → held slot ≡ Some (version_by key (BySession n)) → Holds device (word_of q.layout slot 0) 0 → ChangesHolder q held device slot
+
+-- sessions come and go, give slots back and take them: what may survive is then as the state says that they lead to
+abbrev pub HoldersKeep : Type 0
+HoldersKeep =
+    (o : Origin) (q : State) (sessions : ℕ → Option Session) (held : ℕ → Option Version) (device : Device) → ((slot : ℕ) → slot < q.layout.slots → ChangesHolder q held device slot)
+    → Keeps o (record q { sessions = sessions; held = held }) → SlotsShow o (record q { sessions = sessions; held = held }) (value_of device) → Upholds o q device
+    → Upholds o (record q { sessions = sessions; held = held }) device
 
 -- ---- reading
 

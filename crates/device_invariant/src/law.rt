@@ -1,4 +1,4 @@
-ghost use Rattle.device_invariant.specs.Laws.{EveryImageStands, FlushesKeep, FencesKeep, FailuresKeep, FailingKeeps, ChoosingKeeps, LineKeeps, LinesKeep, OperationKeeps, CoveringKeeps, GapsDrop, ClearingKeeps, FillingKeeps, RefillingKeeps, StampsBegin, StampsEnd, DevicesRead, OpenedUpholds};
+ghost use Rattle.device_invariant.specs.Laws.{EveryImageStands, FlushesKeep, FencesKeep, FailuresKeep, FailingKeeps, ChoosingKeeps, LineKeeps, LinesKeep, OperationKeeps, CoveringKeeps, GapsDrop, ClearingKeeps, FillingKeeps, RefillingKeeps, StampsBegin, StampsEnd, DevicesRead, OpenedUpholds, HoldersKeep};
 
 /// Each image that a device may leave stands as between two steps of the plain state that it upholds, the layout included:
 /// under the state's record for its history, or under that of the batch in hand for the history with the batch. A
@@ -91,4 +91,9 @@ pub fn devices_read()
 /// A device that an opening left upholds the opened state.
 pub fn opened_devices_uphold()
     ensures { OpenedUpholds }
+{}
+
+/// Sessions may come and go, give their slots back, and take slots whose begins are 0, while the device does nothing.
+pub fn holders_keep()
+    ensures { HoldersKeep }
 {}

@@ -4,4 +4,9 @@
 
 mod law;
 
-pub use law::{every_image_stands, flushes_keep, fences_keep, failures_keep, failing_keeps, choosing_keeps, line_keeps, lines_keep, operation_keeps, covering_keeps, gaps_drop, clearing_keeps, filling_keeps, refilling_keeps, stamps_begin, stamps_end, devices_read, opened_devices_uphold};
+pub use law::{
+    choosing_keeps, clearing_keeps, covering_keeps, devices_read, every_image_stands,
+    failing_keeps, failures_keep, fences_keep, filling_keeps, flushes_keep, gaps_drop,
+    holders_keep, line_keeps, lines_keep, opened_devices_uphold, operation_keeps, refilling_keeps,
+    stamps_begin, stamps_end,
+};
