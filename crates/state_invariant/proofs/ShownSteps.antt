@@ -167,7 +167,7 @@ shows-ticked o q value (Some hand) up kept is shows = by (next_stage q hand)
 -- ---- every step that stores nothing
 
 -- the snapshots in use after a session's number is given back are some of those before
-fewer : (q : State) (n : ℕ) (s : Option Session) (held : ℕ → Option Version) → ((begun : ℕ) (writes : Writes) → s ≡ Some (Active begun writes) → IsInUse q begun)
+pub fewer : (q : State) (n : ℕ) (s : Option Session) (held : ℕ → Option Version) → ((begun : ℕ) (writes : Writes) → s ≡ Some (Active begun writes) → IsInUse q begun)
     → (m : ℕ) → IsInUse (with_all q (replaced n s q.sessions) held q.failed q.hand) m → IsInUse q m
 fewer q n s held used m (inl all) = inl all
 fewer q n s held used m (inr (session, ws, active)) = by (cases_eq session n)
