@@ -1,21 +1,20 @@
 -- A batch of any number of commits is chosen.
-use Rattle.std.proofs.Common.{◌||◌, ◌≡◌, ◌≢◌, ◌⊎◌, inl, inr, ℕ, zero, suc, ◌+◌, ◌*◌, ◌^◌, ◌<◌, ◌≤◌, Bool, true, false, cond, not, ◌&&◌, List, [], ◌∷◌, ◌++◌, map, filter, fold, take, length, refl, sym, ◌∙◌, ap, subst, arith, Option, Some, None, find, is_some, true≢false}
+use Rattle.std.proofs.Common.{◌||◌, ◌≡◌, ◌≢◌, ◌⊎◌, inl, inr, ℕ, zero, suc, ◌+◌, ◌<◌, ◌≤◌, Bool, true, false, cond, not, ◌&&◌, List, [], ◌∷◌, map, filter, fold, take, length, refl, sym, ◌∙◌, ap, subst, arith, Option, Some, None, find, true≢false}
 use Rattle.std.specs.Prelude.{nat_eq, nat_lt, nat_le, max, count_by}
 use Rattle.std.specs.List.{list_any, list_all}
 use Rattle.std.specs.Option.{option_map, option_or}
-use Rattle.std.proofs.lemmas.Bool.{cases_eq, cases_order, cases_lt, eq-eqb, eqb-true, ne_eqb, and_parts, and_from, ltb-true, lt-ltb, leb-true, leb-false, le-leb, lt-leb, or_cases, or_left, or_right, not_from_false, false_from_ne_true}
-use Rattle.base.specs.declared.gap.Gap.{Gap}
+use Rattle.std.proofs.lemmas.Bool.{cases_eq, cases_lt, eq-eqb, eqb-true, ne_eqb, and_parts, and_from, ltb-true, lt-ltb, leb-true, le-leb, or_cases, or_left, or_right, false_from_ne_true}
 use Rattle.base.specs.Commits.{Commit}
 use Rattle.base.specs.Layout.{Layout, is_in_limits, is_known_version, is_between, most_longs}
-use Rattle.base.specs.Records.{Record, is_committed, is_in, is_well_formed, are_rising, are_apart}
+use Rattle.base.specs.Records.{is_committed, is_in, is_well_formed, are_rising}
 use Rattle.base.specs.Restrictions.{most_in_batch}
 use Rattle.base.specs.Stands.{has_timestamp}
-use Rattle.base.specs.Machine.{State, Drawn, Hand, drawn_at, drawn_of, is_stamped, may_be_covered, unstamped_below, end_of_run, chosen, reach, passed_over, standing_gaps, target_of, taken_in_hand}
-use Rattle.state_invariant.specs.Kept.{Origin, KeepsHand, KeepsNumbers, DrawsInOrder, Keeps, commit_at, commits_of_life, covered_since}
+use Rattle.base.specs.Machine.{State, Drawn, drawn_at, drawn_of, is_stamped, may_be_covered, unstamped_below, end_of_run, chosen, reach, passed_over, standing_gaps, target_of, taken_in_hand}
+use Rattle.state_invariant.specs.Kept.{Origin, KeepsHand, KeepsNumbers, Keeps, commit_at, commits_of_life, covered_since}
 use Rattle.state_invariant.proofs.Lookups.{find-passes, find-all}
-use Rattle.state_invariant.proofs.Lists.{all-take, all-map, all-weaken, find-map, any-found, rising-above, rising-rest, rising-with, rising-filter, all-drop, all-filter_with}
-use Rattle.state_invariant.proofs.Commits.{commit_at-has, commit_at-some, commit_at-append, commit_at-drawn, commit_at-timestamp, drawn_at-timestamp, all-by_timestamp, timestamp-all, committed-bounds, uncommitted-above, uncommitted-gap}
-use Rattle.state_invariant.proofs.Records.{above-gaps, well_formed-further, well_formed-dropped, well_formed-longs, committed-in}
+use Rattle.state_invariant.proofs.Lists.{all-take, all-map, find-map, rising-above, rising-rest, rising-with, rising-filter, all-drop, all-filter_with}
+use Rattle.state_invariant.proofs.Commits.{commit_at-has, commit_at-some, commit_at-append, commit_at-drawn, drawn_at-timestamp, all-by_timestamp, timestamp-all, committed-bounds, uncommitted-gap}
+use Rattle.state_invariant.proofs.Records.{well_formed-further, well_formed-dropped, well_formed-longs, committed-in}
 use Rattle.state_invariant.proofs.Covering.{no_gap-above}
 
 -- ---- the greatest of a list

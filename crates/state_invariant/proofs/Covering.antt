@@ -1,23 +1,22 @@
 -- A batch of any number of commits is covered.
-use Rattle.std.proofs.Common.{◌||◌, ◌≡◌, ◌≢◌, ◌⊎◌, inl, inr, ℕ, ◌+◌, ◌<◌, ◌≤◌, Bool, true, false, cond, not, ◌&&◌, List, [], ◌∷◌, ◌++◌, filter, map, length, take, drop, refl, sym, ◌∙◌, ap, subst, arith, Option, Some, None, find, is_some, slice_get, length-append, true≢false}
-use Rattle.std.specs.Prelude.{nat_eq, nat_lt, nat_le, unwrap_or, if◌then◌else◌}
-use Rattle.std.specs.List.{list_any, list_all}
+use Rattle.std.proofs.Common.{◌||◌, ◌≡◌, ◌⊎◌, inl, inr, ℕ, ◌<◌, ◌≤◌, Bool, true, false, not, ◌&&◌, List, [], ◌++◌, map, length, take, refl, sym, ◌∙◌, ap, arith, Option, Some, None, length-append, true≢false}
+use Rattle.std.specs.Prelude.{nat_eq, nat_lt, nat_le, if◌then◌else◌}
+use Rattle.std.specs.List.{list_all}
 use Rattle.std.specs.Option.{option_map, option_or}
-use Rattle.std.proofs.lemmas.Bool.{eqb-true, and_parts, and_from, ltb-true, or_left, or_right, cases_Bool, false_from_ne_true, not_from_false, not_from_true, leb-true, lt-leb}
+use Rattle.std.proofs.lemmas.Bool.{eqb-true, and_parts, and_from, ltb-true, or_left, or_right, false_from_ne_true, not_from_false}
 use Rattle.std.proofs.lemmas.List.{take-append-le, drop-append-le, take_all}
 use Rattle.std.proofs.lemmas.List.Folds.{list_any-append}
 use Rattle.base.specs.declared.key.Key.{Key}
 use Rattle.base.specs.declared.gap.Gap.{Gap}
 use Rattle.base.specs.Keys.{lookup_key, is_rising}
-use Rattle.base.specs.Commits.{Writes, Commit, after, no_rows, writes_key, last_writer}
-use Rattle.base.specs.Layout.{most_longs}
-use Rattle.base.specs.Records.{Record, is_committed, is_in, is_well_formed, are_rising, are_apart}
+use Rattle.base.specs.Commits.{Commit, after, no_rows, last_writer}
+use Rattle.base.specs.Records.{is_committed, is_in}
 use Rattle.base.specs.Stands.{has_timestamp}
-use Rattle.base.specs.Machine.{State, Session, Active, Drew, Drawn, Hand, Version, Writer, BySession, ByCommit, drawn_at, drawn_of, is_stamped, writes_of, state_covered}
+use Rattle.base.specs.Machine.{State, Drawn, Hand, Version, Writer, BySession, ByCommit, drawn_at, drawn_of, is_stamped, state_covered}
 use Rattle.state_invariant.specs.Kept.{Origin, KeepsHand, KeepsOrigin, KeepsNumbers, DrawsInOrder, Owns, Keeps, IsInUse, HasSlot, wanted, row_from, row_by, commit_at, commits_of_life, covered_since, are_distinct, version_by, last_of}
 use Rattle.state_invariant.proofs.Lookups.{find-all}
-use Rattle.state_invariant.proofs.Lists.{all-drop, all-weaken, all-append, all-filter, all-filter_with, all-both, find-filter, find-dropped, rising-filter, none-any}
-use Rattle.state_invariant.proofs.Commits.{commit_at-none, commit_at-some, commit_at-has, commit_at-append, commit_at-place, commit_at-drawn, commit_at-timestamp, all-by_timestamp, timestamp-all, distinct-rising, distinct-append, drawn_at-timestamp, laid-append, writer-append, writer_from, row-new_or_old, IsNewOrOld}
+use Rattle.state_invariant.proofs.Lists.{all-drop, all-weaken, all-append, all-filter, all-filter_with, all-both, find-filter, find-dropped, rising-filter}
+use Rattle.state_invariant.proofs.Commits.{commit_at-none, commit_at-some, commit_at-has, commit_at-append, commit_at-place, commit_at-drawn, all-by_timestamp, timestamp-all, distinct-rising, distinct-append, drawn_at-timestamp, laid-append, writer-append, writer_from, row-new_or_old, IsNewOrOld}
 use Rattle.state_invariant.proofs.Records.{above-gaps}
 
 -- ---- drawn timestamps lie in no gap

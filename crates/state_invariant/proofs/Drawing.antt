@@ -1,24 +1,24 @@
 -- A draw.
 use Rattle.std.proofs.Common.{◌≡◌, ◌≢◌, ◌⊎◌, inl, inr, ℕ, ◌+◌, ◌*◌, ◌^◌, ◌<◌, ◌≤◌, Bool, true, false, cond, not, ◌&&◌, ◌||◌, List, [], ◌∷◌, ◌++◌, map, drop, length, refl, sym, ◌∙◌, ap, subst, arith, Option, Some, None, find, is_some, true≢false}
-use Rattle.std.specs.Prelude.{is_none, nat_eq, nat_lt, nat_le, unwrap_or}
-use Rattle.std.specs.List.{list_any, list_all}
+use Rattle.std.specs.Prelude.{nat_eq, nat_lt, nat_le}
+use Rattle.std.specs.List.{list_any}
 use Rattle.std.specs.Option.{option_or, option_map}
-use Rattle.std.proofs.lemmas.Bool.{cases_eq, eq-eqb, eqb-true, eqb-false, ne_eqb, and_parts, and_from, lt-ltb, ltb-true, leb-false, le-leb, not_from_false, or_cases}
+use Rattle.std.proofs.lemmas.Bool.{cases_eq, eq-eqb, eqb-true, eqb-false, ne_eqb, and_parts, and_from, lt-ltb, ltb-true, leb-false, le-leb, not_from_false}
 use Rattle.std.proofs.lemmas.List.{map-append}
 use Rattle.std.proofs.lemmas.List.Folds.{find-append, list_all-map, list_any-append}
 use Rattle.base.specs.declared.key.Key.{Key}
 use Rattle.base.specs.declared.step.Step.TheVariants.{Draw}
 use Rattle.base.specs.Keys.{lookup_key, key_eq, is_rising}
-use Rattle.base.specs.Commits.{Writes, Commit, after, writes_key, last_writer}
+use Rattle.base.specs.Commits.{Writes, Commit, writes_key}
 use Rattle.base.specs.Records.{is_committed, are_rising}
 use Rattle.base.specs.Stands.{has_timestamp}
-use Rattle.base.specs.Machine.{State, Session, Active, Drew, WroteNothing, Drawn, Hand, Version, Writer, BySession, ByCommit, replaced, drawn_at, drawn_of, writes_of, begun_of, is_by, by_commit, state_drawn, next_state, refusal, unseen_by, conflict_of, is_nil}
-use Rattle.state_invariant.specs.Kept.{Origin, KeepsHand, KeepsOrigin, KeepsNumbers, DrawsInOrder, Owns, Keeps, IsInUse, HasSlot, wanted, row_in, row_by, row_from, commit_at, commits_of_life, covered_since, version_by, last_of}
-use Rattle.state_invariant.proofs.Lookups.{same-keys, replaced-same, replaced-other, find-none, find-all}
+use Rattle.base.specs.Machine.{State, Session, Active, Drew, WroteNothing, Drawn, Hand, Version, Writer, BySession, ByCommit, drawn_at, drawn_of, writes_of, begun_of, is_by, by_commit, state_drawn, next_state, refusal, unseen_by, conflict_of, is_nil}
+use Rattle.state_invariant.specs.Kept.{Origin, KeepsHand, KeepsOrigin, KeepsNumbers, DrawsInOrder, Owns, Keeps, IsInUse, HasSlot, wanted, row_in, row_by, commit_at, commits_of_life, covered_since, version_by, last_of}
+use Rattle.state_invariant.proofs.Lookups.{same-keys, replaced-same, replaced-other, find-all}
 use Rattle.state_invariant.proofs.Lists.{all-drop, all-weaken, all-one_more, rising-one_more, find-map}
 use Rattle.state_invariant.proofs.Commits.{commit_at-none, commit_at-some, commit_at-has, timestamp-all, commit_at-append, drawn_at-timestamp, uncommitted-above}
-use Rattle.state_invariant.proofs.Refusals.{IsAllowed, allowed, active}
-use Rattle.state_invariant.proofs.Sessions.{SessionKeeps, keeps-session, session-keeps, each-set}
+use Rattle.state_invariant.proofs.Refusals.{allowed, active}
+use Rattle.state_invariant.proofs.Sessions.{keeps-session, each-set}
 
 -- the commit that is drawn
 abbrev pub drawn_now : State → Writes → Drawn

@@ -1,15 +1,15 @@
 -- Places in the log: which commit was the last on a key, and where.
-use Rattle.std.proofs.Common.{◌||◌, ◌≡◌, ◌≢◌, ◌⊎◌, inl, inr, ℕ, zero, suc, ◌+◌, ◌<◌, ◌≤◌, Bool, true, false, cond, not, ◌&&◌, List, [], ◌∷◌, ◌++◌, length, take, drop, fold, refl, sym, ◌∙◌, ap, subst, arith, Option, Some, None, is_some, slice_get, true≢false}
+use Rattle.std.proofs.Common.{◌≡◌, ◌≢◌, ◌⊎◌, inl, inr, ℕ, zero, suc, ◌<◌, ◌≤◌, Bool, true, false, cond, not, List, [], ◌∷◌, ◌++◌, length, take, drop, fold, refl, sym, ◌∙◌, ap, arith, Option, Some, None, is_some, slice_get, true≢false}
 use Rattle.std.specs.Prelude.{nat_eq, unwrap_or}
-use Rattle.std.specs.List.{list_any, list_all}
-use Rattle.std.proofs.lemmas.Bool.{cases_eq, eq-eqb, eqb-true, and_parts, or_left, or_right, or_cases, not-true, false≢true}
+use Rattle.std.specs.List.{list_all}
+use Rattle.std.proofs.lemmas.Bool.{cases_eq, eq-eqb, eqb-true, and_parts, or_left, or_right, or_cases}
 use Rattle.base.specs.declared.key.Key.{Key}
 use Rattle.base.specs.Keys.{lookup_key}
 use Rattle.base.specs.Commits.{Commit, after, no_rows, writes_key, last_writer}
 use Rattle.base.specs.Records.{Record, is_committed}
 use Rattle.base.specs.Stands.{has_timestamp}
 use Rattle.state_invariant.specs.Kept.{commit_at, are_distinct}
-use Rattle.state_invariant.proofs.Commits.{committed-bounds, laid-append, writer-append, commit_at-timestamp}
+use Rattle.state_invariant.proofs.Commits.{committed-bounds, laid-append, writer-append}
 
 -- ---- the commit at a place
 

@@ -2,29 +2,28 @@
 use Rattle.std.proofs.Common.{◌≡◌, ◌⊎◌, inl, inr, ℕ, ◌+◌, ◌-◌, ◌*◌, ◌^◌, ◌<◌, ◌≤◌, Bool, true, false, not, ◌&&◌, ◌||◌, List, [], ◌∷◌, ◌++◌, length, take, drop, refl, sym, ◌∙◌, ap, subst, nat_eq, cond, arith}
 use Rattle.std.specs.Prelude.{slice_index, Option, Some, None, unwrap_or, is_some, fold, nat_le, nat_lt, if◌then◌else◌, ◌↔◌}
 use Rattle.std.specs.List.{list_all, range_with_len}
-use Rattle.std.specs.Option.{option_or, option_map}
+use Rattle.std.specs.Option.{option_or}
 use Rattle.std.proofs.lemmas.List.{take_all, drop_all}
 use Rattle.std.proofs.lemmas.Bool.{and_parts, and_from, and_right, and_cases, or_parts, or_left, cases_order, leb-true, leb-false, ltb-false, le-leb, lt-ltb, eq-eqb, eqb-true, not-true, not-false, cond-true, cond-false, false≢true, true≢false}
 use Rattle.base.specs.declared.key.Key.{Key}
 use Rattle.base.specs.declared.gap.Gap.{Gap}
 use Rattle.base.specs.declared.fault.Fault.{Fault}
-use Rattle.base.specs.declared.fault.Fault.TheVariants.{BadGeometry, NotFormatted, Damaged, Version as VersionFault, TimestampsOut, GapsFull}
 use Rattle.base.specs.Keys.{key_eq, lookup_key}
 use Rattle.base.specs.Commits.{Commit, Tables, overlaid, laid, no_rows, writes_key, after, last_writer}
-use Rattle.base.specs.Layout.{Layout, slot_words, total_words, is_between, is_in_limits, is_known_version, opened_version}
+use Rattle.base.specs.Layout.{Layout, total_words, is_between, is_in_limits, is_known_version, opened_version}
 use Rattle.base.specs.Records.{Record, record_word, record_in, is_record, is_in, is_committed, is_well_formed, opened_gaps}
-use Rattle.base.specs.Images.{Image, layout_of, key_of, row_of, begin_of, end_of, is_live, is_shown, is_ahead, is_misfit, is_second, ShownUnder, ruling, ruling_place, place_words, greatest_gate, is_formatted, has_good_geometry, is_wrong_gate, is_ruled, is_bad_slot, damage, log_faults, faults_of, IsSound, opening_fault, needs_sweep, is_near_limit}
-use Rattle.base.specs.Search.{first_below, first_of, some_if}
+use Rattle.base.specs.Images.{Image, layout_of, key_of, row_of, begin_of, end_of, is_shown, is_ahead, is_misfit, is_second, ShownUnder, ruling, ruling_place, place_words, greatest_gate, has_good_geometry, is_ruled, is_bad_slot, IsSound, opening_fault, needs_sweep, is_near_limit}
+use Rattle.base.specs.Search.{first_below, some_if}
 use Rattle.base.specs.Stands.{Stands}
 use Rattle.base.specs.Openings.{IsOpenedGaps, OpensAs, opened, opened_under, held_under}
-use Rattle.base.specs.Machine.{State, Version, Writer, BySession, ByCommit}
+use Rattle.base.specs.Machine.{State, Version, BySession, ByCommit}
 use Rattle.base.proofs.Histories.{first_below-none, key_eq-same, no_bad_slot}
 use Rattle.base.proofs.GapLists.{opened-gaps, one_gap_list}
 use Rattle.state_invariant.specs.Kept.{Origin, origin_of, Keeps, HasSlot, IsInUse, wanted, version_by, last_of, commit_at, row_by, are_distinct}
-use Rattle.state_invariant.specs.Shown.{word_of, counts_at, Spells, IsNever, IsHidden, HasBegun, IsNewest, ShowsAs, SlotsShow, class_of_version, Newest, Replaced}
+use Rattle.state_invariant.specs.Shown.{word_of, IsNever, IsHidden, IsNewest, ShowsAs, SlotsShow, class_of_version, Newest, Replaced}
 use Rattle.state_invariant.proofs.Commits.{committed-bounds}
 use Rattle.state_invariant.proofs.OpenedGaps.{record_over, same-committed_over, formed-over, formed-parts}
-use Rattle.state_invariant.proofs.Spelling.{some_words, spells-image}
+use Rattle.state_invariant.proofs.Spelling.{spells-image}
 
 -- ---- what an opening finds
 

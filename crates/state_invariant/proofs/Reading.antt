@@ -1,27 +1,27 @@
 -- At each snapshot in use the slots that it sees are the rows of its tables.
-use Rattle.std.proofs.Common.{◌||◌, ◌≡◌, ◌≢◌, ◌⊎◌, inl, inr, ℕ, zero, suc, ◌+◌, ◌<◌, ◌≤◌, Bool, true, false, cond, not, ◌&&◌, List, [], ◌∷◌, ◌++◌, length, take, drop, refl, sym, ◌∙◌, ap, subst, arith, Option, Some, None, is_some, slice_get, true≢false}
-use Rattle.std.specs.Prelude.{nat_eq, nat_lt, nat_le, unwrap_or, IsTrue, slice_index, find, ◌↔◌}
-use Rattle.std.specs.List.{list_any, list_all}
+use Rattle.std.proofs.Common.{◌||◌, ◌≡◌, ◌⊎◌, inl, inr, ℕ, suc, ◌<◌, ◌≤◌, Bool, true, false, cond, not, ◌&&◌, List, [], ◌∷◌, length, take, drop, refl, sym, ◌∙◌, ap, subst, arith, Option, Some, None, slice_get, true≢false}
+use Rattle.std.specs.Prelude.{nat_eq, nat_lt, unwrap_or, IsTrue, slice_index, find}
+use Rattle.std.specs.List.{list_any}
 use Rattle.std.specs.Option.{option_map, option_or}
-use Rattle.std.proofs.lemmas.Bool.{cases_eq, cases_lt, eq-eqb, eqb-true, and_parts, and_from, or_left, or_right, or_cases, ltb-true, not_from_false, false_from_ne_true, false≢true, eqb-false}
+use Rattle.std.proofs.lemmas.Bool.{eq-eqb, eqb-true, and_parts, and_from, or_left, or_right, ltb-true, not_from_false, false_from_ne_true, false≢true}
 use Rattle.std.proofs.lemmas.List.{take_all}
 use Rattle.std.proofs.lemmas.Option.{slice_get_within}
 use Rattle.base.specs.declared.key.Key.{Key}
 use Rattle.base.specs.Keys.{lookup_key}
-use Rattle.base.specs.Commits.{Writes, Commit, after, writes_key, last_writer}
-use Rattle.base.specs.Layout.{Layout, slot_words, total_words}
-use Rattle.base.specs.Records.{is_committed, is_in}
-use Rattle.base.specs.Images.{Image, layout_of, key_of, row_of, begin_of, end_of, is_live, is_misfit, Shown}
+use Rattle.base.specs.Commits.{Commit, after, writes_key, last_writer}
+use Rattle.base.specs.Layout.{Layout, total_words}
+use Rattle.base.specs.Records.{is_committed}
+use Rattle.base.specs.Images.{Image, layout_of, begin_of, end_of, is_live, Shown}
 use Rattle.base.specs.Stands.{has_timestamp}
 use Rattle.base.specs.Machine.{State, Drawn, Version, Writer, BySession, ByCommit, drawn_at, drawn_of}
-use Rattle.state_invariant.specs.Kept.{Origin, KeepsOrigin, KeepsNumbers, Keeps, IsInUse, HasSlot, wanted, row_by, row_in, commit_at, commits_of_life, covered_since, version_by, last_of}
-use Rattle.state_invariant.specs.Shown.{word_of, HasVersion, Spells, IsNever, counts_at, is_drawn_on, is_key_stamped, Follows, Class, Free, Waiting, Begun, Newest, Replaced, class_of, class_of_version, class_by, class_of_drawn, HasBegun, IsHidden, IsWaiting, IsBegun, IsNewest, IsReplaced, ShowsAs, SlotShows, SlotsShow, ReadsAs}
+use Rattle.state_invariant.specs.Kept.{Origin, KeepsOrigin, Keeps, IsInUse, wanted, row_by, row_in, commit_at, commits_of_life, covered_since, version_by, last_of}
+use Rattle.state_invariant.specs.Shown.{word_of, HasVersion, Spells, IsNever, counts_at, is_drawn_on, is_key_stamped, Follows, Waiting, Begun, Newest, Replaced, class_of_version, class_by, class_of_drawn, HasBegun, IsHidden, IsWaiting, ShowsAs, SlotShows, SlotsShow, ReadsAs}
 use Rattle.state_invariant.proofs.Lookups.{find-all}
-use Rattle.state_invariant.proofs.Lists.{all-take, all-drop}
-use Rattle.state_invariant.proofs.Commits.{commit_at-append, commit_at-drawn, commit_at-timestamp, drawn_at-timestamp, committed-bounds, uncommitted-gap, uncommitted-above, timestamp-all}
+use Rattle.state_invariant.proofs.Lists.{all-take}
+use Rattle.state_invariant.proofs.Commits.{commit_at-append, commit_at-drawn, commit_at-timestamp, drawn_at-timestamp, committed-bounds, uncommitted-gap, uncommitted-above}
 use Rattle.state_invariant.proofs.Records.{above-gaps}
 use Rattle.state_invariant.proofs.Opening.{passes-last_writer}
-use Rattle.state_invariant.proofs.Log.{place-within, written-place, stays-or_replaced, IsReplaced as IsChanged, IsWritten, writer-since, last-after, has-place, IsPlaced, placed, at-fact, one-place, found-place, writer-bounded}
+use Rattle.state_invariant.proofs.Log.{written-place, stays-or_replaced, IsReplaced as IsChanged, IsWritten, writer-since, last-after, has-place, IsPlaced, placed, at-fact, one-place, found-place, writer-bounded}
 
 -- ---- a covered version
 
@@ -93,7 +93,6 @@ module _ (o : Origin) (q : State) (kept : Keeps o q) where
               → (e : Drawn) × (cond b (Some d) (find (λ (d : Drawn). nat_eq d.commit.timestamp t) ds) ≡ Some e)
           by true any rest = (d, refl)
           by false any rest = rest any
-
 
   -- ---- a covered version starts with its commit, or with the opening
 

@@ -1,13 +1,13 @@
 -- One session changes, and with it what it holds.
-use Rattle.std.proofs.Common.{◌≡◌, ◌≢◌, ◌⊎◌, inl, inr, ℕ, ◌<◌, ◌≤◌, Bool, true, false, cond, ◌&&◌, ◌||◌, List, [], ◌∷◌, map, length, refl, sym, ◌∙◌, ap, subst, arith, Option, Some, None, true≢false}
-use Rattle.std.specs.Prelude.{nat_eq, nat_lt, unwrap_or}
-use Rattle.std.proofs.lemmas.Bool.{cases_eq, cases_order, and_parts, and_from, eqb-true, eq-eqb, lt-ltb, ltb-true, ne_eqb, or_left, or_right, cases_Bool}
+use Rattle.std.proofs.Common.{◌≡◌, ◌≢◌, ◌⊎◌, inl, inr, ℕ, ◌<◌, ◌≤◌, Bool, true, false, cond, ◌&&◌, List, [], ◌∷◌, map, length, refl, sym, ◌∙◌, ap, subst, Option, Some, true≢false}
+use Rattle.std.specs.Prelude.{nat_eq, nat_lt}
+use Rattle.std.proofs.lemmas.Bool.{cases_eq, cases_order, and_parts, and_from, eq-eqb, lt-ltb, or_left, or_right}
 use Rattle.base.specs.declared.key.Key.{Key}
 use Rattle.base.specs.Keys.{key_eq, key_lt, lookup_key, is_rising}
-use Rattle.base.specs.Commits.{Writes, after, with_write}
+use Rattle.base.specs.Commits.{Writes, with_write}
 use Rattle.base.specs.Stands.{has_timestamp}
 use Rattle.base.specs.Machine.{State, Session, Active, Drew, Drawn, Hand, Version, Writer, BySession, ByCommit, drawn_at, writes_of, replaced, with_session}
-use Rattle.state_invariant.specs.Kept.{Origin, KeepsHand, KeepsOrigin, KeepsNumbers, DrawsInOrder, Owns, Keeps, IsInUse, HasSlot, wanted, row_in, version_by, last_of}
+use Rattle.state_invariant.specs.Kept.{Origin, KeepsHand, KeepsOrigin, KeepsNumbers, DrawsInOrder, Owns, Keeps, IsInUse, wanted, row_in, version_by}
 use Rattle.state_invariant.proofs.Lookups.{replaced-same, replaced-other, same-keys}
 
 -- the state with these sessions and with this in the slots

@@ -1,16 +1,11 @@
 -- What the slots show, carried from state to state where their values stay.
-use Rattle.std.proofs.Common.{◌||◌, ◌≡◌, ◌≢◌, ◌⊎◌, inl, inr, ℕ, ◌+◌, ◌<◌, ◌≤◌, Bool, true, false, cond, not, ◌&&◌, List, [], ◌∷◌, ◌++◌, length, take, drop, filter, refl, sym, ◌∙◌, ap, subst, arith, Option, Some, None, is_some, find, slice_get, true≢false}
-use Rattle.std.specs.Prelude.{nat_eq, nat_lt, unwrap_or, IsTrue}
-use Rattle.std.specs.List.{list_any, list_all}
-use Rattle.std.proofs.lemmas.Bool.{cases_eq, eq-eqb, eqb-true, eqb-false, ne_eqb, and_parts, and_from, or_left, or_right, or_cases, false_from_ne_true, false≢true}
+use Rattle.std.proofs.Common.{◌≡◌, ◌⊎◌, inl, inr, ℕ, ◌<◌, Bool, true, false, List, [], refl, sym, ◌∙◌, ap, subst, Option, Some, None, true≢false}
+use Rattle.std.specs.Prelude.{unwrap_or, IsTrue}
 use Rattle.base.specs.declared.key.Key.{Key}
-use Rattle.base.specs.Keys.{lookup_key, key_eq}
-use Rattle.base.specs.Commits.{Writes, Commit, after, writes_key, last_writer}
-use Rattle.base.specs.Machine.{State, Session, Active, Drawn, Hand, Version, Writer, BySession, ByCommit, drawn_at, drawn_of, replaced, writes_of, by_commit, is_by, state_drawn, with_session}
-use Rattle.state_invariant.specs.Kept.{Origin, Keeps, IsInUse, wanted, row_in, row_by, commit_at, commits_of_life, version_by}
-use Rattle.state_invariant.specs.Shown.{word_of, Spells, IsNever, counts_at, is_drawn_on, is_key_stamped, Follows, Class, Free, Waiting, Begun, Newest, Replaced, class_of, class_of_version, class_by, class_of_drawn, HasBegun, IsHidden, IsWaiting, IsBegun, IsNewest, IsReplaced, ShowsAs, SlotShows, SlotsShow}
-use Rattle.state_invariant.proofs.Lookups.{replaced-same, replaced-other}
-use Rattle.state_invariant.proofs.Sessions.{with_held}
+use Rattle.base.specs.Commits.{Commit}
+use Rattle.base.specs.Machine.{State, Session, Drawn, Hand, Version, Writer, BySession, ByCommit, drawn_at, writes_of}
+use Rattle.state_invariant.specs.Kept.{Origin, IsInUse, wanted, row_in, row_by, commit_at, commits_of_life, version_by}
+use Rattle.state_invariant.specs.Shown.{word_of, IsNever, counts_at, is_drawn_on, is_key_stamped, Follows, Class, Free, Waiting, Begun, Newest, Replaced, class_of, class_of_version, class_by, class_of_drawn, IsHidden, IsWaiting, IsNewest, ShowsAs, SlotShows, SlotsShow}
 
 -- the state with the other's layout
 abbrev pub laid_as : State → State → State

@@ -1,25 +1,25 @@
 -- What the slots show stays when a batch of any number of commits is covered.
-use Rattle.std.proofs.Common.{◌||◌, ◌≡◌, ◌≢◌, ◌⊎◌, inl, inr, ℕ, zero, suc, ◌+◌, ◌<◌, ◌≤◌, Bool, true, false, cond, not, ◌&&◌, List, [], ◌∷◌, ◌++◌, length, take, drop, refl, sym, ◌∙◌, ap, subst, arith, Option, Some, None, find, is_some, slice_get, length-append, true≢false}
-use Rattle.std.specs.Prelude.{nat_eq, nat_lt, unwrap_or, IsTrue}
+use Rattle.std.proofs.Common.{◌||◌, ◌≡◌, ◌⊎◌, inl, inr, ℕ, zero, suc, ◌+◌, ◌<◌, Bool, true, false, cond, not, ◌&&◌, List, [], ◌∷◌, ◌++◌, length, take, drop, refl, sym, ◌∙◌, ap, subst, arith, Option, Some, None, is_some, slice_get, length-append, true≢false}
+use Rattle.std.specs.Prelude.{nat_eq, unwrap_or, IsTrue}
 use Rattle.std.specs.List.{list_any, list_all}
 use Rattle.std.specs.Option.{option_map, option_or}
-use Rattle.std.proofs.lemmas.Bool.{cases_eq, eq-eqb, eqb-true, eqb-false, ne_eqb, and_parts, and_from, or_left, or_right, or_cases, ltb-true, false_from_ne_true, false≢true, not_from_false}
-use Rattle.std.proofs.lemmas.List.{take_all, take-append-le, drop-append-le}
+use Rattle.std.proofs.lemmas.Bool.{eq-eqb, eqb-true, ne_eqb, and_parts, and_from, or_left, or_right, or_cases, ltb-true, false_from_ne_true, false≢true}
+use Rattle.std.proofs.lemmas.List.{take_all, take-append-le}
 use Rattle.std.proofs.lemmas.List.Folds.{list_any-append}
 use Rattle.std.proofs.lemmas.Option.{slice_get_within}
 use Rattle.base.specs.declared.key.Key.{Key}
-use Rattle.base.specs.Keys.{lookup_key, key_eq}
-use Rattle.base.specs.Commits.{Writes, Commit, after, writes_key, last_writer}
+use Rattle.base.specs.Keys.{lookup_key}
+use Rattle.base.specs.Commits.{Commit, writes_key, last_writer}
 use Rattle.base.specs.Records.{is_committed}
 use Rattle.base.specs.Stands.{has_timestamp}
 use Rattle.base.specs.Machine.{State, Drawn, Hand, Version, Writer, BySession, ByCommit, drawn_at, drawn_of, is_stamped, state_covered}
-use Rattle.state_invariant.specs.Kept.{Origin, KeepsHand, Keeps, IsInUse, wanted, row_in, row_by, commit_at, commits_of_life, covered_since, version_by}
-use Rattle.state_invariant.specs.Shown.{word_of, Spells, IsNever, counts_at, is_drawn_on, is_key_stamped, Follows, Class, Free, Waiting, Begun, Newest, Replaced, class_of, class_of_version, class_by, class_of_drawn, HasBegun, IsHidden, IsWaiting, IsBegun, IsNewest, IsReplaced, ShowsAs, SlotShows, SlotsShow}
+use Rattle.state_invariant.specs.Kept.{Origin, KeepsHand, Keeps, IsInUse, wanted, row_by, commit_at, commits_of_life, covered_since, version_by}
+use Rattle.state_invariant.specs.Shown.{word_of, IsNever, counts_at, is_drawn_on, is_key_stamped, Follows, Waiting, Begun, Newest, Replaced, class_of_version, class_by, class_of_drawn, HasBegun, IsHidden, IsWaiting, IsBegun, IsNewest, IsReplaced, ShowsAs, SlotsShow}
 use Rattle.state_invariant.proofs.Lists.{find-any, all-drop}
-use Rattle.state_invariant.proofs.Commits.{commit_at-append, commit_at-none, commit_at-drawn, commit_at-place, commit_at-some, commit_at-timestamp, distinct-rising, drawn_at-timestamp, writer_from, writer-append, timestamp-all, uncommitted-above}
+use Rattle.state_invariant.proofs.Commits.{commit_at-append, commit_at-none, commit_at-drawn, commit_at-place, distinct-rising, writer_from, writer-append, timestamp-all}
 use Rattle.state_invariant.proofs.Stamps.{all-stamped, stamped-writes}
 use Rattle.state_invariant.proofs.Choosing.{any-by_timestamp}
-use Rattle.state_invariant.proofs.Covering.{batch-drawn, batch-above, batch-uncommitted, found-left, found-covered, found-now, take-now, since-now, wanted-now}
+use Rattle.state_invariant.proofs.Covering.{batch-drawn, batch-above, found-left, found-covered, found-now, take-now, since-now, wanted-now}
 use Rattle.state_invariant.proofs.Reading.{Started, started, drawn-facts}
 use Rattle.state_invariant.proofs.Log.{last-after, writer-since, IsWritten}
 

@@ -1,23 +1,22 @@
 -- What the slots show stays over the steps that store nothing.
-use Rattle.std.proofs.Common.{◌||◌, ◌≡◌, ◌≢◌, ◌⊎◌, inl, inr, ℕ, ◌+◌, ◌*◌, ◌^◌, ◌<◌, ◌≤◌, Bool, true, false, cond, not, ◌&&◌, List, [], ◌∷◌, ◌++◌, length, refl, sym, ◌∙◌, ap, subst, arith, Option, Some, None, find, true≢false}
+use Rattle.std.proofs.Common.{◌≡◌, ◌≢◌, ◌⊎◌, inl, inr, ℕ, ◌+◌, ◌*◌, ◌^◌, ◌<◌, Bool, true, false, cond, ◌&&◌, List, [], ◌∷◌, length, refl, sym, ◌∙◌, ap, subst, arith, Option, Some, None, true≢false}
 use Rattle.std.specs.Prelude.{nat_eq, unwrap_or}
 use Rattle.std.specs.List.{list_any}
-use Rattle.std.proofs.lemmas.Bool.{cases_eq, eq-eqb, eqb-true, eqb-false, or_left, false≢true}
+use Rattle.std.proofs.lemmas.Bool.{cases_eq, eqb-true, eqb-false, or_left}
 use Rattle.std.proofs.lemmas.List.Folds.{list_any-append}
 use Rattle.base.specs.declared.key.Key.{Key}
 use Rattle.base.specs.declared.step.Step.{Step}
 use Rattle.base.specs.declared.step.Step.TheVariants.{Begin, Get, Put, Delete, Draw, Stamp, Poll, Abort, End, Commit as CommitTick}
 use Rattle.base.specs.declared.step.Stage.{Stage}
 use Rattle.base.specs.declared.step.Reply.{Reply}
-use Rattle.base.specs.Keys.{lookup_key}
 use Rattle.base.specs.Commits.{Writes, writes_key}
-use Rattle.base.specs.Machine.{State, Session, Active, Drew, WroteNothing, Drawn, Hand, Version, Writer, BySession, ByCommit, drawn_at, replaced, writes_of, is_by, is_own_at, is_held_by, by_commit, free_session, with_session, state_drawn, conflict_of, begun_of, state_ticked, state_ticked_on, next_stage, taken_in_hand, is_idle, next_state, refusal, held_after_delete, held_after_abort, Stepped, refused, answered, memory_refused, device_failed}
+use Rattle.base.specs.Machine.{State, Session, Active, Drew, WroteNothing, Drawn, Hand, Version, Writer, BySession, ByCommit, drawn_at, replaced, writes_of, is_own_at, is_held_by, by_commit, free_session, with_session, state_drawn, conflict_of, begun_of, state_ticked, state_ticked_on, next_stage, taken_in_hand, is_idle, next_state, refusal, Stepped, refused, answered, memory_refused, device_failed}
 use Rattle.state_invariant.specs.Kept.{Origin, Keeps, IsInUse, wanted, row_in, version_by}
-use Rattle.state_invariant.specs.Shown.{counts_at, is_drawn_on, is_key_stamped, Follows, Class, Waiting, class_of, class_of_version, class_by, class_of_drawn, SlotsShow, ShowsAs}
+use Rattle.state_invariant.specs.Shown.{is_drawn_on, is_key_stamped, Waiting, class_of, class_of_version, class_by, class_of_drawn, SlotsShow, ShowsAs}
 use Rattle.state_invariant.specs.Laws.{stores}
 use Rattle.state_invariant.proofs.Lookups.{replaced-same, replaced-other}
 use Rattle.state_invariant.proofs.Refusals.{allowed, active, ended-writes}
-use Rattle.state_invariant.proofs.Writing.{MayFree, may-give, may-abort, with_active, held-before, free-session}
+use Rattle.state_invariant.proofs.Writing.{MayFree, may-give, may-abort, with_active, free-session}
 use Rattle.state_invariant.proofs.Drawing.{draw-facts, drawn_now, found-new, found-old, wanted-old, wanted-new}
 use Rattle.state_invariant.proofs.ShownCovering.{shows-covered}
 use Rattle.state_invariant.proofs.Showing.{Carries, shows-carries, class-same, wanted-commit, with_all, carries-with, shows-with}
@@ -50,7 +49,7 @@ module _ (o : Origin) (q : State) (value : ℕ → ℕ) (shows : SlotsShow o q v
           by (inl is) = used m ws (sym (replaced-same n s q.sessions session is) ∙ active)
           by (inr apart) = inr (session, ws, sym (replaced-other n s q.sessions session apart) ∙ active)
 
-  -- ---- slots are given back
+  -- ---- slots are freed
 
   shows-freed : (sessions : ℕ → Option Session) (test : Option Version → Bool) → q.failed ≡ false → MayFree q sessions test
       → ((n : ℕ) → IsInUse (with_all q sessions (λ slot. cond (test (q.held slot)) None (q.held slot)) q.failed q.hand) n → IsInUse q n)
@@ -166,7 +165,7 @@ shows-ticked o q value (Some hand) up kept is shows = by (next_stage q hand)
 
 -- ---- every step that stores nothing
 
--- the snapshots in use after a session's number is given back are some of those before
+-- the snapshots in use after one session changes are some of those before
 pub fewer : (q : State) (n : ℕ) (s : Option Session) (held : ℕ → Option Version) → ((begun : ℕ) (writes : Writes) → s ≡ Some (Active begun writes) → IsInUse q begun)
     → (m : ℕ) → IsInUse (with_all q (replaced n s q.sessions) held q.failed q.hand) m → IsInUse q m
 fewer q n s held used m (inl all) = inl all

@@ -1,19 +1,18 @@
 -- What the slots show after a stamp, and after one that the device stopped midway.
-use Rattle.std.proofs.Common.{◌||◌, ◌≡◌, ◌≢◌, ◌⊎◌, inl, inr, ℕ, suc, ◌+◌, ◌<◌, ◌≤◌, Bool, true, false, cond, ◌&&◌, List, [], length, take, refl, sym, ◌∙◌, ap, subst, arith, Option, Some, None, find, is_some, slice_get, add-one, true≢false}
+use Rattle.std.proofs.Common.{◌||◌, ◌≡◌, ◌≢◌, ◌⊎◌, inl, inr, ℕ, ◌<◌, Bool, true, false, cond, ◌&&◌, List, [], length, take, refl, sym, ◌∙◌, ap, subst, arith, Option, Some, None, slice_get, add-one, true≢false}
 use Rattle.std.specs.Prelude.{nat_eq, unwrap_or, IsTrue}
 use Rattle.std.specs.List.{list_any}
 use Rattle.std.specs.Option.{option_map, option_and_then}
-use Rattle.std.proofs.lemmas.Bool.{cases_eq, eq-eqb, eqb-true, ne_eqb, false≢true}
+use Rattle.std.proofs.lemmas.Bool.{cases_eq, eq-eqb, eqb-true}
 use Rattle.std.proofs.lemmas.List.{take_all}
 use Rattle.base.specs.declared.key.Key.{Key}
 use Rattle.base.specs.declared.step.Step.TheVariants.{Stamp}
-use Rattle.base.specs.Keys.{key_eq, lookup_key}
-use Rattle.base.specs.Commits.{Writes, Commit, writes_key, last_writer}
+use Rattle.base.specs.Keys.{key_eq}
+use Rattle.base.specs.Commits.{Commit, writes_key, last_writer}
 use Rattle.base.specs.Records.{is_committed}
-use Rattle.base.specs.Layout.{slot_words}
 use Rattle.base.specs.Machine.{State, Drawn, Version, Writer, BySession, ByCommit, drawn_at, timestamp_of, counted, is_stamped, next_state, refusal, stamped_write}
-use Rattle.state_invariant.specs.Kept.{Origin, Keeps, IsInUse, wanted, version_by, last_of}
-use Rattle.state_invariant.specs.Shown.{word_of, Spells, IsNever, is_drawn_on, is_key_stamped, Follows, Class, Free, Waiting, Begun, Newest, Replaced, class_of, class_of_version, class_by, class_of_drawn, HasBegun, IsHidden, IsWaiting, IsBegun, IsNewest, IsReplaced, ShowsAs, SlotShows, SlotsShow, SameWords, StoresStamp, StampsBegin, StampsEnd}
+use Rattle.state_invariant.specs.Kept.{Origin, Keeps, wanted, version_by, last_of}
+use Rattle.state_invariant.specs.Shown.{word_of, IsNever, is_drawn_on, is_key_stamped, Class, Free, Waiting, Begun, Newest, Replaced, class_of_version, class_by, class_of_drawn, HasBegun, IsBegun, IsNewest, ShowsAs, SlotsShow, SameWords, StoresStamp, StampsBegin, StampsEnd}
 use Rattle.state_invariant.proofs.Lookups.{key_eq-refl, key_eq-apart, cases-keys, lookup-of_write}
 use Rattle.state_invariant.proofs.Lists.{any-take_more, find-any}
 use Rattle.state_invariant.proofs.Commits.{drawn_at-timestamp}

@@ -1,19 +1,17 @@
 -- A stamp.
-use Rattle.std.proofs.Common.{◌||◌, ◌≡◌, ◌≢◌, ◌⊎◌, inl, inr, ℕ, ◌+◌, ◌<◌, ◌≤◌, Bool, true, false, cond, not, ◌&&◌, List, [], ◌∷◌, ◌++◌, map, length, refl, sym, ◌∙◌, ap, subst, arith, Option, Some, None, find, is_some, true≢false}
+use Rattle.std.proofs.Common.{◌||◌, ◌≡◌, ◌≢◌, ◌⊎◌, inl, inr, ℕ, ◌+◌, Bool, true, false, cond, not, ◌&&◌, List, [], ◌∷◌, ◌++◌, map, length, refl, sym, ◌∙◌, ap, arith, Option, Some, None, find, true≢false}
 use Rattle.std.specs.Prelude.{nat_eq, nat_lt, nat_le}
 use Rattle.std.specs.List.{list_any, list_all}
 use Rattle.std.specs.Option.{option_map}
-use Rattle.std.proofs.lemmas.Bool.{cases_eq, eq-eqb, ne_eqb, eqb-false, and_parts, and_from, leb-true, le-leb}
-use Rattle.base.specs.declared.key.Key.{Key}
+use Rattle.std.proofs.lemmas.Bool.{eq-eqb, ne_eqb, eqb-false, and_parts, and_from, leb-true, le-leb}
 use Rattle.base.specs.declared.step.Step.TheVariants.{Stamp}
 use Rattle.base.specs.Keys.{lookup_key, is_rising}
-use Rattle.base.specs.Commits.{Writes, Commit, writes_key}
+use Rattle.base.specs.Commits.{Commit, writes_key}
 use Rattle.base.specs.Records.{is_committed, are_rising}
 use Rattle.base.specs.Stands.{has_timestamp}
-use Rattle.base.specs.Machine.{State, Session, Drew, Drawn, Hand, Version, Writer, BySession, ByCommit, drawn_at, drawn_of, timestamp_of, counted, is_stamped, next_state, refusal}
-use Rattle.state_invariant.specs.Kept.{Origin, KeepsHand, KeepsOrigin, KeepsNumbers, DrawsInOrder, Owns, Keeps, wanted, row_by, row_from, commit_at, covered_since}
-use Rattle.state_invariant.proofs.Commits.{drawn_at-timestamp}
-use Rattle.state_invariant.proofs.Refusals.{IsAllowed, allowed, stamping}
+use Rattle.base.specs.Machine.{State, Drew, Drawn, Hand, Version, Writer, BySession, ByCommit, drawn_at, drawn_of, timestamp_of, counted, is_stamped, next_state, refusal}
+use Rattle.state_invariant.specs.Kept.{Origin, KeepsHand, KeepsOrigin, Keeps, wanted, row_by, row_from, commit_at, covered_since}
+use Rattle.state_invariant.proofs.Refusals.{allowed, stamping}
 
 -- the state after the stamp of the commit with this timestamp
 abbrev pub with_stamp : State → ℕ → State

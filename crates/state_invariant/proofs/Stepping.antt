@@ -1,11 +1,11 @@
 -- Every step, whatever it answers, keeps what a state keeps.
-use Rattle.std.proofs.Common.{◌≡◌, ℕ, ◌+◌, Bool, true, false, cond, List, [], ◌∷◌, refl, sym, ap, subst, Option, Some, None}
+use Rattle.std.proofs.Common.{◌≡◌, ◌+◌, Bool, true, false, cond, List, [], ◌∷◌, refl, sym, subst, Option, Some, None}
 use Rattle.base.specs.declared.step.Step.{Step}
 use Rattle.base.specs.declared.step.Step.TheVariants.{Begin, Get, Put, Delete, Draw, Stamp, Poll, Abort, End, Commit as CommitTick}
 use Rattle.base.specs.declared.step.Stage.{Stage}
 use Rattle.base.specs.declared.step.Reply.{Reply}
 use Rattle.base.specs.Machine.{State, Hand, Stepped, refused, answered, memory_refused, device_failed, Run, final, next_state, refusal, state_ticked, state_ticked_on, next_stage, is_idle, taken_in_hand}
-use Rattle.state_invariant.specs.Kept.{Origin, KeepsHand, KeepsOrigin, KeepsNumbers, DrawsInOrder, Owns, Keeps}
+use Rattle.state_invariant.specs.Kept.{Origin, KeepsHand, Keeps}
 use Rattle.state_invariant.proofs.Covering.{keeps-covered}
 use Rattle.state_invariant.proofs.Choosing.{keeps-chosen}
 use Rattle.state_invariant.proofs.Drawing.{keeps-draw}

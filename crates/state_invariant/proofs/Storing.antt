@@ -1,20 +1,17 @@
 -- What the slots show after a put, and after one that the device stopped midway.
-use Rattle.std.proofs.Common.{◌≡◌, ◌≢◌, ◌⊎◌, inl, inr, ℕ, ◌<◌, ◌≤◌, Bool, true, false, cond, ◌&&◌, List, [], refl, sym, ◌∙◌, ap, subst, arith, Option, Some, None, is_none, true≢false}
-use Rattle.std.specs.Prelude.{nat_eq, unwrap_or, IsTrue}
-use Rattle.std.proofs.lemmas.Bool.{cases_eq, eq-eqb}
+use Rattle.std.proofs.Common.{◌≡◌, ◌≢◌, ◌⊎◌, inl, inr, ℕ, ◌<◌, true, List, [], refl, sym, ◌∙◌, ap, subst, arith, Option, Some, None, true≢false}
+use Rattle.std.specs.Prelude.{unwrap_or, IsTrue}
+use Rattle.std.proofs.lemmas.Bool.{cases_eq}
 use Rattle.base.specs.declared.key.Key.{Key}
 use Rattle.base.specs.declared.step.Step.TheVariants.{Put}
-use Rattle.base.specs.Keys.{lookup_key}
-use Rattle.base.specs.Commits.{Writes}
-use Rattle.base.specs.Layout.{Layout, slot_words}
-use Rattle.base.specs.Machine.{State, Session, Active, Version, Writer, BySession, ByCommit, begun_of, writes_of, held_with, held_at, held_after_put, own_slot, free_slot, next_state, refusal}
-use Rattle.state_invariant.specs.Kept.{Origin, Keeps, IsInUse, wanted, row_in, version_by}
-use Rattle.state_invariant.specs.Shown.{word_of, Spells, IsNever, is_drawn_on, Class, Free, Waiting, Begun, Newest, Replaced, class_of, class_of_version, HasBegun, IsHidden, IsWaiting, IsBegun, IsNewest, IsReplaced, ShowsAs, SlotShows, SlotsShow, SameWords, StoresPut, StopsPut}
+use Rattle.base.specs.Machine.{State, Active, Version, Writer, BySession, begun_of, held_with, held_at, held_after_put, own_slot, free_slot, next_state, refusal}
+use Rattle.state_invariant.specs.Kept.{Origin, Keeps, wanted, version_by}
+use Rattle.state_invariant.specs.Shown.{word_of, Spells, IsNever, is_drawn_on, Class, Free, Waiting, Begun, Newest, Replaced, class_of, class_of_version, HasBegun, IsHidden, ShowsAs, SlotShows, SlotsShow, SameWords, StoresPut, StopsPut}
 use Rattle.state_invariant.proofs.Lookups.{replaced-other}
 use Rattle.state_invariant.proofs.Spelling.{some_words, spells-same}
 use Rattle.state_invariant.proofs.Refusals.{allowed, active}
-use Rattle.state_invariant.proofs.Writing.{with_active, cases-own, lookup-here, lookup-there, own_slot-none, free_slot-some, keeps-put, version-parts}
-use Rattle.state_invariant.proofs.Showing.{Carries, shows-carries, class-same, wanted-commit, with_all, carries-with, shows-with}
+use Rattle.state_invariant.proofs.Writing.{with_active, lookup-here, lookup-there, own_slot-none, free_slot-some, keeps-put}
+use Rattle.state_invariant.proofs.Showing.{Carries, shows-carries, class-same, wanted-commit, with_all, carries-with}
 use Rattle.state_invariant.proofs.ShownSteps.{fewer, shows-failed}
 
 -- ---- other values, the same words

@@ -1,17 +1,16 @@
 -- Sessions begin, put, delete, abort and end.
-use Rattle.std.proofs.Common.{◌≡◌, ◌≢◌, ◌⊎◌, inl, inr, ℕ, ◌<◌, Bool, true, false, cond, ◌&&◌, List, [], ◌∷◌, length, map, find, ◌≤◌, refl, sym, ◌∙◌, ap, subst, arith, Option, Some, None, is_none, true≢false}
+use Rattle.std.proofs.Common.{◌≡◌, ◌≢◌, ◌⊎◌, inl, inr, ℕ, ◌<◌, Bool, true, false, cond, ◌&&◌, List, [], length, ◌≤◌, refl, sym, ◌∙◌, ap, subst, arith, Option, Some, None, is_none, true≢false}
 use Rattle.std.specs.Prelude.{nat_eq, unwrap_or}
-use Rattle.std.specs.Option.{option_map_or}
 use Rattle.std.proofs.lemmas.Bool.{cases_eq, eq-eqb, eqb-true, eqb-false, and_parts, and_from}
 use Rattle.base.specs.declared.key.Key.{Key}
 use Rattle.base.specs.declared.step.Step.TheVariants.{Begin, Put, Delete, Abort, End}
-use Rattle.base.specs.Keys.{key_eq, lookup_key, is_rising}
+use Rattle.base.specs.Keys.{key_eq, lookup_key}
 use Rattle.base.specs.Commits.{Writes, with_write}
-use Rattle.base.specs.Machine.{State, Session, Active, Drew, Version, Writer, BySession, ByCommit, replaced, held_at, held_with, held_after_put, held_after_delete, held_after_abort, writes_of, begun_of, with_session, is_by, is_own_at, is_held_by, own_slot, free_slot, free_session, session_numbers, next_state, refusal, allows}
+use Rattle.base.specs.Machine.{State, Session, Active, Version, Writer, BySession, ByCommit, replaced, held_at, held_with, held_after_put, held_after_delete, held_after_abort, writes_of, begun_of, is_by, is_own_at, is_held_by, own_slot, free_slot, free_session, session_numbers, next_state, refusal}
 use Rattle.state_invariant.specs.Kept.{Origin, Keeps, IsInUse, row_in, version_by}
-use Rattle.state_invariant.proofs.Lookups.{same-keys, key_eq-refl, apart-keys, cases-keys, lookup-with_write_same, lookup-with_write_other, first_below-some, first_below-none, replaced-same, replaced-other, find-passes}
-use Rattle.state_invariant.proofs.Refusals.{IsAllowed, allowed, active, ended-writes}
-use Rattle.state_invariant.proofs.Sessions.{SessionKeeps, HeldKeeps, with_held, keeps-held, keeps-session, session-keeps, each-set, sorted-with_write}
+use Rattle.state_invariant.proofs.Lookups.{same-keys, key_eq-refl, cases-keys, lookup-with_write_same, lookup-with_write_other, first_below-some, first_below-none, replaced-same, replaced-other, find-passes}
+use Rattle.state_invariant.proofs.Refusals.{allowed, active, ended-writes}
+use Rattle.state_invariant.proofs.Sessions.{SessionKeeps, HeldKeeps, keeps-held, keeps-session, session-keeps, each-set, sorted-with_write}
 
 -- ---- versions
 
@@ -237,7 +236,7 @@ held-freed o q sessions test kept may = record {
         let old = kept.owns.by_session m key row (sym (may.stays key m is) ∙ has) in
         (old.0, old.1, held-left test (q.held old.0) (version_by key (BySession m)) old.2 is)
 
--- ---- a session deletes a key's row: its own version is given back
+-- ---- a session deletes a key's row: its own slot is freed
 
 pub may-give : (q : State) (n : ℕ) (key : Key) → MayFree q (with_active q n key None) (is_own_at n key)
 may-give q n key = record {
@@ -257,7 +256,7 @@ keeps-delete o q n key kept none =
     (each-set (SessionKeeps o q) n _ q.sessions (active-keeps o q n key None s.0 s.1 kept s.2) (λ m. session-keeps o q m kept))
     (held-freed o q (with_active q n key None) (is_own_at n key) kept (may-give q n key))
 
--- ---- a session ends without a commit: all of its versions are given back
+-- ---- a session ends without a commit: all of its slots are freed
 
 pub may-abort : (q : State) (n : ℕ) → MayFree q (replaced n None q.sessions) (is_held_by n)
 may-abort q n = record {

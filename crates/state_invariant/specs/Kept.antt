@@ -1,5 +1,5 @@
 -- What every plain state of a life keeps, in three records, whatever the device does.
-use Rattle.std.specs.Prelude.{ℕ, ◌+◌, ◌*◌, ◌^◌, ◌<◌, ◌≤◌, ◌≡◌, ◌⊎◌, Bool, true, false, ◌&&◌, not, nat_eq, nat_lt, nat_le, if◌then◌else◌, List, [], ◌∷◌, ◌++◌, length, map, take, drop, find, IsTrue, Option, Some, None, is_some, unwrap_or}
+use Rattle.std.specs.Prelude.{ℕ, ◌+◌, ◌*◌, ◌^◌, ◌<◌, ◌≤◌, ◌≡◌, ◌⊎◌, Bool, true, false, ◌&&◌, not, nat_eq, nat_lt, nat_le, if◌then◌else◌, List, [], ◌∷◌, ◌++◌, length, map, take, drop, find, IsTrue, Option, Some, None, unwrap_or}
 use Rattle.std.specs.List.{list_all}
 use Rattle.base.specs.declared.key.Key.{Key}
 use Rattle.base.specs.Keys.{lookup_key, is_rising}
@@ -7,7 +7,7 @@ use Rattle.base.specs.Commits.{Commit, Writes, after, writes_key, last_writer}
 use Rattle.base.specs.Layout.{is_in_limits}
 use Rattle.base.specs.Records.{Record, is_committed, is_in, is_well_formed, are_rising}
 use Rattle.base.specs.Stands.{has_timestamp}
-use Rattle.base.specs.Machine.{State, Session, Active, Drew, Drawn, Hand, Version, Writer, BySession, ByCommit, drawn_at, drawn_of, is_stamped, writes_of}
+use Rattle.base.specs.Machine.{State, Active, Drew, Drawn, Hand, Version, Writer, BySession, ByCommit, drawn_at, drawn_of, is_stamped, writes_of}
 
 -- ---- a life
 

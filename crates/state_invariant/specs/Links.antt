@@ -1,10 +1,10 @@
 -- Which earlier version each version names. Nothing carries this yet.
-use Rattle.std.specs.Prelude.{ℕ, ◌+◌, ◌<◌, ◌≤◌, ◌≡◌, ◌⊎◌, Bool, ◌&&◌, is_some, fold, if◌then◌else◌, List, length, take, slice_get, slice_index, Option, Some, None}
+use Rattle.std.specs.Prelude.{ℕ, ◌+◌, ◌<◌, ◌≤◌, ◌≡◌, is_some, fold, if◌then◌else◌, List, length, take, slice_get, slice_index, Option, Some, None}
 use Rattle.base.specs.declared.key.Key.{Key}
-use Rattle.base.specs.Commits.{Commit, writes_key}
+use Rattle.base.specs.Commits.{Commit}
 use Rattle.base.specs.Layout.{Layout, slot_words, total_words}
 use Rattle.base.specs.Images.{Image, layout_of, link_of}
-use Rattle.base.specs.Machine.{State, Session, Active, Version, Writer, BySession, ByCommit, Drawn, drawn_at, begun_of}
+use Rattle.base.specs.Machine.{State, Version, Writer, BySession, ByCommit, Drawn, drawn_at, begun_of}
 use Rattle.state_invariant.specs.Kept.{Origin, row_in, version_by}
 use Rattle.state_invariant.specs.Shown.{word_of}
 
