@@ -19,3 +19,5 @@ pub mod Showing
 pub mod Stamps
 pub mod ShownCovering
 pub mod ShownSteps
+pub mod Storing
+pub mod StampShowing

@@ -94,7 +94,6 @@ module _ (o : Origin) (q : State) (kept : Keeps o q) where
           by true any rest = (d, refl)
           by false any rest = rest any
 
-
   -- ---- a covered version starts with its commit, or with the opening
 
   row-of : (w : Option (Option (List ℕ))) (row : List ℕ) → unwrap_or w None ≡ Some row → w ≡ Some (Some row)

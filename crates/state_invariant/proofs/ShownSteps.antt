@@ -49,7 +49,7 @@ module _ (o : Origin) (q : State) (value : ℕ → ℕ) (shows : SlotsShow o q v
           by (inl is) = used m ws (sym (replaced-same n s q.sessions session is) ∙ active)
           by (inr apart) = inr (session, ws, sym (replaced-other n s q.sessions session apart) ∙ active)
 
-  -- ---- slots are given back
+  -- ---- slots are freed
 
   shows-freed : (sessions : ℕ → Option Session) (test : Option Version → Bool) → q.failed ≡ false → MayFree q sessions test
       → ((n : ℕ) → IsInUse (with_all q sessions (λ slot. cond (test (q.held slot)) None (q.held slot)) q.failed q.hand) n → IsInUse q n)
@@ -165,8 +165,8 @@ shows-ticked o q value (Some hand) up kept is shows = by (next_stage q hand)
 
 -- ---- every step that stores nothing
 
--- the snapshots in use after a session's number is given back are some of those before
-fewer : (q : State) (n : ℕ) (s : Option Session) (held : ℕ → Option Version) → ((begun : ℕ) (writes : Writes) → s ≡ Some (Active begun writes) → IsInUse q begun)
+-- the snapshots in use after one session changes are some of those before
+pub fewer : (q : State) (n : ℕ) (s : Option Session) (held : ℕ → Option Version) → ((begun : ℕ) (writes : Writes) → s ≡ Some (Active begun writes) → IsInUse q begun)
     → (m : ℕ) → IsInUse (with_all q (replaced n s q.sessions) held q.failed q.hand) m → IsInUse q m
 fewer q n s held used m (inl all) = inl all
 fewer q n s held used m (inr (session, ws, active)) = by (cases_eq session n)

@@ -236,7 +236,7 @@ held-freed o q sessions test kept may = record {
         let old = kept.owns.by_session m key row (sym (may.stays key m is) ∙ has) in
         (old.0, old.1, held-left test (q.held old.0) (version_by key (BySession m)) old.2 is)
 
--- ---- a session deletes a key's row: its own version is given back
+-- ---- a session deletes a key's row: its own slot is freed
 
 pub may-give : (q : State) (n : ℕ) (key : Key) → MayFree q (with_active q n key None) (is_own_at n key)
 may-give q n key = record {
@@ -256,7 +256,7 @@ keeps-delete o q n key kept none =
     (each-set (SessionKeeps o q) n _ q.sessions (active-keeps o q n key None s.0 s.1 kept s.2) (λ m. session-keeps o q m kept))
     (held-freed o q (with_active q n key None) (is_own_at n key) kept (may-give q n key))
 
--- ---- a session ends without a commit: all of its versions are given back
+-- ---- a session ends without a commit: all of its slots are freed
 
 pub may-abort : (q : State) (n : ℕ) → MayFree q (replaced n None q.sessions) (is_held_by n)
 may-abort q n = record {

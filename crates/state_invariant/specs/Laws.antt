@@ -1,16 +1,17 @@
 -- What follows for every life. Each law stands here in words that need no proof, and a public function promises it.
-use Rattle.std.specs.Prelude.{◌≡◌, ℕ, Bool, true, false, Some, None, List, length, slice_index}
+use Rattle.std.specs.Prelude.{◌≡◌, ℕ, ◌<◌, Bool, true, false, Option, Some, None, List, length, slice_index}
+use Rattle.base.specs.declared.key.Key.{Key}
 use Rattle.base.specs.declared.step.Step.{Step}
 use Rattle.base.specs.declared.step.Step.TheVariants.{Put, Stamp}
 use Rattle.base.specs.declared.step.Reply.{Reply}
-use Rattle.base.specs.Machine.{State, Hand, Stepped, Run, final, state_covered}
+use Rattle.base.specs.Machine.{State, Hand, BySession, Stepped, Run, final, state_covered, refusal, next_state, held_after_put, stamped_write, timestamp_of}
 use Rattle.base.specs.Commits.{Commit}
 use Rattle.base.specs.Layout.{total_words}
 use Rattle.base.specs.Images.{Image, layout_of, opening_fault}
 use Rattle.base.specs.Stands.{Stands}
 use Rattle.base.specs.Openings.{OpensAs}
-use Rattle.state_invariant.specs.Kept.{Origin, origin_of, Keeps, IsInUse}
-use Rattle.state_invariant.specs.Shown.{SlotsShow, ReadsAs}
+use Rattle.state_invariant.specs.Kept.{Origin, origin_of, Keeps, IsInUse, version_by}
+use Rattle.state_invariant.specs.Shown.{SlotsShow, ReadsAs, StoresPut, StopsPut, StoresStamp}
 
 -- every step keeps what a state keeps, whatever it answers
 abbrev pub StepsKeep : Type 0
@@ -51,3 +52,18 @@ stores _ = false
 -- the values may stay over any other step
 abbrev pub StepsShow : Type 0
 StepsShow = (o : Origin) (q : State) (step : Step) (reply : Reply) (q' : State) (value : ℕ → ℕ) → Keeps o q → Stepped q step reply q' → stores step ≡ false → SlotsShow o q value → SlotsShow o q' value
+
+-- a put that stores its version in its slot: what the slots show is then what the next state says, and, where the device
+-- stopped it, what the failed state says
+pub record PutShows : Type 0 where
+  pub stored : (o : Origin) (q : State) (n : ℕ) (key : Key) (row : List ℕ) (slot : ℕ) (value new : ℕ → ℕ) → Keeps o q → refusal q (Put n key row) ≡ None
+      → slot < q.layout.slots → held_after_put q n key slot ≡ Some (version_by key (BySession n))
+      → StoresPut q.layout value new slot key row → SlotsShow o q value → SlotsShow o (next_state q (Put n key row)) new
+  pub stopped : (o : Origin) (q : State) (n : ℕ) (key : Key) (row : List ℕ) (slot : ℕ) (value new : ℕ → ℕ) → Keeps o q → refusal q (Put n key row) ≡ None
+      → slot < q.layout.slots → held_after_put q n key slot ≡ Some (version_by key (BySession n))
+      → StopsPut q.layout value new slot → SlotsShow o q value → SlotsShow o (record q { failed = true }) new
+
+-- a stamp that stores its timestamp: what the slots show is then what the next state says
+abbrev pub StampShows : Type 0
+StampShows = (o : Origin) (q : State) (n : ℕ) (key : Key) (row : Option (List ℕ)) (value new : ℕ → ℕ) → Keeps o q → refusal q (Stamp n) ≡ None → stamped_write q n ≡ Some (key, row)
+    → StoresStamp q value new (timestamp_of (q.sessions n)) key → SlotsShow o q value → SlotsShow o (next_state q (Stamp n)) new

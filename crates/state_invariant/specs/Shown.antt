@@ -9,7 +9,7 @@ use Rattle.base.specs.Records.{is_in, is_committed}
 use Rattle.base.specs.Images.{Image, layout_of, key_of, row_of, is_live, is_misfit, Shown}
 use Rattle.base.specs.Stands.{has_timestamp}
 use Rattle.base.specs.Machine.{State, Drawn, Version, Writer, BySession, ByCommit, drawn_at}
-use Rattle.state_invariant.specs.Kept.{Origin, IsInUse, wanted}
+use Rattle.state_invariant.specs.Kept.{Origin, IsInUse, wanted, version_by, last_of}
 
 -- ---- words
 
@@ -137,6 +137,41 @@ SlotShows o q value slot = ShowsAs o q value slot (class_of o q slot)
 -- in every slot
 pub record SlotsShow (o : Origin) (q : State) (value : ℕ → ℕ) : Type 0 where
   pub each : (slot : ℕ) → slot < q.layout.slots → SlotShows o q value slot
+
+-- ---- stores
+
+-- the slot's words have the values that they had
+pub record SameWords (a : Layout) (value new : ℕ → ℕ) (slot : ℕ) : Type 0 where
+  pub each : (w : ℕ) → w < slot_words a.version → new (word_of a slot w) ≡ value (word_of a slot w)
+
+-- a put has stored the version in the slot, and nothing elsewhere
+pub record StoresPut (a : Layout) (value new : ℕ → ℕ) (slot : ℕ) (key : Key) (row : List ℕ) : Type 0 where
+  pub begin : new (word_of a slot 0) ≡ 0
+  pub end : new (word_of a slot 1) ≡ 0
+  pub spells : Spells a new slot key row
+  pub others : (other : ℕ) → other < a.slots → (other ≡ slot → ⊥) → SameWords a value new other
+
+-- a put that the device stopped: the slot's begin was cleared, before any other word of it was stored
+pub record StopsPut (a : Layout) (value new : ℕ → ℕ) (slot : ℕ) : Type 0 where
+  pub cleared : (new (word_of a slot 0) ≡ 0) ⊎ SameWords a value new slot
+  pub others : (other : ℕ) → other < a.slots → (other ≡ slot → ⊥) → SameWords a value new other
+
+-- a stamp has stored the timestamp in the slot's begin
+pub record StampsBegin (a : Layout) (value new : ℕ → ℕ) (slot t : ℕ) : Type 0 where
+  pub begin : new (word_of a slot 0) ≡ t
+  pub others : (w : ℕ) → w < slot_words a.version → (w ≡ 0 → ⊥) → new (word_of a slot w) ≡ value (word_of a slot w)
+
+-- and in the slot's end
+pub record StampsEnd (a : Layout) (value new : ℕ → ℕ) (slot t : ℕ) : Type 0 where
+  pub end : new (word_of a slot 1) ≡ t
+  pub others : (w : ℕ) → w < slot_words a.version → (w ≡ 1 → ⊥) → new (word_of a slot w) ≡ value (word_of a slot w)
+
+-- A stamp of the key has stored the timestamp in the begin of its commit's version and in the end of the newest covered
+-- one, where these have slots, and nothing elsewhere
+pub record StoresStamp (q : State) (value new : ℕ → ℕ) (t : ℕ) (key : Key) : Type 0 where
+  pub begins : (slot : ℕ) → slot < q.layout.slots → q.held slot ≡ Some (version_by key (ByCommit t)) → StampsBegin q.layout value new slot t
+  pub ends : (slot : ℕ) → slot < q.layout.slots → q.held slot ≡ Some (last_of q (length q.history) key) → StampsEnd q.layout value new slot t
+  pub others : (slot : ℕ) → slot < q.layout.slots → (q.held slot ≡ Some (version_by key (ByCommit t)) → ⊥) → (q.held slot ≡ Some (last_of q (length q.history) key) → ⊥) → SameWords q.layout value new slot
 
 -- ---- reading
 

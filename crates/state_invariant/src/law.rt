@@ -1,6 +1,6 @@
 //! What follows from the definitions. The functions do nothing: the contract of each is a law.
 
-ghost use Rattle.state_invariant.specs.Laws.{StepsKeep, RunsKeep, CoveringKeeps, OpenedKeeps, Reading, CoveringShows, StepsShow};
+ghost use Rattle.state_invariant.specs.Laws.{StepsKeep, RunsKeep, CoveringKeeps, OpenedKeeps, Reading, CoveringShows, StepsShow, PutShows, StampShows};
 
 /// Every step keeps what a plain state of a life keeps: one that is answered or refused, one that is refused for want of
 /// memory, and one in which the device fails. So does every run.
@@ -29,4 +29,16 @@ pub fn openings_keep_the_state()
 /// there and whose end doesn't are the rows of the tables after its commits, each key once; in a failed state too.
 pub fn snapshots_read_their_tables()
     ensures { Reading }
+{}
+
+/// After a put the slots show what the next state says: its slot has the version, no begin and no end. Where the device
+/// stopped it midway, they show what the failed state says.
+pub fn puts_show_their_version()
+    ensures { PutShows }
+{}
+
+/// After a stamp the slots show what the next state says: the begin of its version has the timestamp, and so has the end
+/// of the newest covered version of the key.
+pub fn stamps_show_their_timestamp()
+    ensures { StampShows }
 {}

@@ -3,4 +3,8 @@
 
 mod law;
 
-pub use law::{covering_keeps_the_state, openings_keep_the_state, snapshots_read_their_tables, steps_keep_the_slots, steps_keep_the_state};
+pub use law::{
+    covering_keeps_the_state, openings_keep_the_state, puts_show_their_version,
+    snapshots_read_their_tables, stamps_show_their_timestamp, steps_keep_the_slots,
+    steps_keep_the_state,
+};
