@@ -1,24 +1,24 @@
 -- A free slot is cleared, and the words of a version are stored behind a begin that is 0.
-use Rattle.std.proofs.Common.{◌≡◌, ◌≢◌, ◌⊎◌, inl, inr, ℕ, ◌+◌, ◌<◌, ◌≤◌, Bool, true, false, List, refl, sym, ◌∙◌, ap, subst, arith, true≢false, cond}
-use Rattle.std.specs.Prelude.{Option, Some, None, IsTrue, nat_le, nat_lt, ◌^◌, length, not, ◌&&◌, [], ◌∷◌}
-use Rattle.std.specs.List.{list_any, list_all}
-use Rattle.std.proofs.lemmas.Bool.{and_parts, leb-true, lt-leb, and_left, or_from, cases_eq}
+use Rattle.std.proofs.Common.{◌≡◌, ◌⊎◌, inl, inr, ℕ, ◌<◌, ◌≤◌, true, false, List, refl, sym, ◌∙◌, ap, arith}
+use Rattle.std.specs.Prelude.{Option, Some, None, nat_le, nat_lt, ◌^◌, length, not, ◌&&◌, [], ◌∷◌}
+use Rattle.std.specs.List.{list_all}
+use Rattle.std.proofs.lemmas.Bool.{and_parts, leb-true, lt-leb, and_left, or_from}
 use Rattle.base.specs.declared.key.Key.{Key}
 use Rattle.base.specs.declared.gap.Gap.{Gap}
 use Rattle.base.specs.Commits.{last_writer}
-use Rattle.base.specs.Layout.{Layout, slot_words, most_longs}
+use Rattle.base.specs.Layout.{slot_words, most_longs}
 use Rattle.base.specs.Records.{Record, is_in, is_well_formed, are_apart, are_rising}
-use Rattle.base.specs.Machine.{State, Hand, Version, Writer, BySession, ByCommit}
+use Rattle.base.specs.Machine.{State, Hand, Version, BySession, ByCommit}
 use Rattle.pmem.specs.Device.{Device, stored}
-use Rattle.pmem.specs.Words.{Survives, value_of, OnlyShrinks, IsSettledAt}
-use Rattle.pmem.proofs.Changes.{stored-survives, stored-value}
+use Rattle.pmem.specs.Words.{Survives, OnlyShrinks, IsSettledAt, EachSurvivor}
+use Rattle.pmem.proofs.Changes.{stored-survives}
 use Rattle.state_invariant.specs.Kept.{Origin, Keeps, version_by}
 use Rattle.state_invariant.specs.Shown.{word_of}
-use Rattle.device_invariant.specs.Words.{EachSurvivor}
-use Rattle.device_invariant.specs.Slots.{newest_of, NeverCounts, Counts, IsDead, SlotHolds}
+use Rattle.device_invariant.specs.Slots.{NeverCounts, IsDead, SlotHolds}
 use Rattle.device_invariant.specs.Log.{is_own, is_ended}
 use Rattle.device_invariant.specs.Upholds.{HoldsState}
-use Rattle.device_invariant.proofs.Words.{within-slot, each-shrinks, holds-shrinks, each-settled, each-weaken}
+use Rattle.pmem.proofs.Changes.{each-shrinks, settled_at-shrinks, each-settled, each-weaken}
+use Rattle.device_invariant.proofs.Words.{within-slot}
 use Rattle.device_invariant.proofs.Storing.{IsUntouched, rest-stored, holds-stored}
 
 -- ---- what nobody or a session holds
@@ -108,7 +108,7 @@ holds-filled q old new slot w value some_next out lt undrawn one low as_end zero
 )
   where
     begin : IsSettledAt new (word_of q.layout slot 0) 0
-    begin = holds-shrinks (rest-stored q.layout old new slot w value 0 (λ e. omega (arith, e, one)) is) zero
+    begin = settled_at-shrinks (rest-stored q.layout old new slot w value 0 (λ e. omega (arith, e, one)) is) zero
 
     before : (x : ℕ) → ((word_of q.layout slot 1 ≡ word_of q.layout slot w) × (x ≡ value)) ⊎ Survives old (word_of q.layout slot 1) x → x < q.next
     before x (inl this) = let same : w ≡ 1 = omega (arith, this.0) in omega (arith, this.1, as_end same, some_next)

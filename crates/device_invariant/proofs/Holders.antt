@@ -1,20 +1,19 @@
 -- Slots are given back by sessions, and taken by them, while the device does nothing.
-use Rattle.std.proofs.Common.{◌≡◌, ◌≢◌, ◌⊎◌, inl, inr, ℕ, suc, zero, ◌+◌, ◌-◌, ◌<◌, ◌≤◌, Bool, true, false, cond, List, [], ◌∷◌, ◌++◌, take, refl, sym, ◌∙◌, ap, subst, arith, true≢false}
+use Rattle.std.proofs.Common.{◌≡◌, inl, inr, ℕ, suc, zero, ◌+◌, ◌-◌, ◌<◌, ◌≤◌, Bool, cond, List, [], ◌∷◌, ◌++◌, take, refl, sym, ◌∙◌, ap, subst, arith}
 use Rattle.std.specs.Prelude.{Option, Some, None}
 use Rattle.std.specs.List.{flat_map, range_with_len}
 use Rattle.base.specs.declared.key.Key.{Key}
 use Rattle.base.specs.Commits.{Commit, last_writer}
 use Rattle.base.specs.Machine.{State, Session, Hand, Version, BySession, ByCommit, version_lines}
 use Rattle.pmem.specs.Device.{Device}
-use Rattle.log_area.specs.Rulings.{Holds}
+use Rattle.pmem.specs.Words.{IsSettledAt}
 use Rattle.state_invariant.specs.Kept.{version_by}
 use Rattle.state_invariant.specs.Shown.{word_of}
-use Rattle.device_invariant.specs.Slots.{newest_of, NeverCounts, IsDead, IsLive, SlotHolds, SlotsHold}
-use Rattle.device_invariant.specs.Sweeps.{IsSweeping}
-use Rattle.device_invariant.specs.Log.{Line, line_at, lines_at, lines_in, is_own, is_ended, AreReady, IsBatchSettled, HoldsHand}
-use Rattle.device_invariant.specs.Upholds.{HoldsState, Upholds}
+use Rattle.device_invariant.specs.Slots.{SlotHolds}
+use Rattle.device_invariant.specs.Log.{Line, line_at, lines_at, is_own, is_ended, AreReady, HoldsHand}
+use Rattle.device_invariant.specs.Upholds.{HoldsState}
 use Rattle.device_invariant.specs.Laws.{ChangesHolder, stays, given_back, taken, HoldersKeep}
-use Rattle.device_invariant.proofs.Words.{each-settled, each-weaken}
+use Rattle.pmem.proofs.Changes.{each-settled, each-weaken}
 
 module _ (q : State) (sessions : ℕ → Option Session) (held : ℕ → Option Version) (device : Device) where
   abbrev then : State
@@ -35,7 +34,7 @@ module _ (q : State) (sessions : ℕ → Option Session) (held : ℕ → Option 
   }
 
   -- that nobody or a session holds, with a begin that is 0
-  undrawn-slot : (slot : ℕ) → ((t : ℕ) (key : Key) → held slot ≡ Some (version_by key (ByCommit t)) → ⊥) → Holds device (word_of q.layout slot 0) 0 → SlotHolds q device slot → SlotHolds then device slot
+  undrawn-slot : (slot : ℕ) → ((t : ℕ) (key : Key) → held slot ≡ Some (version_by key (ByCommit t)) → ⊥) → IsSettledAt device (word_of q.layout slot 0) 0 → SlotHolds q device slot → SlotHolds then device slot
   undrawn-slot slot not_commit cleared h = record {
     begin_before = h.begin_before;
     end_before = h.end_before;

@@ -1,30 +1,26 @@
 -- The laws: what a device upholds under each move.
-use Rattle.std.proofs.Common.{◌≡◌, ◌≢◌, ◌⊎◌, inl, inr, ℕ, ◌+◌, ◌<◌, ◌≤◌, Bool, true, false, cond, List, [], ◌∷◌, refl, sym, ◌∙◌, ap, subst, arith, true≢false}
+use Rattle.std.proofs.Common.{◌≡◌, ◌≢◌, ◌⊎◌, inl, inr, ℕ, ◌+◌, ◌<◌, true, [], sym, ◌∙◌, subst, arith, true≢false}
 use Rattle.std.specs.Prelude.{Option, Some, None, IsTrue}
 use Rattle.std.proofs.lemmas.Bool.{cases_eq}
 use Rattle.base.specs.declared.key.Key.{Key}
-use Rattle.base.specs.declared.gap.Gap.{Gap}
 use Rattle.base.specs.Layout.{slot_words}
-use Rattle.base.specs.Records.{Record, is_in, is_committed}
-use Rattle.base.specs.Machine.{State, Hand, Version, BySession, ByCommit}
-use Rattle.pmem.specs.Device.{Device, stored, flushed, fenced, failed}
-use Rattle.pmem.specs.Words.{Survives, value_of, OnlyShrinks, IsSettledAt}
-use Rattle.pmem.proofs.Steps.{value-flushed, value-fenced}
-use Rattle.pmem.specs.Trace.{applied}
-use Rattle.log_area.specs.Stages.{IsStage}
-use Rattle.log_area.specs.Writings.{operation_of, committer}
+use Rattle.base.specs.Records.{Record, is_committed}
+use Rattle.base.specs.Machine.{State, Hand, Version}
+use Rattle.pmem.specs.Device.{Device, stored}
+use Rattle.pmem.specs.Words.{Survives, value_of}
+use Rattle.base.specs.Actors.{committer}
 use Rattle.pmem.proofs.Changes.{flushed-shrinks, fenced-shrinks, failed-shrinks, stored-value}
-use Rattle.state_invariant.specs.Kept.{Origin, Keeps, KeepsHand, version_by}
-use Rattle.state_invariant.specs.Shown.{word_of, IsNever, is_drawn_on, SlotsShow, SlotShows, ShowsAs, class_of_version, class_of}
+use Rattle.state_invariant.specs.Kept.{Origin, Keeps, KeepsHand}
+use Rattle.state_invariant.specs.Shown.{word_of, is_drawn_on, SlotsShow, SlotShows, ShowsAs, class_of_version}
 use Rattle.state_invariant.proofs.Covering.{keeps-covered}
 use Rattle.state_invariant.proofs.ShownCovering.{shows-covered}
 use Rattle.state_invariant.proofs.Stepping.{keeps-with_hand, keeps-failed}
-use Rattle.device_invariant.specs.Slots.{NeverCounts, IsLive, SlotHolds, SlotsHold}
+use Rattle.device_invariant.specs.Slots.{NeverCounts, SlotHolds}
 use Rattle.device_invariant.specs.Sweeps.{IsSweeping}
-use Rattle.device_invariant.specs.Log.{HoldsHand, writing_at}
 use Rattle.device_invariant.specs.Upholds.{HoldsState, Upholds}
 use Rattle.device_invariant.specs.Laws.{FlushesKeep, FencesKeep, FailuresKeep, FailingKeeps, ChoosingKeeps, LineKeeps, LinesKeep, OperationKeeps, CoveringKeeps, GapsDrop, ClearingKeeps, FillingKeeps, RefillingKeeps, one_tick_on}
-use Rattle.device_invariant.proofs.Words.{each-weaken, within-slot}
+use Rattle.pmem.proofs.Changes.{each-weaken}
+use Rattle.device_invariant.proofs.Words.{within-slot}
 use Rattle.device_invariant.proofs.Shrinking.{ShrinksSlots}
 use Rattle.device_invariant.proofs.Ticking.{holds-flushed, holds-fenced, holds-fails, holds-failed, holds-chosen, holds-line, holds-lines}
 use Rattle.device_invariant.proofs.Recording.{holds-operation, holds-covered, operation-shrinks}

@@ -1,36 +1,32 @@
 -- A device that an opening left upholds the opened state.
-use Rattle.std.proofs.Common.{◌≡◌, ◌≢◌, ◌⊎◌, inl, inr, ℕ, ◌+◌, ◌<◌, ◌≤◌, Bool, true, false, cond, not, ◌&&◌, ◌||◌, List, [], ◌∷◌, ◌++◌, map, length, take, drop, refl, sym, ◌∙◌, ap, subst, arith, true≢false, nat_eq, nat_le}
-use Rattle.std.specs.Prelude.{Option, Some, None, IsTrue, slice_index, slice_get}
+use Rattle.std.proofs.Common.{◌≡◌, ◌≢◌, ◌⊎◌, inl, inr, ℕ, ◌<◌, ◌≤◌, Bool, true, false, cond, not, ◌&&◌, ◌||◌, List, [], ◌∷◌, ◌++◌, map, length, take, drop, refl, sym, ◌∙◌, ap, subst, arith, true≢false, nat_eq, nat_le}
+use Rattle.std.specs.Prelude.{Option, Some, None, IsTrue, slice_index}
 use Rattle.std.specs.List.{find}
 use Rattle.std.specs.Option.{option_or}
-use Rattle.std.proofs.lemmas.Bool.{and_parts, or_parts, leb-true, leb-false, ne_eqb, or_cases, and_left}
+use Rattle.std.proofs.lemmas.Bool.{and_parts, or_parts, leb-true, leb-false, ne_eqb, or_cases}
 use Rattle.std.proofs.lemmas.List.{take_all, length-drop}
 use Rattle.base.specs.declared.key.Key.{Key}
-use Rattle.base.specs.declared.gap.Gap.{Gap}
 use Rattle.base.specs.declared.fault.Fault.{Fault}
 use Rattle.base.specs.declared.fault.Fault.TheVariants.{NotFormatted, Version as VersionFault}
 use Rattle.base.specs.Commits.{Commit, after, last_writer}
 use Rattle.base.specs.Layout.{Layout, slot_words, is_known_version, opened_version, opened_layout}
-use Rattle.base.specs.Search.{some_if, first_of}
-use Rattle.base.specs.Records.{is_in, is_committed}
-use Rattle.base.specs.Images.{Image, IsSound, layout_of, ruling, begin_of, end_of, is_formatted, is_bad_slot, is_ahead, is_shown, is_misfit, is_second, opening_fault}
-use Rattle.base.specs.Stands.{Stands, has_timestamp}
-use Rattle.base.specs.Openings.{OpensAs, opened}
+use Rattle.base.specs.Search.{some_if}
+use Rattle.base.specs.Records.{is_committed}
+use Rattle.base.specs.Images.{Image, IsSound, layout_of, ruling, begin_of, end_of, is_formatted, is_ahead, is_shown, is_misfit, is_second}
+use Rattle.base.specs.Stands.{has_timestamp}
 use Rattle.base.specs.Machine.{State, Drawn, Session, Version, BySession, ByCommit, drawn_at, drawn_of, writes_of}
-use Rattle.base.proofs.Histories.{no_bad_slot, opens-sound}
+use Rattle.base.proofs.Histories.{no_bad_slot}
 use Rattle.pmem.specs.Device.{Device}
-use Rattle.pmem.specs.Words.{Survives, value_of, IsSettled, IsSettledAt}
-use Rattle.log_area.specs.Rulings.{HoldsRecord}
-use Rattle.state_invariant.specs.Kept.{Origin, origin_of, Keeps, IsInUse, version_by, wanted, row_by, row_in, commit_at, commits_of_life, covered_since}
-use Rattle.state_invariant.specs.Shown.{word_of, IsNever, IsHidden, counts_at, is_drawn_on, SlotsShow, ShowsAs, class_of_version}
+use Rattle.pmem.specs.Words.{value_of, IsSettled, EachSurvivor}
+use Rattle.state_invariant.specs.Kept.{origin_of, Keeps, version_by, row_by, row_in, commit_at, commits_of_life}
+use Rattle.state_invariant.specs.Shown.{word_of, IsHidden, is_drawn_on, SlotsShow, ShowsAs, class_of_version}
 use Rattle.state_invariant.proofs.Commits.{committed-bounds}
 use Rattle.state_invariant.proofs.Opening.{keeps-opened, shows-opened}
-use Rattle.device_invariant.specs.Words.{EachSurvivor}
 use Rattle.device_invariant.specs.Slots.{newest_of, NeverCounts, IsDead, IsLive, SlotHolds}
 use Rattle.device_invariant.specs.Log.{HoldsHand}
-use Rattle.device_invariant.specs.Upholds.{HoldsState, Upholds}
-use Rattle.device_invariant.specs.Laws.{RestsOn, OpenedUpholds}
-use Rattle.device_invariant.proofs.Words.{within-slot, each-settled, each-weaken}
+use Rattle.device_invariant.specs.Laws.{OpenedUpholds}
+use Rattle.pmem.proofs.Changes.{each-settled, each-weaken}
+use Rattle.device_invariant.proofs.Words.{within-slot}
 use Rattle.device_invariant.proofs.Says.{says-newest, last-committed}
 use Rattle.device_invariant.proofs.Showing.{shows-same}
 

@@ -1,8 +1,8 @@
 -- Reading on a device.
-use Rattle.std.proofs.Common.{◌≡◌, ◌⊎◌, inl, inr, ℕ, ◌<◌, List, length, refl, sym, ◌∙◌, ap, subst, arith}
+use Rattle.std.proofs.Common.{◌≡◌, inl, inr, length, sym, subst, arith}
 use Rattle.std.specs.Prelude.{Option, Some, None, slice_index}
-use Rattle.base.specs.Layout.{slot_words, total_words}
-use Rattle.base.specs.Images.{layout_of, IsRuledBy}
+use Rattle.base.specs.Layout.{total_words}
+use Rattle.base.specs.Images.{IsRuledBy}
 use Rattle.base.specs.Records.{Record}
 use Rattle.base.specs.Machine.{State, Hand}
 use Rattle.pmem.specs.Device.{Device, IsOrderly, MayLeave}
@@ -10,7 +10,6 @@ use Rattle.pmem.specs.Words.{value_of, image_of, Survives}
 use Rattle.log_area.proofs.Heads.{image_size, image_word, laid_size}
 use Rattle.log_area.proofs.AtRest.{laid}
 use Rattle.log_area.proofs.Replacing.{holds_ruled, ruled_meanwhile}
-use Rattle.state_invariant.specs.Kept.{Origin}
 use Rattle.state_invariant.specs.Shown.{word_of}
 use Rattle.state_invariant.proofs.Reading.{reads}
 use Rattle.device_invariant.specs.Log.{HoldsHand, writing_at}

@@ -1,30 +1,30 @@
 -- What each operation of the writing of a batch's record makes of what a device holds; the last one covers the batch.
-use Rattle.std.proofs.Common.{◌≡◌, ◌≢◌, ◌⊎◌, inl, inr, ℕ, suc, zero, ◌+◌, ◌-◌, ◌*◌, ◌/◌, ◌%◌, ◌<◌, ◌≤◌, Bool, true, false, cond, List, [], ◌∷◌, refl, sym, ◌∙◌, ap, subst, arith}
-use Rattle.std.specs.Prelude.{Option, Some, None, nat_lt}
+use Rattle.std.proofs.Common.{◌≡◌, ◌≢◌, ◌⊎◌, inl, inr, ℕ, ◌+◌, ◌-◌, Bool, true, false, cond, List, [], refl, sym, ◌∙◌, ap, subst, arith}
+use Rattle.std.specs.Prelude.{Some, nat_lt}
 use Rattle.std.proofs.lemmas.Bool.{ltb-true, ltb-false, lt-ltb, le-ltb}
 use Rattle.base.specs.declared.gap.Gap.{Gap}
-use Rattle.base.specs.Layout.{Layout, slot_words, total_words}
 use Rattle.base.specs.Records.{is_in}
 use Rattle.base.specs.Machine.{State, Hand, lines_of, state_covered}
 use Rattle.pmem.specs.Device.{Device, IsOrderly, fenced}
-use Rattle.pmem.specs.Words.{value_of, OnlyShrinks}
+use Rattle.pmem.specs.Words.{value_of}
 use Rattle.pmem.specs.Trace.{applied}
 use Rattle.log_area.specs.declared.stage.WritingStage.{WritingStage}
 use Rattle.log_area.specs.declared.stage.WritingStage.TheVariants.{StoreBody, FlushBody, FenceBody, StoreGate, FlushGate, FenceGate, Done}
 use Rattle.log_area.specs.Stages.{IsStage, next_stage, operations_before}
 use Rattle.log_area.specs.Rulings.{HoldsRecord}
-use Rattle.log_area.specs.Writings.{Progress, advanced, start_of, operation_of, IsReplacing, IsOutside, committer}
+use Rattle.base.specs.Actors.{committer}
+use Rattle.log_area.specs.Writings.{operation_of, IsReplacing}
 use Rattle.log_area.proofs.Replacing.{replacing_next, replacing_done}
 use Rattle.log_area.proofs.Rulings.{place_below}
-use Rattle.log_area.proofs.Ticks.{outside_kept, same_words}
+use Rattle.log_area.proofs.Ticks.{outside_kept}
 use Rattle.state_invariant.specs.Kept.{Origin, Keeps, KeepsHand}
 use Rattle.state_invariant.specs.Shown.{word_of, SlotsShow}
 use Rattle.device_invariant.specs.Slots.{SlotsHold}
 use Rattle.device_invariant.specs.Sweeps.{IsSweeping, IsOutOfGaps}
-use Rattle.device_invariant.specs.Log.{IsBatchSettled, IsFlushing, IsRecording, HoldsHand, writing_at}
+use Rattle.device_invariant.specs.Log.{IsBatchSettled, HoldsHand, writing_at}
 use Rattle.device_invariant.specs.Upholds.{HoldsState}
-use Rattle.device_invariant.proofs.Words.{each-weaken}
-use Rattle.device_invariant.proofs.Shrinking.{ShrinksSlots, shrinks-kept, slots-shrink, sweeping-shrink, settled-shrink}
+use Rattle.pmem.proofs.Changes.{each-weaken}
+use Rattle.device_invariant.proofs.Shrinking.{ShrinksSlots, slots-shrink, sweeping-shrink, settled-shrink}
 use Rattle.device_invariant.proofs.Covering.{slots-covered}
 use Rattle.device_invariant.proofs.Ticking.{with_hand}
 
@@ -97,7 +97,7 @@ staged-next Done is = tt
 module _ (q : State) (hand : Hand) (stage : WritingStage) (old new : Device) (staged : IsStage stage) (is : new ≡ applied (operation_of (writing_at q hand stage)) old) (replaces : IsReplacing q.ruling (writing_at q hand stage) old) where
   pub spared : ShrinksSlots q.layout old new
   spared slot lt w low =
-      shrinks-kept (outside_kept (writing_at q hand stage) staged is (word_of q.layout slot w) (inr (omega (arith, place_below q.layout hand.target replaces.fits.limits))))
+      outside_kept (writing_at q hand stage) staged is (word_of q.layout slot w) (inr (omega (arith, place_below q.layout hand.target replaces.fits.limits)))
 
   pub settled-still : IsBatchSettled q hand.commits old → IsBatchSettled q hand.commits new
   settled-still = settled-shrink q hand old new spared

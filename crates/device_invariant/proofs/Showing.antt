@@ -1,13 +1,13 @@
 -- What the slots show by their present values: moves under which a slot's values stay, or the state but for its batch or its failing.
-use Rattle.std.proofs.Common.{◌≡◌, ◌⊎◌, inl, inr, ℕ, ◌+◌, ◌<◌, ◌≤◌, Bool, true, false, List, refl, sym, ◌∙◌, ap, subst, arith, true≢false}
-use Rattle.std.specs.Prelude.{Option, Some, None, IsTrue, slice_index}
+use Rattle.std.proofs.Common.{◌≡◌, ◌⊎◌, inl, inr, ℕ, ◌<◌, Bool, true, List, refl, sym, ◌∙◌, subst, arith, true≢false}
+use Rattle.std.specs.Prelude.{Option, IsTrue}
 use Rattle.base.specs.declared.key.Key.{Key}
 use Rattle.base.specs.Layout.{Layout, slot_words}
 use Rattle.base.specs.Machine.{State, Hand}
 use Rattle.pmem.specs.Device.{Device}
-use Rattle.pmem.specs.Words.{value_of, OnlyShrinks}
-use Rattle.state_invariant.specs.Kept.{Origin, IsInUse}
-use Rattle.state_invariant.specs.Shown.{word_of, Spells, HasBegun, IsHidden, IsNever, counts_at, is_drawn_on, Class, Free, Waiting, Begun, Newest, Replaced, ShowsAs, SlotShows, SlotsShow, class_of}
+use Rattle.pmem.specs.Words.{value_of}
+use Rattle.state_invariant.specs.Kept.{Origin}
+use Rattle.state_invariant.specs.Shown.{word_of, Spells, HasBegun, IsHidden, IsNever, is_drawn_on, Class, Free, Waiting, Begun, Newest, Replaced, ShowsAs, SlotShows, SlotsShow, class_of}
 use Rattle.device_invariant.proofs.Words.{within-slot}
 
 spells-same : (a : Layout) (value other : ℕ → ℕ) (slot : ℕ) (key : Key) (row : List ℕ) → ((w : ℕ) → w < slot_words a.version → other (word_of a slot w) ≡ value (word_of a slot w)) → Spells a value slot key row → Spells a other slot key row

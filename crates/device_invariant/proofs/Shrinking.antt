@@ -1,20 +1,18 @@
 -- Moves under which no word of the slots is stored.
-use Rattle.std.proofs.Common.{◌≡◌, ◌≢◌, ◌⊎◌, inl, inr, ℕ, suc, zero, ◌-◌, ◌+◌, ◌*◌, ◌/◌, ◌<◌, ◌≤◌, Bool, true, false, cond, List, [], ◌∷◌, ◌++◌, take, length, refl, sym, ◌∙◌, ap, subst, arith, true≢false}
-use Rattle.std.specs.Prelude.{Option, Some, None, slice_get}
-use Rattle.base.specs.Layout.{Layout, slot_start, slot_words, total_words}
-use Rattle.base.specs.Images.{place_of}
-use Rattle.base.specs.Machine.{State, Hand, Drawn}
-use Rattle.pmem.specs.Device.{Device, stored, flushed, fenced, failed}
-use Rattle.pmem.specs.Words.{value_of, OnlyShrinks}
-use Rattle.pmem.proofs.Changes.{stored-shrinks, flushed-shrinks, fenced-shrinks, failed-shrinks}
+use Rattle.std.proofs.Common.{◌≡◌, inl, inr, ℕ, ◌-◌, ◌<◌, List, [], ◌∷◌, take, sym, subst, arith}
+use Rattle.std.specs.Prelude.{Option, Some, None}
+use Rattle.base.specs.Layout.{Layout, slot_words}
+use Rattle.base.specs.Machine.{State, Hand}
+use Rattle.pmem.specs.Device.{Device}
+use Rattle.pmem.specs.Words.{OnlyShrinks}
 use Rattle.log_area.specs.Writings.{IsNextRecord}
 use Rattle.log_area.proofs.Kept.{KeepsLog, holds_record_kept, replacing_kept}
 use Rattle.state_invariant.specs.Shown.{word_of}
-use Rattle.device_invariant.specs.Words.{EachSurvivor}
-use Rattle.device_invariant.specs.Slots.{Counts, IsDead, IsLive, SlotHolds, SlotsHold}
+use Rattle.device_invariant.specs.Slots.{Counts, IsDead, SlotHolds, SlotsHold}
 use Rattle.device_invariant.specs.Sweeps.{IsSweeping}
-use Rattle.device_invariant.specs.Log.{Line, IsLineReady, AreReady, IsBatchSettled, IsFlushing, IsRecording, HoldsHand, writing_at, lines_in}
-use Rattle.device_invariant.proofs.Words.{within-slot, each-shrinks, holds-shrinks}
+use Rattle.device_invariant.specs.Log.{Line, IsLineReady, AreReady, IsBatchSettled, HoldsHand, writing_at, lines_in}
+use Rattle.pmem.proofs.Changes.{each-shrinks, settled_at-shrinks}
+use Rattle.device_invariant.proofs.Words.{within-slot}
 
 -- each word of the slot only shrinks
 abbrev pub ShrinksSlot : Layout → Device → Device → ℕ → Type 0
@@ -23,13 +21,6 @@ ShrinksSlot a old new slot = (w : ℕ) → w < slot_words a.version → OnlyShri
 abbrev pub ShrinksSlots : Layout → Device → Device → Type 0
 ShrinksSlots a old new = (slot : ℕ) → slot < a.slots → ShrinksSlot a old new slot
 
--- the log area's word for it
-pub is_kept : {old new : Device} {word : ℕ} → OnlyShrinks old new word → OnlyShrinks old new word
-is_kept s = record { value = s.value; survivors = s.survives; settled = s.settled; ready = s.ready }
-
-pub shrinks-kept : {old new : Device} {word : ℕ} → OnlyShrinks old new word → OnlyShrinks old new word
-shrinks-kept s = record { value = s.value; survives = s.survivors; settled = s.settled; ready = s.ready }
-
 -- ---- the slots
 
 pub slot-shrink : (q : State) (old new : Device) (slot : ℕ) → ShrinksSlot q.layout old new slot → SlotHolds q old slot → SlotHolds q new slot
@@ -37,9 +28,9 @@ slot-shrink q old new slot shrinks h = record {
   begin_before = each-shrinks first (λ x lt. lt) h.begin_before;
   end_before = each-shrinks second (λ x lt. lt) h.end_before;
   free = λ held. dead (h.free held);
-  own = λ n key held. holds-shrinks first (h.own n key held);
+  own = λ n key held. settled_at-shrinks first (h.own n key held);
   drawn = λ t key d held found. each-shrinks first (λ x is. is) (h.drawn t key d held found);
-  unstamped = λ t key d held found not_stamped up. holds-shrinks first (h.unstamped t key d held found not_stamped up);
+  unstamped = λ t key d held found not_stamped up. settled_at-shrinks first (h.unstamped t key d held found not_stamped up);
   newest = λ key held.
       let live = h.newest key held in
       record {

@@ -1,34 +1,30 @@
 -- A drawn commit stamps a write: its timestamp is stored in the begin of its version, and in the end of the version that it replaces.
-use Rattle.std.proofs.Common.{◌≡◌, ◌≢◌, ◌⊎◌, inl, inr, ℕ, ◌+◌, ◌<◌, ◌≤◌, Bool, true, false, cond, not, ◌&&◌, ◌||◌, List, [], ◌∷◌, take, refl, sym, ◌∙◌, ap, subst, arith, true≢false, nat_eq}
-use Rattle.std.specs.Prelude.{Option, Some, None, IsTrue, is_some, unwrap_or, length}
-use Rattle.std.specs.List.{list_any, find}
-use Rattle.std.proofs.lemmas.Bool.{and_from, and_parts, and_left, and_right, eq-eqb, eqb-true, or_left, or_right, cases_eq, ne_eqb}
+use Rattle.std.proofs.Common.{◌≡◌, ◌≢◌, ◌⊎◌, inl, inr, ℕ, ◌<◌, Bool, true, false, cond, List, [], refl, sym, ◌∙◌, ap, subst, arith, true≢false, nat_eq}
+use Rattle.std.specs.Prelude.{Option, Some, None, IsTrue, unwrap_or, length}
+use Rattle.std.specs.List.{list_any}
+use Rattle.std.proofs.lemmas.Bool.{and_left, and_right, eq-eqb, ne_eqb}
 use Rattle.base.specs.declared.key.Key.{Key}
-use Rattle.base.specs.Keys.{key_eq, lookup_key}
-use Rattle.base.specs.Commits.{Writes, Commit, last_writer, writes_key}
-use Rattle.base.specs.Layout.{Layout, slot_words}
+use Rattle.base.specs.Commits.{last_writer, writes_key}
+use Rattle.base.specs.Layout.{slot_words}
 use Rattle.base.specs.Records.{is_in, is_committed}
 use Rattle.base.specs.Stands.{has_timestamp}
-use Rattle.base.specs.Machine.{State, Hand, Drawn, Version, Writer, BySession, ByCommit, drawn_at}
-use Rattle.pmem.specs.Device.{Device, stored}
-use Rattle.pmem.specs.Words.{Survives, value_of, OnlyShrinks, IsSettledAt}
+use Rattle.base.specs.Machine.{State, Hand, Drawn, Version, BySession, ByCommit, drawn_at}
+use Rattle.pmem.specs.Words.{Survives, value_of, OnlyShrinks}
 use Rattle.pmem.proofs.Changes.{stored-survives, stored-value}
 use Rattle.state_invariant.specs.Kept.{Origin, Keeps, KeepsHand, version_by, wanted}
-use Rattle.state_invariant.specs.Shown.{word_of, IsNever, HasBegun, is_drawn_on, is_key_stamped, SlotsShow, SlotShows, ShowsAs, class_of_version, class_of_drawn, Begun, Waiting, Newest, Replaced, IsWaiting, IsNewest}
+use Rattle.state_invariant.specs.Shown.{word_of, HasBegun, is_drawn_on, is_key_stamped, SlotShows, ShowsAs, class_of_version, class_of_drawn, Begun, Waiting, Newest, Replaced, IsWaiting, IsNewest}
 use Rattle.state_invariant.proofs.Lists.{find-any}
 use Rattle.state_invariant.proofs.Covering.{no_gap-above, batch-drawn}
-use Rattle.device_invariant.specs.Words.{EachSurvivor}
 use Rattle.device_invariant.specs.Slots.{newest_of, NeverCounts, IsLive, SlotHolds}
 use Rattle.device_invariant.specs.Log.{is_own, is_ended}
-use Rattle.device_invariant.specs.Upholds.{HoldsState, Upholds}
 use Rattle.device_invariant.specs.Laws.{StampsBegin, StampsEnd}
-use Rattle.device_invariant.proofs.Words.{within-slot, each-shrinks, each-weaken}
+use Rattle.pmem.proofs.Changes.{each-shrinks}
+use Rattle.device_invariant.proofs.Words.{within-slot}
 use Rattle.device_invariant.proofs.Batches.{IsLastOf, WritesNone, last-of}
 use Rattle.device_invariant.proofs.Says.{drawn-bounds, last-undrawn, says-newest, wanted-newest}
 use Rattle.device_invariant.proofs.Stamps.{all-stamped, stamped-writes, writes-held}
 use Rattle.device_invariant.proofs.Covering.{own-of, one-of}
 use Rattle.device_invariant.proofs.Storing.{IsUntouched, rest-stored, holds-stored}
-use Rattle.device_invariant.proofs.Showing.{shows-same}
 use Rattle.device_invariant.proofs.Laws.{shows-but_one}
 
 -- ---- what a stamp meets

@@ -1,28 +1,25 @@
 -- What a store into one slot makes of what a device holds.
-use Rattle.std.proofs.Common.{◌≡◌, ◌≢◌, ◌⊎◌, inl, inr, ℕ, suc, zero, ◌+◌, ◌-◌, ◌*◌, ◌<◌, ◌≤◌, Bool, true, false, cond, List, [], ◌∷◌, ◌++◌, take, refl, sym, ◌∙◌, ap, subst, arith, true≢false}
-use Rattle.std.specs.Prelude.{Option, Some, None, IsTrue, nat_le, ◌&&◌}
-use Rattle.std.specs.List.{flat_map, range_with_len, list_all}
-use Rattle.std.proofs.lemmas.Bool.{cases_eq, and_parts, leb-true, lt-leb}
-use Rattle.base.specs.declared.key.Key.{Key}
-use Rattle.base.specs.declared.gap.Gap.{Gap}
-use Rattle.base.specs.Commits.{Commit, last_writer}
-use Rattle.base.specs.Layout.{Layout, slot_start, slot_words}
+use Rattle.std.proofs.Common.{◌≡◌, ◌≢◌, ◌⊎◌, inl, inr, ℕ, suc, zero, ◌+◌, ◌-◌, ◌<◌, Bool, true, false, cond, List, [], ◌∷◌, ◌++◌, take, refl, sym, ◌∙◌, ap, subst, arith, true≢false}
+use Rattle.std.specs.Prelude.{Option, Some, None}
+use Rattle.std.specs.List.{flat_map, range_with_len}
+use Rattle.std.proofs.lemmas.Bool.{cases_eq}
+use Rattle.base.specs.Commits.{Commit}
+use Rattle.base.specs.Layout.{Layout, slot_words}
 use Rattle.base.specs.Records.{is_in}
-use Rattle.base.specs.Machine.{State, Hand, Drawn, Version, Writer, BySession, ByCommit, drawn_at, version_lines}
+use Rattle.base.specs.Machine.{State, Hand, version_lines}
 use Rattle.pmem.specs.Device.{Device, stored}
-use Rattle.pmem.specs.Words.{Survives, value_of, OnlyShrinks, IsSettledAt}
-use Rattle.pmem.proofs.Changes.{stored-shrinks, stored-survives, stored-value}
-use Rattle.log_area.specs.Writings.{IsNextRecord, committer}
+use Rattle.pmem.specs.Words.{Survives, OnlyShrinks, EachSurvivor}
+use Rattle.pmem.proofs.Changes.{stored-shrinks, stored-survives}
+use Rattle.base.specs.Actors.{committer}
 use Rattle.log_area.proofs.Kept.{KeepsLog, keeps_log-stored, holds_record_kept, replacing_kept}
-use Rattle.state_invariant.specs.Kept.{version_by}
-use Rattle.state_invariant.specs.Shown.{word_of, is_drawn_on, is_key_stamped}
-use Rattle.device_invariant.specs.Words.{EachSurvivor}
-use Rattle.device_invariant.specs.Slots.{newest_of, NeverCounts, Counts, IsDead, IsLive, SlotHolds, SlotsHold}
+use Rattle.state_invariant.specs.Shown.{word_of}
+use Rattle.device_invariant.specs.Slots.{SlotHolds, SlotsHold}
 use Rattle.device_invariant.specs.Sweeps.{IsSweeping}
-use Rattle.device_invariant.specs.Log.{Line, line_at, lines_at, lines_in, is_own, is_ended, IsLineReady, AreReady, IsBatchSettled, IsFlushing, IsRecording, HoldsHand, writing_at}
+use Rattle.device_invariant.specs.Log.{Line, line_at, lines_at, lines_in, is_own, is_ended, AreReady, HoldsHand, writing_at}
 use Rattle.device_invariant.specs.Upholds.{HoldsState}
-use Rattle.device_invariant.proofs.Words.{within-slot, some_words, words-apart, words-apart_within, each-shrinks, holds-shrinks, each-settled, each-weaken}
-use Rattle.device_invariant.proofs.Shrinking.{ShrinksSlot, ShrinksSlots, slot-shrink, follows-shrink}
+use Rattle.pmem.proofs.Changes.{each-shrinks}
+use Rattle.device_invariant.proofs.Words.{within-slot, words-apart, words-apart_within}
+use Rattle.device_invariant.proofs.Shrinking.{ShrinksSlot, slot-shrink, follows-shrink}
 
 -- each slot but one only shrinks
 abbrev pub ShrinksOthers : Layout → Device → Device → ℕ → Type 0

@@ -1,38 +1,27 @@
 -- What each tick of a cycle makes of what a device holds.
-use Rattle.std.proofs.Common.{◌≡◌, ◌≢◌, ◌⊎◌, inl, inr, ℕ, suc, zero, ◌+◌, ◌-◌, ◌*◌, ◌/◌, ◌^◌, ◌<◌, ◌≤◌, Bool, true, false, cond, List, [], ◌∷◌, ◌++◌, take, length, refl, sym, ◌∙◌, ap, subst, arith, true≢false}
-use Rattle.std.specs.Prelude.{Option, Some, None, slice_get, nat_eq, nat_lt, IsTrue}
+use Rattle.std.proofs.Common.{◌≡◌, inl, inr, ℕ, suc, zero, ◌+◌, ◌-◌, ◌*◌, ◌/◌, ◌^◌, ◌<◌, ◌≤◌, Bool, true, false, cond, List, [], ◌∷◌, ◌++◌, take, length, refl, sym, ◌∙◌, ap, subst, arith, true≢false}
+use Rattle.std.specs.Prelude.{Option, Some, None, slice_get, nat_eq}
 use Rattle.std.specs.List.{flat_map, range_with_len}
-use Rattle.std.proofs.lemmas.Bool.{ltb-false, cases_lt, cases_Bool}
+use Rattle.std.proofs.lemmas.Bool.{cases_lt}
 use Rattle.std.proofs.lemmas.List.{take_all}
-use Rattle.base.specs.declared.gap.Gap.{Gap}
 use Rattle.base.specs.Commits.{Commit}
-use Rattle.base.specs.Layout.{Layout, slot_start, slot_words, total_words, is_in_limits}
-use Rattle.base.specs.Records.{is_in, is_well_formed}
-use Rattle.base.specs.Images.{place_of}
-use Rattle.base.specs.Machine.{State, Hand, Drawn, Version, version_lines, lines_of, state_covered}
-use Rattle.pmem.specs.Device.{Device, IsOrderly, stored, flushed, fenced, failed}
-use Rattle.pmem.specs.Words.{value_of, OnlyShrinks, IsReady, IsSettled}
-use Rattle.pmem.specs.Trace.{applied}
-use Rattle.pmem.proofs.Changes.{stored-shrinks, flushed-shrinks, fenced-shrinks, failed-shrinks, flushed-ready, fenced-settles}
-use Rattle.log_area.specs.declared.stage.WritingStage.{WritingStage}
-use Rattle.log_area.specs.declared.stage.WritingStage.TheVariants.{StoreBody, FlushBody, FenceBody, StoreGate, FlushGate, FenceGate, Done}
-use Rattle.log_area.specs.Stages.{IsStage, next_stage, operations_before}
-use Rattle.log_area.specs.Rulings.{HoldsRecord, IsRecordFor}
-use Rattle.log_area.specs.Writings.{Progress, begun, advanced, start_of, operation_of, IsReplacing, IsOutside, IsNextRecord, committer}
+use Rattle.base.specs.Layout.{Layout, slot_words, total_words}
+use Rattle.base.specs.Machine.{State, Hand, version_lines, lines_of}
+use Rattle.pmem.specs.Device.{Device, IsOrderly, flushed, fenced, failed}
+use Rattle.pmem.specs.Words.{OnlyShrinks, IsReady, IsSettled}
+use Rattle.pmem.proofs.Changes.{flushed-shrinks, fenced-shrinks, failed-shrinks, flushed-ready, fenced-settles}
+use Rattle.log_area.specs.declared.stage.WritingStage.TheVariants.{StoreBody}
+use Rattle.base.specs.Actors.{committer}
 use Rattle.log_area.proofs.Kept.{KeepsLog, keeps_log-flushed, keeps_log-fenced, keeps_log-failed}
-use Rattle.log_area.proofs.Replacing.{replacing_begun, replacing_next, replacing_done}
-use Rattle.log_area.proofs.Rulings.{place_below}
-use Rattle.log_area.proofs.Ticks.{outside_kept, same_words}
+use Rattle.log_area.proofs.Replacing.{replacing_begun}
 use Rattle.state_invariant.specs.Kept.{Origin, Keeps, KeepsHand}
-use Rattle.state_invariant.specs.Shown.{word_of, SlotsShow}
-use Rattle.device_invariant.specs.Words.{EachSurvivor}
-use Rattle.device_invariant.specs.Slots.{IsDead, IsLive, SlotHolds, SlotsHold}
+use Rattle.state_invariant.specs.Shown.{word_of}
+use Rattle.device_invariant.specs.Slots.{SlotHolds, SlotsHold}
 use Rattle.device_invariant.specs.Sweeps.{IsSweeping}
-use Rattle.device_invariant.specs.Log.{Line, line_at, line_number, lines_at, lines_in, is_own, is_ended, IsLineReady, AreReady, IsSlotSettled, IsBatchSettled, IsFlushing, IsRecording, HoldsHand, HoldsLog, writing_at}
+use Rattle.device_invariant.specs.Log.{Line, line_at, line_number, lines_at, lines_in, is_own, is_ended, IsLineReady, AreReady, IsBatchSettled, IsFlushing, IsRecording, HoldsHand}
 use Rattle.device_invariant.specs.Upholds.{HoldsState}
-use Rattle.device_invariant.proofs.Words.{some_words, word-within, each-weaken}
-use Rattle.device_invariant.proofs.Shrinking.{ShrinksSlots, shrinks-kept, slots-shrink, sweeping-shrink, ready-shrink, follows-shrink, hand-shrink, settled-shrink}
-use Rattle.device_invariant.proofs.Covering.{slots-covered}
+use Rattle.device_invariant.proofs.Words.{some_words, word-within}
+use Rattle.device_invariant.proofs.Shrinking.{slots-shrink, sweeping-shrink, hand-shrink}
 
 -- ---- operations that store nothing
 

@@ -1,20 +1,22 @@
 -- What a device that upholds a plain state promises, and which moves keep it.
-use Rattle.std.specs.Prelude.{◌≡◌, ◌≢◌, ◌⊎◌, ℕ, ◌+◌, ◌^◌, ◌<◌, ◌≤◌, true, false, length, slice_get, slice_index, List, [], Option, Some, None, IsTrue}
+use Rattle.std.specs.Prelude.{◌≡◌, ◌≢◌, ℕ, ◌+◌, ◌^◌, ◌<◌, ◌≤◌, true, false, length, slice_get, slice_index, List, [], Option, Some, None}
 use Rattle.base.specs.declared.key.Key.{Key}
 use Rattle.base.specs.Layout.{Layout, slot_words}
-use Rattle.base.specs.Records.{Record, is_in, is_committed}
+use Rattle.base.specs.Records.{Record, is_committed}
 use Rattle.base.specs.Images.{Image, opening_fault}
 use Rattle.base.specs.Openings.{OpensAs}
 use Rattle.base.specs.Stands.{Stands}
 use Rattle.base.specs.Commits.{Commit, writes_key}
 use Rattle.base.specs.Machine.{State, Session, Drawn, Hand, Version, BySession, ByCommit, drawn_at, lines_of, state_covered, StandsAt}
-use Rattle.pmem.specs.Device.{Device, IsOrderly, MayLeave, value_of, image_of, stored, flushed, fenced, failed}
+use Rattle.pmem.specs.Device.{Device, IsOrderly, MayLeave, stored, flushed, fenced, failed}
+use Rattle.pmem.specs.Words.{value_of, image_of, IsSettledAt}
 use Rattle.pmem.specs.Trace.{applied}
 use Rattle.log_area.specs.declared.stage.WritingStage.{WritingStage}
 use Rattle.log_area.specs.declared.stage.WritingStage.TheVariants.{FenceGate, Done}
 use Rattle.log_area.specs.Stages.{IsStage, next_stage, operations_before}
 use Rattle.log_area.specs.Rulings.{HoldsRecord}
-use Rattle.log_area.specs.Writings.{operation_of, committer}
+use Rattle.base.specs.Actors.{committer}
+use Rattle.log_area.specs.Writings.{operation_of}
 use Rattle.state_invariant.specs.Kept.{Origin, origin_of, IsInUse, Keeps, KeepsHand, version_by}
 use Rattle.state_invariant.specs.Shown.{word_of, is_key_stamped, SlotsShow, ReadsAs}
 use Rattle.device_invariant.specs.Slots.{newest_of, SlotsHold}
@@ -127,7 +129,7 @@ StampsEnd =
 pub data ChangesHolder (q : State) (held : ℕ → Option Version) (device : Device) (slot : ℕ) : Type 0 where
   stays : held slot ≡ q.held slot → ChangesHolder q held device slot
   given_back : (n : ℕ) (key : Key) → q.held slot ≡ Some (version_by key (BySession n)) → held slot ≡ None → ChangesHolder q held device slot
-  taken : (n : ℕ) (key : Key) → q.held slot ≡ None → held slot ≡ Some (version_by key (BySession n)) → Holds device (word_of q.layout slot 0) 0 → ChangesHolder q held device slot
+  taken : (n : ℕ) (key : Key) → q.held slot ≡ None → held slot ≡ Some (version_by key (BySession n)) → IsSettledAt device (word_of q.layout slot 0) 0 → ChangesHolder q held device slot
 
 -- sessions come and go, give slots back and take them: what may survive is then as the state says that they lead to
 abbrev pub HoldersKeep : Type 0

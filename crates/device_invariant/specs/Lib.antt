@@ -1,4 +1,3 @@
-pub mod Words
 pub mod Slots
 pub mod Sweeps
 pub mod Log

@@ -4,7 +4,7 @@ use Rattle.base.specs.Records.{is_in}
 use Rattle.base.specs.Machine.{State}
 use Rattle.pmem.specs.Device.{Device}
 use Rattle.state_invariant.specs.Shown.{word_of}
-use Rattle.device_invariant.specs.Words.{EachSurvivor}
+use Rattle.pmem.specs.Words.{EachSurvivor}
 
 -- no crash leaves a timestamp of a standing gap in the word
 abbrev pub IsOutOfGaps : State → Device → ℕ → Type 0
