@@ -9,3 +9,4 @@ pub mod Staying
 pub mod Standing
 pub mod Puts
 pub mod Settling
+pub mod Reading

@@ -150,7 +150,7 @@ impl<J: Naming> Model for Front<J> {
 
 impl<J: Naming> Front<J> {
     /// A copy.
-    pub fn again(&self) -> Front<J>
+    pub(crate) fn again(&self) -> Front<J>
         ensures { result ≡ self.now }
     {
         Front {
@@ -161,7 +161,7 @@ impl<J: Naming> Front<J> {
     }
 
     /// Whether the other one begins with it. If not, it is the longer one, and begins with the other.
-    pub fn begins(&self, other: &Front<J>) -> bool
+    pub(crate) fn begins(&self, other: &Front<J>) -> bool
         ensures prefix { MatchBool result (IsPrefix self.now other.now) (IsPrefix other.now self.now) }
         ensures lists { MatchBool result (Begins (list_of self.now) (list_of other.now)) (Begins (list_of other.now) (list_of self.now)) }
     {
@@ -171,21 +171,21 @@ impl<J: Naming> Front<J> {
     }
 
     /// Whether the other one is it and one change more.
-    pub fn is_next(&self, other: &Front<J>) -> bool
+    pub(crate) fn is_next(&self, other: &Front<J>) -> bool
         ensures { OnTrue result (IsPrefix self.now other.now × (length other.now ≡ length self.now + 1)) }
     {
         self.begins(other) && other.count - self.count == 1
     }
 
     /// The list is well formed, and has begun.
-    pub fn is_published(&self)
+    pub(crate) fn is_published(&self)
         ensures { IsPublished (list_of self.now) × (0 < length self.now) }
     {
         let _count = self.count;
     }
 
     /// It with one change more, or none where the history is longer already.
-    pub fn then(&self, book: &Book<J>, change: &Change) -> Option<Front<J>>
+    pub(crate) fn then(&self, book: &Book<J>, change: &Change) -> Option<Front<J>>
         requires legal { IsPublished (list_of (self.now ++ change.now ∷ [])) }
         ensures { IfSome result (λ front. front ≡ self.now ++ change.now ∷ []) }
     {

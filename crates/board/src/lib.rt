@@ -10,7 +10,11 @@ mod rows;
 pub mod shelf;
 pub mod token;
 
-pub use board::Board;
+pub use board::{Board, Desk, Kept};
 pub use history::{History, Naming};
 pub use reader::Reader;
+pub use shelf::{Shelf, Step};
 pub use token::Token;
+
+#[cfg(test)]
+mod tests;

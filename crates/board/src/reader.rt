@@ -25,30 +25,25 @@ impl<J: Naming> Model for Reader<J> {
 }
 
 impl<J: Naming> Reader<J> {
-    ghost use Rattle.std.specs.Prelude.{◌≡◌, ◌⊎◌, Ok};
-    ghost use Rattle.board.specs.Views.{Saw, SawNothing, answer};
+    ghost use Rattle.std.specs.Prelude.{◌≡◌, ◌⊎◌};
+    ghost use Rattle.board.specs.Views.{Saw, SawNothing, answer, bounds};
     ghost use Rattle.board.specs.Lists.{Begins};
-    ghost use Rattle.base.specs.Published.{last_stamp};
 
     /// The lowest and the last stamp that may be read.
-    #[tactic(auto, using(crate::proofs::Rules::begins_self))]
     pub fn at(&mut self) -> Result<(u64, u64), Fault>
-        ensures { Saw self.old self.new result (λ list. Ok (list.floor, last_stamp list)) ⊎ SawNothing self.old self.new result }
+        ensures { Saw self.old self.new result bounds ⊎ SawNothing self.old self.new result }
     {
         let Some(guard) = self.handle.enter() else {
             return Err(Fault::Shut);
         };
         let shelf: &Shelf<J> = &*guard;
-        if !self.front.begins(shelf.front()) {
+        if !see(&mut self.front, shelf) {
             return Err(Fault::Shut);
         }
-        self.front.is_published();
-        self.front = shelf.front().again();
         Ok((shelf.floor(), shelf.last()))
     }
 
     /// The row of the key after the batches up to the stamp.
-    #[tactic(auto, using(crate::proofs::Rules::begins_self))]
     pub fn read(&mut self, stamp: u64, key: Key) -> Result<Option<Row>, Fault>
         ensures { Saw self.old self.new result (λ list. answer list stamp key) ⊎ SawNothing self.old self.new result }
     {
@@ -56,11 +51,9 @@ impl<J: Naming> Reader<J> {
             return Err(Fault::Shut);
         };
         let shelf: &Shelf<J> = &*guard;
-        if !self.front.begins(shelf.front()) {
+        if !see(&mut self.front, shelf) {
             return Err(Fault::Shut);
         }
-        self.front.is_published();
-        self.front = shelf.front().again();
         shelf.read(stamp, &key)
     }
 
@@ -77,4 +70,20 @@ impl<J: Naming> Reader<J> {
             self.front = token.front.again();
         }
     }
+}
+
+ghost use Rattle.std.specs.Prelude.{◌≡◌, MatchBool};
+ghost use Rattle.board.specs.Changes.{list_of};
+ghost use Rattle.board.specs.Lists.{IsPublished, Begins};
+
+// Moves on to what the shelf shows, where that goes on from what was seen.
+fn see<J: Naming>(front: &mut Front<J>, shelf: &Shelf<J>) -> bool
+    ensures { MatchBool result ((front.new ≡ shelf.now) × IsPublished (list_of shelf.now) × Begins (list_of front.old) (list_of shelf.now)) (front.new ≡ front.old) }
+{
+    if !front.begins(shelf.front()) {
+        return false;
+    }
+    *front = shelf.front().again();
+    front.is_published();
+    true
 }

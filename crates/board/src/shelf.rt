@@ -85,7 +85,7 @@ impl<J: Naming> Shelf<J> {
     ghost use Rattle.board.specs.Cells.{after_batches};
 
     /// The rows alone, at their stamp.
-    pub fn new(
+    pub(crate) fn new(
         alloc: Global,
         front: Front<J>,
         stamp: u64,
@@ -137,21 +137,21 @@ impl<J: Naming> Shelf<J> {
     }
 
     /// The history that it was made by.
-    pub fn front(&self) -> &Front<J>
+    pub(crate) fn front(&self) -> &Front<J>
         ensures front { result.now ≡ self.now }
     {
         &self.front
     }
 
     /// The lowest stamp that may be read.
-    pub fn floor(&self) -> u64
+    pub(crate) fn floor(&self) -> u64
         ensures { result ≡ (list_of self.now).floor }
     {
         self.floor
     }
 
     /// The timestamp persisted at the last stamp.
-    pub fn last_persisted(&self) -> Ts
+    pub(crate) fn last_persisted(&self) -> Ts
         ensures { result ≡ last_persisted (list_of self.now) }
     {
         match self.batches.last() {
@@ -161,7 +161,7 @@ impl<J: Naming> Shelf<J> {
     }
 
     /// The row of the key after the batches up to the stamp, or why there is no answer.
-    pub fn read(&self, stamp: u64, key: &Key) -> Result<Option<Row>, Fault>
+    pub(crate) fn read(&self, stamp: u64, key: &Key) -> Result<Option<Row>, Fault>
         ensures { result ≡ answer (list_of self.now) stamp key.now }
     {
         if stamp < self.floor {
@@ -174,7 +174,7 @@ impl<J: Naming> Shelf<J> {
     }
 
     /// The last stamp that may be read.
-    pub fn last(&self) -> u64
+    pub(crate) fn last(&self) -> u64
         ensures { result ≡ last_stamp (list_of self.now) }
     {
         match self.batches.last() {
@@ -184,7 +184,7 @@ impl<J: Naming> Shelf<J> {
     }
 
     /// The row of the key after the batches up to the stamp.
-    pub fn row(&self, stamp: u64, key: &Key) -> Option<Row>
+    pub(crate) fn row(&self, stamp: u64, key: &Key) -> Option<Row>
         requires { (list_of self.now).floor ≤ stamp }
         ensures { result ≡ row_at (list_of self.now) stamp key.now }
     {
@@ -196,6 +196,7 @@ ghost use Rattle.std.specs.Prelude.{◌≡◌, Option, IfOk};
 ghost use Rattle.base.specs.Keys.{lookup_key};
 ghost use Rattle.board.specs.Cells.{after_commits, after_batches};
 
+// What a commit writes under the key.
 fn written(writes: &[(Key, Option<Row>)], key: &Key) -> Option<Option<Row>>
     ensures { result ≡ lookup_key writes.now key.now }
 {
@@ -207,6 +208,7 @@ fn written(writes: &[(Key, Option<Row>)], key: &Key) -> Option<Option<Row>>
     None
 }
 
+// The row after the commits.
 fn overlaid(row: Option<Row>, commits: &[Commit], key: &Key) -> Option<Row>
     ensures { result ≡ after_commits key.now row commits.now }
 {
@@ -219,6 +221,7 @@ fn overlaid(row: Option<Row>, commits: &[Commit], key: &Key) -> Option<Row>
     row
 }
 
+// The row after the batches up to the stamp.
 fn newest(row: Option<Row>, batches: &[Batch], stamp: u64, key: &Key) -> Option<Row>
     ensures { result ≡ after_batches key.now stamp row batches.now }
 {
@@ -231,6 +234,7 @@ fn newest(row: Option<Row>, batches: &[Batch], stamp: u64, key: &Key) -> Option<
     row
 }
 
+// A copy of the batch.
 fn copy_of(alloc: Global, batch: &Batch) -> Result<Batch, AllocError>
     ensures { IfOk result (λ copy. copy ≡ batch.now) }
 {

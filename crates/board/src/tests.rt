@@ -1,0 +1,317 @@
+ghost use Rattle.std.specs.Prelude.{◌≡◌, [], ◌∷◌, map, IfOk};
+
+use crate::{Board, History, Naming, Reader, Token};
+use base::batch::{Batch, Commit};
+use base::fault::Fault;
+use base::key::Key;
+use base::row::Row;
+use std::alloc::{AllocError, Global};
+use std::marker::Brand;
+use std::sync::atomic::{AtomicBool, Ordering};
+use std::sync::{Mutex, Wait};
+use std::test::*;
+use std::thread::{Threads, join, map_vec, yield_now};
+
+type Answer = Result<Option<Row>, Fault>;
+
+const KEY: Key = Key { table: 1, key: 7 };
+
+// A commit that writes the row under the key.
+fn commit(alloc: Global, timestamp: u64, row: Row) -> Result<Vec<Commit>, AllocError>
+    ensures { IfOk result (λ commits. map (λ commit. commit.timestamp) commits.items ≡ timestamp ∷ []) }
+{
+    let writes = Vec::from_array(alloc, [(KEY, Some(row))])?;
+    let commits = Vec::from_array(alloc, [Commit::new(timestamp, writes)])?;
+    Ok(commits)
+}
+
+// Publishes one more commit.
+fn add<J: Naming, R: Wait + Drop>(
+    alloc: Global,
+    board: &mut Board<J, R>,
+    row: Row,
+) -> Result<(), Fault> {
+    let (stamp, persisted) = board.last();
+    if stamp > 10000 || persisted > 10000 {
+        return Err(Fault::TimestampsOut);
+    }
+    let Ok(commits) = commit(alloc, persisted + 1, row) else {
+        return Err(Fault::OutOfMemory);
+    };
+    let batch = Batch::new(stamp, stamp + 1, persisted + 1, commits);
+    board.publish(batch).map_err(|refused| refused.0)
+}
+
+fn answers<J: Naming>(reader: &mut Reader<J>) -> [Answer; 4] {
+    [
+        reader.read(3, KEY),
+        reader.read(2, KEY),
+        reader.read(1, KEY),
+        reader.read(4, KEY),
+    ]
+}
+
+#[derive(Drop)]
+struct OneCommit {
+    stamp: u64,
+    covers: (bool, bool),
+    before: [Answer; 4],
+    after: [Answer; 4],
+}
+
+// What a reader that learns a token answers before and after a prune.
+fn one_commit<J: Naming, R: Wait>(
+    rt: &R,
+    alloc: Global,
+    history: History,
+) -> Result<OneCommit, Fault>
+    requires { history ≡ J.book }
+{
+    let (mut board, mut readers) = Board::<J, &R>::open(rt, alloc, history, 2, 0, &[], 1)?;
+    let reader = &mut readers[0];
+    add(alloc, &mut board, Row::new(&[1])?)?;
+    let token = board.token();
+    reader.learn(&token);
+    let before = answers(reader);
+    board.prune(token.stamp())?;
+    reader.learn(&board.token());
+    Ok(OneCommit {
+        stamp: token.stamp(),
+        covers: (token.covers(1), token.covers(2)),
+        before,
+        after: answers(reader),
+    })
+}
+
+#[test]
+fn board_reads(rt: HostRuntime) -> Result<(), Fail> {
+    let seen = one_commit::<Brand, _>(&rt, rt.alloc(), History::new())?;
+    let row = Row::new(&[1])?;
+    assert_eq!(rt; seen.stamp, 3);
+    assert_eq!(rt; seen.covers, (true, false));
+    assert_eq!(rt;
+        seen.before,
+        [
+            Ok(Some(row)),
+            Ok(None),
+            Err(Fault::TooOld),
+            Err(Fault::NotYet),
+        ]
+    );
+    assert_eq!(rt;
+        seen.after,
+        [
+            Ok(Some(row)),
+            Err(Fault::TooOld),
+            Err(Fault::TooOld),
+            Err(Fault::NotYet),
+        ]
+    );
+    Ok(())
+}
+
+// The row that the commit of a stamp writes.
+fn row_of(stamp: u64) -> Result<Row, Fault> {
+    Row::new(&stamp.to_be_bytes())
+}
+
+// Publishes so many commits, and keeps sixteen stamps readable.
+fn add_many<J: Naming, R: Wait + Drop>(
+    alloc: Global,
+    board: &mut Board<J, R>,
+    count: u64,
+) -> Result<(), Fault> {
+    for _ in 0..count {
+        let (stamp, _) = board.last();
+        add(alloc, board, row_of(stamp.saturating_add(1))?)?;
+        let stamp = board.token().stamp();
+        board.prune(stamp.saturating_sub(15))?;
+    }
+    Ok(())
+}
+
+type Bounds = Result<(u64, u64), Fault>;
+
+// What a reader that learns the last of twenty commits answers.
+fn twenty_commits<J: Naming, R: Wait>(
+    rt: &R,
+    alloc: Global,
+    history: History,
+) -> Result<(Bounds, [Answer; 4]), Fault>
+    requires { history ≡ J.book }
+{
+    let (mut board, mut readers) = Board::<J, &R>::open(rt, alloc, history, 2, 0, &[], 1)?;
+    let reader = &mut readers[0];
+    add_many(alloc, &mut board, 20)?;
+    reader.learn(&board.token());
+    let bounds = reader.at();
+    let rows = [
+        reader.read(6, KEY),
+        reader.read(23, KEY),
+        reader.read(7, KEY),
+        reader.read(22, KEY),
+    ];
+    Ok((bounds, rows))
+}
+
+#[test]
+fn sixteen_stamps_stay_readable(rt: HostRuntime) -> Result<(), Fail> {
+    let (bounds, rows) = twenty_commits::<Brand, _>(&rt, rt.alloc(), History::new())?;
+    assert_eq!(rt; bounds, Ok((7, 22)));
+    let (low, last) = (row_of(7)?, row_of(22)?);
+    assert_eq!(rt;
+        rows,
+        [
+            Err(Fault::TooOld),
+            Err(Fault::NotYet),
+            Ok(Some(low)),
+            Ok(Some(last)),
+        ]
+    );
+    Ok(())
+}
+
+// One thread publishes a commit and hands its token to another, which learns it and reads the commit. Then the board ends.
+fn told_across<J: Naming + Send + Sync, R: Threads + Wait + Sync>(
+    rt: &R,
+    alloc: Global,
+    history: History,
+) -> Result<(Answer, Answer), Fault>
+    requires { history ≡ J.book }
+{
+    let (board, mut readers) = Board::<J, &R>::open(rt, alloc, history, 2, 0, &[], 1)?;
+    let reader = readers.swap_remove(0);
+    let desk = Mutex::new(None);
+    let (board, (mut reader, answer)) = join(
+        rt,
+        || tell(rt, alloc, board, &desk),
+        || learn(rt, reader, &desk),
+    );
+    drop(board);
+    Ok((answer, reader.read(3, KEY)))
+}
+
+// What one thread lays there for another.
+type Desk<J> = Mutex<Option<Result<Token<J>, Fault>>>;
+
+// Publishes a commit, and lays a token on the desk.
+fn tell<J: Naming, R: Wait + Drop>(
+    rt: &impl Wait,
+    alloc: Global,
+    board: Board<J, R>,
+    desk: &Desk<J>,
+) -> Board<J, R> {
+    let mut board = board;
+    let published = Row::new(&[9]).and_then(|row| add(alloc, &mut board, row));
+    *desk.lock(rt) = Some(published.map(|_| board.token()));
+    board
+}
+
+// Waits for the token on the desk, and reads at its stamp.
+fn learn<J: Naming>(rt: &impl Wait, reader: Reader<J>, desk: &Desk<J>) -> (Reader<J>, Answer) {
+    let mut reader = reader;
+    for _ in rt.forever() {
+        match desk.lock(rt).take() {
+            Some(Ok(token)) => {
+                reader.learn(&token);
+                let answer = reader.read(token.stamp(), KEY);
+                return (reader, answer);
+            }
+            Some(Err(fault)) => return (reader, Err(fault)),
+            None => yield_now(),
+        }
+    }
+    unreachable!()
+}
+
+#[test]
+fn another_thread_reads_a_told_commit(rt: HostRuntime) -> Result<(), Fail> {
+    let (answer, ended) = told_across::<Brand, _>(&rt, rt.alloc(), History::new())?;
+    let row = Row::new(&[9])?;
+    assert_eq!(rt; answer, Ok(Some(row)));
+    assert_eq!(rt; ended, Err(Fault::Shut));
+    Ok(())
+}
+
+const STAMPS: u64 = 400;
+
+// What a reader beside a running writer saw.
+#[derive(Clone, Copy)]
+struct Watched {
+    // Answers that were Shut, a row of another stamp, or of an earlier time.
+    wrong: u64,
+    last: u64,
+}
+
+// Publishes many commits while seven readers read. Then the board ends.
+fn busy<J: Naming + Send + Sync, R: Threads + Wait + Sync>(
+    rt: &R,
+    alloc: Global,
+    history: History,
+) -> Result<(Result<(), Fault>, Vec<Watched>), Fault>
+    requires { history ≡ J.book }
+{
+    let (board, readers) = Board::<J, &R>::open(rt, alloc, history, 2, 0, &[], 7)?;
+    let over = AtomicBool::new(false);
+    let ((board, added), watched) = join(
+        rt,
+        || write(alloc, board, &over),
+        || map_vec(rt, readers, &|reader| watch(reader, &over)),
+    );
+    drop(board);
+    let watched = watched.map_err(|_| Fault::OutOfMemory)?;
+    Ok((added, watched))
+}
+
+fn write<J: Naming, R: Wait + Drop>(
+    alloc: Global,
+    board: Board<J, R>,
+    over: &AtomicBool,
+) -> (Board<J, R>, Result<(), Fault>) {
+    let mut board = board;
+    let added = add_many(alloc, &mut board, STAMPS);
+    over.store(true, Ordering::SeqCst);
+    (board, added)
+}
+
+// Reads the last row again and again until the writer is done.
+fn watch<J: Naming>(reader: Reader<J>, over: &AtomicBool) -> Watched {
+    let mut reader = reader;
+    let mut seen = Watched { wrong: 0, last: 0 };
+    for _ in 0..u64::MAX {
+        let done = over.load(Ordering::SeqCst);
+        match reader.at() {
+            Ok((_, last)) if last >= seen.last => {
+                seen.last = last;
+                if !is_row_of(last, reader.read(last, KEY)) {
+                    seen.wrong = seen.wrong.saturating_add(1);
+                }
+            }
+            _ => seen.wrong = seen.wrong.saturating_add(1),
+        }
+        if done {
+            break;
+        }
+    }
+    seen
+}
+
+// Whether it is the row that the commit of this stamp wrote, or the stamp is pruned by now.
+fn is_row_of(stamp: u64, answer: Answer) -> bool {
+    match answer {
+        Ok(None) => stamp == 2,
+        Ok(Some(row)) => row_of(stamp) == Ok(row),
+        Err(fault) => fault == Fault::TooOld,
+    }
+}
+
+#[test]
+fn readers_beside_a_running_writer(rt: HostRuntime) -> Result<(), Fail> {
+    let (added, watched) = busy::<Brand, _>(&rt, rt.alloc(), History::new())?;
+    assert_eq!(rt; added, Ok(()));
+    for seen in &watched {
+        assert_eq!(rt; seen.wrong, 0);
+        assert_eq!(rt; seen.last, 402);
+    }
+    Ok(())
+}
