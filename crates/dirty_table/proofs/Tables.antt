@@ -3,7 +3,7 @@ use Rattle.std.proofs.Common.{◌≡◌, ℕ, suc, ◌+◌, ◌<◌, ◌≤◌, 
 use Rattle.std.specs.List.{list_any, filter, find, dedup, dedup_from, insert, position_or_len}
 use Rattle.std.specs.Option.{option_map}
 use Rattle.std.proofs.lemmas.List.Sums.{prefix_len-le-length}
-use Rattle.std.proofs.lemmas.Bool.{and_parts, and_from, le-leb, leb-true, leb-false, lt-ltb, eqb-true}
+use Rattle.std.proofs.lemmas.Bool.{and_parts, and_from, le-leb, leb-true, leb-false, lt-ltb, eqb-true, eq-eqb, or_left, or_right}
 use Rattle.std.proofs.lemmas.Bool.Decides.{nat_tests}
 use Rattle.base.specs.Records.{are_rising}
 use Rattle.dirty_table.specs.declared.touches.Touch.{Touch}
@@ -336,3 +336,56 @@ added new old first second items place one two absent at is =
     let there : is_touched old new.session new.line ≡ false = subst (λ (ts : List Touch). is_touched ts new.session new.line ≡ false) one absent in
     is ∙ ap (λ (k : ℕ). insert old k new) (at ∙ ap (λ (ts : List Touch). position_or_len (λ (touch : Touch). nat_le new.line touch.line) ts) two)
     ∙ put_in_place new old ∙ sym (ap (λ (b : Bool). cond b old (put_in new old)) there)
+
+-- ---- which lines are met
+
+any-dedup_from : (p : ℕ → Bool) (k : ℕ) (xs : List ℕ) → list_any p (dedup_from nat_eq k xs) ≡ (p k || list_any p xs)
+any-dedup_from p k [] = refl
+any-dedup_from p k (x ∷ xs) = by (nat_eq x k) refl (any-dedup_from p k xs) (any-dedup_from p x xs)
+  where
+    once : (b rest : Bool) → (b || rest) ≡ (b || (b || rest))
+    once true rest = refl
+    once false rest = refl
+
+    by : (b : Bool) → nat_eq x k ≡ b → list_any p (dedup_from nat_eq k xs) ≡ (p k || list_any p xs) → list_any p (dedup_from nat_eq x xs) ≡ (p x || list_any p xs)
+        → list_any p (cond b (dedup_from nat_eq k xs) (k ∷ dedup_from nat_eq x xs)) ≡ (p k || (p x || list_any p xs))
+    by true e here later = here ∙ once (p k) (list_any p xs) ∙ ap (λ (y : ℕ). p k || (p y || list_any p xs)) (sym (eqb-true x k e))
+    by false e here later = ap (λ (b : Bool). p k || b) later
+
+any-dedup : (p : ℕ → Bool) (xs : List ℕ) → list_any p (dedup nat_eq xs) ≡ list_any p xs
+any-dedup p [] = refl
+any-dedup p (x ∷ xs) = any-dedup_from p x xs
+
+any-lines : (p which : ℕ → Bool) (touches : List Touch) → list_any p (map (λ touch. touch.line) (filter (of which) touches)) ≡ list_any (λ touch. which touch.session && p touch.line) touches
+any-lines p which [] = refl
+any-lines p which (touch ∷ touches) = by (which touch.session) (any-lines p which touches)
+  where
+    kept : List Touch
+    kept = filter (of which) touches
+
+    by : (w : Bool) → list_any p (map (λ touch. touch.line) kept) ≡ list_any (λ touch. which touch.session && p touch.line) touches
+        → list_any p (map (λ touch. touch.line) (cond w (touch ∷ kept) kept)) ≡ ((w && p touch.line) || list_any (λ touch. which touch.session && p touch.line) touches)
+    by true rest = ap (λ (b : Bool). p touch.line || b) rest
+    by false rest = rest
+
+-- one of the lines that sessions touch passes where one of them touches a line that does
+pub lines_touched-any : (p which : ℕ → Bool) (touches : List Touch) → list_any p (lines_touched which touches) ≡ list_any (λ touch. which touch.session && p touch.line) touches
+lines_touched-any p which touches = any-dedup p (map (λ touch. touch.line) (filter (of which) touches)) ∙ any-lines p which touches
+
+-- each line of one of the sessions is among them
+pub lines_touched-member : (which : ℕ → Bool) (touches : List Touch) (session line : ℕ) → which session ≡ true → is_touched touches session line ≡ true → list_any (nat_eq line) (lines_touched which touches) ≡ true
+lines_touched-member which touches session line is there = lines_touched-any (nat_eq line) which touches ∙ each touches there
+  where
+    here : (touch : Touch) → is_it touch session line ≡ true → (which touch.session && nat_eq line touch.line) ≡ true
+    here touch e =
+        let parts = and_parts (nat_eq touch.session session) (nat_eq touch.line line) e in
+        and_from _ _ (ap which (eqb-true touch.session session parts.0) ∙ is) (eq-eqb line touch.line (sym (eqb-true touch.line line parts.1)))
+
+    each : (touches : List Touch) → is_touched touches session line ≡ true → list_any (λ touch. which touch.session && nat_eq line touch.line) touches ≡ true
+    each [] there = absurd (cc there)
+    each (touch ∷ touches) there = by (is_it touch session line) refl there (each touches)
+      where
+        by : (b : Bool) → is_it touch session line ≡ b → (b || is_touched touches session line) ≡ true → (is_touched touches session line ≡ true → list_any (λ touch. which touch.session && nat_eq line touch.line) touches ≡ true)
+            → ((which touch.session && nat_eq line touch.line) || list_any (λ touch. which touch.session && nat_eq line touch.line) touches) ≡ true
+        by true e there rest = or_left _ _ (here touch e)
+        by false e there rest = or_right _ _ (rest there)
