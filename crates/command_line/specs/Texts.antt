@@ -2,8 +2,7 @@
 use Rattle.std.specs.Prelude.{ℕ, List, [], ◌∷◌, ◌++◌, codes, decimal}
 use Rattle.std.specs.List.{flat_map}
 use Rattle.base.specs.declared.fault.Fault.{Fault}
-use Rattle.base.specs.declared.fault.Fault.TheVariants as fault
-use Rattle.base.specs.Faults.{number_of}
+use Rattle.base.specs.Faults.{number_of, fault_text}
 use Rattle.base.specs.declared.gap.Gap.{Gap}
 use Rattle.base.specs.declared.key.Key.{Key}
 use Rattle.command_line.specs.Numbers.{Text}
@@ -13,42 +12,10 @@ use Rattle.command_line.specs.declared.command.Survivor.TheVariants.{Oldest, New
 use Rattle.command_line.specs.declared.printed.Printed.{Printed}
 use Rattle.command_line.specs.declared.printed.Printed.TheVariants as printed
 
--- the name of a fault
-abbrev pub fault_name : Fault → Text
-fault_name fault.TooLong = codes "TooLong"
-fault_name fault.BadGeometry = codes "BadGeometry"
-fault_name fault.Device = codes "Device"
-fault_name fault.NotFormatted = codes "NotFormatted"
-fault_name (fault.Damaged place) = codes "Damaged"
-fault_name (fault.Version version) = codes "Version"
-fault_name fault.GapsFull = codes "GapsFull"
-fault_name fault.SlotsOut = codes "SlotsOut"
-fault_name fault.NoSession = codes "NoSession"
-fault_name fault.WrongState = codes "WrongState"
-fault_name fault.SessionsFull = codes "SessionsFull"
-fault_name fault.WriteSetFull = codes "WriteSetFull"
-fault_name (fault.Conflict key) = codes "Conflict"
-fault_name fault.WindowFull = codes "WindowFull"
-fault_name fault.TimestampsOut = codes "TimestampsOut"
-fault_name fault.OutOfMemory = codes "OutOfMemory"
-fault_name fault.Failed = codes "Failed"
-fault_name fault.TooOld = codes "TooOld"
-fault_name fault.NotYet = codes "NotYet"
-fault_name fault.ReadersOut = codes "ReadersOut"
-fault_name fault.NoThread = codes "NoThread"
-fault_name fault.Shut = codes "Shut"
-
--- what a fault names, a space before each
-abbrev pub fault_details : Fault → Text
-fault_details (fault.Damaged place) = codes " " ++ decimal place
-fault_details (fault.Version version) = codes " " ++ decimal version
-fault_details (fault.Conflict key) = codes " " ++ (decimal key.table ++ (codes " " ++ decimal key.key))
-fault_details _ = []
-
 -- a refusal
 abbrev pub refused_text : Fault → Text
 refused_text f =
-    codes "refused " ++ (decimal (number_of f) ++ (codes " " ++ (fault_name f ++ fault_details f)))
+    codes "refused " ++ (decimal (number_of f) ++ (codes " " ++ fault_text f))
 
 -- a gap, after a space
 abbrev pub gap_text : Gap → Text

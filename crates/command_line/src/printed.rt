@@ -2,7 +2,7 @@ ghost use Rattle.std.specs.Prelude.{◌≡◌, ◌++◌, ◌∷◌, [], IfOk, On
 ghost use Rattle.std.specs.String.{string_bytes};
 ghost use Rattle.std.specs.Io.KnownBytes.{Appends};
 ghost use Rattle.command_line.specs.Rows.{row_text};
-ghost use Rattle.command_line.specs.Texts.{entry_text, fault_details, fault_name, gaps_text, refused_text, survivor_text, text_of};
+ghost use Rattle.command_line.specs.Texts.{entry_text, gaps_text, refused_text, survivor_text, text_of};
 
 use crate::command::Survivor;
 use base::fault::Fault;
@@ -184,51 +184,5 @@ fn refused_line(alloc: Global, fault: Fault) -> Result<String, AllocError>
     ensures { IfOk result (λ text. string_bytes text ≡ refused_text fault) }
 {
     let number = fault.number();
-    let name = name(fault);
-    let details = details(alloc, fault)?;
-    format!(in alloc; "refused {number} {name}{details}")
-}
-
-fn details(alloc: Global, fault: Fault) -> Result<String, AllocError>
-    ensures { IfOk result (λ text. string_bytes text ≡ fault_details fault) }
-{
-    match fault {
-        Fault::Damaged(place) => format!(in alloc; " {place}"),
-        Fault::Version(version) => format!(in alloc; " {version}"),
-        Fault::Conflict(key) => {
-            let table = key.table;
-            let number = key.key;
-            format!(in alloc; " {table} {number}")
-        }
-        _ => Ok(String::new(alloc)),
-    }
-}
-
-fn name(fault: Fault) -> &'static str
-    ensures { result.now ≡ fault_name fault }
-{
-    match fault {
-        Fault::TooLong => "TooLong",
-        Fault::BadGeometry => "BadGeometry",
-        Fault::Device => "Device",
-        Fault::NotFormatted => "NotFormatted",
-        Fault::Damaged(_) => "Damaged",
-        Fault::Version(_) => "Version",
-        Fault::GapsFull => "GapsFull",
-        Fault::SlotsOut => "SlotsOut",
-        Fault::NoSession => "NoSession",
-        Fault::WrongState => "WrongState",
-        Fault::SessionsFull => "SessionsFull",
-        Fault::WriteSetFull => "WriteSetFull",
-        Fault::Conflict(_) => "Conflict",
-        Fault::WindowFull => "WindowFull",
-        Fault::TimestampsOut => "TimestampsOut",
-        Fault::OutOfMemory => "OutOfMemory",
-        Fault::Failed => "Failed",
-        Fault::TooOld => "TooOld",
-        Fault::NotYet => "NotYet",
-        Fault::ReadersOut => "ReadersOut",
-        Fault::NoThread => "NoThread",
-        Fault::Shut => "Shut",
-    }
+    format!(in alloc; "refused {number} {fault}")
 }
