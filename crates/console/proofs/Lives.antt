@@ -50,9 +50,13 @@ pub ends-closed : {D : Type 0} {G : Ghosts D} (state : D → Device) (room : Roo
     → HasClosed state room device → MayLeave device image → IsFileOf image file → Shows state room q
     → Ends q None (closed_line gate persisted next ++ 10 ∷ []) file
 ends-closed state room device image file q gate persisted next a b c closes left bytes shows =
-    let may = closes.may_close q shows in
-    (image, bytes, closes.each q shows image left, may,
-    (λ i. closed_line (a (works-so q may) i) ((b ∙ ap (λ (n : ℕ). n - 1) c) i) (c i) ++ 10 ∷ []))
+    let may = closes.may_close q shows in (
+      image,
+      bytes,
+      closes.each q shows image left,
+      may,
+      (λ i. closed_line (a (works-so q may) i) ((b ∙ ap (λ (n : ℕ). n - 1) c) i) (c i) ++ 10 ∷ []),
+    )
 
 opens-history : (image : Image) (history : List Commit) (q : State) → OpensAs image history [] q → q.history ≡ history
 opens-history image history q (gaps, is, e) = ap (λ (p : State). p.history) e
