@@ -8,12 +8,16 @@ use Rattle.base.specs.Keys.{key_eq, lookup_key, is_rising}
 use Rattle.base.specs.Search.{first_below}
 use Rattle.base.specs.Layout.{Layout}
 use Rattle.base.specs.Records.{Record, is_committed}
-use Rattle.base.specs.Images.{Image, IsSound, layout_of, ruling, key_of, row_of, is_live}
+use Rattle.base.specs.Images.{Image, IsSound, layout_of, ruling, key_of, row_of, is_live, is_shown as is_shown_under}
 use Rattle.base.proofs.Histories.{first_below-none, key_eq-true, key_eq-same, no_second}
-use Rattle.recovery.specs.Slots.{is_shown, is_free}
+use Rattle.recovery.specs.Slots.{is_free}
 use Rattle.recovery.specs.Read.{IsRead, rows_below}
 use Rattle.recovery.proofs.LiveRows.{rows-none, rows-live, rows-free}
 use Rattle.image_check.specs.Checked.{Reports, last_at}
+
+-- the ruling record shows the slot
+abbrev is_shown : Image → ℕ → Bool
+is_shown image slot = is_shown_under (ruling image) image slot
 
 -- a slot below the number has the row at the key
 abbrev IsAt : Image → ℕ → Key → List ℕ → Type 0

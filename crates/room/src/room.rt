@@ -58,6 +58,7 @@ impl<D: Pmem + Drop + Send + Sync> Room<D> {
     ghost use Rattle.pmem.specs.Device.{LeavesOnly, IsAtRest, value_of, image_of};
     ghost use Rattle.log_area.specs.Rulings.{Holds, Makes};
     ghost use Rattle.recovery.specs.Opened.{IsRefusal};
+    ghost use Rattle.recovery.specs.Read.{TellsLogFault};
     ghost use Rattle.room.specs.Room.{Shows, device_of, HasNoFailure};
 
     /// Opens a device at rest, and gives it back where it is refused.
@@ -73,6 +74,9 @@ impl<D: Pmem + Drop + Send + Sync> Room<D> {
         ensures may_open { IfOk result (λ room. opening_fault (image_of (D.state device)) ≡ None) }
         ensures no_failure { IfOk result (λ room. HasNoFailure (D.state device) (device_of D.state room)) }
         ensures fault { IfErr result (λ e. IsRefusal (opening_fault (image_of (D.state device))) (D.state device) (D.state e.1) e.0) }
+
+        // What is wrong with its log is told before want of memory.
+        ensures log { IfErr result (λ e. TellsLogFault (image_of (D.state device)) e.0) }
 
         // It makes the operations of one record, and the words of superblock and slots are settled as they were.
         ensures made { IfOk result (λ room. Makes 32 5 2 (D.state device) (device_of D.state room)) }
