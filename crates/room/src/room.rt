@@ -54,6 +54,7 @@ impl<D: Pmem + Drop + Send + Sync> Room<D> {
     ghost use Rattle.base.specs.Openings.{OpensAs, StandsOpening};
     ghost use Rattle.pmem.specs.Words.{LeavesOnly, IsAtRest, value_of, image_of, IsSettledAt, Makes, HasNoFailure};
     ghost use Rattle.recovery.specs.Opened.{IsRefusal};
+    ghost use Rattle.recovery.specs.Read.{TellsLogFault};
     ghost use Rattle.room.specs.Room.{Shows, device_of};
 
     /// Opens a device at rest, and gives it back where it is refused.
@@ -69,6 +70,9 @@ impl<D: Pmem + Drop + Send + Sync> Room<D> {
         ensures may_open { IfOk result (λ room. opening_fault (image_of (D.state device)) ≡ None) }
         ensures no_failure { IfOk result (λ room. HasNoFailure (D.state device) (device_of D.state room)) }
         ensures fault { IfErr result (λ e. IsRefusal (opening_fault (image_of (D.state device))) (D.state device) (D.state e.1) e.0) }
+
+        // What is wrong with its log is reported before want of memory.
+        ensures log { IfErr result (λ e. TellsLogFault (image_of (D.state device)) e.0) }
 
         // It makes the operations of one record, and the words of superblock and slots are settled as they were.
         ensures made { IfOk result (λ room. Makes 32 5 2 0 (D.state device) (device_of D.state room)) }

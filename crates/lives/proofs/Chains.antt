@@ -1,0 +1,179 @@
+-- Lives one after another.
+use Rattle.std.proofs.Common.{◌≡◌, inl, inr, ℕ, Bool, not, ◌&&◌, List, [], ◌∷◌, ◌++◌, map, refl, sym, ◌∙◌, ap, subst}
+use Rattle.std.specs.Prelude.{Option, Some, None}
+use Rattle.std.proofs.lemmas.List.Elements.{All-nil}
+use Rattle.base.specs.declared.fault.Fault.{Fault}
+use Rattle.base.specs.declared.fault.Fault.TheVariants.{OutOfMemory}
+use Rattle.base.specs.declared.key.Key.{Key}
+use Rattle.base.specs.declared.gap.Gap.{Gap}
+use Rattle.base.specs.Commits.{Commit, Lists, after}
+use Rattle.base.specs.Images.{Image, opening_fault, log_damage, damage}
+use Rattle.base.specs.Layout.{Layout}
+use Rattle.base.specs.Machine.{State, final}
+use Rattle.base.specs.Openings.{OpensAs, StandsOpening}
+use Rattle.base.specs.Stands.{Stands}
+use Rattle.base.specs.Laws.{StayOut}
+use Rattle.base.specs.Lives.{World, IsWorld, Asked, Report, Opening, Opens, Fails, Life as PlainLife, LifeAs, Lives, numbers_of as state_numbers, FailsAs}
+use Rattle.base.proofs.LivesLaws.{lives-stand}
+use Rattle.base.proofs.Returns.{lives-lived}
+use Rattle.base.proofs.Adding.{lives-add, lives-acknowledge}
+use Rattle.pmem.specs.Device.{Device, MayLeave, LeavesOnly, IsAtRest, IsOrderly, image_of}
+use Rattle.pmem.proofs.Rest.{left_at_rest}
+use Rattle.recovery.specs.Opened.{IsRefusal}
+use Rattle.recovery.specs.Read.{TellsLogFault}
+use Rattle.image_check.specs.Checked.{ListsTables}
+use Rattle.lives.specs.declared.life.Life.{Life}
+use Rattle.lives.specs.declared.life.LifeReport.{LifeReport}
+use Rattle.lives.specs.Chains.{asked_of, report_of, fresh_world, AreLives}
+use Rattle.lives.specs.Parts.{HasLived, HasObeyed, HasEnded, HasPlayed}
+use Rattle.lives.proofs.Ends.{leaves-now, log-first, first-damage, ends-as_asked}
+
+-- ---- an opening that was refused
+
+log-opening : (image : Image) (fault : Fault) → log_damage image ≡ Some fault → opening_fault image ≡ Some fault
+log-opening image fault found = first-damage (damage image) _ fault (log-first image fault found)
+
+pub lived-refused : (old new : Device) (image image' : Image) (life : Life) (report : LifeReport) (fault : Fault)
+    → IsAtRest old → IsOrderly new → image ≡ image_of old → MayLeave new image'
+    → (report_of report).opening ≡ Fails fault → (report_of report).replies ≡ [] → (report_of report).closed ≡ None
+    → IsRefusal (opening_fault image) old new fault → TellsLogFault image fault
+    → ((history drawn : List Commit) (next : ℕ) → Stands image history drawn next → LeavesOnly old new (StandsOpening image history next))
+    → HasLived image life report image'
+lived-refused old new image image' life report fault rest tidy is may opening replies closed refusal log images before w same =
+    by refusal
+  where
+    told : (after : World) → FailsAs fault before after → PlainLife before (asked_of life) (report_of report) after
+    told after fails = subst (λ (o : Opening). LifeAs before (asked_of life) o (report_of report).replies (report_of report).closed after) (sym opening) (fails, replies, closed)
+
+    kept : new ≡ old → before.image ≡ image'
+    kept e = same ∙ is ∙ sym (left_at_rest old rest image' (subst (λ (d : Device). MayLeave d image') e may))
+
+    by_log : (fault ≡ OutOfMemory) → TellsLogFault image fault → FailsAs fault before before
+    by_log memory (inl found) = inl (ap opening_fault same ∙ log-opening image fault found, refl)
+    by_log memory (inr none) = inr (inl (memory, ap log_damage same ∙ none, refl))
+
+    by : IsRefusal (opening_fault image) old new fault → (after : World) × (after.image ≡ image') × PlainLife before (asked_of life) (report_of report) after
+    by (inl (inl reason, e)) = (before, kept e, told before (inl (ap opening_fault same ∙ reason, refl)))
+    by (inl (inr memory, e)) = (before, kept e, told before (by_log memory log))
+    by (inr (none, device, failed)) =
+        let stands : Stands image before.history before.drawn before.next = subst (λ (i : Image). Stands i before.history before.drawn before.next) same w in
+        let within : StandsOpening image before.history before.next image' = leaves-now old new (StandsOpening image before.history before.next) tidy (images before.history before.drawn before.next stands) image' may in
+        (record { image = image'; history = before.history; drawn = []; next = before.next; lost = before.lost }, refl, told _ (inr (inr (device, record {
+          opens = ap opening_fault same ∙ none;
+          stands = subst (λ (i : Image). StandsOpening i before.history before.next image') (sym same) within;
+          history = refl;
+          drawn = refl;
+          next = refl;
+          lost = refl;
+        }))))
+
+-- ---- an opening that succeeded
+
+same-option : {X : Type 0} (a b : Option X) → ((x : X) → a ≡ Some x → b ≡ Some x) → ((x : X) → b ≡ Some x → a ≡ Some x) → a ≡ b
+same-option None None to from = refl
+same-option None (Some y) to from = from y refl
+same-option (Some x) b to from = sym (to x refl)
+
+-- rows that list the tables of an image list those after the history that it stands for
+lists-after : (image : Image) (rows : List (Key × List ℕ)) (history drawn : List Commit) (next : ℕ) → ListsTables image rows → Stands image history drawn next → Lists rows (after history)
+lists-after image rows history drawn next listed stands = record {
+  rising = listed.lists.rising;
+  same = λ key. listed.lists.same key ∙ same-option (listed.tables key) (after history key)
+      (λ row is. (stands.tables key row).0 ((listed.of_image key row).1 is))
+      (λ row is. (listed.of_image key row).0 ((stands.tables key row).1 is));
+}
+
+pub lived-played : (image image' : Image) (rows : List (Key × List ℕ)) (life : Life) (report : LifeReport)
+    → ListsTables image rows
+    → ((history drawn : List Commit) (next : ℕ) (lost : List ℕ) → Stands image history drawn next → (q : State) × OpensAs image history lost q × HasPlayed q rows life report image')
+    → HasLived image life report image'
+lived-played image image' rows life report listed plays before w same =
+    let stands : Stands image before.history before.drawn before.next = subst (λ (i : Image). Stands i before.history before.drawn before.next) same w in
+    let opened = plays before.history before.drawn before.next before.lost stands in
+    let q = opened.0 in
+    let opens : OpensAs before.image before.history before.lost q = subst (λ (i : Image). OpensAs i before.history before.lost q) (sym same) opened.1 in
+    let played = opened.2 in
+    let ended = played.ends before.lost in
+    let lists : Lists rows (after q.history) = subst (λ (h : List Commit). Lists rows (after h)) (sym (ap (λ (x : State). x.history) opens.2)) (lists-after image rows before.history before.drawn before.next listed stands) in (
+      ended.0,
+      ended.1,
+      subst (λ (o : Opening). LifeAs before (asked_of life) o report.replies.items (report_of report).closed ended.0) (sym played.opening)
+          (q, played.states, opens, refl, refl, refl, lists, played.runs, ended.2),
+    )
+
+-- what the opened state's numbers say
+pub opens-so : (q : State) (gate persisted dirty next : ℕ) (gaps : List Gap) (rows : List (Key × List ℕ))
+    → gate ≡ q.ruling.gate → persisted ≡ q.ruling.persisted → dirty ≡ q.ruling.dirty → next ≡ q.next → gaps ≡ q.ruling.gaps
+    → Opens (record { gate = gate; persisted = persisted; dirty = dirty }) next gaps rows ≡ Opens (state_numbers q) q.next q.ruling.gaps rows
+opens-so q gate persisted dirty next gaps rows g p d n l = λ i. Opens (record { gate = g i; persisted = p i; dirty = d i }) (n i) (l i) rows
+
+-- steps and an end make a life
+pub played-so : (q : State) (rows : List (Key × List ℕ)) (life : Life) (report : LifeReport) (image : Image) (failed : Bool) (P : State → Type 0)
+    → (report_of report).opening ≡ Opens (state_numbers q) q.next q.ruling.gaps rows
+    → HasObeyed q life.steps.items report.replies.items failed P
+    → ((q' : State) → P q' → HasEnded q' (life.close && not failed) (report_of report).closed image)
+    → HasPlayed q rows life report image
+played-so q rows life report image failed P opening obeyed ends =
+    let last = final q obeyed.states in
+    record {
+      opening = opening;
+      states = obeyed.states;
+      runs = obeyed.runs;
+      ends = ends-as_asked last life.close failed (report_of report).closed image obeyed.failure (ends last obeyed.after_it);
+    }
+
+-- ---- one life after another
+
+lives-more : (before : World) (asked : List Asked) (reports : List Report) (mid : World) (a : Asked) (r : Report) (last : World)
+    → Lives before asked reports mid → PlainLife mid a r last → Lives before (asked ++ a ∷ []) (reports ++ r ∷ []) last
+lives-more before [] [] mid a r last e life = (last, subst (λ (w : World). PlainLife w a r last) e life, refl)
+lives-more before (b ∷ asked) (s ∷ reports) mid a r last (next, first, rest) life = (next, first, lives-more next asked reports mid a r last rest life)
+lives-more before [] (s ∷ reports) mid a r last none life = absurd none
+lives-more before (b ∷ asked) [] mid a r last none life = absurd none
+
+-- the reports are those of a chain of lives, and the image is what the last one left
+pub record Chain (layout : Layout) (lives : List Life) (reports : List LifeReport) (image : Image) : Type 0 where
+  pub last : World
+  pub lives_are : Lives (fresh_world layout) (map asked_of lives) (map report_of reports) last
+  pub left : last.image ≡ image
+
+pub chain-none : (layout : Layout) (image : Image) → image ≡ (fresh_world layout).image → Chain layout [] [] image
+chain-none layout image is = record { last = fresh_world layout; lives_are = refl; left = sym is }
+
+map-more : {X Y : Type 0} (f : X → Y) (xs : List X) (x : X) → map f (xs ++ x ∷ []) ≡ map f xs ++ f x ∷ []
+map-more f [] x = refl
+map-more {Y = Y} f (y ∷ xs) x = ap (λ (l : List Y). f y ∷ l) (map-more f xs x)
+
+pub chain-more : (layout : Layout) (lives : List Life) (reports : List LifeReport) (image image' : Image) (life : Life) (report : LifeReport)
+    → IsWorld (fresh_world layout) → Chain layout lives reports image → HasLived image life report image'
+    → Chain layout (lives ++ life ∷ []) (reports ++ report ∷ []) image'
+chain-more layout lives reports image image' life report w chain lived =
+    let one = lived chain.last (lives-stand (fresh_world layout) (map asked_of lives) (map report_of reports) chain.last w chain.lives_are) chain.left in
+    record {
+      last = one.0;
+      lives_are = subst (λ (l : List Asked). Lives (fresh_world layout) l (map report_of (reports ++ report ∷ [])) one.0) (sym (map-more asked_of lives life))
+          (subst (λ (l : List Report). Lives (fresh_world layout) (map asked_of lives ++ asked_of life ∷ []) l one.0) (sym (map-more report_of reports report))
+          (lives-more (fresh_world layout) (map asked_of lives) (map report_of reports) chain.last (asked_of life) (report_of report) one.0 chain.lives_are one.2));
+      left = one.1;
+    }
+
+nothing-out : (layout : Layout) → StayOut (fresh_world layout)
+nothing-out layout = record { below = All-nil _; out = All-nil _ }
+
+pub are-lives : (layout : Layout) (lives : List Life) (reports : List LifeReport) (image : Image) → IsWorld (fresh_world layout) → Chain layout lives reports image → AreLives layout lives reports
+are-lives layout lives reports image w chain =
+    let first = fresh_world layout in
+    let asked = map asked_of lives in
+    let told = map report_of reports in
+    let grown = lives-lived first asked told chain.last w chain.lives_are in
+    record {
+      last = chain.last;
+      chain = chain.lives_are;
+      keeps = record {
+        stands = lives-stand first asked told chain.last w chain.lives_are;
+        adds = lives-add first asked told chain.last w chain.lives_are;
+        acknowledged = lives-acknowledge first asked told chain.last w chain.lives_are;
+        left_out = grown.2 (nothing-out layout);
+        once = grown.1;
+      };
+    }

@@ -1,0 +1,102 @@
+-- How a life ends.
+use Rattle.std.proofs.Common.{◌≡◌, inl, inr, ℕ, ◌+◌, Bool, true, false, not, ◌&&◌, List, [], ◌∷◌, ◌++◌, refl, sym, ◌∙◌, ap, subst, arith}
+use Rattle.std.specs.Prelude.{Option, Some, None, Result, Ok, Err, IfOk, IfErr, IsTrue}
+use Rattle.std.specs.Option.{option_or, option_map}
+use Rattle.base.specs.declared.fault.Fault.{Fault}
+use Rattle.base.specs.declared.fault.Fault.TheVariants.{Damaged}
+use Rattle.base.specs.Search.{first_of, first_below}
+use Rattle.base.specs.Records.{Record}
+use Rattle.base.specs.Images.{Image, log_faults, log_damage, damage, ruling, layout_of, is_bad_slot}
+use Rattle.base.specs.Machine.{State, Cover, StandsAsOne, StandsAt, StandsClosing, StandsClosed, covers_at, covers_closing, closed, closing_fault, drawn_of}
+use Rattle.base.specs.Lives.{World, Numbers, StopsAt, left_out}
+use Rattle.pmem.specs.Device.{Device, IsOrderly, MayLeave, LeavesOnly, restarted, image_of}
+use Rattle.pmem.proofs.Images.{left_now}
+use Rattle.pmem_model.specs.Sim.{device_of}
+use Rattle.pmem_model.specs.Orderly.{orderly_of}
+use Rattle.pmem_model.specs.declared.sim.SimPmem.{SimPmem}
+use Rattle.recovery.proofs.Restarted.{image-restarted}
+use Rattle.room.specs.Closing.{IsClosingRefusal}
+use Rattle.lives.specs.declared.life.Numbers.{Numbers as ToldNumbers}
+use Rattle.lives.specs.Chains.{numbers_of, closed_of}
+use Rattle.lives.specs.Parts.{HasEnded, ruling_numbers}
+
+-- ---- what a crash leaves now
+
+pub orderly : (sim : SimPmem) → IsOrderly (device_of sim)
+orderly sim = orderly_of sim.cells.histories.log.items sim.cells.histories.last.items sim.cells.histories.clock (device_of sim).failures sim.stores sim.flushes sim.fences sim.cells.histories.sound
+
+pub leaves-now : (old new : Device) (P : Image → Type 0) → IsOrderly new → LeavesOnly old new P → (image : Image) → MayLeave new image → P image
+leaves-now old new P tidy leaves image may = leaves.each image (record { moment = new.clock; from = leaves.continues.later; to = omega arith; left = left_now tidy may })
+
+pub of-restarted : (P : Image → Type 0) (device : Device) → (image : Image) × P image × (device ≡ restarted image) → P (image_of device)
+of-restarted P device (image, holds, is) = subst P (sym (ap image_of is ∙ image-restarted image)) holds
+
+-- ---- a stop
+
+stopped : (q : State) (covers : List Cover) (lost : List ℕ) (image : Image) → StandsAsOne q covers image
+    → (after : World) × (after.image ≡ image) × StopsAt q covers lost after
+stopped q covers lost image (cover, one, stands) = (
+  record { image = image; history = cover.commits; drawn = drawn_of q; next = q.next; lost = lost ++ left_out cover.commits (drawn_of q) },
+  refl,
+  record { cover = cover; one = one; stands = stands; history = refl; drawn = refl; next = refl; loses = refl },
+)
+
+-- without a close
+pub ends-open : (q : State) (image : Image) → StandsAt q image → HasEnded q false None image
+ends-open q image stands lost = let s = stopped q (covers_at q) lost image stands in (s.0, s.1, (refl, s.2))
+
+-- a fault of the log is the first that an image has
+first-more : (xs ys : List (Option Fault)) (fault : Fault) → first_of xs ≡ Some fault → first_of (xs ++ ys) ≡ Some fault
+first-more [] ys fault e = absurd (apart e)
+  where
+    apart : None ≡ Some fault → ⊥
+    apart e = cc
+first-more (None ∷ xs) ys fault e = first-more xs ys fault e
+first-more (Some x ∷ xs) ys fault e = e
+
+pub log-first : (image : Image) (fault : Fault) → log_damage image ≡ Some fault → damage image ≡ Some fault
+log-first image fault e =
+    first-more (log_faults image) (option_map (λ slot. Damaged ((layout_of image).places + slot)) (first_below (layout_of image).slots (is_bad_slot (ruling image) image)) ∷ []) fault e
+
+-- what comes first is the first
+pub first-damage : (o rest : Option Fault) (fault : Fault) → o ≡ Some fault → option_or o rest ≡ Some fault
+first-damage None rest fault e = absurd (apart e)
+  where
+    apart : None ≡ Some fault → ⊥
+    apart e = cc
+first-damage (Some x) rest fault e = e
+
+none-some : (o : Option Fault) (fault : Fault) → o ≡ None → o ≡ Some fault → ⊥
+none-some o fault n s = cc
+
+-- after a close that succeeded
+pub ends-closed : (q : State) (image : Image) (told : Result ToldNumbers Fault) → closing_fault q ≡ None → StandsClosed q image
+    → IfOk told (λ numbers. numbers_of numbers ≡ ruling_numbers image) → IfErr told (λ fault. log_damage image ≡ Some fault)
+    → HasEnded q true (closed_of (Some told)) image
+ends-closed q image (Ok numbers) may stands is found = λ lost.
+    let s = stopped q (closed q ∷ []) lost image (closed q, (0, omega arith, refl), stands) in
+    (s.0, s.1, (refl, may, is ∙ ap (λ (r : Record). record { gate = r.gate; persisted = r.persisted; dirty = r.dirty }) stands.ruled, s.2))
+ends-closed q image (Err fault) may stands is found = absurd (none-some (damage image) fault stands.stands.sound (log-first image fault found))
+
+-- within a close that failed
+pub ends-refused : (q : State) (image : Image) (old new : Device) (fault : Fault) → IsClosingRefusal q old new fault
+    → (new ≡ old → StandsAt q image) → StandsClosing q image → HasEnded q true (Some (Err fault)) image
+ends-refused q image old new fault (inl (because, same)) at within = λ lost.
+    let s = stopped q (covers_at q) lost image (at same) in (s.0, s.1, (refl, inl (because, s.2)))
+ends-refused q image old new fault (inr (none, is, failed)) at within = λ lost.
+    let s = stopped q (covers_closing q) lost image within in (s.0, s.1, (refl, inr (none, is, s.2)))
+
+-- after a failing device no close is asked
+pub ends-as_asked : (q : State) (close failed : Bool) (told : Option (Result Numbers Fault)) (image : Image) → (failed ≡ true → q.failed ≡ true)
+    → HasEnded q (close && not failed) told image → HasEnded q close told image
+ends-as_asked q false failed told image because ended = ended
+ends-as_asked q true false told image because ended = ended
+ends-as_asked q true true None image because ended = λ lost. let e = ended lost in (e.0, e.1, (because refl, e.2.1))
+ends-as_asked q true true (Some (Ok numbers)) image because ended = λ lost. absurd (no_way (ended lost).2.0)
+  where
+    no_way : IsTrue false → ⊥
+    no_way e = cc
+ends-as_asked q true true (Some (Err fault)) image because ended = λ lost. absurd (no_way (ended lost).2.0)
+  where
+    no_way : IsTrue false → ⊥
+    no_way e = cc

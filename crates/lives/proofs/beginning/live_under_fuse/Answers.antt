@@ -1,0 +1,31 @@
+use Rattle.std.proofs.Common.{◌≡◌, ◌∙◌, subst, refl}
+use Rattle.std.specs.Prelude.{None, Err}
+use Rattle.std.proofs.lemmas.Result.{IfOk-weaker}
+use Rattle.base.specs.Images.{Image}
+use Rattle.base.specs.Machine.{State}
+use Rattle.pmem.specs.Device.{image_of}
+use Rattle.pmem_model.specs.Sim.{device_of}
+use Rattle.room.specs.Room.{Shows}
+use Rattle.image_check.specs.Checked.{ListsTables}
+use Rattle.lives.specs.Parts.{HasLived, HasPlayed}
+use Rattle.lives.proofs.Ends.{orderly}
+use Rattle.lives.proofs.Chains.{lived-refused, lived-played}
+use Rattle.lives.proofs.beginning.live_under_fuse.Goals as goal
+
+pub returns-in-Ok-checked-clause-ok : goal.returns-in-Ok-checked-clause-ok
+returns-in-Ok-checked-clause-ok g c =
+    let image = image_of (device_of c.args.device) in
+    let read : c.as_slice.result.now ≡ image = c.as_slice.ensures.value ∙ c.in_ok-image.ensures.image in
+    let lists : ListsTables image c.in-Ok-checked.found.rows.items = subst (λ (i : Image). ListsTables i c.in-Ok-checked.found.rows.items) read c.in-Ok-checked.ensures.ok.lists in
+    IfOk-weaker c.play.result
+    (λ played. (q : State) → Shows device_of c.in-Ok.room q → HasPlayed q c.in-Ok-checked.found.rows.items c.args.life.now played.0 (image_of (device_of played.1)))
+    (λ lived. HasLived image c.args.life.now lived.0 (image_of (device_of lived.1)))
+    (λ played plays. lived-played image (image_of (device_of played.1)) c.in-Ok-checked.found.rows.items c.args.life.now played.0 lists
+    (λ history drawn next lost stands. let opened = c.in-Ok.ensures.ok history drawn next lost stands in (opened.0, opened.1, plays opened.0 opened.2)))
+    c.play.ensures.ok
+
+pub returns-clause-ok : goal.returns-clause-ok
+returns-clause-ok g c =
+    lived-refused (device_of c.args.device) (device_of c.in-Err.device) (image_of (device_of c.args.device)) (image_of (device_of c.in_ok-left-in-Err.left)) c.args.life.now (record { opening = Err c.in-Err.fault; replies = c.new.result; closed = None }) c.in-Err.fault
+    c.requires.rests (orderly c.in-Err.device) refl c.in_ok-left-in-Err.ensures.possible refl c.new.ensures.items refl
+    c.in-Err.ensures.fault c.in-Err.ensures.log c.in-Err.ensures.images

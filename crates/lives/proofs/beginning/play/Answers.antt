@@ -1,0 +1,25 @@
+use Rattle.std.proofs.Common.{◌≡◌, ◌∙◌, Bool, not, ◌&&◌, List, sym, ap, subst}
+use Rattle.base.specs.declared.step.Step.{Step}
+use Rattle.pmem.specs.Device.{image_of}
+use Rattle.pmem_model.specs.Sim.{device_of}
+use Rattle.room.specs.Room.{Shows}
+use Rattle.lives.specs.Chains.{closed_of}
+use Rattle.lives.specs.Parts.{HasObeyed, HasEnded}
+use Rattle.lives.proofs.Chains.{opens-so, played-so}
+use Rattle.lives.proofs.beginning.play.Goals.{then-life, else-life}
+use Rattle.lives.proofs.beginning.play.Goals as goal
+
+pub returns-clause-ok : goal.returns-clause-ok
+returns-clause-ok c = λ q shows.
+    let s = c.status-status.result in
+    let says = c.status-status.ensures q shows in
+    let failed = c.in-Ok.obeyed.failed in
+    let image = image_of (device_of c.in_ok-closed.left) in
+    let both : c.if-life.end ≡ (c.args.life.now.close && not failed) = elim c.if-life.branch [
+      | then-life w ↦ w.end-is ∙ sym (ap (λ (b : Bool). b && not failed) w.if-life.true)
+      | else-life w ↦ w.end-is ∙ w.if-life.false ∙ sym (ap (λ (b : Bool). b && not failed) w.if-life.false)
+    ] in
+    played-so q c.args.rows.items c.args.life.now _ image failed (Shows device_of c.obey.new.room)
+    (opens-so q s.gate s.persisted s.dirty s.next s.gaps c.args.rows.items says.gate says.persisted says.dirty says.next says.gaps)
+    (subst (λ (steps : List Step). HasObeyed q steps c.in-Ok.obeyed.replies.items failed (Shows device_of c.obey.new.room)) c.as_slice.ensures.value (c.in-Ok.ensures q shows))
+    (λ last here. subst (λ (b : Bool). HasEnded last b (closed_of c.in_ok-closed.closed) image) both (c.in_ok-closed.ensures.ok last here))

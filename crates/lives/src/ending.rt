@@ -1,0 +1,68 @@
+ghost use Rattle.std.specs.Prelude.{◌≡◌, Some, IfOk, IfErr};
+ghost use Rattle.base.specs.declared.fault.Fault.TheVariants.{OutOfMemory};
+ghost use Rattle.base.specs.Images.{log_damage};
+ghost use Rattle.base.specs.Machine.{State};
+ghost use Rattle.pmem.specs.Device.{IsAtRest, MayLeave, image_of};
+ghost use Rattle.pmem_model.specs.Chosen.{IsChosen};
+ghost use Rattle.pmem_model.specs.Sim.{device_of};
+ghost use Rattle.room.specs.Room.{Shows};
+ghost use Rattle.lives.specs.Chains.{numbers_of, closed_of};
+ghost use Rattle.lives.specs.Parts.{HasEnded, ruling_numbers};
+
+use crate::life::Numbers;
+use base::fault::Fault;
+use log_area::latest;
+use pmem_model::{Choice, SimPmem};
+use room::Room;
+
+/// Closes the room where that is asked, and stops the device by a crash with this choice. The numbers after the close, or
+/// why it failed, and the device as the crash left it.
+pub fn end(
+    room: Room<SimPmem>,
+    closes: bool,
+    choice: &Choice,
+) -> Result<(Option<Result<Numbers, Fault>>, SimPmem), Fault>
+    ensures ok { IfOk result (λ ended. (q : State) → Shows device_of room q → HasEnded q closes (closed_of ended.0) (image_of (device_of ended.1))) }
+    ensures rests { IfOk result (λ ended. IsAtRest (device_of ended.1)) }
+    ensures fault { IfErr result (λ fault. fault ≡ OutOfMemory) }
+{
+    if !closes {
+        let left = stop(&room.into_device(), choice)?;
+        return Ok((None, left));
+    }
+    match room.close() {
+        Ok(device) => {
+            let left = stop(&device, choice)?;
+            Ok((Some(numbers_on(&left)), left))
+        }
+        Err((fault, device)) => {
+            let left = stop(&device, choice)?;
+            Ok((Some(Err(fault)), left))
+        }
+    }
+}
+
+/// The device after a crash with this choice, at rest, and without a fuse.
+pub fn stop(device: &SimPmem, choice: &Choice) -> Result<SimPmem, Fault>
+    ensures chosen { IfOk result (λ left. IsChosen choice.now (device_of device.now) (image_of (device_of left))) }
+    ensures possible { IfOk result (λ left. MayLeave (device_of device.now) (image_of (device_of left))) }
+    ensures rests { IfOk result (λ left. IsAtRest (device_of left)) }
+    ensures fault { IfErr result (λ fault. fault ≡ OutOfMemory) }
+{
+    device.crash(choice)
+}
+
+// The numbers of the record that rules the device's image.
+fn numbers_on(device: &SimPmem) -> Result<Numbers, Fault>
+    ensures ok { IfOk result (λ numbers. numbers_of numbers ≡ ruling_numbers (image_of (device_of device.now))) }
+    ensures fault { IfErr result (λ fault. log_damage (image_of (device_of device.now)) ≡ Some fault) }
+{
+    match latest(device) {
+        Ok(found) => Ok(Numbers {
+            gate: found.target.gate(),
+            persisted: found.target.persisted(),
+            dirty: found.target.dirty(),
+        }),
+        Err(fault) => Err(fault),
+    }
+}

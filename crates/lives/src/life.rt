@@ -1,0 +1,48 @@
+use base::Ts;
+use base::fault::Fault;
+use base::gap::Gaps;
+use base::key::Key;
+use base::row::Row;
+use base::step::{Reply, Step};
+use pmem_model::Choice;
+
+/// What is asked of a life.
+#[derive(Drop)]
+pub struct Life {
+    /// They are taken up to the first in which the device fails.
+    pub steps: Vec<Step>,
+    /// Is the room closed after the steps?
+    pub close: bool,
+    /// After that many operations, counted from the life's first, the device fails. `None`: it doesn't.
+    pub fuse: Option<u64>,
+    /// Which survivor of each word the stop leaves.
+    pub choice: Choice,
+}
+
+/// The numbers of a record.
+#[derive(Clone, Copy, Debug, PartialEq, Eq)]
+pub struct Numbers {
+    pub gate: u64,
+    pub persisted: Ts,
+    pub dirty: Ts,
+}
+
+/// What an opening gave.
+#[derive(Drop)]
+pub struct Opened {
+    pub numbers: Numbers,
+    /// The timestamp that is drawn next.
+    pub next: Ts,
+    pub gaps: Gaps,
+    /// The rows of the tables, by rising key.
+    pub rows: Vec<(Key, Row)>,
+}
+
+/// What is told of a life.
+#[derive(Drop)]
+pub struct LifeReport {
+    pub opening: Result<Opened, Fault>,
+    pub replies: Vec<Reply>,
+    /// The numbers after a close, or its fault. `None`: none was asked, or the device failed before.
+    pub closed: Option<Result<Numbers, Fault>>,
+}
