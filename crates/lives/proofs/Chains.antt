@@ -17,7 +17,8 @@ use Rattle.base.specs.Lives.{World, IsWorld, Asked, Report, Opening, Opens, Fail
 use Rattle.base.proofs.LivesLaws.{lives-stand}
 use Rattle.base.proofs.Returns.{lives-lived}
 use Rattle.base.proofs.Adding.{lives-add, lives-acknowledge}
-use Rattle.pmem.specs.Device.{Device, MayLeave, LeavesOnly, IsAtRest, IsOrderly, image_of}
+use Rattle.pmem.specs.Device.{Device, MayLeave, IsOrderly}
+use Rattle.pmem.specs.Words.{LeavesOnly, IsAtRest, image_of}
 use Rattle.pmem.proofs.Rest.{left_at_rest}
 use Rattle.recovery.specs.Opened.{IsRefusal}
 use Rattle.recovery.specs.Read.{TellsLogFault}

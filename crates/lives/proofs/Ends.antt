@@ -9,7 +9,8 @@ use Rattle.base.specs.Records.{Record}
 use Rattle.base.specs.Images.{Image, log_faults, log_damage, damage, ruling, layout_of, is_bad_slot}
 use Rattle.base.specs.Machine.{State, Cover, StandsAsOne, StandsAt, StandsClosing, StandsClosed, covers_at, covers_closing, closed, closing_fault, drawn_of}
 use Rattle.base.specs.Lives.{World, Numbers, StopsAt, left_out}
-use Rattle.pmem.specs.Device.{Device, IsOrderly, MayLeave, LeavesOnly, restarted, image_of}
+use Rattle.pmem.specs.Device.{Device, IsOrderly, MayLeave, restarted}
+use Rattle.pmem.specs.Words.{LeavesOnly, image_of}
 use Rattle.pmem.proofs.Images.{left_now}
 use Rattle.pmem_model.specs.Sim.{device_of}
 use Rattle.pmem_model.specs.Orderly.{orderly_of}

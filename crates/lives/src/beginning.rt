@@ -1,7 +1,7 @@
 ghost use Rattle.std.specs.Prelude.{◌≡◌, IfOk, IfErr};
 ghost use Rattle.base.specs.declared.fault.Fault.TheVariants.{OutOfMemory};
 ghost use Rattle.base.specs.Machine.{State};
-ghost use Rattle.pmem.specs.Device.{IsAtRest, image_of};
+ghost use Rattle.pmem.specs.Words.{IsAtRest, image_of};
 ghost use Rattle.pmem_model.specs.Sim.{device_of, fuse_of};
 ghost use Rattle.room.specs.Room.{Shows};
 ghost use Rattle.lives.specs.Parts.{HasLived, HasPlayed};

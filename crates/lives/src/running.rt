@@ -2,7 +2,7 @@ ghost use Rattle.std.specs.Prelude.{◌≡◌, [], IfOk, IfErr};
 ghost use Rattle.base.specs.declared.fault.Fault.TheVariants.{OutOfMemory};
 ghost use Rattle.base.specs.Fresh.{fresh_image};
 ghost use Rattle.base.specs.Stands.{Stands};
-ghost use Rattle.pmem.specs.Device.{IsAtRest, image_of};
+ghost use Rattle.pmem.specs.Words.{IsAtRest, image_of};
 ghost use Rattle.pmem_model.specs.Sim.{device_of};
 ghost use Rattle.lives.specs.Chains.{AreLives};
 

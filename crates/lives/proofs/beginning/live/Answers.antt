@@ -1,6 +1,7 @@
 use Rattle.std.proofs.Common.{sym, subst}
 use Rattle.std.proofs.lemmas.Result.{IfOk-weaker}
-use Rattle.pmem.specs.Device.{Device, IsAtRest, image_of}
+use Rattle.pmem.specs.Device.{Device}
+use Rattle.pmem.specs.Words.{IsAtRest, image_of}
 use Rattle.pmem_model.specs.Sim.{device_of}
 use Rattle.lives.specs.Parts.{HasLived}
 use Rattle.lives.proofs.beginning.live.Goals as goal

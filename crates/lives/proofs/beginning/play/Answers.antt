@@ -1,6 +1,6 @@
 use Rattle.std.proofs.Common.{◌≡◌, ◌∙◌, Bool, not, ◌&&◌, List, sym, ap, subst}
 use Rattle.base.specs.declared.step.Step.{Step}
-use Rattle.pmem.specs.Device.{image_of}
+use Rattle.pmem.specs.Words.{image_of}
 use Rattle.pmem_model.specs.Sim.{device_of}
 use Rattle.room.specs.Room.{Shows}
 use Rattle.lives.specs.Chains.{closed_of}

@@ -1,7 +1,8 @@
 use Rattle.std.proofs.Common.{◌≡◌, Bool, true, false, sym, subst, rules}
 use Rattle.std.specs.Prelude.{Some, None, Err}
 use Rattle.base.specs.Machine.{StandsClosing}
-use Rattle.pmem.specs.Device.{Device, MayLeave, image_of}
+use Rattle.pmem.specs.Device.{Device, MayLeave}
+use Rattle.pmem.specs.Words.{image_of}
 use Rattle.pmem_model.specs.Sim.{device_of}
 use Rattle.room.specs.Room.{device_of as device_in}
 use Rattle.lives.specs.Chains.{closed_of}

@@ -1,6 +1,7 @@
 use Rattle.std.proofs.Common.{List, ℕ, ◌≡◌, sym, subst}
 use Rattle.std.proofs.lemmas.Result.{IfOk-weaker}
-use Rattle.pmem.specs.Device.{MayLeave, IsAtRest, restarted, image_of}
+use Rattle.pmem.specs.Device.{MayLeave, restarted}
+use Rattle.pmem.specs.Words.{IsAtRest, image_of}
 use Rattle.pmem_model.specs.Chosen.{IsChosen}
 use Rattle.pmem_model.specs.Sim.{device_of}
 use Rattle.recovery.proofs.Restarted.{restarted-rests}

@@ -3,7 +3,8 @@ use Rattle.std.proofs.lemmas.Result.{IfOk-weaker}
 use Rattle.base.specs.Fresh.{fresh_image}
 use Rattle.base.specs.Images.{Image}
 use Rattle.base.specs.Stands.{Stands}
-use Rattle.pmem.specs.Device.{MayLeave, image_of}
+use Rattle.pmem.specs.Device.{MayLeave}
+use Rattle.pmem.specs.Words.{image_of}
 use Rattle.pmem.proofs.Rest.{left_at_rest}
 use Rattle.pmem_model.specs.Sim.{device_of}
 use Rattle.lives.proofs.running.formatted.Goals as goal

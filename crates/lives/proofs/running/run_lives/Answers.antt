@@ -3,7 +3,7 @@ use Rattle.std.proofs.Math.Seq.{take-suc}
 use Rattle.std.proofs.lemmas.List.{take_all}
 use Rattle.base.specs.Images.{Image}
 use Rattle.base.specs.Stands.{Stands}
-use Rattle.pmem.specs.Device.{image_of}
+use Rattle.pmem.specs.Words.{image_of}
 use Rattle.pmem_model.specs.Sim.{device_of}
 use Rattle.lives.specs.declared.life.Life.{Life}
 use Rattle.lives.specs.declared.life.LifeReport.{LifeReport}

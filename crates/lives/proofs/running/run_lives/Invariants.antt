@@ -1,5 +1,5 @@
 use Rattle.std.proofs.Common.{take}
-use Rattle.pmem.specs.Device.{IsAtRest, image_of}
+use Rattle.pmem.specs.Words.{IsAtRest, image_of}
 use Rattle.pmem_model.specs.Sim.{device_of}
 use Rattle.base.specs.Lives.{IsWorld}
 use Rattle.lives.specs.Chains.{fresh_world}
