@@ -209,7 +209,7 @@ fn value(state: &mut u64) -> u64 {
         4 => LAST_DIRTY + next(state) % 32,
         5 => next(state) % 131_072,
         6 => u64::MAX,
-        _ => (next(state) << 32) + next(state),
+        _ => (next(state) << 32) | next(state),
     }
 }
 
@@ -250,9 +250,13 @@ fn random_changes_are_checked_and_opened_alike(rt: HostRuntime) -> Result<(), Fa
         let mut words = committed_words(&rt);
         for _ in 0..1 + next(&mut state) % 4 {
             // The words from the ruling record on are hit more often than the others.
-            let first = if next(&mut state) % 4 == 0 { 0 } else { 40 };
-            let at = (first + next(&mut state) % (104 - first)) as usize;
-            words[at] = value(&mut state);
+            let any = next(&mut state) % 104;
+            let at = if next(&mut state) % 4 == 0 {
+                any
+            } else {
+                40 + any % 64
+            };
+            words[at as usize] = value(&mut state);
         }
         assert_agree(&rt, rt.alloc(), &words, seed)?;
     }

@@ -227,31 +227,68 @@ fn a_file_holds_words_with_the_lowest_byte_first(rt: HostRuntime) -> Result<(), 
     Ok(())
 }
 
-#[test]
-fn format_fills_in_what_is_left_out(rt: HostRuntime) -> Result<(), Fail> {
-    let words = ["format", "--places=2", "db.img", "--window", "8"];
-    let order = order(rt.alloc(), words.as_slice()).ok().ok_or("an order")?;
-    let Order::Format {
+/// Whether the words give a format of this file with these numbers.
+fn is_format<'a>(
+    rt: &HostRuntime,
+    words: &'a [&'a str],
+    slots: u64,
+    places: u64,
+    window: u64,
+) -> bool {
+    let file = "db.img";
+    let wanted = Order::Format {
         file,
         slots,
         places,
         window,
-    } = order
-    else {
-        return Err(Fail::from("no format"));
     };
-    assert_eq!(rt; file, "db.img");
-    assert_eq!(rt; slots, 1024);
-    assert_eq!(rt; places, 2);
-    assert_eq!(rt; window, 8);
-    Ok(())
+    match order(rt.alloc(), words) {
+        Ok(order) => order == wanted,
+        Err(_) => false,
+    }
 }
 
 #[test]
-fn run_names_a_file(rt: HostRuntime) -> Result<(), Fail> {
+fn format_fills_in_what_is_left_out(rt: HostRuntime) {
+    assert!(rt; is_format(&rt, ["format", "db.img"].as_slice(), 1024, 4, 64));
+    let words = ["format", "--slots", "7", "db.img"];
+    assert!(rt; is_format(&rt, words.as_slice(), 7, 4, 64));
+    let words = ["format", "--places=2", "db.img", "--window", "8"];
+    assert!(rt; is_format(&rt, words.as_slice(), 1024, 2, 8));
+}
+
+#[test]
+fn numbers_may_be_at_both_ends_of_their_ranges(rt: HostRuntime) {
+    let least = [
+        "format", "db.img", "--slots", "1", "--places", "2", "--window", "4",
+    ];
+    assert!(rt; is_format(&rt, least.as_slice(), 1, 2, 4));
+    let most = [
+        "format", "db.img", "--slots", "65536", "--places", "64", "--window", "1024",
+    ];
+    assert!(rt; is_format(&rt, most.as_slice(), 65_536, 64, 1024));
+    for (option, value) in [
+        ("--slots", "0"),
+        ("--slots", "65537"),
+        ("--places", "1"),
+        ("--places", "65"),
+        ("--window", "3"),
+        ("--window", "1025"),
+        ("--slots", "18446744073709551616"),
+    ] {
+        let words = ["format", "db.img", option, value];
+        assert!(rt; is_bad(&rt, words.as_slice()), "{option} {value}");
+    }
+}
+
+#[test]
+fn run_and_check_name_a_file(rt: HostRuntime) -> Result<(), Fail> {
     let words = ["run", "db.img"];
-    let order = order(rt.alloc(), words.as_slice()).ok().ok_or("an order")?;
-    assert!(rt; matches!(&order, Order::Run { file: "db.img" }));
+    let run = order(rt.alloc(), words.as_slice()).ok().ok_or("an order")?;
+    assert!(rt; matches!(&run, Order::Run { file: "db.img" }));
+    let words = ["check", "db.img"];
+    let check = order(rt.alloc(), words.as_slice()).ok().ok_or("an order")?;
+    assert!(rt; matches!(&check, Order::Check { file: "db.img" }));
     Ok(())
 }
 
@@ -262,8 +299,6 @@ fn is_bad<'a>(rt: &HostRuntime, words: &'a [&'a str]) -> bool {
 
 #[test]
 fn bad_words_are_refused(rt: HostRuntime) {
-    assert!(rt; is_bad(&rt, ["format", "db.img", "--slots", "0"].as_slice()));
-    assert!(rt; is_bad(&rt, ["format", "db.img", "--window", "1025"].as_slice()));
     assert!(rt; is_bad(&rt, ["format", "db.img", "--places", "+4"].as_slice()));
     assert!(rt;
         is_bad(
@@ -276,6 +311,8 @@ fn bad_words_are_refused(rt: HostRuntime) {
     assert!(rt; is_bad(&rt, ["format"].as_slice()));
     assert!(rt; is_bad(&rt, ["run"].as_slice()));
     assert!(rt; is_bad(&rt, ["run", "-"].as_slice()));
+    assert!(rt; is_bad(&rt, ["check"].as_slice()));
+    assert!(rt; is_bad(&rt, ["check", "db.img", "other.img"].as_slice()));
     assert!(rt; is_bad(&rt, ["run", "db.img", "--slots", "4"].as_slice()));
     assert!(rt; is_bad(&rt, ["copy", "db.img"].as_slice()));
     assert!(rt; is_bad(&rt, [].as_slice()));
@@ -290,6 +327,8 @@ fn help_shows_an_example(rt: HostRuntime) -> Result<(), Fail> {
     assert!(rt;
         text.as_str().contains("Example: wbl format db.img --slots 4 --places 2 --window 8")
     );
-    assert!(rt; text.as_str().contains("[default: 1024]"));
+    for default in ["[default: 1024]", "[default: 4]", "[default: 64]"] {
+        assert!(rt; text.as_str().contains(default), "{default}");
+    }
     Ok(())
 }
