@@ -58,15 +58,21 @@ lived-refused old new image image' life report fault rest tidy is may opening re
     by (inl (inr memory, e)) = (before, kept e, told before (by_log memory log))
     by (inr (none, device, failed)) =
         let stands : Stands image before.history before.drawn before.next = subst (λ (i : Image). Stands i before.history before.drawn before.next) same w in
-        let within : StandsOpening image before.history before.next image' = leaves-now old new (StandsOpening image before.history before.next) tidy (images before.history before.drawn before.next stands) image' may in
-        (record { image = image'; history = before.history; drawn = []; next = before.next; lost = before.lost }, refl, told _ (inr (inr (device, record {
-          opens = ap opening_fault same ∙ none;
-          stands = subst (λ (i : Image). StandsOpening i before.history before.next image') (sym same) within;
-          history = refl;
-          drawn = refl;
-          next = refl;
-          lost = refl;
-        }))))
+        let within : StandsOpening image before.history before.next image' = leaves-now old new (StandsOpening image before.history before.next) tidy (images before.history before.drawn before.next stands) image' may in (
+          record { image = image'; history = before.history; drawn = []; next = before.next; lost = before.lost },
+          refl,
+          told _ (inr (inr (
+            device,
+            record {
+              opens = ap opening_fault same ∙ none;
+              stands = subst (λ (i : Image). StandsOpening i before.history before.next image') (sym same) within;
+              history = refl;
+              drawn = refl;
+              next = refl;
+              lost = refl;
+            },
+          ))),
+        )
 
 -- ---- an opening that succeeded
 

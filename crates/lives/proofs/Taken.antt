@@ -107,7 +107,7 @@ so-far-more q steps replies P P' step reply works so_far one =
       states = so_far.states ++ q' ∷ [];
       goes_on = λ more later on runs.
           let whole : RunsUp q (steps ++ step ∷ more) (replies ++ reply ∷ later) (so_far.states ++ q' ∷ on) =
-              so_far.goes_on (step ∷ more) (reply ∷ later) (q' ∷ on) (took.1, inr (works, subst (λ (x : State). RunsUp x more later on) ends runs)) in
+          so_far.goes_on (step ∷ more) (reply ∷ later) (q' ∷ on) (took.1, inr (works, subst (λ (x : State). RunsUp x more later on) ends runs)) in
           subst (λ (x : List State). RunsUp q ((steps ++ step ∷ []) ++ more) ((replies ++ reply ∷ []) ++ later) x) (sym (append_assoc so_far.states (q' ∷ []) on))
           (subst (λ (x : List Reply). RunsUp q ((steps ++ step ∷ []) ++ more) x (so_far.states ++ q' ∷ on)) (sym (append_assoc replies (reply ∷ []) later))
           (subst (λ (x : List Step). RunsUp q x (replies ++ reply ∷ later) (so_far.states ++ q' ∷ on)) (sym (append_assoc steps (step ∷ []) more)) whole));

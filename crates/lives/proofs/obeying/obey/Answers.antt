@@ -21,9 +21,9 @@ loop-step-preserved c = λ q shows.
     let step = c.step-item.result in
     let reply = c.step-reply.result in
     let one : Steps (Shows device_of c.loop-step.room) step reply (Shows device_of c.step-reply.new.self) =
-        λ at here. let taken = c.step-reply.ensures.step at here in (taken.0, taken.1.stepped, taken.1.shows) in
+    λ at here. let taken = c.step-reply.ensures.step at here in (taken.0, taken.1.stepped, taken.1.shows) in
     let done : take (i + 1) steps ≡ take i steps ++ step ∷ [] =
-        ap (λ n. take n steps) (add-one i) ∙ take-suc steps i step c.loop-step-test.true ∙ ap (λ (s : Step). take i steps ++ s ∷ []) (sym c.step-item.is) in
+    ap (λ n. take n steps) (add-one i) ∙ take-suc steps i step c.loop-step-test.true ∙ ap (λ (s : Step). take i steps ++ s ∷ []) (sym c.step-item.is) in
     subst (λ (s : List Step). SoFar q s c.push.new.self.items (Shows device_of c.step-reply.new.self)) (sym done)
     (subst (λ (r : List Reply). SoFar q (take i steps ++ step ∷ []) r (Shows device_of c.step-reply.new.self)) (sym c.in_ok-push.ensures.items)
     (so-far-more q (take i steps) c.loop-step.replies.items (Shows device_of c.loop-step.room) (Shows device_of c.step-reply.new.self) step reply
@@ -36,9 +36,9 @@ returns-then-failed c = λ q shows.
     let step = c.step-item.result in
     let reply = c.step-reply.result in
     let one : Steps (Shows device_of c.loop-step.room) step reply (Shows device_of c.step-reply.new.self) =
-        λ at here. let taken = c.step-reply.ensures.step at here in (taken.0, taken.1.stepped, taken.1.shows) in
+    λ at here. let taken = c.step-reply.ensures.step at here in (taken.0, taken.1.stepped, taken.1.shows) in
     let whole : steps ≡ take i steps ++ step ∷ drop (suc i) steps =
-        split_at steps i step c.loop-step-test.true ∙ ap (λ (s : Step). take i steps ++ s ∷ drop (suc i) steps) (sym c.step-item.is) in
+    split_at steps i step c.loop-step-test.true ∙ ap (λ (s : Step). take i steps ++ s ∷ drop (suc i) steps) (sym c.step-item.is) in
     subst (λ (b : Bool). HasObeyed q steps c.push.new.self.items b (Shows device_of c.step-reply.new.self)) (sym c.if-failed.true)
     (subst (λ (s : List Step). HasObeyed q s c.push.new.self.items true (Shows device_of c.step-reply.new.self)) (sym whole)
     (subst (λ (r : List Reply). HasObeyed q (take i steps ++ step ∷ drop (suc i) steps) r true (Shows device_of c.step-reply.new.self)) (sym c.in_ok-push.ensures.items)
