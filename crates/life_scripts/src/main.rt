@@ -27,7 +27,7 @@ fn main(rt: HostRuntime) -> Result<(), Error> {
     Ok(())
 }
 
-// Runs the lives, and prints what is told of each.
+// Runs the lives, and prints the report of each.
 fn obey<H: Print + Threads + Sync>(rt: &H, alloc: Global, script: &Script) -> Result<(), Error> {
     let reports = run_lives(rt, alloc, script.geometry, script.lives.as_slice())?;
     let mut number: u64 = 0;

@@ -7,7 +7,7 @@ use lives::{LifeReport, Numbers, Opened};
 use std::alloc::Global;
 use std::io;
 
-/// Prints what is told of a life whose lines are these.
+/// Prints the report of a life whose lines are these.
 pub fn print_report<H: Print>(
     rt: &H,
     alloc: Global,

@@ -18,7 +18,7 @@ use room::Room;
 use std::alloc::Global;
 use std::thread::Threads;
 
-/// One life of the device: what is told of it, and the device as its stop leaves it.
+/// One life of the device: its report, and the device as its stop leaves it.
 pub fn live<R: Threads + Sync>(
     rt: &R,
     alloc: Global,

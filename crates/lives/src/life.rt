@@ -38,7 +38,7 @@ pub struct Opened {
     pub rows: Vec<(Key, Row)>,
 }
 
-/// What is told of a life.
+/// The report of a life.
 #[derive(Drop)]
 pub struct LifeReport {
     pub opening: Result<Opened, Fault>,

@@ -17,7 +17,7 @@ use std::alloc::Global;
 use std::thread::Threads;
 
 /// Formats a device and plays the lives on it, each over the image that the one before it left. It fails where a report or
-/// a device can't be kept for want of memory; want of memory within a life is told in its report.
+/// a device can't be kept for want of memory; want of memory within a life is in its report.
 pub fn run_lives<R: Threads + Sync>(
     rt: &R,
     alloc: Global,

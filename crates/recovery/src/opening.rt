@@ -39,7 +39,7 @@ pub fn open<R: Threads + Sync, D: Pmem + Drop + Send + Sync>(
     ensures ok { IfOk result (λ opened. HasOpened (D.state device) (D.state opened.device) opened.geometry opened.ruling opened.next opened.free.items) }
     ensures fault { IfErr result (λ e. IsRefusal (opening_fault (image_of (D.state device))) (D.state device) (D.state e.1) e.0) }
 
-    // A fault of the superblock, of a gate or of the ruling record is told even where memory is wanting.
+    // A fault of the superblock, of a gate or of the ruling record is reported even where memory is wanting.
     ensures log { IfErr result (λ e. TellsLogFault (image_of (D.state device)) e.0) }
 
     // A crash at any moment leaves the same history, under the record that ruled or the one that the opening writes.
