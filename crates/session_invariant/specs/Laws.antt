@@ -1,0 +1,36 @@
+-- What follows for sessions. Each law stands here in words that need no proof, and a public function promises it.
+use Rattle.std.specs.Prelude.{◌≡◌, ℕ, ◌≤◌, true, false, length, take, drop, ◌++◌}
+use Rattle.std.specs.List.{list_any}
+use Rattle.base.specs.declared.key.Key.{Key}
+use Rattle.base.specs.declared.step.Step.{Step}
+use Rattle.base.specs.declared.step.Reply.{Reply}
+use Rattle.base.specs.Commits.{after, writes_key}
+use Rattle.base.specs.Machine.{State, Stepped, drawn_of}
+use Rattle.pmem.specs.Device.{Device, IsOrderly}
+use Rattle.pmem.specs.Words.{image_of}
+use Rattle.state_invariant.specs.Kept.{Origin, Keeps, IsInUse, commits_of_life}
+use Rattle.device_invariant.specs.Upholds.{Upholds}
+use Rattle.snapshot.specs.Snapshots.{Seen, covers, seen_by}
+use Rattle.session_invariant.specs.Sees.{Sees, ReadsBy, last_on, is_unseen}
+
+-- the ruling record is a snapshot of all that is covered, as long as no gap was swept
+abbrev pub PresentSees : Type 0
+PresentSees = (o : Origin) (q : State) → q.swept ≡ false → Keeps o q → Sees o q (seen_by q.ruling) (length q.history)
+
+-- a snapshot of so many commits stays one over every step
+abbrev pub StepsKeepSight : Type 0
+StepsKeepSight =
+    (o : Origin) (q q' : State) (step : Step) (reply : Reply) (snapshot : Seen) (begun : ℕ) → Keeps o q → begun ≤ length q.history → Stepped q step reply q' → Sees o q snapshot begun
+    → Sees o q' snapshot begun
+
+-- what a snapshot in use covers in the words of the slots are the rows of its tables
+abbrev pub Reads : Type 0
+Reads =
+    (o : Origin) (q : State) (device : Device) (snapshot : Seen) (begun : ℕ) → IsOrderly device → Upholds o q device → IsInUse q begun → Sees o q snapshot begun
+    → ReadsBy (covers snapshot) q.layout (after (take begun q.history)) (image_of device)
+
+-- a commit that the snapshot doesn't see writes the key exactly if the last commit of this life on the key is one
+abbrev pub Conflicts : Type 0
+Conflicts =
+    (o : Origin) (q : State) (snapshot : Seen) (begun : ℕ) (key : Key) → Keeps o q → o.opened ≤ begun → begun ≤ length q.history → Sees o q snapshot begun
+    → is_unseen snapshot (last_on key (commits_of_life o q)) ≡ list_any (writes_key key) (drop begun q.history ++ drawn_of q)

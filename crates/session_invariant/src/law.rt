@@ -1,0 +1,19 @@
+//! What follows from the definitions. The functions do nothing: the contract of each is a law.
+
+ghost use Rattle.session_invariant.specs.Laws.{PresentSees, StepsKeepSight, Reads, Conflicts};
+
+/// The snapshot of all that is covered covers exactly what counts, and over every step each snapshot stays exact.
+pub fn snapshots_stay_exact()
+    ensures present { PresentSees }
+    ensures step { StepsKeepSight }
+{}
+
+/// What a snapshot in use covers in the slots are the rows of its tables, each key once; in a failed state too.
+pub fn snapshots_read_their_tables()
+    ensures { Reads }
+{}
+
+/// A session's key conflicts exactly where its snapshot doesn't cover the last timestamp that was drawn for the key.
+pub fn conflicts_are_of_last_draws()
+    ensures { Conflicts }
+{}
