@@ -18,11 +18,11 @@ use Rattle.device_invariant.proofs.Words.{word-within}
 use Rattle.device_invariant.proofs.Showing.{shows-same}
 
 -- the last values of all words may survive
-leaves-image : (device : Device) → IsOrderly device → MayLeave device (image_of device)
+pub leaves-image : (device : Device) → IsOrderly device → MayLeave device (image_of device)
 leaves-image device orderly = record { size = image_size device; each = λ word lt. subst (Survives device word) (sym (image_word device word lt)) (orderly.some word lt) }
 
 -- it has the state's layout
-ruled-image : (q : State) (device : Device) (hand : Option Hand) → IsOrderly device → HoldsHand q device hand → (r : Record) × IsRuledBy q.layout r (image_of device)
+pub ruled-image : (q : State) (device : Device) (hand : Option Hand) → IsOrderly device → HoldsHand q device hand → (r : Record) × IsRuledBy q.layout r (image_of device)
 ruled-image q device None orderly holds = (q.ruling, holds_ruled q.layout q.ruling device holds (image_of device) (leaves-image device orderly))
 ruled-image q device (Some hand) orderly (inl f) = (q.ruling, holds_ruled q.layout q.ruling device f.follows.holds (image_of device) (leaves-image device orderly))
 ruled-image q device (Some hand) orderly (inr r) = elim (ruled_meanwhile q.ruling (writing_at q hand r.stage) device r.replaces (image_of device) (leaves-image device orderly)) [ inl old ↦ (q.ruling, old) | inr new ↦ (hand.target, new.1) ]

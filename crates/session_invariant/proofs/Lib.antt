@@ -1,0 +1,4 @@
+pub mod Present
+pub mod Sight
+pub mod Reading
+pub mod Conflicts
