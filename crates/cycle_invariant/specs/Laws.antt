@@ -71,10 +71,10 @@ pub record RefusedTicks : Type 0 where
 -- ---- ticks of a batch in hand
 
 -- a device that works has this batch in hand, after so many ticks
-pub record HasInHand (o : Origin) (q : State) (hand : Hand) (ticks : ℕ) (device : Device) : Type 0 where
+pub record HasInHand (o : Origin) (q : State) (hand : Hand) (made : ℕ) (device : Device) : Type 0 where
   pub works : q.failed ≡ false
   pub in_hand : q.hand ≡ Some hand
-  pub ticks : hand.ticks ≡ ticks
+  pub ticks : hand.ticks ≡ made
   pub upholds : Upholds o q device
 
 -- its next line is flushed
