@@ -1,3 +1,7 @@
 pub mod Stages
 pub mod Lines
 pub mod Ticks
+pub mod Runs
+pub mod Covers
+pub mod Lasts
+pub mod Closings

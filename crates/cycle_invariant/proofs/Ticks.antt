@@ -39,7 +39,7 @@ use Rattle.cycle_invariant.proofs.Lines.{lines-in_hand}
 
 -- ---- what the machine says
 
-refusal-in_hand : (q : State) (hand : Hand) → q.failed ≡ false → q.hand ≡ Some hand → refusal q CommitTick ≡ None
+pub refusal-in_hand : (q : State) (hand : Hand) → q.failed ≡ false → q.hand ≡ Some hand → refusal q CommitTick ≡ None
 refusal-in_hand q hand up in_hand = rw (up, in_hand) refl
 
 operates-in_hand : (q : State) (hand : Hand) → q.hand ≡ Some hand → IsTrue (operates q CommitTick)

@@ -1,11 +1,11 @@
 -- Which commits a batch takes, and which lines they touch.
-use Rattle.std.specs.Prelude.{◌≡◌, ℕ, ◌+◌, Bool, true, ◌&&◌, nat_eq, List, [], ◌∷◌, length, map, take_while, fold, IsTrue, Option, Some}
+use Rattle.std.specs.Prelude.{◌≡◌, ℕ, ◌+◌, Bool, nat_eq, List, [], map, take_while, fold, IsTrue, Some}
 use Rattle.std.specs.List.{list_any}
 use Rattle.base.specs.Commits.{Commit}
 use Rattle.base.specs.Records.{Record, are_rising}
-use Rattle.base.specs.Machine.{State, Drawn, drawn_at, drawn_of, is_stamped, standing_gaps}
+use Rattle.base.specs.Machine.{State, Drawn, drawn_at, is_stamped, standing_gaps}
 use Rattle.state_invariant.specs.Kept.{commit_at}
-use Rattle.device_invariant.specs.Log.{Line, lines_in, line_number}
+use Rattle.device_invariant.specs.Log.{lines_in, line_number}
 
 -- the drawn commits from the first on that are stamped whole
 abbrev pub stamped_run : State → List Drawn

@@ -1,5 +1,5 @@
 -- What a close does once nothing is in hand, and from which state it goes on.
-use Rattle.std.specs.Prelude.{◌≡◌, ℕ, ◌+◌, ◌-◌, ◌<◌, ◌^◌, true, List, [], take, Option, None, IsTrue}
+use Rattle.std.specs.Prelude.{◌≡◌, ℕ, ◌+◌, ◌-◌, [], take, None, IsTrue, false}
 use Rattle.std.specs.List.{list_all}
 use Rattle.base.specs.Images.{Image}
 use Rattle.base.specs.Records.{Record}
@@ -18,6 +18,7 @@ closing_record q = record { gate = q.ruling.gate + 1; persisted = q.next - 1; di
 -- a close goes on from such a state: nothing is in hand, and all that is drawn is stamped
 pub record IsClosing (o : Origin) (q : State) (device : Device) : Type 0 where
   pub limits : q.limits ≡ whole_limits
+  pub works : q.failed ≡ false
   pub rests : q.hand ≡ None
   pub stamped : IsTrue (list_all is_stamped q.drawn)
   pub upholds : Upholds o q device

@@ -1,9 +1,9 @@
 -- What follows for every life. Each law stands here in words that need no proof, and a public function promises it.
-use Rattle.std.specs.Prelude.{◌≡◌, ◌≢◌, ℕ, ◌+◌, ◌^◌, ◌<◌, Bool, true, false, ◌&&◌, not, List, [], ◌∷◌, length, slice_get, IsTrue, Option, Some, None}
+use Rattle.std.specs.Prelude.{◌≡◌, ℕ, ◌+◌, ◌^◌, ◌<◌, true, false, ◌&&◌, not, List, [], ◌∷◌, length, slice_get, IsTrue, Some, None}
 use Rattle.std.specs.List.{list_any}
 use Rattle.base.specs.declared.fault.Fault.{Fault}
 use Rattle.base.specs.declared.fault.Fault.TheVariants.{OutOfMemory}
-use Rattle.base.specs.declared.step.Step.TheVariants.{Commit as CommitTick}
+use Rattle.base.specs.declared.step.Step.TheVariants.{Stamp, Commit as CommitTick}
 use Rattle.base.specs.declared.step.Stage.{Stage}
 use Rattle.base.specs.declared.step.Stage.TheVariants.{Chosen, LineFlushed, LinesFenced}
 use Rattle.base.specs.declared.step.Reply.{Reply}
@@ -13,7 +13,7 @@ use Rattle.base.specs.Records.{are_rising}
 use Rattle.base.specs.Images.{Image}
 use Rattle.base.specs.Restrictions.{whole_limits}
 use Rattle.base.specs.Actors.{committer}
-use Rattle.base.specs.Machine.{State, Hand, Stepped, refusal, chosen, reach, passed_over, is_nil, drawn_of, has_other_reason_to_write, is_idle, target_of, taken_in_hand, batch_of, lines_of, state_covered, closing_gate, StandsWithin, StandsClosing, StandsClosed}
+use Rattle.base.specs.Machine.{State, Hand, Stepped, refusal, chosen, is_nil, drawn_of, has_other_reason_to_write, is_idle, target_of, taken_in_hand, batch_of, lines_of, state_covered, closing_gate, next_state, StandsWithin, StandsClosing, StandsClosed}
 use Rattle.pmem.specs.Device.{Device, IsOrderly, MayLeave, flushed, fenced, failed}
 use Rattle.pmem.specs.Words.{LeavesOnly, Spares}
 use Rattle.pmem.specs.Trace.{applied}
@@ -122,7 +122,11 @@ pub record ClosingWrites : Type 0 where
   pub closed : (o : Origin) (q : State) (old new : Device) → IsClosing o q old → HasPersisted q old → closing_gate q < 2 ^ 62 → Spares (IsOutside (begun q.layout (closing_record q))) old new
       → HoldsRecord q.layout (closing_record q) new → (image : Image) → MayLeave new image → StandsClosed q image
 
--- a close goes on from the state after a tick of the batch in hand, or after a step that leaves what is drawn, covered and in hand
+-- A close goes on from the state after a tick of the batch in hand, and after a stamp; and each image that is left within one
+-- of these, or where it fails, stands as within the close
 pub record ClosesOn : Type 0 where
   pub tick : (o : Origin) (q q' : State) (hand : Hand) (reply : Reply) → Keeps o q → q.hand ≡ Some hand → q.failed ≡ false → Stepped q CommitTick reply q' → q'.failed ≡ false → ClosesAs q q'
-  pub meanwhile : (o : Origin) (q q' : State) (hand : Hand) (reply : Reply) (image : Image) → Keeps o q → q.hand ≡ Some hand → q.failed ≡ false → Stepped q CommitTick reply q' → StandsWithin q q' image → StandsClosing q image
+  pub ticking : (q q' : State) (hand : Hand) (reply : Reply) (image : Image) → q.hand ≡ Some hand → q.failed ≡ false → Stepped q CommitTick reply q' → StandsWithin q q' image → StandsClosing q image
+  pub stamp : (q : State) (n : ℕ) → ClosesAs q (next_state q (Stamp n))
+  pub stamping : (q : State) (n : ℕ) (image : Image) → StandsWithin q (next_state q (Stamp n)) image → StandsClosing q image
+  pub failing : (q : State) (image : Image) → StandsWithin q (record q { failed = true }) image → StandsClosing q image

@@ -1,5 +1,5 @@
 -- What a tick of the committer leads to, and what a crash may leave meanwhile.
-use Rattle.std.specs.Prelude.{◌≡◌, ℕ, ◌+◌, ◌≤◌, true}
+use Rattle.std.specs.Prelude.{◌+◌, ◌≤◌, true}
 use Rattle.base.specs.declared.fault.Fault.TheVariants.{Device as DeviceFault}
 use Rattle.base.specs.declared.step.Step.TheVariants.{Commit as CommitTick}
 use Rattle.base.specs.declared.step.Reply.{Reply}
