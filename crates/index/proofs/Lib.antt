@@ -1,0 +1,4 @@
+pub mod KeyOrder
+pub mod Changes
+pub mod Slots
+pub mod Lookups
