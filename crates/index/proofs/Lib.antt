@@ -2,3 +2,4 @@ pub mod KeyOrder
 pub mod Changes
 pub mod Slots
 pub mod Lookups
+pub mod Bounds

@@ -1,6 +1,6 @@
 -- What a snapshot sees of one slot of a device.
 use Rattle.std.proofs.Common.{◌≡◌, ◌⊎◌, inl, inr, ℕ, ◌+◌, ◌*◌, ◌^◌, ◌<◌, ◌≤◌, Bool, true, false, not, ◌&&◌, List, length, get_or, refl, sym, ◌∙◌, ap, subst, arith, lit<, IsTrue}
-use Rattle.std.specs.Prelude.{Option, Some, None}
+use Rattle.std.specs.Prelude.{Option, Some, None, IfSome, IfNone}
 use Rattle.std.proofs.Math.Nat.{mul-le-mul_left}
 use Rattle.std.proofs.lemmas.Bool.{cases_lt}
 use Rattle.std.proofs.lemmas.List.{get_or_past}
@@ -20,6 +20,9 @@ use Rattle.index.specs.Reading.{CountsAs, HasSeen}
 and_true : (a b : Bool) → (a && b) ≡ true → (a ≡ true) × (b ≡ true)
 and_true true b e = (refl, e)
 and_true false b e = absurd (cc e)
+
+apart : false ≡ true → ⊥
+apart e = absurd (cc e)
 
 not_true : (a : Bool) → not a ≡ true → a ≡ false
 not_true true e = absurd (cc e)
@@ -107,21 +110,33 @@ module _ (device : Device) (a : Layout) (slot : ℕ) (size : device.words ≡ to
 
 -- ---- what the snapshot says of it
 
-module _ (device : Device) (a : Layout) (snapshot : Seen) (slot : ℕ) (size : device.words ≡ total_words a) (limited : is_in_limits a ≡ true) (h : slot < a.slots)
-    (counts : ℕ → Bool) (agree : CountsAs counts snapshot a (image_of device)) where
-  begin-counts : counts (begin_of (image_of device) slot) ≡ covers snapshot (slot_at a slot (value_of device) 0)
-  begin-counts = agree.begins slot h ∙ ap (covers snapshot) (begin-same device a slot size limited h agree.laid_out)
+module _ (device : Device) (a : Layout) (snapshot : Seen) (slot : ℕ) (size : device.words ≡ total_words a) (limited : is_in_limits a ≡ true) (h : slot < a.slots) where
+  module _ (counts : ℕ → Bool) (agree : CountsAs counts snapshot a (image_of device)) where
+    begin-counts : (begin : ℕ) → begin ≡ slot_at a slot (value_of device) 0 → counts (begin_of (image_of device) slot) ≡ covers snapshot begin
+    begin-counts begin is = agree.begins slot h ∙ ap (covers snapshot) (begin-same device a slot size limited h agree.laid_out ∙ sym is)
 
-  end-counts : counts (end_of (image_of device) slot) ≡ covers snapshot (slot_at a slot (value_of device) 1)
-  end-counts = agree.ends slot h ∙ ap (covers snapshot) (end-same device a slot size limited h agree.laid_out)
+    end-counts : (end : ℕ) → end ≡ slot_at a slot (value_of device) 1 → counts (end_of (image_of device) slot) ≡ covers snapshot end
+    end-counts end is = agree.ends slot h ∙ ap (covers snapshot) (end-same device a slot size limited h agree.laid_out ∙ sym is)
 
-  -- a slot whose begin isn't covered isn't seen
-  pub unbegun : covers snapshot (slot_at a slot (value_of device) 0) ≡ false → (key : Key) (row : List ℕ) → HasSeen counts (image_of device) slot key row → ⊥
-  unbegun not_covered key row seen = absurd (cc (begin-counts, not_covered, (and_true _ _ seen.live).0))
+    -- a slot whose begin isn't covered isn't seen
+    pub unbegun : (begin : ℕ) → begin ≡ slot_at a slot (value_of device) 0 → covers snapshot begin ≡ false → (key : Key) (row : List ℕ) → HasSeen counts (image_of device) slot key row → ⊥
+    unbegun begin is not_covered key row seen = apart (sym (begin-counts begin is ∙ not_covered) ∙ (and_true _ _ seen.live).0)
 
-  -- nor is one whose end is
-  pub ended : covers snapshot (slot_at a slot (value_of device) 1) ≡ true → (key : Key) (row : List ℕ) → HasSeen counts (image_of device) slot key row → ⊥
-  ended covered key row seen = absurd (cc (end-counts, covered, not_true _ (and_true _ _ seen.live).1))
+    -- nor is one whose end is
+    pub ended : (end : ℕ) → end ≡ slot_at a slot (value_of device) 1 → covers snapshot end ≡ true → (key : Key) (row : List ℕ) → HasSeen counts (image_of device) slot key row → ⊥
+    ended end is covered key row seen = apart (sym (not_true _ (and_true _ _ seen.live).1) ∙ (end-counts end is ∙ covered))
 
-  pub seen-live : covers snapshot (slot_at a slot (value_of device) 0) ≡ true → covers snapshot (slot_at a slot (value_of device) 1) ≡ false → is_live counts (image_of device) slot ≡ true
-  seen-live begun lasts = λ i. (begin-counts ∙ begun) i && not ((end-counts ∙ lasts) i)
+  -- what is read of a slot that is seen
+  pub seen-read : (begin end : ℕ) → begin ≡ slot_at a slot (value_of device) 0 → end ≡ slot_at a slot (value_of device) 1 → covers snapshot begin ≡ true → covers snapshot end ≡ false
+      → (o : Option Slot) → IfSome o (IsSlot a (slot_at a slot (value_of device)))
+      → IfSome o (λ s. (counts : ℕ → Bool) → CountsAs counts snapshot a (image_of device) → HasSeen counts (image_of device) slot s.version.key s.version.row)
+  seen-read begin end begin-is end-is begun lasts (Some s) is = λ counts agree.
+      read-seen device a slot size limited h agree.laid_out counts
+      (λ i. (begin-counts counts agree begin begin-is ∙ begun) i && not ((end-counts counts agree end end-is ∙ lasts) i)) s is
+  seen-read begin end begin-is end-is begun lasts None is = is
+
+  -- where nothing is read, nothing is seen
+  pub none-read : IsOrderly device → (o : Option Slot) → IfNone o ((s : Slot) → IsSlot a (slot_at a slot (value_of device)) s → ⊥)
+      → IfNone o ((counts : ℕ → Bool) → CountsAs counts snapshot a (image_of device) → (key : Key) (row : List ℕ) → HasSeen counts (image_of device) slot key row → ⊥)
+  none-read orderly (Some s) none = none
+  none-read orderly None none = λ counts agree key row seen. no-slot device a slot size limited h agree.laid_out orderly none seen.fits

@@ -35,10 +35,10 @@ pub fn rows<D: Pmem>(
     let Ok(seen) = mapped(alloc, device, geometry, snapshot, table, lo, hi) else {
         return Err(Fault::OutOfMemory);
     };
-    match listed(alloc, seen) {
-        Ok(rows) => Ok(rows),
-        Err(_) => Err(Fault::OutOfMemory),
-    }
+    let Ok(rows) = listed(alloc, seen) else {
+        return Err(Fault::OutOfMemory);
+    };
+    Ok(rows)
 }
 
 // The same rows, as a map.
