@@ -23,7 +23,6 @@ pub returns-clause-run : goal.returns-clause-run
 returns-clause-run c =
     let ds = c.self.inside.commits.items in
     let found : c.position.result ≡ cond (nat_lt (stamped_run ds) (length ds)) (Some (stamped_run ds)) None =
-    position_from_yields_List (λ d. not (is_stamped d)) _ _ c.position.result c.position.ensures.ran (YieldsList-from_slice ds (c.iter.ensures.rest ∙ c.as_slice.ensures.value)) (λ x b q k. search (rules, tests)) in
-    let len : c.len.result ≡ length ds = cc (c.len.ensures, c.as_slice.ensures.value) in
-    c.unwrap_or.ensures ∙ ap (λ (o : Option ℕ). unwrap_or o c.len.result) found ∙ ap (λ (n : ℕ). unwrap_or (cond (nat_lt (stamped_run ds) (length ds)) (Some (stamped_run ds)) None) n) len
+    position_from_yields_List (λ d. not (is_stamped d)) _ _ c.position.result c.position.ensures.ran (YieldsList-from_slice ds (c.iter.ensures.rest ∙ c.as_slice-commits.ensures.value)) (λ x b q k. search (rules, tests)) in
+    c.unwrap_or.ensures ∙ ap (λ (o : Option ℕ). unwrap_or o (length c.as_slice-commits.result.now)) found ∙ ap (λ (n : ℕ). unwrap_or (cond (nat_lt (stamped_run ds) (length ds)) (Some (stamped_run ds)) None) n) (ap (λ (xs : List DrawnCommit). length xs) c.as_slice-commits.ensures.value)
     ∙ or_length (stamped_run ds) (length ds) (run-le ds) ∙ ap (λ (v : InFlight). stamped_run v.commits) c.self.view_is
