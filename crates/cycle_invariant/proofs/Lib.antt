@@ -1,4 +1,5 @@
 pub mod Stages
+pub mod Counting
 pub mod Lines
 pub mod Ticks
 pub mod Runs

@@ -1,6 +1,5 @@
 -- What follows for every life. Each law stands here in words that need no proof, and a public function promises it.
-use Rattle.std.specs.Prelude.{◌≡◌, ℕ, ◌+◌, ◌^◌, ◌<◌, true, false, ◌&&◌, not, List, [], ◌∷◌, length, slice_get, IsTrue, Some, None}
-use Rattle.std.specs.List.{list_any}
+use Rattle.std.specs.Prelude.{◌≡◌, ℕ, ◌+◌, ◌^◌, ◌<◌, true, false, ◌&&◌, not, List, length, slice_get, Some, None}
 use Rattle.base.specs.declared.fault.Fault.{Fault}
 use Rattle.base.specs.declared.fault.Fault.TheVariants.{OutOfMemory}
 use Rattle.base.specs.declared.step.Step.TheVariants.{Stamp, Commit as CommitTick}
@@ -9,7 +8,6 @@ use Rattle.base.specs.declared.step.Stage.TheVariants.{Chosen, LineFlushed, Line
 use Rattle.base.specs.declared.step.Reply.{Reply}
 use Rattle.base.specs.declared.step.Reply.TheVariants.{Idle, Ticked, Covered, Refused}
 use Rattle.base.specs.Commits.{Commit}
-use Rattle.base.specs.Records.{are_rising}
 use Rattle.base.specs.Images.{Image}
 use Rattle.base.specs.Restrictions.{whole_limits}
 use Rattle.base.specs.Actors.{committer}
@@ -27,7 +25,7 @@ use Rattle.device_invariant.specs.Log.{Line, lines_in, line_number, writing_at}
 use Rattle.device_invariant.specs.Laws.{one_tick_on}
 use Rattle.device_invariant.specs.Upholds.{Upholds}
 use Rattle.cycle_invariant.specs.Leads.{Ticks, FailsTick}
-use Rattle.cycle_invariant.specs.Batches.{run_of, record_of_run, AreDrawn, line_numbers, is_line_of}
+use Rattle.cycle_invariant.specs.Batches.{run_of, record_of_run, AreDrawn}
 use Rattle.cycle_invariant.specs.Closing.{closing_record, IsClosing, AreFlushed, HasPersisted, IsClosingOn, ClosesAs}
 
 -- ---- the batch
@@ -44,13 +42,10 @@ pub record RunsAreChosen : Type 0 where
   pub run : (o : Origin) (q : State) → q.limits ≡ whole_limits → Keeps o q → ChoosesRun q
   pub keeps : (o : Origin) (q : State) → Keeps o q → KeepsHand q (taken_in_hand q)
 
--- commits that are drawn touch as many lines as the machine counts, and the numbers of their lines rise
+-- commits that are drawn touch as many lines as the machine counts
 pub record LinesAreCounted : Type 0 where
-  pub counted : (o : Origin) (q : State) (commits : List Commit) → Keeps o q → AreDrawn q commits → length (lines_in q commits) ≡ lines_of q commits
+  pub drawn : (o : Origin) (q : State) (commits : List Commit) → Keeps o q → AreDrawn q commits → length (lines_in q commits) ≡ lines_of q commits
   pub in_hand : (o : Origin) (q : State) (hand : Hand) → Keeps o q → q.hand ≡ Some hand → length (lines_in q hand.commits) ≡ lines_of q hand.commits
-  pub rising : (q : State) (commits : List Commit) → IsTrue (are_rising (line_numbers q commits))
-  -- they are the lines that one of them touches
-  pub each : (q : State) (commits : List Commit) (line : ℕ) → is_line_of line (line_numbers q commits) ≡ list_any (λ commit. is_line_of line (line_numbers q (commit ∷ []))) commits
 
 -- ---- ticks without an operation
 
