@@ -7,7 +7,7 @@ use Rattle.base.specs.Records.{are_rising}
 use Rattle.log_area.specs.declared.stage.WritingStage.{WritingStage}
 use Rattle.log_area.specs.declared.stage.WritingStage.TheVariants.{StoreBody, FlushBody, FenceBody, StoreGate, FlushGate, FenceGate, Done}
 use Rattle.log_area.specs.Stages.{IsStage, next_stage, reached_by, operations_before}
-use Rattle.log_area.specs.Writings.{Progress, operation_of}
+use Rattle.log_area.specs.Writings.{Progress, advanced, operation_of}
 use Rattle.base.specs.declared.step.Stage.TheVariants.{LineFlushed, LinesFenced}
 use Rattle.base.specs.declared.step.Stage.{Stage}
 use Rattle.base.specs.Actors.{committer}
@@ -131,15 +131,16 @@ few Done is un = absurd (un refl)
 -- ---- a tick
 
 module _ (lines : List ℕ) (cycle : Cycling) where
-  next : (ticks : ℕ) → are_rising lines ≡ true → cycle.writing.stage ≢ Done → (s : CycleStage) → IsAt lines ticks cycle.writing s → IsAfter lines (ticks + 1) (ticked_at lines cycle s)
-  next ticks rising un (FlushLines flushed from) at = subst (λ (o : Option ℕ). IsAt lines (ticks + 1) cycle.writing (next_at flushed o)) (sym (find-cut lines flushed from at.1)) (by_line (slice_get lines flushed) refl)
+  next : (ticks : ℕ) → are_rising lines ≡ true → cycle.writing.stage ≢ Done → (s : CycleStage) → cycle.stage ≡ s → IsAt lines ticks cycle.writing s → IsAfter lines (ticks + 1) (ticked_at lines cycle s)
+  next ticks rising un (FlushLines flushed from) same at = subst (λ (o : Option ℕ). IsAt lines (ticks + 1) cycle.writing (next_at flushed o)) (sym (find-cut lines flushed from at.1)) (by_line (slice_get lines flushed) refl)
     where
       by_line : (o : Option ℕ) → slice_get lines flushed ≡ o → IsAt lines (ticks + 1) cycle.writing (next_at flushed o)
       by_line (Some line) is = (omega (arith, at.0), cut-next lines flushed from line rising at.1 is, at.2)
       by_line None is =
           let none : operations_before cycle.writing.stage ≡ 0 = ap operations_before at.2 in
           (omega (arith, at.0, cut-whole lines flushed from at.1 is, none), subst IsStage (sym at.2) (omega arith, omega arith))
-  next ticks rising un WriteRecord at = (omega (arith, at.0, operations-next cycle.writing.stage at.1 un), staged-next cycle.writing.stage at.1)
+  next ticks rising un WriteRecord same at =
+      subst (IsAt lines (ticks + 1) (advanced cycle.writing)) (sym same) (omega (arith, at.0, operations-next cycle.writing.stage at.1 un), staged-next cycle.writing.stage at.1)
 
   line-at : (i line : ℕ) (s : CycleStage) → IsAt lines (1 + i) cycle.writing s → slice_get lines i ≡ Some line → (operation_at lines cycle.writing s ≡ flush_op committer line) × (reached_at lines cycle.writing s ≡ Some (LineFlushed i))
   line-at i line WriteRecord at is = absurd (omega (arith, at.0, slice_get_within lines i line is))
@@ -171,7 +172,7 @@ module _ (lines : List ℕ) (cycle : Cycling) where
 pub ticks-are_counted : TicksAreCounted
 ticks-are_counted = record {
   begins = λ lines cycle stage writing. subst (IsAt lines 1 cycle.writing) (sym stage) (refl, record { within = omega arith; below = λ i line less at. absurd (omega (arith, less)); others = λ i line le at. omega arith }, writing);
-  goes_on = λ lines ticks cycle rising un at. next lines cycle ticks rising un cycle.stage at;
+  goes_on = λ lines ticks cycle rising un at. next lines cycle ticks rising un cycle.stage refl at;
   line = λ lines cycle i line at is. line-at lines cycle i line cycle.stage at is;
   fence = λ lines cycle at. fence-at lines cycle cycle.stage at;
   writes = λ lines ticks cycle at more. writes-at lines cycle ticks cycle.stage at more;

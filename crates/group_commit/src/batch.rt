@@ -1,4 +1,5 @@
-ghost use Rattle.std.specs.Prelude.{◌≡◌, ◌+◌, ◌-◌, ◌*◌, ◌^◌, ◌<◌, ◌≤◌, ◌&&◌, ◌||◌, not, nat_eq, nat_lt, take, map, list_all, list_any, IsTrue, IfOk, ℕ, length};
+ghost use Rattle.std.specs.Prelude.{◌≡◌, ◌+◌, ◌-◌, ◌*◌, ◌^◌, ◌<◌, ◌≤◌, ◌&&◌, ◌||◌, not, nat_eq, nat_lt, take, map, IsTrue, IfOk, ℕ, length};
+ghost use Rattle.std.specs.List.{list_all, list_any};
 ghost use Rattle.dirty_table.specs.Touches.{has};
 ghost use Rattle.group_commit.specs.Choosing.{run, commit_of, last_timestamp, record_of_run, batch_of_run, is_idle, is_numbered};
 

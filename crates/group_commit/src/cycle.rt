@@ -42,7 +42,8 @@ pub struct Covered {
 }
 
 impl Cycle {
-    ghost use Rattle.std.specs.Prelude.{◌≡◌, ◌≢◌, ◌↔◌, ◌+◌, ◌^◌, ◌<◌, ◌≤◌, ℕ, nat_eq, nat_lt, list_all, list_any, Some, None, IsTrue, IfOk, IfErr, OnOk, OnErr};
+    ghost use Rattle.std.specs.Prelude.{◌≡◌, ◌≢◌, ◌↔◌, ◌+◌, ◌^◌, ◌<◌, ◌≤◌, ℕ, nat_eq, nat_lt, Some, None, IsTrue, IfOk, IfErr, OnOk, OnErr};
+    ghost use Rattle.std.specs.List.{list_all, list_any};
     ghost use Rattle.base.specs.Layout.{total_words};
     ghost use Rattle.log_area.specs.declared.stage.WritingStage.TheVariants.{Done};
     ghost use Rattle.log_area.specs.Writings.{begun};
