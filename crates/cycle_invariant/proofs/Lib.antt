@@ -6,3 +6,4 @@ pub mod Runs
 pub mod Covers
 pub mod Lasts
 pub mod Closings
+pub mod Rising

@@ -1,5 +1,6 @@
 -- What follows for every life. Each law stands here in words that need no proof, and a public function promises it.
-use Rattle.std.specs.Prelude.{◌≡◌, ℕ, ◌+◌, ◌^◌, ◌<◌, true, false, ◌&&◌, not, List, length, slice_get, Some, None}
+use Rattle.std.specs.Prelude.{◌≡◌, ℕ, ◌+◌, ◌^◌, ◌<◌, true, false, ◌&&◌, not, List, [], ◌∷◌, length, slice_get, Some, None, IsTrue}
+use Rattle.std.specs.List.{list_any}
 use Rattle.base.specs.declared.fault.Fault.{Fault}
 use Rattle.base.specs.declared.fault.Fault.TheVariants.{OutOfMemory}
 use Rattle.base.specs.declared.step.Step.TheVariants.{Stamp, Commit as CommitTick}
@@ -9,6 +10,7 @@ use Rattle.base.specs.declared.step.Reply.{Reply}
 use Rattle.base.specs.declared.step.Reply.TheVariants.{Idle, Ticked, Covered, Refused}
 use Rattle.base.specs.Commits.{Commit}
 use Rattle.base.specs.Images.{Image}
+use Rattle.base.specs.Records.{are_rising}
 use Rattle.base.specs.Restrictions.{whole_limits}
 use Rattle.base.specs.Actors.{committer}
 use Rattle.base.specs.Machine.{State, Hand, Stepped, refusal, chosen, is_nil, drawn_of, has_other_reason_to_write, is_idle, target_of, taken_in_hand, batch_of, lines_of, state_covered, closing_gate, next_state, StandsWithin, StandsClosing, StandsClosed}
@@ -25,7 +27,7 @@ use Rattle.device_invariant.specs.Log.{Line, lines_in, line_number, writing_at}
 use Rattle.device_invariant.specs.Laws.{one_tick_on}
 use Rattle.device_invariant.specs.Upholds.{Upholds}
 use Rattle.cycle_invariant.specs.Leads.{Ticks, FailsTick}
-use Rattle.cycle_invariant.specs.Batches.{run_of, record_of_run, AreDrawn}
+use Rattle.cycle_invariant.specs.Batches.{run_of, record_of_run, AreDrawn, line_numbers, is_line_of}
 use Rattle.cycle_invariant.specs.Closing.{closing_record, IsClosing, AreFlushed, HasPersisted, IsClosingOn, ClosesAs}
 
 -- ---- the batch
@@ -46,6 +48,12 @@ pub record RunsAreChosen : Type 0 where
 pub record LinesAreCounted : Type 0 where
   pub drawn : (o : Origin) (q : State) (commits : List Commit) → Keeps o q → AreDrawn q commits → length (lines_in q commits) ≡ lines_of q commits
   pub in_hand : (o : Origin) (q : State) (hand : Hand) → Keeps o q → q.hand ≡ Some hand → length (lines_in q hand.commits) ≡ lines_of q hand.commits
+
+-- The numbers of the lines that commits touch rise, and are those of the lines that one of them touches; such a list is one
+pub record LinesRise : Type 0 where
+  pub rising : (q : State) (commits : List Commit) → IsTrue (are_rising (line_numbers q commits))
+  pub each : (q : State) (commits : List Commit) (line : ℕ) → is_line_of line (line_numbers q commits) ≡ list_any (λ commit. is_line_of line (line_numbers q (commit ∷ []))) commits
+  pub one : (xs ys : List ℕ) → IsTrue (are_rising xs) → IsTrue (are_rising ys) → ((line : ℕ) → is_line_of line xs ≡ is_line_of line ys) → xs ≡ ys
 
 -- ---- ticks without an operation
 

@@ -1,4 +1,4 @@
-ghost use Rattle.cycle_invariant.specs.Laws.{RunsAreChosen, LinesAreCounted, IdleTicks, ChoosingTicks, RefusedTicks, LineTicks, FenceTicks, OperationTicks, CoveringTicks, FailingTicks, ClosingFlushes, ClosingWrites, ClosesOn};
+ghost use Rattle.cycle_invariant.specs.Laws.{RunsAreChosen, LinesAreCounted, LinesRise, IdleTicks, ChoosingTicks, RefusedTicks, LineTicks, FenceTicks, OperationTicks, CoveringTicks, FailingTicks, ClosingFlushes, ClosingWrites, ClosesOn};
 
 /// The batch that is chosen is the longest run of drawn commits, from the first on, that are stamped whole, and it keeps
 /// what a batch in hand is to keep.
@@ -9,6 +9,11 @@ pub fn runs_are_chosen()
 /// Drawn commits touch as many lines as the machine counts for them.
 pub fn lines_are_counted()
     ensures { LinesAreCounted }
+{}
+
+/// The lines that commits touch have one rising list: that of the lines that one of them touches.
+pub fn lines_rise()
+    ensures { LinesRise }
 {}
 
 /// A tick with nothing to do.

@@ -1,7 +1,7 @@
 ghost use Rattle.std.specs.Prelude.{◌≡◌, ◌+◌, ◌-◌, ◌*◌, ◌^◌, ◌<◌, ◌≤◌, ◌&&◌, ◌||◌, not, nat_eq, nat_lt, take, map, IsTrue, IfOk, ℕ, length};
 ghost use Rattle.std.specs.List.{list_all, list_any};
 ghost use Rattle.dirty_table.specs.Touches.{has};
-ghost use Rattle.group_commit.specs.Choosing.{run, commit_of, last_timestamp, record_of_run, batch_of_run, is_idle, is_numbered};
+ghost use Rattle.group_commit.specs.Choosing.{run, commit_of, last_timestamp, record_of_run, batch_of_run, is_idle};
 
 use base::batch::{Batch, Commit};
 use base::gap::Gaps;
@@ -50,11 +50,7 @@ pub(crate) fn record_of_run(
     requires countable { next ≤ 2 ^ 62 }
     ensures { result ≡ record_of_run geometry ruling next swept run.now }
 {
-    let gaps = if swept {
-        Gaps::none()
-    } else {
-        ruling.gaps()
-    };
+    let gaps = if swept { Gaps::none() } else { ruling.gaps() };
     let persisted = last_timestamp(ruling.persisted(), run);
     Record::new(ruling.gate() + 1, persisted, next + geometry.window(), gaps)
 }
@@ -76,12 +72,7 @@ pub(crate) fn batch_of_run(
     ensures { IfOk result (λ batch. batch ≡ batch_of_run ruling target run.now) }
 {
     let commits = commits_of(alloc, run)?;
-    Ok(Batch::new(
-        ruling.gate(),
-        target.gate(),
-        target.persisted(),
-        commits,
-    ))
+    Ok(Batch::new(ruling.gate(), target.gate(), target.persisted(), commits))
 }
 
 // What each of them wrote.

@@ -42,7 +42,7 @@ pub struct Covered {
 }
 
 impl Cycle {
-    ghost use Rattle.std.specs.Prelude.{◌≡◌, ◌≢◌, ◌↔◌, ◌+◌, ◌^◌, ◌<◌, ◌≤◌, ℕ, nat_eq, nat_lt, Some, None, IsTrue, IfOk, IfErr, OnOk, OnErr};
+    ghost use Rattle.std.specs.Prelude.{◌≡◌, ◌≢◌, ◌↔◌, ◌+◌, ◌*◌, ◌^◌, ◌<◌, ◌≤◌, ℕ, nat_eq, nat_lt, Some, None, IsTrue, IfOk, IfErr, OnOk, OnErr};
     ghost use Rattle.std.specs.List.{list_all, list_any};
     ghost use Rattle.base.specs.Layout.{total_words};
     ghost use Rattle.log_area.specs.declared.stage.WritingStage.TheVariants.{Done};
@@ -121,6 +121,8 @@ impl Cycle {
         match self.stage {
             CycleStage::FlushLines { flushed, from } => match table.next(&self.sessions, from) {
                 Some(line) => {
+                    let words = device.words();
+                    prove!((line as usize) < words);
                     device.flush(Actor::COMMITTER, line as usize)?;
                     self.stage = CycleStage::FlushLines {
                         flushed: flushed + 1,
@@ -150,5 +152,69 @@ impl Cycle {
             record,
             sessions: self.sessions,
         }
+    }
+}
+
+#[cfg(test)]
+mod tests {
+    use super::*;
+    use base::gap::Gaps;
+    use base::key::Key;
+    use std::test::Fail;
+    use txn::{DrawnCommit, Write, WriteSet};
+
+    // A commit that deletes one key.
+    fn deletion(session: u8, timestamp: Ts, stamped: usize) -> DrawnCommit {
+        let mut writes = WriteSet::new();
+        if !writes.is_full() {
+            writes.put(Write {
+                key: Key {
+                    table: 1,
+                    key: timestamp,
+                },
+                row: None,
+                slot: None,
+                replaces: None,
+            });
+        }
+        DrawnCommit {
+            session,
+            timestamp,
+            writes,
+            stamped,
+        }
+    }
+
+    #[test]
+    fn a_batch_takes_the_stamped_commits_before_the_first_that_is_not(
+        rt: HostRuntime,
+    ) -> Result<(), Fail> {
+        let geometry = Geometry::new(4, 2, 4)?;
+        let ruling = Record::new(1, 4, 12, Gaps::none());
+        let mut drawn = DrawnCommits::new(rt.alloc());
+        assert!(rt; crate::is_idle(geometry, ruling, 8, false, &drawn));
+        for commit in [
+            deletion(2, 5, 1),
+            deletion(3, 6, 1),
+            deletion(4, 7, 0),
+            deletion(5, 8, 1),
+        ] {
+            drawn.reserve()?;
+            drawn.push(commit);
+        }
+        assert!(rt; !crate::is_idle(geometry, ruling, 9, false, &drawn));
+        let cycle = Cycle::begin(rt.alloc(), geometry, ruling, 9, false, &drawn)?;
+        assert!(rt; !cycle.is_done());
+        let covered = cycle.finish();
+        assert_eq!(rt; covered.batch.commits().len(), 2);
+        assert_eq!(rt; covered.batch.from(), 1);
+        assert_eq!(rt; covered.batch.stamp(), 2);
+        assert_eq!(rt; covered.batch.persisted(), 6);
+        assert_eq!(rt; covered.record.persisted(), 6);
+        assert_eq!(rt; covered.record.dirty(), 13);
+        assert!(rt; covered.sessions.contains(3));
+        assert!(rt; !covered.sessions.contains(4));
+        assert!(rt; !covered.sessions.contains(5));
+        Ok(())
     }
 }

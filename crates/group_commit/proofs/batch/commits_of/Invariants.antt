@@ -3,4 +3,4 @@ use Rattle.group_commit.specs.Choosing.{commit_of}
 use Rattle.group_commit.proofs.batch.commits_of.Given as goal
 
 abbrev pub invariant-loop-commit : goal.invariant-loop-commit
-invariant-loop-commit l = l.commits.items ≡ map commit_of (take l.commit-index l.commit-items)
+invariant-loop-commit l = l.commits.items ≡ map commit_of (take l.commit-index l.run)
