@@ -7,3 +7,4 @@ pub mod Covers
 pub mod Lasts
 pub mod Closings
 pub mod Rising
+pub mod Staying

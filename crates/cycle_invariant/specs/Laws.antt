@@ -3,6 +3,7 @@ use Rattle.std.specs.Prelude.{◌≡◌, ℕ, ◌+◌, ◌^◌, ◌<◌, true, f
 use Rattle.std.specs.List.{list_any}
 use Rattle.base.specs.declared.fault.Fault.{Fault}
 use Rattle.base.specs.declared.fault.Fault.TheVariants.{OutOfMemory}
+use Rattle.base.specs.declared.step.Step.{Step}
 use Rattle.base.specs.declared.step.Step.TheVariants.{Stamp, Commit as CommitTick}
 use Rattle.base.specs.declared.step.Stage.{Stage}
 use Rattle.base.specs.declared.step.Stage.TheVariants.{Chosen, LineFlushed, LinesFenced}
@@ -10,6 +11,7 @@ use Rattle.base.specs.declared.step.Reply.{Reply}
 use Rattle.base.specs.declared.step.Reply.TheVariants.{Idle, Ticked, Covered, Refused}
 use Rattle.base.specs.Commits.{Commit}
 use Rattle.base.specs.Images.{Image}
+use Rattle.base.specs.Laws.{is_no_tick}
 use Rattle.base.specs.Records.{are_rising}
 use Rattle.base.specs.Restrictions.{whole_limits}
 use Rattle.base.specs.Actors.{committer}
@@ -54,6 +56,11 @@ pub record LinesRise : Type 0 where
   pub rising : (q : State) (commits : List Commit) → IsTrue (are_rising (line_numbers q commits))
   pub each : (q : State) (commits : List Commit) (line : ℕ) → is_line_of line (line_numbers q commits) ≡ list_any (λ commit. is_line_of line (line_numbers q (commit ∷ []))) commits
   pub one : (xs ys : List ℕ) → IsTrue (are_rising xs) → IsTrue (are_rising ys) → ((line : ℕ) → is_line_of line xs ≡ is_line_of line ys) → xs ≡ ys
+
+-- the lines of the batch in hand stay over each step of a session
+abbrev pub LinesStay : Type 0
+LinesStay = (o : Origin) (q : State) (step : Step) (reply : Reply) (q' : State) (hand : Hand) → Keeps o q → q.hand ≡ Some hand → IsTrue (is_no_tick step) → Stepped q step reply q'
+    → lines_in q' hand.commits ≡ lines_in q hand.commits
 
 -- ---- ticks without an operation
 

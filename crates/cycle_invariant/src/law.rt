@@ -1,4 +1,4 @@
-ghost use Rattle.cycle_invariant.specs.Laws.{RunsAreChosen, LinesAreCounted, LinesRise, IdleTicks, ChoosingTicks, RefusedTicks, LineTicks, FenceTicks, OperationTicks, CoveringTicks, FailingTicks, ClosingFlushes, ClosingWrites, ClosesOn};
+ghost use Rattle.cycle_invariant.specs.Laws.{RunsAreChosen, LinesAreCounted, LinesRise, LinesStay, IdleTicks, ChoosingTicks, RefusedTicks, LineTicks, FenceTicks, OperationTicks, CoveringTicks, FailingTicks, ClosingFlushes, ClosingWrites, ClosesOn};
 
 /// The batch that is chosen is the longest run of drawn commits, from the first on, that are stamped whole, and it keeps
 /// what a batch in hand is to keep.
@@ -14,6 +14,11 @@ pub fn lines_are_counted()
 /// The lines that commits touch have one rising list: that of the lines that one of them touches.
 pub fn lines_rise()
     ensures { LinesRise }
+{}
+
+/// No step of a session changes which lines the batch in hand touches.
+pub fn lines_stay()
+    ensures { LinesStay }
 {}
 
 /// A tick with nothing to do.

@@ -38,6 +38,10 @@ record_of_run layout ruling next swept commits = record {
   longs = [];
 }
 
+-- the record that a close writes last: it persists all that is drawn, and reserves nothing
+abbrev pub closing_record : Record → ℕ → Bool → Record
+closing_record ruling next swept = record { gate = ruling.gate + 1; persisted = next - 1; dirty = next; gaps = standing_gaps swept ruling; longs = [] }
+
 -- the batch that this record covers
 abbrev pub batch_of_run : Record → Record → List DrawnCommit → Batch
 batch_of_run ruling target commits = record { from = ruling.gate; stamp = target.gate; persisted = target.persisted; commits = map commit_of commits }

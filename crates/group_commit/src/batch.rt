@@ -1,7 +1,7 @@
 ghost use Rattle.std.specs.Prelude.{◌≡◌, ◌+◌, ◌-◌, ◌*◌, ◌^◌, ◌<◌, ◌≤◌, ◌&&◌, ◌||◌, not, nat_eq, nat_lt, take, map, IsTrue, IfOk, ℕ, length};
 ghost use Rattle.std.specs.List.{list_all, list_any};
 ghost use Rattle.dirty_table.specs.Touches.{has};
-ghost use Rattle.group_commit.specs.Choosing.{run, commit_of, last_timestamp, record_of_run, batch_of_run, is_idle};
+ghost use Rattle.group_commit.specs.Choosing.{run, commit_of, last_timestamp, standing_gaps, record_of_run, closing_record, batch_of_run, is_idle};
 
 use base::batch::{Batch, Commit};
 use base::gap::Gaps;
@@ -50,9 +50,26 @@ pub(crate) fn record_of_run(
     requires countable { next ≤ 2 ^ 62 }
     ensures { result ≡ record_of_run geometry ruling next swept run.now }
 {
-    let gaps = if swept { Gaps::none() } else { ruling.gaps() };
     let persisted = last_timestamp(ruling.persisted(), run);
-    Record::new(ruling.gate() + 1, persisted, next + geometry.window(), gaps)
+    let dirty = next + geometry.window();
+    let gaps = standing_gaps(ruling, swept);
+    Record::new(ruling.gate() + 1, persisted, dirty, gaps)
+}
+
+/// The record that a close writes last: it persists all that is drawn, and reserves no timestamp.
+pub fn closing_record(ruling: Record, next: Ts, swept: bool) -> Record
+    requires { ruling.gate < 2 ^ 62 }
+    ensures { result ≡ closing_record ruling next swept }
+{
+    let gaps = standing_gaps(ruling, swept);
+    Record::new(ruling.gate() + 1, next.saturating_sub(1), next, gaps)
+}
+
+// The gaps that the next record names.
+fn standing_gaps(ruling: Record, swept: bool) -> Gaps
+    ensures { result ≡ standing_gaps swept ruling }
+{
+    if swept { Gaps::none() } else { ruling.gaps() }
 }
 
 // The timestamp of the last of the commits, or the one before where there is none.

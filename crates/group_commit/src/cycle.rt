@@ -157,6 +157,8 @@ impl Cycle {
 
 #[cfg(test)]
 mod tests {
+    ghost use Rattle.std.specs.Prelude.{◌≡◌};
+
     use super::*;
     use base::gap::Gaps;
     use base::key::Key;
@@ -164,7 +166,9 @@ mod tests {
     use txn::{DrawnCommit, Write, WriteSet};
 
     // A commit that deletes one key.
-    fn deletion(session: u8, timestamp: Ts, stamped: usize) -> DrawnCommit {
+    fn deletion(session: u8, timestamp: Ts, stamped: usize) -> DrawnCommit
+        ensures { result.session ≡ session }
+    {
         let mut writes = WriteSet::new();
         if !writes.is_full() {
             writes.put(Write {
@@ -193,28 +197,26 @@ mod tests {
         let ruling = Record::new(1, 4, 12, Gaps::none());
         let mut drawn = DrawnCommits::new(rt.alloc());
         assert!(rt; crate::is_idle(geometry, ruling, 8, false, &drawn));
-        for commit in [
-            deletion(2, 5, 1),
-            deletion(3, 6, 1),
-            deletion(4, 7, 0),
-            deletion(5, 8, 1),
-        ] {
-            drawn.reserve()?;
-            drawn.push(commit);
-        }
-        assert!(rt; !crate::is_idle(geometry, ruling, 9, false, &drawn));
-        let cycle = Cycle::begin(rt.alloc(), geometry, ruling, 9, false, &drawn)?;
+        drawn.reserve()?;
+        drawn.push(deletion(2, 5, 1));
+        drawn.reserve()?;
+        drawn.push(deletion(3, 6, 0));
+        drawn.reserve()?;
+        drawn.push(deletion(4, 7, 1));
+        assert!(rt; !crate::is_idle(geometry, ruling, 8, false, &drawn));
+        let cycle = Cycle::begin(rt.alloc(), geometry, ruling, 8, false, &drawn)?;
         assert!(rt; !cycle.is_done());
         let covered = cycle.finish();
-        assert_eq!(rt; covered.batch.commits().len(), 2);
+        assert_eq!(rt; covered.batch.commits().len(), 1);
         assert_eq!(rt; covered.batch.from(), 1);
         assert_eq!(rt; covered.batch.stamp(), 2);
-        assert_eq!(rt; covered.batch.persisted(), 6);
-        assert_eq!(rt; covered.record.persisted(), 6);
-        assert_eq!(rt; covered.record.dirty(), 13);
-        assert!(rt; covered.sessions.contains(3));
+        assert_eq!(rt; covered.batch.persisted(), 5);
+        assert_eq!(rt; covered.record.persisted(), 5);
+        assert_eq!(rt; covered.record.dirty(), 12);
+        assert_eq!(rt; crate::closing_record(ruling, 8, false).persisted(), 7);
+        assert!(rt; covered.sessions.contains(2));
+        assert!(rt; !covered.sessions.contains(3));
         assert!(rt; !covered.sessions.contains(4));
-        assert!(rt; !covered.sessions.contains(5));
         Ok(())
     }
 }

@@ -7,7 +7,7 @@ mod cycle;
 mod law;
 mod stage;
 
-pub use batch::is_idle;
+pub use batch::{closing_record, is_idle};
 pub use cycle::{Covered, Cycle};
 pub use law::ticks_are_counted;
 pub use stage::CycleStage;
