@@ -1,27 +1,25 @@
 -- The last part of a close: what is drawn is made to persist, and the record that covers it is written.
-use Rattle.std.proofs.Common.{◌≡◌, ◌⊎◌, inl, inr, ℕ, zero, suc, ◌+◌, ◌-◌, ◌^◌, ◌<◌, ◌≤◌, Bool, true, false, cond, not, ◌&&◌, ◌||◌, List, [], ◌∷◌, ◌++◌, length, map, filter, take, refl, sym, ◌∙◌, ap, subst, arith, true≢false}
-use Rattle.std.specs.Prelude.{Option, Some, None, is_some, slice_get, IsTrue, Contains, nat_eq, nat_lt, nat_le, take_while, if◌then◌else◌}
-use Rattle.std.specs.List.{list_all, list_any}
-use Rattle.std.proofs.lemmas.Bool.{and_parts, and_from, or_cases, cases_lt, eqb-true, ltb-true}
+use Rattle.std.proofs.Common.{◌≡◌, inl, inr, ℕ, zero, suc, ◌+◌, ◌-◌, ◌^◌, ◌<◌, ◌≤◌, Bool, true, cond, ◌||◌, List, [], ◌∷◌, ◌++◌, length, map, filter, take, refl, sym, ◌∙◌, ap, subst, arith}
+use Rattle.std.specs.Prelude.{Option, Some, is_some, slice_get, nat_eq, take_while}
+use Rattle.std.specs.List.{list_all}
+use Rattle.std.proofs.lemmas.Bool.{and_parts, or_cases, cases_lt}
 use Rattle.std.proofs.lemmas.List.{take_all}
 use Rattle.std.proofs.lemmas.List.Folds.{list_any-append}
 use Rattle.std.proofs.lemmas.List.Sums.{take_while-cons}
-use Rattle.base.specs.declared.gap.Gap.{Gap}
 use Rattle.base.specs.Actors.{committer}
 use Rattle.base.specs.Commits.{Commit}
 use Rattle.base.specs.Images.{Image, IsRuledBy}
-use Rattle.base.specs.Layout.{most_longs}
 use Rattle.base.specs.Records.{Record, is_committed, is_well_formed}
 use Rattle.base.specs.Stands.{has_timestamp}
-use Rattle.base.specs.Machine.{State, Hand, Cover, Drawn, is_stamped, chosen, reach, passed_over, standing_gaps, target_of, taken_in_hand, state_covered, present, uncovered, drawn_of, in_hand, closed, closing_gate, covers_at, covers_closing, StandsUnder, StandsAt, StandsClosing, StandsClosed}
-use Rattle.pmem.specs.Device.{Device, IsOrderly, MayLeave, flushed, fenced, failed}
+use Rattle.base.specs.Machine.{State, Hand, Cover, Drawn, is_stamped, chosen, reach, passed_over, standing_gaps, target_of, taken_in_hand, state_covered, present, uncovered, drawn_of, closed, closing_gate, StandsUnder, StandsClosing, StandsClosed}
+use Rattle.pmem.specs.Device.{Device, MayLeave}
 use Rattle.pmem.specs.Words.{LeavesOnly, HasOldWords, Spares, value_of}
 use Rattle.pmem.proofs.Images.{leaves-flushed, leaves-fenced, leaves-failed}
 use Rattle.log_area.specs.Rulings.{HoldsRecord}
-use Rattle.log_area.specs.Writings.{Progress, begun, IsOutside, IsNextRecord, IsRuledByEither}
+use Rattle.log_area.specs.Writings.{begun, IsOutside, IsNextRecord, IsRuledByEither}
 use Rattle.log_area.proofs.Replacing.{holds_ruled}
 use Rattle.log_area.proofs.Rulings.{place_below}
-use Rattle.state_invariant.specs.Kept.{Origin, Keeps, KeepsHand, commits_of_life, covered_since}
+use Rattle.state_invariant.specs.Kept.{Origin, Keeps, KeepsHand, covered_since}
 use Rattle.state_invariant.specs.Shown.{word_of}
 use Rattle.state_invariant.proofs.Lists.{all-drop}
 use Rattle.state_invariant.proofs.Commits.{timestamp-all, committed-bounds}
@@ -41,7 +39,6 @@ use Rattle.device_invariant.proofs.Ticking.{line-flushed, lines-settled}
 use Rattle.device_invariant.proofs.Upheld.{every-image-stands, safe, stands-in_hand}
 use Rattle.device_invariant.proofs.Words.{word-within, slots-survive}
 use Rattle.pmem.proofs.Changes.{flushed-shrinks}
-use Rattle.cycle_invariant.specs.Batches.{run_of}
 use Rattle.cycle_invariant.specs.Closing.{closing_record, IsClosing, AreFlushed, HasPersisted, IsClosingOn}
 use Rattle.cycle_invariant.specs.Laws.{ClosingFlushes, ClosingWrites}
 use Rattle.cycle_invariant.proofs.Covers.{at-closing, at-first, closing-at, closing-last}

@@ -2,14 +2,14 @@
 use Rattle.std.proofs.Common.{◌≡◌, ◌≢◌, ◌⊎◌, inl, inr, ℕ, zero, suc, ◌+◌, ◌*◌, ◌/◌, ◌<◌, ◌≤◌, Bool, true, false, cond, ◌&&◌, ◌||◌, List, [], ◌∷◌, ◌++◌, map, refl, sym, ◌∙◌, ap, subst, arith, true≢false}
 use Rattle.std.specs.Prelude.{Option, Some, None, nat_eq, nat_lt, nat_le}
 use Rattle.std.specs.List.{list_any, list_all, range_with_len, flat_map}
-use Rattle.std.proofs.lemmas.Bool.{and_parts, and_from, eq-eqb, eqb-true, leb-true, ltb-true, le-leb, lt-ltb, ne_eqb, or_cases, or_from, or_left, cases_eq, cases_lt}
+use Rattle.std.proofs.lemmas.Bool.{and_parts, and_from, eq-eqb, leb-true, ltb-true, le-leb, lt-ltb, ne_eqb, or_cases, or_from, or_left, cases_eq, cases_lt}
 use Rattle.std.proofs.lemmas.List.Folds.{list_all-append, list_any-append}
 use Rattle.base.specs.Commits.{Commit, writes_key}
-use Rattle.base.specs.Layout.{Layout, slot_start, slot_words}
+use Rattle.base.specs.Layout.{Layout, slot_start}
 use Rattle.base.specs.Machine.{State, Version, Writer, BySession, ByCommit, version_lines}
 use Rattle.base.specs.Records.{are_rising}
 use Rattle.state_invariant.proofs.Lists.{rising-above, rising-rest, rising-with}
-use Rattle.device_invariant.specs.Log.{Line, line_at, line_number, lines_at, lines_in, is_one_of, is_last_on, is_own, is_ended}
+use Rattle.device_invariant.specs.Log.{Line, line_at, line_number, lines_at, is_one_of, is_last_on, is_own, is_ended}
 use Rattle.cycle_invariant.specs.Batches.{line_numbers, is_line_of}
 use Rattle.cycle_invariant.specs.Laws.{LinesRise}
 

@@ -1,8 +1,8 @@
 -- The lines of the batch in hand stay over each step of a session.
-use Rattle.std.proofs.Common.{◌≡◌, ◌⊎◌, inl, inr, ℕ, zero, suc, ◌+◌, ◌<◌, ◌≤◌, Bool, true, false, cond, ◌&&◌, List, [], ◌∷◌, ◌++◌, refl, sym, ◌∙◌, ap, subst, arith, true≢false}
+use Rattle.std.proofs.Common.{◌≡◌, ◌⊎◌, inl, inr, ℕ, zero, suc, ◌+◌, ◌<◌, ◌≤◌, Bool, true, false, cond, ◌&&◌, List, [], ◌∷◌, ◌++◌, refl, sym, ◌∙◌, ap, arith}
 use Rattle.std.specs.Prelude.{Option, Some, None, nat_eq, is_none}
 use Rattle.std.specs.List.{range_with_len, flat_map, list_any}
-use Rattle.std.proofs.lemmas.Bool.{and_left, and_parts, ne_eqb, eqb-true, eq-eqb, cases_eq, false_from_ne_true}
+use Rattle.std.proofs.lemmas.Bool.{and_parts, ne_eqb, eqb-true, false_from_ne_true}
 use Rattle.base.specs.declared.key.Key.{Key}
 use Rattle.base.specs.declared.step.Step.{Step}
 use Rattle.base.specs.declared.step.Step.TheVariants.{Begin, Get, Put, Delete, Draw, Stamp, Poll, Abort, End, Commit as CommitTick}
@@ -12,13 +12,12 @@ use Rattle.base.specs.Commits.{Commit, Writes, writes_key, last_writer}
 use Rattle.base.specs.Laws.{is_no_tick}
 use Rattle.base.specs.Records.{is_committed}
 use Rattle.base.specs.Stands.{has_timestamp}
-use Rattle.base.specs.Machine.{State, Hand, Version, Writer, BySession, ByCommit, Stepped, refused, answered, memory_refused, device_failed, next_state, state_drawn, writes_of, free_slot, own_slot, held_at, held_with, replaced, held_after_put, held_after_delete, held_after_abort, is_by, is_own_at, is_held_by, by_commit, drawn_at, version_lines}
-use Rattle.state_invariant.specs.Kept.{Origin, Keeps, KeepsHand, version_by, commit_at}
+use Rattle.base.specs.Machine.{State, Hand, Version, Writer, BySession, ByCommit, Stepped, refused, answered, memory_refused, device_failed, next_state, state_drawn, writes_of, free_slot, own_slot, held_at, held_with, held_after_put, held_after_delete, held_after_abort, is_by, is_own_at, is_held_by, by_commit, version_lines}
+use Rattle.state_invariant.specs.Kept.{Origin, Keeps, KeepsHand, version_by}
 use Rattle.state_invariant.proofs.Lookups.{first_below-some}
 use Rattle.state_invariant.proofs.Commits.{commit_at-has, committed-bounds}
-use Rattle.device_invariant.specs.Log.{Line, line_at, lines_at, lines_in, line_number, is_one_of, is_last_on, is_own, is_ended}
+use Rattle.device_invariant.specs.Log.{Line, line_at, lines_at, lines_in, is_one_of, is_last_on, is_own, is_ended}
 use Rattle.device_invariant.proofs.Says.{drawn-bounds, last-committed}
-use Rattle.cycle_invariant.specs.Batches.{line_numbers}
 use Rattle.cycle_invariant.specs.Laws.{LinesStay}
 
 -- a version that takes the place of another is as much the batch's own, and as much ended by it

@@ -1,39 +1,36 @@
 -- Each tick is a step of the plain machine, and each image that it leaves stands.
-use Rattle.std.proofs.Common.{◌≡◌, ◌≢◌, ◌⊎◌, inl, inr, ℕ, ◌+◌, ◌^◌, ◌<◌, ◌≤◌, Bool, true, false, cond, not, ◌&&◌, List, [], ◌∷◌, ◌++◌, length, get_or, refl, sym, ◌∙◌, ap, subst, arith, true≢false}
+use Rattle.std.proofs.Common.{◌≡◌, ◌≢◌, inl, inr, ℕ, ◌+◌, ◌^◌, ◌<◌, ◌≤◌, Bool, true, false, cond, not, ◌&&◌, [], ◌∷◌, ◌++◌, length, get_or, refl, sym, ◌∙◌, ap, subst, arith, true≢false}
 use Rattle.std.specs.Prelude.{Option, Some, None, is_none, is_some, nat_le, slice_get, IsTrue, Contains}
 use Rattle.std.specs.Option.{option_or}
 use Rattle.std.proofs.lemmas.Bool.{leb-false}
 use Rattle.std.proofs.lemmas.Option.{slice_get_within}
 use Rattle.std.proofs.lemmas.List.Elements.{Contains-append_left, Contains-append_right, Contains-append_cases}
-use Rattle.base.specs.declared.fault.Fault.{Fault}
-use Rattle.base.specs.declared.fault.Fault.TheVariants.{Failed, TimestampsOut, OutOfMemory, Device as DeviceFault}
+use Rattle.base.specs.declared.fault.Fault.TheVariants.{Failed, TimestampsOut}
 use Rattle.base.specs.declared.step.Step.TheVariants.{Commit as CommitTick}
 use Rattle.base.specs.declared.step.Stage.{Stage}
 use Rattle.base.specs.declared.step.Stage.TheVariants.{Chosen, LineFlushed, LinesFenced}
-use Rattle.base.specs.declared.step.Reply.{Reply}
-use Rattle.base.specs.declared.step.Reply.TheVariants.{Idle, Ticked, Covered, Refused}
+use Rattle.base.specs.declared.step.Reply.TheVariants.{Idle, Ticked}
 use Rattle.base.specs.Images.{Image}
 use Rattle.base.specs.Search.{some_if}
-use Rattle.base.specs.Actors.{committer}
-use Rattle.base.specs.Machine.{State, Hand, Stepped, refused, answered, memory_refused, device_failed, refusal, chooses, is_idle, taken_in_hand, operates, takes_memory, most_operations, ticked, ticked_on, state_ticked, state_ticked_on, next_stage, stages, lines_of, batch_of, state_covered, Cover, present, of_hand, covers_at, StandsUnder, StandsAt, StandsWithin}
+use Rattle.base.specs.Machine.{State, Hand, refused, answered, memory_refused, device_failed, refusal, is_idle, taken_in_hand, operates, most_operations, ticked, ticked_on, state_ticked, state_ticked_on, next_stage, stages, state_covered, Cover, present, of_hand, covers_at, StandsUnder, StandsAt, StandsWithin}
 use Rattle.base.proofs.Runs.{StandsAt-within}
-use Rattle.pmem.specs.Device.{Device, IsOrderly, MayLeave, stored, flushed, fenced, failed}
-use Rattle.pmem.specs.Words.{Continues, LeavesOnly, HasNoFailure, HasOneFailure, operations_of}
+use Rattle.pmem.specs.Device.{Device, IsOrderly, MayLeave, stored, flushed, fenced}
+use Rattle.pmem.specs.Words.{Continues, operations_of}
 use Rattle.pmem.specs.Trace.{applied}
-use Rattle.pmem.proofs.Images.{leaves_refl, leaves_one, leaves-failed, continues-stored, continues-flushed, continues-fenced, continues-failed}
+use Rattle.pmem.proofs.Images.{leaves_refl, leaves_one, leaves-failed, continues-stored, continues-flushed, continues-fenced}
 use Rattle.log_area.specs.declared.stage.WritingStage.{WritingStage}
 use Rattle.log_area.specs.declared.stage.WritingStage.TheVariants.{StoreBody, FlushBody, FenceBody, StoreGate, FlushGate, FenceGate, Done}
-use Rattle.log_area.specs.Stages.{IsStage, reached_by, operations_before}
-use Rattle.log_area.specs.Writings.{operation_at, operation_of}
-use Rattle.state_invariant.specs.Kept.{Origin, Keeps, KeepsHand}
+use Rattle.log_area.specs.Stages.{operations_before}
+use Rattle.log_area.specs.Writings.{operation_of}
+use Rattle.state_invariant.specs.Kept.{Origin, Keeps}
 use Rattle.state_invariant.proofs.Choosing.{keeps-chosen}
 use Rattle.device_invariant.specs.Log.{lines_in, writing_at}
 use Rattle.device_invariant.specs.Laws.{one_tick_on}
 use Rattle.device_invariant.specs.Upholds.{Upholds}
 use Rattle.device_invariant.proofs.Upheld.{every-image-stands, stands-in_hand}
 use Rattle.device_invariant.proofs.Laws.{failures-keep, choosing-keeps, line-keeps, lines-keep, operation-keeps, covering-keeps}
-use Rattle.cycle_invariant.specs.Leads.{Leads, Ticks, FailsTick}
-use Rattle.cycle_invariant.specs.Laws.{IdleTicks, ChoosingTicks, RefusedTicks, HasInHand, LineTicks, FenceTicks, OperationTicks, CoveringTicks, FailingTicks}
+use Rattle.cycle_invariant.specs.Leads.{Leads, Ticks}
+use Rattle.cycle_invariant.specs.Laws.{IdleTicks, ChoosingTicks, RefusedTicks, LineTicks, FenceTicks, OperationTicks, CoveringTicks, FailingTicks}
 use Rattle.cycle_invariant.proofs.Stages.{stage-line, stage-fence, stage-reached, not_done, more_left}
 use Rattle.cycle_invariant.proofs.Lines.{lines-in_hand}
 

@@ -6,6 +6,8 @@ mod batch;
 mod cycle;
 mod law;
 mod stage;
+#[cfg(test)]
+mod tests;
 
 pub use batch::{closing_record, is_idle};
 pub use cycle::{Covered, Cycle};
