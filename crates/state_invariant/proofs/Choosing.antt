@@ -19,7 +19,7 @@ use Rattle.state_invariant.proofs.Covering.{no_gap-above}
 
 -- ---- the greatest of a list
 
-max-least : (p : ℕ) (ts : List ℕ) → p ≤ fold max p ts
+pub max-least : (p : ℕ) (ts : List ℕ) → p ≤ fold max p ts
 max-least p [] = omega arith
 max-least p (t ∷ ts) = omega (arith, max-least (max p t) ts)
 
@@ -37,7 +37,7 @@ max-below p bound (t ∷ ts) below all =
     let both = and_parts (nat_lt t bound) (list_all (λ t. nat_lt t bound) ts) all in
     max-below (max p t) bound ts (omega (arith, below, ltb-true t bound both.0)) both.1
 
-max-has : (p t : ℕ) (ts : List ℕ) → list_any (nat_le t) ts ≡ true → t ≤ fold max p ts
+pub max-has : (p t : ℕ) (ts : List ℕ) → list_any (nat_le t) ts ≡ true → t ≤ fold max p ts
 max-has p t [] any = absurd (cc any)
 max-has p t (u ∷ ts) any =
     elim (or_cases (nat_le t u) (list_any (nat_le t) ts) any) [
@@ -76,7 +76,7 @@ any-by_timestamp r (x ∷ ds) rising any =
     ]
 
 -- what each that is found has, all have
-all-by_found : (p : Drawn → Bool) (ds : List Drawn) → are_rising (map time_of ds) ≡ true → ((d : Drawn) → find (λ (e : Drawn). nat_eq e.commit.timestamp (time_of d)) ds ≡ Some d → p d ≡ true) → list_all p ds ≡ true
+pub all-by_found : (p : Drawn → Bool) (ds : List Drawn) → are_rising (map time_of ds) ≡ true → ((d : Drawn) → find (λ (e : Drawn). nat_eq e.commit.timestamp (time_of d)) ds ≡ Some d → p d ≡ true) → list_all p ds ≡ true
 all-by_found p [] rising each = refl
 all-by_found p (x ∷ ds) rising each =
     and_from (p x) (list_all p ds)
@@ -204,7 +204,7 @@ version-one a limits =
     let one : 1 ≡ a.version = omega (arith, leb-true 1 a.version both.0, leb-true a.version 1 both.1) in
     subst (λ (v : ℕ). most_longs v ≡ 0) one refl
 
-window-limits : (a : Layout) → is_in_limits a ≡ true → 0 < a.window
+pub window-limits : (a : Layout) → is_in_limits a ≡ true → 0 < a.window
 window-limits a limits =
     let rest = (and_parts (is_known_version a.version) (is_between 1 65536 a.slots && (is_between 2 64 a.places && is_between 4 1024 a.window)) limits).1 in
     let places = (and_parts (is_between 1 65536 a.slots) (is_between 2 64 a.places && is_between 4 1024 a.window) rest).1 in
@@ -239,7 +239,7 @@ module _ (o : Origin) (q : State) (kept : Keeps o q) where
       by true = refl
       by false = sym (take-length run)
 
-  rising : are_rising (map time_of q.drawn) ≡ true
+  pub rising : are_rising (map time_of q.drawn) ≡ true
   rising = kept.draws.rising
 
   run-rising : are_rising (map (λ (c : Commit). c.timestamp) run) ≡ true
@@ -263,7 +263,7 @@ module _ (o : Origin) (q : State) (kept : Keeps o q) where
   drawn-fact p t d all found = find-all (λ (d : Drawn). nat_eq d.commit.timestamp t) p q.drawn d all found
 
   -- what is drawn lies above what is persisted, and below the next timestamp
-  bounds : (t : ℕ) (d : Drawn) → drawn_at q t ≡ Some d → (time_of d ≡ t) × (o.ruling.persisted < t) × (q.ruling.persisted < t) × (t < q.next)
+  pub bounds : (t : ℕ) (d : Drawn) → drawn_at q t ≡ Some d → (time_of d ≡ t) × (o.ruling.persisted < t) × (q.ruling.persisted < t) × (t < q.next)
   bounds t d found =
       let is : time_of d ≡ t = drawn_at-timestamp q t d found in
       let above : o.ruling.persisted < time_of d = ltb-true o.ruling.persisted (time_of d) (drawn-fact (λ d. nat_lt o.ruling.persisted d.commit.timestamp) t d kept.numbers.origin.drawn found) in
@@ -280,7 +280,7 @@ module _ (o : Origin) (q : State) (kept : Keeps o q) where
           cc clash
 
   -- up to the end of the run all are stamped
-  run-stamped : (t : ℕ) (d : Drawn) → drawn_at q t ≡ Some d → t ≤ end_of_run q → is_stamped d ≡ true
+  pub run-stamped : (t : ℕ) (d : Drawn) → drawn_at q t ≡ Some d → t ≤ end_of_run q → is_stamped d ≡ true
   run-stamped t d found le =
       let b = bounds t d found in
       let any = max-among q.ruling.persisted t (map time_of (filter (may_be_covered q) q.drawn)) le b.2 in
@@ -358,7 +358,7 @@ module _ (o : Origin) (q : State) (kept : Keeps o q) where
   reach-next = max-below q.ruling.persisted q.next (map (λ (c : Commit). c.timestamp) (chosen q)) kept.numbers.persisted
       (all-map (λ t. nat_lt t q.next) (λ (c : Commit). c.timestamp) (chosen q) (all-by_timestamp (λ t. nat_lt t q.next) (chosen q) (λ t has. let d = chosen-found t has in lt-ltb t q.next (bounds t d.0 d.1).3)))
 
-  none-passed : passed_over q ≡ []
+  pub none-passed : passed_over q ≡ []
   none-passed = ap (λ (ds : List Drawn). map (λ d. d.commit.timestamp) ds) (filter-none (λ d. not (is_stamped d) && nat_le d.commit.timestamp (reach q)) q.drawn (all-by_found (λ d. not (not (is_stamped d) && nat_le d.commit.timestamp (reach q))) q.drawn rising passes))
     where
       by : (a b : Bool) → (b ≡ true → a ≡ true) → not (not a && b) ≡ true

@@ -1,2 +1,6 @@
 pub mod WriteSets
 pub mod Fixed
+pub mod Tables
+pub mod Transactions
+pub mod InFlight
+pub mod DrawnCommits

@@ -1,0 +1,127 @@
+ghost use Rattle.std.specs.Prelude.{◌≡◌, ◌+◌, ◌-◌, ◌*◌, ◌^◌, ◌<◌, ◌≤◌, ◌&&◌, ◌||◌, not, nat_eq, nat_lt, take, map, IsTrue, IfOk, ℕ, length};
+ghost use Rattle.std.specs.List.{list_all, list_any};
+ghost use Rattle.dirty_table.specs.Touches.{has};
+ghost use Rattle.group_commit.specs.Choosing.{run, commit_of, last_timestamp, standing_gaps, record_of_run, closing_record, batch_of_run, is_idle};
+
+use base::batch::{Batch, Commit};
+use base::gap::Gaps;
+use base::geometry::Geometry;
+use base::{NUMBER_LIMIT, Ts};
+use dirty_table::SessionSet;
+use log_area::Record;
+use std::alloc::{AllocError, Global};
+use txn::{DrawnCommit, DrawnCommits};
+
+/// Whether the committer has nothing to do: no run of stamped commits is drawn, half a window of timestamps is reserved, and
+/// no swept gap stands.
+pub fn is_idle(
+    geometry: Geometry,
+    ruling: Record,
+    next: Ts,
+    swept: bool,
+    drawn: &DrawnCommits,
+) -> bool
+    requires { next ≤ 2 ^ 62 }
+    ensures { result ≡ is_idle geometry ruling next swept drawn.now.commits }
+{
+    let reserved = ruling.dirty().saturating_sub(next);
+    let window_is_short = reserved < (geometry.window() + 1) / 2;
+    let has_swept_gaps = swept && !ruling.gaps().as_slice().is_empty();
+    drawn.run() == 0 && !(window_is_short || has_swept_gaps)
+}
+
+/// Whether a record may follow this one: its number is in range.
+pub(crate) fn is_numbered(ruling: Record) -> bool
+    requires { ruling.gate < 2 ^ 62 }
+    ensures { result ≡ nat_lt (ruling.gate + 1) (2 ^ 62) }
+{
+    ruling.gate() + 1 < NUMBER_LIMIT
+}
+
+/// The record that covers these commits.
+pub(crate) fn record_of_run(
+    geometry: Geometry,
+    ruling: Record,
+    next: Ts,
+    swept: bool,
+    run: &[DrawnCommit],
+) -> Record
+    requires numbered { ruling.gate < 2 ^ 62 }
+    requires countable { next ≤ 2 ^ 62 }
+    ensures { result ≡ record_of_run geometry ruling next swept run.now }
+{
+    let persisted = last_timestamp(ruling.persisted(), run);
+    let dirty = next + geometry.window();
+    let gaps = standing_gaps(ruling, swept);
+    Record::new(ruling.gate() + 1, persisted, dirty, gaps)
+}
+
+/// The record that a close writes last: it persists all that is drawn, and reserves no timestamp.
+pub fn closing_record(ruling: Record, next: Ts, swept: bool) -> Record
+    requires { ruling.gate < 2 ^ 62 }
+    ensures { result ≡ closing_record ruling next swept }
+{
+    let gaps = standing_gaps(ruling, swept);
+    Record::new(ruling.gate() + 1, next.saturating_sub(1), next, gaps)
+}
+
+// The gaps that the next record names.
+fn standing_gaps(ruling: Record, swept: bool) -> Gaps
+    ensures { result ≡ standing_gaps swept ruling }
+{
+    if swept { Gaps::none() } else { ruling.gaps() }
+}
+
+// The timestamp of the last of the commits, or the one before where there is none.
+fn last_timestamp(before: Ts, run: &[DrawnCommit]) -> Ts
+    ensures { result ≡ last_timestamp before run.now }
+{
+    run.iter().fold(before, |_, commit| commit.timestamp)
+}
+
+/// The batch of these commits, under the record after the one that rules. Its memory is taken here.
+pub(crate) fn batch_of_run(
+    alloc: Global,
+    ruling: Record,
+    target: Record,
+    run: &[DrawnCommit],
+) -> Result<Batch, AllocError>
+    ensures { IfOk result (λ batch. batch ≡ batch_of_run ruling target run.now) }
+{
+    let commits = commits_of(alloc, run)?;
+    Ok(Batch::new(ruling.gate(), target.gate(), target.persisted(), commits))
+}
+
+// What each of them wrote.
+fn commits_of(alloc: Global, run: &[DrawnCommit]) -> Result<Vec<Commit>, AllocError>
+    ensures { IfOk result (λ commits. commits.items ≡ map commit_of run.now) }
+{
+    let mut commits = Vec::with_capacity(alloc, run.len())?;
+    for commit in run {
+        commits.push(commit_of(alloc, *commit)?)?;
+    }
+    Ok(commits)
+}
+
+// The commit of a transaction that writes this.
+fn commit_of(alloc: Global, drawn: DrawnCommit) -> Result<Commit, AllocError>
+    ensures { IfOk result (λ commit. commit ≡ commit_of drawn) }
+{
+    let mut rows = Vec::with_capacity(alloc, drawn.writes.len())?;
+    for write in drawn.writes.as_slice() {
+        rows.push((write.key, write.row))?;
+    }
+    Ok(Commit::new(drawn.timestamp, rows))
+}
+
+/// The sessions that drew these commits.
+pub(crate) fn sessions_of(run: &[DrawnCommit]) -> SessionSet
+    requires { IsTrue (list_all (λ d. nat_lt d.session 64) run.now) }
+    ensures { (n : ℕ) → has result n ≡ list_any (λ d. nat_eq d.session n) run.now }
+{
+    let mut sessions = SessionSet::none();
+    for commit in run {
+        sessions.insert(commit.session);
+    }
+    sessions
+}

@@ -1,0 +1,156 @@
+use crate::batch::{batch_of_run, is_numbered, record_of_run, sessions_of};
+use crate::stage::CycleStage;
+use base::Ts;
+use base::actor::Actor;
+use base::batch::Batch;
+use base::fault::Fault;
+use base::geometry::Geometry;
+use base::step::Stage;
+use dirty_table::{DirtyTable, SessionSet};
+use log_area::{Record, Writing};
+use pmem::Pmem;
+use std::alloc::Global;
+use std::marker::Model;
+use txn::DrawnCommits;
+
+/// A batch on its way to being covered: its commits, the sessions that drew them, and the writing of its record.
+#[derive(Drop)]
+pub struct Cycle {
+    batch: Batch,
+    sessions: SessionSet,
+    writing: Writing,
+    stage: CycleStage,
+}
+
+impl Model for Cycle {
+    ghost use Rattle.std.specs.Prelude.{IsTrue};
+    ghost use Rattle.group_commit.specs.Cycles.{Cycling, is_counted};
+
+    ghost Value = { Cycling };
+
+    ghost view = { λ c. record { batch = c.batch; sessions = c.sessions; writing = c.writing; stage = c.stage } };
+
+    ghost invariant = { λ c. IsTrue (is_counted c.stage) };
+}
+
+/// A batch that is covered, the record that covered it, and the sessions that drew its commits.
+#[derive(Drop)]
+pub struct Covered {
+    pub batch: Batch,
+    pub record: Record,
+    pub sessions: SessionSet,
+}
+
+impl Cycle {
+    ghost use Rattle.std.specs.Prelude.{◌≡◌, ◌≢◌, ◌↔◌, ◌+◌, ◌*◌, ◌^◌, ◌<◌, ◌≤◌, ℕ, nat_eq, nat_lt, Some, None, IsTrue, IfOk, IfErr, OnOk, OnErr};
+    ghost use Rattle.std.specs.List.{list_all, list_any};
+    ghost use Rattle.base.specs.Layout.{total_words};
+    ghost use Rattle.log_area.specs.declared.stage.WritingStage.TheVariants.{Done};
+    ghost use Rattle.log_area.specs.Writings.{begun};
+    ghost use Rattle.pmem.specs.Device.{failed};
+    ghost use Rattle.pmem.specs.Trace.{applied};
+    ghost use Rattle.dirty_table.specs.Touches.{has, lines_touched};
+    ghost use Rattle.group_commit.specs.declared.stage.CycleStage.TheVariants.{FlushLines, WriteRecord};
+    ghost use Rattle.group_commit.specs.Choosing.{run, record_of_run, batch_of_run, IsBeginFault};
+    ghost use Rattle.group_commit.specs.Cycles.{line_from, operation_in, reached_in, ticked_in};
+
+    /// Takes the longest run of drawn commits, from the first on, that are stamped whole, and the memory of its batch: no
+    /// tick takes any. Fails with `TimestampsOut` where no record number is left, and else with `OutOfMemory`.
+    pub fn begin(
+        alloc: Global,
+        geometry: Geometry,
+        ruling: Record,
+        next: Ts,
+        swept: bool,
+        drawn: &DrawnCommits,
+    ) -> Result<Cycle, Fault>
+        requires numbered { ruling.gate < 2 ^ 62 }
+        requires countable { next ≤ 2 ^ 62 }
+        requires sessions { IsTrue (list_all (λ d. nat_lt d.session 64) drawn.now.commits) }
+        ensures batch { IfOk result (λ cycle. cycle.batch ≡ batch_of_run ruling (record_of_run geometry ruling next swept (run drawn.now.commits)) (run drawn.now.commits)) }
+        ensures sessions { IfOk result (λ cycle. (n : ℕ) → has cycle.sessions n ≡ list_any (λ d. nat_eq d.session n) (run drawn.now.commits)) }
+        ensures writing { IfOk result (λ cycle. cycle.writing ≡ begun geometry (record_of_run geometry ruling next swept (run drawn.now.commits))) }
+        ensures stage { IfOk result (λ cycle. cycle.stage ≡ FlushLines 0 0) }
+        ensures numbered { OnOk result (ruling.gate + 1 < 2 ^ 62) }
+        ensures fault { IfErr result (IsBeginFault ruling) }
+    {
+        if !is_numbered(ruling) {
+            return Err(Fault::TimestampsOut);
+        }
+        let run = &drawn.as_slice()[..drawn.run()];
+        let target = record_of_run(geometry, ruling, next, swept, run);
+        let Ok(batch) = batch_of_run(alloc, ruling, target, run) else {
+            return Err(Fault::OutOfMemory);
+        };
+        Ok(Cycle {
+            batch,
+            sessions: sessions_of(run),
+            writing: Writing::new(geometry, target),
+            stage: CycleStage::FlushLines {
+                flushed: 0,
+                from: 0,
+            },
+        })
+    }
+
+    /// Was its last operation made?
+    pub fn is_done(&self) -> bool
+        ensures { IsTrue result ↔ (self.now.writing.stage ≡ Done) }
+    {
+        self.writing.is_done()
+    }
+
+    /// The next operation, on the lines that the batch's sessions touch in the table: the flush of the next of them, or the
+    /// fence after the last, or the next operation of the record's writing. Returns the stage that it reaches, and none
+    /// where the batch is covered. If the device fails, the next tick tries the operation again.
+    pub fn tick<D: Pmem>(
+        &mut self,
+        device: &mut D,
+        table: &DirtyTable,
+    ) -> Result<Option<Stage>, Fault>
+        requires unfinished { self.old.writing.stage ≢ Done }
+        requires size { (D.state device.old).words ≡ total_words self.old.writing.layout }
+        requires lines { (line : ℕ) → line_from (lines_touched (has self.old.sessions) table.now) self.old.stage ≡ Some line → 8 * line < (D.state device.old).words }
+        ensures operation { OnOk result (D.state device.new ≡ applied (operation_in (lines_touched (has self.old.sessions) table.now) self.old) (D.state device.old)) }
+        ensures reached { IfOk result (λ stage. stage ≡ reached_in (lines_touched (has self.old.sessions) table.now) self.old) }
+        ensures ok { OnOk result (self.new ≡ ticked_in (lines_touched (has self.old.sessions) table.now) self.old) }
+        ensures failure { OnErr result (D.state device.new ≡ failed (D.state device.old)) }
+        ensures err { OnErr result (self.new ≡ self.old) }
+        ensures fault { IfErr result (λ fault. fault ≡ Fault.Device) }
+    {
+        match self.stage {
+            CycleStage::FlushLines { flushed, from } => match table.next(&self.sessions, from) {
+                Some(line) => {
+                    let words = device.words();
+                    prove!((line as usize) < words);
+                    device.flush(Actor::COMMITTER, line as usize)?;
+                    self.stage = CycleStage::FlushLines {
+                        flushed: flushed + 1,
+                        from: line + 1,
+                    };
+                    Ok(Some(Stage::LineFlushed(flushed)))
+                }
+                None => {
+                    device.fence(Actor::COMMITTER)?;
+                    self.stage = CycleStage::WriteRecord;
+                    Ok(Some(Stage::LinesFenced))
+                }
+            },
+            CycleStage::WriteRecord => self.writing.tick(device),
+        }
+    }
+
+    /// The batch and the record that covered it, once its last operation was made.
+    pub fn finish(self) -> Covered
+        ensures batch { result.batch ≡ self.batch }
+        ensures record { result.record ≡ self.writing.target }
+        ensures sessions { result.sessions ≡ self.sessions }
+    {
+        let record = self.writing.target();
+        Covered {
+            batch: self.batch,
+            record,
+            sessions: self.sessions,
+        }
+    }
+}

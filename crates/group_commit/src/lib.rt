@@ -1,0 +1,15 @@
+//! How drawn commits are covered: which ones a batch takes, and the cycle of ticks that makes their lines and its record
+//! persist.
+#![tactic(auto)]
+
+mod batch;
+mod cycle;
+mod law;
+mod stage;
+#[cfg(test)]
+mod tests;
+
+pub use batch::{closing_record, is_idle};
+pub use cycle::{Covered, Cycle};
+pub use law::ticks_are_counted;
+pub use stage::CycleStage;

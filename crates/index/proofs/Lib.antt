@@ -1,0 +1,5 @@
+pub mod KeyOrder
+pub mod Changes
+pub mod Slots
+pub mod Lookups
+pub mod Bounds

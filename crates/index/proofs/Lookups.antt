@@ -1,0 +1,40 @@
+-- What is found of a key.
+use Rattle.std.proofs.Common.{◌≡◌, ℕ, ◌<◌, Bool, true, false, List, refl, sym, ◌∙◌, ap, subst, arith}
+use Rattle.std.specs.Prelude.{Option, Some, None}
+use Rattle.base.specs.declared.key.Key.{Key}
+use Rattle.base.specs.Keys.{key_eq}
+use Rattle.base.specs.Commits.{Tables}
+use Rattle.base.specs.Layout.{Layout}
+use Rattle.base.specs.Images.{Image, layout_of, is_live}
+use Rattle.base.proofs.Histories.{key_eq-true, key_eq-same}
+use Rattle.snapshot.specs.Snapshots.{Seen}
+use Rattle.index.specs.Reading.{CountsAs, HasSeen, ShowsTables}
+
+pub apart : false ≡ true → ⊥
+apart e = absurd (cc e)
+
+module _ (counts : ℕ → Bool) (snapshot : Seen) (a : Layout) (image : Image) (tables : Tables) (agree : CountsAs counts snapshot a image) (shows : ShowsTables counts a image tables) where
+  -- a seen row is the tables'
+  pub seen-row : (slot : ℕ) (key : Key) (row : List ℕ) → HasSeen counts image slot key row → tables key ≡ Some row
+  seen-row slot key row seen = (shows.rows key row).0 (slot, seen.within, seen.live, seen.at, seen.is)
+
+  -- and each of the tables' rows is seen
+  pub row-seen : (key : Key) (row : List ℕ) → tables key ≡ Some row → (slot : ℕ) × HasSeen counts image slot key row
+  row-seen key row is =
+      let shown = (shows.rows key row).1 is in
+      (shown.0, record { within = shown.1; live = shown.2; fits = shows.fits shown.0 (omega (arith, shown.1, ap (λ (l : Layout). l.slots) agree.laid_out)) shown.2; at = shown.3; is = shown.4 })
+
+  pub none-seen : (key : Key) → ((slot : ℕ) (row : List ℕ) → HasSeen counts image slot key row → ⊥) → tables key ≡ None
+  none-seen key none = by (tables key) refl
+    where
+      by : (o : Option (List ℕ)) → tables key ≡ o → tables key ≡ None
+      by (Some row) is = let seen = row-seen key row is in absurd (none seen.0 row seen.1)
+      by None is = is
+
+-- what is seen at a key that is the other
+pub key-same : (counts : ℕ → Bool) (image : Image) (slot : ℕ) (key other : Key) (row : List ℕ) → HasSeen counts image slot key row → key_eq key other ≡ true → HasSeen counts image slot other row
+key-same counts image slot key other row seen is = subst (λ (k : Key). HasSeen counts image slot k row) (key_eq-true key other is) seen
+
+-- what is seen at a key isn't seen at another
+pub other-key : (counts : ℕ → Bool) (image : Image) (slot : ℕ) (key other : Key) (row row' : List ℕ) → HasSeen counts image slot key row → HasSeen counts image slot other row' → key_eq key other ≡ false → ⊥
+other-key counts image slot key other row row' seen seen' is = apart (sym is ∙ (ap (key_eq key) (sym (sym seen.at ∙ seen'.at)) ∙ key_eq-same key))

@@ -1,0 +1,14 @@
+use Rattle.std.proofs.Common.{◌≡◌, ℕ, zero, suc, ◌<◌, List, [], ◌∷◌, length, drop, refl, ◌∙◌, ap, arith, sym, add-one}
+use Rattle.std.specs.List.{remove}
+use Rattle.txn.specs.declared.drawn.DrawnCommit.{DrawnCommit}
+use Rattle.txn.proofs.drawn.DrawnCommits.cover.Goals as goal
+
+one-less : (k : ℕ) (ds : List DrawnCommit) → k < length ds → remove (drop k ds) 0 ≡ drop (suc k) ds
+one-less k [] lt = absurd (omega (arith, lt))
+one-less zero (d ∷ ds) lt = refl
+one-less (suc k) (d ∷ ds) lt = one-less k ds (omega arith)
+
+pub loop-preserved : goal.loop-preserved
+loop-preserved c =
+    c.remove.ensures.items ∙ ap (λ (ds : List DrawnCommit). remove ds 0) c.loop.invariant ∙ one-less c.loop.counter c.args.self.now.commits (let h = c.requires in let lt = c.loop-test.true in omega arith)
+    ∙ ap (λ (n : ℕ). drop n c.args.self.now.commits) (sym (add-one c.loop.counter))

@@ -1,0 +1,147 @@
+ghost use Rattle.std.specs.Prelude.{◌≡◌, map};
+ghost use Rattle.txn.specs.DrawnCommits.{with_stamp};
+
+use crate::write_set::WriteSet;
+use base::Ts;
+use base::fault::Fault;
+use std::alloc::Global;
+use std::marker::Model;
+
+/// A commit that is drawn and not covered.
+#[derive(Clone, Copy)]
+pub struct DrawnCommit {
+    /// The number of the session that drew it.
+    pub session: u8,
+    pub timestamp: Ts,
+    pub writes: WriteSet,
+    /// How many of its writes are stamped, from the first on.
+    pub stamped: usize,
+}
+
+impl DrawnCommit {
+    ghost use Rattle.txn.specs.DrawnCommits.{is_stamped};
+
+    /// Whether all its writes are stamped.
+    pub fn is_stamped(&self) -> bool
+        ensures { result ≡ is_stamped self.now }
+    {
+        self.stamped == self.writes.len()
+    }
+}
+
+/// The commits that are drawn and not covered, in the order in which they were drawn.
+#[derive(Drop)]
+pub struct DrawnCommits {
+    commits: Vec<DrawnCommit>,
+}
+
+impl Model for DrawnCommits {
+    ghost use Rattle.std.specs.Prelude.{vec_len, vec_capacity, ◌-◌};
+    ghost use Rattle.txn.specs.InFlight.{InFlight};
+
+    ghost Value = { InFlight };
+
+    ghost view = { λ d. record { commits = d.commits.items; spare = vec_capacity d.commits - vec_len d.commits } };
+}
+
+impl DrawnCommits {
+    ghost use Rattle.std.specs.Prelude.{◌≤◌, ◌<◌, ◌++◌, [], ◌∷◌, length, drop, option_copied, IfErr, OnOk, OnErr};
+    ghost use Rattle.base.specs.declared.fault.Fault.TheVariants.{OutOfMemory};
+    ghost use Rattle.txn.specs.DrawnCommits.{drawn_at, stamped_run};
+
+    /// None is drawn.
+    pub fn new(alloc: Global) -> DrawnCommits
+        ensures { result.commits ≡ [] }
+    {
+        DrawnCommits {
+            commits: Vec::new(alloc),
+        }
+    }
+
+    /// The commits, by rising timestamp where they were drawn so.
+    pub fn as_slice(&self) -> &[DrawnCommit]
+        ensures { result.now ≡ self.now.commits }
+    {
+        self.commits.as_slice()
+    }
+
+    /// The commit of this timestamp.
+    pub fn get(&self, timestamp: Ts) -> Option<&DrawnCommit>
+        ensures { option_copied result ≡ drawn_at timestamp self.now.commits }
+    {
+        self.commits
+            .as_slice()
+            .iter()
+            .find(|commit| commit.timestamp == timestamp)
+    }
+
+    /// Makes room for one more, and changes nothing else.
+    pub fn reserve(&mut self) -> Result<(), Fault>
+        ensures commits { self.new.commits ≡ self.old.commits }
+        ensures ok { OnOk result (0 < self.new.spare) }
+        ensures fault { IfErr result (λ fault. fault ≡ OutOfMemory) }
+        ensures err { OnErr result (self.new ≡ self.old) }
+    {
+        match self.commits.reserve(1) {
+            Ok(()) => Ok(()),
+            Err(_) => Err(Fault::OutOfMemory),
+        }
+    }
+
+    /// Adds the commit that was drawn last, where there is room for it.
+    pub fn push(&mut self, commit: DrawnCommit)
+        requires { 0 < self.old.spare }
+        ensures { self.new.commits ≡ self.old.commits ++ commit ∷ [] }
+    {
+        self.commits.push_reserved(commit);
+    }
+
+    /// One more write of the commit of this timestamp is stamped, if one is left.
+    pub fn stamp(&mut self, timestamp: Ts)
+        ensures { self.new.commits ≡ map (with_stamp timestamp) self.old.commits }
+    {
+        stamp_each(self.commits.as_mut_slice(), timestamp);
+    }
+
+    /// The first so many are covered: they are drawn no more.
+    pub fn cover(&mut self, count: usize)
+        requires { count ≤ length self.old.commits }
+        ensures { self.new.commits ≡ drop count self.old.commits }
+    {
+        for _ in 0..count {
+            self.commits.remove(0);
+        }
+    }
+
+    /// How many commits, from the first on, have all their writes stamped.
+    pub fn run(&self) -> usize
+        ensures run { result ≡ stamped_run self.now.commits }
+        ensures within { result ≤ length self.now.commits }
+    {
+        let commits = self.commits.as_slice();
+        commits
+            .iter()
+            .position(|commit| !commit.is_stamped())
+            .unwrap_or(commits.len())
+    }
+}
+
+// One more write of the commits of this timestamp is stamped.
+fn stamp_each(commits: &mut [DrawnCommit], timestamp: Ts)
+    ensures { commits.new ≡ map (with_stamp timestamp) commits.old }
+{
+    for commit in commits {
+        *commit = with_stamp(*commit, timestamp);
+    }
+}
+
+// The commit, with one more write stamped if it has the timestamp and one is left.
+fn with_stamp(commit: DrawnCommit, timestamp: Ts) -> DrawnCommit
+    ensures { result ≡ with_stamp timestamp commit }
+{
+    let mut commit = commit;
+    if commit.timestamp == timestamp && commit.stamped < commit.writes.len() {
+        commit.stamped += 1;
+    }
+    commit
+}

@@ -1,0 +1,37 @@
+use crate::write::Write;
+use crate::write_set::WriteSet;
+use base::Ts;
+use snapshot::Snapshot;
+
+/// An open transaction.
+#[derive(Drop)]
+pub enum Transaction {
+    /// It reads its snapshot, and may write.
+    Active {
+        snapshot: Snapshot,
+        writes: WriteSet,
+    },
+    /// It has drawn this timestamp.
+    Drawn(Ts),
+    /// It ended its work without a write.
+    ReadOnly,
+}
+
+impl Transaction {
+    ghost use Rattle.std.specs.Prelude.{◌≡◌, List};
+    ghost use Rattle.snapshot.specs.Snapshots.{Seen};
+    ghost use Rattle.txn.specs.declared.write.Write.{Write};
+    ghost use Rattle.txn.specs.declared.transaction.Transaction.TheVariants.{Active};
+    ghost use Rattle.txn.specs.WriteSets.{HasRoomFor, with_write_at};
+
+    // Writes in place, where it is Active.
+    pub(crate) fn write(&mut self, write: Write)
+        requires { (snapshot : Seen) (writes : List Write) → self.old ≡ Active snapshot writes → HasRoomFor write.key writes }
+        ensures { (snapshot : Seen) (writes : List Write) → self.old ≡ Active snapshot writes → self.new ≡ Active snapshot (with_write_at write writes) }
+    {
+        match self {
+            Transaction::Active { writes, .. } => writes.put(write),
+            _ => {}
+        }
+    }
+}

@@ -1,0 +1,144 @@
+ghost use Rattle.std.specs.Prelude.{◌≡◌, ◌≤◌, ◌<◌, length, IfSome};
+ghost use Rattle.txn.specs.Tables.{entry_at};
+
+use crate::transaction::Transaction;
+use crate::write::Write;
+use base::fault::Fault;
+use slab::Slab;
+use std::alloc::Global;
+use std::marker::Model;
+
+/// The open transactions, each under the number of its session: at most 62, from 2.
+#[derive(Drop)]
+pub struct Transactions {
+    slab: Slab<Transaction>,
+    places: [Option<usize>; 62],
+}
+
+impl Model for Transactions {
+    ghost use Rattle.std.specs.Prelude.{List, Option};
+    ghost use Rattle.txn.specs.declared.transaction.Transaction.{Transaction};
+
+    ghost Value = { List (Option Transaction) };
+
+    ghost use Rattle.txn.specs.Tables.{listed, IsTable};
+
+    ghost view = { λ t. listed t.slab t.places };
+
+    ghost invariant = { λ t. IsTable t.slab t.places };
+}
+
+// The lowest number that a session may have.
+const FIRST: u8 = 2;
+
+// How many sessions may be open.
+const MOST: u8 = 62;
+
+// The place of the session of this number.
+fn place_of(places: &[Option<usize>; 62], number: u8) -> Option<usize>
+    requires { length places.now ≡ 62 }
+    ensures place { result ≡ entry_at places.now number }
+    ensures within { IfSome result (λ place. (2 ≤ number) × (number < 64)) }
+{
+    if number < FIRST || number >= FIRST + MOST {
+        return None;
+    }
+    places[(number - FIRST) as usize]
+}
+
+impl Transactions {
+    ghost use Rattle.std.specs.Prelude.{ℕ, ◌⊎◌, Some, None, IsSome, IfOk, IfErr, IfNone, option_copied};
+    ghost use Rattle.base.specs.declared.fault.Fault.TheVariants.{SessionsFull, OutOfMemory};
+    ghost use Rattle.std.specs.Prelude.{List};
+    ghost use Rattle.snapshot.specs.Snapshots.{Seen};
+    ghost use Rattle.txn.specs.declared.write.Write.{Write};
+    ghost use Rattle.txn.specs.declared.transaction.Transaction.TheVariants.{Active};
+    ghost use Rattle.txn.specs.WriteSets.{HasRoomFor, with_write_at};
+    ghost use Rattle.txn.specs.Transactions.{transaction_at, Sets, IsLowestFree, IsFull};
+
+    /// None is open.
+    pub fn new(alloc: Global) -> Transactions
+        ensures { (n : ℕ) → transaction_at result n ≡ None }
+    {
+        Transactions {
+            slab: Slab::new(alloc),
+            places: [None; 62],
+        }
+    }
+
+    // The lowest number that no session has.
+    fn free(&self) -> Option<u8>
+        ensures some { IfSome result (λ n. IsLowestFree self.now n) }
+        ensures none { IfNone result (IsFull self.now) }
+    {
+        for number in FIRST..FIRST + MOST {
+            if self.places[(number - FIRST) as usize].is_none() {
+                return Some(number);
+            }
+        }
+        None
+    }
+
+    /// The transaction of this number. Numbers are from 2 to 63.
+    pub fn get(&self, number: u8) -> Option<&Transaction>
+        ensures transaction { option_copied result ≡ transaction_at self.now number }
+        ensures within { IfSome result (λ transaction. (2 ≤ number) × (number < 64)) }
+    {
+        let place = place_of(&self.places, number)?;
+        self.slab.get(place)
+    }
+
+    /// Opens a transaction under the lowest number that is free.
+    pub fn begin(&mut self, transaction: Transaction) -> Result<u8, Fault>
+        ensures number { IfOk result (λ n. IsLowestFree self.old n) }
+        ensures opened { IfOk result (λ n. Sets self.old self.new n (Some transaction)) }
+        ensures same { IfErr result (λ fault. self.new ≡ self.old) }
+        ensures fault { IfErr result (λ fault. (fault ≡ SessionsFull) × IsFull self.old ⊎ (fault ≡ OutOfMemory) × ((n : ℕ) × IsLowestFree self.old n)) }
+    {
+        let Some(number) = self.free() else {
+            return Err(Fault::SessionsFull);
+        };
+        match self.slab.insert(transaction) {
+            Ok(key) => {
+                self.places[(number - FIRST) as usize] = Some(key);
+                Ok(number)
+            }
+            Err(_) => Err(Fault::OutOfMemory),
+        }
+    }
+
+    /// Puts another state in the place of an open transaction's.
+    pub fn set(&mut self, number: u8, transaction: Transaction)
+        requires { IsSome (transaction_at self.old number) }
+        ensures { Sets self.old self.new number (Some transaction) }
+    {
+        if let Some(place) = place_of(&self.places, number) {
+            if let Some(found) = self.slab.get_mut(place) {
+                *found = transaction;
+            }
+        }
+    }
+
+    /// Ends an open transaction: its number is free.
+    pub fn end(&mut self, number: u8)
+        requires { IsSome (transaction_at self.old number) }
+        ensures { Sets self.old self.new number None }
+    {
+        if let Some(place) = place_of(&self.places, number) {
+            self.slab.try_remove(place);
+            self.places[(number - FIRST) as usize] = None;
+        }
+    }
+
+    /// Writes in place, for an Active transaction with room for it.
+    pub fn write(&mut self, number: u8, write: Write)
+        requires { (snapshot : Seen) × (writes : List Write) × (transaction_at self.old number ≡ Some (Active snapshot writes)) × HasRoomFor write.key writes }
+        ensures { (snapshot : Seen) (writes : List Write) → transaction_at self.old number ≡ Some (Active snapshot writes) → Sets self.old self.new number (Some (Active snapshot (with_write_at write writes))) }
+    {
+        if let Some(place) = place_of(&self.places, number) {
+            if let Some(found) = self.slab.get_mut(place) {
+                found.write(write);
+            }
+        }
+    }
+}
