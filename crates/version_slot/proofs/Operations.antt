@@ -81,7 +81,7 @@ only-stopped Q (suc k) (flush_op actor line ∷ ops) only = only-stopped Q k ops
 only-stopped Q (suc k) (fence_op actor ∷ ops) only = only-stopped Q k ops only
 only-stopped Q (suc k) (failure ∷ ops) only = only-stopped Q k ops only
 
-along-first : (P : Device → Type 0) (ops : List Operation) (device : Device) → Along P ops device → P device
+pub along-first : (P : Device → Type 0) (ops : List Operation) (device : Device) → Along P ops device → P device
 along-first P [] device along = along
 along-first P (op ∷ ops) device along = along.0
 

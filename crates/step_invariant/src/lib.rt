@@ -1,0 +1,7 @@
+//! How the steps of sessions lead from one plain state to the next on a device: what the operations of each make of a device that
+//! upholds the state, whole or up to one that fails.
+#![tactic(auto)]
+
+mod law;
+
+pub use law::{runs_count, stops_count};
