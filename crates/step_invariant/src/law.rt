@@ -1,4 +1,4 @@
-ghost use Rattle.step_invariant.specs.Laws.{RunsCount, StopsCount};
+ghost use Rattle.step_invariant.specs.Laws.{RunsCount, StopsCount, RefusalsLead, QuietStepsLead};
 
 /// A run makes as many operations as it lists, and none fails.
 pub fn runs_count()
@@ -8,4 +8,14 @@ pub fn runs_count()
 /// One that stops makes fewer, and one fails.
 pub fn stops_count()
     ensures { StopsCount }
+{}
+
+/// A refused step leaves the device and what it upholds as they are.
+pub fn refusals_lead()
+    ensures { RefusalsLead }
+{}
+
+/// A session's step that stores nothing leads on with no operation: it begins, reads, deletes, draws, polls, aborts or ends.
+pub fn quiet_steps_lead()
+    ensures { QuietStepsLead }
 {}
