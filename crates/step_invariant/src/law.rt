@@ -1,4 +1,4 @@
-ghost use Rattle.step_invariant.specs.Laws.{RunsCount, StopsCount, RefusalsLead, QuietStepsLead};
+ghost use Rattle.step_invariant.specs.Laws.{RunsCount, StopsCount, RefusalsLead, QuietStepsLead, StampsLead};
 
 /// A run makes as many operations as it lists, and none fails.
 pub fn runs_count()
@@ -18,4 +18,9 @@ pub fn refusals_lead()
 /// A session's step that stores nothing leads on with no operation: it begins, reads, deletes, draws, polls, aborts or ends.
 pub fn quiet_steps_lead()
     ensures { QuietStepsLead }
+{}
+
+/// A stamp stores its timestamp in the begin of its commit's version, and in the end of the version that this ends.
+pub fn stamps_lead()
+    ensures { StampsLead }
 {}
