@@ -1,14 +1,14 @@
 -- A draw: the versions of its session become those of its commit, while the device does nothing.
-use Rattle.std.proofs.Common.{◌≡◌, ◌≢◌, ◌⊎◌, inl, inr, ℕ, suc, zero, ◌+◌, ◌-◌, ◌<◌, ◌≤◌, Bool, true, false, cond, ◌&&◌, ◌||◌, List, [], ◌∷◌, ◌++◌, take, refl, sym, ◌∙◌, ap, subst, arith}
+use Rattle.std.proofs.Common.{◌≡◌, ◌≢◌, ◌⊎◌, inl, inr, ℕ, suc, zero, ◌+◌, ◌-◌, ◌<◌, Bool, true, false, cond, ◌&&◌, List, [], ◌∷◌, ◌++◌, take, refl, sym, ◌∙◌, ap, subst, arith}
 use Rattle.std.specs.Prelude.{Option, Some, None, IsTrue, nat_eq}
 use Rattle.std.specs.List.{list_any, flat_map, range_with_len}
-use Rattle.std.proofs.lemmas.Bool.{cases_eq, ne_eqb, and_left, or_left}
+use Rattle.std.proofs.lemmas.Bool.{cases_eq, ne_eqb, or_left}
 use Rattle.std.proofs.lemmas.List.Folds.{list_any-append}
 use Rattle.base.specs.declared.key.Key.{Key}
-use Rattle.base.specs.Commits.{Commit, Writes, last_writer, writes_key}
+use Rattle.base.specs.Commits.{Writes, last_writer, writes_key}
 use Rattle.base.specs.Stands.{has_timestamp}
 use Rattle.base.specs.Records.{is_committed}
-use Rattle.base.specs.Machine.{State, Drawn, Hand, Version, Writer, BySession, ByCommit, drawn_at, writes_of, is_by, by_commit, state_drawn, version_lines}
+use Rattle.base.specs.Machine.{State, Drawn, Hand, Version, Writer, BySession, ByCommit, drawn_at, is_by, by_commit, state_drawn, version_lines}
 use Rattle.pmem.specs.Device.{Device}
 use Rattle.pmem.specs.Words.{EachSurvivor, IsSettledAt}
 use Rattle.pmem.proofs.Changes.{each-settled, each-weaken}

@@ -1,14 +1,14 @@
 -- The steps of sessions that store nothing.
-use Rattle.std.proofs.Common.{◌≡◌, ℕ, ◌<◌, Bool, true, false, cond, ◌&&◌, List, [], ◌∷◌, refl, sym, ◌∙◌, ap, subst}
-use Rattle.std.specs.Prelude.{Option, Some, None, unwrap_or, length, nat_eq}
-use Rattle.std.proofs.lemmas.Bool.{eqb-true, false≢true}
+use Rattle.std.proofs.Common.{◌≡◌, ℕ, Bool, true, false, cond, [], ◌∷◌, refl, sym, ap, subst}
+use Rattle.std.specs.Prelude.{Option, Some, None, unwrap_or, length}
+use Rattle.std.proofs.lemmas.Bool.{eqb-true}
 use Rattle.base.specs.declared.key.Key.{Key}
 use Rattle.base.specs.declared.step.Step.{Step}
 use Rattle.base.specs.declared.step.Step.TheVariants.{Begin, Get, Put, Delete, Draw, Stamp, Poll, Abort, End, Commit as CommitTick}
 use Rattle.base.specs.declared.step.Reply.{Reply}
 use Rattle.base.specs.Commits.{Writes, with_write}
-use Rattle.base.specs.Machine.{State, Session, Active, Drew, WroteNothing, Version, Writer, BySession, ByCommit, Stepped, refused, answered, memory_refused, device_failed, replaced, free_session, writes_of, begun_of, is_by, is_own_at, is_held_by, held_after_delete, held_after_abort, state_drawn, next_state, refusal, operates}
-use Rattle.pmem.specs.Device.{Device, IsOrderly}
+use Rattle.base.specs.Machine.{State, Session, Active, WroteNothing, Version, Writer, BySession, ByCommit, Stepped, refused, answered, memory_refused, device_failed, replaced, free_session, writes_of, begun_of, is_by, is_own_at, is_held_by, held_after_delete, held_after_abort, state_drawn, next_state, operates}
+use Rattle.pmem.specs.Device.{Device}
 use Rattle.pmem.specs.Words.{value_of}
 use Rattle.pmem.proofs.Images.{leaves_refl}
 use Rattle.state_invariant.specs.Kept.{Origin, Keeps, version_by}
@@ -20,7 +20,7 @@ use Rattle.state_invariant.proofs.ShownSteps.{shows-step}
 use Rattle.device_invariant.specs.Upholds.{Upholds}
 use Rattle.device_invariant.specs.Laws.{ChangesHolder, stays, given_back}
 use Rattle.device_invariant.proofs.Holders.{holders-keep}
-use Rattle.step_invariant.specs.Moves.{Leads, is_quiet}
+use Rattle.step_invariant.specs.Moves.{is_quiet}
 use Rattle.step_invariant.specs.Laws.{RefusalsLead, QuietStepsLead}
 use Rattle.step_invariant.proofs.Standing.{upheld-within}
 use Rattle.step_invariant.proofs.Drawing.{holds-drawn}

@@ -1,8 +1,7 @@
 -- A stamp: its timestamp is stored in the begin of its commit's version, and in the end of the version that this ends.
-use Rattle.std.proofs.Common.{◌≡◌, ◌≢◌, ◌⊎◌, inl, inr, ℕ, ◌+◌, ◌<◌, Bool, true, false, ◌&&◌, List, [], ◌∷◌, ◌++◌, refl, sym, ◌∙◌, ap, subst, arith, true≢false}
-use Rattle.std.specs.Prelude.{Option, Some, None, IsTrue, length, take, nat_eq, map}
+use Rattle.std.proofs.Common.{◌≡◌, ◌≢◌, ◌⊎◌, inl, inr, ℕ, ◌+◌, ◌<◌, true, false, ◌&&◌, List, refl, sym, ◌∙◌, ap, subst, arith, true≢false}
+use Rattle.std.specs.Prelude.{Option, Some, None, IsTrue, length, nat_eq}
 use Rattle.std.specs.List.{list_any}
-use Rattle.std.specs.Option.{option_map}
 use Rattle.std.proofs.lemmas.Bool.{cases_eq}
 use Rattle.std.proofs.lemmas.List.{take_all}
 use Rattle.base.specs.declared.key.Key.{Key}
@@ -12,13 +11,13 @@ use Rattle.base.specs.Commits.{Commit, writes_key, last_writer}
 use Rattle.base.specs.Layout.{slot_start, slot_words}
 use Rattle.base.specs.Machine.{State, Drawn, Hand, Version, ByCommit, drawn_at, is_stamped, counted, timestamp_of, stamped_write, next_state, refusal}
 use Rattle.pmem.specs.Device.{Device, stored}
-use Rattle.pmem.specs.Words.{value_of, IsSettledAt, EachSurvivor, OnlyShrinks}
-use Rattle.pmem.specs.Trace.{Operation, store_op, applied, after}
+use Rattle.pmem.specs.Words.{value_of, IsSettledAt, OnlyShrinks}
+use Rattle.pmem.specs.Trace.{Operation, after}
 use Rattle.pmem.proofs.Changes.{shrinks_refl, shrinks_trans, stored-shrinks, stored-value, settled_at-shrinks, each-weaken}
-use Rattle.version_slot.specs.Operations.{Along, Runs, StopsWithin, begin_operations, end_operations}
+use Rattle.version_slot.specs.Operations.{Along, Runs, begin_operations, end_operations}
 use Rattle.version_slot.proofs.Operations.{along-append, along-last, after-append}
 use Rattle.state_invariant.specs.Kept.{Origin, Keeps, version_by, last_of}
-use Rattle.state_invariant.specs.Shown.{word_of, is_drawn_on, is_key_stamped, SameWords, StoresStamp}
+use Rattle.state_invariant.specs.Shown.{word_of, is_drawn_on, is_key_stamped, StoresStamp}
 use Rattle.state_invariant.proofs.Lookups.{lookup-of_write, key_eq-refl}
 use Rattle.state_invariant.proofs.Refusals.{allowed}
 use Rattle.state_invariant.proofs.Stamping.{with_stamp, stamp-facts, keeps-stamp, found-before, found-after, any-counted}
@@ -30,7 +29,7 @@ use Rattle.device_invariant.proofs.Words.{words-apart, within-slot}
 use Rattle.device_invariant.proofs.Says.{last-undrawn}
 use Rattle.device_invariant.proofs.Laws.{failing-keeps}
 use Rattle.device_invariant.proofs.Stamping.{stamps-begin, stamps-end}
-use Rattle.step_invariant.specs.Moves.{Leads, IsSlotOf, stamp_operations}
+use Rattle.step_invariant.specs.Moves.{IsSlotOf, stamp_operations}
 use Rattle.step_invariant.specs.Laws.{StampsLead}
 use Rattle.step_invariant.proofs.Stamped.{IsNext, next-of, not_stamped, unstamped-before}
 use Rattle.step_invariant.proofs.Leading.{leads-run, leads-stopped}

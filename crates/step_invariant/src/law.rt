@@ -1,4 +1,4 @@
-ghost use Rattle.step_invariant.specs.Laws.{RunsCount, StopsCount, RefusalsLead, QuietStepsLead, StampsLead};
+ghost use Rattle.step_invariant.specs.Laws.{RunsCount, StopsCount, RefusalsLead, QuietStepsLead, PutsLead, StampsLead};
 
 /// A run makes as many operations as it lists, and none fails.
 pub fn runs_count()
@@ -23,4 +23,9 @@ pub fn quiet_steps_lead()
 /// A stamp stores its timestamp in the begin of its commit's version, and in the end of the version that this ends.
 pub fn stamps_lead()
     ensures { StampsLead }
+{}
+
+/// A put clears the slot that it takes, fills its slot, and touches no other.
+pub fn puts_lead()
+    ensures { PutsLead }
 {}

@@ -4,4 +4,4 @@
 
 mod law;
 
-pub use law::{quiet_steps_lead, refusals_lead, runs_count, stamps_lead, stops_count};
+pub use law::{puts_lead, quiet_steps_lead, refusals_lead, runs_count, stamps_lead, stops_count};
