@@ -1,16 +1,15 @@
 -- How many operations puts and stamps make.
-use Rattle.std.proofs.Common.{◌≡◌, ℕ, zero, suc, ◌+◌, ◌-◌, ◌<◌, ◌≤◌, Bool, true, ◌&&◌, List, [], ◌∷◌, ◌++◌, map, length, refl, sym, ◌∙◌, ap, arith, Option, Some, None}
+use Rattle.std.proofs.Common.{◌≡◌, ℕ, zero, suc, ◌+◌, ◌-◌, ◌≤◌, true, List, [], ◌∷◌, ◌++◌, map, length, refl, arith, Option, Some, None}
 use Rattle.std.specs.List.{range_with_len}
 use Rattle.std.proofs.lemmas.List.{length-append}
 use Rattle.std.proofs.lemmas.List.FromFn.{length-map-range_with_len}
 use Rattle.base.specs.Layout.{slot_start, slot_words}
 use Rattle.base.specs.Machine.{State, own_slot}
 use Rattle.pmem.specs.Device.{Device}
-use Rattle.pmem.specs.Words.{operations_of}
 use Rattle.pmem.specs.Trace.{Operation, store_op, flush_op, fence_op, failure}
 use Rattle.version_slot.specs.declared.words.Version.{Version as Content}
 use Rattle.version_slot.specs.Words.{filled_word}
-use Rattle.version_slot.specs.Operations.{Runs, StopsWithin, clear_operations, fill_operations, begin_operations, end_operations}
+use Rattle.version_slot.specs.Operations.{Runs, StopsWithin, clear_operations, fill_operations}
 use Rattle.device_invariant.proofs.Words.{some_words}
 use Rattle.step_invariant.specs.Moves.{Takes, all_succeed, unless_own, put_operations, stamp_operations}
 use Rattle.step_invariant.specs.Laws.{PutsCount, StampsCount}
