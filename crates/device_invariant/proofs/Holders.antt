@@ -102,7 +102,7 @@ module _ (q : State) (sessions : ℕ → Option Session) (held : ℕ → Option 
       };
     }
 
-    holds-then : HoldsState q device → HoldsState then device
+    pub holds-then : HoldsState q device → HoldsState then device
     holds-then h = record {
       slots = record { each = λ slot lt. slot-then slot (changes slot lt) (h.slots.each slot lt) };
       log = hand-then q.hand h.log;

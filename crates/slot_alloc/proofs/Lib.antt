@@ -1,1 +1,2 @@
 pub mod Lowest
+mod Clearing

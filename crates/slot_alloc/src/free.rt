@@ -1,7 +1,11 @@
+ghost use Rattle.std.specs.Prelude.{◌≡◌, ◌<◌, IfErr, OnErr, OnOk};
+ghost use Rattle.base.specs.Layout.{total_words};
+ghost use Rattle.version_slot.specs.Operations.{Runs, StopsWithin, clear_operations};
+
 use base::actor::Actor;
 use base::fault::Fault;
 use base::geometry::Geometry;
-use pmem::{Pmem, set_word};
+use pmem::Pmem;
 use std::marker::Model;
 
 /// Which slots are free. Contracts see a truth value for each slot.
@@ -24,6 +28,7 @@ impl SlotAlloc {
     ghost use Rattle.pmem.specs.Device.{fenced, flushed, stored};
     ghost use Rattle.pmem.specs.Words.{IsSettledAt, Keeps, Makes, OldOr, OnlyShrinks};
     ghost use Rattle.slot_alloc.specs.Free.{lowest_free, IsBeginOfLowest, IsClear};
+    ghost use Rattle.version_slot.specs.Operations.{Runs, StopsWithin, clear_operations};
     ghost use Rattle.base.specs.declared.fault.Fault.TheVariants.{Device, SlotsOut};
 
     /// The slots that are free, by their numbers.
@@ -81,16 +86,34 @@ impl SlotAlloc {
         ensures size { (D.state device.new).words ≡ (D.state device.old).words }
         ensures others { (word : ℕ) → ¬ IsBeginOfLowest geometry self.old word → OnlyShrinks (D.state device.old) (D.state device.new) word }
         ensures keeps { Keeps (D.state device.old) (D.state device.new) (OldOr (D.state device.old) (IsClear geometry self.old)) }
+
+        ensures operations { IfOk result (λ slot. Runs (clear_operations geometry actor.number slot) (D.state device.old) (D.state device.new)) }
+        ensures stopped { result ≡ Err Device → (slot : ℕ) × (lowest_free self.old ≡ Some slot) × StopsWithin (clear_operations geometry actor.number slot) (D.state device.old) (D.state device.new) }
     {
         let slot = match self.lowest() {
             Some(slot) => slot,
             None => return Err(Fault::SlotsOut),
         };
-        match set_word(device, actor, geometry.slot_start(slot), 0) {
+        match clear(device, geometry, actor, slot) {
             Ok(()) => {}
             Err(fault) => return Err(fault),
         }
         self.free[slot as usize] = false;
         Ok(slot)
     }
+}
+
+// Stores 0 in the begin of a slot, and waits until it persists.
+fn clear<D: Pmem>(device: &mut D, geometry: Geometry, actor: Actor, slot: u64) -> Result<(), Fault>
+    requires slot { slot < geometry.slots }
+    requires device { (D.state device.old).words ≡ total_words geometry }
+    ensures ok { OnOk result (Runs (clear_operations geometry actor.number slot) (D.state device.old) (D.state device.new)) }
+    ensures err { OnErr result (StopsWithin (clear_operations geometry actor.number slot) (D.state device.old) (D.state device.new)) }
+    ensures fault { IfErr result (λ fault. fault ≡ Fault.Device) }
+{
+    let word = geometry.slot_start(slot);
+    device.store(word, 0)?;
+    device.flush(actor, word / 8)?;
+    device.fence(actor)?;
+    Ok(())
 }

@@ -11,6 +11,8 @@ use Rattle.base.specs.Layout.{Layout, slot_start, slot_words}
 use Rattle.version_slot.specs.declared.words.Version.{Version}
 use Rattle.version_slot.specs.Words.{filled_word, version_word, slot_at, Fits, IsVersion}
 use Rattle.version_slot.specs.Filling.{IsOfRun, IsFill, StoresRun, Fills}
+use Rattle.version_slot.specs.Operations.{store_operations, fill_operations}
+use Rattle.version_slot.proofs.Operations.{stores_same}
 
 longer : (old : Device) (first : ℕ) (value : ℕ → ℕ) (n m : ℕ) → n ≤ m → (word x : ℕ) → OldOr old (IsOfRun first value n) word x → OldOr old (IsOfRun first value m) word x
 longer old first value n m le word x (inl old_one) = inl old_one
@@ -110,6 +112,12 @@ module _ (layout : Layout) (one : layout.version ≡ 1) (slot first : ℕ) (at :
 
   pub fills_part : (n : ℕ) × (n < length (take 7 (drop 1 words))) × StoresRun (first + 1) (λ k. get_or (take 7 (drop 1 words)) k 0) n 1 old new → (n : ℕ) × (n < slot_words layout.version - 1) × Fills layout slot v n 1 old new
   fills_part part = (part.0, omega (arith, part.1, all, seven), fills part.0 1 (omega (arith, part.1, all)) part.2)
+
+  -- the operations too
+  pub fills_by : store_operations (first + 1) (λ k. get_or (take 7 (drop 1 words)) k 0) (length (take 7 (drop 1 words))) ≡ fill_operations layout slot v
+  fills_by =
+      stores_same (first + 1) (λ k. get_or (take 7 (drop 1 words)) k 0) (λ k. filled_word v (k + 1)) (length (take 7 (drop 1 words))) (λ k lt. value_is k (omega (arith, lt, all)))
+      ∙ (λ i. store_operations (at i + 1) (λ k. filled_word v (k + 1)) ((all ∙ sym seven) i))
 
 pub filled_version : (layout : Layout) (slot : ℕ) (v : Version) (failed : ℕ) (old new : Device) → Fits layout v → Fills layout slot v (slot_words layout.version - 1) failed old new → IsVersion layout (slot_at layout slot (value_of new)) v
 filled_version layout slot v failed old new fits run = record {

@@ -1,7 +1,8 @@
-ghost use Rattle.std.specs.Prelude.{◌≡◌, ◌+◌, ◌-◌, ◌^◌, ◌<◌, ◌≤◌, ℕ, length, slice_index, IfErr, OnErr, OnOk};
+ghost use Rattle.std.specs.Prelude.{◌≡◌, ◌+◌, ◌-◌, ◌^◌, ◌<◌, ◌≤◌, ℕ, length, slice_index, IfErr, OnErr, OnOk, Some};
 ghost use Rattle.base.specs.Layout.{slot_start, slot_words, total_words};
 ghost use Rattle.pmem.specs.Words.{Keeps, OldOr, value_of};
 ghost use Rattle.version_slot.specs.Filling.{Fills, IsFill, SameBeside, Stamps, StoresRun};
+ghost use Rattle.version_slot.specs.Operations.{Runs, StopsWithin, begin_operations, end_operations, fill_operations, store_operations};
 ghost use Rattle.version_slot.specs.Words.{IsVersion, link_number, slot_at};
 
 use crate::words::Version;
@@ -26,6 +27,8 @@ pub fn fill<D: Pmem>(
     ensures size { (D.state device.new).words ≡ (D.state device.old).words }
     ensures others { SameBeside geometry slot (D.state device.old) (D.state device.new) }
     ensures keeps { Keeps (D.state device.old) (D.state device.new) (OldOr (D.state device.old) (IsFill geometry slot version.now)) }
+    ensures run { OnOk result (Runs (fill_operations geometry slot version.now) (D.state device.old) (D.state device.new)) }
+    ensures stopped { OnErr result (StopsWithin (fill_operations geometry slot version.now) (D.state device.old) (D.state device.new)) }
 {
     let words = version.words();
     store_all(device, geometry.slot_start(slot) + 1, &words[1..])
@@ -44,6 +47,8 @@ pub fn stamp_begin<D: Pmem>(
     ensures err { OnErr result (Stamps (slot_start geometry slot) timestamp 0 1 (D.state device.old) (D.state device.new)) }
     ensures fault { IfErr result (λ fault. fault ≡ Fault.Device) }
     ensures size { (D.state device.new).words ≡ (D.state device.old).words }
+    ensures run { OnOk result (Runs (begin_operations geometry (Some slot) timestamp) (D.state device.old) (D.state device.new)) }
+    ensures stopped { OnErr result (StopsWithin (begin_operations geometry (Some slot) timestamp) (D.state device.old) (D.state device.new)) }
 {
     store_all(device, geometry.slot_start(slot), &[timestamp])
 }
@@ -61,6 +66,8 @@ pub fn stamp_end<D: Pmem>(
     ensures err { OnErr result (Stamps (slot_start geometry slot + 1) timestamp 0 1 (D.state device.old) (D.state device.new)) }
     ensures fault { IfErr result (λ fault. fault ≡ Fault.Device) }
     ensures size { (D.state device.new).words ≡ (D.state device.old).words }
+    ensures run { OnOk result (Runs (end_operations geometry (Some slot) timestamp) (D.state device.old) (D.state device.new)) }
+    ensures stopped { OnErr result (StopsWithin (end_operations geometry (Some slot) timestamp) (D.state device.old) (D.state device.new)) }
 {
     store_all(device, geometry.slot_start(slot) + 1, &[timestamp])
 }
@@ -73,6 +80,8 @@ fn store_all<D: Pmem>(device: &mut D, first: usize, values: &[u64]) -> Result<()
     ensures err { OnErr result ((n : ℕ) × (n < length values.now) × StoresRun first (slice_index values.now) n 1 (D.state device.old) (D.state device.new)) }
     ensures fault { IfErr result (λ fault. fault ≡ Fault.Device) }
     ensures size { (D.state device.new).words ≡ (D.state device.old).words }
+    ensures run { OnOk result (Runs (store_operations first (slice_index values.now) (length values.now)) (D.state device.old) (D.state device.new)) }
+    ensures stopped { OnErr result (StopsWithin (store_operations first (slice_index values.now) (length values.now)) (D.state device.old) (D.state device.new)) }
 {
     for (k, value) in values.iter().enumerate() {
         match device.store(first + k, *value) {
