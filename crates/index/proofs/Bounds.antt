@@ -6,7 +6,7 @@ use Rattle.base.specs.declared.key.Key.{Key}
 use Rattle.base.specs.Keys.{key_eq}
 use Rattle.base.specs.Commits.{Tables, Lists}
 use Rattle.base.specs.Layout.{Layout}
-use Rattle.base.specs.Images.{Image, layout_of}
+use Rattle.base.specs.Images.{Image}
 use Rattle.base.proofs.Histories.{key_eq-true, key_eq-same}
 use Rattle.snapshot.specs.Snapshots.{Seen}
 use Rattle.index.specs.Entries.{key_cmp}

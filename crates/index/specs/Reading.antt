@@ -1,5 +1,5 @@
 -- What a snapshot sees of the slots of an image.
-use Rattle.std.specs.Prelude.{◌≡◌, ◌↔◌, ◌<◌, ℕ, Bool, true, false, ◌&&◌, nat_eq, nat_le, List, Option, Some, None, if◌then◌else◌}
+use Rattle.std.specs.Prelude.{◌≡◌, ◌↔◌, ◌<◌, ℕ, Bool, true, false, ◌&&◌, nat_eq, nat_le, List, Some, None, if◌then◌else◌}
 use Rattle.base.specs.declared.key.Key.{Key}
 use Rattle.base.specs.Commits.{Tables}
 use Rattle.base.specs.Layout.{Layout}

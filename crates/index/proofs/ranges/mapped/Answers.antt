@@ -1,12 +1,10 @@
-use Rattle.std.proofs.Common.{◌≡◌, ℕ, ◌+◌, Bool, List, Some, cond, sym, ◌∙◌, ap, arith, subst}
+use Rattle.std.proofs.Common.{ℕ, ◌+◌, Bool, List, Some, cond, sym, ◌∙◌, ap, arith, subst}
 use Rattle.std.specs.BTreeMap.{get, BTreeMap}
 use Rattle.std.specs.Map.{lookup}
 use Rattle.std.specs.BTreeMap.{is_at}
 use Rattle.base.specs.declared.key.Key.{Key}
-use Rattle.base.specs.Commits.{Tables}
 use Rattle.pmem.specs.Words.{image_of}
 use Rattle.index.specs.Entries.{key_cmp}
-use Rattle.index.specs.Reading.{CountsAs, ShowsTables, ranged}
 use Rattle.index.proofs.KeyOrder.{is_at-key}
 use Rattle.index.proofs.Bounds.{HasBelow, none-below, pass, outside, put-in, all-below}
 use Rattle.index.proofs.ranges.mapped.Goals as goal

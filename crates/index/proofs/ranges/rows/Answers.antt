@@ -1,6 +1,3 @@
-use Rattle.std.proofs.Common.{ℕ, List, sym, ◌∙◌, ap, subst}
-use Rattle.base.specs.declared.key.Key.{Key}
-use Rattle.base.specs.Keys.{lookup_key}
 use Rattle.index.specs.Reading.{ranged}
 use Rattle.index.proofs.Bounds.{listed}
 use Rattle.index.proofs.ranges.rows.Goals as goal
