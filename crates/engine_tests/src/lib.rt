@@ -29,6 +29,8 @@ mod program;
 #[cfg(test)]
 mod program_checks;
 #[cfg(test)]
+mod reading;
+#[cfg(test)]
 mod records;
 #[cfg(test)]
 mod reuse;

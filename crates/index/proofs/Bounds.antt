@@ -1,14 +1,17 @@
 -- The rows of a range, slot by slot.
 use Rattle.std.proofs.Common.{◌≡◌, ◌⊎◌, inl, inr, ℕ, zero, suc, ◌+◌, ◌<◌, Bool, true, false, cond, List, refl, sym, ◌∙◌, ap, subst, arith}
 use Rattle.std.specs.Prelude.{Option, Some, None, ◌↔◌}
+use Rattle.std.specs.BTreeMap.{BTreeMap, IsOrdered, get}
 use Rattle.base.specs.declared.key.Key.{Key}
 use Rattle.base.specs.Keys.{key_eq}
-use Rattle.base.specs.Commits.{Tables}
+use Rattle.base.specs.Commits.{Tables, Lists}
 use Rattle.base.specs.Layout.{Layout}
-use Rattle.base.specs.Images.{Image, layout_of}
+use Rattle.base.specs.Images.{Image}
 use Rattle.base.proofs.Histories.{key_eq-true, key_eq-same}
 use Rattle.snapshot.specs.Snapshots.{Seen}
+use Rattle.index.specs.Entries.{key_cmp}
 use Rattle.index.specs.Reading.{CountsAs, HasSeen, ShowsTables, is_in_range, ranged}
+use Rattle.index.proofs.KeyOrder.{rising, looked-up}
 use Rattle.index.proofs.Lookups.{seen-row, row-seen, apart}
 
 -- a slot below the number is seen with the row at the key, which is in the range
@@ -96,3 +99,8 @@ module _ (counts : ℕ → Bool) (image : Image) (table lo hi : ℕ) where
         by true within None has-is None t-is = refl
         by false out (Some row) has-is t t-is = let b = (so_far key row).0 has-is in absurd (apart (sym out ∙ b.in_range))
         by false out None has-is t t-is = refl
+
+-- the entries of a map that has the rows of the tables list them
+pub listed : (m : BTreeMap Key (List ℕ)) (rows : List (Key × List ℕ)) (tables : Tables) → rows ≡ m.entries → IsOrdered key_cmp m → ((key : Key) → get key_cmp m key ≡ tables key) → Lists rows tables
+listed m rows tables is ordered has =
+    subst (λ (xs : List (Key × List ℕ)). Lists xs tables) (sym is) (record { rising = rising m.entries ordered; same = λ key. looked-up m.entries key ∙ has key })

@@ -1,11 +1,11 @@
 -- Changes of one entry.
-use Rattle.std.proofs.Common.{◌≡◌, ℕ, Bool, true, false, cond, ◌||◌, List, refl, sym, ◌∙◌, ap, is_some}
+use Rattle.std.proofs.Common.{◌≡◌, Bool, true, false, cond, ◌||◌, List, refl, sym, ◌∙◌, ap, is_some}
 use Rattle.std.specs.Prelude.{Option, Some, None, unwrap_or}
 use Rattle.std.specs.BTreeMap.{is_at}
 use Rattle.std.specs.Map.{lookup}
 use Rattle.base.specs.declared.key.Key.{Key}
 use Rattle.base.specs.Keys.{key_eq, lookup_key}
-use Rattle.base.proofs.Histories.{key_eq-true, key_eq-same}
+use Rattle.base.proofs.Histories.{key_eq-true}
 use Rattle.index.specs.declared.entry.Entry.{Entry}
 use Rattle.index.specs.Entries.{key_cmp, blank, entry_at, has_room, Sets, KeepsRoom, GainsRoom}
 use Rattle.index.proofs.KeyOrder.{is_at-key, looked-up}

@@ -1,5 +1,5 @@
 -- What a snapshot sees of one slot of a device.
-use Rattle.std.proofs.Common.{◌≡◌, ◌⊎◌, inl, inr, ℕ, ◌+◌, ◌*◌, ◌^◌, ◌<◌, ◌≤◌, Bool, true, false, not, ◌&&◌, List, length, get_or, refl, sym, ◌∙◌, ap, subst, arith, lit<, IsTrue}
+use Rattle.std.proofs.Common.{◌≡◌, ◌⊎◌, inl, inr, ℕ, ◌+◌, ◌*◌, ◌^◌, ◌<◌, ◌≤◌, Bool, true, false, not, ◌&&◌, List, length, get_or, refl, sym, ◌∙◌, ap, subst, arith, lit<}
 use Rattle.std.specs.Prelude.{Option, Some, None, IfSome, IfNone}
 use Rattle.std.proofs.Math.Nat.{mul-le-mul_left}
 use Rattle.std.proofs.lemmas.Bool.{cases_lt}
@@ -7,7 +7,7 @@ use Rattle.std.proofs.lemmas.List.{get_or_past}
 use Rattle.std.proofs.lemmas.List.FromFn.{length-map-range_with_len, get_or-map-range_with_len}
 use Rattle.base.specs.declared.key.Key.{Key}
 use Rattle.base.specs.Layout.{Layout, is_in_limits, slot_start, slot_words, total_words}
-use Rattle.base.specs.Images.{layout_of, slot_word, begin_of, end_of, key_of, row_of, is_live, is_misfit}
+use Rattle.base.specs.Images.{layout_of, slot_word, begin_of, end_of, is_live, is_misfit}
 use Rattle.pmem.specs.Device.{Device, IsOrderly}
 use Rattle.pmem.specs.Words.{value_of, image_of}
 use Rattle.snapshot.specs.Snapshots.{Seen, covers}
@@ -112,27 +112,28 @@ module _ (device : Device) (a : Layout) (slot : ℕ) (size : device.words ≡ to
 
 module _ (device : Device) (a : Layout) (snapshot : Seen) (slot : ℕ) (size : device.words ≡ total_words a) (limited : is_in_limits a ≡ true) (h : slot < a.slots) where
   module _ (counts : ℕ → Bool) (agree : CountsAs counts snapshot a (image_of device)) where
-    begin-counts : (begin : ℕ) → begin ≡ slot_at a slot (value_of device) 0 → counts (begin_of (image_of device) slot) ≡ covers snapshot begin
-    begin-counts begin is = agree.begins slot h ∙ ap (covers snapshot) (begin-same device a slot size limited h agree.laid_out ∙ sym is)
-
-    end-counts : (end : ℕ) → end ≡ slot_at a slot (value_of device) 1 → counts (end_of (image_of device) slot) ≡ covers snapshot end
-    end-counts end is = agree.ends slot h ∙ ap (covers snapshot) (end-same device a slot size limited h agree.laid_out ∙ sym is)
+    live-as : (begin end : ℕ) → begin ≡ slot_at a slot (value_of device) 0 → end ≡ slot_at a slot (value_of device) 1
+        → is_live counts (image_of device) slot ≡ (covers snapshot begin && not (covers snapshot end))
+    live-as begin end begin-is end-is =
+        agree.live slot h
+        ∙ (λ i. covers snapshot ((begin-same device a slot size limited h agree.laid_out ∙ sym begin-is) i) && not (covers snapshot ((end-same device a slot size limited h agree.laid_out ∙ sym end-is) i)))
 
     -- a slot whose begin isn't covered isn't seen
     pub unbegun : (begin : ℕ) → begin ≡ slot_at a slot (value_of device) 0 → covers snapshot begin ≡ false → (key : Key) (row : List ℕ) → HasSeen counts (image_of device) slot key row → ⊥
-    unbegun begin is not_covered key row seen = apart (sym (begin-counts begin is ∙ not_covered) ∙ (and_true _ _ seen.live).0)
+    unbegun begin is not_covered key row seen =
+        apart (sym not_covered ∙ (and_true _ _ (sym (live-as begin (slot_at a slot (value_of device) 1) is refl) ∙ seen.live)).0)
 
     -- nor is one whose end is
     pub ended : (end : ℕ) → end ≡ slot_at a slot (value_of device) 1 → covers snapshot end ≡ true → (key : Key) (row : List ℕ) → HasSeen counts (image_of device) slot key row → ⊥
-    ended end is covered key row seen = apart (sym (not_true _ (and_true _ _ seen.live).1) ∙ (end-counts end is ∙ covered))
+    ended end is covered key row seen =
+        apart (sym (not_true _ (and_true _ _ (sym (live-as (slot_at a slot (value_of device) 0) end refl is) ∙ seen.live)).1) ∙ covered)
 
   -- what is read of a slot that is seen
   pub seen-read : (begin end : ℕ) → begin ≡ slot_at a slot (value_of device) 0 → end ≡ slot_at a slot (value_of device) 1 → covers snapshot begin ≡ true → covers snapshot end ≡ false
       → (o : Option Slot) → IfSome o (IsSlot a (slot_at a slot (value_of device)))
       → IfSome o (λ s. (counts : ℕ → Bool) → CountsAs counts snapshot a (image_of device) → HasSeen counts (image_of device) slot s.version.key s.version.row)
   seen-read begin end begin-is end-is begun lasts (Some s) is = λ counts agree.
-      read-seen device a slot size limited h agree.laid_out counts
-      (λ i. (begin-counts counts agree begin begin-is ∙ begun) i && not ((end-counts counts agree end end-is ∙ lasts) i)) s is
+      read-seen device a slot size limited h agree.laid_out counts (live-as counts agree begin end begin-is end-is ∙ (λ i. begun i && not (lasts i))) s is
   seen-read begin end begin-is end-is begun lasts None is = is
 
   -- where nothing is read, nothing is seen

@@ -1,17 +1,15 @@
 -- What a snapshot sees of the slots of an image.
-use Rattle.std.specs.Prelude.{◌≡◌, ◌↔◌, ◌<◌, ℕ, Bool, true, false, ◌&&◌, nat_eq, nat_le, List, Option, Some, None, if◌then◌else◌}
+use Rattle.std.specs.Prelude.{◌≡◌, ◌↔◌, ◌<◌, ℕ, Bool, true, false, ◌&&◌, nat_eq, nat_le, List, Some, None, if◌then◌else◌}
 use Rattle.base.specs.declared.key.Key.{Key}
 use Rattle.base.specs.Commits.{Tables}
 use Rattle.base.specs.Layout.{Layout}
-use Rattle.base.specs.Images.{Image, layout_of, begin_of, end_of, key_of, row_of, is_live, is_misfit, Shown}
+use Rattle.base.specs.Images.{Image, layout_of, key_of, row_of, is_live, is_misfit, Shown}
 use Rattle.snapshot.specs.Snapshots.{Seen, covers}
 
--- The image has this layout, and these timestamps count exactly where the snapshot covers them, of all that begin or end
--- a version there
+-- the image has this layout, and the timestamps that count make the same slots live as those that the snapshot covers
 pub record CountsAs (counts : ℕ → Bool) (s : Seen) (a : Layout) (image : Image) : Type 0 where
   pub laid_out : layout_of image ≡ a
-  pub begins : (slot : ℕ) → slot < a.slots → counts (begin_of image slot) ≡ covers s (begin_of image slot)
-  pub ends : (slot : ℕ) → slot < a.slots → counts (end_of image slot) ≡ covers s (end_of image slot)
+  pub live : (slot : ℕ) → slot < a.slots → is_live counts image slot ≡ is_live (covers s) image slot
 
 -- a slot that is live, by the timestamps that count, and whose words are no misfit has this row at this key
 pub record HasSeen (counts : ℕ → Bool) (image : Image) (slot : ℕ) (key : Key) (row : List ℕ) : Type 0 where

@@ -84,8 +84,8 @@ impl Index {
         ensures fault { IfErr result (λ fault. fault ≡ OutOfMemory) }
         ensures err { OnErr result (self.new ≡ self.old) }
     {
-        let entry = self.entry(key);
-        self.set(key, entry)
+        let same = self.entry(key);
+        self.set(key, same)
     }
 
     /// A commit that writes the key was drawn with this timestamp. Its version is in the slot; a deletion has none.
@@ -94,12 +94,12 @@ impl Index {
         ensures entries { Sets self.old self.new key (record (entry_at self.old key) { drawn = slot; last = Some ts }) }
         ensures room { KeepsRoom self.old self.new }
     {
-        let entry = Entry {
+        let drawn = Entry {
             drawn: slot,
             last: Some(ts),
             ..self.entry(key)
         };
-        self.set(key, entry).unwrap();
+        self.set(key, drawn).unwrap();
     }
 
     /// The commit that was drawn for the key is covered. Its version is in the slot; a deletion has none, and ends the newest.
@@ -109,18 +109,15 @@ impl Index {
         ensures room { KeepsRoom self.old self.new }
     {
         let entry = self.entry(key);
-        let covered = match slot {
-            Some(_) => Entry {
-                newest: slot,
-                ended: false,
-                drawn: None,
-                ..entry
-            },
-            None => Entry {
-                ended: true,
-                drawn: None,
-                ..entry
-            },
+        let (newest, ended) = match slot {
+            Some(_) => (slot, false),
+            None => (entry.newest, true),
+        };
+        let covered = Entry {
+            newest,
+            ended,
+            drawn: None,
+            ..entry
         };
         self.set(key, covered).unwrap();
     }
@@ -132,12 +129,12 @@ impl Index {
         ensures fault { IfErr result (λ fault. fault ≡ OutOfMemory) }
         ensures err { OnErr result (self.new ≡ self.old) }
     {
-        let entry = Entry {
+        let live = Entry {
             newest: Some(slot),
             ended: false,
             ..self.entry(key)
         };
-        self.set(key, entry)
+        self.set(key, live)
     }
 
     /// The key's version in the slot is freed. Where it isn't the newest covered one, nothing changes.
@@ -154,5 +151,41 @@ impl Index {
             };
             self.set(key, forgotten).unwrap();
         }
+    }
+}
+
+#[cfg(test)]
+mod tests {
+    use super::*;
+    use std::test::Fail;
+
+    const KEY: Key = Key { table: 1, key: 7 };
+
+    const OTHER: Key = Key { table: 2, key: 7 };
+
+    #[test]
+    fn versions_of_a_key_from_draw_to_freeing(rt: HostRuntime) -> Result<(), Fail> {
+        let mut index = Index::new(rt.alloc());
+        index.found(OTHER, 5)?;
+        index.reserve(KEY)?;
+        assert_eq!(rt; index.live(KEY), None);
+        index.draw(KEY, Some(3), 9);
+        assert_eq!(rt; index.live(KEY), None);
+        assert_eq!(rt; index.link(KEY), Some(3));
+        assert_eq!(rt; index.entry(KEY).last, Some(9));
+        index.cover(KEY, Some(3));
+        assert_eq!(rt; index.live(KEY), Some(3));
+        index.draw(KEY, None, 10);
+        assert_eq!(rt; index.live(KEY), Some(3));
+        index.cover(KEY, None);
+        assert_eq!(rt; index.live(KEY), None);
+        assert_eq!(rt; index.link(KEY), Some(3));
+        index.forget(KEY, 2);
+        assert_eq!(rt; index.link(KEY), Some(3));
+        index.forget(KEY, 3);
+        assert_eq!(rt; index.link(KEY), None);
+        assert_eq!(rt; index.entry(KEY).last, Some(10));
+        assert_eq!(rt; index.live(OTHER), Some(5));
+        Ok(())
     }
 }

@@ -1,10 +1,4 @@
-use Rattle.std.proofs.Common.{◌≡◌, ℕ, ◌<◌, Bool, true, false, List, IfSome, IfNone, sym, ◌∙◌, arith}
-use Rattle.std.specs.Prelude.{Option, Some, None}
-use Rattle.base.specs.declared.key.Key.{Key}
-use Rattle.pmem.specs.Words.{value_of, image_of}
-use Rattle.version_slot.specs.declared.words.Slot.{Slot}
-use Rattle.version_slot.specs.Words.{IsSlot, slot_at}
-use Rattle.index.specs.Reading.{CountsAs, HasSeen}
+use Rattle.std.proofs.Common.{sym, ◌∙◌, arith}
 use Rattle.index.proofs.Slots.{unbegun, ended, seen-read, none-read}
 use Rattle.index.proofs.reading.seen_slot.Goals as goal
 
