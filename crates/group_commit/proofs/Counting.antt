@@ -1,5 +1,5 @@
 -- What each tick of a cycle does, by how many were made.
-use Rattle.std.proofs.Common.{◌≡◌, ◌≢◌, ◌⊎◌, inl, inr, ℕ, zero, suc, ◌+◌, ◌-◌, ◌<◌, ◌≤◌, Bool, true, false, cond, List, [], ◌∷◌, length, find, Option, Some, None, refl, sym, ◌∙◌, ap, subst, arith}
+use Rattle.std.proofs.Common.{◌≡◌, ◌≢◌, inl, inr, ℕ, zero, suc, ◌+◌, ◌<◌, Bool, true, false, cond, List, [], ◌∷◌, length, find, Option, Some, None, refl, sym, ◌∙◌, ap, subst, arith}
 use Rattle.std.specs.Prelude.{slice_get, nat_le, nat_lt}
 use Rattle.std.proofs.lemmas.Bool.{and_parts, ltb-true, ltb-false, le-leb, leb-true, cases_lt}
 use Rattle.std.proofs.lemmas.Option.{slice_get_within, slice_get_past, slice_get-get_or}
@@ -7,11 +7,10 @@ use Rattle.base.specs.Records.{are_rising}
 use Rattle.log_area.specs.declared.stage.WritingStage.{WritingStage}
 use Rattle.log_area.specs.declared.stage.WritingStage.TheVariants.{StoreBody, FlushBody, FenceBody, StoreGate, FlushGate, FenceGate, Done}
 use Rattle.log_area.specs.Stages.{IsStage, next_stage, reached_by, operations_before}
-use Rattle.log_area.specs.Writings.{Progress, advanced, operation_of}
+use Rattle.log_area.specs.Writings.{advanced, operation_of}
 use Rattle.base.specs.declared.step.Stage.TheVariants.{LineFlushed, LinesFenced}
-use Rattle.base.specs.declared.step.Stage.{Stage}
 use Rattle.base.specs.Actors.{committer}
-use Rattle.pmem.specs.Trace.{Operation, flush_op, fence_op}
+use Rattle.pmem.specs.Trace.{flush_op, fence_op}
 use Rattle.group_commit.specs.declared.stage.CycleStage.{CycleStage}
 use Rattle.group_commit.specs.declared.stage.CycleStage.TheVariants.{FlushLines, WriteRecord}
 use Rattle.group_commit.specs.Cycles.{Cycling, flush_or_fence, flushed_or_fenced, next_at, operation_at, reached_at, ticked_at}

@@ -4,7 +4,6 @@ use Rattle.base.specs.declared.step.Stage.TheVariants.{LineFlushed, LinesFenced}
 use Rattle.base.specs.Actors.{committer}
 use Rattle.base.specs.Records.{are_rising}
 use Rattle.pmem.specs.Trace.{flush_op, fence_op}
-use Rattle.log_area.specs.declared.stage.WritingStage.{WritingStage}
 use Rattle.log_area.specs.declared.stage.WritingStage.TheVariants.{StoreBody, Done}
 use Rattle.log_area.specs.Stages.{IsStage, reached_by, operations_before}
 use Rattle.log_area.specs.Writings.{Progress, operation_of}
