@@ -406,12 +406,11 @@ fn each_reply_has_its_line(rt: HostRuntime) -> Result<(), Fail> {
         rt.alloc(),
         &file,
         &[
-            "begin\nput 2 1 7 61\nput 2 1 8 -\ndelete 2 1 9\ndraw 2\nstamp 2\nstamp 2\n",
+            "begin\nput 2 1 7 61\nput 2 1 8 -\ndraw 2\nstamp 2\nstamp 2\n",
             "commit 1\npoll 2\ncycle\npoll 2\ncommit 1\nbegin\nget 2 1 7\nget 2 1 8\nget 2 1 9\nabort 2\n",
         ],
         "opened gate 2 p 0 d 9 next 1 gaps -
 session 2
-done
 done
 done
 drawn 1
