@@ -407,7 +407,7 @@ fn each_reply_has_its_line(rt: HostRuntime) -> Result<(), Fail> {
         &file,
         &[
             "begin\nput 2 1 7 61\nput 2 1 8 -\ndraw 2\nstamp 2\nstamp 2\n",
-            "commit 1\npoll 2\ncycle\npoll 2\ncommit 1\nbegin\nget 2 1 7\nget 2 1 8\nget 2 1 9\nabort 2\n",
+            "commit 1\npoll 2\ncycle\npoll 2\ncommit 1\nend 2\nbegin\nget 2 1 7\nget 2 1 8\nget 2 1 9\nabort 2\n",
         ],
         "opened gate 2 p 0 d 9 next 1 gaps -
 session 2
@@ -421,6 +421,7 @@ waiting
 covered 3
 committed 1
 idle
+done
 session 2
 row 61
 row -
