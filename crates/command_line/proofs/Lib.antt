@@ -3,3 +3,5 @@ pub mod Lines
 pub mod ImageFiles
 pub mod Parts
 pub mod Rows
+pub mod Complete
+pub mod Refused

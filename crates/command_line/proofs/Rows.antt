@@ -1,14 +1,15 @@
 -- A row's text reads as the row, and no other text does.
-use Rattle.std.proofs.Common.{◌≡◌, ◌≢◌, ℕ, zero, suc, ◌+◌, ◌*◌, ◌/◌, ◌%◌, ◌<◌, Bool, true, false, not, ◌&&◌, ◌||◌, ◌==◌, List, [], ◌∷◌, Option, Some, None, Result, Ok, Err, length, slice_index, codes, refl, sym, ◌∙◌, ap, arith, inl, inr, is_some, unwrap_or, if◌then◌else◌}
+use Rattle.std.proofs.Common.{◌≡◌, ◌≢◌, ℕ, zero, suc, nat_le, ◌-◌, ◌+◌, ◌*◌, ◌/◌, ◌%◌, ◌<◌, Bool, true, false, not, ◌&&◌, ◌||◌, ◌==◌, List, [], ◌∷◌, Option, Some, None, Result, Ok, Err, length, slice_index, codes, refl, sym, ◌∙◌, ap, arith, inl, inr, is_some, unwrap_or, if◌then◌else◌}
 use Rattle.std.proofs.lemmas.Bool.{cases_eq, eqb-true}
 use Rattle.std.proofs.lemmas.Slice.Eq.{bytes_eq-Decides}
-use Rattle.std.specs.Char.{is_ascii_uppercase}
-use Rattle.std.specs.List.{list_any}
+use Rattle.std.proofs.lemmas.List.Sums.{AllPass-from_list_all, list_all-from_AllPass}
+use Rattle.std.specs.Char.{is_ascii_hexdigit, is_ascii_uppercase}
+use Rattle.std.specs.List.{list_all, list_any}
 use Rattle.std.specs.Result.{result_ok, result_unwrap_or}
 use Rattle.std.specs.Str.{bytes_eq}
 use Rattle.hex.specs.declared.error.FromHexError.{FromHexError}
-use Rattle.hex.specs.Hex.{IsBytes, decode_of, decode_pairs, digit_or_error, encode_lower, encode_with, hex_digit_value, lower_digits, pair_value, value_at, ◌>>=◌}
-use Rattle.hex.proofs.HexLemmas.{decode_of-encode_lower, decode_of-even, decode_of-ok, length-encode_with}
+use Rattle.hex.specs.Hex.{IsBytes, decode_of, decode_pairs, digit_or_error, encode_lower, encode_with, hex_digit_value, is_hex_digit, lower_digits, pair_value, value_at, ◌>>=◌}
+use Rattle.hex.proofs.HexLemmas.{decode_of-digits, decode_of-encode_lower, decode_of-even, decode_of-ok, length-encode_with}
 use Rattle.command_line.specs.Numbers.{Text}
 use Rattle.command_line.specs.Rows.{IsNoRow, row_of, row_text}
 
@@ -159,3 +160,65 @@ pub no_row : (text : Text) → row_of text ≡ None → IsNoRow text
 no_row text none bytes h e =
     let read : row_of text ≡ Some bytes = rw e (row_of-row_text bytes h) in
     cc
+
+-- ---- the test before memory is wanted
+
+one_of_three : (a b d : Bool) (x y z : ℕ) → is_some (if a then Some x else if b then Some y else if d then Some z else None) ≡ ((d || a) || b)
+one_of_three true true true x y z = refl
+one_of_three true true false x y z = refl
+one_of_three true false true x y z = refl
+one_of_three true false false x y z = refl
+one_of_three false true true x y z = refl
+one_of_three false true false x y z = refl
+one_of_three false false true x y z = refl
+one_of_three false false false x y z = refl
+
+hex_digit-same : (c : ℕ) → is_hex_digit c ≡ is_ascii_hexdigit c
+hex_digit-same c = one_of_three (nat_le 65 c && nat_le c 70) (nat_le 97 c && nat_le c 102) (nat_le 48 c && nat_le c 57) (c - 55) (c - 87) (c - 48)
+
+all-same : {A : Type 0} (p q : A → Bool) → ((x : A) → p x ≡ q x) → (xs : List A) → list_all p xs ≡ list_all q xs
+all-same p q same [] = refl
+all-same p q same (x ∷ xs) = rw (same x, all-same p q same xs) refl
+
+-- the text is an even number of hex digits
+abbrev pub is_hex : Text → Bool
+is_hex text = length text % 2 == 0 && list_all is_ascii_hexdigit text
+
+decodes : (text : Text) → is_hex text ≡ true → (bytes : List ℕ) × (decode_of text ≡ Ok bytes)
+decodes text h =
+    let parts = both (length text % 2 == 0) (list_all is_ascii_hexdigit text) h in
+    decode_of-digits text (eqb-true (length text % 2) 0 parts.0)
+    (AllPass-from_list_all is_hex_digit text (all-same is_hex_digit is_ascii_hexdigit hex_digit-same text ∙ parts.1))
+
+is_hex-of : (text bytes : List ℕ) → decode_of text ≡ Ok bytes → is_hex text ≡ true
+is_hex-of text bytes h =
+    let ok = decode_of-ok text bytes h in
+    let digits : list_all is_ascii_hexdigit text ≡ true = sym (all-same is_hex_digit is_ascii_hexdigit hex_digit-same text) ∙ list_all-from_AllPass is_hex_digit text ok.1 in
+    rw (ok.0, digits) refl
+
+undecoded : (text : Text) (r : Result (List ℕ) FromHexError) → decode_of text ≡ r → is_hex text ≡ false → result_ok r ≡ None
+undecoded text (Ok bytes) is bad = let has = is_hex-of text bytes is in cc (has, bad)
+undecoded text (Err e) is bad = refl
+
+row_by : (dash bad : Bool) (r : Result (List ℕ) FromHexError) (o : Option (List ℕ)) → dash ≡ false → bad ≡ false → result_ok r ≡ o
+    → (if dash then Some [] else if bad then None else result_ok r) ≡ o
+row_by false false r o d b h = h
+row_by true bad r o d b h = cc d
+row_by false true r o d b h = cc b
+
+-- a text that isn't one is no row
+pub no_hex-no_row : (text : Text) → bytes_eq text (codes "-") ≡ false → (length text == 0 || list_any is_ascii_uppercase text) ≡ false → is_hex text ≡ false
+    → row_of text ≡ None
+no_hex-no_row text dash bad odd = row_by (bytes_eq text (codes "-")) (length text == 0 || list_any is_ascii_uppercase text) (decode_of text) None dash bad (undecoded text (decode_of text) refl odd)
+
+-- one that is, in lower case, is a row
+pub hex-row : (text : Text) → bytes_eq text (codes "-") ≡ false → (length text == 0 || list_any is_ascii_uppercase text) ≡ false → is_hex text ≡ true
+    → is_some (row_of text) ≡ true
+hex-row text dash bad is =
+    let d = decodes text is in
+    let read : row_of text ≡ Some d.0 = row_by (bytes_eq text (codes "-")) (length text == 0 || list_any is_ascii_uppercase text) (decode_of text) (Some d.0) dash bad (ap result_ok d.1) in
+    rw read refl
+
+-- a text that is empty, or has an upper case letter, is none either
+pub bad-no_row : (text : Text) → bytes_eq text (codes "-") ≡ false → (length text == 0 || list_any is_ascii_uppercase text) ≡ true → row_of text ≡ None
+bad-no_row text dash bad = rw (dash, bad) refl

@@ -56,3 +56,10 @@ pub record SetsNumber (old : Given) (choice : Choice) (value : Text) (new : Give
   pub writes : WritesAtMostOne (value ∷ []) (number_at choice new)
   pub file_same : new.file ≡ old.file
   pub others_same : SameOthers choice old new
+
+-- the same file's name, if there is one, and the same numbers
+pub record Agrees (found given : Given) : Type 0 where
+  pub file : at_most_one found.file ≡ at_most_one given.file
+  pub slots : found.slots ≡ given.slots
+  pub places : found.places ≡ given.places
+  pub window : found.window ≡ given.window

@@ -90,3 +90,11 @@ Gives words (Format name slots places window) =
     (rest : List Text) × (words ≡ codes "format" ∷ rest) × GivesFormat rest (Format name slots places window)
 Gives words (Run name) = (rest : List Text) × (words ≡ codes "run" ∷ rest) × IsOneFile rest name.now
 Gives words (Check name) = (rest : List Text) × (words ≡ codes "check" ∷ rest) × IsOneFile rest name.now
+
+-- what follows `format` gives no order
+abbrev pub GivesNoFormat : List Text → Type 0
+GivesNoFormat words = (order : Order) → GivesFormat words order → ⊥
+
+-- the words give no order
+abbrev pub GivesNothing : List Text → Type 0
+GivesNothing words = (order : Order) → Gives words order → ⊥

@@ -1,7 +1,10 @@
-ghost use Rattle.std.specs.Prelude.{◌≡◌, ◌∷◌, ◌++◌, IfSome, IfOk};
+ghost use Rattle.std.specs.Prelude.{◌≡◌, ◌≢◌, ◌^◌, ◌∷◌, ◌++◌, IfNone, IfSome, IsSome, IsSomeAnd, IsTrue, None};
 ghost use Rattle.command_line.specs.Lines.{texts};
-ghost use Rattle.command_line.specs.Words.{Gives, GivesFormat, IsOneFile, is_file_name, option_word};
-ghost use Rattle.command_line.specs.Given.{AreGiven, SetsFile, SetsNumber};
+ghost use Rattle.command_line.specs.Numbers.{Text, number_below};
+ghost use Rattle.command_line.specs.Words.{Gives, GivesFormat, GivesNoFormat, GivesNothing, IsOneFile, is_file_name, option_word};
+ghost use Rattle.command_line.specs.Given.{Agrees, AreGiven, SetsFile, SetsNumber, number_at};
+ghost use Rattle.command_line.specs.declared.given.Given.{Given as GivenValue};
+ghost use Rattle.command_line.specs.declared.orders.Choice.{Choice as ChoiceValue};
 
 use crate::number::number;
 use crate::orders::{Choice, Order};
@@ -22,9 +25,10 @@ const DEFAULT_PLACES: u64 = 4;
 
 const DEFAULT_WINDOW: u64 = 64;
 
-/// The order that some words give, read by themselves.
+/// The order that some words give. It takes no memory.
 pub(crate) fn spelled_order<'a>(words: &[&'a str]) -> Option<Order<'a>>
-    ensures { IfSome result (λ order. Gives (texts words.now) order) }
+    ensures gives { IfSome result (λ order. Gives (texts words.now) order) }
+    ensures none { IfNone result (GivesNothing (texts words.now)) }
 {
     let (name, rest) = words.split_first()?;
     if *name == "format" {
@@ -42,7 +46,8 @@ pub(crate) fn spelled_order<'a>(words: &[&'a str]) -> Option<Order<'a>>
 
 // The file's name that is all of the words.
 fn one_file<'a>(words: &[&'a str]) -> Option<&'a str>
-    ensures { IfSome result (λ file. IsOneFile (texts words.now) file.now) }
+    ensures is { IfSome result (λ file. IsOneFile (texts words.now) file.now) }
+    ensures none { IfNone result ((name : Text) → IsOneFile (texts words.now) name → ⊥) }
 {
     match words {
         [file] if is_file_name(file) => Some(file),
@@ -51,7 +56,8 @@ fn one_file<'a>(words: &[&'a str]) -> Option<&'a str>
 }
 
 fn spelled_format<'a>(words: &[&'a str]) -> Option<Order<'a>>
-    ensures { IfSome result (λ order. GivesFormat (texts words.now) order) }
+    ensures gives { IfSome result (λ order. GivesFormat (texts words.now) order) }
+    ensures none { IfNone result (GivesNoFormat (texts words.now)) }
 {
     let given = read_format(words)?;
     let file = given.file?;
@@ -70,7 +76,8 @@ fn spelled_format<'a>(words: &[&'a str]) -> Option<Order<'a>>
 }
 
 fn read_format<'a>(words: &[&'a str]) -> Option<Given<'a>>
-    ensures { IfSome result (λ given. AreGiven (texts words.now) given) }
+    ensures given { IfSome result (λ given. AreGiven (texts words.now) given) }
+    ensures all { (given : GivenValue) → AreGiven (texts words.now) given → IsSomeAnd result (λ found. Agrees found given) }
 {
     let Some((first, rest)) = words.split_first() else {
         return Some(Given {
@@ -91,7 +98,8 @@ fn read_format<'a>(words: &[&'a str]) -> Option<Given<'a>>
 }
 
 fn spaced_choice(word: &str) -> Option<Choice>
-    ensures { IfSome result (λ choice. word.now ≡ option_word choice) }
+    ensures is { IfSome result (λ choice. word.now ≡ option_word choice) }
+    ensures none { IfNone result ((choice : ChoiceValue) → word.now ≢ option_word choice) }
 {
     if word == "--slots" {
         Some(Choice::Slots)
@@ -105,7 +113,8 @@ fn spaced_choice(word: &str) -> Option<Choice>
 }
 
 fn joined_choice(word: &str) -> Option<(Choice, &str)>
-    ensures { IfSome result (λ given. word.now ≡ option_word given.0 ++ 61 ∷ given.1.now) }
+    ensures is { IfSome result (λ given. word.now ≡ option_word given.0 ++ 61 ∷ given.1.now) }
+    ensures none { IfNone result ((choice : ChoiceValue) (value : Text) → word.now ≢ option_word choice ++ 61 ∷ value) }
 {
     let (name, value) = word.split_once('=')?;
     let choice = spaced_choice(name)?;
@@ -119,7 +128,8 @@ fn is_file_name(word: &str) -> bool
 }
 
 fn with_file<'a>(given: Given<'a>, word: &'a str) -> Option<Given<'a>>
-    ensures { IfSome result (λ now. SetsFile given.entry word.now now) }
+    ensures sets { IfSome result (λ now. SetsFile given.entry word.now now) }
+    ensures may { given.entry.file ≡ None → IsTrue (is_file_name word.now) → IsSome result }
 {
     if given.file.is_some() || !is_file_name(word) {
         return None;
@@ -133,7 +143,8 @@ fn with_file<'a>(given: Given<'a>, word: &'a str) -> Option<Given<'a>>
 }
 
 fn with_number<'a>(given: Given<'a>, choice: Choice, value: &str) -> Option<Given<'a>>
-    ensures { IfSome result (λ now. SetsNumber given.entry choice value.now now) }
+    ensures sets { IfSome result (λ now. SetsNumber given.entry choice value.now now) }
+    ensures may { number_at choice given.entry ≡ None → IsSome (number_below (2 ^ 64) value.now) → IsSome result }
 {
     let number = number(value.as_bytes())?;
     match choice {

@@ -1,7 +1,7 @@
-ghost use Rattle.std.specs.Prelude.{◌≡◌, ◌^◌, IfOk, IfErr, option_and_then};
+ghost use Rattle.std.specs.Prelude.{◌≡◌, ◌^◌, IfOk, IfErr, IsSome, option_and_then};
 ghost use Rattle.command_line.specs.Lines.{bare_command, command_of, key_command, spelled_key_command, line_of, commit_of, crash_of, key_of, one_word_command, put_command, session_command, texts, words_of};
 ghost use Rattle.command_line.specs.Numbers.{number_below};
-ghost use Rattle.command_line.specs.declared.line.LineFault.TheVariants.{NotACommand};
+ghost use Rattle.command_line.specs.declared.line.LineFault.TheVariants.{NotACommand, OutOfMemory};
 
 use crate::command::{Command, Survivor};
 use crate::number::{middle_number, number, small_number};
@@ -50,6 +50,7 @@ fn words(alloc: Global, line: &[u8]) -> Result<Vec<&[u8]>, AllocError>
 fn command(alloc: Global, words: &[&[u8]]) -> Result<Command, LineFault>
     ensures ok { IfOk result (λ command. command_of (texts words.now) ≡ Some command) }
     ensures refused { IfErr result (λ fault. fault ≡ NotACommand → command_of (texts words.now) ≡ None) }
+    ensures memory { IfErr result (λ fault. fault ≡ OutOfMemory → IsSome (command_of (texts words.now))) }
 {
     match words {
         [] => Err(LineFault::NotACommand),
@@ -169,6 +170,7 @@ fn put(
 ) -> Result<Command, LineFault>
     ensures ok { IfOk result (λ command. put_command name.now session.now table.now key.now bytes.now ≡ Some command) }
     ensures refused { IfErr result (λ fault. fault ≡ NotACommand → put_command name.now session.now table.now key.now bytes.now ≡ None) }
+    ensures memory { IfErr result (λ fault. fault ≡ OutOfMemory → IsSome (put_command name.now session.now table.now key.now bytes.now)) }
 {
     if name != b"put".as_slice() {
         return Err(LineFault::NotACommand);

@@ -15,7 +15,7 @@ pub enum Order<'a> {
     Run {
         file: &'a str,
     },
-    /// The image in the file is tested, and what it holds is told.
+    /// The image in the file is tested, and what it holds is printed.
     Check {
         file: &'a str,
     },

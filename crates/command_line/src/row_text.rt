@@ -1,12 +1,11 @@
-ghost use Rattle.std.specs.Prelude.{◌≡◌, IfOk, IfErr};
-ghost use Rattle.std.specs.Char.{is_ascii_uppercase};
-ghost use Rattle.std.specs.List.{list_any};
+ghost use Rattle.std.specs.Prelude.{◌≡◌, ◌%◌, ◌==◌, ◌&&◌, length, IfOk, IfErr, IsSome};
+ghost use Rattle.std.specs.Char.{is_ascii_hexdigit, is_ascii_uppercase};
+ghost use Rattle.std.specs.List.{list_all, list_any};
 ghost use Rattle.command_line.specs.Rows.{IsNoRow, row_of, row_text};
-ghost use Rattle.command_line.specs.declared.line.LineFault.TheVariants.{NotACommand};
+ghost use Rattle.command_line.specs.declared.line.LineFault.TheVariants.{NotACommand, OutOfMemory};
 
 use crate::command::RowBytes;
 use crate::line::LineFault;
-use hex::FromHexError;
 use std::alloc::Global;
 
 /// The bytes of a row, written as two lower case hex digits each, or as `-` where there are none.
@@ -17,6 +16,9 @@ pub fn row(alloc: Global, word: &[u8]) -> Result<RowBytes, LineFault>
     // No row is written so.
     ensures refused { IfErr result (λ fault. fault ≡ NotACommand → row_of word.now ≡ None) }
     ensures unspelled { IfErr result (λ fault. fault ≡ NotACommand → IsNoRow word.now) }
+
+    // Memory is wanted for a row alone.
+    ensures memory { IfErr result (λ fault. fault ≡ OutOfMemory → IsSome (row_of word.now)) }
 {
     decoded(alloc, word)
 }
@@ -24,18 +26,31 @@ pub fn row(alloc: Global, word: &[u8]) -> Result<RowBytes, LineFault>
 fn decoded(alloc: Global, word: &[u8]) -> Result<RowBytes, LineFault>
     ensures value { IfOk result (λ row. row_of word.now ≡ Some row) }
     ensures refused { IfErr result (λ fault. fault ≡ NotACommand → row_of word.now ≡ None) }
+    ensures memory { IfErr result (λ fault. fault ≡ OutOfMemory → IsSome (row_of word.now)) }
 {
     if word == b"-".as_slice() {
         return Ok(RowBytes::new(Vec::new(alloc)));
     }
-    if word.is_empty() || has_upper_case(word) {
+    if word.is_empty() || has_upper_case(word) || !is_hex(word) {
         return Err(LineFault::NotACommand);
     }
     match hex::decode(alloc, word) {
         Ok(bytes) => Ok(RowBytes::new(bytes)),
-        Err(FromHexError::OutOfMemory) => Err(LineFault::OutOfMemory),
-        Err(_) => Err(LineFault::NotACommand),
+        Err(_) => Err(LineFault::OutOfMemory),
     }
+}
+
+// Is it an even number of hex digits?
+fn is_hex(word: &[u8]) -> bool
+    ensures { result ≡ (length word.now % 2 == 0 && list_all is_ascii_hexdigit word.now) }
+{
+    word.len() % 2 == 0 && has_only_digits(word)
+}
+
+fn has_only_digits(word: &[u8]) -> bool
+    ensures { result ≡ list_all is_ascii_hexdigit word.now }
+{
+    word.iter().all(|byte| byte.is_ascii_hexdigit())
 }
 
 fn has_upper_case(word: &[u8]) -> bool

@@ -1,6 +1,6 @@
-ghost use Rattle.std.specs.Prelude.{IfOk};
+ghost use Rattle.std.specs.Prelude.{IfOk, OnErr};
 ghost use Rattle.command_line.specs.Lines.{texts};
-ghost use Rattle.command_line.specs.Words.{Gives};
+ghost use Rattle.command_line.specs.Words.{Gives, GivesNothing};
 
 use crate::given::spelled_order;
 use crate::orders::{Order, WordFault};
@@ -9,9 +9,10 @@ use clap::{Arg, ArgAction, Command, value_parser};
 use std::alloc::{AllocError, Global};
 
 /// What the words after the program's name ask for: a subcommand, a file, and numbers that have
-/// defaults.
+/// defaults. Fails with the text for the user; only that text takes memory.
 pub fn order<'a>(alloc: Global, words: &'a [&'a str]) -> Result<Order<'a>, WordFault>
-    ensures { IfOk result (λ order. Gives (texts words.now) order) }
+    ensures gives { IfOk result (λ order. Gives (texts words.now) order) }
+    ensures refused { OnErr result (GivesNothing (texts words.now)) }
 {
     match spelled_order(words) {
         Some(order) => Ok(order),

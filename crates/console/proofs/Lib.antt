@@ -7,3 +7,4 @@ mod Lives
 mod Input
 mod Crash
 mod BadLine
+mod Refusals

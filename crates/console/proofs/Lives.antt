@@ -3,16 +3,14 @@ use Rattle.std.proofs.Common.{◌≡◌, ℕ, ◌-◌, ◌^◌, Bool, true, fals
 use Rattle.std.specs.Prelude.{Option, Some, None, codes}
 use Rattle.base.specs.declared.gap.Gap.{Gap}
 use Rattle.base.specs.Commits.{Commit}
-use Rattle.base.specs.Images.{Image, layout_of, ruling}
+use Rattle.base.specs.Images.{Image, layout_of}
 use Rattle.base.specs.declared.fault.Fault.TheVariants.{Failed, TimestampsOut}
 use Rattle.base.specs.Layout.{Layout, opened_layout}
 use Rattle.base.specs.Search.{first_of, some_if}
-use Rattle.base.specs.Machine.{State, closed, closing_fault, closing_gate}
+use Rattle.base.specs.Machine.{State, closing_fault, closing_gate}
 use Rattle.base.specs.Openings.{OpensAs}
-use Rattle.base.specs.Records.{Record}
 use Rattle.base.specs.Stands.{Stands}
-use Rattle.pmem.specs.Device.{Device, MayLeave, restarted}
-use Rattle.pmem.specs.Words.{image_of}
+use Rattle.pmem.specs.Device.{Device, MayLeave}
 use Rattle.pmem.specs.declared.device.Pmem.{Ghosts}
 use Rattle.room.specs.Room.{Shows, device_of}
 use Rattle.room.specs.declared.room.Room.{Room}
@@ -21,11 +19,10 @@ use Rattle.command_line.specs.Numbers.{Text}
 use Rattle.command_line.specs.Texts.{opened_line, closed_line, survivor_text}
 use Rattle.command_line.specs.declared.command.Survivor.{Survivor}
 use Rattle.console.specs.Kept.{Extends, HasClosed, IsFileWith, KeepsHistories, Leads}
-use Rattle.console.specs.Lives.{Ends, IsBegun, IsLife, Lives, opened_text, closed_text}
+use Rattle.console.specs.Lives.{Ends, IsBegun, IsLife, Lives, opened_text}
 use Rattle.console.specs.Obeyed.{ObeysLines}
 use Rattle.console.proofs.Grown.{grows-lines}
 use Rattle.console.proofs.Kept.{keeps-at, keeps-closed}
-use Rattle.recovery.proofs.Restarted.{image-restarted}
 use Rattle.console.proofs.Files.{one_image}
 
 pub opened-so : (q : State) (gate persisted dirty next : ℕ) (gaps : List Gap) → gate ≡ q.ruling.gate → persisted ≡ q.ruling.persisted → dirty ≡ q.ruling.dirty → next ≡ q.next → gaps ≡ q.ruling.gaps

@@ -50,7 +50,7 @@ IsPassed line = kept_in line ≡ Some None
 -- ---- the line that is none
 
 -- The input has a line of this number that is no command, and each line before it is a command that is no crash, or is
--- skipped. Numbers begin at 1, and a number past the greatest that can be told is told as that one
+-- skipped. Numbers begin at 1, and a number past the greatest that can be printed is printed as that one
 pub record IsBadLine (input : Option Text) (number : ℕ) : Type 0 where
   pub before : List Text
   pub line : Text

@@ -22,7 +22,7 @@ Extends history longer = (more : List Commit) × (longer ≡ history ++ more)
 pub record Leads {D : Type 0} {G : Ghosts D} (state : D → Device) (old new : Room D G) (By : State → State → Type 0) : Type 0 where
   pub each : (q : State) → Shows state old q → (q' : State) × By q q' × Shows state new q'
 
--- whatever state the room showed, nothing spoke against a close of it, and a crash of the device leaves what that close leaves
+-- whatever state the room showed, its close had no fault, and a crash of the device leaves what that close leaves
 pub record HasClosed {D : Type 0} {G : Ghosts D} (state : D → Device) (room : Room D G) (device : Device) : Type 0 where
   pub each : (q : State) → Shows state room q → (image : Image) → MayLeave device image → StandsClosed q image
   pub may_close : (q : State) → Shows state room q → closing_fault q ≡ None

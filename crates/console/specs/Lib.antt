@@ -5,3 +5,4 @@ pub mod Input
 pub mod Crash
 pub mod BadLine
 pub mod Checked
+pub mod Refusals

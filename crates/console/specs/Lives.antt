@@ -24,15 +24,15 @@ opened_text q = opened_line q.ruling.gate q.ruling.persisted q.ruling.dirty q.ne
 abbrev pub closed_text : State → Text
 closed_text q = closed_line (closing_gate q) (q.next - 1) q.next
 
--- the file has the words of an image, and nothing speaks against opening it
+-- the file has the words of an image that opens
 pub record IsOpenable (file : List ℕ) : Type 0 where
   pub size : is_image_length (length file) ≡ true
   pub image : Image
   pub holds : HoldsWords file image
   pub sound : opening_fault image ≡ None
 
--- How a life ends in this state: by a crash, which leaves an image that stands for what must be kept then, or by a close,
--- against which nothing speaks. The line that is printed, and what FILE holds then
+-- How a life ends in this state: by a crash, which leaves an image that stands for what must be kept then, or by a close
+-- that has no fault. The line that is printed, and what FILE holds then
 abbrev pub Ends : State → Option Survivor → Text → List ℕ → Type 0
 Ends q (Some keeps) said file =
     (image : Image) × IsFileOf image file × StandsAt q image × (said ≡ (codes "stopped " ++ survivor_text keeps) ++ 10 ∷ [])

@@ -1,7 +1,9 @@
-ghost use Rattle.std.specs.Prelude.{IfErr, OnOk};
+ghost use Rattle.std.specs.Prelude.{◌≡◌, ◌⊎◌, [], IfErr, OnOk};
 ghost use Rattle.std.specs.Io.KnownBytes.{Appends};
 ghost use Rattle.console.specs.BadLine.{BlamesNoLine};
 ghost use Rattle.console.specs.Checked.{PrintsChecked, entries_text};
+ghost use Rattle.console.specs.Refusals.{IfRefused, IsDamage, IsFileFault};
+ghost use Rattle.base.specs.declared.fault.Fault.TheVariants.{OutOfMemory};
 
 use crate::stop::Stop;
 use base::key::Key;
@@ -23,6 +25,8 @@ pub fn check_file<T: Threads + Sync, W: Write>(
 ) -> Result<(), Stop>
     ensures checked { OnOk result (PrintsChecked file.now (W.contents output.old) (W.contents output.new)) }
     ensures blames { IfErr result BlamesNoLine }
+    ensures refused { IfErr result (IfRefused (λ fault. (fault ≡ OutOfMemory)
+        ⊎ (IsFileFault file.now IsDamage fault × Appends (W.contents output.old) (W.contents output.new) []))) }
 {
     let words = words_of_file(alloc, file)?;
     let report = check(rt, alloc, words.as_slice())?;

@@ -1,4 +1,4 @@
-ghost use Rattle.std.specs.Prelude.{◌≡◌, ◌≤◌, ◌↔◌, ◌++◌, ◌∷◌, [], codes, decimal, IfErr, IfOk, IfSome, IsSome, IsTrue, OnOk, is_some};
+ghost use Rattle.std.specs.Prelude.{◌≡◌, ◌⊎◌, ◌≤◌, ◌↔◌, ◌++◌, ◌∷◌, [], codes, decimal, IfErr, IfOk, IfSome, IsSome, IsTrue, None, OnOk, is_some};
 ghost use Rattle.std.specs.Io.KnownBytes.{Appends};
 ghost use Rattle.base.specs.Layout.{total_words};
 ghost use Rattle.command_line.specs.ImageFile.{IsFileOf};
@@ -7,6 +7,8 @@ ghost use Rattle.console.specs.BadLine.{BlamesNoLine, EndsAtBadLine, IfBadLine, 
 ghost use Rattle.console.specs.Checked.{PrintsChecked};
 ghost use Rattle.console.specs.Kept.{IfCheck, Leaves, writes_file};
 ghost use Rattle.console.specs.Lives.{Prints};
+ghost use Rattle.console.specs.Refusals.{EndsRefused, IfRefused, IsFaultOf, Refuses, refusal_line};
+ghost use Rattle.base.specs.declared.fault.Fault.TheVariants.{Device as DeviceFault, OutOfMemory};
 
 use crate::checking::check_file;
 use crate::ended::Ended;
@@ -44,13 +46,18 @@ pub fn execute<T: Threads + Sync, R: Read, W: Write>(
     ensures printed { IfSome result.file (λ left. Prints order.now file.now (R.remaining input.old) (W.contents output.old) (W.contents output.new) left.items) }
     ensures checked { result.status ≡ 0 → IfCheck order.now (PrintsChecked file.now (W.contents output.old) (W.contents output.new)) }
     ensures bad_line { result.status ≡ 2 → IsRunAnd order.now (TellsBadLine file.now (R.remaining input.old) (W.contents output.old) (W.contents output.new)) }
+
+    // A refusal ends with status 1, and exactly its line is printed after what was printed before it.
+    ensures refusal { IfSome result.refused (λ fault. result.status ≡ 1) }
+    ensures refused { IfSome result.refused (Refuses order.now file.now (R.remaining input.old) (W.contents output.old) (W.contents output.new)) }
 {
     match obey(rt, alloc, order, file, input, output) {
-        Ok(file) => Ended { status: 0, file },
-        Err(stop) => Ended {
-            status: tell(alloc, &stop, output),
-            file: None,
+        Ok(file) => Ended {
+            status: 0,
+            file,
+            refused: None,
         },
+        Err(stop) => tell(alloc, &stop, output),
     }
 }
 
@@ -68,6 +75,8 @@ fn obey<T: Threads + Sync, R: Read, W: Write>(
     ensures printed { IfOk result (λ kept. IfSome kept (λ left. Prints order.now file.now (R.remaining input.old) (W.contents output.old) (W.contents output.new) left.items)) }
     ensures checked { OnOk result (IfCheck order.now (PrintsChecked file.now (W.contents output.old) (W.contents output.new))) }
     ensures bad_line { IfErr result (IfBadLine (λ number. IsRunAnd order.now (EndsAtBadLine file.now (R.remaining input.old) (W.contents output.old) (W.contents output.new) number []))) }
+    ensures refused { IfErr result (IfRefused (λ fault. (fault ≡ OutOfMemory)
+        ⊎ EndsRefused order.now file.now (R.remaining input.old) (W.contents output.old) (W.contents output.new) fault [])) }
 {
     match *order {
         Order::Format {
@@ -76,7 +85,10 @@ fn obey<T: Threads + Sync, R: Read, W: Write>(
             window,
             ..
         } => {
-            let geometry = Geometry::new(slots, places, window)?;
+            let geometry = match Geometry::new(slots, places, window) {
+                Ok(geometry) => geometry,
+                Err(fault) => return Err(Stop::Refused(fault)),
+            };
             match format(alloc, geometry, output) {
                 Ok(left) => Ok(Some(left)),
                 Err(stop) => Err(stop),
@@ -98,6 +110,8 @@ fn format<W: Write>(alloc: Global, geometry: Geometry, output: &mut W) -> Result
     ensures printed { OnOk result (Appends (W.contents output.old) (W.contents output.new)
         ((codes "formatted " ++ (decimal (total_words geometry) ++ codes " words")) ++ 10 ∷ [])) }
     ensures blames { IfErr result BlamesNoLine }
+    ensures refused { IfErr result (IfRefused (λ fault. (fault ≡ OutOfMemory)
+        ⊎ ((fault ≡ DeviceFault) × (W.contents output.new ≡ W.contents output.old)))) }
 {
     let file = fresh_file(alloc, geometry)?;
     let words = geometry.words();
@@ -105,35 +119,55 @@ fn format<W: Write>(alloc: Global, geometry: Geometry, output: &mut W) -> Result
     Ok(file)
 }
 
-// Prints why the work ended early. The status says whether a line was to blame.
-fn tell<W: Write>(alloc: Global, stop: &Stop, output: &mut W) -> u8
-    ensures some { 1 ≤ result }
-    ensures limit { result ≤ 2 }
-    ensures bad_line { result ≡ 2 → IsBadLineAnd (Tells (W.contents output.old) (W.contents output.new)) stop.now }
+// Prints why the work ended early.
+fn tell<W: Write>(alloc: Global, stop: &Stop, output: &mut W) -> Ended
+    ensures some { 1 ≤ result.status }
+    ensures limit { result.status ≤ 2 }
+    ensures none { result.file ≡ None }
+    ensures bad_line { result.status ≡ 2 → IsBadLineAnd (Tells (W.contents output.old) (W.contents output.new)) stop.now }
+    ensures refusal { IfSome result.refused (λ fault. result.status ≡ 1) }
+    ensures refused { IfSome result.refused (λ fault. IsFaultOf stop.now fault × Appends (W.contents output.old) (W.contents output.new) (refusal_line fault)) }
 {
     match *stop {
         Stop::Refused(fault) => refuse(alloc, fault, output),
         Stop::NotACommand(line) => blame(alloc, line, output),
         Stop::Broken(ErrorKind::OutOfMemory) => refuse(alloc, Fault::OutOfMemory, output),
-        Stop::Broken(_) => REFUSED,
+        Stop::Broken(_) => early(REFUSED, None),
     }
 }
 
-fn refuse<W: Write>(alloc: Global, fault: Fault, output: &mut W) -> u8
-    ensures { result ≡ 1 }
+fn refuse<W: Write>(alloc: Global, fault: Fault, output: &mut W) -> Ended
+    ensures status { result.status ≡ 1 }
+    ensures none { result.file ≡ None }
+    ensures refused { IfSome result.refused (λ told. (told ≡ fault) × Appends (W.contents output.old) (W.contents output.new) (refusal_line fault)) }
 {
-    let _ = print(alloc, output, &Printed::Refused(fault));
-    REFUSED
+    match print(alloc, output, &Printed::Refused(fault)) {
+        Ok(()) => early(REFUSED, Some(fault)),
+        Err(_) => early(REFUSED, None),
+    }
 }
 
 // Names the line that is no command.
-fn blame<W: Write>(alloc: Global, line: u64, output: &mut W) -> u8
-    ensures some { 1 ≤ result }
-    ensures limit { result ≤ 2 }
-    ensures bad_line { result ≡ 2 → Tells (W.contents output.old) (W.contents output.new) line }
+fn blame<W: Write>(alloc: Global, line: u64, output: &mut W) -> Ended
+    ensures some { 1 ≤ result.status }
+    ensures limit { result.status ≤ 2 }
+    ensures none { result.file ≡ None }
+    ensures refused { result.refused ≡ None }
+    ensures bad_line { result.status ≡ 2 → Tells (W.contents output.old) (W.contents output.new) line }
 {
     match print(alloc, output, &Printed::NotACommand { line }) {
-        Ok(()) => BAD_LINE,
-        Err(_) => REFUSED,
+        Ok(()) => early(BAD_LINE, None),
+        Err(_) => early(REFUSED, None),
+    }
+}
+
+// What ends with FILE as it was.
+fn early(status: u8, refused: Option<Fault>) -> Ended
+    ensures { result ≡ record { status = status; file = None; refused = refused } }
+{
+    Ended {
+        status,
+        file: None,
+        refused,
     }
 }

@@ -1,4 +1,5 @@
-ghost use Rattle.std.specs.Prelude.{IfOk};
+ghost use Rattle.std.specs.Prelude.{◌≡◌, ◌⊎◌, IfErr, IfOk};
+ghost use Rattle.base.specs.declared.fault.Fault.TheVariants.{Device as DeviceFault, OutOfMemory};
 ghost use Rattle.command_line.specs.ImageFile.{IsFileOf};
 ghost use Rattle.base.specs.Fresh.{fresh_image};
 
@@ -10,7 +11,10 @@ use std::alloc::Global;
 
 /// A file that holds a fresh image.
 pub fn fresh_file(alloc: Global, geometry: Geometry) -> Result<Vec<u8>, Fault>
-    ensures { IfOk result (λ file. IsFileOf (fresh_image geometry) file.items) }
+    ensures file { IfOk result (λ file. IsFileOf (fresh_image geometry) file.items) }
+
+    // The model takes memory for each store, and fails it where there is none.
+    ensures fault { IfErr result (λ fault. (fault ≡ OutOfMemory) ⊎ (fault ≡ DeviceFault)) }
 {
     let Ok(words) = Vec::from_elem(alloc, 0, geometry.words() as usize) else {
         return Err(Fault::OutOfMemory);

@@ -7,6 +7,7 @@ ghost use Rattle.command_line.specs.Texts.{text_of};
 ghost use Rattle.console.specs.BadLine.{BlamesNoLine, IfBadLine, MeetsBadLine, kept_by, kept_in, kept_of};
 ghost use Rattle.console.specs.Input.{Reads};
 ghost use Rattle.console.specs.Kept.{Leads};
+ghost use Rattle.console.specs.Refusals.{WantsMemory};
 ghost use Rattle.console.specs.Obeyed.{Puts, Commits, Cycles, ComesTo, Obeys, ObeysLine, ObeysLines, is_busy, is_tick, reply_text};
 
 use crate::stop::Stop;
@@ -42,6 +43,7 @@ pub fn obey_lines<D: Pmem + Drop, R: Read, W: Write>(
         × (said : Text) × Appends (W.contents output.old) (W.contents output.new) said
         × Leads D.state room.old room.new (λ q q'. ObeysLines q lines said keeps q')) }
     ensures bad_line { IfErr result (IfBadLine (MeetsBadLine D.state room.old (R.remaining input.old) (W.contents output.old) (W.contents output.new))) }
+    ensures memory { IfErr result WantsMemory }
 {
     let mut number: u64 = 0;
     for line in BufReader::new(alloc, input)?.split(alloc, b'\n') {
@@ -66,6 +68,7 @@ fn obey_line<D: Pmem + Drop, W: Write>(
         × Leads D.state room.old room.new (λ q q'. ObeysLine q line.now said keeps q')) }
     ensures kept { IfOk result (λ keeps. kept_in line.now ≡ Some keeps) }
     ensures bad_line { IfErr result (IfBadLine (λ at. (at ≡ number) × (line_of line.now ≡ None) × (W.contents output.new ≡ W.contents output.old))) }
+    ensures memory { IfErr result WantsMemory }
 {
     match read_command(alloc, number, line)? {
         Some(command) => {
@@ -79,6 +82,7 @@ fn obey_line<D: Pmem + Drop, W: Write>(
 fn read_command(alloc: Global, number: u64, line: &[u8]) -> Result<Option<Command>, Stop>
     ensures ok { IfOk result (λ read. line_of line.now ≡ Some read) }
     ensures bad_line { IfErr result (IfBadLine (λ at. (at ≡ number) × (line_of line.now ≡ None))) }
+    ensures memory { IfErr result WantsMemory }
 {
     match parse_line(alloc, line) {
         Ok(command) => Ok(command),
@@ -104,6 +108,7 @@ fn obey<D: Pmem + Drop, W: Write>(
         × Leads D.state room.old room.new (λ q q'. Obeys q command.now said keeps q')) }
     ensures kept { IfOk result (λ keeps. keeps ≡ kept_by command.now) }
     ensures blames { IfErr result BlamesNoLine }
+    ensures memory { IfErr result WantsMemory }
 {
     match perform(room, command) {
         Outcome::Replied(reply) => {

@@ -1,4 +1,4 @@
-ghost use Rattle.std.specs.Prelude.{◌≡◌, ◌++◌, ◌∷◌, [], ℕ, List, None, Some, IfErr, IfOk, OnOk};
+ghost use Rattle.std.specs.Prelude.{◌≡◌, ◌⊎◌, ◌++◌, ◌∷◌, [], ℕ, List, None, Some, IfErr, IfOk, OnOk};
 ghost use Rattle.std.specs.Io.KnownBytes.{Appends};
 ghost use Rattle.base.specs.Commits.{Commit};
 ghost use Rattle.base.specs.Images.{opening_fault};
@@ -16,6 +16,8 @@ ghost use Rattle.console.specs.BadLine.{BlamesNoLine, EndsAtBadLine, IfBadLine};
 ghost use Rattle.console.specs.Crash.{choice_of, IsFileKept, KeepsNamed};
 ghost use Rattle.console.specs.Kept.{HasClosed, KeepsHistories};
 ghost use Rattle.console.specs.Lives.{Ends, Lives, opened_text};
+ghost use Rattle.console.specs.Refusals.{EndsAtClose, IfRefused, IsClosingFault, IsFileFault, IsOpeningFault, WantsMemory};
+ghost use Rattle.base.specs.declared.fault.Fault.TheVariants.{OutOfMemory};
 
 use crate::lines::obey_lines;
 use crate::stop::Stop;
@@ -42,6 +44,9 @@ pub fn run<T: Threads + Sync, R: Read, W: Write>(
     // So no lines take a covered commit away.
     ensures keeps { IfOk result (λ left. KeepsHistories file.now left.items) }
     ensures bad_line { IfErr result (IfBadLine (λ number. EndsAtBadLine file.now (R.remaining input.old) (W.contents output.old) (W.contents output.new) number [])) }
+    ensures refused { IfErr result (IfRefused (λ fault. (fault ≡ OutOfMemory)
+        ⊎ ((IsFileFault file.now IsOpeningFault fault × Appends (W.contents output.old) (W.contents output.new) [])
+        ⊎ EndsAtClose file.now (R.remaining input.old) (W.contents output.old) (W.contents output.new) fault []))) }
 {
     let words = words_of_file(alloc, file)?;
     let mut room = open(rt, alloc, words.as_slice())?;
@@ -55,6 +60,7 @@ fn open<T: Threads + Sync>(rt: &T, alloc: Global, words: &[u64]) -> Result<Room<
     ensures shows { IfOk result (λ room. (history drawn : List Commit) (next : ℕ) → Stands words.now history drawn next
         → (q : State) × OpensAs words.now history [] q × Shows device_of room q) }
     ensures may_open { IfOk result (λ room. opening_fault words.now ≡ None) }
+    ensures fault { IfErr result (λ fault. (fault ≡ OutOfMemory) ⊎ IsOpeningFault words.now fault) }
 {
     let device = SimPmem::from_words(alloc, words)?;
     match Room::open(rt, alloc, device) {
@@ -67,6 +73,7 @@ fn show_opened<W: Write>(alloc: Global, room: &Room<SimPmem>, output: &mut W) ->
     ensures told { OnOk result ((said : Text) × Appends (W.contents output.old) (W.contents output.new) said
         × ((q : State) → Shows device_of room.now q → said ≡ opened_text q ++ 10 ∷ [])) }
     ensures blames { IfErr result BlamesNoLine }
+    ensures memory { IfErr result WantsMemory }
 {
     let status = room.status();
     let opened = Printed::Opened {
@@ -91,6 +98,8 @@ fn end<W: Write>(
         × ((q : State) → Shows device_of room q → Ends q keeps said left.items)) }
     ensures kept { IfOk result (λ left. KeepsNamed (device_in device_of room) keeps left.items) }
     ensures blames { IfErr result BlamesNoLine }
+    ensures refused { IfErr result (IfRefused (λ fault. (fault ≡ OutOfMemory) ⊎ ((keeps ≡ None)
+        × (W.contents output.new ≡ W.contents output.old) × ((q : State) → Shows device_of room q → IsClosingFault q fault)))) }
 {
     match keeps {
         Some(keeps) => stop(alloc, room, keeps, output),
@@ -109,6 +118,7 @@ fn stop<W: Write>(
         × ((q : State) → Shows device_of room q → Ends q (Some keeps) said left.items)) }
     ensures kept { IfOk result (λ left. IsFileKept (device_in device_of room) keeps left.items) }
     ensures blames { IfErr result BlamesNoLine }
+    ensures memory { IfErr result WantsMemory }
 {
     let device = room.into_device();
     let left = crashed(&device, keeps)?;
@@ -121,6 +131,7 @@ fn stop<W: Write>(
 fn crashed(device: &SimPmem, keeps: Survivor) -> Result<SimPmem, Fault>
     ensures chosen { IfOk result (λ left. IsChosen (choice_of keeps) (device_of device.now) (image_of (device_of left))) }
     ensures possible { IfOk result (λ left. MayLeave (device_of device.now) (image_of (device_of left))) }
+    ensures memory { IfErr result (λ fault. fault ≡ OutOfMemory) }
 {
     device.crash(&choice_of(keeps))
 }
@@ -139,10 +150,15 @@ fn close<W: Write>(alloc: Global, room: Room<SimPmem>, output: &mut W) -> Result
     ensures ends { IfOk result (λ left. (said : Text) × Appends (W.contents output.old) (W.contents output.new) said
         × ((q : State) → Shows device_of room q → Ends q None said left.items)) }
     ensures blames { IfErr result BlamesNoLine }
+    ensures refused { IfErr result (IfRefused (λ fault. (fault ≡ OutOfMemory)
+        ⊎ ((W.contents output.new ≡ W.contents output.old) × ((q : State) → Shows device_of room q → IsClosingFault q fault)))) }
 {
     let gate = room.closing_gate();
     let next = room.status().next;
-    let closed = close_room(room)?;
+    let closed = match close_room(room) {
+        Ok(closed) => closed,
+        Err(fault) => return Err(Stop::Refused(fault)),
+    };
     let device = closed.crash(&Choice::Oldest)?;
     let file = file_of_device(alloc, &device)?;
     let line = Printed::Closed {
@@ -155,7 +171,8 @@ fn close<W: Write>(alloc: Global, room: Room<SimPmem>, output: &mut W) -> Result
 }
 
 fn close_room(room: Room<SimPmem>) -> Result<SimPmem, Fault>
-    ensures { IfOk result (λ device. HasClosed device_of room (device_of device)) }
+    ensures closed { IfOk result (λ device. HasClosed device_of room (device_of device)) }
+    ensures fault { IfErr result (λ fault. (q : State) → Shows device_of room q → IsClosingFault q fault) }
 {
     match room.close() {
         Ok(device) => Ok(device),
@@ -166,6 +183,7 @@ fn close_room(room: Room<SimPmem>) -> Result<SimPmem, Fault>
 fn file_of_device(alloc: Global, device: &SimPmem) -> Result<Vec<u8>, Stop>
     ensures file { IfOk result (λ file. IsFileOf (image_of (device_of device.now)) file.items) }
     ensures blames { IfErr result BlamesNoLine }
+    ensures memory { IfErr result WantsMemory }
 {
     let image = device.image()?;
     Ok(file_of_words(alloc, image.as_slice())?)

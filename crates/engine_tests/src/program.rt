@@ -2,6 +2,7 @@
 use base::fault::Fault;
 use command_line::image_file::{file_of_words, words_of_file};
 use command_line::orders::Order;
+use command_line::words::order;
 use console::execute::execute;
 use std::alloc::Global;
 use std::io::{ErrorKind, Read, Write};
@@ -140,6 +141,24 @@ fn format_refuses_numbers_out_of_range(rt: HostRuntime) {
     );
     assert_eq!(rt; ended.status, 1);
     assert!(rt; ended.file.is_none());
+}
+
+#[test]
+fn format_without_options_has_the_default_numbers(rt: HostRuntime) -> Result<(), Fail> {
+    let words = ["format", "db.img"];
+    let order = order(rt.alloc(), words.as_slice()).ok().ok_or("an order")?;
+    let mut output = Vec::new(rt.alloc());
+    let ended = execute(&rt, rt.alloc(), &order, &[], &mut io::empty(), &mut output);
+    assert_eq!(rt;
+        str::from_utf8(output.as_slice()),
+        Ok("formatted 8328 words\n")
+    );
+    assert_eq!(rt; ended.status, 0);
+    let file = ended.file.ok_or("no file")?;
+    for (at, want) in [(2, 1024), (3, 4), (4, 64), (5, 8328)] {
+        assert_eq!(rt; word(&rt, rt.alloc(), &file, at)?, want, "word {at}");
+    }
+    Ok(())
 }
 
 const OPENED: &str = "opened gate 2 p 0 d 9 next 1 gaps -\n";
@@ -366,6 +385,7 @@ fn a_bad_line_is_named_by_its_number(rt: HostRuntime) -> Result<(), Fail> {
         ("get 2 1 18446744073709551616\n", "line 1: not a command\n"),
         ("put 2 1 7 6\n", "line 1: not a command\n"),
         ("put 2 1 7 AB\n", "line 1: not a command\n"),
+        ("put 2 1 7 6g\n", "line 1: not a command\n"),
         ("put 2 1 7\n", "line 1: not a command\n"),
         ("commit 0\n", "line 1: not a command\n"),
         ("crash\n", "line 1: not a command\n"),
@@ -375,6 +395,75 @@ fn a_bad_line_is_named_by_its_number(rt: HostRuntime) -> Result<(), Fail> {
         let printed = [OPENED, want].concat(rt.alloc())?;
         ends(&rt, rt.alloc(), &file, &[lines], printed.as_str(), 2)?;
     }
+    Ok(())
+}
+
+#[test]
+fn each_reply_has_its_line(rt: HostRuntime) -> Result<(), Fail> {
+    let file = small(&rt, rt.alloc())?;
+    runs(
+        &rt,
+        rt.alloc(),
+        &file,
+        &[
+            "begin\nput 2 1 7 61\nput 2 1 8 -\ndraw 2\nstamp 2\nstamp 2\n",
+            "commit 1\npoll 2\ncycle\npoll 2\ncommit 1\nend 2\nbegin\nget 2 1 7\nget 2 1 8\nget 2 1 9\nabort 2\n",
+        ],
+        "opened gate 2 p 0 d 9 next 1 gaps -
+session 2
+done
+done
+drawn 1
+more
+stamped
+tick
+waiting
+covered 3
+committed 1
+idle
+done
+session 2
+row 61
+row -
+none
+done
+closed gate 4 p 1 d 2
+",
+    )?;
+    Ok(())
+}
+
+// What the run is refused for, where it ends with 1.
+fn refusal<H: Threads + Sync + Abort>(
+    rt: &H,
+    alloc: Global,
+    file: &[u8],
+    left: usize,
+) -> Option<Fault> {
+    let mut output = Short { left };
+    let ended = execute(rt, alloc, &RUN, file, &mut io::empty(), &mut output);
+    assert_eq!(rt; ended.status, 1);
+    assert!(rt; ended.file.is_none());
+    ended.refused
+}
+
+#[test]
+fn a_run_that_is_refused_says_for_what(rt: HostRuntime) -> Result<(), Fail> {
+    let file = small(&rt, rt.alloc())?;
+    let damaged = changed(&rt, rt.alloc(), &file, &[(8, 3)])?;
+    assert_eq!(rt;
+        refusal(&rt, rt.alloc(), &damaged, 100),
+        Some(Fault::Damaged(0))
+    );
+    // The line can't be written, or that of the opening.
+    assert_eq!(rt; refusal(&rt, rt.alloc(), &damaged, 5), None);
+    assert_eq!(rt; refusal(&rt, rt.alloc(), &file, 5), None);
+    let last = [(8, 4_611_686_018_427_387_902), (9, 0), (10, 1)];
+    let full = changed(&rt, rt.alloc(), &file, &last)?;
+    assert_eq!(rt;
+        refusal(&rt, rt.alloc(), &full, 100),
+        Some(Fault::TimestampsOut)
+    );
     Ok(())
 }
 
@@ -455,7 +544,7 @@ fn images_that_do_not_open_are_refused(rt: HostRuntime) -> Result<(), Fail> {
             &[(42, 4_611_686_018_427_387_888)],
             "refused 15 TimestampsOut\n",
         ),
-        // Of several faults the first in their order is told.
+        // Of several faults the first in their order is reported.
         (
             &[(1, 9), (5, 105), (8, 3), (73, 1)],
             "refused 6 Version 9\n",

@@ -208,6 +208,67 @@ fn refusals_name_their_arguments(rt: HostRuntime) -> Result<(), Fail> {
 }
 
 #[test]
+fn each_fault_has_its_number_and_its_name(rt: HostRuntime) -> Result<(), Fail> {
+    let key = Key { table: 1, key: 7 };
+    let faults = [
+        (Fault::TooLong, "refused 1 TooLong"),
+        (Fault::BadGeometry, "refused 2 BadGeometry"),
+        (Fault::Device, "refused 3 Device"),
+        (Fault::NotFormatted, "refused 4 NotFormatted"),
+        (Fault::Damaged(0), "refused 5 Damaged 0"),
+        (Fault::Version(2), "refused 6 Version 2"),
+        (Fault::GapsFull, "refused 7 GapsFull"),
+        (Fault::SlotsOut, "refused 8 SlotsOut"),
+        (Fault::NoSession, "refused 9 NoSession"),
+        (Fault::WrongState, "refused 10 WrongState"),
+        (Fault::SessionsFull, "refused 11 SessionsFull"),
+        (Fault::WriteSetFull, "refused 12 WriteSetFull"),
+        (Fault::Conflict(key), "refused 13 Conflict 1 7"),
+        (Fault::WindowFull, "refused 14 WindowFull"),
+        (Fault::TimestampsOut, "refused 15 TimestampsOut"),
+        (Fault::OutOfMemory, "refused 16 OutOfMemory"),
+        (Fault::Failed, "refused 17 Failed"),
+    ];
+    for (fault, wanted) in faults {
+        assert!(rt; prints(&rt, &Printed::Refused(fault), wanted)?, "{wanted}");
+    }
+    Ok(())
+}
+
+#[test]
+fn gaps_stand_with_one_space_between(rt: HostRuntime) -> Result<(), Fail> {
+    let gaps = [
+        Gap { first: 2, last: 9 },
+        Gap {
+            first: 11,
+            last: 18,
+        },
+    ];
+    let opened = Printed::Opened {
+        gate: 6,
+        persisted: 18,
+        dirty: 27,
+        next: 19,
+        gaps: &gaps,
+    };
+    assert!(rt;
+        prints(
+            &rt,
+            &opened,
+            "opened gate 6 p 18 d 27 next 19 gaps 2-9 11-18"
+        )?
+    );
+    let sound = Printed::Sound {
+        gate: 6,
+        persisted: 18,
+        dirty: 27,
+        gaps: &gaps,
+    };
+    assert!(rt; prints(&rt, &sound, "sound gate 6 p 18 d 27 gaps 2-9 11-18")?);
+    Ok(())
+}
+
+#[test]
 fn a_file_holds_words_with_the_lowest_byte_first(rt: HostRuntime) -> Result<(), Fail> {
     let file = file_of_words(rt.alloc(), [1, 0x0807_0605_0403_0201].as_slice())?;
     assert_eq!(rt;
@@ -327,6 +388,12 @@ fn help_shows_an_example(rt: HostRuntime) -> Result<(), Fail> {
     assert!(rt;
         text.as_str().contains("Example: wbl format db.img --slots 4 --places 2 --window 8")
     );
+    for words in [["run", "--help"], ["check", "--help"]] {
+        let Err(WordFault::Help(text)) = order(rt.alloc(), words.as_slice()) else {
+            return Err(Fail::from("no help"));
+        };
+        assert!(rt; text.as_str().contains("Example: wbl "));
+    }
     for default in ["[default: 1024]", "[default: 4]", "[default: 64]"] {
         assert!(rt; text.as_str().contains(default), "{default}");
     }

@@ -1,4 +1,4 @@
--- What is told of a sound image.
+-- What is reported of a sound image.
 use Rattle.std.specs.Prelude.{◌≡◌, ◌↔◌, ℕ, List, Option, Some, None}
 use Rattle.std.specs.Map.{update_all}
 use Rattle.base.specs.declared.key.Key.{Key}

@@ -79,7 +79,7 @@ fn visit<D: Pmem>(
     }
 }
 
-// Which slots are free. The lowest bad slot is told.
+// Which slots are free. The lowest bad slot is reported.
 pub fn free_slots<D: Pmem>(
     alloc: Global,
     device: &D,

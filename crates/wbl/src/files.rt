@@ -8,7 +8,9 @@ use std::{fs, io};
 const BESIDE: &str = ".wbl-new";
 
 /// Replaces a file by one with these bytes. They are written beside it and synced first, and only a file that is whole
-/// takes its name. So at an error the file is as it was, and nothing lies beside it.
+/// takes its name. So at an error the file is as it was, and the one beside it is removed, where the system allows it.
+/// A program that is killed meanwhile leaves that one, which the next call replaces. The directory isn't synced: after a
+/// power failure of the machine the name may still be that of the old file, which is whole.
 pub fn replace(rt: &impl Files, alloc: Global, name: &str, bytes: &[u8]) -> io::Result<()> {
     let beside = [name, BESIDE].concat(alloc)?;
     match write_and_rename(rt, beside.as_str(), name, bytes) {

@@ -69,7 +69,7 @@ fn obey<H: Files + Input + Print + Threads + Sync>(
         Ok(file) => file,
         Err(_) => return refuse(rt, alloc, &Printed::FileFault),
     };
-    let Ended { status, file } = execute(
+    let Ended { status, file, .. } = execute(
         rt,
         alloc,
         order,

@@ -11,8 +11,8 @@ returns-clause-ends g c =
     let next = c.status-next.result.next in (
       closed_line c.closing_gate-gate.result c.saturating_sub.result next ++ 10 ∷ [],
       c.in_ok-print.ensures,
-      λ q shows. ends-closed device_of c.args.room (device_of c.in_ok-closed.closed) left.0 c.in_ok-file.file.items q c.closing_gate-gate.result c.saturating_sub.result next
+      λ q shows. ends-closed device_of c.args.room (device_of c.in-Ok.closed) left.0 c.in_ok-file.file.items q c.closing_gate-gate.result c.saturating_sub.result next
           (c.closing_gate-gate.ensures q shows) (search rules) (c.status-next.ensures q shows).next
-          c.in_ok-closed.ensures left.1
+          c.in-Ok.ensures.closed left.1
           (file-restarted (device_of c.in_ok-device.device) left.0 c.in_ok-file.file.items left.2 c.in_ok-file.ensures.file) shows,
     )

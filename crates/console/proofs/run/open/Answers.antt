@@ -1,3 +1,7 @@
+use Rattle.std.proofs.Common.{◌⊎◌}
+use Rattle.base.specs.declared.fault.Fault.TheVariants.{OutOfMemory}
+use Rattle.console.specs.Refusals.{IsOpeningFault}
+use Rattle.console.proofs.Refusals.{opening-fault}
 use Rattle.std.proofs.Common.{ap, sym, ◌≡◌, ◌∙◌, subst, []}
 use Rattle.std.specs.Prelude.{None}
 use Rattle.base.specs.Images.{Image, opening_fault}
@@ -22,3 +26,8 @@ returns-in-Ok-clause-shows g c = λ history drawn next stands.
 pub returns-in-Ok-clause-may_open : goal.returns-in-Ok-clause-may_open
 returns-in-Ok-clause-may_open g c =
     subst (λ (i : Image). opening_fault i ≡ None) (ap image_of c.in_ok-device.ensures.device ∙ image-restarted c.args.words.now) c.in-Ok.ensures.may_open
+
+pub returns-in-Err-clause-fault : goal.returns-in-Err-clause-fault
+returns-in-Err-clause-fault g c =
+    subst (λ (i : Image). (c.in-Err.fault ≡ OutOfMemory) ⊎ IsOpeningFault i c.in-Err.fault) (ap image_of c.in_ok-device.ensures.device ∙ image-restarted c.args.words.now)
+    (opening-fault (image_of (device_of c.in_ok-device.device)) _ _ c.in-Err.fault c.in-Err.ensures.fault)

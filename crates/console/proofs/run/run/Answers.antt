@@ -10,6 +10,11 @@ use Rattle.room.specs.Room.{Shows}
 use Rattle.console.proofs.BadLine.{ends-at, passed_on, unblamed}
 use Rattle.console.proofs.Lives.{life-of, lives-keep}
 use Rattle.console.proofs.Obeyed.{appends-more}
+use Rattle.std.proofs.Common.{◌⊎◌}
+use Rattle.base.specs.declared.fault.Fault.TheVariants.{OutOfMemory}
+use Rattle.room.specs.Room.{Shows}
+use Rattle.console.specs.Refusals.{IsClosingFault, IsOpeningFault}
+use Rattle.console.proofs.Refusals.{at-end, fault-on, opening-of-file}
 use Rattle.console.proofs.run.run.Goals as goal
 
 pub returns-clause-lives : goal.returns-clause-lives
@@ -68,3 +73,25 @@ returns-in_err-keeps-clause-bad_line g c =
 
 pub returns-in_err-left-clause-bad_line : goal.returns-in_err-left-clause-bad_line
 returns-in_err-left-clause-bad_line g c = unblamed c.from_residual-in_err-left.result _ _ c.from_residual-in_err-left.ensures.1 c.in_err-left.ensures.blames
+
+pub returns-in_err-room-clause-refused : goal.returns-in_err-room-clause-refused
+returns-in_err-room-clause-refused g c =
+    fault-on c.from_residual-in_err-room.result _ (λ fault. (fault ≡ OutOfMemory) ⊎ IsOpeningFault c.as_slice.result.now fault) _ c.from_residual-in_err-room.ensures.1
+    (λ fault is. opening-of-file c.args.file.now c.in_ok-words.words.items c.as_slice.result.now (g.R.Read.remaining c.args.input.now) (g.W.Write.contents c.args.output.now) fault
+    c.in_ok-words.ensures.length c.in_ok-words.ensures.ok c.as_slice.ensures.value is)
+    c.in_err-room.ensures.fault
+
+pub returns-in_err-left-clause-refused : goal.returns-in_err-left-clause-refused
+returns-in_err-left-clause-refused g c =
+    let told = c.in_ok-show_opened.ensures.told in
+    let made = c.in_ok-keeps.ensures.obeys in
+    fault-on c.from_residual-in_err-left.result _
+    (λ fault. (fault ≡ OutOfMemory) ⊎ ((c.in_ok-keeps.keeps ≡ None) × (g.W.Write.contents c.end.new.output ≡ g.W.Write.contents c.obey_lines.new.output)
+    × ((q : State) → Shows device_of c.obey_lines.new.room q → IsClosingFault q fault)))
+    _ c.from_residual-in_err-left.ensures.1
+    (λ fault is. at-end device_of c.in_ok-room.room c.obey_lines.new.room c.args.file.now c.in_ok-words.words.items (g.R.Read.remaining c.args.input.now) (g.W.Write.contents c.args.output.now)
+    (g.W.Write.contents c.show_opened.new.output) (g.W.Write.contents c.obey_lines.new.output) (g.W.Write.contents c.end.new.output) made.0 c.in_ok-keeps.keeps told.0 made.2 fault c.in_ok-words.ensures.ok
+    (subst (λ (i : Image). (past pending : List Commit) (n : ℕ) → Stands i past pending n → (q : State) × OpensAs i past [] q × Shows device_of c.in_ok-room.room q)
+    c.as_slice.ensures.value c.in_ok-room.ensures.shows)
+    told.1 told.2 made.1 made.3 made.4 is)
+    c.in_err-left.ensures.refused

@@ -1,0 +1,142 @@
+-- Which refusal ends a subcommand.
+use Rattle.std.proofs.Common.{◌≡◌, ◌⊎◌, ℕ, List, [], ◌∷◌, ◌++◌, length, true, sym, ◌∙◌, subst, inl, inr, append-nil}
+use Rattle.std.specs.Prelude.{Option, Some, None, IfSome, Result, Ok, Err, IsErrAnd, IfErr}
+use Rattle.std.specs.Io.KnownBytes.{Appends}
+use Rattle.base.specs.declared.fault.Fault.{Fault}
+use Rattle.base.specs.declared.fault.Fault.TheVariants.{OutOfMemory}
+use Rattle.base.specs.Commits.{Commit}
+use Rattle.base.specs.Images.{Image, opening_fault}
+use Rattle.base.specs.Machine.{State}
+use Rattle.base.specs.Openings.{OpensAs}
+use Rattle.base.specs.Stands.{Stands}
+use Rattle.pmem.specs.Device.{Device}
+use Rattle.pmem.specs.declared.device.Pmem.{Ghosts}
+use Rattle.recovery.specs.Opened.{IsRefusal}
+use Rattle.recovery.specs.Read.{IsReadRefusal}
+use Rattle.room.specs.Closing.{IsClosingRefusal}
+use Rattle.room.specs.Room.{Shows}
+use Rattle.room.specs.declared.room.Room.{Room}
+use Rattle.command_line.specs.ImageFile.{HoldsWords, is_image_length}
+use Rattle.command_line.specs.declared.command.Survivor.{Survivor}
+use Rattle.command_line.specs.Numbers.{Text}
+use Rattle.command_line.specs.declared.orders.Order.{Order}
+use Rattle.command_line.specs.declared.orders.Order.TheVariants.{Format, Run, Check}
+use Rattle.console.specs.Input.{Reads}
+use Rattle.console.specs.Kept.{Leads}
+use Rattle.console.specs.Lives.{opened_text}
+use Rattle.console.specs.Obeyed.{ObeysLines}
+use Rattle.console.specs.Refusals.{EndsAtClose, EndsRefused, IfRefused, IsClosingFault, IsDamage, IsFaultOf, IsFileFault, IsOpeningFault, Refuses, refusal_line}
+use Rattle.console.specs.declared.stop.Stop.{Stop}
+use Rattle.console.specs.declared.stop.Stop.TheVariants.{Refused, NotACommand, Broken}
+use Rattle.console.proofs.Lives.{begun-of}
+use Rattle.console.proofs.Obeyed.{appends-more, appends-none}
+
+pub fault-by : (stop : Stop) (P Q : Fault → Type 0) → ((fault : Fault) → P fault → Q fault) → IfRefused P stop → IfRefused Q stop
+fault-by (Refused fault) P Q says p = says fault p
+fault-by (NotACommand number) P Q says p = tt
+fault-by (Broken reason) P Q says p = tt
+
+-- what a `?` passes on
+pub fault-on : {T : Type 0} (r : Result T Stop) (stop : Stop) (P Q : Fault → Type 0) → IsErrAnd r (λ y. y ≡ stop) → ((fault : Fault) → P fault → Q fault)
+    → IfRefused P stop → IfErr r (IfRefused Q)
+fault-on (Ok x) stop P Q is says p = tt
+fault-on (Err y) stop P Q is says p = subst (IfRefused Q) (sym is) (fault-by stop P Q says p)
+
+-- what is returned as it is
+pub fault-in : {T : Type 0} (r : Result T Stop) (P Q : Fault → Type 0) → ((fault : Fault) → P fault → Q fault) → IfErr r (IfRefused P) → IfErr r (IfRefused Q)
+fault-in (Ok x) P Q says p = tt
+fault-in (Err y) P Q says p = fault-by y P Q says p
+
+-- nothing is printed
+pub appends-same : (old new : Option Text) → new ≡ old → Appends old new []
+appends-same old new same = subst (λ (known : Option Text). Appends old known []) (sym same) (appends-none old)
+
+pub at-close : {D : Type 0} {G : Ghosts D} (state : D → Device) (opened ended_room : Room D G) (file words : List ℕ) (input old mid new last : Option Text) (lines : List Text) (begun said : Text) (fault : Fault)
+    → HoldsWords file words
+    → ((past pending : List Commit) (n : ℕ) → Stands words past pending n → (q : State) × OpensAs words past [] q × Shows state opened q)
+    → Appends old mid begun → ((q : State) → Shows state opened q → begun ≡ opened_text q ++ 10 ∷ [])
+    → Reads input lines None → Appends mid new said → Leads state opened ended_room (λ q q'. ObeysLines q lines said None q')
+    → last ≡ new → ((q : State) → Shows state ended_room q → IsClosingFault q fault)
+    → EndsAtClose file input old last fault []
+at-close state opened ended_room file words input old mid new last lines begun said fault holds opens says told reads more leads same is = record {
+  lines = lines;
+  reads = reads;
+  begun = begun;
+  said = said;
+  prints = appends-more old new last (begun ++ said) [] (appends-more old mid new begun said says more) (appends-same new last same);
+  each = λ image held history drawn next stands.
+      let lived = begun-of state opened file words image history drawn next lines None begun said (Shows state ended_room) holds held stands opens told leads.each in
+      (lived.0, is lived.0.last lived.1);
+}
+
+-- ---- the line
+
+close-said : (file : List ℕ) (input old mid new : Option Text) (fault : Fault) (ended : Text) → EndsAtClose file input old mid fault [] → Appends mid new ended → EndsAtClose file input old new fault ended
+close-said file input old mid new fault ended met line = record {
+  lines = met.lines;
+  reads = met.reads;
+  begun = met.begun;
+  said = met.said;
+  prints = subst (λ (l : Text). Appends old new (l ++ ended)) (append-nil (met.begun ++ met.said)) (appends-more old mid new ((met.begun ++ met.said) ++ []) ended met.prints line);
+  each = met.each;
+}
+
+ends-said : (order : Order) (file : List ℕ) (input old mid new : Option Text) (fault : Fault) (ended : Text) → EndsRefused order file input old mid fault [] → Appends mid new ended
+    → EndsRefused order file input old new fault ended
+ends-said (Format name slots places window) file input old mid new fault ended met line = (met.0, appends-more old mid new [] ended met.1 line)
+ends-said (Run name) file input old mid new fault ended (inl met) line = inl (met.0, appends-more old mid new [] ended met.1 line)
+ends-said (Run name) file input old mid new fault ended (inr met) line = inr (close-said file input old mid new fault ended met line)
+ends-said (Check name) file input old mid new fault ended met line = (met.0, appends-more old mid new [] ended met.1 line)
+
+refused-by : (order : Order) (stop : Stop) (file : List ℕ) (input old mid new : Option Text) (fault : Fault)
+    → IfRefused (λ why. (why ≡ OutOfMemory) ⊎ EndsRefused order file input old mid why []) stop
+    → IsFaultOf stop fault → Appends mid new (refusal_line fault) → Refuses order file input old new fault
+refused-by order (NotACommand number) file input old mid new fault met is line = absurd is
+refused-by order (Broken reason) file input old mid new fault met is line = inl is
+refused-by order (Refused why) file input old mid new fault (inl memory) is line = inl (is ∙ memory)
+refused-by order (Refused why) file input old mid new fault (inr met) is line =
+    inr (ends-said order file input old mid new fault (refusal_line fault) (subst (λ (f : Fault). EndsRefused order file input old mid f []) (sym is) met) line)
+
+pub refused-so : (order : Order) (stop : Stop) (file : List ℕ) (input old mid new : Option Text) (refused : Option Fault)
+    → IfRefused (λ why. (why ≡ OutOfMemory) ⊎ EndsRefused order file input old mid why []) stop
+    → IfSome refused (λ fault. IsFaultOf stop fault × Appends mid new (refusal_line fault))
+    → IfSome refused (Refuses order file input old new)
+refused-so order stop file input old mid new None met told = tt
+refused-so order stop file input old mid new (Some fault) met told = refused-by order stop file input old mid new fault met told.0 told.1
+
+-- ---- the faults
+
+pub opening-fault : (image : Image) (old new : Device) (fault : Fault) → IsRefusal (opening_fault image) old new fault → (fault ≡ OutOfMemory) ⊎ IsOpeningFault image fault
+opening-fault image old new fault (inl (inl is, same)) = inr (inl is)
+opening-fault image old new fault (inl (inr memory, same)) = inl memory
+opening-fault image old new fault (inr (none, device, more)) = inr (inr (none, device))
+
+pub closing-fault : (q : State) (old new : Device) (fault : Fault) → IsClosingRefusal q old new fault → IsClosingFault q fault
+closing-fault q old new fault (inl h) = inl h.0
+closing-fault q old new fault (inr h) = inr (h.0, h.1)
+
+pub damage-of-file : (file words slice : List ℕ) (old : Option Text) (fault : Fault) → is_image_length (length file) ≡ true → HoldsWords file words → slice ≡ words → IsReadRefusal slice fault
+    → (fault ≡ OutOfMemory) ⊎ (IsFileFault file IsDamage fault × Appends old old [])
+damage-of-file file words slice old fault size holds same (inl is) =
+    inr (inr (record { size = size; image = words; holds = holds; is = subst (λ (i : Image). IsDamage i fault) same is }), appends-none old)
+damage-of-file file words slice old fault size holds same (inr h) = inl h.1
+
+pub opening-of-file : (file words slice : List ℕ) (input old : Option Text) (fault : Fault) → is_image_length (length file) ≡ true → HoldsWords file words → slice ≡ words
+    → (fault ≡ OutOfMemory) ⊎ IsOpeningFault slice fault
+    → (fault ≡ OutOfMemory) ⊎ ((IsFileFault file IsOpeningFault fault × Appends old old []) ⊎ EndsAtClose file input old old fault [])
+opening-of-file file words slice input old fault size holds same (inl memory) = inl memory
+opening-of-file file words slice input old fault size holds same (inr is) =
+    inr (inl (inr (record { size = size; image = words; holds = holds; is = subst (λ (i : Image). IsOpeningFault i fault) same is }), appends-none old))
+
+pub at-end : {D : Type 0} {G : Ghosts D} (state : D → Device) (opened ended_room : Room D G) (file words : List ℕ) (input old mid new last : Option Text) (lines : List Text) (keeps : Option Survivor)
+    (begun said : Text) (fault : Fault) → HoldsWords file words
+    → ((past pending : List Commit) (n : ℕ) → Stands words past pending n → (q : State) × OpensAs words past [] q × Shows state opened q)
+    → Appends old mid begun → ((q : State) → Shows state opened q → begun ≡ opened_text q ++ 10 ∷ [])
+    → Reads input lines keeps → Appends mid new said → Leads state opened ended_room (λ q q'. ObeysLines q lines said keeps q')
+    → (fault ≡ OutOfMemory) ⊎ ((keeps ≡ None) × (last ≡ new) × ((q : State) → Shows state ended_room q → IsClosingFault q fault))
+    → (fault ≡ OutOfMemory) ⊎ ((IsFileFault file IsOpeningFault fault × Appends old last []) ⊎ EndsAtClose file input old last fault [])
+at-end state opened ended_room file words input old mid new last lines keeps begun said fault holds opens says told reads more leads (inl memory) = inl memory
+at-end state opened ended_room file words input old mid new last lines keeps begun said fault holds opens says told reads more leads (inr (none, same, is)) =
+    inr (inr (at-close state opened ended_room file words input old mid new last lines begun said fault holds opens says told
+    (subst (λ (k : Option Survivor). Reads input lines k) none reads) more
+    (subst (λ (k : Option Survivor). Leads state opened ended_room (λ (q q' : State). ObeysLines q lines said k q')) none leads) same is))

@@ -1,0 +1,96 @@
+-- Why a subcommand is refused, and what is printed then.
+use Rattle.std.specs.Prelude.{◌≡◌, ◌⊎◌, ℕ, List, [], ◌∷◌, ◌++◌, length, true, false, Option, Some, None, ⊤}
+use Rattle.std.specs.Io.KnownBytes.{Appends}
+use Rattle.base.specs.declared.fault.Fault.{Fault}
+use Rattle.base.specs.declared.fault.Fault.TheVariants.{BadGeometry, OutOfMemory, Device as DeviceFault}
+use Rattle.base.specs.Commits.{Commit}
+use Rattle.base.specs.Images.{Image, damage, opening_fault}
+use Rattle.base.specs.Layout.{is_in_limits, layout_with, newest_version}
+use Rattle.base.specs.Machine.{State, closing_fault}
+use Rattle.base.specs.Stands.{Stands}
+use Rattle.command_line.specs.ImageFile.{HoldsWords, is_image_length}
+use Rattle.command_line.specs.Numbers.{Text}
+use Rattle.command_line.specs.Texts.{refused_text}
+use Rattle.command_line.specs.declared.orders.Order.{Order}
+use Rattle.command_line.specs.declared.orders.Order.TheVariants.{Format, Run, Check}
+use Rattle.console.specs.Input.{Reads}
+use Rattle.console.specs.Lives.{IsBegun}
+use Rattle.console.specs.declared.stop.Stop.{Stop}
+use Rattle.console.specs.declared.stop.Stop.TheVariants.{Refused, NotACommand, Broken}
+
+-- the line of a refusal
+abbrev pub refusal_line : Fault → Text
+refusal_line fault = refused_text fault ++ 10 ∷ []
+
+-- ---- the faults
+
+-- the numbers of a format are out of their limits; or an operation on its device failed
+abbrev pub IsFormatFault : ℕ → ℕ → ℕ → Fault → Type 0
+IsFormatFault slots places window fault =
+    ((is_in_limits (layout_with newest_version slots places window) ≡ false) × (fault ≡ BadGeometry))
+    ⊎ ((is_in_limits (layout_with newest_version slots places window) ≡ true) × (fault ≡ DeviceFault))
+
+-- the file has the words of an image with this fault
+pub record HasFault (file : List ℕ) (Is : Image → Fault → Type 0) (fault : Fault) : Type 0 where
+  pub size : is_image_length (length file) ≡ true
+  pub image : Image
+  pub holds : HoldsWords file image
+  pub is : Is image fault
+
+-- the file's length is no image's; or it has the words of an image with this fault
+abbrev pub IsFileFault : List ℕ → (Image → Fault → Type 0) → Fault → Type 0
+IsFileFault file Is fault = ((is_image_length (length file) ≡ false) × (fault ≡ BadGeometry)) ⊎ HasFault file Is fault
+
+-- the first fault of an image that isn't sound
+abbrev pub IsDamage : Image → Fault → Type 0
+IsDamage image fault = damage image ≡ Some fault
+
+-- why the image doesn't open; or an operation failed, where it would have opened
+abbrev pub IsOpeningFault : Image → Fault → Type 0
+IsOpeningFault image fault = (opening_fault image ≡ Some fault) ⊎ ((opening_fault image ≡ None) × (fault ≡ DeviceFault))
+
+-- why the state can't be closed; or an operation failed, where it could have been
+abbrev pub IsClosingFault : State → Fault → Type 0
+IsClosingFault q fault = (closing_fault q ≡ Some fault) ⊎ ((closing_fault q ≡ None) × (fault ≡ DeviceFault))
+
+-- whatever history the image in the file stands for, it is opened, all lines of the input are obeyed, and the state then has this
+-- fault at its close; no more is printed, but this at the end
+pub record EndsAtClose (file : List ℕ) (input old new : Option Text) (fault : Fault) (ended : Text) : Type 0 where
+  pub lines : List Text
+  pub reads : Reads input lines None
+  pub begun : Text
+  pub said : Text
+  pub prints : Appends old new ((begun ++ said) ++ ended)
+  pub each : (image : Image) → HoldsWords file image → (history drawn : List Commit) (next : ℕ) → Stands image history drawn next
+      → (b : IsBegun image history lines None begun said) × IsClosingFault b.last fault
+
+-- ---- what a refusal says
+
+-- the subcommand has this fault, and no more is printed than it prints before, and this at the end
+abbrev pub EndsRefused : Order → List ℕ → Option Text → Option Text → Option Text → Fault → Text → Type 0
+EndsRefused (Format name slots places window) file input old new fault ended = IsFormatFault slots places window fault × Appends old new ended
+EndsRefused (Run name) file input old new fault ended =
+    (IsFileFault file IsOpeningFault fault × Appends old new ended) ⊎ EndsAtClose file input old new fault ended
+EndsRefused (Check name) file input old new fault ended = IsFileFault file IsDamage fault × Appends old new ended
+
+-- the fault is want of memory, or the subcommand's, and then its line ends what is printed
+abbrev pub Refuses : Order → List ℕ → Option Text → Option Text → Option Text → Fault → Type 0
+Refuses order file input old new fault = (fault ≡ OutOfMemory) ⊎ EndsRefused order file input old new fault (refusal_line fault)
+
+-- ---- why a subcommand ended
+
+-- this of the fault, where a refusal ended it
+abbrev pub IfRefused : (Fault → Type 0) → Stop → Type 0
+IfRefused P (Refused fault) = P fault
+IfRefused P (NotACommand number) = ⊤
+IfRefused P (Broken reason) = ⊤
+
+-- a refusal ended it for want of memory alone
+abbrev pub WantsMemory : Stop → Type 0
+WantsMemory stop = IfRefused (λ fault. fault ≡ OutOfMemory) stop
+
+-- this is the fault of the refusal that ended it, or want of memory to print
+abbrev pub IsFaultOf : Stop → Fault → Type 0
+IsFaultOf (Refused reason) fault = fault ≡ reason
+IsFaultOf (NotACommand number) fault = ⊥
+IsFaultOf (Broken reason) fault = fault ≡ OutOfMemory
