@@ -1,11 +1,12 @@
 //! Images that are checked, and opened too: both agree.
-use crate::fixture::{fresh_words, opened};
+use crate::fixture::{KEY, fresh_words, opened};
 use base::fault::Fault;
 use base::gap::Gap;
 use base::key::Key;
 use base::row::Row;
 use image_check::check;
 use pmem_model::SimPmem;
+use recovery::LiveSlot;
 use std::alloc::Global;
 use std::process::Abort;
 use std::test::Fail;
@@ -223,7 +224,7 @@ fn assert_agree<H: Threads + Sync + Abort>(
     let checked = check_fault(rt, alloc, words);
     let opened = opening_fault(rt, alloc, words)?;
     if checked.is_none() {
-        let limits = [None, TIMESTAMPS_OUT, Some(Fault::GapsFull)];
+        let limits = [None, TIMESTAMPS_OUT];
         assert!(rt; limits.contains(&opened), "seed {seed}");
     } else {
         assert_eq!(rt; opened, checked, "seed {seed}");
@@ -277,5 +278,20 @@ fn random_words_are_checked_and_opened_alike(rt: HostRuntime) -> Result<(), Faul
         }
         assert_agree(&rt, rt.alloc(), &words, seed)?;
     }
+    Ok(())
+}
+
+#[test]
+fn an_opening_tells_the_live_slots(rt: HostRuntime) -> Result<(), Fail> {
+    let device = SimPmem::from_words(rt.alloc(), &committed_words(&rt))?;
+    let Ok(opened) = recovery::open(&rt, rt.alloc(), device) else {
+        return Err("not opened".into());
+    };
+    let live = [LiveSlot {
+        key: KEY,
+        slot: 0,
+        begin: 1,
+    }];
+    assert!(rt; opened.live.as_slice() == &live);
     Ok(())
 }
