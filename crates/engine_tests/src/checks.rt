@@ -292,6 +292,6 @@ fn an_opening_tells_the_live_slots(rt: HostRuntime) -> Result<(), Fail> {
         slot: 0,
         begin: 1,
     }];
-    assert!(rt; opened.live.as_slice() == &live);
+    assert!(rt; opened.live.as_slice() == live.as_slice());
     Ok(())
 }
