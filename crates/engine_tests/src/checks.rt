@@ -1,12 +1,11 @@
 //! Images that are checked, and opened too: both agree.
-use crate::fixture::{KEY, fresh_words, opened};
+use crate::fixture::{fresh_words, opened};
 use base::fault::Fault;
 use base::gap::Gap;
 use base::key::Key;
 use base::row::Row;
 use image_check::check;
 use pmem_model::SimPmem;
-use recovery::LiveSlot;
 use std::alloc::Global;
 use std::process::Abort;
 use std::test::Fail;
@@ -278,20 +277,5 @@ fn random_words_are_checked_and_opened_alike(rt: HostRuntime) -> Result<(), Faul
         }
         assert_agree(&rt, rt.alloc(), &words, seed)?;
     }
-    Ok(())
-}
-
-#[test]
-fn an_opening_tells_the_live_slots(rt: HostRuntime) -> Result<(), Fail> {
-    let device = SimPmem::from_words(rt.alloc(), &committed_words(&rt))?;
-    let Ok(opened) = recovery::open(&rt, rt.alloc(), device) else {
-        return Err("not opened".into());
-    };
-    let live = [LiveSlot {
-        key: KEY,
-        slot: 0,
-        begin: 1,
-    }];
-    assert!(rt; opened.live.as_slice() == live.as_slice());
     Ok(())
 }
