@@ -1,7 +1,6 @@
 -- What the first stages leave out. A state has its limits, so that all that is said of states holds with and without
--- them; what goes with the stage that sweeps at opening stands here too.
+-- them.
 use Rattle.std.specs.Prelude.{ℕ, Bool, true, false, List, take, if◌then◌else◌}
-use Rattle.base.specs.declared.gap.Gap.{Gap}
 
 -- what an engine does not do yet
 pub record Limits : Type 0 where
@@ -20,7 +19,3 @@ whole_limits = record { sessions = 62; one_commit = false; keeps_window = true }
 -- what one batch takes of the commits that follow one another
 abbrev pub in_one_batch : {X : Type 0} → Limits → List X → List X
 in_one_batch limits xs = if limits.one_commit then take 1 xs else xs
-
--- how many gaps an opening goes on with; none if there are more than eight, from the stage that sweeps them on
-abbrev pub gaps_kept : List Gap → List Gap
-gaps_kept gaps = gaps

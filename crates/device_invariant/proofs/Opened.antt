@@ -15,7 +15,9 @@ use Rattle.base.specs.Records.{is_committed}
 use Rattle.base.specs.Images.{Image, IsSound, layout_of, ruling, begin_of, end_of, is_formatted, is_ahead, is_shown, is_misfit, is_second}
 use Rattle.base.specs.Stands.{has_timestamp}
 use Rattle.base.specs.Machine.{State, Drawn, Session, Version, BySession, ByCommit, drawn_at, drawn_of, writes_of}
-use Rattle.base.proofs.Histories.{no_bad_slot}
+use Rattle.base.specs.Openings.{gaps_kept, opened_slots}
+use Rattle.base.specs.Records.{opened_gaps}
+use Rattle.base.proofs.Opened.{IsOpening, ruled_before, opening-of, opened-below}
 use Rattle.pmem.specs.Device.{Device}
 use Rattle.pmem.specs.Words.{value_of, IsSettled, EachSurvivor}
 use Rattle.state_invariant.specs.Kept.{origin_of, Keeps, version_by, row_by, row_in, commit_at, commits_of_life}
@@ -166,23 +168,22 @@ opened-upholds image history drawn next lost q device opens stands opened_as res
     shows : SlotsShow (origin_of q) q (value_of device)
     shows = record {
       each = λ slot lt.
-          shows-same (origin_of q) q (slice_index image) (value_of device) slot (λ w low. (rests.each slot w lt low).holds)
+          shows-same (origin_of q) q (slice_index (opened_slots image)) (value_of device) slot (λ w low. (rests.each slot w lt low).holds)
           ((shows-opened image history drawn next lost q opens stands opened_as).each slot lt);
     }
 
     laid_out : q.layout ≡ layout_of image
     laid_out = ap (λ (p : State). p.layout) opened_as.2 ∙ sym (same-layout image stands.sound)
 
-    good : (slot : ℕ) → slot < q.layout.slots → (begin_of image slot < (ruling image).dirty) × (end_of image slot < (ruling image).dirty)
-    good slot lt =
-        let sound = no_bad_slot image stands.sound slot (subst (λ (a : Layout). slot < a.slots) laid_out lt) in
-        let both = or_parts (is_ahead (ruling image) image slot) (is_shown (ruling image) image slot && (is_misfit image slot || is_second (ruling image) image slot)) sound in
-        let marks = or_parts (nat_le (ruling image).dirty (begin_of image slot)) (nat_le (ruling image).dirty (end_of image slot)) both.0 in
-        (leb-false (ruling image).dirty (begin_of image slot) marks.0, leb-false (ruling image).dirty (end_of image slot) marks.1)
+    opening : IsOpening (layout_of image) (ruled_before image) (opened_slots image) history (gaps_kept (opened_gaps (ruling image)))
+    opening = opening-of image history drawn next opens stands
 
-    below : (slot w x : ℕ) → slot < q.layout.slots → w < slot_words q.layout.version → slice_index image (word_of (layout_of image) slot w) ≡ x → x < (ruling image).dirty → value_of device (word_of q.layout slot w) < q.next
+    good : (slot : ℕ) → slot < q.layout.slots → (begin_of (opened_slots image) slot < (ruling image).dirty) × (end_of (opened_slots image) slot < (ruling image).dirty)
+    good slot lt = opened-below image stands.sound slot (subst (λ (a : Layout). slot < a.slots) laid_out lt)
+
+    below : (slot w x : ℕ) → slot < q.layout.slots → w < slot_words q.layout.version → slice_index (opened_slots image) (word_of (layout_of (opened_slots image)) slot w) ≡ x → x < (ruling image).dirty → value_of device (word_of q.layout slot w) < q.next
     below slot w x lt low is less =
-        let there : value_of device (word_of q.layout slot w) ≡ x = (rests.each slot w lt low).holds ∙ ap (λ (a : Layout). slice_index image (word_of a slot w)) laid_out ∙ is in
+        let there : value_of device (word_of q.layout slot w) ≡ x = (rests.each slot w lt low).holds ∙ ap (λ (a : Layout). slice_index (opened_slots image) (word_of a slot w)) (laid_out ∙ sym opening.layout) ∙ is in
         let at : q.next ≡ (ruling image).dirty = ap (λ (p : State). p.next) opened_as.2 in
         omega (arith, there, at, less)
 
@@ -191,6 +192,6 @@ opened-upholds image history drawn next lost q device opens stands opened_as res
       drawn = ap (λ (p : State). p.drawn) opened_as.2;
       sessions = λ n. ap (λ (p : State). p.sessions n) opened_as.2;
       settled = λ slot w lt low. (rests.each slot w lt low).settled;
-      begins = λ slot lt. below slot 0 (begin_of image slot) lt (within-slot q.layout.version 0 (omega arith)) refl (good slot lt).0;
-      ends = λ slot lt. below slot 1 (end_of image slot) lt (within-slot q.layout.version 1 (omega arith)) refl (good slot lt).1;
+      begins = λ slot lt. below slot 0 (begin_of (opened_slots image) slot) lt (within-slot q.layout.version 0 (omega arith)) refl (good slot lt).0;
+      ends = λ slot lt. below slot 1 (end_of (opened_slots image) slot) lt (within-slot q.layout.version 1 (omega arith)) refl (good slot lt).1;
     }

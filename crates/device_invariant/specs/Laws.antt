@@ -4,7 +4,7 @@ use Rattle.base.specs.declared.key.Key.{Key}
 use Rattle.base.specs.Layout.{Layout, slot_words}
 use Rattle.base.specs.Records.{Record, is_committed}
 use Rattle.base.specs.Images.{Image, opening_fault}
-use Rattle.base.specs.Openings.{OpensAs}
+use Rattle.base.specs.Openings.{OpensAs, opened_slots}
 use Rattle.base.specs.Stands.{Stands}
 use Rattle.base.specs.Commits.{Commit, writes_key}
 use Rattle.base.specs.Machine.{State, Session, Drawn, Hand, Version, BySession, ByCommit, drawn_at, lines_of, state_covered, StandsAt}
@@ -150,8 +150,9 @@ DevicesRead = (o : Origin) (q : State) (device : Device) (n : ℕ) → IsOrderly
 pub record RestsOn (a : Layout) (device : Device) (image : Image) : Type 0 where
   pub each : (slot w : ℕ) → slot < a.slots → w < slot_words a.version → IsSettledAt device (word_of a slot w) (slice_index image (word_of a slot w))
 
--- where the slots are as the opening found them and the record that it wrote rules, the device upholds the opened state
+-- where the slots are as the opening leaves them, swept or as it found them, and the record that it wrote rules, the
+-- device upholds the opened state
 abbrev pub OpenedUpholds : Type 0
 OpenedUpholds =
     (image : Image) (history drawn : List Commit) (next : ℕ) (lost : List ℕ) (q : State) (device : Device) → opening_fault image ≡ None → Stands image history drawn next → OpensAs image history lost q
-    → RestsOn q.layout device image → HoldsRecord q.layout q.ruling device → Upholds (origin_of q) q device
+    → RestsOn q.layout device (opened_slots image) → HoldsRecord q.layout q.ruling device → Upholds (origin_of q) q device

@@ -223,7 +223,7 @@ fn assert_agree<H: Threads + Sync + Abort>(
     let checked = check_fault(rt, alloc, words);
     let opened = opening_fault(rt, alloc, words)?;
     if checked.is_none() {
-        let limits = [None, TIMESTAMPS_OUT, Some(Fault::GapsFull)];
+        let limits = [None, TIMESTAMPS_OUT];
         assert!(rt; limits.contains(&opened), "seed {seed}");
     } else {
         assert_eq!(rt; opened, checked, "seed {seed}");

@@ -583,7 +583,7 @@ fn files_of_another_length_are_refused(rt: HostRuntime) -> Result<(), Fail> {
 }
 
 #[test]
-fn a_ninth_gap_is_refused(rt: HostRuntime) -> Result<(), Fail> {
+fn a_ninth_gap_is_swept(rt: HostRuntime) -> Result<(), Fail> {
     let mut file = fresh(&rt, rt.alloc(), 16, "formatted 200 words\n")?;
     let keys = ["1", "2", "3", "4", "5", "6", "7", "8", "9"];
     for key in keys {
@@ -609,8 +609,8 @@ fn a_ninth_gap_is_refused(rt: HostRuntime) -> Result<(), Fail> {
         rt.alloc(),
         &file,
         &["begin\n"],
-        "refused 7 GapsFull\n",
-        1,
+        "opened gate 20 p 81 d 90 next 82 gaps -\nsession 2\nclosed gate 21 p 81 d 82\n",
+        0,
     )
 }
 

@@ -2,7 +2,6 @@ pub mod Marks
 pub mod Living
 pub mod Congruence
 pub mod Standing
-pub mod OpenedGaps
 pub mod Opening
 pub mod Moves
 pub mod Lookups

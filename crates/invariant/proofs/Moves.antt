@@ -1,5 +1,5 @@
 -- The device moves and the state stays, or only fails.
-use Rattle.std.proofs.Common.{◌≡◌, ◌≢◌, ◌⊎◌, inl, inr, ℕ, ◌+◌, ◌*◌, ◌<◌, ◌≤◌, Bool, true, false, cond, List, [], ◌∷◌, refl, sym, ◌∙◌, ap, subst, arith, IsTrue, Option, Some, None, mul-le-mul_left, true≢false}
+use Rattle.std.proofs.Common.{◌≡◌, ◌≢◌, ◌⊎◌, inl, inr, ℕ, ◌+◌, ◌*◌, ◌<◌, ◌≤◌, Bool, true, false, cond, List, [], refl, sym, ◌∙◌, ap, subst, arith, IsTrue, Option, Some, None, mul-le-mul_left, true≢false}
 use Rattle.std.specs.Prelude.{nat_eq, unwrap_or}
 use Rattle.std.proofs.lemmas.Bool.{cases_order, cases_eq, eqb-true}
 use Rattle.base.specs.declared.key.Key.{Key}
@@ -7,9 +7,8 @@ use Rattle.base.specs.Layout.{Layout, slot_start, slot_words, total_words}
 use Rattle.base.specs.Keys.{lookup_key}
 use Rattle.base.specs.Commits.{after, last_writer}
 use Rattle.base.specs.Machine.{State, Drawn, Version, Writer, BySession, ByCommit, drawn_at, writes_of}
-use Rattle.pmem.specs.Device.{Entry, Device, newest, survivors_in, IsAmong, MayLeave, stored, flushed, fenced, failed}
-use Rattle.pmem.specs.Words.{Survives, EachSurvivor, IsSettledAt, OnlyShrinks}
-use Rattle.pmem.proofs.Steps.{history-stored_other, value-flushed, value-fenced, survives-flushed, survives-fenced, only-settled, settled-flushed, settled-fenced}
+use Rattle.pmem.specs.Device.{Device, MayLeave, stored, flushed, fenced, failed}
+use Rattle.pmem.specs.Words.{Survives, EachSurvivor, OnlyShrinks}
 use Rattle.pmem.proofs.Changes.{shrinks_refl as word_refl, shrinks_trans as word_trans, flushed-shrinks, fenced-shrinks, failed-shrinks, stored-shrinks, each-shrinks, each-settled, each-weaken, settled_at-shrinks}
 use Rattle.invariant.specs.Slots.{word_of, Spells, IsNever, IsCounted, is_drawn_on, Class, Free, Filled, Begun, Newest, Replaced, row_in, is_key_stamped, class_of_drawn, class_by, class_of_version, class_of, IsDead, IsFilled, IsWaiting, HoldsAs, SlotHolds, SlotsHold}
 use Rattle.invariant.specs.Kept.{IsKept, version_by, newest_of}

@@ -1,61 +1,28 @@
 -- An opened state keeps what every state keeps, and its slots are as it says.
-use Rattle.std.proofs.Common.{◌≡◌, ◌⊎◌, inl, inr, ℕ, ◌+◌, ◌-◌, ◌*◌, ◌^◌, ◌<◌, ◌≤◌, Bool, true, false, not, ◌&&◌, ◌||◌, List, [], ◌∷◌, length, refl, sym, ◌∙◌, ap, subst, nat_eq, cond, arith}
-use Rattle.std.specs.Prelude.{slice_index, Option, Some, None, unwrap_or, is_some, nat_le, nat_lt, ◌↔◌}
-use Rattle.std.specs.List.{list_all, range_with_len}
-use Rattle.std.specs.Option.{option_or, option_map}
-use Rattle.std.proofs.lemmas.Nat.{mul-add-lt}
+use Rattle.std.proofs.Common.{◌≡◌, ◌⊎◌, inl, inr, ℕ, ◌+◌, ◌-◌, ◌*◌, ◌^◌, ◌<◌, ◌≤◌, Bool, true, false, not, ◌&&◌, ◌||◌, List, [], ◌∷◌, refl, sym, ◌∙◌, ap, subst, cond, arith}
+use Rattle.std.specs.Prelude.{slice_index, Option, Some, None, unwrap_or, is_some, nat_le, nat_lt}
+use Rattle.std.specs.List.{list_all}
 use Rattle.std.proofs.lemmas.Bool.{and_parts, and_from, and_right, and_cases, or_parts, cases_order, leb-true, leb-false, le-leb, lt-ltb, eq-eqb, not-true, not-false, cond-true, cond-false, false≢true, true≢false}
-use Rattle.std.proofs.lemmas.List.FromFn.{length-map-range_with_len, get_or-map-range_with_len}
 use Rattle.base.specs.declared.key.Key.{Key}
 use Rattle.base.specs.declared.gap.Gap.{Gap}
-use Rattle.base.specs.declared.fault.Fault.{Fault}
-use Rattle.base.specs.declared.fault.Fault.TheVariants.{BadGeometry, NotFormatted, Damaged, Version as VersionFault, TimestampsOut, GapsFull}
 use Rattle.base.specs.Keys.{key_eq}
 use Rattle.base.specs.Commits.{Commit, after, last_writer}
-use Rattle.base.specs.Layout.{Layout, slot_words, total_words, is_between, is_in_limits, is_known_version, opened_version}
-use Rattle.base.specs.Records.{Record, record_word, record_in, is_record, is_in, is_committed, is_well_formed}
-use Rattle.base.specs.Images.{Image, layout_of, key_of, row_of, begin_of, end_of, is_live, ruling, ruling_place, place_words, greatest_gate, is_formatted, has_good_geometry, is_wrong_gate, is_ruled, is_bad_slot, is_second, is_misfit, ShownUnder, damage, IsSound, opening_fault, needs_sweep}
-use Rattle.base.specs.Stands.{Stands}
+use Rattle.base.specs.Layout.{Layout, slot_words, is_between, is_in_limits, is_known_version}
+use Rattle.base.specs.Records.{Record, is_in, is_committed}
+use Rattle.base.specs.Images.{Image, layout_of, key_of, row_of, begin_of, end_of, is_live, is_bad_slot, is_second, is_misfit}
 use Rattle.base.specs.Openings.{IsOpenedGaps, opening_record, held_under, opened_under, opened}
-use Rattle.base.specs.Machine.{State, Version, BySession, ByCommit}
+use Rattle.base.specs.Machine.{Version, BySession, ByCommit}
 use Rattle.pmem.specs.Device.{Device}
-use Rattle.pmem.specs.Words.{Survives, value_of, IsSettled, image_of}
-use Rattle.base.specs.Search.{first_below, first_of, some_if}
-use Rattle.base.proofs.Histories.{first_below-none, key_eq-same, no_bad_slot}
+use Rattle.pmem.specs.Words.{Survives, value_of, IsSettled}
+use Rattle.base.specs.Search.{first_below}
+use Rattle.base.proofs.Histories.{first_below-none, key_eq-same}
 use Rattle.pmem.proofs.Steps.{only-settled}
 use Rattle.invariant.specs.Slots.{word_of, IsDead, IsLive, Newest, Replaced, HoldsAs, class_of_version, Spells, SlotsHold}
 use Rattle.invariant.specs.Kept.{IsKept, version_by}
 use Rattle.invariant.proofs.Marks.{committed-persisted, passes-last_writer}
 use Rattle.invariant.proofs.Congruence.{some_words, spells-image, spells-same}
-use Rattle.invariant.proofs.OpenedGaps.{same-committed_over, formed-over, formed-parts}
-use Rattle.invariant.proofs.Standing.{size-of, limits-of}
-
--- what an opening finds
-pub record IsOpening (a : Layout) (r : Record) (image : Image) (history : List Commit) (gaps : List Gap) : Type 0 where
-  pub layout : layout_of image ≡ a
-  pub limits : is_in_limits a ≡ true
-  pub size : length image ≡ total_words a
-  pub formed : is_well_formed a.version r ≡ true
-  pub room : r.dirty + 2 * a.window < 2 ^ 62
-  pub good : (slot : ℕ) → slot < a.slots → is_bad_slot r image slot ≡ false
-  pub tables : (key : Key) (row : List ℕ) → ShownUnder r image key row ↔ (after history key ≡ Some row)
-  pub covered : list_all (λ commit. is_committed r commit.timestamp) history ≡ true
-  pub gaps_cover : IsOpenedGaps r gaps
-  pub few : length gaps ≤ 8
-
--- the state is that by what the image says
-known-one : (version : ℕ) → is_known_version version ≡ true → opened_version version ≡ version
-known-one version known =
-    let both = and_parts (nat_le 1 version) (nat_le version 1) known in
-    let from = leb-true 1 version both.0 in
-    let to = leb-true version 1 both.1 in
-    let one : 1 ≡ version = omega (arith, from, to) in
-    subst (λ (v : ℕ). opened_version v ≡ v) one refl
-
-pub same_opened : (image : Image) (history : List Commit) (lost : List ℕ) (gaps : List Gap) → is_known_version (layout_of image).version ≡ true → length gaps ≤ 8
-    → opened_under (layout_of image) (ruling image) image history lost gaps ≡ opened image history lost gaps
-same_opened image history lost gaps known few =
-    ap (λ (v : ℕ). opened_under (record (layout_of image) { version = v }) (ruling image) image history lost gaps) (sym (known-one (layout_of image).version known))
+use Rattle.base.proofs.OpenedRecords.{same-committed, formed-over, formed-parts}
+use Rattle.base.proofs.Opened.{IsOpening}
 
 -- ---- one slot
 
@@ -167,7 +134,7 @@ covered-over a r gaps (commit ∷ history) opened less all =
     let both = and_parts (is_committed r commit.timestamp) (list_all (λ commit. is_committed r commit.timestamp) history) all in
     let most = committed-persisted r commit.timestamp both.0 in
     and_from (is_committed (opening_record a r gaps) commit.timestamp) (list_all (λ commit. is_committed (opening_record a r gaps) commit.timestamp) history)
-    (same-committed_over a r gaps commit.timestamp opened (omega (arith, most, less)) ∙ both.0) (covered-over a r gaps history opened less both.1)
+    (same-committed a r gaps commit.timestamp opened (omega (arith, most, less)) ∙ both.0) (covered-over a r gaps history opened less both.1)
 
 has-window : (a : Layout) → is_in_limits a ≡ true → 0 < a.window
 has-window a e =
@@ -250,7 +217,7 @@ never-parts t persisted false h e = inl (by (nat_le 1 t) (nat_le t persisted) re
     by false c is most e = let less = leb-false 1 t is in omega (arith, less)
 
 never-over : (a : Layout) (r : Record) (gaps : List Gap) (t : ℕ) → IsOpenedGaps r gaps → t < r.dirty → is_committed r t ≡ false → (t ≡ 0) ⊎ (is_in gaps t ≡ true)
-never-over a r gaps t opened h e = never-parts t (r.dirty - 1) (is_in gaps t) (omega (arith, h)) (same-committed_over a r gaps t opened h ∙ e)
+never-over a r gaps t opened h e = never-parts t (r.dirty - 1) (is_in gaps t) (omega (arith, h)) (same-committed a r gaps t opened h ∙ e)
 
 holds-live : (a : Layout) (r : Record) (image : Image) (history : List Commit) (lost : List ℕ) (gaps : List Gap) (device : Device) (slot : ℕ) → IsOpening a r image history gaps
     → RestsOn a device image → slot < a.slots → is_live (is_committed r) image slot ≡ true
@@ -264,7 +231,7 @@ holds-live a r image history lost gaps device slot opening rests h live =
     record {
       begin = rests.settled slot 0 h (omega (arith, some_words a.version));
       counted = subst (λ (t : ℕ). is_committed (opening_record a r gaps) t ≡ true) (sym begin)
-          (same-committed_over a r gaps (begin_of image slot) opening.gaps_cover good.begin ∙ counts.0);
+          (same-committed a r gaps (begin_of image slot) opening.gaps_cover good.begin ∙ counts.0);
       end = record {
         each = λ x there. inl (subst (λ (t : ℕ). (t ≡ 0) ⊎ (is_in gaps t ≡ true)) (sym (end-left a device image slot x opening.layout rests h there))
             (never-over a r gaps (end_of image slot) opening.gaps_cover good.end (not-true (is_committed r (end_of image slot)) counts.1)));
@@ -288,7 +255,7 @@ holds-dead a r image history lost gaps device slot opening rests h dead = by (an
     })
     by (inr ended) = inr (record {
       each = λ x there. subst (λ (t : ℕ). is_committed (opening_record a r gaps) t ≡ true) (sym (end-left a device image slot x opening.layout rests h there))
-          (same-committed_over a r gaps (end_of image slot) opening.gaps_cover (good-slot r image slot (opening.good slot h)).end ∙ not-false (is_committed r (end_of image slot)) ended);
+          (same-committed a r gaps (end_of image slot) opening.gaps_cover (good-slot r image slot (opening.good slot h)).end ∙ not-false (is_committed r (end_of image slot)) ended);
     })
 
 holds-as : (a : Layout) (r : Record) (image : Image) (history : List Commit) (lost : List ℕ) (gaps : List Gap) (device : Device) (slot : ℕ) → IsOpening a r image history gaps
@@ -315,124 +282,3 @@ opened-holds_under a r image history lost gaps device opening rests = record {
         as_class = holds-as a r image history lost gaps device slot opening rests h (is_live (is_committed r) image slot) refl;
       };
 }
-
--- ---- what the image says
-
-or-none : {X : Type 0} → (a b : Option X) → option_or a b ≡ None → (a ≡ None) × (b ≡ None)
-or-none None b e = (refl, e)
-or-none (Some x) b e = cc
-
-some_if-none : (b : Bool) (fault : Fault) → some_if b fault ≡ None → b ≡ false
-some_if-none true fault e = cc
-some_if-none false fault e = refl
-
--- the first two
-three-none : (a b c : Option Fault) → first_of (a ∷ b ∷ c ∷ []) ≡ None → (a ≡ None) × (b ≡ None)
-three-none a b c e = let both = or-none a (option_or b (option_or c None)) e in (both.0, (or-none b (option_or c None) both.1).0)
-
--- the second, the third and the fifth
-six-none : (a b c d e f : Option Fault) → first_of (a ∷ b ∷ c ∷ d ∷ e ∷ f ∷ []) ≡ None → (b ≡ None) × (c ≡ None) × (e ≡ None)
-six-none a b c d e f none =
-    let one = or-none a (option_or b (option_or c (option_or d (option_or e (option_or f None))))) none in
-    let two = or-none b (option_or c (option_or d (option_or e (option_or f None)))) one.1 in
-    let three = or-none c (option_or d (option_or e (option_or f None))) two.1 in
-    let four = or-none d (option_or e (option_or f None)) three.1 in
-    let five = or-none e (option_or f None) four.1 in
-    (two.0, three.0, five.0)
-
-third-part : (x y z : Bool) → (x && y && z) ≡ true → z ≡ true
-third-part x y z e = (and_parts (x && y) z e).1
-
-formed-record : (version : ℕ) (words : List ℕ) → is_record version words ≡ true → is_well_formed version (record_in words) ≡ true
-formed-record version words e =
-    third-part (nat_eq (length words) 32) (list_all (λ w. nat_eq (slice_index words w) (record_word (record_in words) w)) (range_with_len 0 32)) (is_well_formed version (record_in words)) e
-
--- what the fields of a sound image are
-pub record IsWhole (image : Image) : Type 0 where
-  pub known : is_known_version (layout_of image).version ≡ true
-  pub geometry : has_good_geometry image ≡ true
-  pub ruled : is_ruled image ≡ true
-
-pub whole-of : (image : Image) → IsSound image → IsWhole image
-whole-of image sound =
-    let parts = six-none (some_if (not (is_formatted image)) NotFormatted) (some_if (not (is_known_version (layout_of image).version)) (VersionFault (layout_of image).version))
-    (some_if (not (has_good_geometry image)) BadGeometry) (option_map Damaged (first_below (layout_of image).places (is_wrong_gate image)))
-    (some_if (not (is_ruled image)) (Damaged (ruling_place image)))
-    (option_map (λ slot. Damaged ((layout_of image).places + slot)) (first_below (layout_of image).slots (is_bad_slot (ruling image) image))) sound in
-    record {
-      known = not-false (is_known_version (layout_of image).version) (some_if-none (not (is_known_version (layout_of image).version)) (VersionFault (layout_of image).version) parts.0);
-      geometry = not-false (has_good_geometry image) (some_if-none (not (has_good_geometry image)) BadGeometry parts.1);
-      ruled = not-false (is_ruled image) (some_if-none (not (is_ruled image)) (Damaged (ruling_place image)) parts.2);
-    }
-
-has-room : (image : Image) → opening_fault image ≡ None → (ruling image).dirty + 2 * (layout_of image).window < 2 ^ 62
-has-room image opens =
-    let out : Bool = nat_le (2 ^ 62) ((ruling image).dirty + 2 * (layout_of image).window) in
-    let last : Bool = nat_le (2 ^ 62) ((ruling image).gate + 1) in
-    let none = three-none (damage image) (some_if (out || last) TimestampsOut) (some_if (needs_sweep image) GapsFull) opens in
-    leb-false (2 ^ 62) ((ruling image).dirty + 2 * (layout_of image).window) (or_parts out last (some_if-none (out || last) TimestampsOut none.1)).0
-
-pub opening-of : (image : Image) (history drawn : List Commit) (next : ℕ) (gaps : List Gap) → opening_fault image ≡ None → Stands image history drawn next
-    → IsOpenedGaps (ruling image) gaps → length gaps ≤ 8 → IsOpening (layout_of image) (ruling image) image history gaps
-opening-of image history drawn next gaps opens stands covers few =
-    let whole = whole-of image stands.sound in
-    record {
-      layout = refl;
-      limits = limits-of image whole.geometry;
-      size = size-of (layout_of image) image refl whole.geometry;
-      formed = formed-record (layout_of image).version (place_words image (ruling_place image))
-          (and_parts (not (nat_eq (greatest_gate image) 0)) (is_record (layout_of image).version (place_words image (ruling_place image))) whole.ruled).1;
-      room = has-room image opens;
-      good = λ slot h. no_bad_slot image stands.sound slot h;
-      tables = stands.tables;
-      covered = stands.covered;
-      gaps_cover = covers;
-      few = few;
-    }
-
--- ---- a device that is the image
-
-word-within : (base words slots slot w : ℕ) → slot < slots → w < words → base + words * slot + w < base + words * slots
-word-within base words slots slot w h hw = omega (arith, mul-add-lt slot words w slots h hw)
-
-value-at : (device : Device) (word : ℕ) → word < device.words → slice_index (image_of device) word ≡ value_of device word
-value-at device word h = get_or-map-range_with_len (value_of device) 0 device.words word word 0 h (omega arith)
-
--- a device with this image whose slots are settled rests on it
-pub rests_on-image : (device : Device) (image : Image) → IsSound image → image_of device ≡ image
-    → ((slot w : ℕ) → slot < (layout_of image).slots → w < slot_words (layout_of image).version → IsSettled device (word_of (layout_of image) slot w))
-    → RestsOn (layout_of image) device image
-rests_on-image device image sound is settled = record { settled = settled; holds = λ slot w h hw. by (word_of (layout_of image) slot w) (within slot w h hw) }
-  where
-    size : device.words ≡ length image
-    size = sym (length-map-range_with_len (value_of device) 0 device.words) ∙ ap (λ (l : List ℕ). length l) is
-
-    within : (slot w : ℕ) → slot < (layout_of image).slots → w < slot_words (layout_of image).version → word_of (layout_of image) slot w < device.words
-    within slot w h hw =
-        let less : word_of (layout_of image) slot w < total_words (layout_of image) = word-within (8 + 32 * (layout_of image).places) (slot_words (layout_of image).version) (layout_of image).slots slot w h hw in
-        subst (λ (n : ℕ). word_of (layout_of image) slot w < n) (sym (size ∙ size-of (layout_of image) image refl (whole-of image sound).geometry)) less
-
-    by : (word : ℕ) → word < device.words → value_of device word ≡ slice_index image word
-    by word h = sym (value-at device word h) ∙ ap (λ (l : List ℕ). slice_index l word) is
-
--- ---- the theorems
-
--- a timestamp that was drawn before is committed under the opened state's record exactly when it was under the one that ruled
-pub same-committed : (image : Image) (history : List Commit) (lost : List ℕ) (gaps : List Gap) (t : ℕ) → IsOpenedGaps (ruling image) gaps → length gaps ≤ 8 → t < (ruling image).dirty
-    → is_committed (opened image history lost gaps).ruling t ≡ is_committed (ruling image) t
-same-committed image history lost gaps t covers few h =
-    same-committed_over (layout_of image) (ruling image) gaps t covers h
-
--- what an opening gives is kept
-pub opened-kept : (image : Image) (history drawn : List Commit) (next : ℕ) (lost : List ℕ) (gaps : List Gap) → opening_fault image ≡ None → Stands image history drawn next
-    → IsOpenedGaps (ruling image) gaps → length gaps ≤ 8 → IsKept (opened image history lost gaps)
-opened-kept image history drawn next lost gaps opens stands covers few =
-    subst (λ (q : State). IsKept q) (same_opened image history lost gaps (whole-of image stands.sound).known few)
-    (opened-kept_under (layout_of image) (ruling image) image history lost gaps (opening-of image history drawn next gaps opens stands covers few))
-
--- and where the device's slots rest on the image, they hold what the state says
-pub opened-holds : (image : Image) (history drawn : List Commit) (next : ℕ) (lost : List ℕ) (gaps : List Gap) (device : Device) → opening_fault image ≡ None → Stands image history drawn next
-    → IsOpenedGaps (ruling image) gaps → length gaps ≤ 8 → RestsOn (layout_of image) device image → SlotsHold (opened image history lost gaps) device
-opened-holds image history drawn next lost gaps device opens stands covers few rests =
-    subst (λ (q : State). SlotsHold q device) (same_opened image history lost gaps (whole-of image stands.sound).known few)
-    (opened-holds_under (layout_of image) (ruling image) image history lost gaps device (opening-of image history drawn next gaps opens stands covers few) rests)

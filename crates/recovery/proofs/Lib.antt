@@ -1,12 +1,13 @@
 pub mod Formed
-pub mod Added
+pub mod SweptSlots
+pub mod Ruled
 pub mod Opens
+pub mod Keeping
 pub mod Visits
 pub mod Beginning
 pub mod Lives
 pub mod Zeros
 pub mod Fresh
-pub mod Presented
 pub mod LiveRows
 pub mod WhatIsRead
 pub mod Restarted

@@ -1,7 +1,7 @@
 -- The rows of the live slots.
 use Rattle.std.proofs.Common.{◌≡◌, ℕ, ◌+◌, ◌<◌, Bool, true, false, not, List, [], ◌∷◌, ◌++◌, get_or, length, refl, sym, ◌∙◌, ap, arith}
 use mathlib.Core.List.{map-id}
-use Rattle.std.specs.Prelude.{None, flat_map}
+use Rattle.std.specs.Prelude.{None, flat_map, if◌then◌else◌}
 use Rattle.std.specs.List.{range_with_len}
 use Rattle.std.proofs.lemmas.Grind.{flat_map-append}
 use Rattle.std.proofs.lemmas.List.FromFn.{map-range_with_len_more, get_or-map-range_with_len, length-map-range_with_len}
@@ -9,6 +9,7 @@ use Rattle.base.specs.Images.{Image, ruling, key_of, row_of, is_shown, is_bad_sl
 use Rattle.base.proofs.Histories.{first_below-none}
 use Rattle.recovery.specs.Slots.{is_free, is_bad, free_below, bad_below}
 use Rattle.recovery.specs.Read.{row_at, rows_below}
+use Rattle.recovery.specs.Live.{live_at, live_below}
 
 range-more : (n : ℕ) → range_with_len 0 (n + 1) ≡ range_with_len 0 n ++ n ∷ []
 range-more n =
@@ -43,6 +44,40 @@ rows-free image n free = rows-more image n ∙ by (is_shown (ruling image) image
         append-nil : {X : Type 0} → (xs : List X) → xs ++ [] ≡ xs
         append-nil [] = refl
         append-nil (x ∷ xs) = ap (λ ys. x ∷ ys) (append-nil xs)
+
+-- ---- the live slots
+
+pub live-none : (image : Image) → live_below image 0 ≡ []
+unfolding live_below
+live-none image = refl
+
+live-more : (image : Image) (n : ℕ) → live_below image (n + 1) ≡ live_below image n ++ ((if is_shown (ruling image) image n then live_at image n ∷ [] else []) ++ [])
+unfolding live_below
+live-more image n =
+    ap (flat_map (λ slot. if is_shown (ruling image) image slot then live_at image slot ∷ [] else [])) (range-more n)
+    ∙ flat_map-append (λ slot. if is_shown (ruling image) image slot then live_at image slot ∷ [] else []) (range_with_len 0 n) (n ∷ [])
+
+pub live-live : (image : Image) (n : ℕ) → is_free image n ≡ false → live_below image (n + 1) ≡ live_below image n ++ live_at image n ∷ []
+unfolding is_free
+live-live image n live = live-more image n ∙ by (is_shown (ruling image) image n) live
+  where
+    by : (b : Bool) → not b ≡ false → live_below image n ++ ((if b then live_at image n ∷ [] else []) ++ []) ≡ live_below image n ++ live_at image n ∷ []
+    by true e = refl
+    by false e = absurd (cc e)
+
+pub live-free : (image : Image) (n : ℕ) → is_free image n ≡ true → live_below image (n + 1) ≡ live_below image n
+unfolding is_free
+live-free image n free = live-more image n ∙ by (is_shown (ruling image) image n) free
+  where
+    by : (b : Bool) → not b ≡ true → live_below image n ++ ((if b then live_at image n ∷ [] else []) ++ []) ≡ live_below image n
+    by true e = absurd (cc e)
+    by false e = append-nil (live_below image n)
+      where
+        append-nil : {X : Type 0} → (xs : List X) → xs ++ [] ≡ xs
+        append-nil [] = refl
+        append-nil (x ∷ xs) = ap (λ ys. x ∷ ys) (append-nil xs)
+
+-- ---- one slot
 
 -- what the list of free slots says of one slot
 pub free-is : (image : Image) (n slot : ℕ) (d : Bool) (free : List Bool) → free ≡ free_below image n → slot < n → get_or free slot d ≡ is_free image slot

@@ -1,162 +1,25 @@
 -- What an image stands for under the record that an opening writes.
-use Rattle.std.proofs.Common.{◌≡◌, ◌⊎◌, inl, inr, ℕ, zero, suc, ◌+◌, ◌-◌, ◌*◌, ◌/◌, ◌%◌, ◌^◌, ◌<◌, ◌≤◌, Bool, true, false, cond, not, ◌&&◌, ◌||◌, List, [], ◌∷◌, get_or, drop, take, refl, sym, ◌∙◌, ap, subst, arith, nat_lt, nat_le, nat_eq, slice_range}
-use Rattle.std.specs.Prelude.{Option, Some, None, is_some, ◌↔◌, flat_map}
+use Rattle.std.proofs.Common.{◌≡◌, ◌⊎◌, inl, inr, ℕ, ◌+◌, ◌<◌, ◌≤◌, Bool, true, false, not, List, [], ◌∷◌, get_or, refl, sym, ◌∙◌, ap, subst, arith}
+use Rattle.std.specs.Prelude.{Option, Some, None, ◌↔◌}
 use Rattle.std.specs.Option.{option_or, option_map}
-use Rattle.std.specs.List.{list_all, list_any}
-use Rattle.std.specs.Int.{to_le_bytes, w64}
-use Rattle.std.proofs.lemmas.Bool.{and_parts, and_from, leb-true, leb-false, lt-leb}
+use Rattle.std.specs.List.{list_all}
+use Rattle.std.proofs.lemmas.Bool.{and_parts, and_from, leb-true}
 use Rattle.std.proofs.lemmas.Bool.Decides.{nat_tests}
-use Rattle.std.proofs.lemmas.List.{ext_get_or, get_or-drop, length-drop}
-use Rattle.base.specs.declared.key.Key.{Key}
 use Rattle.base.specs.declared.fault.Fault.{Fault}
 use Rattle.base.specs.declared.fault.Fault.TheVariants.{BadGeometry, NotFormatted, Damaged, Version}
-use Rattle.base.specs.Keys.{key_eq}
 use Rattle.base.specs.Search.{first_below, some_if}
 use Rattle.base.specs.Commits.{Commit}
-use Rattle.base.specs.Layout.{Layout, newest_version, opened_layout, slot_start, row_limit, is_known_version}
-use Rattle.base.specs.Records.{Record, is_committed, is_in, opened_gaps, is_well_formed}
-use Rattle.base.specs.Images.{Image, IsSound, layout_of, is_formatted, has_good_geometry, is_wrong_gate, is_ruled, ruling, ruling_place, slot_word, begin_of, end_of, key_of, bytes_of, row_of, is_live, is_second, is_bad_slot, TablesOf, IsRuledBy}
+use Rattle.base.specs.Layout.{Layout, newest_version, opened_layout, slot_start, slot_words, is_known_version}
+use Rattle.base.specs.Records.{Record, is_committed, opened_gaps, is_well_formed}
+use Rattle.base.specs.Images.{Image, IsSound, layout_of, is_formatted, has_good_geometry, is_wrong_gate, is_ruled, ruling, ruling_place, slot_word, is_bad_slot, ShownUnder, IsRuledBy}
 use Rattle.base.proofs.Histories.{no_bad_slot}
+use Rattle.base.proofs.Alike.{HasRowsOf, CountsAlike, none_below, good-same, tables-same}
+use Rattle.base.proofs.OpenedRecords.{still-committed}
+use Rattle.base.proofs.Opened.{opened-rows, opened-still, opened-counts, covers-of, wide-of, rising-of}
 use Rattle.base.specs.Stands.{Stands}
-use Rattle.base.specs.Openings.{StandsOpening, opening_record, opened}
+use Rattle.base.specs.Openings.{StandsOpening, opening_record, opened, gaps_kept, opened_slots}
 use Rattle.recovery.specs.Opened.{HasSlotsOf}
 use Rattle.recovery.proofs.Formed.{IsFormed, formed}
-use Rattle.recovery.proofs.Added.{opens}
-
--- ---- timestamps
-
-none_in : (r : Record) (t : ℕ) → r.longs ≡ [] → list_any (nat_eq t) r.longs ≡ false
-none_in r t none = rw none refl
-
--- the opened record commits nothing more of what was drawn before
-pub committed-opened : (layout : Layout) (r : Record) → IsFormed r → (t : ℕ) → t < r.dirty → is_committed (opening_record layout r (opened_gaps r)) t ≡ is_committed r t
-committed-opened layout r formed t below =
-    let in_gaps = (opens r formed).same t in
-    let no_long = none_in r t formed.none_long in
-    by (is_in (opened_gaps r) t) (is_in r.gaps t) (list_any (nat_eq t) r.longs) no_long in_gaps
-  where
-    by : (x y z : Bool) → z ≡ false → x ≡ (y || z || (nat_lt r.persisted t && nat_lt t r.dirty))
-        → (nat_le 1 t && nat_le t (r.dirty - 1) && not x && not false) ≡ (nat_le 1 t && nat_le t r.persisted && not y && not z)
-    by x true true none is = cc
-    by x false true none is = cc
-    by x true false none is = let h : x ≡ true = is in rw h (sides (nat_le 1 t && nat_le t (r.dirty - 1)) (nat_le 1 t && nat_le t r.persisted))
-      where
-        sides : (a b : Bool) → (a && not true && not false) ≡ (b && not true && not false)
-        sides true true = refl
-        sides true false = refl
-        sides false true = refl
-        sides false false = refl
-    by x false false none is = let h : x ≡ (nat_lt r.persisted t && nat_lt t r.dirty) = is in grind (arith, nat_tests)
-
--- ---- words of slots
-
-module _ (before image : Image) (like : HasSlotsOf before image) where
-  start-same : (slot : ℕ) → slot_start (layout_of image) slot ≡ slot_start (layout_of before) slot
-  start-same slot = ap (λ (l : Layout). slot_start l slot) like.laid_out
-
-  pub slot_word-same : (slot w : ℕ) → slot_word image slot w ≡ slot_word before slot w
-  slot_word-same slot w =
-      ap (λ (n : ℕ). get_or image (n + w) 0) (start-same slot)
-      ∙ like.same (slot_start (layout_of before) slot + w) (omega arith)
-
-  drop-same : (n : ℕ) → 8 + 32 * (layout_of before).places ≤ n → drop n image ≡ drop n before
-  drop-same n le =
-      ext_get_or 0 (drop n image) (drop n before) (length-drop n image ∙ ap (λ (k : ℕ). k - n) like.size ∙ sym (length-drop n before))
-      (λ k h. get_or-drop n image k 0 ∙ like.same (n + k) (omega (arith, le)) ∙ sym (get_or-drop n before k 0))
-
-  range-same : (a b : ℕ) → 8 + 32 * (layout_of before).places ≤ a → slice_range image a b ≡ slice_range before a b
-  range-same a b le = ap (take (b - a)) (drop-same a le)
-
-  pub bytes-same : (slot : ℕ) → bytes_of image slot ≡ bytes_of before slot
-  bytes-same slot =
-      ap (λ (l : Layout). flat_map (to_le_bytes w64) (slice_range image (slot_start l slot + 4) (slot_start l (slot + 1)))) like.laid_out
-      ∙ ap (flat_map (to_le_bytes w64)) (range-same (slot_start (layout_of before) slot + 4) (slot_start (layout_of before) (slot + 1)) (omega arith))
-
-  pub key-same : (slot : ℕ) → key_of image slot ≡ key_of before slot
-  key-same slot = λ i. record { table = slot_word-same slot 3 i % 2 ^ 16; key = slot_word-same slot 2 i }
-
-  pub row-same : (slot : ℕ) → row_of image slot ≡ row_of before slot
-  row-same slot = λ i. take (slot_word-same slot 3 i / 2 ^ 16 % 2 ^ 8) (bytes-same slot i)
-
-  -- a record that commits the same of what the slots have
-  module _ (r : Record) (ruled : ruling image ≡ r) (later : (ruling before).dirty ≤ r.dirty)
-      (same : (t : ℕ) → t < (ruling before).dirty → is_committed r t ≡ is_committed (ruling before) t) (sound : IsSound before) where
-    or-false : (a b : Bool) → (a || b) ≡ false → (a ≡ false) × (b ≡ false)
-    or-false true b e = cc
-    or-false false b e = (refl, e)
-
-    good : (slot : ℕ) → slot < (layout_of before).slots → is_bad_slot (ruling before) before slot ≡ false
-    good slot h = no_bad_slot before sound slot h
-
-    begin-below : (slot : ℕ) → slot < (layout_of before).slots → begin_of before slot < (ruling before).dirty
-    begin-below slot h = leb-false (ruling before).dirty (begin_of before slot) (or-false _ _ (or-false _ _ (good slot h)).0).0
-
-    end-below : (slot : ℕ) → slot < (layout_of before).slots → end_of before slot < (ruling before).dirty
-    end-below slot h = leb-false (ruling before).dirty (end_of before slot) (or-false _ _ (or-false _ _ (good slot h)).0).1
-
-    pub live-same : (slot : ℕ) → slot < (layout_of before).slots → is_live (is_committed (ruling image)) image slot ≡ is_live (is_committed (ruling before)) before slot
-    live-same slot h =
-        (λ i. is_committed (ruled i) (slot_word-same slot 0 i) && not (is_committed (ruled i) (slot_word-same slot 1 i)))
-        ∙ (λ i. same (begin_of before slot) (begin-below slot h) i && not (same (end_of before slot) (end-below slot h) i))
-
-    first_below-same : (n : ℕ) (f g : ℕ → Bool) → ((k : ℕ) → k < n → f k ≡ g k) → first_below n f ≡ first_below n g
-    first_below-same zero f g each = refl
-    first_below-same (suc n) f g each =
-        let rest : first_below n f ≡ first_below n g = first_below-same n f g (λ k h. each k (omega (arith, h))) in
-        let here : f n ≡ g n = each n (omega arith) in
-        λ i. option_or (rest i) (cond (here i) (Some n) None)
-
-    second-same : (slot : ℕ) → slot < (layout_of before).slots → is_second (ruling image) image slot ≡ is_second (ruling before) before slot
-    second-same slot h =
-        ap is_some (first_below-same slot
-        (λ lower. is_live (is_committed (ruling image)) image lower && key_eq (key_of image lower) (key_of image slot))
-        (λ lower. is_live (is_committed (ruling before)) before lower && key_eq (key_of before lower) (key_of before slot))
-        (λ k lt i. live-same k (omega (arith, lt, h)) i && key_eq (key-same k i) (key-same slot i)))
-
-    pub bad-same : (slot : ℕ) → slot < (layout_of before).slots → is_bad_slot (ruling image) image slot ≡ false
-    bad-same slot h =
-        (λ i. nat_le (ruled i).dirty (slot_word-same slot 0 i) || nat_le (ruled i).dirty (slot_word-same slot 1 i)
-        || (live-same slot h i
-        && (nat_lt (row_limit (like.laid_out i).version) (slot_word-same slot 3 i / 2 ^ 16 % 2 ^ 8)
-        || not (nat_eq (slot_word-same slot 3 i / 2 ^ 24 % 2 ^ 8) 0)
-        || not (list_all (nat_eq 0) (drop (slot_word-same slot 3 i / 2 ^ 16 % 2 ^ 8) (bytes-same slot i)))
-        || nat_lt (like.laid_out i).slots (slot_word-same slot 3 i / 2 ^ 32)
-        || second-same slot h i)))
-        ∙ still (nat_le r.dirty (begin_of before slot)) (nat_le r.dirty (end_of before slot)) _
-        (lt-leb r.dirty (begin_of before slot) (omega (arith, later, begin-below slot h))) (lt-leb r.dirty (end_of before slot) (omega (arith, later, end-below slot h))) (or-false _ _ (good slot h)).1
-      where
-        still : (a b c : Bool) → a ≡ false → b ≡ false → c ≡ false → ((a || b) || c) ≡ false
-        still false false false e f g = refl
-        still true b c e f g = cc
-        still false true c e f g = cc
-        still false false true e f g = cc
-
-    none_below : (n : ℕ) (test : ℕ → Bool) → ((k : ℕ) → k < n → test k ≡ false) → first_below n test ≡ None
-    none_below n test each = first_below-same n test (λ k. false) each ∙ never n
-      where
-        never : (n : ℕ) → first_below n (λ k. false) ≡ None
-        never zero = refl
-        never (suc n) = rw (never n) refl
-
-    -- ---- the image
-
-    pub no_bad : first_below (layout_of image).slots (is_bad_slot (ruling image) image) ≡ None
-    no_bad =
-        let slots : (layout_of image).slots ≡ (layout_of before).slots = ap (λ (l : Layout). l.slots) like.laid_out in
-        none_below (layout_of image).slots (is_bad_slot (ruling image) image) (λ k h. bad-same k (omega (arith, h, slots)))
-
-    pub shown-same : (key : Key) (row : List ℕ) → TablesOf image key row ↔ TablesOf before key row
-    shown-same key row =
-        let slots : (layout_of image).slots ≡ (layout_of before).slots = ap (λ (l : Layout). l.slots) like.laid_out in (
-          λ t. let h : t.0 < (layout_of before).slots = omega (arith, t.1, slots) in
-              (t.0, h, sym (live-same t.0 h) ∙ t.2, sym (key-same t.0) ∙ t.3, sym (row-same t.0) ∙ t.4),
-          λ t. (t.0, omega (arith, t.1, slots), live-same t.0 t.1 ∙ t.2, key-same t.0 ∙ t.3, row-same t.0 ∙ t.4),
-        )
-
-    covered-same : (history : List Commit) → list_all (λ commit. is_committed (ruling before) commit.timestamp) history ≡ true
-        → ((t : ℕ) → is_committed (ruling before) t ≡ true → is_committed (ruling image) t ≡ true) → list_all (λ commit. is_committed (ruling image) commit.timestamp) history ≡ true
-    covered-same [] all each = refl
-    covered-same (commit ∷ history) all each = let parts = and_parts _ _ all in and_from _ _ (each commit.timestamp parts.0) (covered-same history parts.1 each)
 
 -- ---- sound images
 
@@ -227,13 +90,39 @@ formed-ruling image is =
 committed-below : (r : Record) (t : ℕ) → is_committed r t ≡ true → t ≤ r.persisted
 committed-below r t is = leb-true t r.persisted (and_parts _ _ (and_parts _ _ (and_parts _ _ is).0).0).1
 
--- the image of a record that commits the same stands for the same
-pub stands-same : (before image : Image) (history drawn : List Commit) (next : ℕ) (r : Record) → Stands before history drawn next → HasSlotsOf before image → IsRuledBy (layout_of before) r image
-    → (ruling before).dirty ≤ r.dirty → ((t : ℕ) → t < (ruling before).dirty → is_committed r t ≡ is_committed (ruling before) t) → Stands image history [] next
-stands-same before image history drawn next r s like rules later same =
+-- an image whose slots are those of another has their rows, and counts the same
+module _ (before middle image : Image) (like : HasSlotsOf middle image) (rows : HasRowsOf before middle) where
+  word-same : (slot w : ℕ) → slot_word image slot w ≡ slot_word middle slot w
+  word-same slot w = ap (λ (l : Layout). slot_word-by l slot w) like.laid_out ∙ like.same (slot_start (layout_of middle) slot + w) (omega arith)
+    where
+      slot_word-by : Layout → ℕ → ℕ → ℕ
+      slot_word-by l slot w = get_or image (slot_start l slot + w) 0
+
+  pub rows-like : HasRowsOf before image
+  rows-like = record {
+    size = like.size ∙ rows.size;
+    laid_out = like.laid_out ∙ rows.laid_out;
+    same = λ slot w h low high. word-same slot w ∙ rows.same slot w h low high;
+  }
+
+  pub counts-like : (r r' : Record) → CountsAlike r before r' middle → CountsAlike r before r' image
+  counts-like r r' alike = record {
+    begin = λ slot h. ap (is_committed r') (word-same slot 0) ∙ alike.begin slot h;
+    end = λ slot h. ap (is_committed r') (word-same slot 1) ∙ alike.end slot h;
+    begin_below = λ slot h. subst (λ (t : ℕ). t < r'.dirty) (sym (word-same slot 0)) (alike.begin_below slot h);
+    end_below = λ slot h. subst (λ (t : ℕ). t < r'.dirty) (sym (word-same slot 1)) (alike.end_below slot h);
+  }
+
+-- the image of a record under which its rows count the same stands for the same
+pub stands-same : (before image : Image) (history drawn : List Commit) (next : ℕ) (r : Record) → Stands before history drawn next → HasRowsOf before image → CountsAlike (ruling before) before r image → IsRuledBy (layout_of before) r image
+    → (ruling before).dirty ≤ r.dirty → ((t : ℕ) → is_committed (ruling before) t ≡ true → is_committed r t ≡ true) → Stands image history [] next
+stands-same before image history drawn next r s like alike rules later still =
     let ruled = rules.by_record in
+    let slots : (layout_of before).slots ≡ (layout_of image).slots = ap (λ (l : Layout). l.slots) (sym like.laid_out) in
     let places : (layout_of before).places ≡ (layout_of image).places = ap (λ (l : Layout). l.places) (sym like.laid_out) in
-    let rising : (ruling before).persisted < (ruling before).dirty = (formed-ruling before (faultless before s.sound)).rising in
+    let wide : 8 ≤ slot_words (layout_of before).version = omega (arith, wide-of before s.sound) in
+    let good : (slot : ℕ) → slot < (layout_of before).slots → is_bad_slot (ruling image) image slot ≡ false =
+    λ slot h. subst (λ (x : Record). is_bad_slot x image slot ≡ false) (sym ruled) (good-same before image like (ruling before) r alike wide slot h (no_bad_slot before s.sound slot h)) in
     record {
       sound = sound-faultless image (record {
         formatted = rules.formatted;
@@ -241,29 +130,50 @@ stands-same before image history drawn next r s like rules later same =
         geometry = rules.geometry;
         gates = subst (λ (n : ℕ). first_below n (is_wrong_gate image) ≡ None) places rules.gates;
         well_ruled = rules.well_ruled;
-        slots = no_bad before image like r ruled later same s.sound;
+        slots = subst (λ (n : ℕ). first_below n (is_bad_slot (ruling image) image) ≡ None) slots (none_below (layout_of before).slots (is_bad_slot (ruling image) image) good);
       });
       tables = λ key row.
-          let shown = shown-same before image like r ruled later same s.sound key row in
+          let shown = subst (λ (x : Record). ShownUnder x image key row ↔ ShownUnder (ruling before) before key row) (sym ruled) (tables-same before image like (ruling before) r alike wide key row) in
           (λ t. (s.tables key row).0 (shown.0 t), λ e. shown.1 ((s.tables key row).1 e));
-      covered = covered-same before image like r ruled later same s.sound history s.covered
-          (λ t is. ap (λ (x : Record). is_committed x t) ruled ∙ same t (omega (arith, committed-below (ruling before) t is, rising)) ∙ is);
+      covered = subst (λ (x : Record). list_all (λ commit. is_committed x commit.timestamp) history ≡ true) (sym ruled) (covered history s.covered);
       left_out = refl;
       reserved = omega (arith, s.reserved, later, ap (λ (x : Record). x.dirty) ruled);
     }
+  where
+    covered : (history : List Commit) → list_all (λ commit. is_committed (ruling before) commit.timestamp) history ≡ true → list_all (λ commit. is_committed r commit.timestamp) history ≡ true
+    covered [] all = refl
+    covered (commit ∷ history) all = let parts = and_parts _ _ all in and_from _ _ (still commit.timestamp parts.0) (covered history parts.1)
 
--- what an opening leaves stands for the same history
-pub stands-opening : (before image : Image) (history drawn : List Commit) (next : ℕ) → Stands before history drawn next → HasSlotsOf before image
-    → IsRuledBy (layout_of before) (ruling before) image ⊎ IsRuledBy (layout_of before) (opening_record (layout_of before) (ruling before) (opened_gaps (ruling before))) image → StandsOpening before history next image
-stands-opening before image history drawn next s like (inl rules) = record {
-  stands = stands-same before image history drawn next (ruling before) s like rules (omega arith) (λ t h. refl);
+-- the record that an opening of a sound image writes
+abbrev pub record_after : Image → Record
+record_after image = opening_record (layout_of image) (ruling image) (gaps_kept (opened_gaps (ruling image)))
+
+pub still-after : (image : Image) → IsSound image → (t : ℕ) → is_committed (ruling image) t ≡ true → is_committed (record_after image) t ≡ true
+still-after image sound t is =
+    let low : t ≤ (ruling image).persisted = committed-below (ruling image) t is in
+    let rising = rising-of image sound in
+    still-committed (layout_of image) (ruling image) (opened_gaps (ruling image)) t (covers-of image sound) (omega (arith, low, rising)) is
+
+-- while the gaps are swept the image stands for the same history, under the record that ruled
+pub stands-sweeping : (before image : Image) (history drawn : List Commit) (next : ℕ) → Stands before history drawn next → HasRowsOf before image → CountsAlike (ruling before) before (ruling before) image → IsRuledBy (layout_of before) (ruling before) image
+    → StandsOpening before history next image
+stands-sweeping before image history drawn next s like alike rules = record {
+  stands = stands-same before image history drawn next (ruling before) s like alike rules (omega arith) (λ t is. is);
   ruled = inl rules.by_record;
   laid_out = inl like.laid_out;
 }
+
+-- what an opening leaves stands for the same history
+pub stands-opening : (before image : Image) (history drawn : List Commit) (next : ℕ) → Stands before history drawn next → HasSlotsOf (opened_slots before) image
+    → IsRuledBy (layout_of before) (ruling before) image ⊎ IsRuledBy (layout_of before) (record_after before) image → StandsOpening before history next image
+stands-opening before image history drawn next s like (inl rules) =
+    stands-sweeping before image history drawn next s (rows-like before (opened_slots before) image like (opened-rows before))
+    (counts-like before (opened_slots before) image like (opened-rows before) (ruling before) (ruling before) (opened-still before s.sound)) rules
 stands-opening before image history drawn next s like (inr rules) =
-    let is = formed-ruling before (faultless before s.sound) in
+    let rows = rows-like before (opened_slots before) image like (opened-rows before) in
     record {
-      stands = stands-same before image history drawn next (opening_record (layout_of before) (ruling before) (opened_gaps (ruling before))) s like rules (omega arith) (committed-opened (layout_of before) (ruling before) is);
-      ruled = inr (opened before history [] (opened_gaps (ruling before)), (opened_gaps (ruling before), opens (ruling before) is, refl), rules.by_record);
-      laid_out = inl like.laid_out;
+      stands = stands-same before image history drawn next (record_after before) s rows
+          (counts-like before (opened_slots before) image like (opened-rows before) (ruling before) (record_after before) (opened-counts before s.sound)) rules (omega arith) (still-after before s.sound);
+      ruled = inr (opened before history [] (opened_gaps (ruling before)), (opened_gaps (ruling before), covers-of before s.sound, refl), rules.by_record);
+      laid_out = inl rows.laid_out;
     }

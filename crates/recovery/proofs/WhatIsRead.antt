@@ -13,6 +13,7 @@ use Rattle.recovery.specs.Slots.{IsUnder, IsSlotsFault, bad_below}
 use Rattle.recovery.specs.Read.{IsRead, IsReadRefusal, TellsLogFault, rows_below}
 use Rattle.recovery.proofs.Opens.{known-good}
 use Rattle.recovery.specs.Opened.{Examined}
+use Rattle.recovery.specs.declared.rows.LiveSlot.{LiveSlot}
 use Rattle.recovery.proofs.Beginning.{gates-none, no-damage}
 use Rattle.recovery.proofs.Lives.{is}
 use Rattle.base.specs.declared.gap.Gap.{Gap}
@@ -79,8 +80,8 @@ module _ (layout : Layout) (r : Record) (image : Image) (rules : IsRuledBy layou
   }
 
 -- what is answered where an image was examined
-pub tells-examined : (image : Image) (layout : Layout) (r : Record) (gaps : List Gap) (free : List Bool) → Examined image layout r gaps free → (fault : Fault) → TellsLogFault image fault
-tells-examined image layout r gaps free ex = tells-later layout r image (is image layout r gaps free ex).rules
+pub tells-examined : (image : Image) (layout : Layout) (r : Record) (gaps : Option (List Gap)) (free : List Bool) (live : List LiveSlot) → Examined image layout r gaps free live → (fault : Fault) → TellsLogFault image fault
+tells-examined image layout r gaps free live ex = tells-later layout r image (is image layout r gaps free live ex).rules
 
 -- want of memory is all that a sound image is refused for
 pub memory-read : (image : Image) → IsSound image → IsReadRefusal image OutOfMemory

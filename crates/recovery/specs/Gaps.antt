@@ -1,8 +1,8 @@
--- Gaps in order.
-use Rattle.std.specs.Prelude.{ℕ, Bool, ◌&&◌, nat_le, List}
-use Rattle.std.specs.List.{list_all}
+-- The gaps of an opening, where they aren't too many for a record.
+use Rattle.std.specs.Prelude.{nat_lt, if◌then◌else◌, List, length, Option, Some, None}
 use Rattle.base.specs.declared.gap.Gap.{Gap}
+use Rattle.base.specs.Records.{Record, opened_gaps}
 
--- each goes up, and not past the timestamp
-abbrev pub are_upto : ℕ → List Gap → Bool
-are_upto last gaps = list_all (λ gap. nat_le gap.first gap.last && nat_le gap.last last) gaps
+-- none where there are more than eight
+abbrev pub few_gaps : Record → Option (List Gap)
+few_gaps r = if nat_lt 8 (length (opened_gaps r)) then None else Some (opened_gaps r)

@@ -1,5 +1,7 @@
 pub mod Gaps
+pub mod Sweeping
 pub mod Slots
+pub mod Live
 pub mod Opened
 pub mod Fresh
 pub mod Words

@@ -1,17 +1,20 @@
 -- The record that an opening writes, what it leaves alone, and what an opening gives.
-use Rattle.std.specs.Prelude.{◌≡◌, ◌⊎◌, ℕ, ◌+◌, ◌*◌, ◌<◌, ◌≤◌, Bool, not, List, length, map, slice_index, Option, Some, None}
+use Rattle.std.specs.Prelude.{◌≡◌, ◌⊎◌, ℕ, ◌+◌, ◌*◌, ◌<◌, ◌≤◌, Bool, true, false, not, List, length, map, slice_index, Option, Some, None}
 use Rattle.std.specs.List.{range_with_len}
 use Rattle.base.specs.declared.gap.Gap.{Gap}
 use Rattle.base.specs.declared.fault.Fault.{Fault}
 use Rattle.base.specs.declared.fault.Fault.TheVariants.{OutOfMemory, Device as DeviceFault}
 use Rattle.base.specs.Layout.{Layout}
 use Rattle.base.specs.Records.{Record, opened_gaps}
-use Rattle.base.specs.Images.{Image, layout_of, ruling, is_shown, opening_fault, IsRuledBy}
-use Rattle.base.specs.Openings.{opening_record}
+use Rattle.base.specs.Images.{Image, layout_of, ruling, is_shown, opening_fault, needs_sweep, IsRuledBy}
+use Rattle.base.specs.Openings.{opening_record, gaps_kept, opened_slots, words_swept, lines_swept}
 use Rattle.pmem.specs.Device.{Device}
 use Rattle.pmem.specs.Words.{value_of, image_of, IsSettledAt, Makes}
 use Rattle.log_area.specs.Rulings.{HoldsRecord}
+use Rattle.recovery.specs.Gaps.{few_gaps}
 use Rattle.recovery.specs.Slots.{free_below}
+use Rattle.recovery.specs.Live.{live_below}
+use Rattle.recovery.specs.declared.rows.LiveSlot.{LiveSlot}
 
 -- the words after the log area are the same
 pub record HasSlotsOf (before image : Image) : Type 0 where
@@ -24,31 +27,35 @@ unfoldable pub Refuses : Image → Fault → Type 0
 Refuses image fault = (opening_fault image ≡ Some fault) ⊎ (fault ≡ OutOfMemory)
 
 -- what is learnt of an image that opens
-pub record IsExamined (image : Image) (layout : Layout) (r : Record) (gaps : List Gap) (free : List Bool) : Type 0 where
+pub record IsExamined (image : Image) (layout : Layout) (r : Record) (gaps : Option (List Gap)) (free : List Bool) (live : List LiveSlot) : Type 0 where
   pub opens : opening_fault image ≡ None
   pub rules : IsRuledBy layout r image
-  pub gaps_are : gaps ≡ opened_gaps r
+  pub gaps_are : gaps ≡ few_gaps r
   pub free_are : free ≡ free_below image layout.slots
+  pub live_are : live ≡ live_below image layout.slots
 
-unfoldable pub Examined : Image → Layout → Record → List Gap → List Bool → Type 0
-Examined image layout r gaps free = IsExamined image layout r gaps free
+unfoldable pub Examined : Image → Layout → Record → Option (List Gap) → List Bool → List LiveSlot → Type 0
+Examined image layout r gaps free live = IsExamined image layout r gaps free live
 
 -- which slots are free at an opening: those that aren't live
 abbrev pub free_in : Image → List Bool
 free_in image = map (λ slot. not (is_shown (ruling image) image slot)) (range_with_len 0 (layout_of image).slots)
 
--- The old device, at rest, was opened, and the new one is what that made of it: this record rules it, superblock and
--- slots are as they were, the next timestamp is the dirty one of the record that ruled before, and these slots are free
-pub record HasOpened (old new : Device) (layout : Layout) (r : Record) (next : ℕ) (free : List Bool) : Type 0 where
+-- The old device, at rest, was opened, and the new one is what that made of it: this record rules it, the superblock is as
+-- it was, and so are the slots, but for what a sweep of more than eight gaps stores; the next timestamp is the dirty one of
+-- the record that ruled before, these slots are free, and these live
+pub record HasOpened (old new : Device) (layout : Layout) (r : Record) (next : ℕ) (free : List Bool) (live : List LiveSlot) : Type 0 where
   pub opens : opening_fault (image_of old) ≡ None
   pub layout_is : layout ≡ layout_of (image_of old)
-  pub record_is : r ≡ opening_record (layout_of (image_of old)) (ruling (image_of old)) (opened_gaps (ruling (image_of old)))
+  pub record_is : r ≡ opening_record (layout_of (image_of old)) (ruling (image_of old)) (gaps_kept (opened_gaps (ruling (image_of old))))
   pub next_is : next ≡ (ruling (image_of old)).dirty
   pub free_is : free ≡ free_in (image_of old)
+  pub live_is : live ≡ live_below (image_of old) (layout_of (image_of old)).slots
   pub holds : HoldsRecord layout r new
   pub superblock : (word : ℕ) → word < 8 → IsSettledAt new word (value_of old word)
-  pub slots : (word : ℕ) → 8 + 32 * layout.places ≤ word → word < old.words → IsSettledAt new word (value_of old word)
-  pub made : Makes 32 5 2 0 old new
+  pub slots : (word : ℕ) → 8 + 32 * layout.places ≤ word → word < old.words → IsSettledAt new word (slice_index (opened_slots (image_of old)) word)
+  pub made : needs_sweep (image_of old) ≡ false → Makes 32 5 2 0 old new
+  pub made_sweeping : needs_sweep (image_of old) ≡ true → Makes (32 + words_swept (image_of old)) (5 + lines_swept (image_of old)) 3 0 old new
 
 -- Why an opening is refused: for its own reason or for want of memory, and then nothing was done to the device; or
 -- because an operation failed, where nothing spoke against it

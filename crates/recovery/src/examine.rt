@@ -4,6 +4,7 @@ ghost use Rattle.recovery.specs.Opened.{Examined as IsExaminedAs, Refuses};
 ghost use Rattle.recovery.specs.Read.{TellsLogFault};
 
 use crate::gaps::opened_gaps;
+use crate::rows::{LiveSlot, live_slots};
 use crate::slots::free_slots;
 use base::fault::Fault;
 use base::gap::Gaps;
@@ -17,15 +18,16 @@ use std::alloc::Global;
 pub struct Examined {
     pub geometry: Geometry,
     pub ruling: Record,
-    /// With what the opening adds.
-    pub gaps: Gaps,
+    /// With what the opening adds; none where there are more than eight, which are swept.
+    pub gaps: Option<Gaps>,
     /// Whether each slot is free.
     pub free: Vec<bool>,
+    pub live: Vec<LiveSlot>,
 }
 
 // Tests all that an opening asks of an image, in order.
 pub fn examine<D: Pmem>(alloc: Global, device: &D) -> Result<Examined, Fault>
-    ensures ok { IfOk result (λ found. IsExaminedAs (image_of (D.state device.now)) found.geometry found.ruling found.gaps found.free.items) }
+    ensures ok { IfOk result (λ found. IsExaminedAs (image_of (D.state device.now)) found.geometry found.ruling found.gaps found.free.items found.live.items) }
     ensures fault { IfErr result (Refuses (image_of (D.state device.now))) }
     ensures log { IfErr result (TellsLogFault (image_of (D.state device.now))) }
 {
@@ -40,15 +42,17 @@ pub fn examine<D: Pmem>(alloc: Global, device: &D) -> Result<Examined, Fault>
     if is_near_limit(found.geometry, found.target) {
         return Err(Fault::TimestampsOut);
     }
-    match opened_gaps(found.target) {
-        Ok(gaps) => Ok(Examined {
-            geometry: found.geometry,
-            ruling: found.target,
-            gaps,
-            free,
-        }),
-        Err(fault) => Err(fault),
-    }
+    let live = match live_slots(alloc, device, found.geometry, free.as_slice()) {
+        Ok(live) => live,
+        Err(_) => return Err(Fault::OutOfMemory),
+    };
+    Ok(Examined {
+        geometry: found.geometry,
+        ruling: found.target,
+        gaps: opened_gaps(found.target),
+        free,
+        live,
+    })
 }
 
 // Whether too few timestamps or record numbers are left for a life.

@@ -10,8 +10,9 @@ mod reading;
 mod rows;
 mod slots;
 mod still;
+mod sweeping;
 
 pub use formatting::format;
-pub use gaps::opened_gaps;
 pub use opening::{Life, Opened, open, open_device};
 pub use reading::{Found, read_image};
+pub use rows::LiveSlot;

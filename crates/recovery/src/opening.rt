@@ -1,13 +1,18 @@
-ghost use Rattle.std.specs.Prelude.{◌≡◌, ◌+◌, ◌-◌, ◌*◌, ◌^◌, ◌<◌, ◌≤◌, ℕ, List, [], IfOk, IfErr, MatchResult};
+ghost use Rattle.std.specs.Prelude.{◌≡◌, ◌+◌, ◌-◌, ◌*◌, ◌^◌, ◌<◌, ◌≤◌, ℕ, true, false, List, [], IfOk, IfErr, OnOk, OnErr, MatchResult};
 ghost use Rattle.base.specs.Commits.{Commit};
-ghost use Rattle.base.specs.Images.{opening_fault};
+ghost use Rattle.base.specs.Records.{opened_gaps};
+ghost use Rattle.base.specs.Images.{opening_fault, needs_sweep, IsRuledBy};
 ghost use Rattle.base.specs.Stands.{Stands};
-ghost use Rattle.base.specs.Openings.{StandsOpening};
-ghost use Rattle.pmem.specs.Words.{LeavesOnly, IsAtRest, image_of};
+ghost use Rattle.base.specs.Openings.{StandsOpening, gaps_kept, opened_slots, words_swept, lines_swept};
+ghost use Rattle.pmem.specs.Words.{LeavesOnly, IsAtRest, image_of, Keeps, OldOr, Makes};
+ghost use Rattle.recovery.specs.Gaps.{few_gaps};
+ghost use Rattle.recovery.specs.Sweeping.{IsSwept};
 ghost use Rattle.recovery.specs.Opened.{HasOpened, IsRefusal};
 ghost use Rattle.recovery.specs.Read.{TellsLogFault};
 
 use crate::examine::{Examined, examine};
+use crate::rows::LiveSlot;
+use crate::sweeping::sweep;
 use base::fault::Fault;
 use base::gap::Gaps;
 use base::geometry::Geometry;
@@ -27,16 +32,19 @@ pub struct Opened<D: Pmem> {
     pub next: u64,
     /// Whether each slot is free.
     pub free: Vec<bool>,
+    /// The slots that aren't free, in their order.
+    pub live: Vec<LiveSlot>,
 }
 
-/// Opens a device at rest, and gives it back where it is refused.
+/// Opens a device at rest, and gives it back where it is refused. More than eight gaps are swept before the record is
+/// written.
 pub fn open<R: Threads + Sync, D: Pmem + Drop + Send + Sync>(
     rt: &R,
     alloc: Global,
     device: D,
 ) -> Result<Opened<D>, (Fault, D)>
     requires at_rest { IsAtRest (D.state device) }
-    ensures ok { IfOk result (λ opened. HasOpened (D.state device) (D.state opened.device) opened.geometry opened.ruling opened.next opened.free.items) }
+    ensures ok { IfOk result (λ opened. HasOpened (D.state device) (D.state opened.device) opened.geometry opened.ruling opened.next opened.free.items opened.live.items) }
     ensures fault { IfErr result (λ e. IsRefusal (opening_fault (image_of (D.state device))) (D.state device) (D.state e.1) e.0) }
 
     // A fault of the superblock, of a gate or of the ruling record is reported even where memory is wanting.
@@ -57,6 +65,7 @@ pub fn open<R: Threads + Sync, D: Pmem + Drop + Send + Sync>(
                 ruling,
                 next,
                 free,
+                live,
             },
         ) => Ok(Opened {
             device,
@@ -64,6 +73,7 @@ pub fn open<R: Threads + Sync, D: Pmem + Drop + Send + Sync>(
             ruling,
             next,
             free,
+            live,
         }),
         Err(fault) => Err((fault, device)),
     }
@@ -76,12 +86,13 @@ pub struct Life {
     pub ruling: Record,
     pub next: u64,
     pub free: Vec<bool>,
+    pub live: Vec<LiveSlot>,
 }
 
 /// The same, of a device that stays where it is.
 pub fn open_device<D: Pmem>(alloc: Global, device: &mut D) -> Result<Life, Fault>
     requires { IsAtRest (D.state device.old) }
-    ensures ok { IfOk result (λ life. HasOpened (D.state device.old) (D.state device.new) life.geometry life.ruling life.next life.free.items) }
+    ensures ok { IfOk result (λ life. HasOpened (D.state device.old) (D.state device.new) life.geometry life.ruling life.next life.free.items life.live.items) }
     ensures fault { IfErr result (IsRefusal (opening_fault (image_of (D.state device.old))) (D.state device.old) (D.state device.new)) }
     ensures log { IfErr result (TellsLogFault (image_of (D.state device.old))) }
     ensures images { (history drawn : List Commit) (next : ℕ) → Stands (image_of (D.state device.old)) history drawn next
@@ -91,15 +102,48 @@ pub fn open_device<D: Pmem>(alloc: Global, device: &mut D) -> Result<Life, Fault
         Ok(found) => found,
         Err(fault) => return Err(fault),
     };
-    let target = next_record(found.geometry, found.ruling, found.gaps);
+    let gaps = match keep_gaps(device, found.geometry, found.ruling, found.gaps) {
+        Ok(gaps) => gaps,
+        Err(fault) => return Err(fault),
+    };
+    let target = next_record(found.geometry, found.ruling, gaps);
     match write_record(device, found.geometry, target) {
         Ok(()) => Ok(begun(found, target)),
         Err(fault) => Err(fault),
     }
 }
 
+// The gaps to go on with. Where a record can't hold them they are swept, and none is left.
+fn keep_gaps<D: Pmem>(
+    device: &mut D,
+    geometry: Geometry,
+    ruling: Record,
+    gaps: Option<Gaps>,
+) -> Result<Gaps, Fault>
+    requires at_rest { IsAtRest (D.state device.old) }
+    requires rules { IsRuledBy geometry ruling (image_of (D.state device.old)) }
+    requires gaps { gaps ≡ few_gaps ruling }
+    ensures fault { IfErr result (λ fault. fault ≡ Fault.Device) }
+    ensures failed { OnErr result ((D.state device.new).failures ≡ (D.state device.old).failures + 1) }
+    ensures kept { Keeps (D.state device.old) (D.state device.new) (OldOr (D.state device.old) (IsSwept geometry ruling (D.state device.old))) }
+    ensures ok { IfOk result (λ left. left ≡ gaps_kept (opened_gaps ruling)) }
+    ensures rest { OnOk result (IsAtRest (D.state device.new)) }
+    ensures image { OnOk result (image_of (D.state device.new) ≡ opened_slots (image_of (D.state device.old))) }
+    ensures none { OnOk result (needs_sweep (image_of (D.state device.old)) ≡ false → Makes 0 0 0 0 (D.state device.old) (D.state device.new)) }
+    ensures made { OnOk result (needs_sweep (image_of (D.state device.old)) ≡ true
+        → Makes (words_swept (image_of (D.state device.old))) (lines_swept (image_of (D.state device.old))) 1 0 (D.state device.old) (D.state device.new)) }
+{
+    match gaps {
+        Some(few) => Ok(few),
+        None => match sweep(device, geometry, ruling) {
+            Ok(()) => Ok(Gaps::none()),
+            Err(fault) => Err(fault),
+        },
+    }
+}
+
 fn begun(found: Examined, target: Record) -> Life
-    ensures { result ≡ record { geometry = found.geometry; ruling = target; next = found.ruling.dirty; free = found.free } }
+    ensures { result ≡ record { geometry = found.geometry; ruling = target; next = found.ruling.dirty; free = found.free; live = found.live } }
 {
     let next = found.ruling.dirty();
     let Examined {
@@ -107,12 +151,14 @@ fn begun(found: Examined, target: Record) -> Life
         ruling: _,
         gaps: _,
         free,
+        live,
     } = found;
     Life {
         geometry,
         ruling: target,
         next,
         free,
+        live,
     }
 }
 

@@ -46,18 +46,18 @@ pub struct Room<D: Pmem> {
 const SESSION: u8 = 2;
 
 impl<D: Pmem + Drop + Send + Sync> Room<D> {
-    ghost use Rattle.std.specs.Prelude.{List, ℕ, ◌+◌, ◌*◌, ◌<◌, ◌≤◌, None, IfOk, IfErr, MatchResult};
+    ghost use Rattle.std.specs.Prelude.{List, ℕ, ◌+◌, ◌*◌, ◌<◌, ◌≤◌, true, false, None, slice_index, IfOk, IfErr, MatchResult};
     ghost use Rattle.base.specs.Commits.{Commit};
-    ghost use Rattle.base.specs.Images.{layout_of, opening_fault};
+    ghost use Rattle.base.specs.Images.{layout_of, opening_fault, needs_sweep};
     ghost use Rattle.base.specs.Stands.{Stands};
     ghost use Rattle.base.specs.Machine.{State};
-    ghost use Rattle.base.specs.Openings.{OpensAs, StandsOpening};
+    ghost use Rattle.base.specs.Openings.{OpensAs, StandsOpening, opened_slots, words_swept, lines_swept};
     ghost use Rattle.pmem.specs.Words.{LeavesOnly, IsAtRest, value_of, image_of, IsSettledAt, Makes, HasNoFailure};
     ghost use Rattle.recovery.specs.Opened.{IsRefusal};
     ghost use Rattle.recovery.specs.Read.{TellsLogFault};
     ghost use Rattle.room.specs.Room.{Shows, device_of};
 
-    /// Opens a device at rest, and gives it back where it is refused.
+    /// Opens a device at rest, and gives it back where it is refused. More than eight gaps are swept first.
     pub fn open<R: Threads + Sync>(rt: &R, alloc: Global, device: D) -> Result<Room<D>, (Fault, D)>
         requires at_rest { IsAtRest (D.state device) }
 
@@ -74,11 +74,14 @@ impl<D: Pmem + Drop + Send + Sync> Room<D> {
         // What is wrong with its log is reported before want of memory.
         ensures log { IfErr result (λ e. TellsLogFault (image_of (D.state device)) e.0) }
 
-        // It makes the operations of one record, and the words of superblock and slots are settled as they were.
-        ensures made { IfOk result (λ room. Makes 32 5 2 0 (D.state device) (device_of D.state room)) }
+        // It makes the operations of one record, after those of a sweep where there are more than eight gaps, and the
+        // words of superblock and slots are settled as they were, but for what a sweep stores.
+        ensures made { IfOk result (λ room. needs_sweep (image_of (D.state device)) ≡ false → Makes 32 5 2 0 (D.state device) (device_of D.state room)) }
+        ensures made_sweeping { IfOk result (λ room. needs_sweep (image_of (D.state device)) ≡ true
+            → Makes (32 + words_swept (image_of (D.state device))) (5 + lines_swept (image_of (D.state device))) 3 0 (D.state device) (device_of D.state room)) }
         ensures superblock { IfOk result (λ room. (word : ℕ) → word < 8 → IsSettledAt (device_of D.state room) word (value_of (D.state device) word)) }
         ensures slots { IfOk result (λ room. (word : ℕ) → 8 + 32 * (layout_of (image_of (D.state device))).places ≤ word → word < (D.state device).words
-            → IsSettledAt (device_of D.state room) word (value_of (D.state device) word)) }
+            → IsSettledAt (device_of D.state room) word (slice_index (opened_slots (image_of (D.state device))) word)) }
 
         // A crash at any moment leaves the same history, under the record that ruled or the one that the
         // opening writes. What was drawn and not covered is left out.
@@ -96,6 +99,7 @@ impl<D: Pmem + Drop + Send + Sync> Room<D> {
                     ruling,
                     next,
                     free,
+                    live: _,
                 },
             ) => Ok(Room {
                 alloc,

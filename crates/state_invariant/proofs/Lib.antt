@@ -11,7 +11,6 @@ pub mod Stamping
 pub mod Choosing
 pub mod Stepping
 pub mod Spelling
-pub mod OpenedGaps
 pub mod Opening
 pub mod Log
 pub mod Reading

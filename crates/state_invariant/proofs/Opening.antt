@@ -1,43 +1,29 @@
 -- An opened state keeps what every state keeps, and its slots show what it says.
 use Rattle.std.proofs.Common.{◌≡◌, ◌⊎◌, inl, inr, ℕ, ◌+◌, ◌-◌, ◌*◌, ◌^◌, ◌<◌, ◌≤◌, Bool, true, false, not, ◌&&◌, ◌||◌, List, [], ◌∷◌, ◌++◌, length, take, drop, refl, sym, ◌∙◌, ap, subst, nat_eq, cond, arith}
-use Rattle.std.specs.Prelude.{slice_index, Option, Some, None, unwrap_or, is_some, fold, nat_le, nat_lt, if◌then◌else◌, ◌↔◌}
-use Rattle.std.specs.List.{list_all, range_with_len}
-use Rattle.std.specs.Option.{option_or}
+use Rattle.std.specs.Prelude.{slice_index, Option, Some, None, unwrap_or, is_some, fold, nat_le, nat_lt, if◌then◌else◌}
+use Rattle.std.specs.List.{list_all}
 use Rattle.std.proofs.lemmas.List.{take_all, drop_all}
-use Rattle.std.proofs.lemmas.Bool.{and_parts, and_from, and_right, and_cases, or_parts, or_left, cases_order, leb-true, leb-false, ltb-false, le-leb, lt-ltb, eq-eqb, eqb-true, not-true, not-false, cond-true, cond-false, false≢true, true≢false}
+use Rattle.std.proofs.lemmas.Bool.{and_parts, and_from, and_right, and_cases, or_parts, or_left, cases_order, leb-true, leb-false, le-leb, lt-ltb, eq-eqb, not-true, not-false, cond-true, cond-false, false≢true, true≢false}
 use Rattle.base.specs.declared.key.Key.{Key}
 use Rattle.base.specs.declared.gap.Gap.{Gap}
-use Rattle.base.specs.declared.fault.Fault.{Fault}
 use Rattle.base.specs.Keys.{key_eq, lookup_key}
 use Rattle.base.specs.Commits.{Commit, Tables, overlaid, laid, no_rows, writes_key, after, last_writer}
-use Rattle.base.specs.Layout.{Layout, total_words, is_between, is_in_limits, is_known_version, opened_version}
-use Rattle.base.specs.Records.{Record, record_word, record_in, is_record, is_in, is_committed, is_well_formed, opened_gaps}
-use Rattle.base.specs.Images.{Image, layout_of, key_of, row_of, begin_of, end_of, is_shown, is_ahead, is_misfit, is_second, ShownUnder, ruling, ruling_place, place_words, greatest_gate, has_good_geometry, is_ruled, is_bad_slot, IsSound, opening_fault, needs_sweep, is_near_limit}
-use Rattle.base.specs.Search.{first_below, some_if}
+use Rattle.base.specs.Layout.{Layout, is_between, is_in_limits, is_known_version}
+use Rattle.base.specs.Records.{Record, is_in, is_committed, opened_gaps}
+use Rattle.base.specs.Images.{Image, layout_of, key_of, row_of, begin_of, end_of, is_shown, is_ahead, is_misfit, is_second, ruling, is_bad_slot, opening_fault}
+use Rattle.base.specs.Search.{first_below}
 use Rattle.base.specs.Stands.{Stands}
-use Rattle.base.specs.Openings.{IsOpenedGaps, OpensAs, opened, opened_under, held_under}
+use Rattle.base.specs.Openings.{IsOpenedGaps, OpensAs, opening_record, opened_under, held_under, gaps_kept, opened_slots}
 use Rattle.base.specs.Machine.{State, Version, BySession, ByCommit}
-use Rattle.base.proofs.Histories.{first_below-none, key_eq-same, no_bad_slot}
-use Rattle.base.proofs.GapLists.{opened-gaps, one_gap_list}
+use Rattle.base.proofs.Histories.{first_below-none, key_eq-same}
+use Rattle.base.proofs.OpenedRecords.{same-committed, formed-over, formed-parts}
+use Rattle.base.proofs.Opened.{IsOpening, ruled_before, opening-of, same_opened}
 use Rattle.state_invariant.specs.Kept.{Origin, origin_of, Keeps, HasSlot, IsInUse, wanted, version_by, last_of, commit_at, row_by, are_distinct}
 use Rattle.state_invariant.specs.Shown.{word_of, IsNever, IsHidden, IsNewest, ShowsAs, SlotsShow, class_of_version, Newest, Replaced}
 use Rattle.state_invariant.proofs.Commits.{committed-bounds}
-use Rattle.state_invariant.proofs.OpenedGaps.{record_over, same-committed_over, formed-over, formed-parts}
 use Rattle.state_invariant.proofs.Spelling.{spells-image}
 
 -- ---- what an opening finds
-
-pub record IsOpening (a : Layout) (r : Record) (image : Image) (history : List Commit) (gaps : List Gap) : Type 0 where
-  pub layout : layout_of image ≡ a
-  pub limits : is_in_limits a ≡ true
-  pub size : length image ≡ total_words a
-  pub formed : is_well_formed a.version r ≡ true
-  pub room : r.dirty + 2 * a.window < 2 ^ 62
-  pub good : (slot : ℕ) → slot < a.slots → is_bad_slot r image slot ≡ false
-  pub tables : (key : Key) (row : List ℕ) → ShownUnder r image key row ↔ (after history key ≡ Some row)
-  pub covered : list_all (λ commit. is_committed r commit.timestamp) history ≡ true
-  pub gaps_cover : IsOpenedGaps r gaps
-  pub few : length gaps ≤ 8
 
 -- what a slot is that isn't bad
 record IsGood (r : Record) (image : Image) (slot : ℕ) : Type 0 where
@@ -152,17 +138,17 @@ never-parts t persisted false h e = inl (by (nat_le 1 t) (nat_le t persisted) re
     by true false is most e = absurd (false≢true most)
     by false c is most e = let less = leb-false 1 t is in omega (arith, less)
 
-never-over : (r : Record) (window : ℕ) (gaps : List Gap) (t : ℕ) → IsOpenedGaps r gaps → t < r.dirty → is_committed r t ≡ false → (t ≡ 0) ⊎ (is_in gaps t ≡ true)
-never-over r window gaps t opened h e = never-parts t (r.dirty - 1) (is_in gaps t) (omega (arith, h)) (same-committed_over r window gaps t opened h ∙ e)
+never-over : (a : Layout) (r : Record) (gaps : List Gap) (t : ℕ) → IsOpenedGaps r gaps → t < r.dirty → is_committed r t ≡ false → (t ≡ 0) ⊎ (is_in gaps t ≡ true)
+never-over a r gaps t opened h e = never-parts t (r.dirty - 1) (is_in gaps t) (omega (arith, h)) (same-committed a r gaps t opened h ∙ e)
 
-covered-over : (r : Record) (window : ℕ) (gaps : List Gap) (history : List Commit) → IsOpenedGaps r gaps → r.persisted < r.dirty
-    → list_all (λ commit. is_committed r commit.timestamp) history ≡ true → list_all (λ commit. is_committed (record_over r window gaps) commit.timestamp) history ≡ true
-covered-over r window gaps [] opened less all = refl
-covered-over r window gaps (commit ∷ history) opened less all =
+covered-over : (a : Layout) (r : Record) (gaps : List Gap) (history : List Commit) → IsOpenedGaps r gaps → r.persisted < r.dirty
+    → list_all (λ commit. is_committed r commit.timestamp) history ≡ true → list_all (λ commit. is_committed (opening_record a r gaps) commit.timestamp) history ≡ true
+covered-over a r gaps [] opened less all = refl
+covered-over a r gaps (commit ∷ history) opened less all =
     let both = and_parts (is_committed r commit.timestamp) (list_all (λ commit. is_committed r commit.timestamp) history) all in
     let most = committed-bounds r commit.timestamp both.0 in
-    and_from (is_committed (record_over r window gaps) commit.timestamp) (list_all (λ commit. is_committed (record_over r window gaps) commit.timestamp) history)
-    (same-committed_over r window gaps commit.timestamp opened (omega (arith, most.1, less)) ∙ both.0) (covered-over r window gaps history opened less both.1)
+    and_from (is_committed (opening_record a r gaps) commit.timestamp) (list_all (λ commit. is_committed (opening_record a r gaps) commit.timestamp) history)
+    (same-committed a r gaps commit.timestamp opened (omega (arith, most.1, less)) ∙ both.0) (covered-over a r gaps history opened less both.1)
 
 -- ---- the opened state
 
@@ -202,19 +188,19 @@ module _ (a : Layout) (r : Record) (image : Image) (history : List Commit) (lost
   opened-keeps = record {
     numbers = record {
       layout = opening.limits;
-      formed = formed-over a.version r a.window gaps opening.formed opening.gaps_cover opening.few (has-window a opening.limits) (narrower r.dirty a.window (2 ^ 62) opening.room);
+      formed = formed-over a.version a r gaps opening.formed opening.gaps_cover opening.few (has-window a opening.limits) (narrower r.dirty a.window (2 ^ 62) opening.room);
       persisted = omega (arith, less);
       reserved = omega arith;
       window = omega arith;
       room = omega (arith, opening.room);
-      covered = covered-over r a.window gaps history opening.gaps_cover less opening.covered;
+      covered = covered-over a r gaps history opening.gaps_cover less opening.covered;
       drawn = refl;
       hand = λ hand is. absurd (none-some hand is);
       origin = record {
-        formed = formed-over a.version r a.window gaps opening.formed opening.gaps_cover opening.few (has-window a opening.limits) (narrower r.dirty a.window (2 ^ 62) opening.room);
+        formed = formed-over a.version a r gaps opening.formed opening.gaps_cover opening.few (has-window a opening.limits) (narrower r.dirty a.window (2 ^ 62) opening.room);
         opened = omega arith;
         further = omega arith;
-        before = ap (λ (cs : List Commit). list_all (λ commit. is_committed (record_over r a.window gaps) commit.timestamp) cs) all-taken ∙ covered-over r a.window gaps history opening.gaps_cover less opening.covered;
+        before = ap (λ (cs : List Commit). list_all (λ commit. is_committed (opening_record a r gaps) commit.timestamp) cs) all-taken ∙ covered-over a r gaps history opening.gaps_cover less opening.covered;
         since = ap (λ (cs : List Commit). list_all (λ commit. nat_lt (r.dirty - 1) commit.timestamp) cs) none-since;
         drawn = refl;
         distinct = ap are_distinct none-since;
@@ -274,7 +260,7 @@ module _ (a : Layout) (r : Record) (image : Image) (history : List Commit) (lost
   end-value slot = ap (λ (l : Layout). slice_index image (word_of l slot 1)) (sym opening.layout)
 
   never : (t : ℕ) → t < r.dirty → is_committed r t ≡ false → IsNever begins t
-  never t h e = never-over r a.window gaps t opening.gaps_cover h e
+  never t h e = never-over a r gaps t opening.gaps_cover h e
 
   shows-live : (slot : ℕ) → slot < a.slots → is_shown r image slot ≡ true → IsNewest begins start value slot (last_writer history (key_of image slot)) (key_of image slot) (row_of image slot)
   shows-live slot h live =
@@ -282,7 +268,7 @@ module _ (a : Layout) (r : Record) (image : Image) (history : List Commit) (lost
       record {
         begin = record {
           own = λ above. absurd (omega (arith, above, writer-before (key_of image slot) (row_of image slot) (live-row slot h live)));
-          earlier = λ le. ap (is_committed (record_over r a.window gaps)) (begin-value slot) ∙ same-committed_over r a.window gaps (begin_of image slot) opening.gaps_cover (good slot h).begin ∙ counts.0;
+          earlier = λ le. ap (is_committed (opening_record a r gaps)) (begin-value slot) ∙ same-committed a r gaps (begin_of image slot) opening.gaps_cover (good slot h).begin ∙ counts.0;
         };
         end = inl (subst (IsNever begins) (sym (end-value slot)) (never (end_of image slot) (good slot h).end (not-true (is_committed r (end_of image slot)) counts.1)));
         ended = λ u d found is. absurd (none-some d found);
@@ -295,8 +281,8 @@ module _ (a : Layout) (r : Record) (image : Image) (history : List Commit) (lost
       by : (is_committed r (begin_of image slot) ≡ false) ⊎ (not (is_committed r (end_of image slot)) ≡ false) → IsHidden begins start (value (word_of a slot 0)) (value (word_of a slot 1))
       by (inl unbegun) = inl (subst (IsNever begins) (sym (begin-value slot)) (never (begin_of image slot) (good slot h).begin unbegun))
       by (inr ended) = inr (λ n in_use.
-          or_left (is_committed (record_over r a.window gaps) (value (word_of a slot 1))) _
-          (ap (is_committed (record_over r a.window gaps)) (end-value slot) ∙ same-committed_over r a.window gaps (end_of image slot) opening.gaps_cover (good slot h).end ∙ not-false (is_committed r (end_of image slot)) ended))
+          or_left (is_committed (opening_record a r gaps) (value (word_of a slot 1))) _
+          (ap (is_committed (opening_record a r gaps)) (end-value slot) ∙ same-committed a r gaps (end_of image slot) opening.gaps_cover (good slot h).end ∙ not-false (is_committed r (end_of image slot)) ended))
 
   opened-shows : SlotsShow begins start value
   opened-shows = record { each = λ slot h. by slot h (is_shown r image slot) refl }
@@ -311,94 +297,16 @@ module _ (a : Layout) (r : Record) (image : Image) (history : List Commit) (lost
           (shows-live slot h live)))
       by slot h false dead = subst (λ (o : Option Version). ShowsAs begins start value slot (class_of_version begins start o)) (sym (held-none a r image history slot dead)) (shows-dead slot h dead)
 
--- ---- what the image says
-
-known-one : (version : ℕ) → is_known_version version ≡ true → opened_version version ≡ version
-known-one version known =
-    let both = and_parts (nat_le 1 version) (nat_le version 1) known in
-    let one : 1 ≡ version = omega (arith, leb-true 1 version both.0, leb-true version 1 both.1) in
-    subst (λ (v : ℕ). opened_version v ≡ v) one refl
-
-same_opened : (image : Image) (history : List Commit) (lost : List ℕ) (gaps : List Gap) → is_known_version (layout_of image).version ≡ true
-    → opened_under (layout_of image) (ruling image) image history lost gaps ≡ opened image history lost gaps
-same_opened image history lost gaps known = ap (λ (v : ℕ). opened_under (record (layout_of image) { version = v }) (ruling image) image history lost gaps) (sym (known-one (layout_of image).version known))
-
-size-of : (image : Image) → has_good_geometry image ≡ true → (is_in_limits (layout_of image) ≡ true) × (length image ≡ total_words (layout_of image))
-size-of image good =
-    let limits : Bool = is_in_limits (layout_of image) in
-    let total : Bool = nat_eq (slice_index image 5) (total_words (layout_of image)) in
-    let size : Bool = nat_eq (length image) (slice_index image 5) in
-    let rest : Bool = nat_eq (slice_index image 6) 0 in
-    let three = and_parts (limits && total) size (and_parts (limits && total && size) rest (and_parts (limits && total && size && rest) (nat_eq (slice_index image 7) 0) good).0).0 in
-    let two = and_parts limits total three.0 in
-    (two.0, eqb-true (length image) (slice_index image 5) three.1 ∙ eqb-true (slice_index image 5) (total_words (layout_of image)) two.1)
-
-or-none : {X : Type 0} → (a b : Option X) → option_or a b ≡ None → (a ≡ None) × (b ≡ None)
-or-none None b e = (refl, e)
-or-none (Some x) b e = cc
-
-some_if-none : (b : Bool) (fault : Fault) → some_if b fault ≡ None → b ≡ false
-some_if-none true fault e = cc
-some_if-none false fault e = refl
-
-formed-record : (version : ℕ) (words : List ℕ) → is_record version words ≡ true → is_well_formed version (record_in words) ≡ true
-formed-record version words e =
-    (and_parts (nat_eq (length words) 32 && list_all (λ w. nat_eq (slice_index words w) (record_word (record_in words) w)) (range_with_len 0 32)) (is_well_formed version (record_in words)) e).1
-
--- what the fields of a sound image are
-record IsWhole (image : Image) : Type 0 where
-  known : is_known_version (layout_of image).version ≡ true
-  geometry : has_good_geometry image ≡ true
-  ruled : is_ruled image ≡ true
-
-whole-of : (image : Image) → IsSound image → IsWhole image
-whole-of image sound =
-    let a = or-none _ _ sound in
-    let b = or-none _ _ a.1 in
-    let c = or-none _ _ b.1 in
-    let d = or-none _ _ c.1 in
-    let e = or-none _ _ d.1 in
-    record {
-      known = not-false (is_known_version (layout_of image).version) (some_if-none (not (is_known_version (layout_of image).version)) _ b.0);
-      geometry = not-false (has_good_geometry image) (some_if-none (not (has_good_geometry image)) _ c.0);
-      ruled = not-false (is_ruled image) (some_if-none (not (is_ruled image)) _ e.0);
-    }
-
-opening-of : (image : Image) (history drawn : List Commit) (next : ℕ) (gaps : List Gap) → opening_fault image ≡ None → Stands image history drawn next → IsOpenedGaps (ruling image) gaps
-    → IsOpening (layout_of image) (ruling image) image history gaps
-opening-of image history drawn next gaps opens stands covers =
-    let whole = whole-of image stands.sound in
-    let size = size-of image whole.geometry in
-    let formed : is_well_formed (layout_of image).version (ruling image) ≡ true =
-    formed-record (layout_of image).version (place_words image (ruling_place image)) (and_parts (not (nat_eq (greatest_gate image) 0)) (is_record (layout_of image).version (place_words image (ruling_place image))) whole.ruled).1 in
-    let a = or-none _ _ opens in
-    let b = or-none _ _ a.1 in
-    let c = or-none _ _ b.1 in
-    let limit = or_parts (nat_le (2 ^ 62) ((ruling image).dirty + 2 * (layout_of image).window)) (nat_le (2 ^ 62) ((ruling image).gate + 1)) (some_if-none (is_near_limit image) _ b.0) in
-    let same : opened_gaps (ruling image) ≡ gaps = one_gap_list (ruling image) (opened_gaps (ruling image)) gaps (opened-gaps (layout_of image).version (ruling image) formed) covers in
-    record {
-      layout = refl;
-      limits = size.0;
-      size = size.1;
-      formed = formed;
-      room = leb-false (2 ^ 62) ((ruling image).dirty + 2 * (layout_of image).window) limit.0;
-      good = λ slot h. no_bad_slot image stands.sound slot h;
-      tables = stands.tables;
-      covered = stands.covered;
-      gaps_cover = covers;
-      few = subst (λ (gs : List Gap). length gs ≤ 8) same (ltb-false 8 (length (opened_gaps (ruling image))) (some_if-none (needs_sweep image) _ c.0));
-    }
-
 -- ---- the theorems
 
 pub keeps-opened : (image : Image) (history drawn : List Commit) (next : ℕ) (lost : List ℕ) (q : State) → opening_fault image ≡ None → Stands image history drawn next → OpensAs image history lost q
     → Keeps (origin_of q) q
 keeps-opened image history drawn next lost q opens stands (gaps, covers, is) =
-    subst (λ (p : State). Keeps (origin_of p) p) (same_opened image history lost gaps (whole-of image stands.sound).known ∙ sym is)
-    (opened-keeps (layout_of image) (ruling image) image history lost gaps (opening-of image history drawn next gaps opens stands covers))
+    subst (λ (p : State). Keeps (origin_of p) p) (same_opened image history lost gaps stands.sound covers ∙ sym is)
+    (opened-keeps (layout_of image) (ruled_before image) (opened_slots image) history lost (gaps_kept (opened_gaps (ruling image))) (opening-of image history drawn next opens stands))
 
 pub shows-opened : (image : Image) (history drawn : List Commit) (next : ℕ) (lost : List ℕ) (q : State) → opening_fault image ≡ None → Stands image history drawn next → OpensAs image history lost q
-    → SlotsShow (origin_of q) q (slice_index image)
+    → SlotsShow (origin_of q) q (slice_index (opened_slots image))
 shows-opened image history drawn next lost q opens stands (gaps, covers, is) =
-    subst (λ (p : State). SlotsShow (origin_of p) p (slice_index image)) (same_opened image history lost gaps (whole-of image stands.sound).known ∙ sym is)
-    (opened-shows (layout_of image) (ruling image) image history lost gaps (opening-of image history drawn next gaps opens stands covers))
+    subst (λ (p : State). SlotsShow (origin_of p) p (slice_index (opened_slots image))) (same_opened image history lost gaps stands.sound covers ∙ sym is)
+    (opened-shows (layout_of image) (ruled_before image) (opened_slots image) history lost (gaps_kept (opened_gaps (ruling image))) (opening-of image history drawn next opens stands))

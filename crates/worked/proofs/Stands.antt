@@ -9,7 +9,7 @@ use Rattle.base.specs.Commits.{after}
 use Rattle.base.specs.Images.{TablesOf, ruling}
 use Rattle.base.specs.Stands.{Stands}
 use Rattle.base.specs.Openings.{IsOpenedGaps}
-use Rattle.worked.specs.Images.{formatted_image, covered_image, commit_1, key_7 as k, FirstRunImages, DamagedImages, ReadImages, LongCommits}
+use Rattle.worked.specs.Images.{formatted_image, covered_image, commit_1, key_7 as k, FirstRunImages, DamagedImages, NinthGap, ReadImages, LongCommits}
 
 -- one slot of the four shows the row
 forth : (key : Key) (row : List ℕ) → TablesOf covered_image key row → after (commit_1 ∷ []) key ≡ Some row
@@ -68,7 +68,10 @@ first_run = record {
 }
 
 pub damaged : DamagedImages
-damaged = record { format = refl; row = refl; opening = refl; gaps = refl; cut_short = refl }
+damaged = record { format = refl; row = refl; opening = refl; cut_short = refl }
+
+pub ninth : NinthGap
+ninth = record { opens = refl; sweeps = refl; swept = refl; words = refl; lines = refl; kept = refl; gaps = refl }
 
 pub read : ReadImages
 read = record { ended = refl; half_written = (refl, refl, refl); largest = (refl, refl, refl) }

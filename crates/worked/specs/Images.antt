@@ -1,15 +1,15 @@
 -- Worked images of four slots, two places and a window of eight: their words, and what is wrong with changed ones.
-use Rattle.std.specs.Prelude.{ℕ, ◌≡◌, Bool, true, false, List, [], ◌∷◌, ◌++◌, map, take, replicate, slice_set, Option, Some, None}
+use Rattle.std.specs.Prelude.{ℕ, ◌≡◌, Bool, true, false, List, [], ◌∷◌, ◌++◌, length, map, take, replicate, slice_set, Option, Some, None}
 use Rattle.std.specs.List.{range_with_len}
 use Rattle.base.specs.declared.key.Key.{Key}
 use Rattle.base.specs.declared.gap.Gap.{Gap}
 use Rattle.base.specs.declared.fault.Fault.{Fault}
-use Rattle.base.specs.declared.fault.Fault.TheVariants.{BadGeometry, NotFormatted, Damaged, Version, TimestampsOut, GapsFull}
+use Rattle.base.specs.declared.fault.Fault.TheVariants.{BadGeometry, NotFormatted, Damaged, Version, TimestampsOut}
 use Rattle.base.specs.Commits.{Commit}
-use Rattle.base.specs.Records.{Record, record_word, is_well_formed, is_committed}
-use Rattle.base.specs.Images.{Image, damage, opening_fault, ruling, place_words, is_live, key_of, row_of, superblock_word}
+use Rattle.base.specs.Records.{Record, record_word, is_well_formed, is_committed, opened_gaps}
+use Rattle.base.specs.Images.{Image, damage, opening_fault, needs_sweep, ruling, place_words, is_live, key_of, row_of, superblock_word}
 use Rattle.base.specs.Stands.{Stands}
-use Rattle.base.specs.Openings.{IsOpenedGaps}
+use Rattle.base.specs.Openings.{IsOpenedGaps, gaps_kept, opened_slots, words_swept, lines_swept}
 
 -- words by number, each with its value
 abbrev pub Words : Type 0
@@ -149,13 +149,20 @@ changed_opening =
 abbrev pub eight_gaps : Words
 eight_gaps = (43, 8) ∷ (44, 1) ∷ (45, 1) ∷ (46, 3) ∷ (47, 3) ∷ (48, 5) ∷ (49, 5) ∷ (50, 7) ∷ (51, 7) ∷ (52, 9) ∷ (53, 9) ∷ (54, 11) ∷ (55, 11) ∷ (56, 13) ∷ (57, 13) ∷ (58, 15) ∷ (59, 15) ∷ []
 
--- an opening would add a ninth gap; one that is joined to the eighth; none, since no timestamp is skipped
-abbrev pub ninth_gap : Table
-ninth_gap =
-    ((41, 17) ∷ (42, 20) ∷ eight_gaps, Some GapsFull)
-    ∷ ((41, 15) ∷ (42, 20) ∷ eight_gaps, None)
-    ∷ ((41, 17) ∷ (42, 18) ∷ eight_gaps, None)
-    ∷ []
+-- an opening adds a ninth gap; one that is joined to the eighth; none, since no timestamp is skipped
+abbrev pub ninth_gap_image : Image
+ninth_gap_image = with_words ((41, 17) ∷ (42, 20) ∷ eight_gaps) formatted_image
+
+abbrev pub joined_gap_image : Image
+joined_gap_image = with_words ((41, 15) ∷ (42, 20) ∷ eight_gaps) formatted_image
+
+abbrev pub eight_gaps_image : Image
+eight_gaps_image = with_words ((41, 17) ∷ (42, 18) ∷ eight_gaps) formatted_image
+
+-- Slot 0 begins in the third gap, slot 1 begins at 2 and ends in the ninth, slot 2 begins at 4 and ends at 6, and slot 3
+-- lies in gaps with both
+abbrev pub marked_words : Words
+marked_words = (72, 5) ∷ (74, 5) ∷ (80, 2) ∷ (81, 19) ∷ (82, 7) ∷ (88, 4) ∷ (89, 6) ∷ (96, 1) ∷ (97, 15) ∷ []
 
 -- records 4 and 5 of three covered keys, with half of record 6 stored over the body of record 4, and key 4 stamped
 abbrev pub half_written_image : Image
@@ -172,8 +179,18 @@ pub record DamagedImages : Type 0 where
   pub format : IsTable damage formatted_image changed_format
   pub row : IsTable damage one_row_image changed_row
   pub opening : IsTable opening_fault formatted_image changed_opening
-  pub gaps : IsTable opening_fault formatted_image ninth_gap
   pub cut_short : map (λ n. damage (take n formatted_image)) (range_with_len 0 105) ≡ replicate 8 (Some NotFormatted) ++ replicate 96 (Some BadGeometry) ++ None ∷ []
+
+-- An image with a ninth gap opens, and is swept: 0 is stored in the begins and the ends that lie in a gap. With eight gaps
+-- none is
+pub record NinthGap : Type 0 where
+  pub opens : map opening_fault (ninth_gap_image ∷ joined_gap_image ∷ eight_gaps_image ∷ []) ≡ None ∷ None ∷ None ∷ []
+  pub sweeps : map needs_sweep (ninth_gap_image ∷ joined_gap_image ∷ eight_gaps_image ∷ []) ≡ true ∷ false ∷ false ∷ []
+  pub swept : opened_slots (with_words marked_words ninth_gap_image) ≡ with_words ((72, 0) ∷ (81, 0) ∷ (96, 0) ∷ (97, 0) ∷ []) (with_words marked_words ninth_gap_image)
+  pub words : words_swept (with_words marked_words ninth_gap_image) ≡ 4
+  pub lines : lines_swept (with_words marked_words ninth_gap_image) ≡ 3
+  pub kept : opened_slots (with_words marked_words joined_gap_image) ≡ with_words marked_words joined_gap_image
+  pub gaps : map (λ image. length (gaps_kept (opened_gaps (ruling image)))) (ninth_gap_image ∷ joined_gap_image ∷ eight_gaps_image ∷ []) ≡ 0 ∷ 8 ∷ 8 ∷ []
 
 -- words that are read, and words that aren't
 pub record ReadImages : Type 0 where

@@ -1,7 +1,7 @@
 //! Worked examples as theorems. The functions do nothing: the contract of each says what its title promises.
 #![tactic(auto)]
 
-ghost use Rattle.worked.specs.Images.{FirstRunImages, DamagedImages, ReadImages, LongCommits};
+ghost use Rattle.worked.specs.Images.{FirstRunImages, DamagedImages, NinthGap, ReadImages, LongCommits};
 ghost use Rattle.worked.specs.Runs.{FirstCommit, FailedFence, LostCommit, EmptyWriteSet, HalfWritten, CloseThenOpen, Restricted, OwnWrites, Update, TwoKeys, AbortedWrites, FullWriteSet, NoSlotLeft, FirstCommitterWins, NoTimestampLeft};
 
 /// The words of the images of a first run, and what they stand for.
@@ -12,6 +12,11 @@ pub fn first_run_images()
 /// Which fault each damaged image gives.
 pub fn damaged_images()
     ensures { DamagedImages }
+{}
+
+/// An image with a ninth gap opens, and is swept before.
+pub fn ninth_gap()
+    ensures { NinthGap }
 {}
 
 /// A body that isn't the ruling record's is never read; rows and keys of every size are.

@@ -1,8 +1,8 @@
-use Rattle.std.proofs.Common.{inl, ◌≡◌, true, false, refl, sym, ◌∙◌}
+use Rattle.std.proofs.Common.{inl, sym, ◌∙◌}
 use Rattle.pmem.specs.Words.{image_of}
 use Rattle.log_area.proofs.AtRest.{fits_image}
-use Rattle.recovery.proofs.Lives.{refuses-log, formed-new, formed-parts, under, window-small, refuses-slots, refuses-limit, refuses-full, examined, ruled-size}
-use Rattle.recovery.proofs.WhatIsRead.{tells-later}
+use Rattle.recovery.proofs.Lives.{refuses-log, formed-new, formed-parts, under, window-small, refuses-slots, refuses-limit, refuses-memory, examined, ruled-size}
+use Rattle.recovery.proofs.WhatIsRead.{tells-later, under-own}
 use Rattle.recovery.proofs.examine.examine.Goals as goal
 
 pub returns-in-Err-clause-fault : goal.returns-in-Err-clause-fault
@@ -31,18 +31,23 @@ pub returns-then-is_near_limit-clause-fault : goal.returns-then-is_near_limit-cl
 returns-then-is_near_limit-clause-fault g c =
     refuses-limit c.in-Ok.found.geometry c.in-Ok.found.target (image_of (g.D.Pmem.state c.args.device.now)) c.in-Ok.ensures.ok c.in-Ok-free_slots.ensures.good (sym c.is_near_limit.ensures ∙ c.if-is_near_limit.true)
 
+pub live_slots-requires-clause-size : goal.live_slots-requires-clause-size
+live_slots-requires-clause-size g c = ruled-size (g.D.Pmem.state c.args.device.now) c.in-Ok.found.geometry c.in-Ok.found.target c.in-Ok.ensures.ok
+
+pub live_slots-requires-clause-under : goal.live_slots-requires-clause-under
+live_slots-requires-clause-under g c =
+    under-own c.in-Ok.found.geometry c.in-Ok.found.target (image_of (g.D.Pmem.state c.args.device.now)) (under c.in-Ok.found.geometry c.in-Ok.found.target (image_of (g.D.Pmem.state c.args.device.now)) c.in-Ok.ensures.ok)
+
+pub returns-in-Err-live_slots-clause-fault : goal.returns-in-Err-live_slots-clause-fault
+returns-in-Err-live_slots-clause-fault g c = refuses-memory c.in-Ok.found.geometry c.in-Ok.found.target (image_of (g.D.Pmem.state c.args.device.now)) c.in-Ok.ensures.ok
+
 pub opened_gaps-requires : goal.opened_gaps-requires
 opened_gaps-requires g c = formed-new c.in-Ok.found.geometry c.in-Ok.found.target (image_of (g.D.Pmem.state c.args.device.now)) c.in-Ok.ensures.ok
 
-pub returns-in-Ok-opened_gaps-clause-ok : goal.returns-in-Ok-opened_gaps-clause-ok
-returns-in-Ok-opened_gaps-clause-ok g c =
+pub returns-clause-ok : goal.returns-clause-ok
+returns-clause-ok g c =
     examined c.in-Ok.found.geometry c.in-Ok.found.target (image_of (g.D.Pmem.state c.args.device.now)) c.in-Ok.ensures.ok c.in-Ok-free_slots.ensures.good (sym c.is_near_limit.ensures ∙ c.if-is_near_limit.false)
-    (c.in-Ok-opened_gaps.ensures.fits.0 refl) c.in-Ok-opened_gaps.gaps c.in-Ok-opened_gaps.ensures.ok c.in-Ok-free_slots.free.items c.in-Ok-free_slots.ensures.free
-
-pub returns-in-Err-opened_gaps-clause-fault : goal.returns-in-Err-opened_gaps-clause-fault
-returns-in-Err-opened_gaps-clause-fault g c =
-    refuses-full c.in-Ok.found.geometry c.in-Ok.found.target (image_of (g.D.Pmem.state c.args.device.now)) c.in-Ok.ensures.ok c.in-Ok-free_slots.ensures.good (sym c.is_near_limit.ensures ∙ c.if-is_near_limit.false)
-    c.in-Err-opened_gaps.fault c.in-Err-opened_gaps.ensures.fault (λ few. let never : false ≡ true = c.in-Err-opened_gaps.ensures.fits.1 few in cc)
+    c.opened_gaps.result c.opened_gaps.ensures c.in-Ok-free_slots.free.items c.in-Ok-free_slots.ensures.free c.in-Ok-live_slots.live.items c.in-Ok-live_slots.ensures
 
 pub returns-in-Err-clause-log : goal.returns-in-Err-clause-log
 returns-in-Err-clause-log g c = inl c.in-Err.ensures.fault
@@ -53,5 +58,5 @@ returns-in-Err-free_slots-clause-log g c = tells-later c.in-Ok.found.geometry c.
 pub returns-then-is_near_limit-clause-log : goal.returns-then-is_near_limit-clause-log
 returns-then-is_near_limit-clause-log g c = tells-later c.in-Ok.found.geometry c.in-Ok.found.target (image_of (g.D.Pmem.state c.args.device.now)) c.in-Ok.ensures.ok _
 
-pub returns-in-Err-opened_gaps-clause-log : goal.returns-in-Err-opened_gaps-clause-log
-returns-in-Err-opened_gaps-clause-log g c = tells-later c.in-Ok.found.geometry c.in-Ok.found.target (image_of (g.D.Pmem.state c.args.device.now)) c.in-Ok.ensures.ok c.in-Err-opened_gaps.fault
+pub returns-in-Err-live_slots-clause-log : goal.returns-in-Err-live_slots-clause-log
+returns-in-Err-live_slots-clause-log g c = tells-later c.in-Ok.found.geometry c.in-Ok.found.target (image_of (g.D.Pmem.state c.args.device.now)) c.in-Ok.ensures.ok _

@@ -1,28 +1,31 @@
 use Rattle.std.proofs.Common.{◌+◌, ◌*◌, ◌≤◌, List, Bool, length, refl, sym, ◌∙◌, ap, subst, arith}
 use Rattle.base.specs.Layout.{Layout}
-use Rattle.room.proofs.Opening.{shows-opened, free-counted}
+use Rattle.room.proofs.Opening.{shows-opened, free-counted, no-failure}
 use Rattle.room.proofs.room.Room.open.Goals as goal
 
 pub invariant_of-result-in-Ok : goal.invariant_of-result-in-Ok
 invariant_of-result-in-Ok g c = record {
   whole = c.in-Ok.ensures.ok.holds.stands.size;
-  counted = ap (λ (l : List Bool). length l) c.new.ensures ∙ free-counted _ _ _ _ _ _ c.in-Ok.ensures.ok;
+  counted = ap (λ (l : List Bool). length l) c.new.ensures ∙ free-counted _ _ _ _ _ _ _ c.in-Ok.ensures.ok;
   fits = refl;
   in_hand = refl;
   touches = refl;
 }
 
 pub returns-in-Ok-clause-ok : goal.returns-in-Ok-clause-ok
-returns-in-Ok-clause-ok g c = λ history drawn next lost stands. shows-opened g.D.Pmem.state _ _ _ history drawn next lost c.in-Ok.ensures.ok c.new.ensures refl refl refl refl stands
+returns-in-Ok-clause-ok g c = λ history drawn next lost stands. shows-opened g.D.Pmem.state _ _ _ _ history drawn next lost c.in-Ok.ensures.ok c.new.ensures refl refl refl refl stands
 
 pub returns-in-Ok-clause-may_open : goal.returns-in-Ok-clause-may_open
 returns-in-Ok-clause-may_open g c = c.in-Ok.ensures.ok.opens
 
 pub returns-in-Ok-clause-no_failure : goal.returns-in-Ok-clause-no_failure
-returns-in-Ok-clause-no_failure g c = omega (arith, c.in-Ok.ensures.ok.made.failures_made)
+returns-in-Ok-clause-no_failure g c = no-failure _ _ _ _ _ _ _ c.in-Ok.ensures.ok
 
 pub returns-in-Ok-clause-made : goal.returns-in-Ok-clause-made
 returns-in-Ok-clause-made g c = c.in-Ok.ensures.ok.made
+
+pub returns-in-Ok-clause-made_sweeping : goal.returns-in-Ok-clause-made_sweeping
+returns-in-Ok-clause-made_sweeping g c = c.in-Ok.ensures.ok.made_sweeping
 
 pub returns-in-Ok-clause-superblock : goal.returns-in-Ok-clause-superblock
 returns-in-Ok-clause-superblock g c = c.in-Ok.ensures.ok.superblock
@@ -34,8 +37,8 @@ returns-in-Ok-clause-slots g c = λ word past within.
 pub returns-in-Ok-clause-images : goal.returns-in-Ok-clause-images
 returns-in-Ok-clause-images g c = c.in-Ok.ensures.images
 
-pub returns-in-Err-clause-fault : goal.returns-in-Err-clause-fault
-returns-in-Err-clause-fault g c = c.in-Err.ensures.fault
+pub returns-clause-fault : goal.returns-clause-fault
+returns-clause-fault g c = c.in-Err.ensures.fault
 
-pub returns-in-Err-clause-images : goal.returns-in-Err-clause-images
-returns-in-Err-clause-images g c = c.in-Err.ensures.images
+pub returns-clause-images : goal.returns-clause-images
+returns-clause-images g c = c.in-Err.ensures.images

@@ -1,0 +1,69 @@
+use Rattle.std.proofs.Common.{◌≡◌, ℕ, ◌∙◌, subst, arith}
+use Rattle.pmem.specs.Words.{image_of}
+use Rattle.pmem.proofs.Runs.{keeps-fenced, keeps-failed}
+use Rattle.recovery.proofs.Lives.{formed-new, wide-new, ruled-size}
+use Rattle.recovery.proofs.SweptSlots.{IsSweptUpTo, swept-none, swept-more, swept-error, swept-rests, swept-image, swept-made}
+use Rattle.recovery.proofs.sweeping.sweep.Goals as goal
+
+pub sweep_slot-requires-clause-formed : goal.sweep_slot-requires-clause-formed
+sweep_slot-requires-clause-formed g c = formed-new c.args.geometry c.args.ruling (image_of (g.D.Pmem.state c.args.device.now)) c.requires.rules
+
+pub sweep_slot-requires-clause-size : goal.sweep_slot-requires-clause-size
+sweep_slot-requires-clause-size g c =
+    c.loop-slot.invariant.kept.images.continues.same_words ∙ ruled-size (g.D.Pmem.state c.args.device.now) c.args.geometry c.args.ruling c.requires.rules
+
+pub loop-slot-init : goal.loop-slot-init
+loop-slot-init g c =
+    let start = g.D.Pmem.state c.args.device.now in
+    swept-none c.args.geometry c.args.ruling start (wide-new c.args.geometry c.args.ruling (image_of start) c.requires.rules) (g.met.D.Pmem.orderly c.args.device.now)
+
+pub returns-in_err-sweep_slot-clause-kept : goal.returns-in_err-sweep_slot-clause-kept
+returns-in_err-sweep_slot-clause-kept g c =
+    let start = g.D.Pmem.state c.args.device.now in
+    let rules = c.requires.rules in
+    swept-error c.args.geometry c.args.ruling start (wide-new c.args.geometry c.args.ruling (image_of start) rules) rules (ruled-size start c.args.geometry c.args.ruling rules)
+    c.loop-slot.slot (omega (arith, c.loop-slot-test.true, c.slots-slot-end.ensures.value)) (g.D.Pmem.state c.loop-slot.device) c.loop-slot.invariant (g.D.Pmem.state c.sweep_slot.new.device) c.in_err-sweep_slot.ensures.kept
+
+pub loop-slot-preserved : goal.loop-slot-preserved
+loop-slot-preserved g c =
+    let start = g.D.Pmem.state c.args.device.now in
+    let rules = c.requires.rules in
+    swept-more c.args.geometry c.args.ruling start (wide-new c.args.geometry c.args.ruling (image_of start) rules) rules (ruled-size start c.args.geometry c.args.ruling rules)
+    c.loop-slot.slot (omega (arith, c.loop-slot-test.true, c.slots-slot-end.ensures.value)) (g.D.Pmem.state c.loop-slot.device) c.loop-slot.invariant (g.D.Pmem.state c.sweep_slot.new.device) c.in_ok-sweep_slot.ensures.ok c.in_ok-sweep_slot.ensures.kept
+
+pub returns-in_err-fence-clause-kept : goal.returns-in_err-fence-clause-kept
+returns-in_err-fence-clause-kept g c =
+    let orderly = g.met.D.Pmem.orderly in
+    keeps-failed (orderly c.loop-slot.device) (orderly c.fence.new.self) c.loop-slot.invariant.kept c.in_err-fence.ensures.err
+
+pub returns-clause-kept : goal.returns-clause-kept
+returns-clause-kept g c =
+    let orderly = g.met.D.Pmem.orderly in
+    keeps-fenced 0 (orderly c.loop-slot.device) (orderly c.fence.new.self) c.loop-slot.invariant.kept c.in_ok-fence.ensures.ok
+
+pub returns-clause-rest : goal.returns-clause-rest
+returns-clause-rest g c =
+    let start = g.D.Pmem.state c.args.device.now in
+    let rules = c.requires.rules in
+    let done : c.loop-slot.slot ≡ c.args.geometry.slots = omega (arith, c.loop-slot-test.false, c.loop-slot.auto.slot-end, c.slots-slot-end.ensures.value) in
+    let inv = subst (λ (n : ℕ). IsSweptUpTo c.args.geometry c.args.ruling start n (g.D.Pmem.state c.loop-slot.device)) done c.loop-slot.invariant in
+    swept-rests c.args.geometry c.args.ruling start (wide-new c.args.geometry c.args.ruling (image_of start) rules) rules (ruled-size start c.args.geometry c.args.ruling rules) c.requires.at_rest
+    (g.D.Pmem.state c.loop-slot.device) (g.D.Pmem.state c.fence.new.self) inv c.in_ok-fence.ensures.ok
+
+pub returns-clause-image : goal.returns-clause-image
+returns-clause-image g c =
+    let start = g.D.Pmem.state c.args.device.now in
+    let rules = c.requires.rules in
+    let done : c.loop-slot.slot ≡ c.args.geometry.slots = omega (arith, c.loop-slot-test.false, c.loop-slot.auto.slot-end, c.slots-slot-end.ensures.value) in
+    let inv = subst (λ (n : ℕ). IsSweptUpTo c.args.geometry c.args.ruling start n (g.D.Pmem.state c.loop-slot.device)) done c.loop-slot.invariant in
+    swept-image c.args.geometry c.args.ruling start (wide-new c.args.geometry c.args.ruling (image_of start) rules) rules (ruled-size start c.args.geometry c.args.ruling rules) c.requires.at_rest
+    (g.D.Pmem.state c.loop-slot.device) (g.D.Pmem.state c.fence.new.self) inv c.in_ok-fence.ensures.ok
+
+pub returns-clause-made : goal.returns-clause-made
+returns-clause-made g c =
+    let start = g.D.Pmem.state c.args.device.now in
+    let rules = c.requires.rules in
+    let done : c.loop-slot.slot ≡ c.args.geometry.slots = omega (arith, c.loop-slot-test.false, c.loop-slot.auto.slot-end, c.slots-slot-end.ensures.value) in
+    let inv = subst (λ (n : ℕ). IsSweptUpTo c.args.geometry c.args.ruling start n (g.D.Pmem.state c.loop-slot.device)) done c.loop-slot.invariant in
+    swept-made c.args.geometry c.args.ruling start (wide-new c.args.geometry c.args.ruling (image_of start) rules) rules (ruled-size start c.args.geometry c.args.ruling rules) c.requires.at_rest
+    (g.D.Pmem.state c.loop-slot.device) (g.D.Pmem.state c.fence.new.self) inv c.in_ok-fence.ensures.ok

@@ -1,0 +1,13 @@
+-- The live slots of an image.
+use Rattle.std.specs.Prelude.{ℕ, List, [], ◌∷◌, flat_map, if◌then◌else◌}
+use Rattle.std.specs.List.{range_with_len}
+use Rattle.base.specs.Images.{Image, ruling, key_of, begin_of, is_shown}
+use Rattle.recovery.specs.declared.rows.LiveSlot.{LiveSlot}
+
+-- a slot, with its key and its begin
+abbrev pub live_at : Image → ℕ → LiveSlot
+live_at image slot = record { key = key_of image slot; slot = slot; begin = begin_of image slot }
+
+-- the live ones below a number, in order
+unfoldable pub live_below : Image → ℕ → List LiveSlot
+live_below image n = flat_map (λ slot. if is_shown (ruling image) image slot then live_at image slot ∷ [] else []) (range_with_len 0 n)

@@ -1,0 +1,36 @@
+-- What a sweep makes of a device, word by word.
+use Rattle.std.specs.Prelude.{◌≡◌, ℕ, ◌+◌, ◌/◌, Bool, ◌&&◌, ◌||◌, if◌then◌else◌, IsTrue}
+use Rattle.base.specs.Layout.{Layout}
+use Rattle.base.specs.Records.{Record, is_in, opened_gaps}
+use Rattle.base.specs.Openings.{is_mark}
+use Rattle.pmem.specs.Device.{Device, stored, flushed}
+use Rattle.pmem.specs.Words.{value_of}
+
+-- the timestamp lies in a gap with which an opening goes on after the record
+abbrev pub lies : Record → ℕ → Bool
+lies r t = is_in (opened_gaps r) t
+
+-- 0, stored over such a timestamp in this word
+pub record IsZeroed (r : Record) (at : ℕ) (old : Device) (word x : ℕ) : Type 0 where
+  pub there : word ≡ at
+  pub lay : IsTrue (lies r (value_of old word))
+  pub zero : x ≡ 0
+
+-- the word is a begin or an end, and its timestamp lies in a gap
+abbrev pub is_hit : Layout → Record → Device → ℕ → Bool
+is_hit a r device word = is_mark a word && lies r (value_of device word)
+
+-- 0, stored over a timestamp in such a word
+pub record IsSwept (a : Layout) (r : Record) (old : Device) (word x : ℕ) : Type 0 where
+  pub hit : IsTrue (is_hit a r old word)
+  pub zero : x ≡ 0
+
+-- 0 is stored in the word where it lies in a gap
+abbrev pub zeroed : Record → ℕ → Device → Device
+zeroed r word device = if lies r (value_of device word) then stored word 0 device else device
+
+-- the begin and the end at these words are swept, and their line is flushed where one was
+abbrev pub cleaned : Record → ℕ → Device → Device
+cleaned r start device =
+    if lies r (value_of device start) || lies r (value_of (zeroed r start device) (start + 1))
+    then flushed 0 (start / 8) (zeroed r (start + 1) (zeroed r start device)) else zeroed r (start + 1) (zeroed r start device)

@@ -1,0 +1,74 @@
+ghost use Rattle.std.specs.Prelude.{◌≡◌, ◌+◌, ◌<◌, IsTrue, IfOk, IfErr, OnOk, OnErr, ◌||◌, if◌then◌else◌};
+ghost use Rattle.base.specs.Layout.{newest_version, slot_start, total_words};
+ghost use Rattle.base.specs.Records.{is_well_formed};
+ghost use Rattle.base.specs.Images.{IsRuledBy};
+ghost use Rattle.base.specs.Openings.{swept, words_swept, lines_swept};
+ghost use Rattle.pmem.specs.Words.{value_of, image_of, IsAtRest, Keeps, OldOr, Makes};
+ghost use Rattle.recovery.specs.Sweeping.{lies, IsZeroed, IsSwept, zeroed, cleaned};
+
+use crate::gaps::lies_in_gap;
+use base::actor::Actor;
+use base::fault::Fault;
+use base::geometry::Geometry;
+use log_area::Record;
+use pmem::Pmem;
+
+/// Stores 0 in each begin and each end that lies in a gap with which the image is opened, flushes the lines of these
+/// slots, and waits until that persists.
+pub fn sweep<D: Pmem>(device: &mut D, geometry: Geometry, ruling: Record) -> Result<(), Fault>
+    requires at_rest { IsAtRest (D.state device.old) }
+    requires rules { IsRuledBy geometry ruling (image_of (D.state device.old)) }
+    ensures fault { IfErr result (λ fault. fault ≡ Fault.Device) }
+    ensures failed { OnErr result ((D.state device.new).failures ≡ (D.state device.old).failures + 1) }
+    ensures kept { Keeps (D.state device.old) (D.state device.new) (OldOr (D.state device.old) (IsSwept geometry ruling (D.state device.old))) }
+    ensures rest { OnOk result (IsAtRest (D.state device.new)) }
+    ensures image { OnOk result (image_of (D.state device.new) ≡ swept (image_of (D.state device.old))) }
+    ensures made { OnOk result (Makes (words_swept (image_of (D.state device.old))) (lines_swept (image_of (D.state device.old))) 1 0 (D.state device.old) (D.state device.new)) }
+{
+    for slot in 0..geometry.slots() {
+        sweep_slot(device, geometry, ruling, slot)?;
+    }
+    device.fence(Actor::COMMITTER)?;
+    Ok(())
+}
+
+// Stores 0 in the begin and in the end of a slot where they lie in a gap, and then flushes its line.
+fn sweep_slot<D: Pmem>(
+    device: &mut D,
+    geometry: Geometry,
+    ruling: Record,
+    slot: u64,
+) -> Result<(), Fault>
+    requires formed { IsTrue (is_well_formed newest_version ruling) }
+    requires size { (D.state device.old).words ≡ total_words geometry }
+    requires slot { slot < geometry.slots }
+    ensures fault { IfErr result (λ fault. fault ≡ Fault.Device) }
+    ensures failed { OnErr result ((D.state device.new).failures ≡ (D.state device.old).failures + 1) }
+    ensures kept { Keeps (D.state device.old) (D.state device.new) (OldOr (D.state device.old) (IsSwept geometry ruling (D.state device.old))) }
+    ensures ok { OnOk result (D.state device.new ≡ cleaned ruling (slot_start geometry slot) (D.state device.old)) }
+{
+    let start = geometry.slot_start(slot);
+    let begun = sweep_word(device, ruling, start)?;
+    let ended = sweep_word(device, ruling, start + 1)?;
+    if begun || ended {
+        device.flush(Actor::COMMITTER, geometry.slot_line(slot))?;
+    }
+    Ok(())
+}
+
+// Stores 0 in a word that lies in a gap, and tells whether it did.
+fn sweep_word<D: Pmem>(device: &mut D, ruling: Record, word: usize) -> Result<bool, Fault>
+    requires formed { IsTrue (is_well_formed newest_version ruling) }
+    requires within { word < (D.state device.old).words }
+    ensures fault { IfErr result (λ fault. fault ≡ Fault.Device) }
+    ensures failed { OnErr result ((D.state device.new).failures ≡ (D.state device.old).failures + 1) }
+    ensures kept { Keeps (D.state device.old) (D.state device.new) (OldOr (D.state device.old) (IsZeroed ruling word (D.state device.old))) }
+    ensures ok { OnOk result (D.state device.new ≡ zeroed ruling word (D.state device.old)) }
+    ensures tells { IfOk result (λ did. did ≡ lies ruling (value_of (D.state device.old) word)) }
+{
+    let swept = lies_in_gap(ruling, device.load(word));
+    if swept {
+        device.store(word, 0)?;
+    }
+    Ok(swept)
+}
