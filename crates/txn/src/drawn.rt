@@ -145,3 +145,43 @@ fn with_stamp(commit: DrawnCommit, timestamp: Ts) -> DrawnCommit
     }
     commit
 }
+
+#[cfg(test)]
+mod tests {
+    use super::*;
+    use crate::write::Write;
+    use base::key::Key;
+    use std::test::Fail;
+
+    #[test]
+    fn commits_are_covered_as_far_as_they_are_stamped(rt: HostRuntime) -> Result<(), Fail> {
+        let mut writes = WriteSet::new();
+        writes.put(Write {
+            key: Key { table: 1, key: 5 },
+            row: None,
+            slot: None,
+            replaces: None,
+        });
+        let mut drawn = DrawnCommits::new(rt.alloc());
+        for (session, timestamp) in [(2, 8), (3, 9)] {
+            drawn.reserve()?;
+            drawn.push(DrawnCommit {
+                session,
+                timestamp,
+                writes,
+                stamped: 0,
+            });
+        }
+        assert_eq!(rt; drawn.run(), 0);
+        drawn.stamp(9);
+        assert_eq!(rt; drawn.run(), 0);
+        drawn.stamp(8);
+        assert_eq!(rt; drawn.run(), 2);
+        assert!(rt; drawn.as_slice()[0].is_stamped());
+        drawn.cover(1);
+        assert!(rt; drawn.get(8).is_none());
+        assert!(rt; drawn.get(9).is_some());
+        assert_eq!(rt; drawn.run(), 1);
+        Ok(())
+    }
+}

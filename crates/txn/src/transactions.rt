@@ -142,3 +142,48 @@ impl Transactions {
         }
     }
 }
+
+#[cfg(test)]
+mod tests {
+    use super::*;
+    use crate::write_set::WriteSet;
+    use base::key::Key;
+    use gap_list::GapList;
+    use snapshot::Snapshot;
+    use std::test::Fail;
+
+    #[test]
+    fn a_session_takes_the_lowest_number_that_is_free(rt: HostRuntime) -> Result<(), Fail> {
+        let mut transactions = Transactions::new(rt.alloc());
+        let snapshot = Snapshot::new(7, GapList::none());
+        let first = transactions.begin(Transaction::Active {
+            snapshot,
+            writes: WriteSet::new(),
+        })?;
+        let second = transactions.begin(Transaction::ReadOnly)?;
+        assert_eq!(rt; first, 2);
+        assert_eq!(rt; second, 3);
+        transactions.write(
+            first,
+            Write {
+                key: Key { table: 1, key: 5 },
+                row: None,
+                slot: None,
+                replaces: None,
+            },
+        );
+        match transactions.get(first) {
+            Some(Transaction::Active { snapshot, writes }) => {
+                assert_eq!(rt; snapshot.persisted(), 7);
+                assert_eq!(rt; writes.len(), 1);
+            }
+            _ => assert!(rt; false),
+        }
+        transactions.set(first, Transaction::Drawn(8));
+        assert!(rt; matches!(transactions.get(first), Some(Transaction::Drawn(8))));
+        transactions.end(first);
+        assert!(rt; transactions.get(first).is_none());
+        assert_eq!(rt; transactions.begin(Transaction::ReadOnly)?, 2);
+        Ok(())
+    }
+}

@@ -1,0 +1,218 @@
+-- From what is hidden to the plain states that are shown.
+use Rattle.std.proofs.Common.{◌≡◌, ℕ, zero, suc, ◌+◌, ◌*◌, ◌^◌, Bool, true, false, ◌&&◌, ◌||◌, cond, List, [], ◌∷◌, ◌++◌, take, refl, sym, ◌∙◌, ap, subst, arith, nat_eq, nat_le}
+use Rattle.std.specs.Prelude.{Option, Some, None, is_none}
+use Rattle.std.specs.Option.{option_or, option_map}
+use Rattle.std.specs.List.{list_all}
+use Rattle.std.proofs.lemmas.Bool.{and_parts}
+use Rattle.std.proofs.Math.Logic.{∥∥₁_map}
+use Rattle.base.specs.declared.key.Key.{Key}
+use Rattle.base.specs.declared.fault.Fault.{Fault}
+use Rattle.base.specs.declared.fault.Fault.TheVariants.{Failed, SessionsFull, NoSession, WrongState, TooLong, WriteSetFull, SlotsOut, Conflict, WindowFull, TimestampsOut, OutOfMemory, Device as DeviceFault}
+use Rattle.base.specs.declared.step.Step.{Step}
+use Rattle.base.specs.declared.step.Reply.{Reply}
+use Rattle.base.specs.declared.step.Reply.TheVariants as reply
+use Rattle.base.specs.declared.step.SessionStep.{SessionStep}
+use Rattle.base.specs.declared.step.SessionStep.TheVariants.{Begin, Get, Put, Delete, Draw, Stamp, Poll, Abort, End}
+use Rattle.base.specs.declared.step.SessionReply.{SessionReply}
+use Rattle.base.specs.declared.step.SessionReply.TheVariants.{Refused}
+use Rattle.base.specs.SessionSteps.{as_step, as_reply, SessionStepped}
+use Rattle.base.specs.Search.{some_if}
+use Rattle.base.specs.Stands.{has_timestamp}
+use Rattle.base.specs.Machine.{State, Session, Active, Drew, WroteNothing, Answers, answered, refused, memory_refused, device_failed, refusal, begins, free_session, is_absent, is_misplaced, is_too_long, overfills, lacks_slot, conflicts, draws, chooses, operates, polled, is_nil, writes_of, is_last_stamp}
+use Rattle.pmem.specs.Device.{Device, IsOrderly}
+use Rattle.pmem.specs.Trace.{Operation, failure}
+use Rattle.state_invariant.specs.Kept.{Origin}
+use Rattle.device_invariant.specs.Upholds.{Upholds}
+use Rattle.step_invariant.specs.Moves.{is_quiet}
+use Rattle.step_invariant.specs.Laws.{QuietStepsLead}
+use Rattle.step_invariant.proofs.Quiet.{refusals-lead}
+use Rattle.session_steps.proofs.Tests.{same-drawers}
+use Rattle.session_steps.specs.declared.sessions.Sessions.{Sessions}
+use Rattle.session_steps.specs.Shows.{Hidden, plain_of, Agrees, Shows}
+use Rattle.session_steps.specs.Steps.{is_by_actor, Holds, HoldsOn, Goes, GoesOn, Takes, TakesOn, StepsTo, Steps, HoldsSome, HoldsSomeOn, ShowsSome}
+
+-- ---- who tells of the device
+
+or-apart : (a b : Option Fault) → (a ≡ Some DeviceFault → ⊥) → (b ≡ Some DeviceFault → ⊥) → option_or a b ≡ Some DeviceFault → ⊥
+or-apart None b first rest is = rest is
+or-apart (Some fault) b first rest is = first is
+
+if-apart : (b : Bool) (fault : Fault) → (fault ≡ DeviceFault → ⊥) → some_if b fault ≡ Some DeviceFault → ⊥
+if-apart true fault apart is = apart (cc is)
+if-apart false fault apart is = absurd (cc is)
+
+conflict-apart : (o : Option Key) → option_map Conflict o ≡ Some DeviceFault → ⊥
+conflict-apart None is = absurd (cc is)
+conflict-apart (Some key) is = absurd (cc is)
+
+-- no step is refused for the device before it is asked
+undevice : (q : State) (step : Step) → refusal q step ≡ Some DeviceFault → ⊥
+undevice q step =
+    or-apart (some_if q.failed Failed) _ (if-apart q.failed Failed (λ is. absurd (cc is)))
+    (or-apart (some_if (begins step && is_none (free_session q)) SessionsFull) _ (if-apart _ SessionsFull (λ is. absurd (cc is)))
+    (or-apart (some_if (is_absent q step) NoSession) _ (if-apart _ NoSession (λ is. absurd (cc is)))
+    (or-apart (some_if (is_misplaced q step) WrongState) _ (if-apart _ WrongState (λ is. absurd (cc is)))
+    (or-apart (some_if (is_too_long q step) TooLong) _ (if-apart _ TooLong (λ is. absurd (cc is)))
+    (or-apart (some_if (overfills q step) WriteSetFull) _ (if-apart _ WriteSetFull (λ is. absurd (cc is)))
+    (or-apart (some_if (lacks_slot q step) SlotsOut) _ (if-apart _ SlotsOut (λ is. absurd (cc is)))
+    (or-apart (option_map Conflict (conflicts q step)) _ (conflict-apart (conflicts q step))
+    (or-apart (some_if (draws q step && nat_eq q.next q.ruling.dirty) WindowFull) _ (if-apart _ WindowFull (λ is. absurd (cc is)))
+    (or-apart (some_if (draws q step && nat_le (2 ^ 62) (q.next + 2 * q.layout.window) || chooses q step && nat_le (2 ^ 62) (q.ruling.gate + 1)) TimestampsOut) None (if-apart _ TimestampsOut (λ is. absurd (cc is))) (λ is. absurd (cc is)))))))))))
+
+-- no answer is one of the device's
+answered-apart : (q : State) (s : SessionStep) (r : Reply) → Answers q (as_step s) r → r ≡ reply.Refused DeviceFault → ⊥
+answered-apart q Begin r is told = absurd (cc (is, told))
+answered-apart q (Get n key) r is told = absurd (cc (is, told))
+answered-apart q (Put n key row) r is told = absurd (cc (is, told))
+answered-apart q (Delete n key) r is told = absurd (cc (is, told))
+answered-apart q (Draw n) r is told = by (is_nil (writes_of (q.sessions n))) (sym is ∙ told)
+  where
+    by : (b : Bool) → cond b reply.Done (reply.Drawn q.next) ≡ reply.Refused DeviceFault → ⊥
+    by true same = absurd (cc same)
+    by false same = absurd (cc same)
+answered-apart q (Stamp n) r is told = by (is_last_stamp q n) (sym is ∙ told)
+  where
+    by : (b : Bool) → cond b reply.Stamped reply.More ≡ reply.Refused DeviceFault → ⊥
+    by true same = absurd (cc same)
+    by false same = absurd (cc same)
+answered-apart q (Poll n) r is told = by (q.sessions n) (sym is ∙ told)
+  where
+    whether : (b : Bool) (t : ℕ) → cond b (reply.Committed t) reply.Waiting ≡ reply.Refused DeviceFault → ⊥
+    whether true t same = absurd (cc same)
+    whether false t same = absurd (cc same)
+
+    by : (o : Option Session) → polled q o ≡ reply.Refused DeviceFault → ⊥
+    by None same = absurd (cc same)
+    by (Some (Active begun writes)) same = absurd (cc same)
+    by (Some (Drew t)) same = whether (has_timestamp q.history t) t same
+    by (Some WroteNothing) same = absurd (cc same)
+answered-apart q (Abort n) r is told = absurd (cc (is, told))
+answered-apart q (End n) r is told = absurd (cc (is, told))
+
+quiet-idle : (q : State) (s : SessionStep) → is_quiet (as_step s) ≡ true → operates q (as_step s) ≡ false
+quiet-idle q Begin quiet = refl
+quiet-idle q (Get n key) quiet = refl
+quiet-idle q (Put n key row) quiet = absurd (cc quiet)
+quiet-idle q (Delete n key) quiet = refl
+quiet-idle q (Draw n) quiet = refl
+quiet-idle q (Stamp n) quiet = absurd (cc quiet)
+quiet-idle q (Poll n) quiet = refl
+quiet-idle q (Abort n) quiet = refl
+quiet-idle q (End n) quiet = refl
+
+-- a step that makes no operation doesn't tell of the device
+never-told : (q q' : State) (s : SessionStep) (r : SessionReply) → is_quiet (as_step s) ≡ true → SessionStepped q s r q' → r ≡ Refused DeviceFault → ⊥
+never-told q q' s r quiet (refused fault is replied same) told =
+    let both : reply.Refused fault ≡ reply.Refused DeviceFault = sym replied ∙ ap as_reply told in
+    let fault-is : fault ≡ DeviceFault = cc both in
+    undevice q (as_step s) (is ∙ ap (λ (f : Fault). Some f) fault-is)
+never-told q q' s r quiet (answered nothing answers same) told = answered-apart q s (as_reply r) answers (ap as_reply told)
+never-told q q' s r quiet (memory_refused nothing takes replied same) told =
+    let both : reply.Refused OutOfMemory ≡ reply.Refused DeviceFault = sym replied ∙ ap as_reply told in
+    absurd (cc both)
+never-told q q' s r quiet (device_failed nothing operates replied same) told = absurd (cc (operates, quiet-idle q s quiet))
+
+-- ---- whose operations they are
+
+-- those that were made before one failed
+pub take-only : (n : ℕ) (ops : List Operation) (k : ℕ) → list_all (is_by_actor (Some n)) ops ≡ true → list_all (is_by_actor (Some n)) (take k ops ++ failure ∷ []) ≡ true
+take-only n [] zero all = refl
+take-only n [] (suc k) all = refl
+take-only n (op ∷ ops) zero all = refl
+take-only n (op ∷ ops) (suc k) all =
+    let both = and_parts (is_by_actor (Some n) op) (list_all (is_by_actor (Some n)) ops) all in
+    λ i. both.0 i && take-only n ops k both.1 i
+
+-- ---- steps
+
+module _ (old new : Sessions) (before now : Device) (s : SessionStep) (r : SessionReply) where
+  -- what is so of every hidden part is so of every state that is shown
+  pub steps-shown : ((h : Hidden) → HoldsOn old h before → (q' : State) × StepsTo old new before now s r (plain_of old h) q') → Steps old new before now s r
+  steps-shown each = λ q shown works.
+      let holds : HoldsOn old shown.hidden before = record {
+        works = sym (ap (λ (p : State). p.failed) shown.plain) ∙ works;
+        upholds = subst (λ (p : State). Upholds shown.hidden.origin p before) shown.plain shown.upholds;
+        agrees = subst (λ (p : State). Agrees old shown.hidden.origin shown.hidden.seen p) shown.plain shown.agrees;
+      } in
+      subst (λ (p : State). (q' : State) × StepsTo old new before now s r p q') (sym shown.plain) (each shown.hidden holds)
+
+  -- a step on the device
+  pub on-device : TakesOn old new before now s r → Steps old new before now s r
+  on-device takes = steps-shown (λ h holds. let goes = takes h holds in (
+    plain_of new goes.next,
+    record {
+      stepped = goes.stepped;
+      shows = record { hidden = goes.next; plain = refl; upholds = subst (λ (o : Origin). Upholds o (plain_of new goes.next) now) (sym goes.origin) goes.upholds; agrees = subst (λ (o : Origin). Agrees new o goes.next.seen (plain_of new goes.next)) (sym goes.origin) goes.agrees };
+      images = goes.images;
+      failure = goes.failure;
+      operations = goes.operations;
+      actor = goes.actor;
+      drawers = goes.drawers;
+    },
+  ))
+
+-- a step that makes no operation
+pub goes-quietly : QuietStepsLead → (old new : Sessions) (device : Device) (s : SessionStep) (r : SessionReply) → IsOrderly device → is_quiet (as_step s) ≡ true → (h : Hidden) → HoldsOn old h device → Goes old new s r h
+    → GoesOn old new device device s r h
+goes-quietly law old new device s r orderly quiet h holds goes =
+    let leads = law h.origin (plain_of old h) (as_step s) (as_reply r) (plain_of new goes.next) device orderly quiet goes.stepped holds.upholds in
+    record {
+      next = goes.next;
+      origin = goes.origin;
+      stepped = goes.stepped;
+      upholds = leads.upholds;
+      agrees = goes.agrees;
+      images = leads.images;
+      failure = record { no_fewer = omega arith; cause = λ told. absurd (never-told (plain_of old h) (plain_of new goes.next) s r quiet goes.stepped told); shown = λ more. absurd (omega (arith, more)) };
+      operations = omega arith;
+      actor = record { operations = []; made = refl; by_actor = refl };
+      drawers = goes.drawers;
+    }
+
+-- a refusal
+pub refused-on : (s : Sessions) (device : Device) (step : SessionStep) (fault : Fault) (h : Hidden) → IsOrderly device → HoldsOn s h device → refusal (plain_of s h) (as_step step) ≡ Some fault → GoesOn s s device device step (Refused fault) h
+refused-on s device step fault h orderly holds is =
+    let leads = refusals-lead h.origin (plain_of s h) device orderly holds.upholds in
+    record {
+      next = h;
+      origin = refl;
+      stepped = refused fault is refl refl;
+      upholds = holds.upholds;
+      agrees = holds.agrees;
+      images = leads.images;
+      failure = record { no_fewer = omega arith; cause = λ told. absurd (untold told); shown = λ more. absurd (omega (arith, more)) };
+      operations = omega arith;
+      actor = record { operations = []; made = refl; by_actor = refl };
+      drawers = same-drawers s.drawn.commits;
+    }
+  where
+    untold : ◌≡◌ {A = SessionReply} (Refused fault) (Refused DeviceFault) → ⊥
+    untold told = let same : fault ≡ DeviceFault = cc told in undevice (plain_of s h) (as_step step) (is ∙ ap (λ (f : Fault). Some f) same)
+
+-- what holds on a device holds
+pub held-on : (s : Sessions) (h : Hidden) (device : Device) → HoldsOn s h device → Holds s h
+held-on s h device holds = record { works = holds.works; keeps = holds.upholds.keeps; agrees = holds.agrees }
+
+pub quietly : QuietStepsLead → (old new : Sessions) (device : Device) (s : SessionStep) (r : SessionReply) → IsOrderly device → is_quiet (as_step s) ≡ true → Takes old new s r → TakesOn old new device device s r
+quietly law old new device s r orderly quiet takes = λ h holds. goes-quietly law old new device s r orderly quiet h holds (takes h (held-on s' h device holds))
+  where
+    s' : Sessions
+    s' = old
+
+-- what holds where a state is shown
+holds-of : (s : Sessions) (device : Device) (q : State) (shown : Shows s device q) → q.failed ≡ false → HoldsOn s shown.hidden device
+holds-of s device q shown works = record {
+  works = sym (ap (λ (p : State). p.failed) shown.plain) ∙ works;
+  upholds = subst (λ (p : State). Upholds shown.hidden.origin p device) shown.plain shown.upholds;
+  agrees = subst (λ (p : State). Agrees s shown.hidden.origin shown.hidden.seen p) shown.plain shown.agrees;
+}
+
+pub shown-held-on : (s : Sessions) (device : Device) → ∥ ShowsSome s device ∥₁ → ∥ HoldsSomeOn s device ∥₁
+shown-held-on s device some = ∥∥₁_map some (λ shown. (shown.1.hidden, holds-of s device shown.0 shown.1 shown.2))
+
+pub shown-held : (s : Sessions) (device : Device) → ∥ ShowsSome s device ∥₁ → ∥ HoldsSome s ∥₁
+shown-held s device some = ∥∥₁_map some (λ shown. (shown.1.hidden, held-on s shown.1.hidden device (holds-of s device shown.0 shown.1 shown.2)))
+
+-- the same step, under another name
+pub steps-as : (old new : Sessions) (before now : Device) (step asked : SessionStep) (r : SessionReply) → step ≡ asked → Steps old new before now asked r → Steps old new before now step r
+steps-as old new before now step asked r is steps = subst (λ (x : SessionStep). Steps old new before now x r) (sym is) steps

@@ -1,0 +1,44 @@
+-- What the code's tests say.
+use Rattle.std.proofs.Common.{◌≡◌, ◌≢◌, ◌↔◌, ℕ, zero, suc, ◌<◌, Bool, true, false, cond, not, List, [], ◌∷◌, ◌++◌, map, refl, sym, arith, nat_lt, IsTrue, length}
+use Rattle.std.specs.Prelude.{Option, Some, None, is_some, is_none, find, slice_get, All}
+use Rattle.std.proofs.lemmas.Bool.Decides.{nat_tests}
+use Rattle.txn.specs.declared.drawn.DrawnCommit.{DrawnCommit}
+use Rattle.txn.specs.declared.write.Write.{Write}
+use Rattle.std.proofs.lemmas.List.{append-nil}
+use Rattle.std.proofs.lemmas.List.Elements.{All-nil, All-cons}
+
+pub none-some : {X : Type 0} (o : Option X) → is_none o ≡ not (is_some o)
+none-some None = refl
+none-some (Some x) = refl
+
+-- nothing that a search doesn't find passes its test
+pub unfound : {X : Type 0} (test : X → Bool) (xs : List X) → find test xs ≡ None → All (λ x. test x ≡ false) xs
+unfound test [] none = All-nil (λ x. test x ≡ false)
+unfound {X} test (x ∷ xs) none = by (test x) refl none (unfound test xs)
+  where
+    by : (b : Bool) → test x ≡ b → cond b (Some x) (find test xs) ≡ None → (find test xs ≡ None → All (λ x. test x ≡ false) xs) → All (λ x. test x ≡ false) (x ∷ xs)
+    by true is none rest = absurd (cc none)
+    by false is none rest = All-cons (λ x. test x ≡ false) x xs is (rest none)
+
+-- no more are drawn
+pub same-drawers : (ds : List DrawnCommit) → (more : List ℕ) × (map (λ (d : DrawnCommit). d.session) ds ≡ map (λ (d : DrawnCommit). d.session) ds ++ more)
+same-drawers ds = ([], sym (append-nil (map (λ (d : DrawnCommit). d.session) ds)))
+
+pub nothing-is : (writes : List Write) (b : Bool) → IsTrue b ↔ (writes ≡ []) → b ≡ true → writes ≡ []
+nothing-is writes b is told = is.0 told
+
+pub some-is : (writes : List Write) (b : Bool) → IsTrue b ↔ (writes ≡ []) → b ≡ false → writes ≢ []
+some-is writes b is told none = let empty : b ≡ true = is.1 none in absurd (cc (empty, told))
+
+-- past the last there is none
+pub none-left : {X : Type 0} (xs : List X) (i : ℕ) → slice_get xs i ≡ None → nat_lt i (length xs) ≡ false
+none-left {X} xs i none = by (nat_lt i (length xs)) refl
+  where
+    by : (b : Bool) → nat_lt i (length xs) ≡ b → b ≡ false
+    by false is = refl
+    by true is = absurd (past xs i none (grind (arith, nat_tests)))
+      where
+        past : (xs : List X) (i : ℕ) → slice_get xs i ≡ None → i < length xs → ⊥
+        past [] i none lt = omega (arith, lt)
+        past (x ∷ xs) zero none lt = absurd (cc none)
+        past (x ∷ xs) (suc i) none lt = past xs i none (omega (arith, lt))

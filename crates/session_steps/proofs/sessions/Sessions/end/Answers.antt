@@ -1,0 +1,8 @@
+use Rattle.session_steps.proofs.Quiet.{ends, ends-not}
+use Rattle.session_steps.proofs.sessions.Sessions.end.Goals as goal
+
+pub returns-in-Ok : goal.returns-in-Ok
+returns-in-Ok c = record { step = λ h holds. ends c.args.self.now c.end.new.self c.args.session h c.in-Ok.ensures.ok c.end.ensures holds }
+
+pub returns-in-Err : goal.returns-in-Err
+returns-in-Err c = record { step = λ h holds. ends-not c.args.self.now c.args.session c.in-Err.fault h c.in-Err.ensures.fault holds }

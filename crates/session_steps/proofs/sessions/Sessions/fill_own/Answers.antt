@@ -1,0 +1,43 @@
+use Rattle.std.proofs.Common.{sym, subst, ℕ, ◌≤◌}
+use Rattle.std.proofs.Math.Bridge.{le_prop}
+use Rattle.std.proofs.Math.Nat.{ℕ_set}
+use Rattle.std.proofs.Math.Logic.{∥∥₁_elim}
+use Rattle.std.specs.Prelude.{Option, Some}
+use Rattle.txn.specs.declared.transaction.Transaction.TheVariants.{Active}
+use Rattle.txn.specs.declared.write.Write.{Write}
+use Rattle.txn.specs.Transactions.{Sets}
+use Rattle.txn.specs.WriteSets.{HasRoomFor, with_write_at}
+use Rattle.version_slot.specs.Words.{link_number}
+use Rattle.session_steps.proofs.Puts.{own-within, link-fits, puts-own, puts-own-stopped}
+use Rattle.session_steps.proofs.Reading.{words-are}
+use Rattle.session_steps.proofs.Stepping.{held-on}
+use Rattle.session_steps.proofs.sessions.Sessions.fill_own.Goals as goal
+
+pub fill-requires-clause-slot : goal.fill-requires-clause-slot
+fill-requires-clause-slot g c = ∥∥₁_elim c.requires.shown le_prop (λ shown. own-within c.args.self.now shown.0 c.args.session _ _ c.args.key c.args.slot (held-on c.args.self.now shown.0 _ shown.1) c.requires.active c.requires.own)
+
+pub fill-requires-clause-previous : goal.fill-requires-clause-previous
+fill-requires-clause-previous g c =
+    subst (λ (o : Option ℕ). link_number o ≤ c.args.self.now.numbers.geometry.slots) (sym c.link.ensures) (∥∥₁_elim c.requires.shown le_prop (λ shown. link-fits c.args.self.now shown.0 c.args.key (held-on c.args.self.now shown.0 _ shown.1)))
+
+pub fill-requires-clause-device : goal.fill-requires-clause-device
+fill-requires-clause-device g c = ∥∥₁_elim c.requires.shown (ℕ_set _ _) (λ shown. words-are _ _ (g.D.Pmem.state c.args.device.now) (g.met.D.Pmem.orderly _) shown.1.upholds)
+
+pub write-requires : goal.write-requires
+write-requires g c = (_, _, c.requires.active, subst (λ (w : Write). HasRoomFor w.key c.args.active.writes) (sym c.row_write.ensures) c.requires.room)
+
+pub returns-in-Ok : goal.returns-in-Ok
+returns-in-Ok g c = record {
+  step = λ h holds.
+      puts-own c.args.self.now h c.args.session c.args.active.snapshot c.args.active.writes (record { key = c.args.key; row = c.args.row; previous = c.link.result }) c.args.slot (g.D.Pmem.state c.args.device.now) (g.D.Pmem.state c.fill.new.device) holds
+      c.requires.active c.requires.fits c.requires.row c.requires.own c.write.new.self
+      (subst (λ (w : Write). Sets c.args.self.now.transactions c.write.new.self c.args.session (Some (Active c.args.active.snapshot (with_write_at w c.args.active.writes)))) c.row_write.ensures (c.write.ensures _ _ c.requires.active))
+      c.in-Ok.ensures.version.fits c.in-Ok.ensures.run;
+}
+
+pub returns-in-Err : goal.returns-in-Err
+returns-in-Err g c = record {
+  step = λ h holds.
+      puts-own-stopped c.args.self.now h c.args.session c.args.active.snapshot c.args.active.writes (record { key = c.args.key; row = c.args.row; previous = c.link.result }) c.args.slot (g.D.Pmem.state c.args.device.now) (g.D.Pmem.state c.fill.new.device) holds
+      c.requires.active c.requires.fits c.requires.row c.requires.own c.in-Err.fault c.in-Err.ensures.fault c.in-Err.ensures.stopped;
+}

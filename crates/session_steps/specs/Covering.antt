@@ -1,0 +1,76 @@
+-- What covers the first drawn commits.
+use Rattle.std.specs.Prelude.{◌≡◌, ℕ, true, List, take, ◌++◌, fold, if◌then◌else◌, None, Some, All}
+use Rattle.base.specs.declared.key.Key.{Key}
+use Rattle.base.specs.Keys.{key_eq}
+use Rattle.base.specs.Records.{Record}
+use Rattle.base.specs.Machine.{State, Hand, drawn_of, state_covered}
+use Rattle.pmem.specs.Device.{Device}
+use Rattle.txn.specs.declared.drawn.DrawnCommit.{DrawnCommit}
+use Rattle.txn.specs.declared.write.Write.{Write}
+use Rattle.index.specs.declared.entry.Entry.{Entry}
+use Rattle.index.specs.Entries.{entry_at, has_room, covered, KeepsRoom}
+use Rattle.state_invariant.specs.Kept.{Keeps}
+use Rattle.device_invariant.specs.Upholds.{Upholds}
+use Rattle.session_steps.specs.declared.sessions.Sessions.{Sessions}
+use Rattle.session_steps.specs.Shows.{Hidden, plain_of, Agrees, Shows}
+
+-- ---- the index
+
+-- the key's entry once the write is covered
+abbrev pub covered_by : Key → Entry → Write → Entry
+covered_by key entry write = if key_eq write.key key then covered write.slot entry else entry
+
+-- the key's entry once all these writes are covered, in their order
+abbrev pub covered_by_all : Key → Entry → List Write → Entry
+covered_by_all key entry writes = fold (covered_by key) entry writes
+
+-- once all these commits are
+abbrev pub covered_by_commits : Key → Entry → List DrawnCommit → Entry
+covered_by_commits key entry commits = fold (λ entry d. covered_by_all key entry d.writes) entry commits
+
+-- the key of each of these writes has room in the index
+abbrev pub HasRoom : List (Key × Entry) → List Write → Type 0
+HasRoom index writes = All (λ write. has_room index write.key ≡ true) writes
+
+-- the index of before, with these writes covered
+pub record CoversWrites (writes : List Write) (old new : List (Key × Entry)) : Type 0 where
+  pub entries : (key : Key) → entry_at new key ≡ covered_by_all key (entry_at old key) writes
+  pub room : KeepsRoom old new
+
+-- the index of before, with these commits covered
+pub record CoversCommits (commits : List DrawnCommit) (old new : List (Key × Entry)) : Type 0 where
+  pub entries : (key : Key) → entry_at new key ≡ covered_by_commits key (entry_at old key) commits
+  pub room : KeepsRoom old new
+
+-- ---- a batch
+
+-- the batch in hand is of the first so many drawn commits, and this record is to cover it
+pub record IsOfFirst (q : State) (hand : Hand) (count : ℕ) (ruling : Record) : Type 0 where
+  pub in_hand : q.hand ≡ Some hand
+  pub first : hand.commits ≡ take count (drawn_of q)
+  pub target : hand.target ≡ ruling
+
+-- what holds before it is covered, whatever is hidden
+pub record MayCover (s : Sessions) (count : ℕ) (ruling : Record) (h : Hidden) (hand : Hand) : Type 0 where
+  pub keeps : Keeps h.origin (plain_of s h)
+  pub agrees : Agrees s h.origin h.seen (plain_of s h)
+  pub batch : IsOfFirst (plain_of s h) hand count ruling
+
+-- what is hidden once the batch is covered
+abbrev pub hidden_covered : Hidden → Hand → Hidden
+hidden_covered h hand = record h { history = h.history ++ hand.commits; hand = None }
+
+-- the sessions agree with the state in which the batch is covered
+pub record HasCovered (old new : Sessions) (h : Hidden) (hand : Hand) : Type 0 where
+  pub plain : plain_of new (hidden_covered h hand) ≡ state_covered (plain_of old h) hand
+  pub agrees : Agrees new h.origin h.seen (plain_of new (hidden_covered h hand))
+
+-- so they do whatever is hidden
+abbrev pub Covers : Sessions → Sessions → ℕ → Record → Type 0
+Covers old new count ruling = (h : Hidden) (hand : Hand) → MayCover old count ruling h hand → HasCovered old new h hand
+
+-- whatever state they showed, they show the one in which the batch is covered, on a device that upholds it
+abbrev pub ShowsCovered : Sessions → Sessions → ℕ → Record → Type 0
+ShowsCovered old new count ruling =
+    (before now : Device) (q : State) (hand : Hand) (shown : Shows old before q) → IsOfFirst q hand count ruling → Upholds shown.hidden.origin (state_covered q hand) now
+    → Shows new now (state_covered q hand)

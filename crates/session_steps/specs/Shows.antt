@@ -1,0 +1,125 @@
+-- Which plain states the sessions show on a device.
+use Rattle.std.specs.Prelude.{◌≡◌, ℕ, ◌<◌, Bool, true, false, nat_eq, List, [], ◌∷◌, length, map, slice_get, Option, Some, is_some, is_none, All}
+use Rattle.std.specs.List.{list_any}
+use Rattle.std.specs.Option.{option_map}
+use Rattle.base.specs.declared.key.Key.{Key}
+use Rattle.base.specs.Commits.{Commit}
+use Rattle.base.specs.Restrictions.{whole_limits}
+use Rattle.base.specs.Machine.{State, Session, Active as Reads, Drew, WroteNothing, Drawn as PlainDrawn, Hand, Version, Writer, BySession, ByCommit}
+use Rattle.pmem.specs.Device.{Device}
+use Rattle.txn.specs.declared.drawn.DrawnCommit.{DrawnCommit}
+use Rattle.txn.specs.declared.transaction.Transaction.{Transaction}
+use Rattle.txn.specs.declared.transaction.Transaction.TheVariants.{Active, Drawn, ReadOnly}
+use Rattle.txn.specs.declared.write.Write.{Write}
+use Rattle.txn.specs.Transactions.{transaction_at}
+use Rattle.txn.specs.WriteSets.{plain_writes}
+use Rattle.dirty_table.specs.declared.touches.Touch.{Touch}
+use Rattle.dirty_table.specs.Touches.{is_touched}
+use Rattle.index.specs.declared.entry.Entry.{Entry}
+use Rattle.index.specs.Entries.{entry_at, has_room, live_of}
+use Rattle.state_invariant.specs.Kept.{Origin, commits_of_life, version_by}
+use Rattle.device_invariant.specs.Slots.{newest_of}
+use Rattle.device_invariant.specs.Log.{lines_in, line_number}
+use Rattle.device_invariant.specs.Upholds.{Upholds}
+use Rattle.session_invariant.specs.Sees.{Sees, last_on}
+use Rattle.step_invariant.specs.Moves.{IsSlotOf}
+use Rattle.session_steps.specs.declared.sessions.Sessions.{Sessions}
+
+-- ---- the plain state
+
+-- what the plain state has and the sessions don't keep
+pub record Hidden : Type 0 where
+  pub origin : Origin  -- what the life began with
+  pub history : List Commit
+  pub lost : List ℕ
+  pub seen : ℕ → ℕ  -- how many commits each session's snapshot has
+  pub swept : Bool
+  pub place : ℕ
+  pub failed : Bool
+  pub hand : Option Hand
+  pub held : ℕ → Option Version
+
+-- the transaction of the plain state, where its snapshot has so many commits
+abbrev pub plain_session : ℕ → Transaction → Session
+plain_session seen (Active snapshot writes) = Reads seen (plain_writes writes)
+plain_session seen (Drawn t) = Drew t
+plain_session seen ReadOnly = WroteNothing
+
+-- the drawn commit of the plain state
+abbrev pub plain_drawn : DrawnCommit → PlainDrawn
+plain_drawn d = record { commit = record { timestamp = d.timestamp; writes = plain_writes d.writes }; stamped = d.stamped }
+
+-- the plain state that the sessions show, where this is hidden
+abbrev pub plain_of : Sessions → Hidden → State
+plain_of s h = record {
+  layout = s.numbers.geometry;
+  limits = whole_limits;
+  ruling = s.numbers.record;
+  history = h.history;
+  drawn = map plain_drawn s.drawn.commits;
+  lost = h.lost;
+  sessions = λ n. option_map (plain_session (h.seen n)) (transaction_at s.transactions n);
+  next = s.numbers.next;
+  swept = h.swept;
+  place = h.place;
+  failed = h.failed;
+  hand = h.hand;
+  held = h.held;
+}
+
+-- ---- how the fields agree with it
+
+-- a write has the slot of its version, and a deletion none
+pub record HasItsSlot (q : State) (writer : Writer) (write : Write) : Type 0 where
+  pub slot : IsSlotOf q (version_by write.key writer) write.slot
+  pub row : is_some write.slot ≡ is_some write.row
+
+-- what holds of a session's transaction: its snapshot sees so many commits, and its writes have their slots
+abbrev pub HoldsSession : Origin → State → ℕ → ℕ → Option Transaction → Type 0
+HoldsSession o q n seen (Some (Active snapshot writes)) = Sees o q snapshot seen × All (HasItsSlot q (BySession n)) writes
+HoldsSession o q n seen _ = Unit {0}
+
+-- what the index has of a key: the slot of its newest covered version, while that has a row, and the last timestamp that was
+-- drawn for it in this life; the other slots are within the slots
+pub record HoldsEntry (o : Origin) (q : State) (key : Key) (entry : Entry) : Type 0 where
+  pub live : IsSlotOf q (newest_of q key) (live_of entry)
+  pub last : entry.last ≡ last_on key (commits_of_life o q)
+  pub newest : (slot : ℕ) → entry.newest ≡ Some slot → slot < q.layout.slots
+  pub drawn : (slot : ℕ) → entry.drawn ≡ Some slot → slot < q.layout.slots
+
+-- one of the drawn commits is the session's
+abbrev pub has_drawn_by : List DrawnCommit → ℕ → Bool
+has_drawn_by drawn n = list_any (λ d. nat_eq d.session n) drawn
+
+-- the lines that a batch of these commits touches, by their numbers on the device
+abbrev pub line_numbers : State → List Commit → List ℕ
+line_numbers q commits = map (line_number q.layout) (lines_in q commits)
+
+-- the dirty table has for each drawn commit its lines, under its session's number, and no others
+pub record HoldsLines (q : State) (drawn : List DrawnCommit) (dirty : List Touch) : Type 0 where
+  pub own : All (λ d. (line : ℕ) → is_touched dirty d.session line ≡ list_any (λ l. nat_eq l line) (line_numbers q ((plain_drawn d).commit ∷ []))) drawn
+  pub none : (n line : ℕ) → has_drawn_by drawn n ≡ false → is_touched dirty n line ≡ false
+
+-- a drawn commit is its session's, and its writes have their slots, and their keys room in the index
+pub record HoldsDrawn (s : Sessions) (q : State) (d : DrawnCommit) : Type 0 where
+  pub session : transaction_at s.transactions d.session ≡ Some (Drawn d.timestamp)
+  pub writes : All (HasItsSlot q (ByCommit d.timestamp)) d.writes
+  pub room : All (λ write. has_room s.index write.key ≡ true) d.writes
+
+-- the fields agree with the state, where the snapshots see so many commits
+pub record Agrees (s : Sessions) (o : Origin) (seen : ℕ → ℕ) (q : State) : Type 0 where
+  pub sessions : (n : ℕ) → HoldsSession o q n (seen n) (transaction_at s.transactions n)
+  pub drawn : All (HoldsDrawn s q) s.drawn.commits
+  pub free : (slot : ℕ) → slot < q.layout.slots → slice_get s.slots slot ≡ Some (is_none (q.held slot))
+  pub counted : length s.slots ≡ q.layout.slots
+  pub index : (key : Key) → HoldsEntry o q key (entry_at s.index key)
+  pub lines : HoldsLines q s.drawn.commits s.dirty
+  -- Restriction: no gap is swept in a life, until there is a collector
+  pub unswept : q.swept ≡ false
+
+-- the sessions show the state on the device
+pub record Shows (s : Sessions) (device : Device) (q : State) : Type 0 where
+  pub hidden : Hidden
+  pub plain : q ≡ plain_of s hidden
+  pub upholds : Upholds hidden.origin q device
+  pub agrees : Agrees s hidden.origin hidden.seen q

@@ -1,0 +1,139 @@
+-- What a step of a session leads to.
+use Rattle.std.specs.Prelude.{◌≡◌, ℕ, ◌+◌, ◌<◌, ◌≤◌, Bool, true, false, nat_eq, List, map, ◌++◌, Option, Some, None, is_none, IsTrue}
+use Rattle.std.specs.List.{list_all}
+use Rattle.base.specs.declared.fault.Fault.{Fault}
+use Rattle.base.specs.declared.fault.Fault.TheVariants.{Device as DeviceFault, NoSession, WrongState}
+use Rattle.base.specs.declared.step.SessionStep.{SessionStep}
+use Rattle.base.specs.declared.step.SessionReply.{SessionReply}
+use Rattle.base.specs.declared.step.SessionReply.TheVariants.{Refused}
+use Rattle.base.specs.Machine.{State, session_of, most_operations, StandsWithin}
+use Rattle.base.specs.SessionSteps.{as_step, SessionStepped}
+use Rattle.pmem.specs.Device.{Device}
+use Rattle.pmem.specs.Trace.{Operation, store_op, flush_op, fence_op, failure, after}
+use Rattle.pmem.specs.Words.{LeavesOnly, operations_of}
+use Rattle.txn.specs.declared.drawn.DrawnCommit.{DrawnCommit}
+use Rattle.txn.specs.declared.transaction.Transaction.{Transaction}
+use Rattle.txn.specs.declared.transaction.Transaction.TheVariants.{Active, Drawn, ReadOnly}
+use Rattle.txn.specs.DrawnCommits.{drawn_at}
+use Rattle.state_invariant.specs.Kept.{Keeps}
+use Rattle.device_invariant.specs.Upholds.{Upholds}
+use Rattle.session_steps.specs.declared.sessions.Sessions.{Sessions}
+use Rattle.session_steps.specs.Shows.{Hidden, plain_of, Agrees, Shows}
+
+-- ---- a step
+
+-- a failing device is told exactly where an operation failed
+pub record TellsFailure (old new : Device) (told : Type 0) : Type 0 where
+  pub no_fewer : old.failures ≤ new.failures
+  pub cause : told → old.failures < new.failures
+  pub shown : old.failures < new.failures → told
+
+-- the operation is a store, or a flush or a fence by this actor; or it failed
+abbrev pub is_by_actor : Option ℕ → Operation → Bool
+is_by_actor actor (store_op word value) = true
+is_by_actor None (flush_op by line) = false
+is_by_actor (Some actor) (flush_op by line) = nat_eq by actor
+is_by_actor None (fence_op by) = false
+is_by_actor (Some actor) (fence_op by) = nat_eq by actor
+is_by_actor actor failure = true
+
+-- these operations were made, and each flush and fence of them by this actor
+pub record RunsBy (actor : Option ℕ) (old new : Device) : Type 0 where
+  pub operations : List Operation
+  pub made : new ≡ after operations old
+  pub by_actor : IsTrue (list_all (is_by_actor actor) operations)
+
+-- the sessions whose commits are drawn stay, in their order; more may come after them
+abbrev pub Drawers : Sessions → Sessions → Type 0
+Drawers old new = (more : List ℕ) × (map (λ d. d.session) new.drawn.commits ≡ map (λ d. d.session) old.drawn.commits ++ more)
+
+-- the step leads from q to q', which the sessions show then on the device as it is then
+pub record StepsTo (old new : Sessions) (before now : Device) (step : SessionStep) (reply : SessionReply) (q q' : State) : Type 0 where
+  pub stepped : SessionStepped q step reply q'
+  pub shows : Shows new now q'
+  pub images : LeavesOnly before now (StandsWithin q q')
+  pub failure : TellsFailure before now (reply ≡ Refused DeviceFault)
+  pub operations : operations_of now ≤ operations_of before + most_operations q (as_step step)
+  pub actor : RunsBy (session_of (as_step step)) before now
+  pub drawers : Drawers old new
+
+-- so it does from every state that the sessions showed and that hadn't failed
+abbrev pub Steps : Sessions → Sessions → Device → Device → SessionStep → SessionReply → Type 0
+Steps old new before now step reply = (q : State) → Shows old before q → q.failed ≡ false → (q' : State) × StepsTo old new before now step reply q q'
+
+-- the sessions show some state that hasn't failed
+abbrev pub ShowsSome : Sessions → Device → Type 0
+ShowsSome s device = (q : State) × Shows s device q × (q.failed ≡ false)
+
+-- ---- by what is hidden
+
+-- what holds before a step
+pub record Holds (s : Sessions) (h : Hidden) : Type 0 where
+  pub works : h.failed ≡ false
+  pub keeps : Keeps h.origin (plain_of s h)
+  pub agrees : Agrees s h.origin h.seen (plain_of s h)
+
+-- something is hidden of which it holds
+abbrev pub HoldsSome : Sessions → Type 0
+HoldsSome s = (h : Hidden) × Holds s h
+
+-- a step that makes no operation leads to a state that agrees with the sessions then
+pub record Goes (old new : Sessions) (step : SessionStep) (reply : SessionReply) (h : Hidden) : Type 0 where
+  pub next : Hidden
+  pub origin : next.origin ≡ h.origin
+  pub stepped : SessionStepped (plain_of old h) step reply (plain_of new next)
+  pub agrees : Agrees new h.origin next.seen (plain_of new next)
+  pub drawers : Drawers old new
+
+-- so it does whatever is hidden
+abbrev pub Takes : Sessions → Sessions → SessionStep → SessionReply → Type 0
+Takes old new step reply = (h : Hidden) → Holds old h → Goes old new step reply h
+
+-- what holds before a step on a device
+pub record HoldsOn (s : Sessions) (h : Hidden) (device : Device) : Type 0 where
+  pub works : h.failed ≡ false
+  pub upholds : Upholds h.origin (plain_of s h) device
+  pub agrees : Agrees s h.origin h.seen (plain_of s h)
+
+abbrev pub HoldsSomeOn : Sessions → Device → Type 0
+HoldsSomeOn s device = (h : Hidden) × HoldsOn s h device
+
+-- a step leads to a state that the sessions show then on the device
+pub record GoesOn (old new : Sessions) (before now : Device) (step : SessionStep) (reply : SessionReply) (h : Hidden) : Type 0 where
+  pub next : Hidden
+  pub origin : next.origin ≡ h.origin
+  pub stepped : SessionStepped (plain_of old h) step reply (plain_of new next)
+  pub upholds : Upholds h.origin (plain_of new next) now
+  pub agrees : Agrees new h.origin next.seen (plain_of new next)
+  pub images : LeavesOnly before now (StandsWithin (plain_of old h) (plain_of new next))
+  pub failure : TellsFailure before now (reply ≡ Refused DeviceFault)
+  pub operations : operations_of now ≤ operations_of before + most_operations (plain_of old h) (as_step step)
+  pub actor : RunsBy (session_of (as_step step)) before now
+  pub drawers : Drawers old new
+
+-- so it does whatever is hidden
+abbrev pub TakesOn : Sessions → Sessions → Device → Device → SessionStep → SessionReply → Type 0
+TakesOn old new before now step reply = (h : Hidden) → HoldsOn old h before → GoesOn old new before now step reply h
+
+-- ---- what bars a session
+
+-- why a session's transaction is not one of these
+abbrev pub IsBarred : (Transaction → Bool) → Option Transaction → Fault → Type 0
+IsBarred lets None fault = fault ≡ NoSession
+IsBarred lets (Some transaction) fault = (fault ≡ WrongState) × (lets transaction ≡ false)
+
+-- it reads, and may write
+abbrev pub is_active : Transaction → Bool
+is_active (Active snapshot writes) = true
+is_active (Drawn t) = false
+is_active ReadOnly = false
+
+-- no commit of its is drawn: it is covered, or it wrote nothing
+abbrev pub is_over : List DrawnCommit → Transaction → Bool
+is_over drawn (Active snapshot writes) = false
+is_over drawn (Drawn t) = is_none (drawn_at t drawn)
+is_over drawn ReadOnly = true
+
+abbrev pub is_over_at : List DrawnCommit → Option Transaction → Bool
+is_over_at drawn None = false
+is_over_at drawn (Some transaction) = is_over drawn transaction

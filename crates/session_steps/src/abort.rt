@@ -1,0 +1,23 @@
+use crate::giving::give_back;
+use crate::sessions::Sessions;
+use base::step::SessionReply;
+
+impl Sessions {
+    ghost use Rattle.base.specs.declared.step.SessionStep.TheVariants.{Abort};
+    ghost use Rattle.session_steps.specs.Steps.{HoldsSome, Takes};
+
+    // Gives up what a session has written.
+    pub(crate) fn abort(&mut self, session: u8) -> SessionReply
+        requires shown { ∥ HoldsSome self.old ∥₁ }
+        ensures step { Takes self.old self.new (Abort session) result }
+    {
+        match self.active(session) {
+            Ok(active) => {
+                give_back(&mut self.slots, &active.writes);
+                self.transactions.end(session);
+                SessionReply::Done
+            }
+            Err(fault) => SessionReply::Refused(fault),
+        }
+    }
+}

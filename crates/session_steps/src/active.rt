@@ -1,0 +1,49 @@
+ghost use Rattle.std.specs.Prelude.{◌≡◌};
+ghost use Rattle.std.specs.Bool.{OnFalse};
+ghost use Rattle.txn.specs.WriteSets.{HasRoomFor};
+ghost use Rattle.session_steps.specs.Giving.{is_full_of};
+
+use crate::sessions::Sessions;
+use base::fault::Fault;
+use base::key::Key;
+use snapshot::Snapshot;
+use txn::{Transaction, WriteSet};
+
+/// What an Active session reads and has written.
+#[derive(Clone, Copy)]
+pub struct Active {
+    pub snapshot: Snapshot,
+    pub writes: WriteSet,
+}
+
+/// Whether the writes are as many as they may be, and none is of the key.
+pub fn is_full_for(writes: &WriteSet, key: Key) -> bool
+    ensures full { result ≡ is_full_of key writes.now }
+    ensures room { OnFalse result (HasRoomFor key writes.now) }
+{
+    writes.find(key).is_none() && writes.is_full()
+}
+
+impl Sessions {
+    ghost use Rattle.std.specs.Prelude.{◌<◌, ◌≤◌, Some, IfOk, IfErr};
+    ghost use Rattle.txn.specs.Transactions.{transaction_at};
+    ghost use Rattle.txn.specs.declared.transaction.Transaction.TheVariants.{Active as IsActiveWith};
+    ghost use Rattle.session_steps.specs.Steps.{IsBarred, is_active};
+
+    // The session of this number, where it is Active.
+    pub(crate) fn active(&self, session: u8) -> Result<Active, Fault>
+        ensures ok { IfOk result (λ found. transaction_at self.now.transactions session ≡ Some (IsActiveWith found.snapshot found.writes)) }
+        ensures within { IfOk result (λ found. (2 ≤ session) × (session < 64)) }
+        ensures fault { IfErr result (λ fault. IsBarred is_active (transaction_at self.now.transactions session) fault) }
+    {
+        match self.transactions.get(session) {
+            None => Err(Fault::NoSession),
+            Some(Transaction::Active { snapshot, writes }) => Ok(Active {
+                snapshot: *snapshot,
+                writes: *writes,
+            }),
+            Some(Transaction::Drawn(_)) => Err(Fault::WrongState),
+            Some(Transaction::ReadOnly) => Err(Fault::WrongState),
+        }
+    }
+}

@@ -1,0 +1,23 @@
+use crate::sessions::Sessions;
+use base::step::SessionReply;
+use txn::{Transaction, WriteSet};
+
+impl Sessions {
+    ghost use Rattle.base.specs.declared.step.SessionStep.TheVariants.{Begin};
+    ghost use Rattle.session_steps.specs.Steps.{HoldsSome, Takes};
+
+    // Opens a session under the lowest number that is free.
+    pub(crate) fn begin(&mut self) -> SessionReply
+        requires shown { ∥ HoldsSome self.old ∥₁ }
+        ensures step { Takes self.old self.new Begin result }
+    {
+        let transaction = Transaction::Active {
+            snapshot: self.numbers.snapshot(),
+            writes: WriteSet::new(),
+        };
+        match self.transactions.begin(transaction) {
+            Ok(number) => SessionReply::Began(number),
+            Err(fault) => SessionReply::Refused(fault),
+        }
+    }
+}

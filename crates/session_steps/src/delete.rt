@@ -1,0 +1,35 @@
+use crate::active::is_full_for;
+use crate::giving::{give, own_slot};
+use crate::sessions::Sessions;
+use base::fault::Fault;
+use base::key::Key;
+use base::step::SessionReply;
+use txn::Write;
+
+impl Sessions {
+    ghost use Rattle.base.specs.declared.step.SessionStep.TheVariants.{Delete};
+    ghost use Rattle.session_steps.specs.Steps.{HoldsSome, Takes};
+
+    // Writes a deletion, and gives back the slot that the session has for the key.
+    pub(crate) fn delete(&mut self, session: u8, key: Key) -> SessionReply
+        requires shown { ∥ HoldsSome self.old ∥₁ }
+        ensures step { Takes self.old self.new (Delete session key) result }
+    {
+        let active = match self.active(session) {
+            Ok(active) => active,
+            Err(fault) => return SessionReply::Refused(fault),
+        };
+        if is_full_for(&active.writes, key) {
+            return SessionReply::Refused(Fault::WriteSetFull);
+        }
+        give(&mut self.slots, own_slot(&active.writes, key));
+        let deletion = Write {
+            key,
+            row: None,
+            slot: None,
+            replaces: None,
+        };
+        self.transactions.write(session, deletion);
+        SessionReply::Done
+    }
+}

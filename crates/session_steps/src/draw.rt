@@ -1,0 +1,156 @@
+ghost use Rattle.std.specs.Prelude.{◌≡◌, ℕ, true, IsTrue, All, IfErr, IfOk, OnOk};
+ghost use Rattle.std.specs.List.{flat_map};
+ghost use Rattle.base.specs.declared.fault.Fault.TheVariants.{OutOfMemory};
+ghost use Rattle.base.specs.declared.key.Key.{Key as KeyValue};
+ghost use Rattle.index.specs.Entries.{entry_at, has_room, KeepsRoom};
+ghost use Rattle.txn.specs.WriteSets.{write_of};
+ghost use Rattle.session_steps.specs.Drawing.{fits_touched, touched_lines, drawn_entry};
+
+use crate::active::Active;
+use crate::sessions::Sessions;
+use base::Ts;
+use base::fault::Fault;
+use base::geometry::Geometry;
+use base::key::Key;
+use base::step::SessionReply;
+use index::Index;
+use std::alloc::{AllocError, Global};
+use txn::{DrawnCommit, Transaction, WriteSet};
+
+impl Sessions {
+    ghost use Rattle.std.specs.Prelude.{◌≢◌, ◌+◌, ◌*◌, ◌^◌, nat_eq, nat_le, false, find, map, [], Some, None};
+    ghost use Rattle.base.specs.declared.step.SessionStep.TheVariants.{Draw};
+    ghost use Rattle.txn.specs.Transactions.{transaction_at};
+    ghost use Rattle.txn.specs.declared.transaction.Transaction.TheVariants.{Active as IsActiveWith};
+    ghost use Rattle.session_steps.specs.Drawing.{conflict_in};
+    ghost use Rattle.session_steps.specs.Steps.{HoldsSome, Takes};
+
+    // Draws a timestamp for what a session has written.
+    pub(crate) fn draw(&mut self, session: u8) -> SessionReply
+        requires shown { ∥ HoldsSome self.old ∥₁ }
+        ensures step { Takes self.old self.new (Draw session) result }
+    {
+        let active = match self.active(session) {
+            Ok(active) => active,
+            Err(fault) => return SessionReply::Refused(fault),
+        };
+        if active.writes.is_empty() {
+            self.transactions.set(session, Transaction::ReadOnly);
+            return SessionReply::Done;
+        }
+        if let Some(key) = self.conflict(&active) {
+            return SessionReply::Refused(Fault::Conflict(key));
+        }
+        if self.numbers.is_window_full() {
+            return SessionReply::Refused(Fault::WindowFull);
+        }
+        if self.numbers.is_near_limit() {
+            return SessionReply::Refused(Fault::TimestampsOut);
+        }
+        self.draw_next(session, active)
+    }
+
+    // The least of the keys that was last drawn by a commit which the snapshot doesn't cover.
+    fn conflict(&self, active: &Active) -> Option<Key>
+        ensures { result ≡ conflict_in self.now.index active.now.snapshot active.now.writes }
+    {
+        for write in active.writes.as_slice() {
+            if let Some(timestamp) = self.index.entry(write.key).last {
+                if !active.snapshot.covers(timestamp) {
+                    return Some(write.key);
+                }
+            }
+        }
+        None
+    }
+
+    // Draws the next timestamp, against which nothing stands but want of memory. The growths come before any change.
+    fn draw_next(&mut self, session: u8, active: Active) -> SessionReply
+        requires shown { ∥ HoldsSome self.old ∥₁ }
+        requires active { transaction_at self.old.transactions session ≡ Some (IsActiveWith active.snapshot active.writes) }
+        requires written { active.writes ≢ [] }
+        requires clear { conflict_in self.old.index active.snapshot active.writes ≡ None }
+        requires window { nat_eq self.old.numbers.next self.old.numbers.record.dirty ≡ false }
+        requires early { nat_le (2 ^ 62) (self.old.numbers.next + 2 * self.old.numbers.geometry.window) ≡ false }
+        ensures step { Takes self.old self.new (Draw session) result }
+    {
+        let writes = active.writes;
+        match reserve_keys(&mut self.index, &writes) {
+            Ok(()) => {}
+            Err(fault) => return SessionReply::Refused(fault),
+        }
+        match self.drawn.reserve() {
+            Ok(()) => {}
+            Err(fault) => return SessionReply::Refused(fault),
+        }
+        let lines = match lines_of(self.alloc, self.numbers.geometry, &self.index, &writes) {
+            Ok(lines) => lines,
+            Err(_) => return SessionReply::Refused(Fault::OutOfMemory),
+        };
+        match self.dirty.touch(session, lines.as_slice()) {
+            Ok(()) => {
+                let timestamp = self.numbers.draw();
+                note_draws(&mut self.index, &writes, timestamp);
+                self.transactions
+                    .set(session, Transaction::Drawn(timestamp));
+                self.drawn.push(DrawnCommit {
+                    session,
+                    timestamp,
+                    writes,
+                    stamped: 0,
+                });
+                SessionReply::Drawn(timestamp)
+            }
+            Err(fault) => SessionReply::Refused(fault),
+        }
+    }
+}
+
+// Makes room in the index for each key that is written. All entries stay.
+fn reserve_keys(index: &mut Index, writes: &WriteSet) -> Result<(), Fault>
+    ensures entries { (key : KeyValue) → entry_at index.new key ≡ entry_at index.old key }
+    ensures kept { (key : KeyValue) → has_room index.old key ≡ true → has_room index.new key ≡ true }
+    ensures room { OnOk result (All (λ write. has_room index.new write.key ≡ true) writes.now) }
+    ensures fault { IfErr result (λ fault. fault ≡ OutOfMemory) }
+{
+    for write in writes.as_slice() {
+        match index.reserve(write.key) {
+            Ok(()) => {}
+            Err(fault) => return Err(fault),
+        }
+    }
+    Ok(())
+}
+
+// The first lines of the versions that the writes make and end.
+fn lines_of(
+    alloc: Global,
+    geometry: Geometry,
+    index: &Index,
+    writes: &WriteSet,
+) -> Result<Vec<u64>, AllocError>
+    requires { IsTrue (fits_touched geometry index.now writes.now) }
+    ensures { IfOk result (λ lines. lines.items ≡ flat_map (touched_lines geometry index.now) writes.now) }
+{
+    let mut lines = Vec::new(alloc);
+    for write in writes.as_slice() {
+        if let Some(slot) = write.slot {
+            lines.push(geometry.slot_line(slot) as u64)?;
+        }
+        if let Some(slot) = index.live(write.key) {
+            lines.push(geometry.slot_line(slot) as u64)?;
+        }
+    }
+    Ok(lines)
+}
+
+// Notes in the index that each of the keys was drawn with this timestamp.
+fn note_draws(index: &mut Index, writes: &WriteSet, timestamp: Ts)
+    requires { All (λ write. has_room index.old write.key ≡ true) writes.now }
+    ensures entries { (key : KeyValue) → entry_at index.new key ≡ drawn_entry (write_of key writes.now) timestamp (entry_at index.old key) }
+    ensures rooms { KeepsRoom index.old index.new }
+{
+    for write in writes.as_slice() {
+        index.draw(write.key, write.slot, timestamp);
+    }
+}

@@ -1,0 +1,43 @@
+use crate::sessions::Sessions;
+use base::fault::Fault;
+use base::step::SessionReply;
+use txn::Transaction;
+
+impl Sessions {
+    ghost use Rattle.std.specs.Prelude.{◌≡◌, true, IfErr, OnOk};
+    ghost use Rattle.base.specs.declared.step.SessionStep.TheVariants.{End};
+    ghost use Rattle.txn.specs.Transactions.{transaction_at};
+    ghost use Rattle.session_steps.specs.Steps.{Takes, IsBarred, is_over, is_over_at};
+
+    // Whether a session is open and over.
+    fn over(&self, session: u8) -> Result<(), Fault>
+        ensures ok { OnOk result (is_over_at self.now.drawn.commits (transaction_at self.now.transactions session) ≡ true) }
+        ensures fault { IfErr result (λ fault. IsBarred (is_over self.now.drawn.commits) (transaction_at self.now.transactions session) fault) }
+    {
+        match self.transactions.get(session) {
+            None => Err(Fault::NoSession),
+            Some(Transaction::Active { .. }) => Err(Fault::WrongState),
+            Some(Transaction::Drawn(timestamp)) => {
+                if self.drawn.get(*timestamp).is_some() {
+                    Err(Fault::WrongState)
+                } else {
+                    Ok(())
+                }
+            }
+            Some(Transaction::ReadOnly) => Ok(()),
+        }
+    }
+
+    // Ends a session that is over.
+    pub(crate) fn end(&mut self, session: u8) -> SessionReply
+        ensures step { Takes self.old self.new (End session) result }
+    {
+        match self.over(session) {
+            Ok(()) => {
+                self.transactions.end(session);
+                SessionReply::Done
+            }
+            Err(fault) => SessionReply::Refused(fault),
+        }
+    }
+}

@@ -1,0 +1,29 @@
+use crate::numbers::Numbers;
+use crate::sessions::Sessions;
+use dirty_table::DirtyTable;
+use txn::DrawnCommit;
+
+impl Sessions {
+    ghost use Rattle.std.specs.Prelude.{◌≡◌};
+
+    /// The layout, the record that rules, and the timestamp that is drawn next.
+    pub fn numbers(&self) -> Numbers
+        ensures { result ≡ self.now.numbers }
+    {
+        self.numbers
+    }
+
+    /// The commits that are drawn and not covered, in the order in which they were drawn.
+    pub fn drawn(&self) -> &[DrawnCommit]
+        ensures { result.now ≡ self.now.drawn.commits }
+    {
+        self.drawn.as_slice()
+    }
+
+    /// The lines that each drawn commit touches, under the number of its session.
+    pub fn dirty(&self) -> &DirtyTable
+        ensures { result.now ≡ self.now.dirty }
+    {
+        &self.dirty
+    }
+}

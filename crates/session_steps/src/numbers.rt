@@ -1,0 +1,52 @@
+ghost use Rattle.std.specs.Prelude.{◌≡◌, ◌+◌, ◌*◌, ◌^◌, ◌<◌, ◌≤◌, [], nat_eq, nat_le, IsTrue};
+ghost use Rattle.gap_list.specs.GapLists.{is_gap_list};
+
+use base::geometry::Geometry;
+use base::{NUMBER_LIMIT, Ts};
+use gap_list::GapList;
+use log_area::Record;
+use snapshot::Snapshot;
+
+/// The layout, the record that rules, and the timestamp that is drawn next.
+#[derive(Clone, Copy)]
+pub struct Numbers {
+    pub geometry: Geometry,
+    pub record: Record,
+    pub next: Ts,
+}
+
+impl Numbers {
+    /// What the record covers.
+    pub fn snapshot(&self) -> Snapshot
+        requires { IsTrue (is_gap_list self.now.record.gaps) }
+        ensures { result ≡ record { persisted = self.now.record.persisted; gaps = self.now.record.gaps; longs = [] } }
+    {
+        Snapshot::new(self.record.persisted(), GapList::of(self.record.gaps()))
+    }
+
+    /// Is no timestamp left that the record reserves?
+    pub fn is_window_full(&self) -> bool
+        ensures { result ≡ nat_eq self.now.next self.now.record.dirty }
+    {
+        self.next == self.record.dirty()
+    }
+
+    /// Would the window after the next one reach past the last timestamp?
+    pub fn is_near_limit(&self) -> bool
+        requires { self.now.next ≤ 2 ^ 62 }
+        ensures { result ≡ nat_le (2 ^ 62) (self.now.next + 2 * self.now.geometry.window) }
+    {
+        NUMBER_LIMIT <= self.next + 2 * self.geometry.window()
+    }
+
+    /// Draws the next timestamp.
+    pub fn draw(&mut self) -> Ts
+        requires { self.old.next < 2 ^ 62 }
+        ensures timestamp { result ≡ self.old.next }
+        ensures numbers { self.new ≡ record self.old { next = self.old.next + 1 } }
+    {
+        let timestamp = self.next;
+        self.next += 1;
+        timestamp
+    }
+}

@@ -1,0 +1,134 @@
+ghost use Rattle.std.specs.Prelude.{◌≡◌, None, Some};
+
+use crate::active::{Active, is_full_for};
+use crate::giving::own_slot;
+use crate::sessions::Sessions;
+use base::SlotNo;
+use base::actor::Actor;
+use base::fault::Fault;
+use base::key::Key;
+use base::row::Row;
+use base::step::SessionReply;
+use pmem::Pmem;
+use txn::Write;
+use version_slot::{Version, fill};
+
+impl Sessions {
+    ghost use Rattle.std.specs.Prelude.{◌≤◌, ◌<◌, false, length};
+    ghost use Rattle.base.specs.declared.step.SessionStep.TheVariants.{Put};
+    ghost use Rattle.txn.specs.Transactions.{transaction_at};
+    ghost use Rattle.txn.specs.WriteSets.{HasRoomFor};
+    ghost use Rattle.txn.specs.declared.transaction.Transaction.TheVariants.{Active as IsActiveWith};
+    ghost use Rattle.session_steps.specs.Giving.{is_full_of, own_of};
+    ghost use Rattle.session_steps.specs.Steps.{HoldsSomeOn, TakesOn};
+
+    // Writes a row: in the slot that the session has for the key, or else in the lowest free one.
+    pub(crate) fn put<D: Pmem>(
+        &mut self,
+        device: &mut D,
+        session: u8,
+        key: Key,
+        row: Row,
+    ) -> SessionReply
+        requires shown { ∥ HoldsSomeOn self.old (D.state device.old) ∥₁ }
+        ensures step { TakesOn self.old self.new (D.state device.old) (D.state device.new) (Put session key row) result }
+    {
+        let len = row.as_bytes().len();
+        prove!(len <= Row::LIMIT);
+        let active = match self.active(session) {
+            Ok(active) => active,
+            Err(fault) => return SessionReply::Refused(fault),
+        };
+        if is_full_for(&active.writes, key) {
+            return SessionReply::Refused(Fault::WriteSetFull);
+        }
+        match own_slot(&active.writes, key) {
+            Some(slot) => self.fill_own(device, session, active, slot, key, row),
+            None => self.fill_taken(device, session, active, key, row),
+        }
+    }
+
+    // Writes a row in the slot that the session has for the key.
+    fn fill_own<D: Pmem>(
+        &mut self,
+        device: &mut D,
+        session: u8,
+        active: Active,
+        slot: SlotNo,
+        key: Key,
+        row: Row,
+    ) -> SessionReply
+        requires shown { ∥ HoldsSomeOn self.old (D.state device.old) ∥₁ }
+        requires active { transaction_at self.old.transactions session ≡ Some (IsActiveWith active.snapshot active.writes) }
+        requires room { HasRoomFor key active.writes }
+        requires fits { is_full_of key active.writes ≡ false }
+        requires row { length row ≤ 32 }
+        requires own { own_of key active.writes ≡ Some slot }
+        ensures step { TakesOn self.old self.new (D.state device.old) (D.state device.new) (Put session key row) result }
+    {
+        let version = Version {
+            key,
+            row,
+            previous: self.index.link(key),
+        };
+        match fill(device, self.numbers.geometry, slot, &version) {
+            Ok(()) => {
+                self.transactions.write(session, row_write(key, row, slot));
+                SessionReply::Done
+            }
+            Err(fault) => SessionReply::Refused(fault),
+        }
+    }
+
+    // Writes a row in the lowest free slot, which stays free where the device fails.
+    fn fill_taken<D: Pmem>(
+        &mut self,
+        device: &mut D,
+        session: u8,
+        active: Active,
+        key: Key,
+        row: Row,
+    ) -> SessionReply
+        requires shown { ∥ HoldsSomeOn self.old (D.state device.old) ∥₁ }
+        requires active { transaction_at self.old.transactions session ≡ Some (IsActiveWith active.snapshot active.writes) }
+        requires within { (2 ≤ session) × (session < 64) }
+        requires room { HasRoomFor key active.writes }
+        requires fits { is_full_of key active.writes ≡ false }
+        requires row { length row ≤ 32 }
+        requires unheld { own_of key active.writes ≡ None }
+        ensures step { TakesOn self.old self.new (D.state device.old) (D.state device.new) (Put session key row) result }
+    {
+        let geometry = self.numbers.geometry;
+        let version = Version {
+            key,
+            row,
+            previous: self.index.link(key),
+        };
+        let slot = match self.slots.take(device, geometry, Actor::session(session)) {
+            Ok(slot) => slot,
+            Err(fault) => return SessionReply::Refused(fault),
+        };
+        match fill(device, geometry, slot, &version) {
+            Ok(()) => {
+                self.transactions.write(session, row_write(key, row, slot));
+                SessionReply::Done
+            }
+            Err(fault) => {
+                self.slots.give(slot);
+                SessionReply::Refused(fault)
+            }
+        }
+    }
+}
+
+// The write of a row that lies in the slot.
+fn row_write(key: Key, row: Row, slot: SlotNo) -> Write
+    ensures { result ≡ record { key = key; row = Some row; slot = Some slot; replaces = None } }
+{
+    Write {
+        key,
+        row: Some(row),
+        slot: Some(slot),
+        replaces: None,
+    }
+}

@@ -1,0 +1,18 @@
+use crate::numbers::Numbers;
+use dirty_table::DirtyTable;
+use index::Index;
+use slot_alloc::SlotAlloc;
+use std::alloc::Global;
+use txn::{DrawnCommits, Transactions};
+
+/// The open sessions, and what they share.
+#[derive(Drop)]
+pub struct Sessions {
+    pub(crate) numbers: Numbers,
+    pub(crate) transactions: Transactions,
+    pub(crate) drawn: DrawnCommits,
+    pub(crate) index: Index,
+    pub(crate) dirty: DirtyTable,
+    pub(crate) slots: SlotAlloc,
+    pub(crate) alloc: Global,
+}

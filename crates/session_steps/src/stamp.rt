@@ -1,0 +1,156 @@
+ghost use Rattle.std.specs.Prelude.{◌≡◌, ◌++◌, false, nat_lt, length, IsTrue, IfErr, IfOk, OnErr, OnOk};
+ghost use Rattle.base.specs.Layout.{total_words};
+ghost use Rattle.base.specs.declared.fault.Fault.TheVariants.{Device as DeviceFault, WrongState};
+ghost use Rattle.version_slot.specs.Operations.{Runs, StopsWithin, begin_operations, end_operations};
+ghost use Rattle.session_steps.specs.Giving.{fits_slot};
+ghost use Rattle.session_steps.specs.Stamping.{IsNextIn};
+
+use crate::sessions::Sessions;
+use base::fault::Fault;
+use base::geometry::Geometry;
+use base::step::SessionReply;
+use base::{SlotNo, Ts};
+use pmem::Pmem;
+use txn::{DrawnCommit, Transaction, Write};
+use version_slot::{stamp_begin, stamp_end};
+
+/// The next write of a commit that isn't stamped whole.
+#[derive(Clone, Copy)]
+pub struct Unstamped {
+    pub timestamp: Ts,
+    pub write: Write,
+    /// Whether none is left after it.
+    pub is_last: bool,
+}
+
+impl Sessions {
+    ghost use Rattle.std.specs.Prelude.{Some};
+    ghost use Rattle.base.specs.declared.step.SessionStep.TheVariants.{Stamp};
+    ghost use Rattle.txn.specs.Transactions.{transaction_at};
+    ghost use Rattle.txn.specs.declared.transaction.Transaction.TheVariants.{Drawn};
+    ghost use Rattle.session_steps.specs.Stamping.{IsNextOf, is_unstamped};
+    ghost use Rattle.session_steps.specs.Steps.{HoldsSomeOn, TakesOn, IsBarred};
+
+    // The write that the session of this number stamps next.
+    fn unstamped(&self, session: u8) -> Result<Unstamped, Fault>
+        ensures at { IfOk result (λ next. transaction_at self.now.transactions session ≡ Some (Drawn next.timestamp)) }
+        ensures next { IfOk result (λ next. IsNextOf self.now.drawn.commits next) }
+        ensures fault { IfErr result (λ fault. IsBarred (is_unstamped self.now.drawn.commits) (transaction_at self.now.transactions session) fault) }
+    {
+        match self.transactions.get(session) {
+            None => Err(Fault::NoSession),
+            Some(Transaction::Active { .. }) => Err(Fault::WrongState),
+            Some(Transaction::Drawn(timestamp)) => match self.drawn.get(*timestamp) {
+                Some(commit) => next_of(*timestamp, commit),
+                None => Err(Fault::WrongState),
+            },
+            Some(Transaction::ReadOnly) => Err(Fault::WrongState),
+        }
+    }
+
+    // Stamps one write more of a session's commit.
+    pub(crate) fn stamp<D: Pmem>(&mut self, device: &mut D, session: u8) -> SessionReply
+        requires shown { ∥ HoldsSomeOn self.old (D.state device.old) ∥₁ }
+        ensures step { TakesOn self.old self.new (D.state device.old) (D.state device.new) (Stamp session) result }
+    {
+        let next = match self.unstamped(session) {
+            Ok(next) => next,
+            Err(fault) => return SessionReply::Refused(fault),
+        };
+        let geometry = self.numbers.geometry;
+        let ended = self.index.live(next.write.key);
+        match stamp_write(device, geometry, next.write.slot, ended, next.timestamp) {
+            Ok(()) => {
+                self.drawn.stamp(next.timestamp);
+                if next.is_last {
+                    SessionReply::Stamped
+                } else {
+                    SessionReply::More
+                }
+            }
+            Err(fault) => SessionReply::Refused(fault),
+        }
+    }
+}
+
+// The next write of a commit, if one is left.
+fn next_of(timestamp: Ts, commit: &DrawnCommit) -> Result<Unstamped, Fault>
+    ensures ok { IfOk result (λ next. IsNextIn commit.now next.write next.is_last) }
+    ensures timestamp { IfOk result (λ next. next.timestamp ≡ timestamp) }
+    ensures fault { IfErr result (λ fault. fault ≡ WrongState) }
+    ensures none { OnErr result (nat_lt commit.now.stamped (length commit.now.writes) ≡ false) }
+{
+    let len = commit.writes.len();
+    match commit.writes.get(commit.stamped) {
+        Some(write) => Ok(Unstamped {
+            timestamp,
+            write,
+            is_last: commit.stamped + 1 == len,
+        }),
+        None => Err(Fault::WrongState),
+    }
+}
+
+// Stores a timestamp in the begin of the version of a write, and in the end of the one that it ends, where there are such.
+fn stamp_write<D: Pmem>(
+    device: &mut D,
+    geometry: Geometry,
+    own: Option<SlotNo>,
+    ended: Option<SlotNo>,
+    timestamp: Ts,
+) -> Result<(), Fault>
+    requires own { IsTrue (fits_slot geometry.slots own) }
+    requires ended { IsTrue (fits_slot geometry.slots ended) }
+    requires device { (D.state device.old).words ≡ total_words geometry }
+    ensures ok { OnOk result (Runs (begin_operations geometry own timestamp ++ end_operations geometry ended timestamp) (D.state device.old) (D.state device.new)) }
+    ensures err { OnErr result (StopsWithin (begin_operations geometry own timestamp ++ end_operations geometry ended timestamp) (D.state device.old) (D.state device.new)) }
+    ensures fault { IfErr result (λ fault. fault ≡ DeviceFault) }
+{
+    match stamp_own(device, geometry, own, timestamp) {
+        Ok(()) => {}
+        Err(fault) => return Err(fault),
+    }
+    match stamp_ended(device, geometry, ended, timestamp) {
+        Ok(()) => Ok(()),
+        Err(fault) => Err(fault),
+    }
+}
+
+// Stores a timestamp in the begin of a slot, if there is one.
+fn stamp_own<D: Pmem>(
+    device: &mut D,
+    geometry: Geometry,
+    own: Option<SlotNo>,
+    timestamp: Ts,
+) -> Result<(), Fault>
+    requires own { IsTrue (fits_slot geometry.slots own) }
+    requires device { (D.state device.old).words ≡ total_words geometry }
+    ensures ok { OnOk result (Runs (begin_operations geometry own timestamp) (D.state device.old) (D.state device.new)) }
+    ensures err { OnErr result (StopsWithin (begin_operations geometry own timestamp) (D.state device.old) (D.state device.new)) }
+    ensures fault { IfErr result (λ fault. fault ≡ DeviceFault) }
+    ensures size { (D.state device.new).words ≡ (D.state device.old).words }
+{
+    match own {
+        Some(slot) => stamp_begin(device, geometry, slot, timestamp),
+        None => Ok(()),
+    }
+}
+
+// And in the end of one.
+fn stamp_ended<D: Pmem>(
+    device: &mut D,
+    geometry: Geometry,
+    ended: Option<SlotNo>,
+    timestamp: Ts,
+) -> Result<(), Fault>
+    requires ended { IsTrue (fits_slot geometry.slots ended) }
+    requires device { (D.state device.old).words ≡ total_words geometry }
+    ensures ok { OnOk result (Runs (end_operations geometry ended timestamp) (D.state device.old) (D.state device.new)) }
+    ensures err { OnErr result (StopsWithin (end_operations geometry ended timestamp) (D.state device.old) (D.state device.new)) }
+    ensures fault { IfErr result (λ fault. fault ≡ DeviceFault) }
+{
+    match ended {
+        Some(slot) => stamp_end(device, geometry, slot, timestamp),
+        None => Ok(()),
+    }
+}
