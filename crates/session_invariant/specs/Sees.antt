@@ -5,7 +5,7 @@ use Rattle.base.specs.declared.key.Key.{Key}
 use Rattle.base.specs.Layout.{Layout}
 use Rattle.base.specs.Commits.{Commit, Tables, writes_key}
 use Rattle.base.specs.Images.{Image, key_of, is_live, is_misfit, Shown}
-use Rattle.base.specs.Machine.{State, Version}
+use Rattle.base.specs.Machine.{State}
 use Rattle.state_invariant.specs.Kept.{Origin}
 use Rattle.state_invariant.specs.Shown.{counts_at}
 use Rattle.snapshot.specs.Snapshots.{Seen, covers}
@@ -14,11 +14,6 @@ use Rattle.snapshot.specs.Snapshots.{Seen, covers}
 pub record Sees (o : Origin) (q : State) (snapshot : Seen) (begun : ℕ) : Type 0 where
   pub covered : (t : ℕ) → t < q.next → covers snapshot t ≡ counts_at o q begun t
   pub early : snapshot.persisted < q.next
-
--- the slot is the one that the version holds, and none where no slot is held by it
-abbrev pub IsSlotOf : State → Version → Option ℕ → Type 0
-IsSlotOf q v (Some slot) = (slot < q.layout.slots) × (q.held slot ≡ Some v)
-IsSlotOf q v None = (slot : ℕ) → slot < q.layout.slots → q.held slot ≡ Some v → ⊥
 
 -- the last of the commits that writes the key
 abbrev pub last_on : Key → List Commit → Option ℕ

@@ -24,3 +24,5 @@ pub mod Stepping
 pub mod Stamped
 pub mod Puts
 pub mod Reading
+pub mod Hands
+pub mod BatchLines

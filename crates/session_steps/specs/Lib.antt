@@ -5,3 +5,4 @@ pub mod Stamping
 pub mod Steps
 pub mod Covering
 pub mod Opening
+pub mod Laws

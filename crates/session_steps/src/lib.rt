@@ -10,6 +10,7 @@ mod draw;
 mod end;
 mod get;
 mod giving;
+mod law;
 mod lending;
 mod numbers;
 mod opening;
@@ -19,5 +20,6 @@ mod sessions;
 mod stamp;
 mod step;
 
+pub use law::{sessions_show_any_hand, table_has_the_lines_of_a_batch};
 pub use numbers::Numbers;
 pub use sessions::Sessions;

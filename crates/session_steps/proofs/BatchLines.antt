@@ -1,0 +1,101 @@
+-- The lines that the dirty table has for the sessions of a batch are those that the batch touches.
+use Rattle.std.proofs.Common.{◌≡◌, ℕ, zero, suc, ◌<◌, ◌≤◌, Bool, true, false, ◌&&◌, ◌||◌, List, [], ◌∷◌, length, take, map, refl, sym, ◌∙◌, ap, subst, arith}
+use Rattle.std.specs.Prelude.{nat_eq, All}
+use Rattle.std.specs.List.{list_any}
+use Rattle.std.specs.Cmp.{both_ways}
+use Rattle.std.proofs.lemmas.Bool.{eq-eqb, eqb-true}
+use Rattle.base.specs.Commits.{Commit}
+use Rattle.base.specs.Records.{are_rising}
+use Rattle.base.specs.Machine.{State, Drawn as PlainDrawn, drawn_of}
+use Rattle.dirty_table.specs.declared.touches.Touch.{Touch}
+use Rattle.dirty_table.specs.Touches.{has, is_touched, lines_touched, are_in_order}
+use Rattle.dirty_table.proofs.Tables.{lines_touched-any, lines_touched-rising}
+use Rattle.cycle_invariant.specs.Batches.{line_numbers, is_line_of}
+use Rattle.txn.specs.declared.drawn.DrawnCommit.{DrawnCommit}
+use Rattle.session_steps.specs.Shows.{plain_drawn, HoldsLines}
+use Rattle.cycle_invariant.proofs.Rising.{lines-are_in_order}
+
+take-map : {X Y : Type 0} (f : X → Y) (n : ℕ) (xs : List X) → take n (map f xs) ≡ map f (take n xs)
+take-map f zero xs = refl
+take-map f (suc n) [] = refl
+take-map f (suc n) (x ∷ xs) = ap (λ ys. f x ∷ ys) (take-map f n xs)
+
+map-map : {X Y Z : Type 0} (f : X → Y) (g : Y → Z) (xs : List X) → map g (map f xs) ≡ map (λ x. g (f x)) xs
+map-map f g [] = refl
+map-map f g (x ∷ xs) = ap (λ ys. g (f x) ∷ ys) (map-map f g xs)
+
+-- the commits of the first so many of the drawn ones
+pub first-commits : (count : ℕ) (drawn : List DrawnCommit) (q : State) → q.drawn ≡ map plain_drawn drawn → take count (drawn_of q) ≡ map (λ (d : DrawnCommit). (plain_drawn d).commit) (take count drawn)
+first-commits count drawn q is =
+    ap (λ ds. take count (map (λ (d : PlainDrawn). d.commit) ds)) is ∙ ap (take count) (map-map plain_drawn (λ (d : PlainDrawn). d.commit) drawn) ∙ take-map (λ (d : DrawnCommit). (plain_drawn d).commit) count drawn
+
+any-same : {X : Type 0} (p r : X → Bool) (xs : List X) → ((x : X) → p x ≡ r x) → list_any p xs ≡ list_any r xs
+any-same p r [] same = refl
+any-same p r (x ∷ xs) same = ap (λ b. b || list_any p xs) (same x) ∙ ap (λ b. r x || b) (any-same p r xs same)
+
+any-false : {X : Type 0} (xs : List X) → list_any (λ x. false) xs ≡ false
+any-false [] = refl
+any-false (x ∷ xs) = any-false xs
+
+or-swap : (a b c d : Bool) → ((a || b) || (c || d)) ≡ ((a || c) || (b || d))
+or-swap true b c d = refl
+or-swap false b true d = or-true b d
+  where
+    or-true : (b d : Bool) → (b || true) ≡ true
+    or-true true d = refl
+    or-true false d = refl
+or-swap false b false d = refl
+
+and-or : (a b c : Bool) → ((a || b) && c) ≡ ((a && c) || (b && c))
+and-or true true true = refl
+and-or true true false = refl
+and-or true false true = refl
+and-or true false false = refl
+and-or false b c = refl
+
+any-or : {X : Type 0} (p r : X → Bool) (xs : List X) → list_any (λ x. p x || r x) xs ≡ (list_any p xs || list_any r xs)
+any-or p r [] = refl
+any-or p r (x ∷ xs) = ap (λ b. (p x || r x) || b) (any-or p r xs) ∙ or-swap (p x) (r x) (list_any p xs) (list_any r xs)
+
+any-swap : {X Y : Type 0} (relates : Y → X → Bool) (p : X → Bool) (ys : List Y) (xs : List X)
+    → list_any (λ x. list_any (λ y. relates y x) ys && p x) xs ≡ list_any (λ y. list_any (λ x. relates y x && p x) xs) ys
+any-swap relates p [] xs = any-false xs
+any-swap relates p (y ∷ ys) xs =
+    any-same (λ x. (relates y x || list_any (λ y. relates y x) ys) && p x) (λ x. (relates y x && p x) || (list_any (λ y. relates y x) ys && p x)) xs (λ x. and-or (relates y x) (list_any (λ y. relates y x) ys) (p x))
+    ∙ any-or (λ x. relates y x && p x) (λ x. list_any (λ y. relates y x) ys && p x) xs
+    ∙ ap (λ b. list_any (λ x. relates y x && p x) xs || b) (any-swap relates p ys xs)
+
+any-map : {X Y : Type 0} (p : Y → Bool) (f : X → Y) (xs : List X) → list_any p (map f xs) ≡ list_any (λ x. p (f x)) xs
+any-map p f [] = refl
+any-map p f (x ∷ xs) = ap (λ b. p (f x) || b) (any-map p f xs)
+
+any-take : {X : Type 0} (p r : X → Bool) (n : ℕ) (xs : List X) → All (λ x. p x ≡ r x) xs → list_any p (take n xs) ≡ list_any r (take n xs)
+any-take p r zero xs all = refl
+any-take p r (suc n) [] all = refl
+any-take p r (suc n) (x ∷ xs) all =
+    ap (λ b. b || list_any p (take n xs)) (all 0 x (omega arith))
+    ∙ ap (λ b. r x || b) (any-take p r n xs (λ k d lt. all (suc k) d (omega (arith, lt))))
+
+nat_eq-swap : (a b : ℕ) → nat_eq a b ≡ nat_eq b a
+nat_eq-swap a b = both_ways (nat_eq a b) (nat_eq b a) (λ e. eq-eqb b a (sym (eqb-true a b e))) (λ e. eq-eqb a b (sym (eqb-true b a e)))
+
+module _ (q : State) (drawn : List DrawnCommit) (dirty : List Touch) (sessions : List Bool) (count : ℕ) (is : q.drawn ≡ map plain_drawn drawn) (holds : HoldsLines q drawn dirty)
+    (of : (n : ℕ) → has sessions n ≡ list_any (λ d. nat_eq d.session n) (take count drawn)) where
+  abbrev commits : List Commit
+  commits = map (λ (d : DrawnCommit). (plain_drawn d).commit) (take count drawn)
+
+  member : (l : ℕ) → list_any (λ x. nat_eq x l) (lines_touched (has sessions) dirty) ≡ list_any (λ x. nat_eq x l) (line_numbers q commits)
+  member l =
+      lines_touched-any (λ x. nat_eq x l) (has sessions) dirty
+      ∙ any-same (λ (t : Touch). has sessions t.session && nat_eq t.line l) (λ (t : Touch). list_any (λ (d : DrawnCommit). nat_eq t.session d.session) (take count drawn) && nat_eq t.line l) dirty
+        (λ t. ap (λ b. b && nat_eq t.line l) (of t.session ∙ any-same (λ (d : DrawnCommit). nat_eq d.session t.session) (λ (d : DrawnCommit). nat_eq t.session d.session) (take count drawn) (λ d. nat_eq-swap d.session t.session)))
+      ∙ any-swap (λ (d : DrawnCommit) (t : Touch). nat_eq t.session d.session) (λ (t : Touch). nat_eq t.line l) (take count drawn) dirty
+      ∙ any-take (λ (d : DrawnCommit). is_touched dirty d.session l) (λ (d : DrawnCommit). is_line_of l (line_numbers q ((plain_drawn d).commit ∷ []))) count drawn
+        (λ k d lt. holds.own k d lt l)
+      ∙ sym (any-map (λ (c : Commit). is_line_of l (line_numbers q (c ∷ []))) (λ (d : DrawnCommit). (plain_drawn d).commit) (take count drawn))
+      ∙ sym (lines-are_in_order.each q commits l)
+
+  pub table-lines : are_in_order dirty ≡ true → lines_touched (has sessions) dirty ≡ line_numbers q (take count (drawn_of q))
+  table-lines ordered =
+      lines-are_in_order.one (lines_touched (has sessions) dirty) (line_numbers q commits) (lines_touched-rising (has sessions) dirty ordered) (lines-are_in_order.rising q commits) member
+      ∙ ap (line_numbers q) (sym (first-commits count drawn q is))

@@ -1,0 +1,23 @@
+-- What follows for whoever lends the sessions to a committer. Each law stands here in words that need no proof, and a public
+-- function promises it.
+use Rattle.std.specs.Prelude.{◌≡◌, ℕ, Bool, nat_eq, List, map, take, Option, IsTrue}
+use Rattle.std.specs.List.{list_any}
+use Rattle.base.specs.Machine.{State, Hand, drawn_of}
+use Rattle.pmem.specs.Device.{Device}
+use Rattle.device_invariant.specs.Upholds.{Upholds}
+use Rattle.txn.specs.declared.drawn.DrawnCommit.{DrawnCommit}
+use Rattle.dirty_table.specs.declared.touches.Touch.{Touch}
+use Rattle.dirty_table.specs.Touches.{has, lines_touched, are_in_order}
+use Rattle.session_steps.specs.declared.sessions.Sessions.{Sessions}
+use Rattle.session_steps.specs.Shows.{plain_drawn, line_numbers, HoldsLines, Shows}
+
+-- what the sessions show they show with any batch in hand, or as failed, on a device that upholds that
+pub record ShowsAnyHand : Type 0 where
+  pub hand : (s : Sessions) (before now : Device) (q : State) (hand : Option Hand) (shown : Shows s before q) → Upholds shown.hidden.origin (record q { hand = hand }) now → Shows s now (record q { hand = hand })
+  pub failed : (s : Sessions) (before now : Device) (q : State) (failed : Bool) (shown : Shows s before q) → Upholds shown.hidden.origin (record q { failed = failed }) now → Shows s now (record q { failed = failed })
+
+-- the lines that the dirty table has for the sessions of the first so many drawn commits are those that these touch
+abbrev pub TableHasLines : Type 0
+TableHasLines =
+    (q : State) (drawn : List DrawnCommit) (dirty : List Touch) (sessions : List Bool) (count : ℕ) → q.drawn ≡ map plain_drawn drawn → HoldsLines q drawn dirty → IsTrue (are_in_order dirty)
+    → ((n : ℕ) → has sessions n ≡ list_any (λ d. nat_eq d.session n) (take count drawn)) → lines_touched (has sessions) dirty ≡ line_numbers q (take count (drawn_of q))

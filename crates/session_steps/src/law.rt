@@ -1,0 +1,13 @@
+//! What follows from the definitions. The functions do nothing: the contract of each is a law.
+
+ghost use Rattle.session_steps.specs.Laws.{ShowsAnyHand, TableHasLines};
+
+/// Which batch is in hand, and whether the device failed, is nothing to the sessions.
+pub fn sessions_show_any_hand()
+    ensures { ShowsAnyHand }
+{}
+
+/// The dirty table has the lines that a batch touches, under the numbers of its sessions.
+pub fn table_has_the_lines_of_a_batch()
+    ensures { TableHasLines }
+{}
