@@ -361,7 +361,7 @@ taken-within free slots slot lowest taken =
     let there = first_below-some (length free) (is_free free) slot lowest in
     subst (λ (xs : List Bool). slot < length xs) (sym taken) (subst (λ (n : ℕ). slot < n) (sym (length-set free slot false)) there.0)
 
--- a slot that was taken and given back
+-- a slot that was taken and freed again
 pub given-again : (free : List Bool) (slot : ℕ) → lowest_free free ≡ Some slot → slice_set (slice_set free slot false) slot true ≡ free
 given-again free slot lowest =
     let there = first_below-some (length free) (is_free free) slot lowest in
@@ -385,7 +385,7 @@ puts-untaken s h n snapshot writes v slots before now fault orderly holds at roo
         let stopped = stops is in
         puts-taken-stopped s h n snapshot writes v stopped.0 before now holds at room short-row none stopped.1 fault is (stops-first (fill_operations s.numbers.geometry stopped.0 v) stopped.2)
 
--- the device stopped in filling the slot, which is given back
+-- the device stopped in filling the slot, which is freed again
 pub puts-returned : (s : Sessions) (h : Hidden) (n : ℕ) (snapshot : Seen) (writes : List Write) (v : Content) (slot : ℕ) (slots : List Bool) (before mid now : Device) (fault : Fault) → HoldsOn s h before → transaction_at s.transactions n ≡ Some (Active snapshot writes)
     → is_full_of v.key writes ≡ false → length v.row ≤ 32 → own_of v.key writes ≡ None → lowest_free s.slots ≡ Some slot → slots ≡ slice_set (slice_set s.slots slot false) slot true → fault ≡ DeviceFault
     → Runs (clear_operations s.numbers.geometry n slot) before mid → StopsWithin (fill_operations s.numbers.geometry slot v) mid now → GoesOn s (record s { slots = slots }) before now (Put n v.key v.row) (Refused fault) h

@@ -1,4 +1,4 @@
--- Slots that are given back.
+-- Slots that are freed.
 use Rattle.std.specs.Prelude.{◌≡◌, ℕ, Bool, true, ◌&&◌, nat_lt, nat_le, is_none, List, length, slice_get, slice_set, Option, Some, None, Contains}
 use Rattle.std.specs.List.{list_all}
 use Rattle.std.specs.Option.{option_and_then}

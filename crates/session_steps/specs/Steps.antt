@@ -22,7 +22,7 @@ use Rattle.session_steps.specs.Shows.{Hidden, plain_of, Agrees, Shows}
 
 -- ---- a step
 
--- a failing device is told exactly where an operation failed
+-- a failing device is reported exactly where an operation failed
 pub record TellsFailure (old new : Device) (told : Type 0) : Type 0 where
   pub no_fewer : old.failures ≤ new.failures
   pub cause : told → old.failures < new.failures

@@ -10,7 +10,7 @@ impl Sessions {
     ghost use Rattle.base.specs.declared.step.SessionStep.TheVariants.{Delete};
     ghost use Rattle.session_steps.specs.Steps.{HoldsSome, Takes};
 
-    // Writes a deletion, and gives back the slot that the session has for the key.
+    // Writes a deletion, and frees the slot that the session has for the key.
     pub(crate) fn delete(&mut self, session: u8, key: Key) -> SessionReply
         requires shown { ∥ HoldsSome self.old ∥₁ }
         ensures step { Takes self.old self.new (Delete session key) result }
