@@ -148,8 +148,8 @@ module _ (o : Origin) (q : State) (hand : Hand) (n : ℕ) (kept : Keeps o q) (fi
       last-is key ∙ ap (writer_from key (last_writer q.history key)) as-taken
       ∙ writer-one key d.commit.timestamp (map (λ (d : Drawn). d.commit) (take n q.drawn)) (last_writer q.history key)
       (λ c in_batch c_writes. let (e, in_drawn, is) = member-map (λ (d : Drawn). d.commit) (take n q.drawn) c in_batch in
-        ap (λ (c : Commit). c.timestamp) (sym is)
-        ∙ kept.draws.apart e.commit.timestamp d.commit.timestamp e d key (found q.drawn e kept.draws.rising (member-take n q.drawn e in_drawn)) (found q.drawn d kept.draws.rising (member-take n q.drawn d member)) (ap (writes_key key) is ∙ c_writes) writes)
+      ap (λ (c : Commit). c.timestamp) (sym is)
+      ∙ kept.draws.apart e.commit.timestamp d.commit.timestamp e d key (found q.drawn e kept.draws.rising (member-take n q.drawn e in_drawn)) (found q.drawn d kept.draws.rising (member-take n q.drawn d member)) (ap (writes_key key) is ∙ c_writes) writes)
       (inl (writes-one (take n q.drawn) member))
     where
       writes-one : (ds : List Drawn) → Contains ds d → list_any (writes_key key) (map (λ (d : Drawn). d.commit) ds) ≡ true

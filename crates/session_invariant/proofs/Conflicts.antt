@@ -129,8 +129,8 @@ module _ (o : Origin) (q : State) (snapshot : Seen) (begun : ℕ) (kept : Keeps 
           let lows = and_parts (nat_lt o.ruling.persisted d.commit.timestamp) (list_all (λ d. nat_lt o.ruling.persisted d.commit.timestamp) ds) low in
           elim (or_cases (nat_eq d.commit.timestamp t) (has_timestamp (map (λ (d : Drawn). d.commit) ds) t) has) [
             | inl here ↦
-              let is : d.commit.timestamp ≡ t = eqb-true d.commit.timestamp t here in
-              (ap (is_committed q.ruling) (sym is) ∙ not-yes (is_committed q.ruling d.commit.timestamp) one.0, omega (arith, is, ltb-true d.commit.timestamp q.next one.1), omega (arith, is, ltb-true o.ruling.persisted d.commit.timestamp lows.0))
+                let is : d.commit.timestamp ≡ t = eqb-true d.commit.timestamp t here in
+                (ap (is_committed q.ruling) (sym is) ∙ not-yes (is_committed q.ruling d.commit.timestamp) one.0, omega (arith, is, ltb-true d.commit.timestamp q.next one.1), omega (arith, is, ltb-true o.ruling.persisted d.commit.timestamp lows.0))
             | inr later ↦ by ds both.1 lows.1 later
           ]
 
@@ -145,9 +145,9 @@ module _ (o : Origin) (q : State) (snapshot : Seen) (begun : ℕ) (kept : Keeps 
 
   unseen-uncovered : (t : ℕ) → has_timestamp unseen t ≡ true → covers snapshot t ≡ false
   unseen-uncovered t has = elim (or_cases (has_timestamp (drop begun q.history) t) (has_timestamp (drawn_of q) t) (sym (list_any-append (λ (c : Commit). nat_eq c.timestamp t) (drop begun q.history) (drawn_of q)) ∙ has)) [
-      | inl covered ↦ rest-uncovered t covered
-      | inr drawn ↦ drawn-uncovered t drawn
-    ]
+    | inl covered ↦ rest-uncovered t covered
+    | inr drawn ↦ drawn-uncovered t drawn
+  ]
 
   pub conflict : (key : Key) → is_unseen snapshot (last_on key (commits_of_life o q)) ≡ list_any (writes_key key) unseen
   conflict key = ap (λ cs. is_unseen snapshot (last_on key cs)) whole ∙ ap (is_unseen snapshot) (last_on-append key seen unseen) ∙ by (last_on key unseen) refl ∙ last_on-any key unseen

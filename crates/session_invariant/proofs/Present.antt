@@ -43,9 +43,9 @@ module _ (o : Origin) (q : State) (unswept : q.swept ≡ false) (kept : Keeps o 
 
   same-gaps : q.ruling.gaps ≡ o.ruling.gaps
   same-gaps = elim origin.gaps [
-      | inl same ↦ same
-      | inr swept ↦ absurd (true≢false (sym swept.0 ∙ unswept))
-    ]
+    | inl same ↦ same
+    | inr swept ↦ absurd (true≢false (sym swept.0 ∙ unswept))
+  ]
 
   -- what the ruling record commits of what the opening's persisted, that committed too
   committed-before : (t : ℕ) → t ≤ o.ruling.persisted → is_committed q.ruling t ≡ true → is_committed o.ruling t ≡ true
@@ -89,9 +89,9 @@ module _ (o : Origin) (q : State) (unswept : q.swept ≡ false) (kept : Keeps o 
 
   counted-now : (t : ℕ) → counts_at o q (length q.history) t ≡ true → is_committed q.ruling t ≡ true
   counted-now t counts = elim (or_cases (is_committed o.ruling t) (has_timestamp (drop o.opened (take (length q.history) q.history)) t) counts) [
-      | inl earlier ↦ origin.still t earlier
-      | inr later ↦ timestamp-all (is_committed q.ruling) (covered_since o q) t (all-drop (λ (c : Commit). is_committed q.ruling c.timestamp) o.opened q.history kept.numbers.covered) (ap (λ cs. has_timestamp (drop o.opened cs) t) (sym (take_all (length q.history) q.history (omega arith))) ∙ later)
-    ]
+    | inl earlier ↦ origin.still t earlier
+    | inr later ↦ timestamp-all (is_committed q.ruling) (covered_since o q) t (all-drop (λ (c : Commit). is_committed q.ruling c.timestamp) o.opened q.history kept.numbers.covered) (ap (λ cs. has_timestamp (drop o.opened cs) t) (sym (take_all (length q.history) q.history (omega arith))) ∙ later)
+  ]
 
   pub present-sees : Sees o q (seen_by q.ruling) (length q.history)
   present-sees = record {

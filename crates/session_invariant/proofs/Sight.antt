@@ -36,9 +36,9 @@ module _ (o : Origin) (q : State) (snapshot : Seen) (begun : ℕ) (within : begu
   -- a timestamp that isn't drawn doesn't count
   uncounted : (t : ℕ) → q.next ≤ t → counts_at o q begun t ≡ false
   uncounted t beyond = false_from_ne_true (counts_at o q begun t) (λ counts. elim (or_cases (is_committed o.ruling t) (has_timestamp (drop o.opened (take begun q.history)) t) counts) [
-      | inl earlier ↦ omega (arith, beyond, kept.numbers.persisted, kept.numbers.origin.further, (committed-bounds o.ruling t earlier).1)
-      | inr later ↦ omega (arith, beyond, kept.numbers.persisted, (committed-bounds q.ruling t (committed t later)).1)
-    ])
+    | inl earlier ↦ omega (arith, beyond, kept.numbers.persisted, kept.numbers.origin.further, (committed-bounds o.ruling t earlier).1)
+    | inr later ↦ omega (arith, beyond, kept.numbers.persisted, (committed-bounds q.ruling t (committed t later)).1)
+  ])
     where
       committed : (t : ℕ) → has_timestamp (drop o.opened (take begun q.history)) t ≡ true → is_committed q.ruling t ≡ true
       committed t has =

@@ -4,4 +4,7 @@
 
 mod law;
 
-pub use law::{batches_cover_the_first, conflicts_are_of_last_draws, snapshots_read_their_tables, snapshots_stay_exact};
+pub use law::{
+    batches_cover_the_first, conflicts_are_of_last_draws, snapshots_read_their_tables,
+    snapshots_stay_exact,
+};

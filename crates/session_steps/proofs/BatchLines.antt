@@ -88,10 +88,10 @@ module _ (q : State) (drawn : List DrawnCommit) (dirty : List Touch) (sessions :
   member l =
       lines_touched-any (λ x. nat_eq x l) (has sessions) dirty
       ∙ any-same (λ (t : Touch). has sessions t.session && nat_eq t.line l) (λ (t : Touch). list_any (λ (d : DrawnCommit). nat_eq t.session d.session) (take count drawn) && nat_eq t.line l) dirty
-        (λ t. ap (λ b. b && nat_eq t.line l) (of t.session ∙ any-same (λ (d : DrawnCommit). nat_eq d.session t.session) (λ (d : DrawnCommit). nat_eq t.session d.session) (take count drawn) (λ d. nat_eq-swap d.session t.session)))
+      (λ t. ap (λ b. b && nat_eq t.line l) (of t.session ∙ any-same (λ (d : DrawnCommit). nat_eq d.session t.session) (λ (d : DrawnCommit). nat_eq t.session d.session) (take count drawn) (λ d. nat_eq-swap d.session t.session)))
       ∙ any-swap (λ (d : DrawnCommit) (t : Touch). nat_eq t.session d.session) (λ (t : Touch). nat_eq t.line l) (take count drawn) dirty
       ∙ any-take (λ (d : DrawnCommit). is_touched dirty d.session l) (λ (d : DrawnCommit). is_line_of l (line_numbers q ((plain_drawn d).commit ∷ []))) count drawn
-        (λ k d lt. holds.own k d lt l)
+      (λ k d lt. holds.own k d lt l)
       ∙ sym (any-map (λ (c : Commit). is_line_of l (line_numbers q (c ∷ []))) (λ (d : DrawnCommit). (plain_drawn d).commit) (take count drawn))
       ∙ sym (lines-are_in_order.each q commits l)
 

@@ -70,7 +70,7 @@ shows-hand s before now q hand shown upholds =
       plain = same;
       upholds = upholds;
       agrees = subst (λ p. Agrees s shown.hidden.origin shown.hidden.seen p) (sym same)
-        (agrees-with s shown.hidden hand shown.hidden.failed (subst (λ p. Agrees s shown.hidden.origin shown.hidden.seen p) shown.plain shown.agrees));
+          (agrees-with s shown.hidden hand shown.hidden.failed (subst (λ p. Agrees s shown.hidden.origin shown.hidden.seen p) shown.plain shown.agrees));
     }
 
 pub shows-failed : (s : Sessions) (before now : Device) (q : State) (failed : Bool) (shown : Shows s before q) → Upholds shown.hidden.origin (record q { failed = failed }) now → Shows s now (record q { failed = failed })
@@ -81,7 +81,7 @@ shows-failed s before now q failed shown upholds =
       plain = same;
       upholds = upholds;
       agrees = subst (λ p. Agrees s shown.hidden.origin shown.hidden.seen p) (sym same)
-        (agrees-with s shown.hidden shown.hidden.hand failed (subst (λ p. Agrees s shown.hidden.origin shown.hidden.seen p) shown.plain shown.agrees));
+          (agrees-with s shown.hidden shown.hidden.hand failed (subst (λ p. Agrees s shown.hidden.origin shown.hidden.seen p) shown.plain shown.agrees));
     }
 
 -- on a device that goes on with the same state

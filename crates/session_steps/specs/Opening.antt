@@ -34,7 +34,7 @@ ShowsOpened s device a ruling next free = (q : State) → Begins a ruling next f
 
 -- ---- the index
 
--- the slot is told as its key's; words that are no version's tell nothing
+-- the slot is indexed under its key; words that are no version's index nothing
 abbrev pub FindsAt : Image → ℕ → List (Key × Entry) → List (Key × Entry) → Type 0
 FindsAt image slot old new =
     (is_misfit image slot ≡ true) × (new ≡ old) ⊎ Sets old new (key_of image slot) (record (entry_at old (key_of image slot)) { newest = Some slot; ended = false })
