@@ -41,7 +41,7 @@ module _ (image : Image) (free : List Bool) (count : ℕ) (old : List (Key × En
       by slot lt taken fits (inl is) = absurd (never nothing (subst (λ (n : ℕ). slice_get free n ≡ Some false) is taken) (subst (λ (n : ℕ). is_misfit image n ≡ false) is fits))
       by slot lt taken fits (inr apart) = found.each slot (omega (arith, lt, apart)) taken fits
 
-  -- the version of a slot is told
+  -- the version of a slot is indexed
   pub found-told : (new : List (Key × Entry)) → slice_get free count ≡ Some false → Sets old new (key_of image count) (entry_found (entry_at old (key_of image count))) → HasFound image free (count + 1) new
   found-told new taken sets = record {
     nothing_else = λ key. subst IsNewestAlone (sym (sets key)) (alone key (key_eq (key_of image count) key));
