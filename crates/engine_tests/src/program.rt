@@ -604,14 +604,14 @@ fn a_ninth_gap_is_swept(rt: HostRuntime) -> Result<(), Fail> {
         );
         file = ended.file.ok_or("no file")?;
     }
-    ends(
+    runs(
         &rt,
         rt.alloc(),
         &file,
         &["begin\n"],
         "opened gate 20 p 81 d 90 next 82 gaps -\nsession 2\nclosed gate 21 p 81 d 82\n",
-        0,
-    )
+    )?;
+    Ok(())
 }
 
 #[test]

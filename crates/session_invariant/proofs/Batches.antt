@@ -1,5 +1,5 @@
 -- A batch of the first drawn commits is covered.
-use Rattle.std.proofs.Common.{◌≡◌, ◌⊎◌, inl, inr, ℕ, zero, suc, ◌+◌, ◌<◌, ◌≤◌, Bool, true, false, cond, not, ◌&&◌, ◌||◌, List, [], ◌∷◌, ◌++◌, length, take, drop, map, filter, fold, refl, sym, ◌∙◌, ap, subst, arith, Option, Some, None, is_some, true≢false}
+use Rattle.std.proofs.Common.{◌≡◌, ◌⊎◌, inl, inr, ℕ, zero, suc, ◌<◌, ◌≤◌, Bool, true, false, cond, not, ◌&&◌, ◌||◌, List, [], ◌∷◌, ◌++◌, length, take, drop, map, filter, refl, sym, ◌∙◌, ap, arith, Some, true≢false}
 use Rattle.std.specs.Prelude.{nat_eq, nat_lt, find, Contains}
 use Rattle.std.specs.List.{list_any, list_all}
 use Rattle.std.proofs.lemmas.Bool.{and_parts, or_right, ltb-true, eq-eqb, ne_eqb, false_from_ne_true, false≢true}
@@ -7,11 +7,10 @@ use Rattle.base.specs.declared.key.Key.{Key}
 use Rattle.base.specs.Commits.{Commit, writes_key, last_writer}
 use Rattle.base.specs.Records.{are_rising}
 use Rattle.base.specs.Stands.{has_timestamp}
-use Rattle.base.specs.Machine.{State, Drawn, Hand, ByCommit, drawn_at, drawn_of, state_covered}
+use Rattle.base.specs.Machine.{State, Drawn, Hand, ByCommit, drawn_of, state_covered}
 use Rattle.state_invariant.specs.Kept.{Origin, Keeps, covered_since, commits_of_life, version_by}
 use Rattle.state_invariant.proofs.Lists.{rising-above, rising-rest}
 use Rattle.state_invariant.proofs.Commits.{writer_from, writer-append}
-use Rattle.device_invariant.specs.Slots.{newest_of}
 use Rattle.session_invariant.specs.Laws.{CoversFirst, BatchesCover}
 
 -- ---- lists

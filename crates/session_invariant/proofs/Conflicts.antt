@@ -1,8 +1,8 @@
 -- Which keys were drawn since a snapshot.
-use Rattle.std.proofs.Common.{◌≡◌, ◌⊎◌, inl, inr, ℕ, zero, suc, ◌+◌, ◌<◌, ◌≤◌, Bool, true, false, cond, not, ◌&&◌, ◌||◌, List, [], ◌∷◌, ◌++◌, length, take, drop, map, refl, sym, ◌∙◌, ap, arith, Option, Some, None, is_some, true≢false}
+use Rattle.std.proofs.Common.{◌≡◌, inl, inr, ℕ, zero, suc, ◌<◌, ◌≤◌, Bool, true, false, cond, not, ◌&&◌, ◌||◌, List, [], ◌∷◌, ◌++◌, length, take, drop, map, refl, sym, ◌∙◌, ap, arith, Option, Some, None, is_some, true≢false}
 use Rattle.std.specs.Prelude.{nat_eq, nat_lt, if◌then◌else◌}
 use Rattle.std.specs.List.{list_any, list_all}
-use Rattle.std.specs.Option.{option_or, option_map_or}
+use Rattle.std.specs.Option.{option_or}
 use Rattle.std.proofs.lemmas.Bool.{and_parts, or_cases, or_right, ltb-true, eq-eqb, eqb-true, false_from_ne_true, false≢true}
 use Rattle.std.proofs.lemmas.List.{take_all}
 use Rattle.std.proofs.lemmas.List.Folds.{list_any-append}
@@ -11,9 +11,9 @@ use Rattle.base.specs.Commits.{Commit, writes_key}
 use Rattle.base.specs.Records.{is_committed}
 use Rattle.base.specs.Stands.{has_timestamp}
 use Rattle.base.specs.Machine.{State, Drawn, drawn_of}
-use Rattle.state_invariant.specs.Kept.{Origin, Keeps, KeepsOrigin, covered_since, commits_of_life}
+use Rattle.state_invariant.specs.Kept.{Origin, Keeps, KeepsOrigin, commits_of_life}
 use Rattle.state_invariant.specs.Shown.{counts_at}
-use Rattle.state_invariant.proofs.Commits.{committed-bounds, uncommitted-above, timestamp-all}
+use Rattle.state_invariant.proofs.Commits.{committed-bounds, uncommitted-above}
 use Rattle.state_invariant.proofs.Log.{IsPlaced, placed, at-fact, one-place}
 use Rattle.snapshot.specs.Snapshots.{Seen, covers}
 use Rattle.session_invariant.specs.Sees.{Sees, last_on, is_unseen}

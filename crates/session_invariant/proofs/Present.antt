@@ -1,5 +1,5 @@
 -- The ruling record as a snapshot.
-use Rattle.std.proofs.Common.{◌≡◌, ◌⊎◌, inl, inr, ℕ, ◌<◌, ◌≤◌, Bool, true, false, not, ◌&&◌, ◌||◌, List, [], ◌∷◌, ◌++◌, length, take, drop, map, refl, sym, ◌∙◌, ap, arith, true≢false}
+use Rattle.std.proofs.Common.{◌≡◌, inl, inr, ℕ, ◌<◌, ◌≤◌, Bool, true, false, not, ◌&&◌, List, [], ◌∷◌, length, take, drop, map, refl, sym, ◌∙◌, ap, arith, true≢false}
 use Rattle.std.specs.Prelude.{nat_eq, nat_lt, nat_le}
 use Rattle.std.specs.List.{list_any, list_all}
 use Rattle.std.specs.Cmp.{both_ways}
@@ -12,10 +12,10 @@ use Rattle.base.specs.Records.{Record, is_in, is_committed, is_well_formed}
 use Rattle.base.specs.Stands.{has_timestamp}
 use Rattle.base.specs.Machine.{State, Drawn, drawn_of}
 use Rattle.base.proofs.Spelling.{few_gaps}
-use Rattle.state_invariant.specs.Kept.{Origin, Keeps, KeepsOrigin, covered_since, commits_of_life}
+use Rattle.state_invariant.specs.Kept.{Origin, Keeps, KeepsOrigin, covered_since}
 use Rattle.state_invariant.specs.Shown.{counts_at}
 use Rattle.state_invariant.proofs.Lists.{all-drop}
-use Rattle.state_invariant.proofs.Commits.{committed-bounds, timestamp-all}
+use Rattle.state_invariant.proofs.Commits.{timestamp-all}
 use Rattle.snapshot.specs.Snapshots.{seen_by}
 use Rattle.session_invariant.specs.Sees.{Sees}
 

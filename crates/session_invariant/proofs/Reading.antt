@@ -1,14 +1,14 @@
 -- What a snapshot in use covers in the words of the slots.
-use Rattle.std.proofs.Common.{◌≡◌, ℕ, ◌+◌, ◌<◌, ◌≤◌, Bool, true, false, cond, not, ◌&&◌, length, take, refl, sym, ◌∙◌, ap, subst, arith, Option, Some, None}
-use Rattle.std.specs.Prelude.{slice_index, nat_eq, IsTrue, List}
+use Rattle.std.proofs.Common.{◌≡◌, ℕ, ◌+◌, ◌<◌, ◌≤◌, Bool, true, false, cond, not, ◌&&◌, length, take, sym, ◌∙◌, ap, subst, arith}
+use Rattle.std.specs.Prelude.{slice_index, nat_eq, List}
 use Rattle.base.specs.declared.key.Key.{Key}
 use Rattle.base.specs.Commits.{after}
-use Rattle.base.specs.Layout.{Layout, slot_words, slot_start, total_words}
+use Rattle.base.specs.Layout.{slot_words, slot_start, total_words}
 use Rattle.base.specs.Records.{Record}
-use Rattle.base.specs.Images.{Image, IsRuledBy, layout_of, begin_of, end_of, key_of, row_of, is_live, Shown}
+use Rattle.base.specs.Images.{Image, IsRuledBy, layout_of, begin_of, end_of, is_live, Shown}
 use Rattle.base.specs.Machine.{State}
 use Rattle.pmem.specs.Device.{Device, IsOrderly}
-use Rattle.pmem.specs.Words.{value_of, image_of, Survives}
+use Rattle.pmem.specs.Words.{image_of, Survives}
 use Rattle.log_area.proofs.Heads.{image_size, image_word, laid_size}
 use Rattle.log_area.proofs.AtRest.{laid}
 use Rattle.state_invariant.specs.Kept.{Origin, IsInUse}

@@ -1,11 +1,10 @@
 -- The lines that the dirty table has for the sessions of a batch are those that the batch touches.
-use Rattle.std.proofs.Common.{◌≡◌, ℕ, zero, suc, ◌<◌, ◌≤◌, Bool, true, false, ◌&&◌, ◌||◌, List, [], ◌∷◌, length, take, map, refl, sym, ◌∙◌, ap, subst, arith}
+use Rattle.std.proofs.Common.{◌≡◌, ℕ, zero, suc, Bool, true, false, ◌&&◌, ◌||◌, List, [], ◌∷◌, take, map, refl, sym, ◌∙◌, ap, arith}
 use Rattle.std.specs.Prelude.{nat_eq, All}
 use Rattle.std.specs.List.{list_any}
 use Rattle.std.specs.Cmp.{both_ways}
 use Rattle.std.proofs.lemmas.Bool.{eq-eqb, eqb-true}
 use Rattle.base.specs.Commits.{Commit}
-use Rattle.base.specs.Records.{are_rising}
 use Rattle.base.specs.Machine.{State, Drawn as PlainDrawn, drawn_of}
 use Rattle.dirty_table.specs.declared.touches.Touch.{Touch}
 use Rattle.dirty_table.specs.Touches.{has, is_touched, lines_touched, are_in_order}

@@ -1,10 +1,8 @@
 -- The sessions agree with the plain state whatever is in hand, and whether it failed or not.
-use Rattle.std.proofs.Common.{◌≡◌, ℕ, Bool, List, refl, sym, ap, subst, Option, Some, None}
+use Rattle.std.proofs.Common.{ℕ, Bool, sym, ap, subst, Option, Some, None}
 use Rattle.std.specs.Prelude.{slice_index_or}
-use Rattle.base.specs.declared.key.Key.{Key}
 use Rattle.base.specs.Machine.{State, Hand, Version, Writer, ByCommit, BySession}
 use Rattle.pmem.specs.Device.{Device}
-use Rattle.state_invariant.specs.Kept.{Origin}
 use Rattle.device_invariant.specs.Upholds.{Upholds}
 use Rattle.device_invariant.specs.Slots.{newest_of}
 use Rattle.txn.specs.declared.write.Write.{Write}
@@ -15,7 +13,7 @@ use Rattle.txn.specs.Transactions.{transaction_at}
 use Rattle.index.specs.Entries.{entry_at, live_of}
 use Rattle.step_invariant.specs.Moves.{IsSlotOf}
 use Rattle.session_steps.specs.declared.sessions.Sessions.{Sessions}
-use Rattle.session_steps.specs.Shows.{Hidden, plain_of, HasItsSlot, HoldsSession, HoldsEntry, HoldsLines, HoldsDrawn, Agrees, Shows}
+use Rattle.session_steps.specs.Shows.{Hidden, plain_of, HasItsSlot, HoldsSession, HoldsDrawn, Agrees, Shows}
 
 -- with another batch in hand, or another mark
 abbrev pub hidden_with : Hidden → Option Hand → Bool → Hidden
