@@ -4,21 +4,21 @@ use Rattle.std.specs.Prelude.{Option, Some, None, All, Contains, IsTrue, Result,
 use Rattle.std.specs.Option.{option_map_or}
 use Rattle.std.proofs.lemmas.Bool.{eqb-true, eq-eqb}
 use Rattle.std.proofs.lemmas.List.{map-append}
-use Rattle.std.proofs.lemmas.List.Elements.{All-nil, All-cons, All-append, All-take, All-map, All-filter, All-weaker, All-contains, All-same, All-head, All-tail, Contains-append_left, Contains-push}
+use Rattle.std.proofs.lemmas.List.Elements.{All-nil, All-cons, All-append, All-map, All-filter, All-weaker, All-contains, All-same, All-head, All-tail, Contains-append_left, Contains-push}
 use Rattle.base.specs.declared.fault.Fault.{Fault}
 use Rattle.base.specs.declared.step.Step.{Step}
-use Rattle.base.specs.declared.step.Step.TheVariants.{Begin, Get, Put, Delete, Draw, Stamp, Poll, Abort, End, Commit as CommitTick}
+use Rattle.base.specs.declared.step.Step.TheVariants.{Begin, Get, Scan, Put, Delete, Draw, Stamp, Poll, Abort, End, Commit as CommitTick}
 use Rattle.base.specs.declared.step.Stage.{Stage}
 use Rattle.base.specs.declared.step.Stage.TheVariants.{Chosen}
 use Rattle.base.specs.declared.step.Reply.{Reply}
-use Rattle.base.specs.declared.step.Reply.TheVariants.{Done, Drawn as DrewAs, More, Stamped, Waiting, Committed, Idle, Ticked, Covered}
+use Rattle.base.specs.declared.step.Reply.TheVariants.{Rows, Done, Drawn as DrewAs, More, Stamped, Waiting, Committed, Idle, Ticked, Covered}
 use Rattle.base.specs.Commits.{Commit, Writes}
 use Rattle.base.specs.Stands.{has_timestamp}
 use Rattle.base.specs.Machine.{State, Session, Active, Drew, WroteNothing, Drawn, Hand, Stepped, refused, answered, memory_refused, device_failed, Answers, Run, final, next_state, state_ticked, state_ticked_on, state_drawn, state_covered, next_stage, is_idle, is_nil, is_stamped, is_last_stamp, end_of_run, writes_of, counted, timestamp_of, polled, ticked, ticked_on, chosen, taken_in_hand, batch_of, drawn_of, in_hand, uncovered, Cover, present, of_hand, covers_at, covers_closing, closed}
 use Rattle.base.specs.Lives.{World, IsWorld, Opening, Opens, Fails, Numbers, Asked, Report, StopsAt, EndsAs, LifeAs, Lives}
 use Rattle.base.specs.Laws.{drawn_by, drawn_in, covered_by, covered_in, acknowledged_by, acknowledged_in, has_closed, AddsDrawn, LifeAdds, LivesAdd}
 use Rattle.base.proofs.Growth.{any-append, extends-run}
-use Rattle.base.proofs.Returns.{runs-up, all-in_one}
+use Rattle.base.proofs.Returns.{runs-up}
 use Rattle.base.proofs.LivesLaws.{life-stands}
 
 -- ---- lists of commits
@@ -186,8 +186,7 @@ told-on before covered ts q hand (Some stage) among told =
 chosen-among : (ts : List ℕ) (q : State) → All (Among ts) (drawn_of q) → All (Among ts) (chosen q)
 chosen-among ts q all =
     let test : Drawn → Bool = λ d. is_stamped d && nat_le d.commit.timestamp (end_of_run q) in
-    all-in_one (Among ts) q.limits (map (λ (d : Drawn). d.commit) (filter test q.drawn))
-    (All-map (Among ts) (λ d. d.commit) (filter test q.drawn) (All-filter test (λ d. Among ts d.commit) q.drawn (unmap q.drawn all)))
+    All-map (Among ts) (λ d. d.commit) (filter test q.drawn) (All-filter test (λ d. Among ts d.commit) q.drawn (unmap q.drawn all))
   where
     unmap : (ds : List Drawn) → All (Among ts) (map (λ (d : Drawn). d.commit) ds) → All (λ (d : Drawn). Among ts d.commit) ds
     unmap [] all = All-nil (λ (d : Drawn). Among ts d.commit)
@@ -229,6 +228,7 @@ told-still before covered ts q reply other q' told e quiet same =
 told-next : (before covered : List Commit) (ts : List ℕ) (q : State) (step : Step) (reply : Reply) → Told before covered ts q → Answers q step reply → ToldAfter before covered ts reply (next_state q step)
 told-next before covered ts q Begin reply told a = told-still before covered ts q reply _ (next_state q Begin) told a (refl, refl) (record { history = refl; drawn = refl; hand = refl })
 told-next before covered ts q (Get n key) reply told a = told-still before covered ts q reply _ q told a (refl, refl) (record { history = refl; drawn = refl; hand = refl })
+told-next before covered ts q (Scan n table lo hi) reply told a = told-still before covered ts q reply (Rows a.0) q told a.1 (refl, refl) (record { history = refl; drawn = refl; hand = refl })
 told-next before covered ts q (Put n key row) reply told a = told-still before covered ts q reply _ (next_state q (Put n key row)) told a (refl, refl) (record { history = refl; drawn = refl; hand = refl })
 told-next before covered ts q (Delete n key) reply told a = told-still before covered ts q reply _ (next_state q (Delete n key)) told a (refl, refl) (record { history = refl; drawn = refl; hand = refl })
 told-next before covered ts q (Draw n) reply told a =
@@ -390,6 +390,7 @@ ack-along reply other q e a = subst (λ (r : Reply). Acknowledges r q) (sym e) a
 ack-next : (q : State) (step : Step) (reply : Reply) → Answers q step reply → Acknowledges reply (next_state q step)
 ack-next q Begin reply a = ack-along reply _ (next_state q Begin) a (ack-none q)
 ack-next q (Get n key) reply a = ack-along reply _ q a (ack-none q)
+ack-next q (Scan n table lo hi) reply a = ack-along reply (Rows a.0) q a.1 (ack-none q)
 ack-next q (Put n key row) reply a = ack-along reply _ (next_state q (Put n key row)) a (ack-none q)
 ack-next q (Delete n key) reply a = ack-along reply _ (next_state q (Delete n key)) a (ack-none q)
 ack-next q (Draw n) reply a = ack-along reply _ (next_state q (Draw n)) a (ack-if (next_state q (Draw n)).history (is_nil (writes_of (q.sessions n))) Done (DrewAs q.next) (ack-none (next_state q (Draw n))) (ack-none (next_state q (Draw n))))

@@ -4,11 +4,11 @@ use Rattle.std.specs.Prelude.{Option, Some, None, IsTrue, if◌then◌else◌}
 use Rattle.base.specs.declared.fault.Fault.{Fault}
 use Rattle.base.specs.declared.fault.Fault.TheVariants.{Device}
 use Rattle.base.specs.declared.step.Step.{Step}
-use Rattle.base.specs.declared.step.Step.TheVariants.{Begin, Get, Put, Delete, Draw, Stamp, Poll, Abort, End, Commit as CommitTick}
+use Rattle.base.specs.declared.step.Step.TheVariants.{Begin, Get, Scan, Put, Delete, Draw, Stamp, Poll, Abort, End, Commit as CommitTick}
 use Rattle.base.specs.declared.step.Stage.{Stage}
 use Rattle.base.specs.declared.step.Stage.TheVariants.{Chosen}
 use Rattle.base.specs.declared.step.Reply.{Reply}
-use Rattle.base.specs.declared.step.Reply.TheVariants.{Done, Drawn as DrewAs, More, Stamped, Waiting, Committed, Idle, Ticked, Refused}
+use Rattle.base.specs.declared.step.Reply.TheVariants.{Rows, Done, Drawn as DrewAs, More, Stamped, Waiting, Committed, Idle, Ticked, Refused}
 use Rattle.base.specs.Commits.{Commit, Writes}
 use Rattle.base.specs.Stands.{has_timestamp}
 use Rattle.base.specs.Machine.{State, Session, Active, Drew, WroteNothing, Hand, Stepped, refused, answered, memory_refused, device_failed, Answers, Run, final, next_state, state_ticked, state_ticked_on, state_drawn, next_stage, is_idle, is_nil, writes_of, polled, ticked, ticked_on, is_last_stamp}
@@ -57,6 +57,7 @@ extends-drawn q n (write ∷ writes) = ([], none_more q.history)
 extends-next : (q : State) (step : Step) → Extends q.history (next_state q step)
 extends-next q Begin = ([], none_more q.history)
 extends-next q (Get n key) = ([], none_more q.history)
+extends-next q (Scan n table lo hi) = ([], none_more q.history)
 extends-next q (Put n key row) = ([], none_more q.history)
 extends-next q (Delete n key) = ([], none_more q.history)
 extends-next q (Draw n) = extends-drawn q n (writes_of (q.sessions n))
@@ -166,6 +167,7 @@ along q reply other q' e r = subst (λ (x : Reply). RiseBetween q.next (drawn_by
 next-rise : (q : State) (step : Step) (reply : Reply) → Answers q step reply → RiseBetween q.next (drawn_by reply) (next_state q step).next
 next-rise q Begin reply a = along q reply _ (next_state q Begin) a (omega arith)
 next-rise q (Get n key) reply a = along q reply _ (next_state q (Get n key)) a (omega arith)
+next-rise q (Scan n table lo hi) reply a = along q reply (Rows a.0) (next_state q (Scan n table lo hi)) a.1 (omega arith)
 next-rise q (Put n key row) reply a = along q reply _ (next_state q (Put n key row)) a (omega arith)
 next-rise q (Delete n key) reply a = along q reply _ (next_state q (Delete n key)) a (omega arith)
 next-rise q (Draw n) reply a = along q reply _ (next_state q (Draw n)) a (drawn-rise q n (writes_of (q.sessions n)))

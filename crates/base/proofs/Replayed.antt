@@ -4,15 +4,18 @@ use Rattle.std.specs.Prelude.{Option, Some, None}
 use Rattle.base.specs.declared.fault.Fault.{Fault}
 use Rattle.base.specs.declared.fault.Fault.TheVariants.{OutOfMemory, Device}
 use Rattle.base.specs.declared.step.Step.{Step}
-use Rattle.base.specs.declared.step.Step.TheVariants.{Begin, Get, Put, Delete, Draw, Stamp, Poll, Abort, End, Commit as CommitTick}
+use Rattle.base.specs.declared.step.Step.TheVariants.{Begin, Get, Scan, Put, Delete, Draw, Stamp, Poll, Abort, End, Commit as CommitTick}
 use Rattle.base.specs.declared.step.Reply.{Reply}
-use Rattle.base.specs.declared.step.Reply.TheVariants.{Refused}
-use Rattle.base.specs.Machine.{State, refusal, next_state, Answers, Stepped, refused, answered, memory_refused, device_failed, Run, final}
-use Rattle.base.specs.Replay.{answer, reply_on, state_on, reply_of, state_of, replies, states, end}
+use Rattle.base.specs.declared.step.Reply.TheVariants.{Rows, Refused}
+use Rattle.base.specs.Commits.{in_range}
+use Rattle.base.specs.Machine.{State, seen_by, refusal, next_state, Answers, Stepped, refused, answered, memory_refused, device_failed, Run, final}
+use Rattle.base.specs.Replay.{answer, scanned, reply_on, state_on, reply_of, state_of, replies, states, end}
+use Rattle.base.proofs.Scanned.{scan-lists, one-listing}
 
 accepted : (q : State) (step : Step) → refusal q step ≡ None → Stepped q step (answer q step) (next_state q step)
 accepted q Begin e = answered e refl refl
 accepted q (Get n key) e = answered e refl refl
+accepted q (Scan n table lo hi) e = answered e (scanned q n table lo hi, refl, scan-lists q n table lo hi) refl
 accepted q (Put n key row) e = answered e refl refl
 accepted q (Delete n key) e = answered e refl refl
 accepted q (Draw n) e = answered e refl refl
@@ -39,6 +42,8 @@ replayed q (step ∷ steps) = (stepped q step, replayed (state_of q step) steps)
 answers-answer : (q : State) (step : Step) (reply : Reply) → Answers q step reply → reply ≡ answer q step
 answers-answer q Begin reply a = a
 answers-answer q (Get n key) reply a = a
+answers-answer q (Scan n table lo hi) reply a =
+    a.1 ∙ ap Rows (one-listing a.0 (scanned q n table lo hi) (in_range table lo hi (seen_by q n)) a.2 (scan-lists q n table lo hi))
 answers-answer q (Put n key row) reply a = a
 answers-answer q (Delete n key) reply a = a
 answers-answer q (Draw n) reply a = a

@@ -6,13 +6,12 @@ use Rattle.std.proofs.lemmas.Bool.{ne_eqb}
 use Rattle.std.proofs.lemmas.List.Elements.{All-nil, All-cons, All-append, All-take, All-map, All-filter, All-weaker, All-contains, All-same, All-head, All-tail, filter_passes}
 use Rattle.base.specs.declared.fault.Fault.{Fault}
 use Rattle.base.specs.declared.step.Step.{Step}
-use Rattle.base.specs.declared.step.Step.TheVariants.{Begin, Get, Put, Delete, Draw, Stamp, Poll, Abort, End, Commit as CommitTick}
+use Rattle.base.specs.declared.step.Step.TheVariants.{Begin, Get, Scan, Put, Delete, Draw, Stamp, Poll, Abort, End, Commit as CommitTick}
 use Rattle.base.specs.declared.step.Stage.{Stage}
 use Rattle.base.specs.declared.step.Reply.{Reply}
 use Rattle.base.specs.Commits.{Commit, Writes}
 use Rattle.base.specs.Stands.{has_timestamp}
 use Rattle.base.specs.Machine.{State, Drawn, Hand, Stepped, refused, answered, memory_refused, device_failed, Run, final, next_state, state_ticked, state_ticked_on, state_drawn, next_stage, is_idle, writes_of, counted, drawn_of, in_hand, uncovered, is_stamped, end_of_run, timestamp_of, chosen, taken_in_hand, Cover, covers_at, of_hand, present, covers_closing, closed}
-use Rattle.base.specs.Restrictions.{Limits, in_one_batch}
 use Rattle.base.specs.Lives.{World, IsWorld, Opening, Opens, Fails, Numbers, Asked, Report, StopsAt, EndsAs, LifeAs, Lives, RunsUp, left_out}
 use Rattle.base.specs.Laws.{RiseBetween, drawn_in, drawn_over, StayOut}
 use Rattle.base.proofs.Growth.{rise-append, run-rise}
@@ -59,19 +58,10 @@ fresh-drawn from q n (write ∷ writes) f =
       hand = widen-all from q.next (q.next + 1) (in_hand q) (omega arith) f.hand;
     }
 
--- what holds of each commit holds of those that one batch takes
-pub all-in_one : {X : Type 0} (P : X → Type 0) (limits : Limits) (xs : List X) → All P xs → All P (in_one_batch limits xs)
-all-in_one P limits xs all = by limits.one_commit
-  where
-    by : (b : Bool) → All P (cond b (take 1 xs) xs)
-    by true = All-take P 1 xs all
-    by false = all
-
 chosen-within : (from : ℕ) (q : State) → Fresh from q → All (Within from q.next) (chosen q)
 chosen-within from q f =
     let test : Drawn → Bool = λ d. is_stamped d && nat_le d.commit.timestamp (end_of_run q) in
-    all-in_one (Within from q.next) q.limits (map (λ (d : Drawn). d.commit) (filter test q.drawn))
-    (All-map (Within from q.next) (λ d. d.commit) (filter test q.drawn) (All-filter test (λ d. Within from q.next d.commit) q.drawn f.drawn))
+    All-map (Within from q.next) (λ d. d.commit) (filter test q.drawn) (All-filter test (λ d. Within from q.next d.commit) q.drawn f.drawn)
 
 fresh-idle : (from : ℕ) (q : State) (b : Bool) → Fresh from q → Fresh from (cond b q (record q { hand = Some (taken_in_hand q) }))
 fresh-idle from q true f = f
@@ -108,6 +98,7 @@ kept-next : (from : ℕ) (q : State) (step : Step) → Fresh from q → Kept fro
 unfolding Kept
 kept-next from q Begin f = (record { le = f.le; drawn = f.drawn; hand = f.hand }, ([], sym (append-nil q.history), All-nil (Within from q.next)))
 kept-next from q (Get n key) f = (f, none_more from q)
+kept-next from q (Scan n table lo hi) f = (f, none_more from q)
 kept-next from q (Put n key row) f = (record { le = f.le; drawn = f.drawn; hand = f.hand }, ([], sym (append-nil q.history), All-nil (Within from q.next)))
 kept-next from q (Delete n key) f = (record { le = f.le; drawn = f.drawn; hand = f.hand }, ([], sym (append-nil q.history), All-nil (Within from q.next)))
 kept-next from q (Draw n) f = by (writes_of (q.sessions n))

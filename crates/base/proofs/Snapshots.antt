@@ -5,7 +5,7 @@ use Rattle.std.proofs.lemmas.Bool.{ne_eqb}
 use Rattle.std.proofs.lemmas.List.{take-append-le, length-append}
 use Rattle.base.specs.declared.fault.Fault.{Fault}
 use Rattle.base.specs.declared.step.Step.{Step}
-use Rattle.base.specs.declared.step.Step.TheVariants.{Begin, Get, Put, Delete, Draw, Stamp, Poll, Abort, End, Commit as CommitTick}
+use Rattle.base.specs.declared.step.Step.TheVariants.{Begin, Get, Scan, Put, Delete, Draw, Stamp, Poll, Abort, End, Commit as CommitTick}
 use Rattle.base.specs.declared.step.Stage.{Stage}
 use Rattle.base.specs.declared.step.Reply.{Reply}
 use Rattle.base.specs.Images.{Image}
@@ -60,6 +60,7 @@ does-drawn q n (write ∷ writes) = one n (Some (Drew q.next)) (omega arith) (λ
 does-next : (q : State) (step : Step) → SeesCovered q → Does q (next_state q step)
 does-next q Begin sees = one _ _ (omega arith) (λ m. refl)
 does-next q (Get n key) sees = nothing (λ m. refl)
+does-next q (Scan n table lo hi) sees = nothing (λ m. refl)
 does-next q (Put n key row) sees = one n _ (sees n) (λ m. refl)
 does-next q (Delete n key) sees = one n _ (sees n) (λ m. refl)
 does-next q (Draw n) sees = does-drawn q n (writes_of (q.sessions n))
@@ -125,7 +126,7 @@ begun-free q n session ok is_at = ne_eqb n (unwrap_or (free_session q) 0) (λ sa
         let f : is_none (refusal q Begin) ≡ false = refuses-full q (ap (λ (o : Option ℕ). is_none o) e) in
         let g : is_none (refusal q Begin) ≡ true = ap (λ (o : Option Fault). is_none o) ok in
         cc
-    taken (Some m) e same = busy m (same ∙ ap (λ (o : Option ℕ). unwrap_or o 0) e) (find-passes (λ k. is_none (q.sessions k)) (session_numbers q) m e)
+    taken (Some m) e same = busy m (same ∙ ap (λ (o : Option ℕ). unwrap_or o 0) e) (find-passes (λ k. is_none (q.sessions k)) session_numbers m e)
 
 other : (n m : ℕ) (session : Option Session) (q : State) → nat_eq n m ≡ false → replaced m session q.sessions n ≡ q.sessions n
 other n m session q apart = ap (λ (b : Bool). cond b session (q.sessions n)) apart
@@ -161,6 +162,7 @@ stays-next : (n : ℕ) (q : State) (step : Step) (session : Session) → refusal
 unfolding Stays
 stays-next n q Begin session ok is_at not = other n _ _ q (begun-free q n session ok is_at)
 stays-next n q (Get m key) session ok is_at not = refl
+stays-next n q (Scan m table lo hi) session ok is_at not = refl
 stays-next n q (Put m key row) session ok is_at not = other n m _ q (unnamed n m not)
 stays-next n q (Delete m key) session ok is_at not = other n m _ q (unnamed n m not)
 stays-next n q (Draw m) session ok is_at not = stays-drawn n m q (writes_of (q.sessions m)) (unnamed n m not)

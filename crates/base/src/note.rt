@@ -1,15 +1,19 @@
 use crate::step::{Note, Reply};
+use std::alloc::AllocError;
 
-impl<'a> From<&'a Reply> for Note {
-    ghost use Rattle.std.specs.Prelude.{◌≡◌};
-    ghost use Rattle.base.specs.Machine.{note_of};
+impl Note {
+    ghost use Rattle.std.specs.Prelude.{◌≡◌, IfOk, OnErr};
+    ghost use Rattle.base.specs.Machine.{note_of, IsRows};
 
-    ghost from_gives = { λ reply note. note ≡ note_of reply.now };
-
-    fn from(reply: &'a Reply) -> Note {
-        match reply {
+    /// What a history keeps of the reply. Only rows take memory.
+    pub fn of(reply: &Reply) -> Result<Note, AllocError>
+        ensures ok { IfOk result (λ note. note ≡ note_of reply.now) }
+        ensures err { OnErr result (IsRows reply.now) }
+    {
+        Ok(match reply {
             Reply::Began(session) => Note::Began(*session),
             Reply::Row(row) => Note::Row(*row),
+            Reply::Rows(rows) => Note::Rows(rows.copy()?),
             Reply::Done => Note::Done,
             Reply::Drawn(timestamp) => Note::Drawn(*timestamp),
             Reply::More => Note::More,
@@ -20,6 +24,6 @@ impl<'a> From<&'a Reply> for Note {
             Reply::Ticked(stage) => Note::Ticked(*stage),
             Reply::Covered(batch) => Note::Covered(batch.stamp()),
             Reply::Refused(fault) => Note::Refused(*fault),
-        }
+        })
     }
 }

@@ -1,45 +1,150 @@
-//! Rounds of stores in one line, a flush and a fence, on the modelled device of the least and of the greatest image.
+//! Counts of what the modelled device, the engine and the board do, and with the word `time` first how fast: rounds of
+//! stores on the device; commits and reads of the engine; reads on a board beside a writer that publishes.
+//! `engine KEYS COMMITS BATCH READS` runs the engine alone, and `readers N` the reads of N readers, each in a thread of
+//! its own.
 #![tactic(auto)]
 
+mod engine;
+mod readers;
 mod rounds;
 
-use anyhow::Error;
+use anyhow::{Error, ensure};
 use base::geometry::Geometry;
+use engine::{Load, load_keys, run_load};
 use pmem::Pmem;
 use pmem_model::SimPmem;
+use readers::read_beside_a_writer;
 use rounds::{STORES_IN_A_ROUND, make_rounds};
+use std::alloc::Global;
 use std::env;
-use std::time::Instant;
+use std::rt::Clock;
+use std::sync::Wait;
+use std::thread::Threads;
+use std::time::{Duration, Instant};
 
 const ROUNDS: u64 = 1_000;
 
+const SMALL: Load = Load {
+    keys: 1_024,
+    commits: 64,
+    batch: 32,
+    reads: 1_000,
+};
+
+const FEW_READERS: usize = 2;
+
+// What each reader reads, and what it reads where it is timed.
+const READS: u64 = 100_000;
+
+const TIMED_READS: u64 = 10_000_000;
+
 fn main(rt: HostRuntime) -> Result<(), Error> {
-    let mut timed = false;
-    for word in env::args(&rt)?.skip(1) {
-        timed = timed || word.as_str() == "time";
+    let alloc = rt.alloc();
+    let words: Vec<String> = env::args(&rt)?.skip(1).collect(alloc)?;
+    let words: Vec<&str> = words.iter().map(|word| word.as_str()).collect(alloc)?;
+    let (timed, words) = match words.as_slice() {
+        ["time", words @ ..] => (true, words),
+        words => (false, words),
+    };
+    match words {
+        ["engine", keys, commits, batch, reads] => {
+            let load = Load {
+                keys: keys.parse::<u64>()?,
+                commits: commits.parse::<u64>()?,
+                batch: batch.parse::<u64>()?,
+                reads: reads.parse::<u64>()?,
+            };
+            measure_engine(&rt, alloc, &load, timed)
+        }
+        ["readers", readers] => measure_readers(&rt, alloc, readers.parse::<usize>()?, timed),
+        _ => {
+            measure_rounds(&rt, alloc, timed)?;
+            measure_engine(&rt, alloc, &SMALL, timed)?;
+            measure_readers(&rt, alloc, FEW_READERS, timed)
+        }
     }
+}
+
+// On the device of the least and of the greatest image.
+fn measure_rounds<H: Print + Clock>(rt: &H, alloc: Global, timed: bool) -> Result<(), Error> {
     for (slots, places) in [
         (4, Geometry::LEAST_PLACES),
         (Geometry::MOST_SLOTS, Geometry::MOST_PLACES),
     ] {
         let words = Geometry::new(slots, places, 8)?.words() as usize;
-        let mut device = SimPmem::from_words(rt.alloc(), &vec![in rt.alloc(); 0; words]?)?;
+        let mut device = SimPmem::from_words(alloc, &vec![in alloc; 0; words]?)?;
         device.reserve(STORES_IN_A_ROUND * ROUNDS)?;
-        let start = Instant::now(&rt)?;
+        let start = Instant::now(rt)?;
         make_rounds(&mut device, ROUNDS)?;
-        let elapsed = start.elapsed(&rt)?;
-        let made = device.operations();
-        println!(rt;
-            "words {words} rounds {ROUNDS} stores {} flushes {} fences {}",
-            made.stores, made.flushes, made.fences
-        )?;
+        let elapsed = start.elapsed(rt)?;
+        println!(rt; "words {words} rounds {ROUNDS}")?;
+        print_operations(rt, &device)?;
         if timed {
-            println!(rt;
-                "seconds {}.{:06}",
-                elapsed.as_secs(),
-                elapsed.subsec_micros()
-            )?;
+            print_rate(rt, "rounds", ROUNDS, elapsed)?;
         }
     }
+    Ok(())
+}
+
+fn measure_engine<H: Print + Clock + Threads + Sync>(
+    rt: &H,
+    alloc: Global,
+    load: &Load,
+    timed: bool,
+) -> Result<(), Error> {
+    let mut room = load_keys(rt, alloc, load)?;
+    let made = run_load(rt, &mut room, load)?;
+    println!(rt;
+        "keys {} commits {} batch {} reads {}",
+        load.keys, load.commits, load.batch, load.reads
+    )?;
+    println!(rt;
+        "cycles {} ticks {} rows {}",
+        made.cycles, made.ticks, made.rows
+    )?;
+    print_operations(rt, &room.into_device())?;
+    if timed {
+        print_rate(rt, "commits", load.commits, made.committing)?;
+        print_rate(rt, "reads", load.reads, made.reading)?;
+    }
+    Ok(())
+}
+
+fn measure_readers<H: Print + Threads + Wait + Clock + Sync>(
+    rt: &H,
+    alloc: Global,
+    readers: usize,
+    timed: bool,
+) -> Result<(), Error> {
+    ensure!(0 < readers && readers <= 8, "there may be 1 to 8 readers");
+    let reads = if timed { TIMED_READS } else { READS };
+    let start = Instant::now(rt)?;
+    let done = read_beside_a_writer(rt, alloc, readers, reads)?;
+    let elapsed = start.elapsed(rt)?;
+    println!(rt; "readers {} reads {}", done.readers, done.reads)?;
+    if timed {
+        print_rate(rt, "reads", done.reads, elapsed)?;
+        print_rate(rt, "batches", done.batches, elapsed)?;
+    }
+    Ok(())
+}
+
+fn print_operations<H: Print>(rt: &H, device: &SimPmem) -> Result<(), Error> {
+    let made = device.operations();
+    println!(rt;
+        "stores {} flushes {} fences {}",
+        made.stores, made.flushes, made.fences
+    )?;
+    Ok(())
+}
+
+// How many of these there were, and how many a second.
+fn print_rate<H: Print>(rt: &H, name: &str, count: u64, took: Duration) -> Result<(), Error> {
+    let rate = count as u128 * 1_000_000_000 / took.as_nanos().max(1);
+    println!(rt;
+        "{count} {name} in {}.{:06} seconds, {rate} a second",
+        took.as_secs(),
+        took.subsec_micros()
+    )?;
     Ok(())
 }

@@ -1,7 +1,6 @@
 -- What changes make of a published list.
 use Rattle.std.proofs.Common.{◌≡◌, ℕ, ◌+◌, ◌-◌, ◌≤◌, ◌<◌, Bool, true, false, nat_le, MatchBool, length, length-append, drop, suc, subst, fold, map, Option, Some, None, is_some, Result, Ok, Err, is_err, MatchResult, List, [], ◌∷◌, ◌++◌, refl, sym, ap, ◌∙◌, le_refl, le_trans, arith}
 use Rattle.std.specs.List.{range_with_len}
-use Rattle.std.proofs.lemmas.List.Sums.{fold_push}
 use Rattle.std.proofs.lemmas.Bool.Decides.{nat_tests}
 use mathlib.Core.List.{append-nil, append_assoc, IsPrefix}
 use Rattle.board.proofs.Fronts.{prefix_shorter}
@@ -11,10 +10,10 @@ use Rattle.board.specs.declared.change.Change.{Change}
 use Rattle.board.specs.declared.change.Change.TheVariants.{Begin, Add, Raise}
 use Rattle.board.specs.Changes.{changed, begun, list_of}
 use Rattle.board.specs.Shown.{Shown, whole, shown, one_or_none}
-use Rattle.board.specs.Lists.{IsPublished, Begins, Counted, Fits, persisted_from, last_persisted}
+use Rattle.board.specs.Lists.{IsPublished, Begins, Counted, Fits, persisted_from}
 use Rattle.board.proofs.Staying.{stamps_stay}
 use Rattle.board.proofs.Rules.{begins_self, begins_on}
-use Rattle.board.proofs.Ends.{last_from-push, persisted_from-push}
+use Rattle.board.proofs.Ends.{last_from-push}
 
 begins_one : (list : Published) (change : Change) → Begins list (changed list change)
 begins_one list (Begin start) = begins_self list

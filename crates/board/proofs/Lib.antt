@@ -10,3 +10,5 @@ pub mod Standing
 pub mod Puts
 pub mod Settling
 pub mod Reading
+pub mod Places
+pub mod Indexing

@@ -1,7 +1,6 @@
 -- What a map has at a key, and what is found there after a change.
-use Rattle.std.proofs.Common.{◌≡◌, ℕ, zero, suc, ◌&&◌, ◌||◌, Bool, true, false, cond, List, [], ◌∷◌, ◌++◌, drop, take, Option, Some, None, unwrap_or, is_some, if◌then◌else◌, fold, get_or, length, ◌<◌, refl, sym, ap, ◌∙◌, subst, rules, arith, nat_eq}
+use Rattle.std.proofs.Common.{◌≡◌, ℕ, zero, suc, ◌&&◌, ◌||◌, Bool, true, false, cond, List, [], ◌∷◌, drop, take, Option, Some, None, is_some, if◌then◌else◌, get_or, length, ◌<◌, refl, sym, ap, ◌∙◌, subst, rules, arith, nat_eq}
 use Rattle.std.proofs.lemmas.Bool.Decides.{nat_tests}
-use Rattle.std.specs.List.{list_any}
 use Rattle.std.specs.declared.cmp.Ordering.{Ordering}
 use Rattle.std.specs.declared.cmp.Ordering.TheVariants.{Less, Equal, Greater}
 use Rattle.std.specs.Ordering.{nat_cmp, ordering_then, is_eq}
@@ -13,24 +12,24 @@ use Rattle.base.specs.Commits.{Commit, writes_key}
 use Rattle.board.specs.Cells.{after_commits, is_written}
 
 -- the order of keys
-abbrev key_cmp : Key → Key → Ordering
+abbrev pub key_cmp : Key → Key → Ordering
 key_cmp a b = ordering_then (nat_cmp a.table b.table) (nat_cmp a.key b.key)
 
-is_eq-then : (o p : Ordering) → is_eq (ordering_then o p) ≡ (is_eq o && is_eq p)
+pub is_eq-then : (o p : Ordering) → is_eq (ordering_then o p) ≡ (is_eq o && is_eq p)
 is_eq-then Less p = refl
 is_eq-then Equal p = refl
 is_eq-then Greater p = refl
 
-is_eq-nat : (a b : ℕ) → is_eq (nat_cmp a b) ≡ nat_eq a b
+pub is_eq-nat : (a b : ℕ) → is_eq (nat_cmp a b) ≡ nat_eq a b
 is_eq-nat a b = grind (arith, nat_tests)
 
 -- the order tells two keys apart exactly where they differ
-is_at-key : (key other : Key) → is_at (key_cmp key) other ≡ key_eq key other
+pub is_at-key : (key other : Key) → is_at (key_cmp key) other ≡ key_eq key other
 is_at-key key other =
     is_eq-then (nat_cmp key.table other.table) (nat_cmp key.key other.key)
     ∙ (λ i. is_eq-nat key.table other.table i && is_eq-nat key.key other.key i)
 
-key_eq-swap : (a b : Key) → key_eq a b ≡ key_eq b a
+pub key_eq-swap : (a b : Key) → key_eq a b ≡ key_eq b a
 key_eq-swap a b = grind (arith, nat_tests)
 
 -- a map finds the first entry with the key

@@ -1,12 +1,11 @@
 -- What the answers of one reader have to do with one another.
-use Rattle.std.proofs.Common.{◌≡◌, ◌⊎◌, inl, inr, ℕ, ◌≤◌, ◌<◌, Bool, true, false, nat_lt, if◌then◌else◌, List, Option, Result, Ok, Err, refl, sym, ap, ◌∙◌, subst, ⊎_elim, arith}
+use Rattle.std.proofs.Common.{◌≡◌, ◌⊎◌, inl, inr, ℕ, ◌≤◌, ◌<◌, Bool, true, false, nat_lt, if◌then◌else◌, List, Option, Result, Ok, Err, refl, sym, ap, ◌∙◌, ⊎_elim, arith}
 use Rattle.std.proofs.lemmas.Bool.Decides.{nat_tests}
 use Rattle.base.specs.declared.fault.Fault.{Fault}
 use Rattle.base.specs.declared.fault.Fault.TheVariants.{Shut, TooOld, NotYet}
 use Rattle.base.specs.declared.key.Key.{Key}
 use Rattle.base.specs.Published.{Published, last_stamp, row_at}
-use Rattle.board.specs.Lists.{Begins}
-use Rattle.board.specs.Views.{Saw, SawNothing, answer, bounds}
+use Rattle.board.specs.Views.{Saw, answer}
 use Rattle.board.specs.Laws.{AnswersAgree, TimeRises, LearntIsRead}
 use Rattle.board.proofs.Rules.{begins_on}
 use Rattle.board.proofs.Staying.{rows_stay, stamps_stay}

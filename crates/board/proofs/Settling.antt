@@ -1,11 +1,11 @@
 -- What is stored still stands for the published list once the first batch is laid into the rows, or some of it is.
-use Rattle.std.proofs.Common.{◌≡◌, ℕ, zero, ◌≤◌, Bool, true, false, nat_le, List, [], ◌∷◌, Option, Some, slice_get, if◌then◌else◌, fold, refl, sym, ap, ◌∙◌, subst, arith}
+use Rattle.std.proofs.Common.{◌≡◌, ℕ, ◌≤◌, Bool, true, false, nat_le, List, [], ◌∷◌, Option, Some, slice_get, if◌then◌else◌, ap, ◌∙◌, subst, arith}
 use Rattle.std.proofs.lemmas.Bool.Decides.{nat_tests}
 use Rattle.base.specs.declared.key.Key.{Key}
 use Rattle.base.specs.Keys.{lookup_key}
 use Rattle.base.specs.Batches.{Batch}
 use Rattle.base.specs.Published.{Published}
-use Rattle.board.specs.Cells.{after_batch, after_batches, after_commits, is_written}
+use Rattle.board.specs.Cells.{after_batches, after_commits, is_written}
 use Rattle.board.specs.Stored.{Stands}
 use Rattle.board.proofs.Puts.{laid_alike}
 

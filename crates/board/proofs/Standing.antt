@@ -1,14 +1,16 @@
 -- What is stored still stands for the published list after a change.
-use Rattle.std.proofs.Common.{◌≡◌, ℕ, ◌≤◌, max, List, [], ◌∷◌, ◌++◌, Option, refl, sym, ap, ◌∙◌, arith}
+use Rattle.std.proofs.Common.{◌≡◌, ℕ, ◌+◌, max, List, [], ◌∷◌, ◌++◌, Option, sym, ap, ◌∙◌, arith}
 use Rattle.std.proofs.lemmas.List.Sums.{fold_push}
 use Rattle.base.specs.declared.key.Key.{Key}
 use Rattle.base.specs.Keys.{lookup_key}
 use Rattle.base.specs.Batches.{Batch}
-use Rattle.base.specs.Published.{Published, row_at}
+use Rattle.base.specs.Published.{Published, last_from}
 use Rattle.board.specs.declared.change.Change.TheVariants.{Add, Raise}
 use Rattle.board.specs.Changes.{changed}
-use Rattle.board.specs.Cells.{after_batch, after_batches}
+use Rattle.board.specs.Cells.{after_batch}
+use Rattle.board.specs.Lists.{IsPublished}
 use Rattle.board.specs.Stored.{Stands}
+use Rattle.board.proofs.Staying.{follow_rest}
 use Rattle.board.proofs.Cells.{laid-batches}
 use Rattle.board.proofs.Ends.{last_from-push, persisted_from-push}
 
@@ -33,3 +35,10 @@ stands_raise stamp persisted floor rows batches list to h = record {
   persisted_is = h.persisted_is;
   rows_are = λ at key le. h.rows_are at key (omega (arith, le));
 }
+
+-- a batch that may come next begins where what is stored ends
+pub comes_next : (stamp persisted floor : ℕ) (rows : List (Key × List ℕ)) (batches : List Batch) (list : Published) (batch : Batch) → Stands stamp persisted floor rows batches list
+    → IsPublished (changed list (Add batch)) → (batch.from ≡ last_from stamp batches) × (batch.stamp ≡ last_from stamp batches + 1)
+comes_next stamp persisted floor rows batches list batch h next =
+    let one = follow_rest list.stamp list.batches (batch ∷ []) next.follow in
+    (one.0 ∙ sym h.last, one.1 ∙ ap (λ (n : ℕ). n + 1) (sym h.last))

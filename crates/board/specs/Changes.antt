@@ -1,5 +1,5 @@
 -- What a change makes of a published list, and the list that changes make.
-use Rattle.std.specs.Prelude.{ℕ, List, [], ◌∷◌, ◌++◌, max, fold}
+use Rattle.std.specs.Prelude.{List, [], ◌∷◌, ◌++◌, max, fold}
 use Rattle.base.specs.Published.{Published}
 use Rattle.board.specs.declared.change.Change.{Change}
 use Rattle.board.specs.declared.change.Change.TheVariants.{Begin, Add, Raise}

@@ -9,6 +9,7 @@ pub mod reader;
 mod rows;
 pub mod shelf;
 pub mod token;
+mod versions;
 
 pub use board::{Board, Desk, Kept};
 pub use history::{History, Naming};

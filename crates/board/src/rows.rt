@@ -1,11 +1,13 @@
 //! Rows by key.
-ghost use Rattle.std.specs.Prelude.{◌≡◌, ℕ, None, false, if◌then◌else◌, unwrap_or, IfOk, OnOk, OnErr, MatchOption};
+ghost use Rattle.std.specs.Prelude.{◌≡◌, ◌<◌, ℕ, None, false, if◌then◌else◌, length, slice_get, unwrap_or, All, IfOk, IfSome, OnOk, OnErr, MatchBool};
 ghost use Rattle.base.specs.declared.key.Key.{Key as KeyOf};
 ghost use Rattle.base.specs.Keys.{key_eq, lookup_key};
 ghost use Rattle.base.specs.Published.{Published};
 ghost use Rattle.board.specs.Cells.{after_commits, is_written};
 ghost use Rattle.board.specs.Stored.{Stands};
+ghost use Rattle.board.specs.Versions.{Indexed};
 
+use crate::versions::{Versions, forget};
 use base::Ts;
 use base::batch::{Batch, Commit};
 use base::key::Key;
@@ -76,31 +78,44 @@ pub fn lay(rows: &mut Rows, commits: &[Commit]) -> Result<(), AllocError>
     Ok(())
 }
 
-/// Lays the batches that are not above the floor into the rows, as far as memory goes. It gives the last one's stamp and timestamp.
-pub fn settle(rows: &mut Rows, batches: &mut Vec<Batch>, floor: u64, last: (u64, Ts)) -> (u64, Ts)
-    ensures { (list : Published) → Stands last.0 last.1 floor rows.old.entries batches.old.items list → Stands result.0 result.1 floor rows.new.entries batches.new.items list }
+/// Lays the batches that are not above the floor into the rows, oldest first, and removes their versions. Where memory
+/// runs out the others stay. `last` is the stamp and the timestamp of the last one that was laid.
+pub fn settle(
+    rows: &mut Rows,
+    versions: &mut Versions,
+    batches: &mut Vec<Batch>,
+    floor: u64,
+    last: &mut (u64, Ts),
+) -> Result<(), AllocError>
+    ensures rows { (list : Published) → Stands last.old.0 last.old.1 floor rows.old.entries batches.old.items list → Stands last.new.0 last.new.1 floor rows.new.entries batches.new.items list }
+    ensures versions { Indexed last.old.0 versions.old.entries batches.old.items → Indexed last.new.0 versions.new.entries batches.new.items }
+    ensures all { OnOk result (Indexed last.old.0 versions.old.entries batches.old.items → All (λ batch. floor < batch.stamp) batches.new.items) }
 {
-    let mut last = last;
-    for _ in 0..batches.len() {
-        match settle_one(rows, batches, floor) {
-            Some(settled) => last = settled,
-            None => break,
-        }
-    }
-    last
+    while settle_one(rows, versions, batches, floor, last)? {}
+    Ok(())
 }
 
-// Lays the first batch into the rows, where it is not above the floor and there is memory, and gives its stamp and timestamp.
-fn settle_one(rows: &mut Rows, batches: &mut Vec<Batch>, floor: u64) -> Option<(u64, Ts)>
-    ensures { (list : Published) (stamp persisted : ℕ) → Stands stamp persisted floor rows.old.entries batches.old.items list → MatchOption result (Stands stamp persisted floor rows.new.entries batches.new.items list) (λ last. Stands last.0 last.1 floor rows.new.entries batches.new.items list) }
+// Lays the first batch into the rows, where it is not above the floor, and tells whether it did.
+fn settle_one(
+    rows: &mut Rows,
+    versions: &mut Versions,
+    batches: &mut Vec<Batch>,
+    floor: u64,
+    last: &mut (u64, Ts),
+) -> Result<bool, AllocError>
+    ensures rows { (list : Published) → Stands last.old.0 last.old.1 floor rows.old.entries batches.old.items list → Stands last.new.0 last.new.1 floor rows.new.entries batches.new.items list }
+    ensures versions { Indexed last.old.0 versions.old.entries batches.old.items → Indexed last.new.0 versions.new.entries batches.new.items }
+    ensures one { IfOk result (λ laid. MatchBool laid (length batches.new.items < length batches.old.items) (IfSome (slice_get batches.new.items 0) (λ batch. floor < batch.stamp))) }
 {
-    let batch = batches.first()?;
+    let Some(batch) = batches.first() else {
+        return Ok(false);
+    };
     if batch.stamp() > floor {
-        return None;
+        return Ok(false);
     }
-    if lay(rows, batch.commits()).is_err() {
-        return None;
-    }
+    lay(rows, batch.commits())?;
     let batch = batches.remove(0);
-    Some((batch.stamp(), batch.persisted()))
+    forget(versions, batch.stamp(), batch.commits());
+    *last = (batch.stamp(), batch.persisted());
+    Ok(true)
 }

@@ -3,6 +3,7 @@ ghost use Rattle.board.specs.Rules.{Ends};
 use crate::change::Change;
 use crate::history::{Front, Naming};
 use crate::rows::{Rows, row_of, rows_of, settle};
+use crate::versions::{Versions, enter, latest};
 use base::Ts;
 use base::batch::{Batch, Commit};
 use base::fault::Fault;
@@ -27,6 +28,7 @@ pub struct Shelf<J: Naming> {
     stamp: u64,
     persisted: Ts,
     rows: Rows,
+    versions: Versions,
     batches: Vec<Batch>,
     floor: u64,
     front: Front<J>,
@@ -41,10 +43,11 @@ impl<J: Naming> Model for Shelf<J> {
 
     ghost use Rattle.board.specs.Changes.{list_of};
     ghost use Rattle.board.specs.Stored.{Stands};
+    ghost use Rattle.board.specs.Versions.{Indexed};
 
     ghost view = { λ s. s.front };
 
-    ghost invariant = { λ s. Stands s.stamp s.persisted s.floor s.rows.entries s.batches.items (list_of s.front) };
+    ghost invariant = { λ s. Stands s.stamp s.persisted s.floor s.rows.entries s.batches.items (list_of s.front) × Indexed s.stamp s.versions.entries s.batches.items };
 }
 
 impl<J: Naming> Absorb<Step<J>> for Shelf<J> {
@@ -100,6 +103,7 @@ impl<J: Naming> Shelf<J> {
             stamp,
             persisted,
             rows,
+            versions: Versions::new(alloc),
             batches: Vec::new(alloc),
             floor: stamp,
             front,
@@ -113,7 +117,10 @@ impl<J: Naming> Shelf<J> {
         ensures { self.new ≡ (if is_ok result then front.now else self.old) }
     {
         self.front.is_published();
-        self.batches.push(batch).map_err(|_| AllocError)?;
+        front.is_published();
+        self.batches.reserve(1)?;
+        enter(&mut self.versions, batch.stamp(), batch.commits())?;
+        self.batches.push_reserved(batch);
         self.front = front.again();
         Ok(())
     }
@@ -126,14 +133,16 @@ impl<J: Naming> Shelf<J> {
         self.front.is_published();
         self.front = front.again();
         self.floor = self.floor.max(stamp);
-        let (stamp, persisted) = settle(
+        let mut last = (self.stamp, self.persisted);
+        // Where memory ends, the rest is laid by a later change.
+        let _ = settle(
             &mut self.rows,
+            &mut self.versions,
             &mut self.batches,
             self.floor,
-            (self.stamp, self.persisted),
+            &mut last,
         );
-        self.stamp = stamp;
-        self.persisted = persisted;
+        (self.stamp, self.persisted) = last;
     }
 
     /// The history that it was made by.
@@ -188,51 +197,14 @@ impl<J: Naming> Shelf<J> {
         requires { (list_of self.now).floor ≤ stamp }
         ensures { result ≡ row_at (list_of self.now) stamp key.now }
     {
-        newest(row_of(&self.rows, key), &self.batches, stamp, key)
-    }
-}
-
-ghost use Rattle.std.specs.Prelude.{◌≡◌, Option, IfOk};
-ghost use Rattle.base.specs.Keys.{lookup_key};
-ghost use Rattle.board.specs.Cells.{after_commits, after_batches};
-
-// What a commit writes under the key.
-fn written(writes: &[(Key, Option<Row>)], key: &Key) -> Option<Option<Row>>
-    ensures { result ≡ lookup_key writes.now key.now }
-{
-    for write in writes {
-        if write.0 == *key {
-            return Some(write.1);
+        match latest(&self.versions, stamp, key) {
+            Some(row) => row,
+            None => row_of(&self.rows, key),
         }
     }
-    None
 }
 
-// The row after the commits.
-fn overlaid(row: Option<Row>, commits: &[Commit], key: &Key) -> Option<Row>
-    ensures { result ≡ after_commits key.now row commits.now }
-{
-    let mut row = row;
-    for commit in commits {
-        if let Some(written) = written(commit.writes(), key) {
-            row = written;
-        }
-    }
-    row
-}
-
-// The row after the batches up to the stamp.
-fn newest(row: Option<Row>, batches: &[Batch], stamp: u64, key: &Key) -> Option<Row>
-    ensures { result ≡ after_batches key.now stamp row batches.now }
-{
-    let mut row = row;
-    for batch in batches {
-        if batch.stamp() <= stamp {
-            row = overlaid(row, batch.commits(), key);
-        }
-    }
-    row
-}
+ghost use Rattle.std.specs.Prelude.{◌≡◌, IfOk};
 
 // A copy of the batch.
 fn copy_of(alloc: Global, batch: &Batch) -> Result<Batch, AllocError>

@@ -1,11 +1,11 @@
 -- Words that give an order are read: what each part of them leaves to be given by the others.
-use Rattle.std.proofs.Common.{◌≡◌, ◌≢◌, ℕ, suc, ◌+◌, ◌^◌, List, [], ◌∷◌, ◌++◌, true, false, Option, Some, None, refl, sym, ◌∙◌, ap, subst, inl, inr, is_some, unwrap_or, codes, length, drop, slice_index, arith, Bor}
+use Rattle.std.proofs.Common.{◌≡◌, ◌≢◌, ℕ, suc, ◌+◌, ◌^◌, List, [], ◌∷◌, ◌++◌, true, false, Option, Some, None, refl, sym, ◌∙◌, ap, subst, is_some, length, drop, slice_index, arith, Bor}
 use Rattle.std.proofs.lemmas.List.{length-append}
 use Rattle.std.specs.Prelude.{IsSomeAnd, IfSome}
 use Rattle.std.specs.List.{flat_map}
 use Rattle.command_line.specs.Lines.{texts}
 use Rattle.command_line.specs.Numbers.{Text, number_below}
-use Rattle.command_line.specs.Words.{Part, is_file_name, file, spaced, joined, file_of, value_of, words_of_part, option_word, WritesAtMostOne}
+use Rattle.command_line.specs.Words.{Part, is_file_name, file, spaced, joined, file_of, words_of_part, option_word, WritesAtMostOne}
 use Rattle.command_line.specs.Given.{Agrees, AreGiven, IsNamed, Shows, SetsFile, SetsNumber, at_most_one, number_at}
 use Rattle.command_line.specs.declared.given.Given.{Given}
 use Rattle.command_line.specs.declared.orders.Choice.{Choice}

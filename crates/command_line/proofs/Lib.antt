@@ -5,3 +5,4 @@ pub mod Parts
 pub mod Rows
 pub mod Complete
 pub mod Refused
+pub mod Scripts

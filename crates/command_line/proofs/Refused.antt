@@ -1,17 +1,17 @@
 -- Words that give an order are no others: which subcommand they name, and what a format asks for.
-use Rattle.std.proofs.Common.{◌≡◌, ◌≢◌, ℕ, suc, ◌+◌, ◌^◌, List, [], ◌∷◌, ◌++◌, true, false, Option, Some, None, refl, sym, ◌∙◌, ap, subst, inl, inr, unwrap_or, codes, length, arith, Bor}
+use Rattle.std.proofs.Common.{◌≡◌, ◌≢◌, ℕ, List, [], ◌∷◌, true, false, Option, Some, None, refl, sym, ◌∙◌, ap, subst, inl, inr, unwrap_or, codes, length, slice_index, arith, Bor}
 use Rattle.std.specs.Prelude.{IfNone, IsOk, Result, Ok, Err, is_err, ◌↔◌}
 use Rattle.std.specs.List.{flat_map}
 use Rattle.base.specs.Layout.{is_in_limits, layout_with, newest_version}
 use Rattle.command_line.specs.Lines.{texts}
 use Rattle.command_line.specs.Numbers.{Text}
-use Rattle.command_line.specs.Words.{Gives, GivesFormat, GivesNoFormat, GivesNothing, HasNumber, IsOneFile, Part, SpellsFormat, WritesAtMostOne, file_of, is_file_name, value_of}
+use Rattle.command_line.specs.Words.{GivesFormat, GivesNoFormat, GivesNothing, HasNumber, IsOneFile, Part, SpellsFormat, WritesAtMostOne, file_of, is_file_name, value_of}
 use Rattle.command_line.specs.Given.{Agrees, AreGiven, IsNamed, Shows, at_most_one}
 use Rattle.command_line.specs.declared.given.Given.{Given}
 use Rattle.command_line.specs.declared.orders.Choice.{Choice}
 use Rattle.command_line.specs.declared.orders.Choice.TheVariants.{Slots, Places, Window}
 use Rattle.command_line.specs.declared.orders.Order.{Order}
-use Rattle.command_line.specs.declared.orders.Order.TheVariants.{Format, Run, Check}
+use Rattle.command_line.specs.declared.orders.Order.TheVariants.{Format, Run, Check, Lives}
 use Rattle.command_line.proofs.Parts.{has_number}
 use Rattle.command_line.proofs.Complete.{empty-of, no_cons, same_head, same_tail}
 
@@ -55,6 +55,7 @@ pub none_given : (words : List Text) → ((given : Given) → AreGiven words giv
 none_given words never (Format name slots places window) (parts, s) = let w = wanted words parts name slots places window s in never w.given w.read
 none_given words never (Run name) h = absurd h
 none_given words never (Check name) h = absurd h
+none_given words never (Lives name) h = absurd h
 
 pub no_file_given : (words : List Text) (found : Given) → ((given : Given) → AreGiven words given → Agrees found given) → found.file ≡ None → GivesNoFormat words
 no_file_given words found agrees none (Format name slots places window) (parts, s) =
@@ -63,6 +64,7 @@ no_file_given words found agrees none (Format name slots places window) (parts, 
     no_cons name.now [] (sym (ap at_most_one none) ∙ (same.file ∙ w.file))
 no_file_given words found agrees none (Run name) h = absurd h
 no_file_given words found agrees none (Check name) h = absurd h
+no_file_given words found agrees none (Lives name) h = absurd h
 
 pub out_of_limits : (words : List Text) (found : Given) (slots places window : ℕ) → ((given : Given) → AreGiven words given → Agrees found given)
     → slots ≡ unwrap_or found.slots 1024 → places ≡ unwrap_or found.places 4 → window ≡ unwrap_or found.window 64
@@ -76,6 +78,7 @@ out_of_limits words found a b c agrees ea eb ec never (Format name slots places 
     never (rw (sa, sb, sc) w.limits)
 out_of_limits words found a b c agrees ea eb ec never (Run name) h = absurd h
 out_of_limits words found a b c agrees ea eb ec never (Check name) h = absurd h
+out_of_limits words found a b c agrees ea eb ec never (Lives name) h = absurd h
 
 pub not_in_limits : {A B : Type 0} (r : Result A B) (P : Type 0) → IsOk r ↔ P → is_err r ≡ true → P → ⊥
 not_in_limits (Ok x) P limits bad p = cc bad
@@ -106,6 +109,7 @@ pub no_words : (words : List (Bor Text)) → length words ≡ 0 → GivesNothing
 no_words words none (Format name slots places window) (rest, e, g) = no_cons _ rest (sym (ap texts (empty-of words none)) ∙ e)
 no_words words none (Run name) (rest, e, g) = no_cons _ rest (sym (ap texts (empty-of words none)) ∙ e)
 no_words words none (Check name) (rest, e, g) = no_cons _ rest (sym (ap texts (empty-of words none)) ∙ e)
+no_words words none (Lives name) (rest, e, g) = no_cons _ rest (sym (ap texts (empty-of words none)) ∙ e)
 
 -- the words begin with this one
 named : (words rest : List (Bor Text)) (first : Bor Text) (name other : Text) (more : List Text) → words ≡ first ∷ rest → first.now ≡ name → texts words ≡ other ∷ more
@@ -124,6 +128,9 @@ no_format words rest first e1 is never (Run name) (more, e, g) =
 no_format words rest first e1 is never (Check name) (more, e, g) =
     let n = named words rest first (codes "format") (codes "check") more e1 is e in
     let size : 6 ≡ 5 = ap length n.0 in absurd (omega (arith, size))
+no_format words rest first e1 is never (Lives name) (more, e, g) =
+    let n = named words rest first (codes "format") (codes "lives") more e1 is e in
+    let size : 6 ≡ 5 = ap length n.0 in absurd (omega (arith, size))
 
 pub no_run : (words rest : List (Bor Text)) (first : Bor Text) → words ≡ first ∷ rest → first.now ≡ codes "run" → ((name : Text) → IsOneFile (texts rest) name → ⊥)
     → GivesNothing (texts words)
@@ -135,6 +142,9 @@ no_run words rest first e1 is never (Run name) (more, e, g) =
     never name.now (subst (λ (ws : List Text). IsOneFile ws name.now) (sym n.1) g)
 no_run words rest first e1 is never (Check name) (more, e, g) =
     let n = named words rest first (codes "run") (codes "check") more e1 is e in
+    let size : 3 ≡ 5 = ap length n.0 in absurd (omega (arith, size))
+no_run words rest first e1 is never (Lives name) (more, e, g) =
+    let n = named words rest first (codes "run") (codes "lives") more e1 is e in
     let size : 3 ≡ 5 = ap length n.0 in absurd (omega (arith, size))
 
 pub no_check : (words rest : List (Bor Text)) (first : Bor Text) → words ≡ first ∷ rest → first.now ≡ codes "check" → ((name : Text) → IsOneFile (texts rest) name → ⊥)
@@ -148,12 +158,31 @@ no_check words rest first e1 is never (Run name) (more, e, g) =
 no_check words rest first e1 is never (Check name) (more, e, g) =
     let n = named words rest first (codes "check") (codes "check") more e1 is e in
     never name.now (subst (λ (ws : List Text). IsOneFile ws name.now) (sym n.1) g)
+no_check words rest first e1 is never (Lives name) (more, e, g) =
+    let n = named words rest first (codes "check") (codes "lives") more e1 is e in
+    let initial : 99 ≡ 108 = ap (λ (word : Text). slice_index word 0) n.0 in absurd (omega (arith, initial))
+
+pub no_lives : (words rest : List (Bor Text)) (first : Bor Text) → words ≡ first ∷ rest → first.now ≡ codes "lives" → ((name : Text) → IsOneFile (texts rest) name → ⊥)
+    → GivesNothing (texts words)
+no_lives words rest first e1 is never (Format name slots places window) (more, e, g) =
+    let n = named words rest first (codes "lives") (codes "format") more e1 is e in
+    let size : 5 ≡ 6 = ap length n.0 in absurd (omega (arith, size))
+no_lives words rest first e1 is never (Run name) (more, e, g) =
+    let n = named words rest first (codes "lives") (codes "run") more e1 is e in
+    let size : 5 ≡ 3 = ap length n.0 in absurd (omega (arith, size))
+no_lives words rest first e1 is never (Check name) (more, e, g) =
+    let n = named words rest first (codes "lives") (codes "check") more e1 is e in
+    let initial : 108 ≡ 99 = ap (λ (word : Text). slice_index word 0) n.0 in absurd (omega (arith, initial))
+no_lives words rest first e1 is never (Lives name) (more, e, g) =
+    let n = named words rest first (codes "lives") (codes "lives") more e1 is e in
+    never name.now (subst (λ (ws : List Text). IsOneFile ws name.now) (sym n.1) g)
 
 pub no_subcommand : (words rest : List (Bor Text)) (first : Bor Text) → words ≡ first ∷ rest
-    → first.now ≢ codes "format" → first.now ≢ codes "run" → first.now ≢ codes "check" → GivesNothing (texts words)
-no_subcommand words rest first e1 f r c (Format name slots places window) (more, e, g) = f (named words rest first first.now (codes "format") more e1 refl e).0
-no_subcommand words rest first e1 f r c (Run name) (more, e, g) = r (named words rest first first.now (codes "run") more e1 refl e).0
-no_subcommand words rest first e1 f r c (Check name) (more, e, g) = c (named words rest first first.now (codes "check") more e1 refl e).0
+    → first.now ≢ codes "format" → first.now ≢ codes "run" → first.now ≢ codes "check" → first.now ≢ codes "lives" → GivesNothing (texts words)
+no_subcommand words rest first e1 f r c l (Format name slots places window) (more, e, g) = f (named words rest first first.now (codes "format") more e1 refl e).0
+no_subcommand words rest first e1 f r c l (Run name) (more, e, g) = r (named words rest first first.now (codes "run") more e1 refl e).0
+no_subcommand words rest first e1 f r c l (Check name) (more, e, g) = c (named words rest first first.now (codes "check") more e1 refl e).0
+no_subcommand words rest first e1 f r c l (Lives name) (more, e, g) = l (named words rest first first.now (codes "lives") more e1 refl e).0
 
 pub refused_format : (result : Option Order) (words rest : List (Bor Text)) (first : Bor Text) → words ≡ first ∷ rest → first.now ≡ codes "format" → IfNone result (GivesNoFormat (texts rest))
     → IfNone result (GivesNothing (texts words))

@@ -5,3 +5,4 @@ pub mod ImageFile
 pub mod Texts
 pub mod Words
 pub mod Given
+pub mod Scripts

@@ -1,5 +1,5 @@
 -- Which command a line spells.
-use Rattle.std.specs.Prelude.{ℕ, List, [], ◌∷◌, Bool, not, Option, Some, None, length, ◌==◌, ◌||◌, ◌-◌, ◌^◌, slice_index, codes, map, if◌then◌else◌, option_map, option_and_then}
+use Rattle.std.specs.Prelude.{◌≡◌, ℕ, List, [], ◌∷◌, Bool, not, Option, Some, None, length, ◌==◌, ◌||◌, ◌-◌, ◌^◌, slice_index, codes, map, if◌then◌else◌, option_map, option_and_then}
 use Rattle.std.specs.Borrow.{Bor}
 use Rattle.std.specs.List.{slice_split, filter}
 use Rattle.std.specs.Str.{bytes_eq}
@@ -7,7 +7,7 @@ use Rattle.base.specs.declared.key.Key.{Key}
 use Rattle.command_line.specs.Numbers.{Text, number_below}
 use Rattle.command_line.specs.Rows.{row_of}
 use Rattle.command_line.specs.declared.command.Command.{Command}
-use Rattle.command_line.specs.declared.command.Command.TheVariants.{Begin, Get, Put, Delete, Draw, Stamp, Poll, Abort, End, Commit, Cycle, Crash}
+use Rattle.command_line.specs.declared.command.Command.TheVariants.{Begin, Get, Scan, Put, Delete, Draw, Stamp, Poll, Abort, End, Commit, Cycle, Crash}
 use Rattle.command_line.specs.declared.command.Survivor.TheVariants.{Oldest, Newest}
 
 -- the texts behind references
@@ -81,6 +81,17 @@ put_command name session table key row =
     then option_and_then (λ s. option_and_then (λ k. option_map (Put s k) (row_of row)) (key_of table key)) (number_below (2 ^ 8) session)
     else None
 
+-- `scan` of a session, a table and the first and the last key of a range
+abbrev pub scan_command : Text → Text → Text → Text → Option Command
+scan_command session table lo hi =
+    option_and_then (λ s. option_and_then (λ t. option_and_then (λ l. option_map (Scan s t l) (number_below (2 ^ 64) hi)) (number_below (2 ^ 64) lo)) (number_below (2 ^ 16) table)) (number_below (2 ^ 8) session)
+
+-- a command with four words after its name
+abbrev pub four_word_command : Text → Text → Text → Text → Text → Option Command
+four_word_command name session table key last =
+    if is_word name (codes "scan") then scan_command session table key last
+    else put_command name session table key last
+
 -- the command that some words spell, where they spell one
 abbrev pub command_of : List Text → Option Command
 command_of [] = None
@@ -88,7 +99,7 @@ command_of (name ∷ []) = bare_command name
 command_of (name ∷ word ∷ []) = one_word_command name word
 command_of (name ∷ a ∷ b ∷ []) = None
 command_of (name ∷ session ∷ table ∷ key ∷ []) = spelled_key_command name session table key
-command_of (name ∷ session ∷ table ∷ key ∷ row ∷ []) = put_command name session table key row
+command_of (name ∷ session ∷ table ∷ key ∷ last ∷ []) = four_word_command name session table key last
 command_of (name ∷ a ∷ b ∷ c ∷ d ∷ e ∷ more) = None
 
 -- a space stands before the first word or after the last
@@ -105,3 +116,11 @@ line_of line =
     if is_skipped line then Some None
     else if has_outer_space line then None
     else option_map (λ command. Some command) (command_of (words_of line))
+
+-- the command is a put
+abbrev pub IsPut : Option Command → Type 0
+IsPut read = (session : ℕ) × (key : Key) × (row : List ℕ) × (read ≡ Some (Put session key row))
+
+-- the line spells a put
+abbrev pub SpellsPut : Text → Type 0
+SpellsPut line = (session : ℕ) × (key : Key) × (row : List ℕ) × (line_of line ≡ Some (Some (Put session key row)))

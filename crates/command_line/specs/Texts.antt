@@ -1,5 +1,5 @@
 -- The lines that are printed, as bytes and without their line feed.
-use Rattle.std.specs.Prelude.{ℕ, List, [], ◌∷◌, ◌++◌, codes, decimal}
+use Rattle.std.specs.Prelude.{ℕ, List, [], ◌∷◌, ◌++◌, length, codes, decimal}
 use Rattle.std.specs.List.{flat_map}
 use Rattle.base.specs.declared.fault.Fault.{Fault}
 use Rattle.base.specs.Faults.{number_of, fault_text}
@@ -53,7 +53,15 @@ entry_text key row = decimal key.table ++ (codes " " ++ (decimal key.key ++ (cod
 abbrev pub end_line : ℕ → Text
 end_line rows = codes "end " ++ decimal rows
 
--- a printed line
+-- a line for each row
+abbrev pub entries_text : List (Key × List ℕ) → Text
+entries_text = flat_map (λ row. entry_text row.0 row.1 ++ 10 ∷ [])
+
+-- the lines of rows, and that of their number
+abbrev pub rows_text : List (Key × List ℕ) → Text
+rows_text rows = entries_text rows ++ end_line (length rows)
+
+-- a printed line, or several
 abbrev pub text_of : Printed → Text
 text_of (printed.Opened gate persisted dirty next gaps) = opened_line gate persisted dirty next gaps.now
 text_of (printed.Closed gate persisted dirty) = closed_line gate persisted dirty
@@ -61,6 +69,7 @@ text_of (printed.Formatted words) = codes "formatted " ++ (decimal words ++ code
 text_of (printed.Sound gate persisted dirty gaps) = sound_line gate persisted dirty gaps.now
 text_of (printed.Entry key row) = entry_text key row.now
 text_of (printed.End rows) = end_line rows
+text_of (printed.Rows rows) = rows_text rows.now
 text_of (printed.Session session) = codes "session " ++ decimal session
 text_of (printed.Row bytes) = codes "row " ++ row_text bytes.now
 text_of printed.NoRow = codes "none"
@@ -74,6 +83,8 @@ text_of printed.Idle = codes "idle"
 text_of printed.Tick = codes "tick"
 text_of (printed.Covered gate) = codes "covered " ++ decimal gate
 text_of (printed.Stopped keeps) = codes "stopped " ++ survivor_text keeps
+text_of (printed.Life number) = codes "life " ++ decimal number
+text_of printed.LifeStopped = codes "stopped"
 text_of (printed.Refused f) = refused_text f
 text_of (printed.NotACommand line) = codes "line " ++ (decimal line ++ codes ": not a command")
 text_of printed.FileFault = codes "file fault"

@@ -7,7 +7,7 @@ use Rattle.command_line.specs.Numbers.{Text, number_below}
 use Rattle.command_line.specs.declared.orders.Choice.{Choice}
 use Rattle.command_line.specs.declared.orders.Choice.TheVariants.{Slots, Places, Window}
 use Rattle.command_line.specs.declared.orders.Order.{Order}
-use Rattle.command_line.specs.declared.orders.Order.TheVariants.{Format, Run, Check}
+use Rattle.command_line.specs.declared.orders.Order.TheVariants.{Format, Run, Check, Lives}
 
 -- the text is a file's name: it doesn't begin with '-'
 abbrev pub is_file_name : Text → Bool
@@ -78,6 +78,7 @@ GivesFormat words (Format name slots places window) =
     (parts : List Part) × SpellsFormat words parts name.now slots places window
 GivesFormat words (Run name) = ⊥
 GivesFormat words (Check name) = ⊥
+GivesFormat words (Lives name) = ⊥
 
 -- the words are one, a file's name
 pub record IsOneFile (words : List Text) (name : Text) : Type 0 where
@@ -90,6 +91,7 @@ Gives words (Format name slots places window) =
     (rest : List Text) × (words ≡ codes "format" ∷ rest) × GivesFormat rest (Format name slots places window)
 Gives words (Run name) = (rest : List Text) × (words ≡ codes "run" ∷ rest) × IsOneFile rest name.now
 Gives words (Check name) = (rest : List Text) × (words ≡ codes "check" ∷ rest) × IsOneFile rest name.now
+Gives words (Lives name) = (rest : List Text) × (words ≡ codes "lives" ∷ rest) × IsOneFile rest name.now
 
 -- what follows `format` gives no order
 abbrev pub GivesNoFormat : List Text → Type 0

@@ -47,6 +47,13 @@ pub enum Command {
         session: u8,
         key: Key,
     },
+    /// The rows of a table at the keys from `lo` to `hi`, both included.
+    Scan {
+        session: u8,
+        table: u16,
+        lo: u64,
+        hi: u64,
+    },
     Put {
         session: u8,
         key: Key,

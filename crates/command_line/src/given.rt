@@ -39,6 +39,9 @@ pub(crate) fn spelled_order<'a>(words: &[&'a str]) -> Option<Order<'a>>
     } else if *name == "check" {
         let file = one_file(rest)?;
         Some(Order::Check { file })
+    } else if *name == "lives" {
+        let file = one_file(rest)?;
+        Some(Order::Lives { file })
     } else {
         None
     }

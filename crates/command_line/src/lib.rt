@@ -10,4 +10,6 @@ pub mod number;
 pub mod orders;
 pub mod printed;
 pub mod row_text;
+pub mod script;
+pub mod script_line;
 pub mod words;

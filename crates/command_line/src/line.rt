@@ -1,5 +1,5 @@
-ghost use Rattle.std.specs.Prelude.{◌≡◌, ◌^◌, IfOk, IfErr, IsSome, option_and_then};
-ghost use Rattle.command_line.specs.Lines.{bare_command, command_of, key_command, spelled_key_command, line_of, commit_of, crash_of, key_of, one_word_command, put_command, session_command, texts, words_of};
+ghost use Rattle.std.specs.Prelude.{◌≡◌, ◌^◌, ◌<◌, ◌≤◌, IfOk, IfErr, length, take, option_and_then};
+ghost use Rattle.command_line.specs.Lines.{bare_command, command_of, key_command, spelled_key_command, line_of, commit_of, crash_of, key_of, one_word_command, put_command, scan_command, four_word_command, session_command, texts, words_of, is_skipped, has_outer_space, IsPut, SpellsPut};
 ghost use Rattle.command_line.specs.Numbers.{number_below};
 ghost use Rattle.command_line.specs.declared.line.LineFault.TheVariants.{NotACommand, OutOfMemory};
 
@@ -7,7 +7,7 @@ use crate::command::{Command, Survivor};
 use crate::number::{middle_number, number, small_number};
 use crate::row_text::row;
 use base::key::Key;
-use std::alloc::{AllocError, Global};
+use std::alloc::Global;
 use thiserror::Error;
 
 /// Why no command was read.
@@ -24,33 +24,67 @@ pub enum LineFault {
 pub fn parse_line(alloc: Global, line: &[u8]) -> Result<Option<Command>, LineFault>
     ensures ok { IfOk result (λ read. line_of line.now ≡ Some read) }
     ensures refused { IfErr result (λ fault. fault ≡ NotACommand → line_of line.now ≡ None) }
+
+    // Only a row takes memory.
+    ensures memory { IfErr result (λ fault. fault ≡ OutOfMemory → SpellsPut line.now) }
 {
-    let (Some(first), Some(last)) = (line.first(), line.last()) else {
-        return Ok(None);
-    };
-    if *first == b'#' {
+    if is_skipped(line) {
         return Ok(None);
     }
-    if *first == b' ' || *last == b' ' {
+    if has_outer_space(line) {
         return Err(LineFault::NotACommand);
     }
-    let words = words(alloc, line).map_err(|_| LineFault::OutOfMemory)?;
-    let command = command(alloc, words.as_slice())?;
-    Ok(Some(command))
+    let (words, count) = first_words(line);
+    match command(alloc, &words[..count]) {
+        Ok(command) => Ok(Some(command)),
+        Err(fault) => Err(fault),
+    }
 }
 
-fn words(alloc: Global, line: &[u8]) -> Result<Vec<&[u8]>, AllocError>
-    ensures { IfOk result (λ words. texts words.items ≡ words_of line.now) }
+/// Is the line empty, or does it begin with `#`?
+pub(crate) fn is_skipped(line: &[u8]) -> bool
+    ensures { result ≡ is_skipped line.now }
 {
-    line.split(|byte| *byte == b' ')
-        .filter(|word| !word.is_empty())
-        .collect(alloc)
+    match line.first() {
+        Some(first) => *first == b'#',
+        None => true,
+    }
 }
 
-fn command(alloc: Global, words: &[&[u8]]) -> Result<Command, LineFault>
+/// Does a space stand before the first word or after the last?
+pub(crate) fn has_outer_space(line: &[u8]) -> bool
+    requires { 0 < length line.now }
+    ensures { result ≡ has_outer_space line.now }
+{
+    line[0] == b' ' || line[line.len() - 1] == b' '
+}
+
+/// One word more than a command has.
+pub(crate) const MOST_WORDS: usize = 6;
+
+/// The first words of a line, and how many they are.
+pub(crate) fn first_words<'a>(line: &'a [u8]) -> ([&'a [u8]; MOST_WORDS], usize)
+    ensures count { result.1 ≤ 6 }
+    ensures words { texts (take result.1 result.0) ≡ take 6 (words_of line.now) }
+{
+    let mut words: [&[u8]; MOST_WORDS] = [b"".as_slice(); MOST_WORDS];
+    let mut count = 0;
+    for word in line
+        .split(|byte| *byte == b' ')
+        .filter(|word| !word.is_empty())
+        .take(MOST_WORDS)
+    {
+        words[count] = word;
+        count += 1;
+    }
+    (words, count)
+}
+
+/// The command that some words spell.
+pub(crate) fn command(alloc: Global, words: &[&[u8]]) -> Result<Command, LineFault>
     ensures ok { IfOk result (λ command. command_of (texts words.now) ≡ Some command) }
     ensures refused { IfErr result (λ fault. fault ≡ NotACommand → command_of (texts words.now) ≡ None) }
-    ensures memory { IfErr result (λ fault. fault ≡ OutOfMemory → IsSome (command_of (texts words.now))) }
+    ensures memory { IfErr result (λ fault. fault ≡ OutOfMemory → IsPut (command_of (texts words.now))) }
 {
     match words {
         [] => Err(LineFault::NotACommand),
@@ -60,7 +94,9 @@ fn command(alloc: Global, words: &[&[u8]]) -> Result<Command, LineFault>
         [name, session, table, key] => {
             with_key(name, session, table, key).ok_or(LineFault::NotACommand)
         }
-        [name, session, table, key, bytes] => put(alloc, name, session, table, key, bytes),
+        [name, session, table, key, last] => {
+            with_four_words(alloc, name, session, table, key, last)
+        }
         _ => Err(LineFault::NotACommand),
     }
 }
@@ -160,6 +196,39 @@ fn of_key(name: &[u8], session: u8, key: Key) -> Option<Command>
     }
 }
 
+fn with_four_words(
+    alloc: Global,
+    name: &[u8],
+    session: &[u8],
+    table: &[u8],
+    key: &[u8],
+    last: &[u8],
+) -> Result<Command, LineFault>
+    ensures ok { IfOk result (λ command. four_word_command name.now session.now table.now key.now last.now ≡ Some command) }
+    ensures refused { IfErr result (λ fault. fault ≡ NotACommand → four_word_command name.now session.now table.now key.now last.now ≡ None) }
+    ensures memory { IfErr result (λ fault. fault ≡ OutOfMemory → IsPut (four_word_command name.now session.now table.now key.now last.now)) }
+{
+    if name == b"scan".as_slice() {
+        return scan(session, table, key, last).ok_or(LineFault::NotACommand);
+    }
+    put(alloc, name, session, table, key, last)
+}
+
+fn scan(session: &[u8], table: &[u8], lo: &[u8], hi: &[u8]) -> Option<Command>
+    ensures { result ≡ scan_command session.now table.now lo.now hi.now }
+{
+    let session = small_number(session)?;
+    let table = middle_number(table)?;
+    let lo = number(lo)?;
+    let hi = number(hi)?;
+    Some(Command::Scan {
+        session,
+        table,
+        lo,
+        hi,
+    })
+}
+
 fn put(
     alloc: Global,
     name: &[u8],
@@ -170,13 +239,15 @@ fn put(
 ) -> Result<Command, LineFault>
     ensures ok { IfOk result (λ command. put_command name.now session.now table.now key.now bytes.now ≡ Some command) }
     ensures refused { IfErr result (λ fault. fault ≡ NotACommand → put_command name.now session.now table.now key.now bytes.now ≡ None) }
-    ensures memory { IfErr result (λ fault. fault ≡ OutOfMemory → IsSome (put_command name.now session.now table.now key.now bytes.now)) }
+    ensures memory { IfErr result (λ fault. fault ≡ OutOfMemory → IsPut (put_command name.now session.now table.now key.now bytes.now)) }
 {
     if name != b"put".as_slice() {
         return Err(LineFault::NotACommand);
     }
     let session = small_number(session).ok_or(LineFault::NotACommand)?;
     let key = key_of(table, key).ok_or(LineFault::NotACommand)?;
-    let row = row(alloc, bytes)?;
-    Ok(Command::Put { session, key, row })
+    match row(alloc, bytes) {
+        Ok(row) => Ok(Command::Put { session, key, row }),
+        Err(fault) => Err(fault),
+    }
 }

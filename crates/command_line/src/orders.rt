@@ -19,6 +19,10 @@ pub enum Order<'a> {
     Check {
         file: &'a str,
     },
+    /// The lives of the script in the file are lived, on a modelled device of their own.
+    Lives {
+        file: &'a str,
+    },
 }
 
 /// An option of `format`.

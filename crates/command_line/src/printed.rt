@@ -2,12 +2,13 @@ ghost use Rattle.std.specs.Prelude.{◌≡◌, ◌++◌, ◌∷◌, [], IfOk, On
 ghost use Rattle.std.specs.String.{string_bytes};
 ghost use Rattle.std.specs.Io.KnownBytes.{Appends};
 ghost use Rattle.command_line.specs.Rows.{row_text};
-ghost use Rattle.command_line.specs.Texts.{entry_text, gaps_text, refused_text, survivor_text, text_of};
+ghost use Rattle.command_line.specs.Texts.{end_line, entry_text, gaps_text, rows_text, refused_text, survivor_text, text_of};
 
 use crate::command::Survivor;
 use base::fault::Fault;
 use base::gap::Gap;
 use base::key::Key;
+use base::row::Row;
 use std::alloc::{AllocError, Global};
 use std::io;
 use std::io::Write;
@@ -49,6 +50,8 @@ pub enum Printed<'a> {
     End {
         rows: usize,
     },
+    /// Rows, a line each, and then how many they are.
+    Rows(&'a [(Key, Row)]),
     Session(u8),
     Row(&'a [u8]),
     NoRow,
@@ -62,6 +65,10 @@ pub enum Printed<'a> {
     Tick,
     Covered(u64),
     Stopped(Survivor),
+    /// A life of a script begins, the number of which counts from 1.
+    Life(usize),
+    /// It is over.
+    LifeStopped,
     Refused(Fault),
     /// The number of a line that is no command, from 1.
     NotACommand {
@@ -110,7 +117,8 @@ pub fn text(alloc: Global, line: &Printed) -> Result<String, AllocError>
             format!(in alloc; "sound gate {gate} p {persisted} d {dirty} gaps{gaps}")
         }
         Printed::Entry { key, row } => entry_line(alloc, key, row),
-        Printed::End { rows } => format!(in alloc; "end {rows}"),
+        Printed::End { rows } => end_line(alloc, rows),
+        Printed::Rows(rows) => rows_text(alloc, rows),
         Printed::Session(session) => format!(in alloc; "session {session}"),
         Printed::Row(bytes) => row_line(alloc, bytes),
         Printed::NoRow => String::from_str(alloc, "none"),
@@ -124,6 +132,8 @@ pub fn text(alloc: Global, line: &Printed) -> Result<String, AllocError>
         Printed::Tick => String::from_str(alloc, "tick"),
         Printed::Covered(gate) => format!(in alloc; "covered {gate}"),
         Printed::Stopped(keeps) => stopped_line(alloc, keeps),
+        Printed::Life(number) => format!(in alloc; "life {number}"),
+        Printed::LifeStopped => String::from_str(alloc, "stopped"),
         Printed::Refused(fault) => refused_line(alloc, fault),
         Printed::NotACommand { line } => format!(in alloc; "line {line}: not a command"),
         Printed::FileFault => String::from_str(alloc, "file fault"),
@@ -144,6 +154,26 @@ fn entry_line(alloc: Global, key: Key, bytes: &[u8]) -> Result<String, AllocErro
     let number = key.key;
     let row = row_text(alloc, bytes)?;
     format!(in alloc; "{table} {number} {row}")
+}
+
+fn end_line(alloc: Global, rows: usize) -> Result<String, AllocError>
+    ensures { IfOk result (λ text. string_bytes text ≡ end_line rows) }
+{
+    format!(in alloc; "end {rows}")
+}
+
+fn rows_text(alloc: Global, rows: &[(Key, Row)]) -> Result<String, AllocError>
+    ensures { IfOk result (λ text. string_bytes text ≡ rows_text rows.now) }
+{
+    let mut lines = String::new(alloc);
+    for (key, row) in rows {
+        let entry = entry_line(alloc, *key, row.as_bytes())?;
+        lines.push_str(entry.as_str())?;
+        lines.push('\n')?;
+    }
+    let end = end_line(alloc, rows.len())?;
+    lines.push_str(end.as_str())?;
+    Ok(lines)
 }
 
 fn row_text(alloc: Global, bytes: &[u8]) -> Result<String, AllocError>

@@ -45,6 +45,7 @@ fn command_line<'a>(alloc: Global) -> Result<Command<'a>, AllocError> {
     let format = format_command(alloc)?;
     let run = run_command(alloc)?;
     let check = check_command(alloc)?;
+    let lives = lives_command(alloc)?;
     let command = Command::new(alloc, "wbl")
         .no_binary_name(true)
         .bin_name("wbl")?
@@ -54,7 +55,8 @@ fn command_line<'a>(alloc: Global) -> Result<Command<'a>, AllocError> {
         .subcommand_required(true)
         .subcommand(format)?
         .subcommand(run)?
-        .subcommand(check)?;
+        .subcommand(check)?
+        .subcommand(lives)?;
     Ok(command)
 }
 
@@ -104,6 +106,31 @@ fn check_command<'a>(alloc: Global) -> Result<Command<'a>, AllocError> {
         )
         .arg(file_argument(alloc))
 }
+
+fn lives_command<'a>(alloc: Global) -> Result<Command<'a>, AllocError> {
+    let script = Arg::new(alloc, "SCRIPT")
+        .required(true)
+        .action(ArgAction::Set)
+        .help("The file that holds the script");
+    Command::new(alloc, "lives")
+        .about("Lives the lives of the script in SCRIPT, each stopped by a crash, and reports them")
+        .after_help(LIVES_EXAMPLE)
+        .arg(script)
+}
+
+const LIVES_EXAMPLE: &str = "Example: wbl lives two.script, with the lines
+  geometry 4 2 8
+  life 90 newest
+  begin
+  put 2 1 7 6162
+  draw 2
+  stamp 2
+  commit 42
+  life - oldest
+  begin
+  get 2 1 7
+formats a device. In the first life it fails after 90 operations, within the covering of the commit,
+and of each word the newest value that may have survived is kept. So the second life reads the row.";
 
 fn file_argument<'a>(alloc: Global) -> Arg<'a> {
     Arg::new(alloc, "FILE")

@@ -17,9 +17,9 @@ use Rattle.command_line.specs.Texts.{text_of}
 use Rattle.command_line.specs.declared.command.Command.{Command}
 use Rattle.command_line.specs.declared.command.Survivor.{Survivor}
 use Rattle.command_line.specs.declared.orders.Order.{Order}
-use Rattle.command_line.specs.declared.orders.Order.TheVariants.{Format, Run, Check}
+use Rattle.command_line.specs.declared.orders.Order.TheVariants.{Format, Run, Check, Lives}
 use Rattle.command_line.specs.declared.printed.Printed.TheVariants as printed
-use Rattle.console.specs.BadLine.{BlamesNoLine, EndsAtBadLine, IfBadLine, IsBadLineAnd, IsPassed, IsRunAnd, MeetsBadLine, Tells, TellsBadLine, kept_by, kept_in}
+use Rattle.console.specs.BadLine.{BlamesNoLine, EndsAtBadLine, EndsAtLine, IfBadLine, IsBadLineAnd, IsPassed, MeetsBadLine, Tells, TellsLine, kept_by, kept_in}
 use Rattle.console.specs.Input.{BeginsWith}
 use Rattle.console.specs.Kept.{Leads}
 use Rattle.console.specs.Lives.{opened_text}
@@ -43,7 +43,7 @@ passed-so line keeps none is = is ∙ ap (λ (k : Option Survivor). Some k) (non
 
 -- ---- who is to blame
 
-bad-line-by : (stop : Stop) (P Q : ℕ → Type 0) → ((number : ℕ) → P number → Q number) → IfBadLine P stop → IfBadLine Q stop
+pub bad-line-by : (stop : Stop) (P Q : ℕ → Type 0) → ((number : ℕ) → P number → Q number) → IfBadLine P stop → IfBadLine Q stop
 bad-line-by (NotACommand number) P Q says p = says number p
 bad-line-by (Refused fault) P Q says p = tt
 bad-line-by (Broken reason) P Q says p = tt
@@ -56,13 +56,6 @@ passed_on (Err y) stop P Q is says p = subst (IfBadLine Q) (sym is) (bad-line-by
 
 pub unblamed : {T : Type 0} (r : Result T Stop) (stop : Stop) (Q : ℕ → Type 0) → IsErrAnd r (λ y. y ≡ stop) → BlamesNoLine stop → IfErr r (IfBadLine Q)
 unblamed r stop Q is p = passed_on r stop (λ (number : ℕ). ⊥) Q is (λ number no. absurd no) p
-
--- what is returned as it is
-pub of-run : {T : Type 0} (r : Result T Stop) (order actual : Order) (P : ℕ → Type 0) → order ≡ actual → ((number : ℕ) → P number → IsRunAnd actual (P number))
-    → IfErr r (IfBadLine P) → IfErr r (IfBadLine (λ number. IsRunAnd order (P number)))
-of-run (Ok x) order actual P is runs p = tt
-of-run (Err y) order actual P is runs p =
-    bad-line-by y P (λ (number : ℕ). IsRunAnd order (P number)) (λ number q. subst (λ (o : Order). IsRunAnd o (P number)) (sym is) (runs number q)) p
 
 -- ---- the line
 
@@ -103,11 +96,22 @@ ends-so file input old mid new number ended met told = record {
 }
 
 pub told-so : (order : Order) (stop : Stop) (file : List ℕ) (input old mid new : Option Text)
-    → IfBadLine (λ number. IsRunAnd order (EndsAtBadLine file input old mid number [])) stop → IsBadLineAnd (Tells mid new) stop
-    → IsRunAnd order (TellsBadLine file input old new)
+    → IfBadLine (λ number. EndsAtLine order file input old mid number []) stop → IsBadLineAnd (Tells mid new) stop
+    → TellsLine order file input old new
 told-so order (Refused fault) file input old mid new met told = absurd told
 told-so order (Broken reason) file input old mid new met told = absurd told
 told-so (Format name slots places window) (NotACommand number) file input old mid new met told = absurd met
 told-so (Check name) (NotACommand number) file input old mid new met told = absurd met
 told-so (Run name) (NotACommand number) file input old mid new met told =
     (number, ends-so file input old mid new number (text_of (printed.NotACommand number) ++ 10 ∷ []) met told)
+told-so (Lives name) (NotACommand number) file input old mid new met told =
+    (number, (met.0, appends-more old mid new [] (text_of (printed.NotACommand number) ++ 10 ∷ []) met.1 told))
+
+-- what is returned as it is
+pub at-line : {T : Type 0} (r : Result T Stop) (order actual : Order) (file : List ℕ) (input old new : Option Text) (P : ℕ → Type 0) → order ≡ actual
+    → ((number : ℕ) → P number → EndsAtLine actual file input old new number []) → IfErr r (IfBadLine P)
+    → IfErr r (IfBadLine (λ number. EndsAtLine order file input old new number []))
+at-line (Ok x) order actual file input old new P is says p = tt
+at-line (Err y) order actual file input old new P is says p =
+    bad-line-by y P (λ (number : ℕ). EndsAtLine order file input old new number [])
+    (λ number q. subst (λ (o : Order). EndsAtLine o file input old new number []) (sym is) (says number q)) p

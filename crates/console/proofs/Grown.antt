@@ -12,7 +12,7 @@ use Rattle.base.proofs.Growth.{extends-stepped}
 use Rattle.command_line.specs.Lines.{line_of}
 use Rattle.command_line.specs.Numbers.{Text}
 use Rattle.command_line.specs.declared.command.Command.{Command}
-use Rattle.command_line.specs.declared.command.Command.TheVariants.{Begin, Get, Put, Delete, Draw, Stamp, Poll, Abort, End, Commit as CommitTicks, Cycle, Crash}
+use Rattle.command_line.specs.declared.command.Command.TheVariants.{Begin, Get, Scan, Put, Delete, Draw, Stamp, Poll, Abort, End, Commit as CommitTicks, Cycle, Crash}
 use Rattle.command_line.specs.declared.command.Survivor.{Survivor}
 use Rattle.console.specs.declared.lines.Outcome.{Outcome}
 use Rattle.console.specs.declared.lines.Outcome.TheVariants.{Replied, Crashed}
@@ -49,6 +49,7 @@ laid-ticked q (Some hand) = laid-on q hand (next_stage q hand)
 laid-next : (q : State) (one : Step) → (next_state q one).layout ≡ q.layout
 laid-next q step.Begin = refl
 laid-next q (step.Get n key) = refl
+laid-next q (step.Scan n table lo hi) = refl
 laid-next q (step.Put n key row) = refl
 laid-next q (step.Delete n key) = refl
 laid-next q (step.Draw n) = laid-drawn q n (writes_of (q.sessions n))
@@ -79,6 +80,7 @@ grows-puts q n key row answer q' (inr (many, is, same)) = grows-same q q' same
 grows-answers : (q : State) (command : Command) (answer : Reply) (q' : State) → Answers q command answer q' → Grows q q'
 grows-answers q Begin answer q' s = grows-stepped q step.Begin answer q' s
 grows-answers q (Get n key) answer q' s = grows-stepped q (step.Get n key) answer q' s
+grows-answers q (Scan n table lo hi) answer q' s = grows-stepped q (step.Scan n table lo hi) answer q' s
 grows-answers q (Put n key row) answer q' s = grows-puts q n key row answer q' s
 grows-answers q (Delete n key) answer q' s = grows-stepped q (step.Delete n key) answer q' s
 grows-answers q (Draw n) answer q' s = grows-stepped q (step.Draw n) answer q' s

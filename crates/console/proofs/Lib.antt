@@ -8,3 +8,4 @@ mod Input
 mod Crash
 mod BadLine
 mod Refusals
+mod Scripts

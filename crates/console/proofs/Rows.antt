@@ -8,8 +8,8 @@ use Rattle.base.specs.Images.{Image, ruling}
 use Rattle.image_check.specs.Checked.{Reports}
 use Rattle.command_line.specs.ImageFile.{HoldsWords, is_image_length}
 use Rattle.command_line.specs.Numbers.{Text}
-use Rattle.command_line.specs.Texts.{sound_line, end_line}
-use Rattle.console.specs.Checked.{PrintsChecked, checked_text, entries_text}
+use Rattle.command_line.specs.Texts.{sound_line, entries_text, end_line}
+use Rattle.console.specs.Checked.{PrintsChecked, checked_text}
 use Rattle.console.proofs.Obeyed.{appends-more}
 
 module _ (file words : List ℕ) (old first second new : Option Text) (gate persisted dirty : ℕ) (gaps shown : List Gap) (rows listed : List (Key × List ℕ)) (count : ℕ) where

@@ -12,12 +12,13 @@ use Rattle.room.specs.declared.room.Room.{Room}
 use Rattle.command_line.specs.ImageFile.{HoldsWords}
 use Rattle.command_line.specs.Lines.{line_of}
 use Rattle.command_line.specs.Numbers.{Text}
+use Rattle.command_line.specs.Scripts.{IsWrongLine}
 use Rattle.command_line.specs.Texts.{text_of}
 use Rattle.command_line.specs.declared.command.Command.{Command}
 use Rattle.command_line.specs.declared.command.Command.TheVariants.{Crash}
 use Rattle.command_line.specs.declared.command.Survivor.{Survivor}
 use Rattle.command_line.specs.declared.orders.Order.{Order}
-use Rattle.command_line.specs.declared.orders.Order.TheVariants.{Format, Run, Check}
+use Rattle.command_line.specs.declared.orders.Order.TheVariants.{Format, Run, Check, Lives}
 use Rattle.command_line.specs.declared.printed.Printed.TheVariants as printed
 use Rattle.console.specs.Input.{BeginsWith}
 use Rattle.console.specs.Lives.{IsBegun}
@@ -80,9 +81,17 @@ pub record EndsAtBadLine (file : List ℕ) (input old new : Option Text) (number
 abbrev pub Tells : Option Text → Option Text → ℕ → Type 0
 Tells old new number = Appends old new (text_of (printed.NotACommand number) ++ 10 ∷ [])
 
--- what is printed at the end is that a line of the input is no command, and it is none
-abbrev pub TellsBadLine : List ℕ → Option Text → Option Text → Option Text → Type 0
-TellsBadLine file input old new = (number : ℕ) × EndsAtBadLine file input old new number (text_of (printed.NotACommand number) ++ 10 ∷ [])
+-- the line of this number is to blame: of a run, one of the input, which ends it; of lives, one of the script, and then nothing
+-- is printed before. This is printed at the end
+abbrev pub EndsAtLine : Order → List ℕ → Option Text → Option Text → Option Text → ℕ → Text → Type 0
+EndsAtLine (Format name slots places window) file input old new number ended = ⊥
+EndsAtLine (Run name) file input old new number ended = EndsAtBadLine file input old new number ended
+EndsAtLine (Check name) file input old new number ended = ⊥
+EndsAtLine (Lives name) file input old new number ended = IsWrongLine file number × Appends old new ended
+
+-- a line is to blame, and what is printed at the end is that it is no command
+abbrev pub TellsLine : Order → List ℕ → Option Text → Option Text → Option Text → Type 0
+TellsLine order file input old new = (number : ℕ) × EndsAtLine order file input old new number (text_of (printed.NotACommand number) ++ 10 ∷ [])
 
 -- ---- why a subcommand ended
 
@@ -101,9 +110,3 @@ IsBadLineAnd P (Broken reason) = ⊥
 -- no line is to blame
 abbrev pub BlamesNoLine : Stop → Type 0
 BlamesNoLine stop = IfBadLine (λ number. ⊥) stop
-
--- the order is a run, and this
-abbrev pub IsRunAnd : Order → Type 0 → Type 0
-IsRunAnd (Format name slots places window) P = ⊥
-IsRunAnd (Run name) P = P
-IsRunAnd (Check name) P = ⊥

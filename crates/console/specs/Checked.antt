@@ -1,5 +1,5 @@
 -- What a check prints.
-use Rattle.std.specs.Prelude.{◌≡◌, ℕ, List, [], ◌∷◌, ◌++◌, length, flat_map, true, Option}
+use Rattle.std.specs.Prelude.{◌≡◌, ℕ, List, [], ◌∷◌, ◌++◌, length, true, Option}
 use Rattle.std.specs.Io.KnownBytes.{Appends}
 use Rattle.base.specs.declared.key.Key.{Key}
 use Rattle.base.specs.Records.{Record}
@@ -7,11 +7,7 @@ use Rattle.base.specs.Images.{Image, IsSound, ruling}
 use Rattle.image_check.specs.Checked.{ListsTables}
 use Rattle.command_line.specs.ImageFile.{HoldsWords, is_image_length}
 use Rattle.command_line.specs.Numbers.{Text}
-use Rattle.command_line.specs.Texts.{sound_line, entry_text, end_line}
-
--- a line for each row
-abbrev pub entries_text : List (Key × List ℕ) → Text
-entries_text = flat_map (λ row. entry_text row.0 row.1 ++ 10 ∷ [])
+use Rattle.command_line.specs.Texts.{sound_line, entries_text, end_line}
 
 -- the lines of a sound image with this ruling record and these rows
 abbrev pub checked_text : Record → List (Key × List ℕ) → Text

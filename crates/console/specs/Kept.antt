@@ -12,7 +12,7 @@ use Rattle.room.specs.Room.{Shows}
 use Rattle.room.specs.declared.room.Room.{Room}
 use Rattle.command_line.specs.ImageFile.{HoldsWords, IsFileOf}
 use Rattle.command_line.specs.declared.orders.Order.{Order}
-use Rattle.command_line.specs.declared.orders.Order.TheVariants.{Format, Run, Check}
+use Rattle.command_line.specs.declared.orders.Order.TheVariants.{Format, Run, Check, Lives}
 
 -- the list begins with this history
 abbrev pub Extends : List Commit → List Commit → Type 0
@@ -52,15 +52,25 @@ abbrev pub Leaves : Order → List ℕ → List ℕ → Type 0
 Leaves (Format name slots places window) before after = IsFileOf (fresh_image (layout_with newest_version slots places window)) after
 Leaves (Run name) before after = KeepsHistories before after
 Leaves (Check name) before after = ⊥
+Leaves (Lives name) before after = ⊥
 
--- a subcommand that ends well writes FILE, but for a check
+-- a subcommand that ends well writes FILE, but for a check and for lives
 abbrev pub writes_file : Order → Bool
 writes_file (Format name slots places window) = true
 writes_file (Run name) = true
 writes_file (Check name) = false
+writes_file (Lives name) = false
 
 -- where the order is a check, this
 abbrev pub IfCheck : Order → Type 0 → Type 0
 IfCheck (Format name slots places window) P = ⊤
 IfCheck (Run name) P = ⊤
 IfCheck (Check name) P = P
+IfCheck (Lives name) P = ⊤
+
+-- where the order is lives, this
+abbrev pub IfLives : Order → Type 0 → Type 0
+IfLives (Format name slots places window) P = ⊤
+IfLives (Run name) P = ⊤
+IfLives (Check name) P = ⊤
+IfLives (Lives name) P = P

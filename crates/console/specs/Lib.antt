@@ -6,3 +6,4 @@ pub mod Crash
 pub mod BadLine
 pub mod Checked
 pub mod Refusals
+pub mod Scripts

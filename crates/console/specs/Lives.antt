@@ -12,7 +12,7 @@ use Rattle.command_line.specs.Numbers.{Text}
 use Rattle.command_line.specs.Texts.{opened_line, closed_line, survivor_text}
 use Rattle.command_line.specs.declared.command.Survivor.{Survivor}
 use Rattle.command_line.specs.declared.orders.Order.{Order}
-use Rattle.command_line.specs.declared.orders.Order.TheVariants.{Format, Run, Check}
+use Rattle.command_line.specs.declared.orders.Order.TheVariants.{Format, Run, Check, Lives as LivesOf}
 use Rattle.console.specs.Input.{Reads}
 use Rattle.console.specs.Obeyed.{ObeysLines}
 
@@ -72,3 +72,4 @@ Prints (Format name slots places window) before input old new after =
     Appends old new ((codes "formatted " ++ (decimal (total_words (layout_with newest_version slots places window)) ++ codes " words")) ++ 10 ∷ [])
 Prints (Run name) before input old new after = Lives before input old new after
 Prints (Check name) before input old new after = ⊥
+Prints (LivesOf name) before input old new after = ⊥

@@ -9,9 +9,9 @@ use Rattle.base.specs.Machine.{State, Stepped}
 use Rattle.command_line.specs.Lines.{line_of}
 use Rattle.command_line.specs.Numbers.{Text}
 use Rattle.command_line.specs.Rows.{row_text}
-use Rattle.command_line.specs.Texts.{refused_text}
+use Rattle.command_line.specs.Texts.{refused_text, rows_text}
 use Rattle.command_line.specs.declared.command.Command.{Command}
-use Rattle.command_line.specs.declared.command.Command.TheVariants.{Begin, Get, Put, Delete, Draw, Stamp, Poll, Abort, End, Commit, Cycle, Crash}
+use Rattle.command_line.specs.declared.command.Command.TheVariants.{Begin, Get, Scan, Put, Delete, Draw, Stamp, Poll, Abort, End, Commit, Cycle, Crash}
 use Rattle.command_line.specs.declared.command.Survivor.{Survivor}
 use Rattle.console.specs.declared.lines.Outcome.{Outcome}
 use Rattle.console.specs.declared.lines.Outcome.TheVariants.{Replied, Crashed}
@@ -55,6 +55,7 @@ Puts q session key row answer q' =
 abbrev pub Answers : State → Command → Reply → State → Type 0
 Answers q Begin answer q' = Stepped q step.Begin answer q'
 Answers q (Get n key) answer q' = Stepped q (step.Get n key) answer q'
+Answers q (Scan n table lo hi) answer q' = Stepped q (step.Scan n table lo hi) answer q'
 Answers q (Put n key row) answer q' = Puts q n key row answer q'
 Answers q (Delete n key) answer q' = Stepped q (step.Delete n key) answer q'
 Answers q (Draw n) answer q' = Stepped q (step.Draw n) answer q'
@@ -73,11 +74,12 @@ ComesTo q command (Crashed keeps) q' = (command ≡ Crash keeps) × (q' ≡ q)
 
 -- ---- what is printed
 
--- the line of a reply
+-- the line of a reply; rows have a line each
 abbrev pub reply_text : Reply → Text
 reply_text (reply.Began session) = codes "session " ++ decimal session
 reply_text (reply.Row None) = codes "none"
 reply_text (reply.Row (Some row)) = codes "row " ++ row_text row
+reply_text (reply.Rows rows) = rows_text rows
 reply_text reply.Done = codes "done"
 reply_text (reply.Drawn timestamp) = codes "drawn " ++ decimal timestamp
 reply_text reply.More = codes "more"

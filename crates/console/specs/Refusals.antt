@@ -10,9 +10,10 @@ use Rattle.base.specs.Machine.{State, closing_fault}
 use Rattle.base.specs.Stands.{Stands}
 use Rattle.command_line.specs.ImageFile.{HoldsWords, is_image_length}
 use Rattle.command_line.specs.Numbers.{Text}
+use Rattle.command_line.specs.Scripts.{HasBadGeometry}
 use Rattle.command_line.specs.Texts.{refused_text}
 use Rattle.command_line.specs.declared.orders.Order.{Order}
-use Rattle.command_line.specs.declared.orders.Order.TheVariants.{Format, Run, Check}
+use Rattle.command_line.specs.declared.orders.Order.TheVariants.{Format, Run, Check, Lives}
 use Rattle.console.specs.Input.{Reads}
 use Rattle.console.specs.Lives.{IsBegun}
 use Rattle.console.specs.declared.stop.Stop.{Stop}
@@ -72,6 +73,7 @@ EndsRefused (Format name slots places window) file input old new fault ended = I
 EndsRefused (Run name) file input old new fault ended =
     (IsFileFault file IsOpeningFault fault × Appends old new ended) ⊎ EndsAtClose file input old new fault ended
 EndsRefused (Check name) file input old new fault ended = IsFileFault file IsDamage fault × Appends old new ended
+EndsRefused (Lives name) file input old new fault ended = (fault ≡ BadGeometry) × HasBadGeometry file × Appends old new ended
 
 -- the fault is want of memory, or the subcommand's, and then its line ends what is printed
 abbrev pub Refuses : Order → List ℕ → Option Text → Option Text → Option Text → Fault → Type 0

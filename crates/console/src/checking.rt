@@ -1,7 +1,8 @@
 ghost use Rattle.std.specs.Prelude.{◌≡◌, ◌⊎◌, [], IfErr, OnOk};
 ghost use Rattle.std.specs.Io.KnownBytes.{Appends};
 ghost use Rattle.console.specs.BadLine.{BlamesNoLine};
-ghost use Rattle.console.specs.Checked.{PrintsChecked, entries_text};
+ghost use Rattle.command_line.specs.Texts.{entries_text};
+ghost use Rattle.console.specs.Checked.{PrintsChecked};
 ghost use Rattle.console.specs.Refusals.{IfRefused, IsDamage, IsFileFault};
 ghost use Rattle.base.specs.declared.fault.Fault.TheVariants.{OutOfMemory};
 

@@ -3,10 +3,11 @@ ghost use Rattle.std.specs.Io.KnownBytes.{Appends};
 ghost use Rattle.base.specs.Layout.{total_words};
 ghost use Rattle.command_line.specs.ImageFile.{IsFileOf};
 ghost use Rattle.base.specs.Fresh.{fresh_image};
-ghost use Rattle.console.specs.BadLine.{BlamesNoLine, EndsAtBadLine, IfBadLine, IsBadLineAnd, IsRunAnd, Tells, TellsBadLine};
+ghost use Rattle.console.specs.BadLine.{BlamesNoLine, EndsAtLine, IfBadLine, IsBadLineAnd, Tells, TellsLine};
 ghost use Rattle.console.specs.Checked.{PrintsChecked};
-ghost use Rattle.console.specs.Kept.{IfCheck, Leaves, writes_file};
+ghost use Rattle.console.specs.Kept.{IfCheck, IfLives, Leaves, writes_file};
 ghost use Rattle.console.specs.Lives.{Prints};
+ghost use Rattle.console.specs.Scripts.{PrintsLives};
 ghost use Rattle.console.specs.Refusals.{EndsRefused, IfRefused, IsFaultOf, Refuses, refusal_line};
 ghost use Rattle.base.specs.declared.fault.Fault.TheVariants.{Device as DeviceFault, OutOfMemory};
 
@@ -14,6 +15,7 @@ use crate::checking::check_file;
 use crate::ended::Ended;
 use crate::format::fresh_file;
 use crate::run::run;
+use crate::script::live_script;
 use crate::stop::Stop;
 use base::fault::Fault;
 use base::geometry::Geometry;
@@ -29,7 +31,7 @@ const REFUSED: u8 = 1;
 /// The exit status of a line that is no command.
 const BAD_LINE: u8 = 2;
 
-/// Does the work of a subcommand. `file` is what FILE holds, and nothing for `format`.
+/// Does the work of a subcommand. `file` is what FILE holds, or SCRIPT, and nothing for `format`.
 pub fn execute<T: Threads + Sync, R: Read, W: Write>(
     rt: &T,
     alloc: Global,
@@ -40,12 +42,13 @@ pub fn execute<T: Threads + Sync, R: Read, W: Write>(
 ) -> Ended
     ensures status { result.status ≤ 2 }
 
-    // There is something for FILE exactly where the status is 0, but for a check.
+    // There is something for FILE exactly where the status is 0, but for a check and for lives.
     ensures written { IsSome result.file ↔ ((result.status ≡ 0) × IsTrue (writes_file order.now)) }
     ensures file { IfSome result.file (λ left. Leaves order.now file.now left.items) }
     ensures printed { IfSome result.file (λ left. Prints order.now file.now (R.remaining input.old) (W.contents output.old) (W.contents output.new) left.items) }
     ensures checked { result.status ≡ 0 → IfCheck order.now (PrintsChecked file.now (W.contents output.old) (W.contents output.new)) }
-    ensures bad_line { result.status ≡ 2 → IsRunAnd order.now (TellsBadLine file.now (R.remaining input.old) (W.contents output.old) (W.contents output.new)) }
+    ensures lived { result.status ≡ 0 → IfLives order.now (PrintsLives file.now (W.contents output.old) (W.contents output.new)) }
+    ensures bad_line { result.status ≡ 2 → TellsLine order.now file.now (R.remaining input.old) (W.contents output.old) (W.contents output.new) }
 
     // A refusal ends with status 1, and exactly its line is printed after what was printed before it.
     ensures refusal { IfSome result.refused (λ fault. result.status ≡ 1) }
@@ -74,7 +77,8 @@ fn obey<T: Threads + Sync, R: Read, W: Write>(
     ensures file { IfOk result (λ kept. IfSome kept (λ left. Leaves order.now file.now left.items)) }
     ensures printed { IfOk result (λ kept. IfSome kept (λ left. Prints order.now file.now (R.remaining input.old) (W.contents output.old) (W.contents output.new) left.items)) }
     ensures checked { OnOk result (IfCheck order.now (PrintsChecked file.now (W.contents output.old) (W.contents output.new))) }
-    ensures bad_line { IfErr result (IfBadLine (λ number. IsRunAnd order.now (EndsAtBadLine file.now (R.remaining input.old) (W.contents output.old) (W.contents output.new) number []))) }
+    ensures lived { OnOk result (IfLives order.now (PrintsLives file.now (W.contents output.old) (W.contents output.new))) }
+    ensures bad_line { IfErr result (IfBadLine (λ number. EndsAtLine order.now file.now (R.remaining input.old) (W.contents output.old) (W.contents output.new) number [])) }
     ensures refused { IfErr result (IfRefused (λ fault. (fault ≡ OutOfMemory)
         ⊎ EndsRefused order.now file.now (R.remaining input.old) (W.contents output.old) (W.contents output.new) fault [])) }
 {
@@ -99,6 +103,10 @@ fn obey<T: Threads + Sync, R: Read, W: Write>(
             Err(stop) => Err(stop),
         },
         Order::Check { .. } => match check_file(rt, alloc, file, output) {
+            Ok(()) => Ok(None),
+            Err(stop) => Err(stop),
+        },
+        Order::Lives { .. } => match live_script(rt, alloc, file, output) {
             Ok(()) => Ok(None),
             Err(stop) => Err(stop),
         },

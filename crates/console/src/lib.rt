@@ -8,5 +8,7 @@ pub mod execute;
 pub mod format;
 pub mod law;
 mod lines;
+mod replies;
 mod run;
+mod script;
 mod stop;

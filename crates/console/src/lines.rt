@@ -3,13 +3,13 @@ ghost use Rattle.std.specs.Io.KnownBytes.{Appends};
 ghost use Rattle.base.specs.Machine.{Stepped};
 ghost use Rattle.command_line.specs.Lines.{line_of};
 ghost use Rattle.command_line.specs.Numbers.{Text};
-ghost use Rattle.command_line.specs.Texts.{text_of};
 ghost use Rattle.console.specs.BadLine.{BlamesNoLine, IfBadLine, MeetsBadLine, kept_by, kept_in, kept_of};
 ghost use Rattle.console.specs.Input.{Reads};
 ghost use Rattle.console.specs.Kept.{Leads};
 ghost use Rattle.console.specs.Refusals.{WantsMemory};
 ghost use Rattle.console.specs.Obeyed.{Puts, Commits, Cycles, ComesTo, Obeys, ObeysLine, ObeysLines, is_busy, is_tick, reply_text};
 
+use crate::replies::show;
 use crate::stop::Stop;
 use base::fault::Fault;
 use base::key::Key;
@@ -17,11 +17,9 @@ use base::row::Row;
 use base::step::{Reply, Step};
 use command_line::command::{Command, Survivor};
 use command_line::line::{LineFault, parse_line};
-use command_line::printed::{Printed, print};
 use pmem::Pmem;
 use room::Room;
 use std::alloc::Global;
-use std::io;
 use std::io::{BufRead, BufReader, Read, Write};
 
 /// What a command comes to.
@@ -129,6 +127,23 @@ fn perform<D: Pmem + Drop>(room: &mut Room<D>, command: &Command) -> Outcome
             let (session, key) = (*session, *key);
             Outcome::Replied(step(room, Step::Get { session, key }))
         }
+        Command::Scan {
+            session,
+            table,
+            lo,
+            hi,
+        } => {
+            let (session, table, lo, hi) = (*session, *table, *lo, *hi);
+            Outcome::Replied(step(
+                room,
+                Step::Scan {
+                    session,
+                    table,
+                    lo,
+                    hi,
+                },
+            ))
+        }
         Command::Put { session, key, row } => {
             Outcome::Replied(put(room, *session, *key, row.as_slice()))
         }
@@ -216,30 +231,4 @@ fn is_tick(reply: &Reply) -> bool
     ensures { result ≡ is_tick reply.now }
 {
     matches!(reply, Reply::Ticked(_))
-}
-
-fn show<W: Write>(alloc: Global, reply: &Reply, output: &mut W) -> io::Result<()>
-    ensures { OnOk result (Appends (W.contents output.old) (W.contents output.new) (reply_text reply.now ++ 10 ∷ [])) }
-{
-    print(alloc, output, &printed(reply))
-}
-
-fn printed<'a>(reply: &'a Reply) -> Printed<'a>
-    ensures { text_of result ≡ reply_text reply.now }
-{
-    match reply {
-        Reply::Began(session) => Printed::Session(*session),
-        Reply::Row(Some(row)) => Printed::Row(row.as_bytes()),
-        Reply::Row(None) => Printed::NoRow,
-        Reply::Done => Printed::Done,
-        Reply::Drawn(timestamp) => Printed::Drawn(*timestamp),
-        Reply::More => Printed::More,
-        Reply::Stamped => Printed::Stamped,
-        Reply::Waiting => Printed::Waiting,
-        Reply::Committed(timestamp) => Printed::Committed(*timestamp),
-        Reply::Idle => Printed::Idle,
-        Reply::Ticked(_) => Printed::Tick,
-        Reply::Covered(batch) => Printed::Covered(batch.stamp()),
-        Reply::Refused(fault) => Printed::Refused(*fault),
-    }
 }

@@ -57,7 +57,7 @@ ready-next q device (x ∷ lines) zero line at ready this = let same : x ≡ lin
 ready-next q device (x ∷ lines) (suc i) line at ready this = (ready.0, ready-next q device lines i line at ready.1 this)
 
 on-closing : (o : Origin) (q : State) (old new : Device) → IsClosing o q old → Upholds o q new → LeavesOnly old new (StandsClosing q) → IsClosingOn o q old new
-on-closing o q old new c u images = record { closing = record { limits = c.limits; works = c.works; rests = c.rests; stamped = c.stamped; upholds = u }; images = images }
+on-closing o q old new c u images = record { closing = record { works = c.works; rests = c.rests; stamped = c.stamped; upholds = u }; images = images }
 
 stands : (o : Origin) (q : State) (device : Device) → Upholds o q device → (image : Image) → MayLeave device image → StandsClosing q image
 stands o q device u image may = at-closing q image (every-image-stands o q device image u may)
@@ -107,7 +107,7 @@ module _ (o : Origin) (q : State) (device : Device) (c : IsClosing o q device) w
   k = keeps-chosen o q kept
 
   all-chosen : chosen q ≡ drawn_of q
-  all-chosen = chosen-is_run o q kept c.limits ∙ ap (λ (ds : List Drawn). map (λ (d : Drawn). d.commit) ds) (all-run q.drawn c.stamped)
+  all-chosen = chosen-is_run o q kept ∙ ap (λ (ds : List Drawn). map (λ (d : Drawn). d.commit) ds) (all-run q.drawn c.stamped)
 
   all-uncovered : chosen q ≡ uncovered q
   all-uncovered = all-chosen ∙ sym (ap (λ (h : Option Hand). uncovered (record q { hand = h })) c.rests ∙ keep-all (drawn_of q))

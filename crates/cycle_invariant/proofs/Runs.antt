@@ -8,7 +8,6 @@ use Rattle.std.proofs.lemmas.List.Folds.{list_all-append}
 use Rattle.std.proofs.lemmas.List.Sums.{take_while-cons}
 use Rattle.base.specs.Commits.{Commit}
 use Rattle.base.specs.Records.{are_rising}
-use Rattle.base.specs.Restrictions.{Limits, whole_limits, in_one_batch}
 use Rattle.base.specs.Layout.{most_longs}
 use Rattle.base.specs.Machine.{State, Drawn, is_stamped, may_be_covered, unstamped_below, end_of_run, chosen, reach, is_nil, has_other_reason_to_write, standing_gaps, target_of}
 use Rattle.state_invariant.specs.Kept.{Origin, Keeps}
@@ -146,10 +145,8 @@ module _ (o : Origin) (q : State) (kept : Keeps o q) where
           ∙ none-passes fit ds (beyond ds (past un both.0 (nat_le (time_of d) (end_of_run q)) refl) (all-mapped (nat_lt (time_of d)) ds (rising-above (time_of d) (times ds) rising)))
           ∙ sym (ap (λ (b : Bool). cond b (d ∷ take_while is_stamped ds) []) un)
 
-  pub chosen-is_run : q.limits ≡ whole_limits → chosen q ≡ run_of q
-  chosen-is_run limits =
-      ap (λ (l : Limits). in_one_batch l (map (λ d. d.commit) (filter fit q.drawn))) limits
-      ∙ ap (λ (ds : List Drawn). map (λ (d : Drawn). d.commit) ds) (run-from [] q.drawn refl refl up_to kept.draws.rising)
+  pub chosen-is_run : chosen q ≡ run_of q
+  chosen-is_run = ap (λ (ds : List Drawn). map (λ (d : Drawn). d.commit) ds) (run-from [] q.drawn refl refl up_to kept.draws.rising)
 
   -- ---- the record
 
@@ -181,27 +178,27 @@ module _ (o : Origin) (q : State) (kept : Keeps o q) where
       by_test true both rest = and_from (nat_lt q.ruling.persisted (time_of d)) (list_all (λ (c : Commit). nat_lt q.ruling.persisted c.timestamp) (map (λ (d : Drawn). d.commit) (take_while is_stamped ds))) both.0 (rest both.1)
       by_test false both rest = refl
 
-  pub reach-last : q.limits ≡ whole_limits → reach q ≡ last_timestamp q.ruling.persisted (run_of q)
-  reach-last limits =
-      let is = chosen-is_run limits in
+  pub reach-last : reach q ≡ last_timestamp q.ruling.persisted (run_of q)
+  reach-last =
+      let is = chosen-is_run in
       ap (λ (cs : List Commit). fold max q.ruling.persisted (map (λ (c : Commit). c.timestamp) cs)) is
       ∙ max-last q.ruling.persisted (run_of q) (run-above q.drawn above-drawn) (subst (λ (cs : List Commit). are_rising (map (λ (c : Commit). c.timestamp) cs) ≡ true) is (keeps-chosen o q kept).rising)
 
-  target-is : q.limits ≡ whole_limits → target_of q ≡ record_of_run q
-  target-is limits = λ i. record {
+  target-is : target_of q ≡ record_of_run q
+  target-is = λ i. record {
     gate = q.ruling.gate + 1;
-    persisted = reach-last limits i;
+    persisted = reach-last i;
     dirty = q.next + q.layout.window;
     gaps = standing_gaps q;
     longs = none-passed o q kept i;
   }
 
-  pub chooses-run : q.limits ≡ whole_limits → ChoosesRun q
-  chooses-run limits = record {
-    commits = chosen-is_run limits;
-    record_is = target-is limits;
-    idle = ap (λ (cs : List Commit). is_nil cs && not (has_other_reason_to_write q)) (chosen-is_run limits);
+  pub chooses-run : ChoosesRun q
+  chooses-run = record {
+    commits = chosen-is_run;
+    record_is = target-is;
+    idle = ap (λ (cs : List Commit). is_nil cs && not (has_other_reason_to_write q)) chosen-is_run;
   }
 
 pub runs-are_chosen : RunsAreChosen
-runs-are_chosen = record { run = λ o q limits kept. chooses-run o q kept limits; keeps = λ o q kept. keeps-chosen o q kept }
+runs-are_chosen = record { run = λ o q kept. chooses-run o q kept; keeps = λ o q kept. keeps-chosen o q kept }

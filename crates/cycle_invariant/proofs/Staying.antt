@@ -5,7 +5,7 @@ use Rattle.std.specs.List.{range_with_len, flat_map, list_any}
 use Rattle.std.proofs.lemmas.Bool.{and_parts, ne_eqb, eqb-true, false_from_ne_true}
 use Rattle.base.specs.declared.key.Key.{Key}
 use Rattle.base.specs.declared.step.Step.{Step}
-use Rattle.base.specs.declared.step.Step.TheVariants.{Begin, Get, Put, Delete, Draw, Stamp, Poll, Abort, End, Commit as CommitTick}
+use Rattle.base.specs.declared.step.Step.TheVariants.{Begin, Get, Scan, Put, Delete, Draw, Stamp, Poll, Abort, End, Commit as CommitTick}
 use Rattle.base.specs.declared.step.Reply.{Reply}
 use Rattle.base.specs.Keys.{key_eq}
 use Rattle.base.specs.Commits.{Commit, Writes, writes_key, last_writer}
@@ -138,6 +138,7 @@ module _ (o : Origin) (q : State) (hand : Hand) (kept : Keeps o q) (in_hand : q.
   next-lines : (step : Step) → is_no_tick step ≡ true → lines_in (next_state q step) hand.commits ≡ lines_in q hand.commits
   next-lines Begin is = refl
   next-lines (Get n key) is = refl
+  next-lines (Scan n table lo hi) is = refl
   next-lines (Put n key row) is = held-lines q (held_after_put q n key) hand.commits (λ slot lt. put-alike q hand.commits n key slot)
   next-lines (Delete n key) is = held-lines q (held_after_delete q n key) hand.commits (λ slot lt. delete-alike q hand.commits n key slot)
   next-lines (Draw n) is = by_writes (writes_of (q.sessions n))

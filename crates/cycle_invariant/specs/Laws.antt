@@ -13,7 +13,6 @@ use Rattle.base.specs.Commits.{Commit}
 use Rattle.base.specs.Images.{Image}
 use Rattle.base.specs.Laws.{is_no_tick}
 use Rattle.base.specs.Records.{are_rising}
-use Rattle.base.specs.Restrictions.{whole_limits}
 use Rattle.base.specs.Actors.{committer}
 use Rattle.base.specs.Machine.{State, Hand, Stepped, refusal, chosen, is_nil, drawn_of, has_other_reason_to_write, is_idle, target_of, taken_in_hand, batch_of, lines_of, state_covered, closing_gate, next_state, StandsWithin, StandsClosing, StandsClosed}
 use Rattle.pmem.specs.Device.{Device, IsOrderly, MayLeave, flushed, fenced, failed}
@@ -43,7 +42,7 @@ pub record ChoosesRun (q : State) : Type 0 where
 
 -- it keeps what a batch in hand is to keep
 pub record RunsAreChosen : Type 0 where
-  pub run : (o : Origin) (q : State) → q.limits ≡ whole_limits → Keeps o q → ChoosesRun q
+  pub run : (o : Origin) (q : State) → Keeps o q → ChoosesRun q
   pub keeps : (o : Origin) (q : State) → Keeps o q → KeepsHand q (taken_in_hand q)
 
 -- commits that are drawn touch as many lines as the machine counts

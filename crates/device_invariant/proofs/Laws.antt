@@ -162,7 +162,7 @@ shows-but_one o q old new slot w value low is this shows = record { each = λ s 
     by_place s lt (inr apart) = shows-same o q (value_of old) (value_of new) s (λ v in_slot. (others-stored q.layout old new slot w value low is s lt apart v in_slot).value) (shows.each s lt)
 
 -- a free slot whose begin is 0 shows nothing
-shows-free : (o : Origin) (q : State) (value : ℕ → ℕ) (slot : ℕ) → q.held slot ≡ None → value (word_of q.layout slot 0) ≡ 0 → SlotShows o q value slot
+pub shows-free : (o : Origin) (q : State) (value : ℕ → ℕ) (slot : ℕ) → q.held slot ≡ None → value (word_of q.layout slot 0) ≡ 0 → SlotShows o q value slot
 shows-free o q value slot free zero = subst (λ (v : Option Version). ShowsAs o q value slot (class_of_version o q v)) (sym free) (inl (inl zero))
 
 pub clearing-keeps : ClearingKeeps

@@ -21,7 +21,7 @@ use Rattle.base.proofs.Opened.{IsOpening, ruled_before, opening-of, opened-below
 use Rattle.pmem.specs.Device.{Device}
 use Rattle.pmem.specs.Words.{value_of, IsSettled, EachSurvivor}
 use Rattle.state_invariant.specs.Kept.{origin_of, Keeps, version_by, row_by, row_in, commit_at, commits_of_life}
-use Rattle.state_invariant.specs.Shown.{word_of, IsHidden, is_drawn_on, SlotsShow, ShowsAs, class_of_version}
+use Rattle.state_invariant.specs.Shown.{IsNever, word_of, IsHidden, is_drawn_on, SlotsShow, ShowsAs, class_of_version}
 use Rattle.state_invariant.proofs.Commits.{committed-bounds}
 use Rattle.state_invariant.proofs.Opening.{keeps-opened, shows-opened}
 use Rattle.device_invariant.specs.Slots.{newest_of, NeverCounts, IsDead, IsLive, SlotHolds}
@@ -89,6 +89,11 @@ module _ (q : State) (device : Device) (fresh : IsFresh q device) (kept : Keeps 
   undrawn : (t : ℕ) (d : Drawn) → drawn_at q t ≡ Some d → ⊥
   undrawn t d found = let none : ◌≡◌ {A = Option Drawn} None (Some d) = sym (ap (find (λ (d : Drawn). nat_eq d.commit.timestamp t)) fresh.drawn) ∙ found in cc none
 
+  -- at an opening the gaps are the record's own
+  never-counts : (t : ℕ) → IsNever (origin_of q) q t → NeverCounts q t
+  never-counts t (inl none) = inl none
+  never-counts t (inr inside) = inr inside.1
+
   dead : q.held slot ≡ None → IsDead q device slot
   dead held = by_hidden (subst (λ (v : Option Version). ShowsAs (origin_of q) q (value_of device) slot (class_of_version (origin_of q) q v)) held (shows.each slot lt))
     where
@@ -97,7 +102,7 @@ module _ (q : State) (device : Device) (fresh : IsFresh q device) (kept : Keeps 
       none-since = drop-whole (take (length q.history) q.history) (length q.history) (omega (arith, ap (λ (cs : List Commit). length cs) (take_all (length q.history) q.history (omega arith))))
 
       by_hidden : IsHidden (origin_of q) q (value_of device first) (value_of device second) → IsDead q device slot
-      by_hidden (inl never) = inl (each-weaken (λ x is. subst (NeverCounts q) (sym is) never) begin)
+      by_hidden (inl never) = inl (each-weaken (λ x is. subst (NeverCounts q) (sym is) (never-counts (value_of device first) never)) begin)
       by_hidden (inr counted) = inr (each-weaken (λ x is. subst (λ (y : ℕ). is_committed q.ruling y ≡ true) (sym is)
           (by_or (or_cases (is_committed q.ruling (value_of device second)) (has_timestamp (drop (length q.history) (take (length q.history) q.history)) (value_of device second)) (counted (length q.history) (inl refl))))) end)
         where
@@ -129,10 +134,14 @@ module _ (q : State) (device : Device) (fresh : IsFresh q device) (kept : Keeps 
       record {
         begin = fresh.settled slot 0 lt (within-slot q.layout.version 0 (omega arith));
         counted = says.begin.earlier (low (last-committed (origin_of q) q kept key));
-        end = each-weaken (λ x is. subst (λ (y : ℕ). NeverCounts q y ⊎ IsTrue (is_drawn_on q key y)) (sym is) says.end) end;
+        end = each-weaken (λ x is. subst (λ (y : ℕ). NeverCounts q y ⊎ IsTrue (is_drawn_on q key y)) (sym is) (open_end says.end)) end;
         settled = λ w two in_slot. fresh.settled slot w lt in_slot;
       }
     where
+      open_end : IsNever (origin_of q) q (value_of device second) ⊎ IsTrue (is_drawn_on q key (value_of device second)) → NeverCounts q (value_of device second) ⊎ IsTrue (is_drawn_on q key (value_of device second))
+      open_end (inl never) = inl (never-counts (value_of device second) never)
+      open_end (inr drawn) = inr drawn
+
       low : (last_writer q.history key ≡ 0) ⊎ (is_committed q.ruling (last_writer q.history key) ≡ true) → last_writer q.history key ≤ q.ruling.persisted
       low (inl none) = omega (arith, none)
       low (inr committed) = (committed-bounds q.ruling (last_writer q.history key) committed).1
@@ -158,7 +167,10 @@ opened-upholds image history drawn next lost q device opens stands opened_as res
   holds = record {
     slots = record { each = λ slot lt. fresh-holds q device fresh kept shows slot lt };
     log = subst (HoldsHand q device) (sym (ap (λ (p : State). p.hand) opened_as.2)) record_holds;
-    sweeping = record { over = λ swept. absurd (true≢false (sym swept ∙ ap (λ (p : State). p.swept) opened_as.2)) };
+    sweeping = record {
+      over = λ swept. absurd (true≢false (sym swept ∙ ap (λ (p : State). p.swept) opened_as.2));
+      under_way = λ unswept slot lt before. absurd (omega (arith, before, ap (λ (p : State). p.place) opened_as.2));
+    };
   };
 }
   where

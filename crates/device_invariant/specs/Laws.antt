@@ -2,14 +2,14 @@
 use Rattle.std.specs.Prelude.{◌≡◌, ◌≢◌, ℕ, ◌+◌, ◌^◌, ◌<◌, ◌≤◌, true, false, length, slice_get, slice_index, List, [], Option, Some, None}
 use Rattle.base.specs.declared.key.Key.{Key}
 use Rattle.base.specs.Layout.{Layout, slot_words}
-use Rattle.base.specs.Records.{Record, is_committed}
+use Rattle.base.specs.Records.{Record, is_in, is_committed}
 use Rattle.base.specs.Images.{Image, opening_fault}
 use Rattle.base.specs.Openings.{OpensAs, opened_slots}
 use Rattle.base.specs.Stands.{Stands}
-use Rattle.base.specs.Commits.{Commit, writes_key}
+use Rattle.base.specs.Commits.{Commit, writes_key, last_writer}
 use Rattle.base.specs.Machine.{State, Session, Drawn, Hand, Version, BySession, ByCommit, drawn_at, lines_of, state_covered, StandsAt}
 use Rattle.pmem.specs.Device.{Device, IsOrderly, MayLeave, stored, flushed, fenced, failed}
-use Rattle.pmem.specs.Words.{value_of, image_of, IsSettledAt}
+use Rattle.pmem.specs.Words.{Survives, value_of, image_of, IsSettledAt}
 use Rattle.pmem.specs.Trace.{applied}
 use Rattle.log_area.specs.declared.stage.WritingStage.{WritingStage}
 use Rattle.log_area.specs.declared.stage.WritingStage.TheVariants.{FenceGate, Done}
@@ -123,15 +123,24 @@ StampsEnd =
     (o : Origin) (q : State) (slot t : ℕ) (key : Key) (d : Drawn) (old new : Device) → slot < q.layout.slots → q.held slot ≡ Some (newest_of q key) → drawn_at q t ≡ Some d → writes_key key d.commit ≡ true → is_key_stamped d key ≡ false
     → new ≡ stored (word_of q.layout slot 1) t old → Upholds o q old → Upholds o q new
 
+-- a begin or an end that lies in a gap which isn't swept is made 0
+abbrev pub ZeroingKeeps : Type 0
+ZeroingKeeps =
+    (o : Origin) (q : State) (slot w : ℕ) (old new : Device) → q.failed ≡ false → q.swept ≡ false → slot < q.layout.slots → w < 2
+    → Survives old (word_of q.layout slot w) (value_of old (word_of q.layout slot w)) → is_in q.ruling.gaps (value_of old (word_of q.layout slot w)) ≡ true
+    → new ≡ stored (word_of q.layout slot w) 0 old → Upholds o q old → Upholds o q new
+
 -- ---- holders
 
--- A slot's holder stays; or a session gives the slot back; or one takes it, whose begin is 0
+-- A slot's holder stays; or a session gives the slot back; or one takes it, whose begin is 0; or the slot of a version that
+-- a covered commit replaced is freed
 pub data ChangesHolder (q : State) (held : ℕ → Option Version) (device : Device) (slot : ℕ) : Type 0 where
   stays : held slot ≡ q.held slot → ChangesHolder q held device slot
   given_back : (n : ℕ) (key : Key) → q.held slot ≡ Some (version_by key (BySession n)) → held slot ≡ None → ChangesHolder q held device slot
   taken : (n : ℕ) (key : Key) → q.held slot ≡ None → held slot ≡ Some (version_by key (BySession n)) → IsSettledAt device (word_of q.layout slot 0) 0 → ChangesHolder q held device slot
+  freed : (t : ℕ) (key : Key) → q.held slot ≡ Some (version_by key (ByCommit t)) → drawn_at q t ≡ None → t ≢ last_writer q.history key → held slot ≡ None → ChangesHolder q held device slot
 
--- sessions come and go, give slots back and take them: what may survive is then as the state says that they lead to
+-- sessions come and go, slots are given back, taken and freed: what may survive is then as the state says that they lead to
 abbrev pub HoldersKeep : Type 0
 HoldersKeep =
     (o : Origin) (q : State) (sessions : ℕ → Option Session) (held : ℕ → Option Version) (device : Device) → ((slot : ℕ) → slot < q.layout.slots → ChangesHolder q held device slot)

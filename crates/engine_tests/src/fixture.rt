@@ -1,10 +1,9 @@
-use crate::steps::{BEGIN, DRAW, END, POLL, STAMP, get, put};
 use base::fault::Fault;
-use base::gap::Gap;
 use base::geometry::Geometry;
-use base::key::Key;
 use base::row::Row;
-use base::step::{Note, Stage, Step};
+use base::step::{Note, Step};
+use command_line::command::Command;
+use command_line::line::{LineFault, parse_line};
 use log_area::FORMATTED;
 use pmem::Pmem;
 use pmem_model::SimPmem;
@@ -13,9 +12,6 @@ use room::Room;
 use std::alloc::Global;
 use std::process::Abort;
 use std::thread::Threads;
-
-/// The key of the worked images.
-pub const KEY: Key = Key { table: 1, key: 7 };
 
 /// The words of the fresh worked image: 4 slots, 2 places and a window of 8.
 pub fn fresh_words() -> [u64; 104] {
@@ -41,16 +37,10 @@ pub fn formatted(alloc: Global, geometry: Geometry) -> Result<SimPmem, Fault> {
     Ok(device)
 }
 
-/// A device with so many slots, so many places and this window that was formatted and restarted: no operation is
-/// counted.
-pub fn fresh_of(alloc: Global, slots: u64, places: u64, window: u64) -> Result<SimPmem, Fault> {
-    let device = formatted(alloc, Geometry::new(slots, places, window)?)?;
+/// A device with so many slots, 2 places and this window that was formatted and restarted: no operation is counted.
+pub fn fresh(alloc: Global, slots: u64, window: u64) -> Result<SimPmem, Fault> {
+    let device = formatted(alloc, Geometry::new(slots, 2, window)?)?;
     SimPmem::from_words(alloc, &device.image()?)
-}
-
-/// A device of the worked images.
-pub fn fresh(alloc: Global) -> Result<SimPmem, Fault> {
-    fresh_of(alloc, 4, 2, 8)
 }
 
 /// The room of a device that is at rest.
@@ -72,90 +62,96 @@ pub fn operations(device: &SimPmem) -> u128 {
     made.stores as u128 + made.flushes as u128 + made.fences as u128
 }
 
-pub fn word(rt: &impl Abort, device: &SimPmem, word: usize) -> u64 {
-    assert!(rt; word < device.words());
-    device.load(word)
-}
-
 /// The device has these words from this one on.
 pub fn assert_words(rt: &impl Abort, device: &SimPmem, first: usize, words: &[u64]) {
     assert!(rt; first <= device.words() && words.len() <= device.words() - first);
     for (at, want) in (first..device.words()).zip(words.iter()) {
-        assert_eq!(rt; word(rt, device, at), *want, "word {at}");
+        assert!(rt;
+            at < device.words() && device.load(at) == *want,
+            "word {at}"
+        );
     }
 }
 
-/// The gate, the persisted, the dirty and the next timestamp, and the gaps.
-pub fn assert_numbers(
-    rt: &impl Abort,
-    room: &Room<SimPmem>,
-    numbers: (u64, u64, u64, u64),
-    gaps: &[Gap],
-) {
-    let status = room.status();
-    assert_eq!(rt;
-        (status.gate, status.persisted, status.dirty, status.next),
-        numbers
-    );
-    assert_eq!(rt; status.gaps.as_slice(), gaps);
-}
-
-/// Makes these steps one after another, each with the reply that is wanted.
-pub fn assert_replies(rt: &impl Abort, room: &mut Room<SimPmem>, steps: &[(Step, Note)]) {
-    for (at, (made, want)) in steps.iter().enumerate() {
-        assert_eq!(rt; step(room, *made), *want, "step {at}");
-    }
-}
-
-/// Makes a step, and notes its reply.
+/// Makes a step, and notes its reply. Want of memory for the note looks like that of a scan, which changes nothing.
 pub fn step(room: &mut Room<SimPmem>, step: Step) -> Note {
-    Note::from(&room.step(step))
-}
-
-/// A transaction that writes the row, up to its stamp.
-pub fn insertion(key: Key, row: Row, timestamp: u64) -> [(Step, Note); 4] {
-    [
-        (BEGIN, Note::Began(2)),
-        (put(key, row), Note::Done),
-        (DRAW, Note::Drawn(timestamp)),
-        (STAMP, Note::Stamped),
-    ]
-}
-
-/// The first tick of a cycle takes the commit, and each of the others up to that many goes on.
-pub fn tick(rt: &impl Abort, room: &mut Room<SimPmem>, ticks: usize) {
-    assert!(rt; 0 < ticks);
-    assert_replies(rt, room, &[(Step::Commit, Note::Ticked(Stage::Chosen))]);
-    go_on(rt, room, ticks - 1);
-}
-
-/// So many ticks of a cycle that is under way.
-pub fn go_on(rt: &impl Abort, room: &mut Room<SimPmem>, ticks: usize) {
-    for made in 0..ticks {
-        let note = step(room, Step::Commit);
-        assert!(rt; matches!(note, Note::Ticked(_)), "tick {made}");
+    let reply = room.step(step);
+    match Note::of(&reply) {
+        Ok(note) => note,
+        Err(_) => Note::Refused(Fault::OutOfMemory),
     }
 }
 
-/// A cycle of 41 ticks and one for each line, that covers with this stamp, and the end of the session.
-pub fn cover(rt: &impl Abort, room: &mut Room<SimPmem>, lines: u8, stamp: u64, timestamp: u64) {
-    tick(rt, room, 40 + lines as usize);
-    let steps = [
-        (Step::Commit, Note::Covered(stamp)),
-        (POLL, Note::Committed(timestamp)),
-        (POLL, Note::Committed(timestamp)),
-        (END, Note::Done),
-    ];
-    assert_replies(rt, room, &steps);
+/// The steps that these lines ask for.
+pub fn steps(rt: &impl Abort, alloc: Global, lines: &str) -> Result<Vec<Step>, Fault> {
+    let mut steps = Vec::new(alloc);
+    for line in lines.lines() {
+        let command = command_of(rt, alloc, line)?;
+        add_steps(rt, &mut steps, &command)?;
+    }
+    Ok(steps)
 }
 
-/// What a new session reads.
-pub fn assert_row(rt: &impl Abort, room: &mut Room<SimPmem>, key: Key, row: Option<Row>) {
-    let steps = [
-        (BEGIN, Note::Began(2)),
-        (get(key), Note::Row(row)),
-        (DRAW, Note::Done),
-        (END, Note::Done),
-    ];
-    assert_replies(rt, room, &steps);
+// Adds the steps that a command asks for: ticks come in numbers.
+fn add_steps(rt: &impl Abort, steps: &mut Vec<Step>, command: &Command) -> Result<(), Fault> {
+    let count = match command {
+        Command::Commit { ticks } => *ticks,
+        _ => 1,
+    };
+    push_each(steps, &step_of(rt, command)?, count)
+}
+
+fn push_each(steps: &mut Vec<Step>, step: &Step, count: u64) -> Result<(), Fault> {
+    for _ in 0..count {
+        if steps.push(*step).is_err() {
+            return Err(Fault::OutOfMemory);
+        }
+    }
+    Ok(())
+}
+
+fn command_of(rt: &impl Abort, alloc: Global, line: &str) -> Result<Command, Fault> {
+    match parse_line(alloc, line.as_bytes()) {
+        Ok(Some(command)) => Ok(command),
+        Err(LineFault::OutOfMemory) => Err(Fault::OutOfMemory),
+        _ => panic!(rt; "no command"),
+    }
+}
+
+fn step_of(rt: &impl Abort, command: &Command) -> Result<Step, Fault> {
+    let step = match command {
+        Command::Begin => Step::Begin,
+        Command::Get { session, key } => Step::Get {
+            session: *session,
+            key: *key,
+        },
+        Command::Scan {
+            session,
+            table,
+            lo,
+            hi,
+        } => Step::Scan {
+            session: *session,
+            table: *table,
+            lo: *lo,
+            hi: *hi,
+        },
+        Command::Put { session, key, row } => Step::Put {
+            session: *session,
+            key: *key,
+            row: Row::new(row.as_slice())?,
+        },
+        Command::Delete { session, key } => Step::Delete {
+            session: *session,
+            key: *key,
+        },
+        Command::Draw { session } => Step::Draw { session: *session },
+        Command::Stamp { session } => Step::Stamp { session: *session },
+        Command::Poll { session } => Step::Poll { session: *session },
+        Command::Abort { session } => Step::Abort { session: *session },
+        Command::End { session } => Step::End { session: *session },
+        Command::Commit { .. } => Step::Commit,
+        Command::Cycle | Command::Crash { .. } => panic!(rt; "no step"),
+    };
+    Ok(step)
 }

@@ -1,15 +1,13 @@
-//! Values, write sets, the modelled device and on it the log area, the slots and whole lives of the room from an opening
-//! to a crash or a close, with the numbers of the worked images; and the program: its words, lines, files and runs.
+//! The modelled device and on it free slots and whole lives of the room, stopped at each operation, at random
+//! and with memory refused; images that are checked and opened; the program where its input or output fails.
 #![tactic(auto)]
 
 #[cfg(test)]
+mod batches;
+#[cfg(test)]
 mod checks;
 #[cfg(test)]
-mod closing;
-#[cfg(test)]
 mod crashes;
-#[cfg(test)]
-mod damage;
 #[cfg(test)]
 mod device;
 #[cfg(test)]
@@ -17,38 +15,16 @@ mod every_stop;
 #[cfg(test)]
 mod fixture;
 #[cfg(test)]
-mod life;
-#[cfg(test)]
-mod limits;
-#[cfg(test)]
-mod lives;
-#[cfg(test)]
 mod memory;
+#[cfg(test)]
+mod model;
+#[cfg(test)]
+mod numbers;
 #[cfg(test)]
 mod program;
 #[cfg(test)]
-mod program_checks;
+mod random;
 #[cfg(test)]
-mod reading;
-#[cfg(test)]
-mod records;
-#[cfg(test)]
-mod reuse;
+mod rows;
 #[cfg(test)]
 mod slots;
-#[cfg(test)]
-mod steps;
-#[cfg(test)]
-mod transactions;
-#[cfg(test)]
-mod updates;
-#[cfg(test)]
-mod values;
-#[cfg(test)]
-mod words_and_lines;
-#[cfg(test)]
-mod write_set;
-#[cfg(test)]
-mod writes;
-#[cfg(test)]
-mod writings;

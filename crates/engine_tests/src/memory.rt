@@ -1,16 +1,26 @@
-use crate::fixture::{
-    assert_numbers, assert_replies, assert_row, fresh, go_on, insertion, opened, operations, step,
-};
-use crate::steps::{END, POLL, key};
+//! Lives in which an allocation may be refused: each in turn, where the tests are run so.
+use crate::fixture::{fresh, opened, operations, step, steps};
 use base::fault::Fault;
-use base::gap::Gap;
+use base::key::Key;
 use base::row::Row;
-use base::step::{Note, Stage, Step};
+use base::step::{Note, Step};
 use pmem_model::{Choice, SimPmem};
 use room::Room;
 use std::alloc::Global;
 use std::process::Abort;
 use std::thread::Threads;
+
+// Two sessions insert keys 1 and 2, one of them scans, and one record covers both.
+const TWO_COMMITS: &str = "begin
+begin
+put 2 1 1 01
+put 3 1 2 02
+scan 3 1 0 9
+draw 2
+draw 3
+stamp 2
+stamp 3
+commit 43";
 
 // Makes a step. Where it is refused for want of memory it is made again.
 fn insist(room: &mut Room<SimPmem>, made: Step) -> Note {
@@ -21,75 +31,50 @@ fn insist(room: &mut Room<SimPmem>, made: Step) -> Note {
     }
 }
 
-// Inserts a row, up to the first step that finds the device failing. Is its commit stamped?
-fn is_stamped(rt: &impl Abort, room: &mut Room<SimPmem>, number: u64, row: Row) -> bool {
-    for (made, want) in &insertion(key(number), row, number) {
-        let note = step(room, *made);
+// Makes the steps, up to the first that finds the device failing: then each further one says so. Are all made?
+fn is_covered(rt: &impl Abort, room: &mut Room<SimPmem>, steps: &[Step]) -> bool {
+    let mut last = None;
+    for made in steps {
+        let note = insist(room, *made);
         if note == Note::Refused(Fault::Device) {
+            assert!(rt; step(room, Step::Begin) == Note::Refused(Fault::Failed));
             return false;
         }
-        assert!(rt; note == *want);
+        assert!(rt; !matches!(note, Note::Refused(_)), "{note:?}");
+        last = Some(note);
     }
+    assert!(rt; last == Some(Note::Covered(3)));
     true
 }
 
-// Covers the commit, up to the first tick that finds the device failing. Is it covered?
-fn is_covered(rt: &impl Abort, room: &mut Room<SimPmem>, stamp: u64) -> bool {
-    for made in 0..41 {
-        let note = insist(room, Step::Commit);
-        if note == Note::Refused(Fault::Device) {
-            return false;
-        }
-        assert!(rt; matches!(note, Note::Ticked(_)), "tick {made}");
-    }
-    let steps = [(Step::Commit, Note::Covered(stamp)), (END, Note::Done)];
-    assert_replies(rt, room, &steps);
-    true
-}
-
-// How many of four rows are covered before the device fails.
-fn count_covered(rt: &impl Abort, room: &mut Room<SimPmem>, row: Row) -> u64 {
-    for covered in 0..4 {
-        let goes_on = is_stamped(rt, room, covered + 1, row) && is_covered(rt, room, covered + 3);
-        if !goes_on {
-            assert_replies(rt, room, &[(POLL, Note::Refused(Fault::Failed))]);
-            return covered;
-        }
-    }
-    4
-}
-
-// The device that four commits leave, and how many of them were covered.
-fn four_commits<R: Threads + Sync + Abort>(
-    rt: &R,
-    alloc: Global,
-    row: Row,
-) -> Result<(SimPmem, u64), Fault> {
-    let mut room = opened(rt, alloc, fresh(alloc)?)?;
-    let covered = count_covered(rt, &mut room, row);
+// The next opening has both commits where they were covered, and else none.
+fn two_lives<R: Threads + Sync + Abort>(rt: &R, alloc: Global) -> Result<(), Fault> {
+    let steps = steps(rt, alloc, TWO_COMMITS)?;
+    let mut room = opened(rt, alloc, fresh(alloc, 4, 8)?)?;
+    let covered = is_covered(rt, &mut room, steps.as_slice());
     let device = room.into_device().crash(&Choice::Newest)?;
-    Ok((device, covered))
-}
-
-// Four commits, and the next opening, which has those that were covered and no other.
-fn two_lives<R: Threads + Sync + Abort>(rt: &R, alloc: Global, row: Row) -> Result<(), Fault> {
-    let (device, covered) = four_commits(rt, alloc, row)?;
-    assert!(rt; covered <= 4);
     let mut room = opened(rt, alloc, device)?;
-    let gap = Gap {
-        first: covered + 1,
-        last: covered + 8,
-    };
-    let numbers = (covered + 3, covered + 8, covered + 17, covered + 9);
-    assert_numbers(rt, &room, numbers, &[gap]);
-    for number in 1..5 {
-        let want = if number <= covered { Some(row) } else { None };
-        assert_row(rt, &mut room, key(number), want);
+    let numbers = if covered { (4, 10) } else { (3, 8) };
+    assert!(rt; (room.status().gate, room.status().persisted) == numbers);
+    if step(&mut room, Step::Begin) != Note::Began(2) {
+        return Err(Fault::OutOfMemory);
+    }
+    for key in 1..3_u8 {
+        let get = Step::Get {
+            session: 2,
+            key: Key {
+                table: 1,
+                key: key.into(),
+            },
+        };
+        let row = Row::new(&[key])?;
+        let want = if covered { Some(row) } else { None };
+        assert!(rt; step(&mut room, get) == Note::Row(want));
     }
     Ok(())
 }
 
-// Whatever it was, an allocation that was refused is told as such, or the device failed.
+// Whatever it was, an allocation that was refused is reported as such, or the device failed.
 fn assert_refusal(rt: &impl Abort, ended: Result<(), Fault>) {
     if let Err(fault) = ended {
         assert!(rt; matches!(fault, Fault::OutOfMemory | Fault::Device));
@@ -100,7 +85,7 @@ fn assert_refusal(rt: &impl Abort, ended: Result<(), Fault>) {
 // nothing else is.
 #[test]
 fn refused_memory_loses_no_covered_row(rt: HostRuntime) -> Result<(), Fault> {
-    assert_refusal(&rt, two_lives(&rt, rt.alloc(), Row::new(b"ab")?));
+    assert_refusal(&rt, two_lives(&rt, rt.alloc()));
     Ok(())
 }
 
@@ -110,7 +95,7 @@ fn opened_with_reserve<R: Threads + Sync + Abort>(
     rt: &R,
     alloc: Global,
 ) -> Result<Room<SimPmem>, Fault> {
-    let mut device = fresh(alloc)?;
+    let mut device = fresh(alloc, 4, 8)?;
     device.reserve(100)?;
     assert!(rt; device.at_rest());
     match Room::open(rt, alloc, device) {
@@ -122,30 +107,20 @@ fn opened_with_reserve<R: Threads + Sync + Abort>(
     }
 }
 
-// A choosing tick that is refused memory changes nothing, and can be asked again.
-fn choose(rt: &impl Abort, room: &mut Room<SimPmem>) {
-    let mut note = step(room, Step::Commit);
-    if note == Note::Refused(Fault::OutOfMemory) {
-        assert_numbers(rt, room, (2, 0, 9, 2), &[]);
-        note = step(room, Step::Commit);
-    }
-    assert!(rt; note == Note::Ticked(Stage::Chosen));
-}
-
-// A commit on a device that holds memory for it.
-fn one_commit<R: Threads + Sync + Abort>(rt: &R, alloc: Global, row: Row) -> Result<(), Fault> {
-    let mut room = opened_with_reserve(rt, alloc)?;
-    assert_replies(rt, &mut room, &insertion(key(1), row, 1));
-    choose(rt, &mut room);
-    go_on(rt, &mut room, 40);
-    assert_replies(rt, &mut room, &[(Step::Commit, Note::Covered(3))]);
-    assert_numbers(rt, &room, (3, 1, 10, 2), &[]);
-    assert!(rt; operations(&room.into_device()) == 91);
-    Ok(())
-}
-
+// The same commits on a device that holds memory for them: a step that is refused memory changes nothing, and can be
+// made again.
 #[test]
 fn refused_memory_changes_nothing(rt: HostRuntime) -> Result<(), Fault> {
-    assert_refusal(&rt, one_commit(&rt, rt.alloc(), Row::new(b"ab")?));
+    let Ok(steps) = steps(&rt, rt.alloc(), TWO_COMMITS) else {
+        return Ok(());
+    };
+    match opened_with_reserve(&rt, rt.alloc()) {
+        Ok(mut room) => {
+            assert!(rt; is_covered(&rt, &mut room, steps.as_slice()));
+            assert!(rt; (room.status().gate, room.status().dirty) == (3, 11));
+            assert!(rt; operations(&room.into_device()) == 39 + 20 + 2 + 42);
+        }
+        Err(fault) => assert_refusal(&rt, Err(fault)),
+    }
     Ok(())
 }

@@ -1,8 +1,7 @@
 -- What the commits of a batch wrote.
-use Rattle.std.proofs.Common.{◌≡◌, ℕ, zero, suc, ◌≤◌, Bool, true, false, cond, List, [], ◌∷◌, length, take, map, find, Some, refl, ◌∙◌, ap, arith}
+use Rattle.std.proofs.Common.{◌≡◌, ℕ, ◌≤◌, Bool, true, false, cond, List, [], ◌∷◌, length, take, map, find, Some, refl, ◌∙◌, ap, arith}
 use Rattle.std.specs.Prelude.{Option, IsTrue, nat_le}
-use Rattle.std.specs.List.{list_all}
-use Rattle.std.proofs.lemmas.Bool.{and_parts, and_from, leb-true}
+use Rattle.std.proofs.lemmas.Bool.{leb-true}
 use Rattle.std.proofs.lemmas.List.{take_all}
 use Rattle.std.proofs.lemmas.Simd.{map-map}
 use Rattle.base.specs.declared.key.Key.{Key}
@@ -16,12 +15,6 @@ pub rising-plain : (writes : List Write) (n : ℕ) (rows : Writes) → rows ≡ 
 rising-plain writes n rows is whole rising =
     ap (λ (ws : Writes). is_rising (map (λ (w : Key × Option (List ℕ)). w.0) ws)) (is ∙ ap plain_writes (take_all n writes whole))
     ∙ ap is_rising (map-map (λ (w : Key × Option (List ℕ)). w.0) plain_write writes) ∙ rising
-
--- what all have, the first have
-pub all-take : {X : Type 0} (p : X → Bool) (n : ℕ) (xs : List X) → list_all p xs ≡ true → list_all p (take n xs) ≡ true
-all-take p zero xs all = refl
-all-take p (suc n) [] all = refl
-all-take p (suc n) (x ∷ xs) all = let both = and_parts (p x) (list_all p xs) all in and_from (p x) (list_all p (take n xs)) both.0 (all-take p n xs both.1)
 
 -- a line that is found isn't below
 pub found-from : (from line : ℕ) (lines : List ℕ) → find (nat_le from) lines ≡ Some line → from ≤ line

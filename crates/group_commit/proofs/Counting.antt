@@ -33,7 +33,7 @@ cut-rest x xs flushed from cut = record {
 }
 
 -- the first line that isn't below is the next one
-find-cut : (lines : List ℕ) (flushed from : ℕ) → IsCut lines flushed from → find (nat_le from) lines ≡ slice_get lines flushed
+pub find-cut : (lines : List ℕ) (flushed from : ℕ) → IsCut lines flushed from → find (nat_le from) lines ≡ slice_get lines flushed
 find-cut [] flushed from cut = refl
 find-cut (x ∷ xs) zero from cut = ap (λ (b : Bool). cond b (Some x) (find (nat_le from) xs)) (le-leb from x (cut.others 0 x (omega arith) refl))
 find-cut (x ∷ xs) (suc flushed) from cut =
@@ -61,7 +61,7 @@ later-above (x ∷ xs) zero (suc j) a b rising less at_i at_j = let same : x ≡
 later-above (x ∷ xs) (suc i) (suc j) a b rising less at_i at_j = later-above xs i j a b (rising-rest x xs rising) (omega (arith, less)) at_i at_j
 
 -- the next line is flushed
-cut-next : (lines : List ℕ) (flushed from line : ℕ) → are_rising lines ≡ true → IsCut lines flushed from → slice_get lines flushed ≡ Some line → IsCut lines (flushed + 1) (line + 1)
+pub cut-next : (lines : List ℕ) (flushed from line : ℕ) → are_rising lines ≡ true → IsCut lines flushed from → slice_get lines flushed ≡ Some line → IsCut lines (flushed + 1) (line + 1)
 cut-next lines flushed from line rising cut at = record {
   within = omega (arith, slice_get_within lines flushed line at);
   below = λ i other less there. elim (cases_lt i flushed) [
@@ -76,7 +76,7 @@ cut-next lines flushed from line rising cut at = record {
 }
 
 -- none is left
-cut-whole : (lines : List ℕ) (flushed from : ℕ) → IsCut lines flushed from → slice_get lines flushed ≡ None → flushed ≡ length lines
+pub cut-whole : (lines : List ℕ) (flushed from : ℕ) → IsCut lines flushed from → slice_get lines flushed ≡ None → flushed ≡ length lines
 cut-whole lines flushed from cut none = elim (cases_lt flushed (length lines)) [
   | inl less ↦ (let clash = sym none ∙ slice_get-get_or lines flushed 0 less in absurd (cc clash))
   | inr all ↦ omega (arith, all, cut.within)

@@ -1,6 +1,7 @@
 ghost use Rattle.std.specs.Prelude.{◌≡◌, ◌+◌, ◌-◌, ◌*◌, ◌^◌, ◌<◌, ◌≤◌, ◌&&◌, ◌||◌, not, nat_eq, nat_lt, take, map, IsTrue, IfOk, ℕ, length};
-ghost use Rattle.std.specs.List.{list_all, list_any};
+ghost use Rattle.std.specs.List.{list_any};
 ghost use Rattle.dirty_table.specs.Touches.{has};
+ghost use Rattle.txn.specs.DrawnCommits.{are_numbered};
 ghost use Rattle.group_commit.specs.Choosing.{run, commit_of, last_timestamp, standing_gaps, record_of_run, closing_record, batch_of_run, is_idle};
 
 use base::batch::{Batch, Commit};
@@ -115,8 +116,8 @@ fn commit_of(alloc: Global, drawn: DrawnCommit) -> Result<Commit, AllocError>
 }
 
 /// The sessions that drew these commits.
-pub(crate) fn sessions_of(run: &[DrawnCommit]) -> SessionSet
-    requires { IsTrue (list_all (λ d. nat_lt d.session 64) run.now) }
+pub fn sessions_of(run: &[DrawnCommit]) -> SessionSet
+    requires { IsTrue (are_numbered run.now) }
     ensures { (n : ℕ) → has result n ≡ list_any (λ d. nat_eq d.session n) run.now }
 {
     let mut sessions = SessionSet::none();

@@ -42,9 +42,10 @@ pub struct Covered {
 }
 
 impl Cycle {
-    ghost use Rattle.std.specs.Prelude.{◌≡◌, ◌≢◌, ◌↔◌, ◌+◌, ◌*◌, ◌^◌, ◌<◌, ◌≤◌, ℕ, nat_eq, nat_lt, Some, None, IsTrue, IfOk, IfErr, OnOk, OnErr};
-    ghost use Rattle.std.specs.List.{list_all, list_any};
+    ghost use Rattle.std.specs.Prelude.{◌≡◌, ◌≢◌, ◌↔◌, ◌+◌, ◌*◌, ◌^◌, ◌<◌, ◌≤◌, ℕ, nat_eq, Some, None, IsTrue, IfOk, IfErr, OnOk, OnErr};
+    ghost use Rattle.std.specs.List.{list_any};
     ghost use Rattle.base.specs.Layout.{total_words};
+    ghost use Rattle.base.specs.Records.{are_rising};
     ghost use Rattle.log_area.specs.declared.stage.WritingStage.TheVariants.{Done};
     ghost use Rattle.log_area.specs.Writings.{begun};
     ghost use Rattle.pmem.specs.Device.{failed};
@@ -66,7 +67,6 @@ impl Cycle {
     ) -> Result<Cycle, Fault>
         requires numbered { ruling.gate < 2 ^ 62 }
         requires countable { next ≤ 2 ^ 62 }
-        requires sessions { IsTrue (list_all (λ d. nat_lt d.session 64) drawn.now.commits) }
         ensures batch { IfOk result (λ cycle. cycle.batch ≡ batch_of_run ruling (record_of_run geometry ruling next swept (run drawn.now.commits)) (run drawn.now.commits)) }
         ensures sessions { IfOk result (λ cycle. (n : ℕ) → has cycle.sessions n ≡ list_any (λ d. nat_eq d.session n) (run drawn.now.commits)) }
         ensures writing { IfOk result (λ cycle. cycle.writing ≡ begun geometry (record_of_run geometry ruling next swept (run drawn.now.commits))) }
@@ -117,6 +117,9 @@ impl Cycle {
         ensures failure { OnErr result (D.state device.new ≡ failed (D.state device.old)) }
         ensures err { OnErr result (self.new ≡ self.old) }
         ensures fault { IfErr result (λ fault. fault ≡ Fault.Device) }
+
+        // The lines that it walks are in rising order.
+        ensures rising { (flushed from : ℕ) → self.old.stage ≡ FlushLines flushed from → IsTrue (are_rising (lines_touched (has self.old.sessions) table.now)) }
     {
         match self.stage {
             CycleStage::FlushLines { flushed, from } => match table.next(&self.sessions, from) {

@@ -22,7 +22,6 @@ fn deletion(session: u8, timestamp: Ts, stamped: usize) -> DrawnCommit
             },
             row: None,
             slot: None,
-            replaces: None,
         });
     }
     DrawnCommit {

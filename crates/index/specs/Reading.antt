@@ -1,10 +1,15 @@
 -- What a snapshot sees of the slots of an image.
-use Rattle.std.specs.Prelude.{◌≡◌, ◌↔◌, ◌<◌, ℕ, Bool, true, false, ◌&&◌, nat_eq, nat_le, List, Some, None, if◌then◌else◌}
+use Rattle.std.specs.Prelude.{◌≡◌, ◌↔◌, ◌<◌, ℕ, Bool, true, false, List, Some, None, if◌then◌else◌}
+use Rattle.std.specs.BTreeMap.{BTreeMap, get}
 use Rattle.base.specs.declared.key.Key.{Key}
+use Rattle.base.specs.Keys.{is_in_range}
 use Rattle.base.specs.Commits.{Tables}
 use Rattle.base.specs.Layout.{Layout}
 use Rattle.base.specs.Images.{Image, layout_of, key_of, row_of, is_live, is_misfit, Shown}
 use Rattle.snapshot.specs.Snapshots.{Seen, covers}
+use Rattle.index.specs.declared.ranges.KeyRange.{KeyRange}
+use Rattle.index.specs.Entries.{key_cmp}
+use Rattle.index.specs.declared.ranges.KeyRange.TheVariants.{All, Within}
 
 -- the image has this layout, and the timestamps that count make the same slots live as those that the snapshot covers
 pub record CountsAs (counts : ℕ → Bool) (s : Seen) (a : Layout) (image : Image) : Type 0 where
@@ -24,10 +29,15 @@ pub record ShowsTables (counts : ℕ → Bool) (a : Layout) (image : Image) (tab
   pub rows : (key : Key) (row : List ℕ) → Shown counts image key row ↔ (tables key ≡ Some row)
   pub fits : (slot : ℕ) → slot < a.slots → is_live counts image slot ≡ true → is_misfit image slot ≡ false
 
--- the key is of the table, from lo to hi, both included
-abbrev pub is_in_range : ℕ → ℕ → ℕ → Key → Bool
-is_in_range table lo hi key = nat_eq key.table table && (nat_le lo key.key && nat_le key.key hi)
+-- the range has the key
+abbrev pub contains : KeyRange → Key → Bool
+contains All key = true
+contains (Within table lo hi) key = is_in_range table lo hi key
 
 -- the rows of the tables in the range
-abbrev pub ranged : ℕ → ℕ → ℕ → Tables → Tables
-ranged table lo hi tables key = if is_in_range table lo hi key then tables key else None
+abbrev pub ranged : KeyRange → Tables → Tables
+ranged range tables key = if contains range key then tables key else None
+
+-- the map has the rows of the tables, and no others
+abbrev pub HasRows : BTreeMap Key (List ℕ) → Tables → Type 0
+HasRows rows tables = (key : Key) → get key_cmp rows key ≡ tables key

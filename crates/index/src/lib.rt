@@ -8,5 +8,5 @@ mod reading;
 
 pub use entry::Entry;
 pub use map::Index;
-pub use ranges::rows;
+pub use ranges::{KeyRange, listed, rows, rows_by_key};
 pub use reading::{Found, find_at};

@@ -1,12 +1,9 @@
 ghost use Rattle.std.specs.Prelude.{◌≡◌, ℕ, Bool, IfOk, IfErr};
-ghost use Rattle.std.specs.BTreeMap.{IsOrdered, get};
 ghost use Rattle.base.specs.Commits.{Lists, Tables};
 ghost use Rattle.base.specs.Layout.{total_words};
 ghost use Rattle.base.specs.declared.fault.Fault.TheVariants.{OutOfMemory};
-ghost use Rattle.base.specs.declared.key.Key.{Key as KeyValue};
 ghost use Rattle.pmem.specs.Words.{image_of};
-ghost use Rattle.index.specs.Entries.{key_cmp};
-ghost use Rattle.index.specs.Reading.{CountsAs, ShowsTables, is_in_range, ranged};
+ghost use Rattle.index.specs.Reading.{CountsAs, ShowsTables, HasRows, contains, ranged};
 
 use crate::reading::seen_slot;
 use base::fault::Fault;
@@ -18,21 +15,41 @@ use snapshot::Snapshot;
 use std::alloc::{AllocError, Global};
 use std::collections::BTreeMap;
 
-/// The rows of a table that the snapshot sees at the keys from `lo` to `hi`, both included, by rising key.
+/// The keys whose rows are wanted.
+#[derive(Clone, Copy, Debug, PartialEq, Eq)]
+pub enum KeyRange {
+    All,
+    /// Those of a table from `lo` to `hi`, both included.
+    Within { table: u16, lo: u64, hi: u64 },
+}
+
+impl KeyRange {
+    /// Whether the key is one of them.
+    pub fn contains(self, key: Key) -> bool
+        ensures { result ≡ contains self key }
+    {
+        match self {
+            KeyRange::All => true,
+            KeyRange::Within { table, lo, hi } => {
+                key.table == table && lo <= key.key && key.key <= hi
+            }
+        }
+    }
+}
+
+/// The rows that the snapshot sees at the keys of the range, by rising key.
 pub fn rows<D: Pmem>(
     alloc: Global,
     device: &D,
     geometry: Geometry,
     snapshot: &Snapshot,
-    table: u16,
-    lo: u64,
-    hi: u64,
+    range: KeyRange,
 ) -> Result<Vec<(Key, Row)>, Fault>
     requires device { (D.state device.now).words ≡ total_words geometry }
-    ensures ok { IfOk result (λ rows. (counts : ℕ → Bool) (tables : Tables) → CountsAs counts snapshot.now geometry (image_of (D.state device.now)) → ShowsTables counts geometry (image_of (D.state device.now)) tables → Lists rows.items (ranged table lo hi tables)) }
+    ensures ok { IfOk result (λ rows. (counts : ℕ → Bool) (tables : Tables) → CountsAs counts snapshot.now geometry (image_of (D.state device.now)) → ShowsTables counts geometry (image_of (D.state device.now)) tables → Lists rows.items (ranged range tables)) }
     ensures fault { IfErr result (λ fault. fault ≡ OutOfMemory) }
 {
-    let Ok(seen) = mapped(alloc, device, geometry, snapshot, table, lo, hi) else {
+    let Ok(seen) = rows_by_key(alloc, device, geometry, snapshot, range) else {
         return Err(Fault::OutOfMemory);
     };
     let Ok(rows) = listed(alloc, seen) else {
@@ -41,24 +58,22 @@ pub fn rows<D: Pmem>(
     Ok(rows)
 }
 
-// The same rows, as a map.
-fn mapped<D: Pmem>(
+/// The same rows, as a map.
+pub fn rows_by_key<D: Pmem>(
     alloc: Global,
     device: &D,
     geometry: Geometry,
     snapshot: &Snapshot,
-    table: u16,
-    lo: u64,
-    hi: u64,
+    range: KeyRange,
 ) -> Result<BTreeMap<Key, Row>, AllocError>
     requires device { (D.state device.now).words ≡ total_words geometry }
-    ensures { IfOk result (λ seen. (counts : ℕ → Bool) (tables : Tables) → CountsAs counts snapshot.now geometry (image_of (D.state device.now)) → ShowsTables counts geometry (image_of (D.state device.now)) tables → (key : KeyValue) → get key_cmp seen key ≡ ranged table lo hi tables key) }
+    ensures { IfOk result (λ seen. (counts : ℕ → Bool) (tables : Tables) → CountsAs counts snapshot.now geometry (image_of (D.state device.now)) → ShowsTables counts geometry (image_of (D.state device.now)) tables → HasRows seen (ranged range tables)) }
 {
     let mut seen = BTreeMap::new(alloc);
     for slot in 0..geometry.slots() {
         if let Some(found) = seen_slot(device, geometry, snapshot, slot) {
             let version = found.version;
-            if is_in_range(version.key, table, lo, hi) {
+            if range.contains(version.key) {
                 let Ok(_) = seen.insert(version.key, version.row) else {
                     return Err(AllocError);
                 };
@@ -68,15 +83,23 @@ fn mapped<D: Pmem>(
     Ok(seen)
 }
 
-fn is_in_range(key: Key, table: u16, lo: u64, hi: u64) -> bool
-    ensures { result ≡ is_in_range table lo hi key }
+/// The rows of the map, by rising key.
+pub fn listed(alloc: Global, rows: BTreeMap<Key, Row>) -> Result<Vec<(Key, Row)>, AllocError>
+    ensures { IfOk result (λ list. (tables : Tables) → HasRows rows tables → Lists list.items tables) }
 {
-    key.table == table && lo <= key.key && key.key <= hi
+    match collected(alloc, rows) {
+        Ok(list) => Ok(list),
+        Err(fault) => Err(fault),
+    }
 }
 
-fn listed(alloc: Global, seen: BTreeMap<Key, Row>) -> Result<Vec<(Key, Row)>, AllocError>
-    ensures same { IfOk result (λ rows. rows.items ≡ seen.entries) }
-    ensures ordered { IfOk result (λ rows. IsOrdered key_cmp seen) }
+ghost use Rattle.std.specs.BTreeMap.{IsOrdered};
+ghost use Rattle.index.specs.Entries.{key_cmp};
+
+// Its entries as they stand.
+fn collected(alloc: Global, rows: BTreeMap<Key, Row>) -> Result<Vec<(Key, Row)>, AllocError>
+    ensures same { IfOk result (λ list. list.items ≡ rows.entries) }
+    ensures ordered { IfOk result (λ list. IsOrdered key_cmp rows) }
 {
-    seen.into_iter().collect(alloc)
+    rows.into_iter().collect(alloc)
 }

@@ -1,76 +1,14 @@
 -- Steps one after another, up to the first in which the device fails.
-use Rattle.std.proofs.Common.{◌≡◌, ◌+◌, ◌*◌, ◌^◌, ◌&&◌, ◌||◌, nat_eq, Bool, true, false, List, [], ◌∷◌, ◌++◌, refl, sym, ◌∙◌, ap, subst, append-nil, append_assoc, inl, inr}
-use Rattle.std.specs.Prelude.{Option, Some, None, is_none, nat_le}
-use Rattle.std.specs.Option.{option_or, option_map}
-use Rattle.base.specs.declared.key.Key.{Key}
-use Rattle.base.specs.declared.fault.Fault.{Fault}
-use Rattle.base.specs.declared.fault.Fault.TheVariants.{Failed, SessionsFull, NoSession, WrongState, TooLong, WriteSetFull, SlotsOut, Conflict, WindowFull, TimestampsOut}
+use Rattle.std.proofs.Common.{◌≡◌, Bool, true, false, List, [], ◌∷◌, ◌++◌, refl, sym, ◌∙◌, ap, subst, append-nil, append_assoc, inl, inr}
 use Rattle.base.specs.declared.step.Step.{Step}
 use Rattle.base.specs.declared.step.Reply.{Reply}
-use Rattle.base.specs.declared.step.Reply.TheVariants.{Began, Row, Done, Drawn, More, Stamped, Waiting, Committed, Idle, Ticked, Covered, Refused}
-use Rattle.base.specs.Search.{some_if}
-use Rattle.base.specs.Machine.{State, Stepped, refused, answered, memory_refused, device_failed, refusal, conflicts, final, begins, free_session, is_absent, is_misplaced, is_too_long, overfills, lacks_slot, draws, chooses}
+use Rattle.base.specs.Machine.{State, Stepped, refused, answered, memory_refused, device_failed, final}
 use Rattle.base.specs.Lives.{RunsUp, is_failure}
-use Rattle.base.proofs.Runs.{IsAnswer, Answers-answer, final-append}
+use Rattle.base.proofs.Failures.{refusal-quiet, answer-quiet}
+use Rattle.base.proofs.Runs.{Answers-answer, final-append}
 use Rattle.lives.specs.Parts.{HasObeyed}
 
 -- ---- a reply that tells of a failing device
-
--- it is none
-abbrev Quiet : Option Fault → Type 0
-Quiet o = (fault : Fault) → o ≡ Some fault → is_failure (Refused fault) ≡ false
-
-quiet-none : Quiet None
-quiet-none fault e = absurd (apart e)
-  where
-    apart : None ≡ Some fault → ⊥
-    apart e = cc
-
-quiet-some : (known : Fault) → is_failure (Refused known) ≡ false → Quiet (Some known)
-quiet-some known quiet fault e = subst (λ (f : Fault). is_failure (Refused f) ≡ false) (same e) quiet
-  where
-    same : Some known ≡ Some fault → known ≡ fault
-    same e = cc
-
-quiet-if : (test : Bool) (known : Fault) → is_failure (Refused known) ≡ false → Quiet (some_if test known)
-quiet-if true known quiet = quiet-some known quiet
-quiet-if false known quiet = quiet-none
-
-quiet-conflict : (o : Option Key) → Quiet (option_map Conflict o)
-quiet-conflict None = quiet-none
-quiet-conflict (Some key) = quiet-some (Conflict key) refl
-
-quiet-or : (a b : Option Fault) → Quiet a → Quiet b → Quiet (option_or a b)
-quiet-or None b p r = r
-quiet-or (Some fault) b p r = p
-
-refusal-quiet : (q : State) (step : Step) → Quiet (refusal q step)
-refusal-quiet q step =
-    quiet-or _ _ (quiet-if q.failed Failed refl)
-    (quiet-or _ _ (quiet-if (begins step && is_none (free_session q)) SessionsFull refl)
-    (quiet-or _ _ (quiet-if (is_absent q step) NoSession refl)
-    (quiet-or _ _ (quiet-if (is_misplaced q step) WrongState refl)
-    (quiet-or _ _ (quiet-if (is_too_long q step) TooLong refl)
-    (quiet-or _ _ (quiet-if (overfills q step) WriteSetFull refl)
-    (quiet-or _ _ (quiet-if (lacks_slot q step) SlotsOut refl)
-    (quiet-or _ _ (quiet-conflict (conflicts q step))
-    (quiet-or _ _ (quiet-if (draws q step && nat_eq q.next q.ruling.dirty) WindowFull refl)
-    (quiet-or _ _ (quiet-if (draws q step && nat_le (2 ^ 62) (q.next + 2 * q.layout.window) || chooses q step && nat_le (2 ^ 62) (q.ruling.gate + 1)) TimestampsOut refl)
-    quiet-none)))))))))
-
-answer-quiet : (reply : Reply) → IsAnswer reply → is_failure reply ≡ false
-answer-quiet (Began n) a = refl
-answer-quiet (Row row) a = refl
-answer-quiet Done a = refl
-answer-quiet (Drawn t) a = refl
-answer-quiet More a = refl
-answer-quiet Stamped a = refl
-answer-quiet Waiting a = refl
-answer-quiet (Committed t) a = refl
-answer-quiet Idle a = refl
-answer-quiet (Ticked stage) a = refl
-answer-quiet (Covered batch) a = refl
-answer-quiet (Refused fault) a = absurd a
 
 no_both : (b : Bool) → b ≡ false → b ≡ true → ⊥
 no_both b n y = cc

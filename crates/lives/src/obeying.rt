@@ -1,11 +1,9 @@
 ghost use Rattle.std.specs.Prelude.{◌≡◌, IfOk};
-ghost use Rattle.base.specs.Lives.{is_failure};
 ghost use Rattle.base.specs.Machine.{State};
 ghost use Rattle.pmem_model.specs.Sim.{device_of};
 ghost use Rattle.room.specs.Room.{Shows};
 ghost use Rattle.lives.specs.Parts.{HasObeyed};
 
-use base::fault::Fault;
 use base::step::{Reply, Step};
 use pmem_model::SimPmem;
 use room::Room;
@@ -26,7 +24,7 @@ pub fn obey(alloc: Global, room: &mut Room<SimPmem>, steps: &[Step]) -> Result<O
     let mut replies = Vec::with_capacity(alloc, steps.len())?;
     for step in steps {
         let reply = room.step(*step);
-        let failed = is_failure(&reply);
+        let failed = reply.is_failure();
         replies.push(reply)?;
         if failed {
             return Ok(Obeyed { replies, failed });
@@ -36,10 +34,4 @@ pub fn obey(alloc: Global, room: &mut Room<SimPmem>, steps: &[Step]) -> Result<O
         replies,
         failed: false,
     })
-}
-
-fn is_failure(reply: &Reply) -> bool
-    ensures { result ≡ is_failure reply.now }
-{
-    matches!(reply, Reply::Refused(Fault::Device))
 }

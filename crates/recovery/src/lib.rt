@@ -2,7 +2,7 @@
 #![tactic(auto)]
 
 mod clearing;
-mod examine;
+mod examining;
 mod formatting;
 mod gaps;
 mod opening;
@@ -12,6 +12,7 @@ mod slots;
 mod still;
 mod sweeping;
 
+pub use examining::{Examined, examine};
 pub use formatting::format;
 pub use opening::{Life, Opened, open, open_device};
 pub use reading::{Found, read_image};

@@ -7,10 +7,10 @@ ghost use Rattle.base.specs.Openings.{StandsOpening, gaps_kept, opened_slots, wo
 ghost use Rattle.pmem.specs.Words.{LeavesOnly, IsAtRest, image_of, Keeps, OldOr, Makes};
 ghost use Rattle.recovery.specs.Gaps.{few_gaps};
 ghost use Rattle.recovery.specs.Sweeping.{IsSwept};
-ghost use Rattle.recovery.specs.Opened.{HasOpened, IsRefusal};
+ghost use Rattle.recovery.specs.Opened.{Examined as IsExaminedAs, HasOpened, IsRefusal};
 ghost use Rattle.recovery.specs.Read.{TellsLogFault};
 
-use crate::examine::{Examined, examine};
+use crate::examining::{Examined, examine};
 use crate::rows::LiveSlot;
 use crate::sweeping::sweep;
 use base::fault::Fault;
@@ -36,7 +36,7 @@ pub struct Opened<D: Pmem> {
     pub live: Vec<LiveSlot>,
 }
 
-/// Opens a device at rest, and gives it back where it is refused. More than eight gaps are swept before the record is
+/// Opens a device at rest, and returns it where that is refused. More than eight gaps are swept before the record is
 /// written.
 pub fn open<R: Threads + Sync, D: Pmem + Drop + Send + Sync>(
     rt: &R,
@@ -102,14 +102,31 @@ pub fn open_device<D: Pmem>(alloc: Global, device: &mut D) -> Result<Life, Fault
         Ok(found) => found,
         Err(fault) => return Err(fault),
     };
-    let gaps = match keep_gaps(device, found.geometry, found.ruling, found.gaps) {
-        Ok(gaps) => gaps,
-        Err(fault) => return Err(fault),
-    };
-    let target = next_record(found.geometry, found.ruling, gaps);
-    match write_record(device, found.geometry, target) {
-        Ok(()) => Ok(begun(found, target)),
-        Err(fault) => Err(fault),
+    found.open(device)
+}
+
+impl Examined {
+    /// Opens the device that was examined. It takes no memory: it fails where an operation fails, and then alone.
+    pub fn open<D: Pmem>(self, device: &mut D) -> Result<Life, Fault>
+        requires at_rest { IsAtRest (D.state device.old) }
+        requires examined { IsExaminedAs (image_of (D.state device.old)) self.geometry self.ruling self.gaps self.free.items self.live.items }
+        ensures ok { IfOk result (λ life. HasOpened (D.state device.old) (D.state device.new) life.geometry life.ruling life.next life.free.items life.live.items) }
+        ensures fault { IfErr result (λ fault. fault ≡ Fault.Device) }
+        ensures failed { OnErr result ((D.state device.old).failures < (D.state device.new).failures) }
+
+        // A crash meanwhile leaves what a crash within `open` leaves.
+        ensures images { (history drawn : List Commit) (next : ℕ) → Stands (image_of (D.state device.old)) history drawn next
+            → LeavesOnly (D.state device.old) (D.state device.new) (StandsOpening (image_of (D.state device.old)) history next) }
+    {
+        let gaps = match keep_gaps(device, self.geometry, self.ruling, self.gaps) {
+            Ok(gaps) => gaps,
+            Err(fault) => return Err(fault),
+        };
+        let target = next_record(self.geometry, self.ruling, gaps);
+        match write_record(device, self.geometry, target) {
+            Ok(()) => Ok(begun(self, target)),
+            Err(fault) => Err(fault),
+        }
     }
 }
 

@@ -1,345 +1,185 @@
--- The parts of a close, one after the other, and the ticks that are left.
-use Rattle.std.proofs.Common.{◌≡◌, ◌⊎◌, inl, inr, ℕ, ◌+◌, ◌-◌, ◌/◌, ◌<◌, Bool, true, false, not, List, [], ◌++◌, length, filter, refl, sym, ◌∙◌, ap, subst, arith, true≢false}
-use Rattle.std.specs.Prelude.{Option, Some, None, Result, Ok, Err, IfErr, OnErr, if◌then◌else◌, nat_lt, slice_get, Contains}
-use Rattle.std.proofs.lemmas.Bool.{ltb-true, ltb-false}
-use Rattle.std.specs.Result.{IsErrAnd}
-use Rattle.std.proofs.lemmas.Option.{slice_get_within}
+-- The last record of a close, and the close as a whole.
+use Rattle.std.proofs.Common.{◌≡◌, inl, inr, ℕ, ◌+◌, ◌-◌, ◌^◌, ◌<◌, ◌≤◌, Bool, true, false, cond, [], refl, sym, ◌∙◌, ap, subst, arith}
+use Rattle.std.proofs.Math.Bridge.{le_prop}
+use Rattle.std.proofs.Math.Logic.{∥∥₁_elim, ∥∥₁_map}
+use Rattle.std.proofs.Math.Nat.{ℕ_set}
+use Rattle.std.proofs.lemmas.Bool.{le-leb, leb-true}
+use Rattle.std.specs.Prelude.{Option, Some, None, Result, Ok, Err, IfErr, OnErr, OnOk, is_some, nat_le, if◌then◌else◌}
+use Rattle.std.specs.List.{list_all}
+use Rattle.std.specs.Option.{option_or}
 use Rattle.base.specs.declared.fault.Fault.{Fault}
-use Rattle.base.specs.declared.fault.Fault.TheVariants.{Device as DeviceFault}
-use Rattle.base.specs.declared.step.Reply.{Reply}
-use Rattle.base.specs.declared.step.Step.TheVariants.{Stamp, Commit as CommitTick}
-use Rattle.base.specs.Commits.{Commit}
-use Rattle.base.specs.Layout.{Layout, total_words, slot_start, slot_words, is_in_limits}
-use Rattle.base.specs.Stands.{has_timestamp}
-use Rattle.base.specs.Machine.{State, Cover, closed, in_hand, drawn_of, next_state, StandsClosing}
-use Rattle.pmem.specs.Device.{Device, IsOrderly, flushed, fenced, failed}
-use Rattle.pmem.specs.Words.{IsReady, IsSettled, LeavesOnly}
-use Rattle.pmem.specs.declared.device.Pmem.{Ghosts}
-use Rattle.pmem.proofs.Images.{leaves_refl, leaves_trans, leaves_weaken, leaves-flushed, leaves-fenced, leaves-failed}
-use Rattle.log_area.proofs.Kept.{KeepsLog, holds_record_kept, keeps_log-flushed, keeps_log-fenced}
-use Rattle.pmem.proofs.Steps.{settled-ready, ready-flushed, ready-flushed_by}
-use Rattle.invariant.specs.Moves.{ShrinksSlots, IsSlotSettled}
-use Rattle.invariant.specs.Slots.{word_of}
-use Rattle.invariant.proofs.Moves.{slots-shrink, shrinks-by_flush, shrinks-by_fence}
-use Rattle.txn.specs.declared.write.Write.{Write}
-use Rattle.txn.specs.WriteSets.{touched}
-use Rattle.txn.proofs.Touched.{touched_by}
-use Rattle.room.specs.declared.numbers.Numbers.{Numbers}
-use Rattle.room.specs.declared.cycle.Cycle.{Cycle}
-use Rattle.room.specs.declared.cycle.InHand.{InHand}
-use Rattle.room.specs.declared.room.Room.{Room}
-use Rattle.room.specs.declared.session.Session.{Session}
-use Rattle.room.specs.declared.session.Session.TheVariants.{Drawn}
-use Rattle.room.specs.Agrees.{Works, hand_of}
-use Rattle.room.specs.Closing.{GoesOn, IsDonePart, IsFailedPart, IsFlushPart, KeepsAllButDevice, IsSlotReady, AreReadyAt, IsReadyFor, AreReadyFor, HasPersisted, drawn_writes, unstamped_in}
-use Rattle.room.specs.Room.{Shows, StepsTo, device_of}
-use Rattle.room.specs.Storing.{HasStamped, FailsStamping}
-use Rattle.room.proofs.Closing.{at-closing, closes_refl, closes_trans, closes-same, within-same, tick-within, tick-closes}
-use Rattle.room.proofs.Stamped.{stamped-drawn, stamped-steps, stamping-steps}
-use Rattle.room.proofs.Stamps.{MakesAtMost, write-makes, failing-makes}
-use Rattle.room.proofs.Working.{works-along, agrees-moved}
-use Rattle.room.proofs.Standing.{stands-works, word-within}
-use Rattle.room.proofs.Ticking.{found-in_hand, version-one}
-use Rattle.room.proofs.Committing.{word-line}
+use Rattle.base.specs.declared.fault.Fault.TheVariants.{Device as DeviceFault, Failed, TimestampsOut}
+use Rattle.base.specs.Images.{Image}
+use Rattle.base.specs.Layout.{Layout, total_words}
+use Rattle.base.specs.Records.{Record}
+use Rattle.base.specs.Search.{some_if}
+use Rattle.base.specs.Machine.{State, Hand, closing_gate, closing_fault, StandsClosing, StandsClosed}
+use Rattle.pmem.specs.Device.{Device, IsOrderly, MayLeave}
+use Rattle.pmem.specs.Words.{LeavesOnly, HasNoFailure, Spares}
+use Rattle.pmem.proofs.Images.{leaves_refl, leaves_trans, leaves_weaken}
+use Rattle.log_area.specs.Rulings.{HoldsRecord}
+use Rattle.log_area.specs.Writings.{begun, IsOutside, IsNextRecord, IsRuledByEither}
+use Rattle.txn.specs.DrawnCommits.{is_stamped as is_stamped_whole}
+use Rattle.device_invariant.specs.Log.{HoldsHand}
+use Rattle.group_commit.specs.Choosing.{closing_record as record_of_close}
+use Rattle.group_commit.specs.Cycles.{Cycling}
+use Rattle.cycle_invariant.specs.Closing.{closing_record}
+use Rattle.cycle_invariant.proofs.Lasts.{closing-writes}
+use Rattle.session_steps.specs.declared.numbers.Numbers.{Numbers}
+use Rattle.session_steps.proofs.Reading.{words-are}
+use Rattle.room.specs.declared.committer.Committer.{Committer}
+use Rattle.room.specs.Committing.{HoldsCycle, Shows}
+use Rattle.room.specs.Steps.{ShowsSome}
+use Rattle.room.specs.Closing.{IsClosingRefusal, IsDonePart, IsFailedPart, IsPersisted, PersistsDrawn}
+use Rattle.room.proofs.Parts.{stands-closing}
+use Rattle.room.proofs.Flushes.{is-closing}
 
--- ---- parts
+-- ---- the number of the last record
 
-pub part_refl : {D : Type 0} {G : Ghosts D} (state : D → Device) (room : Room D G) → IsOrderly (state room.device) → room.failed ≡ false → IsDonePart state room room
-part_refl state room orderly up = record {
-  works = up;
-  no_failure = refl;
-  goes_on = λ q shown. (
-    q,
-    record { shows = shown; closes = closes_refl q; images = leaves_refl (state room.device) (StandsClosing q) orderly (λ image may. at-closing q image (shown.stands image may)) },
-  );
-}
+-- a cycle and a batch in hand go together
+hand-is : (q : State) (c : Committer) (h : Option Hand) (o : Option Cycling) → HoldsCycle q c.sessions.drawn.commits h o → is_some h ≡ is_some o
+hand-is q c None None holds = refl
+hand-is q c (Some hand) (Some cycle) holds = refl
+hand-is q c None (Some cycle) holds = absurd holds
+hand-is q c (Some hand) None holds = absurd holds
 
-pub part_trans : {D : Type 0} {G : Ghosts D} (state : D → Device) (old mid new : Room D G) → IsDonePart state old mid → IsDonePart state mid new → IsDonePart state old new
-part_trans state old mid new a b = record {
-  works = b.works;
-  no_failure = b.no_failure ∙ a.no_failure;
-  goes_on = λ q shown.
-      let first = a.goes_on q shown in
-      let second = b.goes_on first.0 first.1.shows in (
-        second.0,
-        record {
-          shows = second.1.shows;
-          closes = closes_trans first.1.closes second.1.closes;
-          images = leaves_trans first.1.images (leaves_weaken first.1.closes.within second.1.images);
-        },
-      );
-}
+pub gate-is : (c : Committer) (device : Device) (q : State) → Shows c device q → closing_gate q ≡ c.sessions.numbers.record.gate + (if is_some c.cycle then 2 else 1)
+gate-is c device q shown =
+    ap (λ (b : Bool). q.ruling.gate + (if b then 2 else 1)) (hand-is q c q.hand c.cycle shown.cycle_is)
+    ∙ ap (λ (p : State). p.ruling.gate + (if is_some c.cycle then 2 else 1)) shown.shown.plain
 
-pub failed_after : {D : Type 0} {G : Ghosts D} (state : D → Device) (old mid new : Room D G) (fault : Fault) → IsDonePart state old mid → IsFailedPart state mid new fault → IsFailedPart state old new fault
-failed_after state old mid new fault a b = record {
-  told = b.told;
-  failure = omega (arith, a.no_failure, b.failure);
-  images = λ q shown.
-      let first = a.goes_on q shown in
-      leaves_trans first.1.images (leaves_weaken first.1.closes.within (b.images first.0 first.1.shows));
-}
-
--- ---- ticks
-
-module _ {D : Type 0} {G : Ghosts D} (state : D → Device) (old new : Room D G) (cycle : Cycle) (reply : Reply) (up : old.failed ≡ false) (in_hand : old.cycle ≡ Some cycle)
-    (steps : (q : State) → Shows state old q → (q' : State) × StepsTo state old new CommitTick reply q q') (moved : GoesOn state cycle old new) where
-  images_of : (q : State) → Shows state old q → LeavesOnly (device_of state old) (device_of state new) (StandsClosing q)
-  images_of q shown =
-      let to = steps q shown in
-      let h = found-in_hand state old q cycle shown up in_hand in
-      leaves_weaken
-      (tick-within q to.0 (hand_of q cycle h.timestamp h.writes) reply h.of.in_hand (shown.agrees.failed ∙ up) refl (ap (λ (b : Bool). if b then [] else q.ruling.gaps) (sym shown.agrees.swept)) to.1.stepped)
-      to.1.images
-
-  pub tick_part : new.failed ≡ false → IsDonePart state old new
-  tick_part works = record {
-    works = works;
-    no_failure = moved.no_failure works;
-    goes_on = λ q shown.
-        let to = steps q shown in
-        let h = found-in_hand state old q cycle shown up in_hand in (
-          to.0,
-          record {
-            shows = to.1.shows;
-            closes = tick-closes q to.0 (hand_of q cycle h.timestamp h.writes) reply h.of.in_hand (shown.agrees.failed ∙ up) refl (ap (λ (b : Bool). if b then [] else q.ruling.gaps) (sym shown.agrees.swept)) to.1.stepped (to.1.shows.agrees.failed ∙ works);
-            images = images_of q shown;
-          },
-        );
-  }
-
-  pub tick_failed : new.failed ≡ true → IsFailedPart state old new DeviceFault
-  tick_failed down = record { told = refl; failure = moved.failure down; images = images_of }
-
--- ---- a stamp
-
-module _ {D : Type 0} {G : Ghosts D} (state : D → Device) (old new : Room D G) (t : ℕ) (writes : List Write) (stamped : ℕ) (write : Write) (reply : Reply) (orderly : IsOrderly (state old.device)) (up : old.failed ≡ false)
-    (session : old.session ≡ Some (Drawn t writes stamped)) (at : slice_get writes stamped ≡ Some write) (stored : HasStamped state old new t writes stamped write reply ⊎ FailsStamping state old new t write reply) where
-  closed-stamped : (q : State) → drawn_of (next_state q (Stamp 2)) ≡ drawn_of q → closed (next_state q (Stamp 2)) ≡ closed q
-  closed-stamped q drawn =
-      ap (λ (ds : List Commit). let c : Cover = record { ruled_by = (closed q).ruled_by; commits = q.history ++ (in_hand q ++ filter (λ (c : Commit). not (has_timestamp (in_hand q) c.timestamp)) ds) } in c) drawn
-
-  -- what a stamp that is made keeps
-  pub record IsStampPart : Type 0 where
-    pub part : IsDonePart state old new
-    pub cycle : new.cycle ≡ old.cycle
-    pub fewer : unstamped_in new.session < unstamped_in old.session
-
-  part-stamped : HasStamped state old new t writes stamped write reply → new.failed ≡ false → IsDonePart state old new
-  part-stamped has works = record {
-    works = works;
-    no_failure =
-        let made : MakesAtMost 2 0 (state old.device) (state new.device) = write-makes old.numbers.geometry write t (state old.device) (state new.device) has.stamps in
-        omega (arith, made.failures);
-    goes_on = λ q shown.
-        let steps = stamped-steps state old new q t writes stamped write reply orderly shown up session at has in
-        let drawn = stamped-drawn state old new q t writes stamped write reply orderly shown up session at in (
-          next_state q (Stamp 2),
-          record {
-            shows = steps.shows;
-            closes = closes-same q (next_state q (Stamp 2)) refl drawn refl refl (closed-stamped q drawn);
-            images = leaves_weaken (within-same q (next_state q (Stamp 2)) refl refl) steps.images;
-          },
-        );
-  }
-
-  left-stamped : new.session ≡ Some (Drawn t writes (stamped + 1)) → unstamped_in new.session < unstamped_in old.session
-  left-stamped is =
-      let early : stamped < length writes = slice_get_within writes stamped write at in
-      let fewer : length writes - (stamped + 1) < length writes - stamped = omega (arith, early) in
-      subst (λ (s : Option Session). unstamped_in s < unstamped_in old.session) (sym is)
-      (subst (λ (s : Option Session). length writes - (stamped + 1) < unstamped_in s) (sym session) fewer)
-
-  pub stamp_part : new.failed ≡ false → IsStampPart
-  stamp_part works = by stored
-    where
-      by : HasStamped state old new t writes stamped write reply ⊎ FailsStamping state old new t write reply → IsStampPart
-      by (inr fails) = absurd (true≢false (sym fails.tells.failed ∙ works))
-      by (inl has) = record { part = part-stamped has works; cycle = has.rest.cycle; fewer = left-stamped has.session }
-
-  pub stamp_failed : new.failed ≡ true → IsFailedPart state old new DeviceFault
-  stamp_failed down = by stored
-    where
-      by : HasStamped state old new t writes stamped write reply ⊎ FailsStamping state old new t write reply → IsFailedPart state old new DeviceFault
-      by (inl has) = absurd (true≢false (sym down ∙ has.failed ∙ up))
-      by (inr fails) = record {
-        told = refl;
-        failure =
-            let made : MakesAtMost 2 1 (state old.device) (state new.device) = failing-makes old.numbers.geometry write t (state old.device) (state new.device) fails.stamps in
-            omega (arith, made.failures);
-        images = λ q shown.
-            leaves_weaken (within-same q (record q { failed = true }) refl refl) (stamping-steps state old new q t writes stamped write reply orderly shown up session at fails).images;
-      }
-
--- ---- a flush and a fence
-
--- no batch is in hand, and the device keeps the slots and the log area
-works-moved : (q : State) (device device' : Device) (session : Option Session) (batch : Option InHand) (free : List Bool) → device'.words ≡ device.words → KeepsLog q.layout device device' → ShrinksSlots q.layout device device'
-    → Works q device session None batch free → Works q device' session None batch free
-works-moved q device device' session batch free size log shrinks works = record {
-  sessions = works.sessions;
-  drawn = works.drawn;
-  holds = works.holds;
-  limits = works.limits;
-  unswept = works.unswept;
-  free_slots = works.free_slots;
-  kept = works.kept;
-  slots = slots-shrink works.slots shrinks;
-  log = (works.log.0, holds_record_kept q.layout device device' size log q.ruling works.log.1);
-}
-
-module _ {D : Type 0} {G : Ghosts D} (state : D → Device) (old new : Room D G) (same : KeepsAllButDevice old new) (up : old.failed ≡ false) (rests : old.cycle ≡ None) where
-  -- it shows the states that it showed
-  pub shows-moved : (state new.device).words ≡ (state old.device).words → ((a : Layout) → KeepsLog a (state old.device) (state new.device)) → ((a : Layout) → ShrinksSlots a (state old.device) (state new.device))
-      → (q : State) → Shows state old q → Shows state new q
-  shows-moved size log shrinks q shown =
-      let before = works-along q (state old.device) old.session new.session old.cycle None old.batch new.batch old.slots new.slots same.session (sym rests) same.batch same.slots (shown.agrees.works up) in
-      let after_it = works-moved q (state old.device) (state new.device) new.session new.batch new.slots size (log q.layout) (shrinks q.layout) before in
-      let works : Works q (state new.device) new.session new.cycle new.batch new.slots =
-      works-along q (state new.device) new.session new.session None new.cycle new.batch new.batch new.slots new.slots refl (same.cycle ∙ rests) refl refl after_it in
-      record {
-        stands = λ image may. stands-works q (state new.device) new.session new.cycle new.batch new.slots works image may;
-        agrees = agrees-moved state old new q q shown.agrees same.numbers refl refl refl refl (shown.agrees.failed ∙ sym same.failed) (λ still. works);
-      }
-
-  pub flush_part : (actor line : ℕ) → IsOrderly (state old.device) → IsOrderly (state new.device) → state new.device ≡ flushed actor line (state old.device) → IsDonePart state old new
-  flush_part actor line orderly orderly' made = record {
-    works = same.failed ∙ up;
-    no_failure = ap (λ (d : Device). d.failures) made;
-    goes_on = λ q shown.
-        let shown' = shows-moved (ap (λ (d : Device). d.words) made) (λ a. keeps_log-flushed a actor line made) (λ a. shrinks-by_flush a actor line made) q shown in
-        (q, record { shows = shown'; closes = closes_refl q; images = leaves-flushed (StandsClosing q) actor line orderly orderly' made (λ image may. at-closing q image (shown.stands image may)) (λ image may. at-closing q image (shown'.stands image may)) });
-  }
-
-  -- what waited for a fence goes on waiting
-  pub flush_waits : (actor line : ℕ) → IsOrderly (state old.device) → IsOrderly (state new.device) → state new.device ≡ flushed actor line (state old.device) → IsFlushPart state old new
-  flush_waits actor line orderly orderly' made = record {
-    part = flush_part actor line orderly orderly' made;
-    same = same;
-    waits = λ slot ready. record {
-      each = λ w below.
-          subst (λ (d : Device). IsReady d 0 (word_of old.numbers.geometry slot w)) (sym made)
-          (ready-flushed_by actor line (state old.device) 0 (word_of old.numbers.geometry slot w) (ready.each w below));
-    };
-  }
-
-  pub fence_part : (actor : ℕ) → IsOrderly (state old.device) → IsOrderly (state new.device) → state new.device ≡ fenced actor (state old.device) → IsDonePart state old new
-  fence_part actor orderly orderly' made = record {
-    works = same.failed ∙ up;
-    no_failure = ap (λ (d : Device). d.failures) made;
-    goes_on = λ q shown.
-        let shown' = shows-moved (ap (λ (d : Device). d.words) made) (λ a. keeps_log-fenced a actor made) (λ a. shrinks-by_fence a actor made) q shown in
-        (q, record { shows = shown'; closes = closes_refl q; images = leaves-fenced (StandsClosing q) actor orderly orderly' made (λ image may. at-closing q image (shown.stands image may)) (λ image may. at-closing q image (shown'.stands image may)) });
-  }
-
-failing_part : {D : Type 0} {G : Ghosts D} (state : D → Device) (old new : Room D G) (fault : Fault) → IsOrderly (state old.device) → IsOrderly (state new.device) → state new.device ≡ failed (state old.device) → fault ≡ DeviceFault → IsFailedPart state old new fault
-failing_part state old new fault orderly orderly' made told = record {
-  told = told;
-  failure = omega (arith, ap (λ (d : Device). d.failures) made);
-  images = λ q shown. leaves-failed (StandsClosing q) orderly orderly' made (λ image may. at-closing q image (shown.stands image may));
-}
-
-pub operation_failed : {D : Type 0} {G : Ghosts D} (state : D → Device) (old new : Room D G) (result : Result (Unit {0}) Fault) → IsOrderly (state old.device) → IsOrderly (state new.device)
-    → OnErr result (state new.device ≡ failed (state old.device)) → IfErr result (λ fault. fault ≡ DeviceFault) → IfErr result (IsFailedPart state old new)
-operation_failed state old new (Ok done) orderly orderly' made told = made
-operation_failed state old new (Err fault) orderly orderly' made told = failing_part state old new fault orderly orderly' made told
-
-pub failures_after : {D : Type 0} {G : Ghosts D} (state : D → Device) (old mid new : Room D G) (result : Result (Unit {0}) Fault) → IsDonePart state old mid → IfErr result (IsFailedPart state mid new) → IfErr result (IsFailedPart state old new)
-failures_after state old mid new (Ok done) part fails = fails
-failures_after state old mid new (Err fault) part fails = failed_after state old mid new fault part fails
-
--- ---- flushes, one after the other
-
-pub flush_refl : {D : Type 0} {G : Ghosts D} (state : D → Device) (room : Room D G) → IsOrderly (state room.device) → room.failed ≡ false → IsFlushPart state room room
-flush_refl state room orderly up = record {
-  part = part_refl state room orderly up;
-  same = record { numbers = refl; session = refl; cycle = refl; batch = refl; slots = refl; failed = refl };
-  waits = λ slot ready. ready;
-}
-
-module _ {D : Type 0} {G : Ghosts D} (state : D → Device) (old mid new : Room D G) (a : IsFlushPart state old mid) (b : IsFlushPart state mid new) where
-  pub waits_after : (slot : ℕ) → IsSlotReady old.numbers.geometry (state mid.device) slot → IsSlotReady old.numbers.geometry (state new.device) slot
-  waits_after slot ready =
-      subst (λ (n : Numbers). IsSlotReady n.geometry (state new.device) slot) a.same.numbers
-      (b.waits slot (subst (λ (n : Numbers). IsSlotReady n.geometry (state mid.device) slot) (sym a.same.numbers) ready))
-
-  pub flush_trans : IsFlushPart state old new
-  flush_trans = record {
-    part = part_trans state old mid new a.part b.part;
-    same = record {
-      numbers = b.same.numbers ∙ a.same.numbers;
-      session = b.same.session ∙ a.same.session;
-      cycle = b.same.cycle ∙ a.same.cycle;
-      batch = b.same.batch ∙ a.same.batch;
-      slots = b.same.slots ∙ a.same.slots;
-      failed = b.same.failed ∙ a.same.failed;
-    };
-    waits = λ slot ready. waits_after slot (a.waits slot ready);
-  }
-
-  at_waits : (o : Option ℕ) → AreReadyAt old.numbers.geometry (state mid.device) o → AreReadyAt old.numbers.geometry (state new.device) o
-  at_waits None ready = tt
-  at_waits (Some slot) ready = waits_after slot ready
-
-  at_along : (o : Option ℕ) → AreReadyAt mid.numbers.geometry (state new.device) o → AreReadyAt old.numbers.geometry (state new.device) o
-  at_along o = subst (λ (n : Numbers). AreReadyAt n.geometry (state new.device) o) a.same.numbers
-
-  -- one write more
-  pub ready_more : (writes : List Write) (count : ℕ) (write : Write) → slice_get writes count ≡ Some write → AreReadyFor old.numbers.geometry (state mid.device) count writes → IsReadyFor mid.numbers.geometry (state new.device) write
-      → AreReadyFor old.numbers.geometry (state new.device) (count + 1) writes
-  ready_more writes count write here before now i other less at = by (nat_lt i count) refl
-    where
-      by : (b : Bool) → nat_lt i count ≡ b → IsReadyFor old.numbers.geometry (state new.device) other
-      by true earlier =
-          let was = before i other (ltb-true i count earlier) at in
-          record { own = at_waits other.slot was.own; replaced = at_waits other.replaces was.replaced }
-      by false last =
-          let same : i ≡ count = omega (arith, less, ltb-false i count last) in
-          let both : Some other ≡ Some write = sym at ∙ ap (λ (n : ℕ). slice_get writes n) same ∙ here in
-          let this : other ≡ write = cc both in
-          subst (λ (w : Write). IsReadyFor old.numbers.geometry (state new.device) w) (sym this) (record { own = at_along write.slot now.own; replaced = at_along write.replaces now.replaced })
-
--- the line of a slot is flushed
-pub flushed_ready : (a : Layout) (slot line actor : ℕ) (old new : Device) → IsOrderly old → is_in_limits a ≡ true → slot < a.slots → old.words ≡ total_words a → line ≡ slot_start a slot / 8 → actor ≡ 0 → new ≡ flushed actor line old → IsSlotReady a new slot
-flushed_ready a slot line actor old new orderly limits lt size at committer made = record { each = each }
+-- there are numbers after that of the record that rules
+pub ruling-below : (c : Committer) (device : Device) (q : State) → Shows c device q → c.sessions.numbers.record.gate < 2 ^ 62
+ruling-below c device q shown = subst (λ (r : Record). r.gate < 2 ^ 62) (ap (λ (p : State). p.ruling) shown.shown.plain) (by q.hand shown.shown.upholds.holds.log)
   where
-    each : (w : ℕ) → w < slot_words a.version → IsReady new 0 (word_of a slot w)
-    each w below =
-        subst (λ (d : Device). IsReady d 0 (word_of a slot w)) (sym made)
-        (subst (λ (n : ℕ). IsReady (flushed n line old) 0 (word_of a slot w)) (sym committer)
-        (ready-flushed 0 line old (word_of a slot w) orderly (subst (λ (n : ℕ). word_of a slot w < n) (sym size) (word-within a slot w lt below))
-        (word-line a slot w (version-one a limits) below ∙ sym at)))
+    by : (h : Option Hand) → HoldsHand q device h → q.ruling.gate < 2 ^ 62
+    by None holds = holds.stands.fits.in_range
+    by (Some hand) (inl flushing) = flushing.follows.holds.stands.fits.in_range
+    by (Some hand) (inr recording) = recording.replaces.stands.fits.in_range
 
--- the fence settles what waits for it
-pub fenced_settled : (a : Layout) (actor : ℕ) (old new : Device) → actor ≡ 0 → new ≡ fenced actor old → (slot : ℕ) → IsSlotReady a old slot → IsSlotSettled a new slot
-fenced_settled a actor old new committer made slot ready = record {
-  each = λ w below.
-      subst (λ (d : Device). IsSettled d (word_of a slot w)) (sym made)
-      (subst (λ (n : ℕ). IsSettled (fenced n old) (word_of a slot w)) (sym committer) (settled-ready 0 old (word_of a slot w) (ready.each w below)));
-}
+pub some-below : (c : Committer) (device : Device) → ∥ ShowsSome c device ∥₁ → c.sessions.numbers.record.gate < 2 ^ 62
+some-below c device some = ∥∥₁_elim some le_prop (λ shown. ruling-below c device shown.0 shown.1)
 
--- ---- what is drawn persists
+-- ---- the last record
 
--- all slots that the writes touch are settled once those of each write waited for the fence
-pub touched_settled : (a b : Layout) (old new : Device) (writes : List Write) → AreReadyFor a old (length writes) writes → ((slot : ℕ) → IsSlotReady a old slot → IsSlotSettled b new slot)
-    → (slot : ℕ) → Contains (touched writes) slot → IsSlotSettled b new slot
-touched_settled a b old new writes ready settles slot has =
-    let found = touched_by writes slot has in
-    let both = ready found.0 found.1 (slice_get_within writes found.0 found.1 found.2) found.2 in
-    settles slot (elim found.3 [
-      | inl own ↦ subst (AreReadyAt a old) own both.own
-      | inr replaced ↦ subst (AreReadyAt a old) replaced both.replaced
-    ])
+module _ (c : Committer) (before now : Device) (numbers : Numbers) (target : Record) (same : numbers ≡ c.sessions.numbers) (is : target ≡ record_of_close numbers.record numbers.next false)
+    (rests : c.cycle ≡ None) (stamped : list_all is_stamped_whole c.sessions.drawn.commits ≡ true) (numbered : c.sessions.numbers.record.gate + 1 < 2 ^ 62) where
+  pub words-last : ∥ ShowsSome c before ∥₁ → IsOrderly before → before.words ≡ total_words numbers.geometry
+  words-last some orderly = ∥∥₁_elim some (ℕ_set _ _) (λ shown.
+      words-are shown.1.shown.hidden.origin shown.0 before orderly shown.1.shown.upholds
+      ∙ ap (λ (p : State). total_words p.layout) shown.1.shown.plain ∙ ap (λ (n : Numbers). total_words n.geometry) (sym same))
 
--- they persist after the fence
-pub persisted_drawn : {D : Type 0} {G : Ghosts D} (state : D → Device) (old mid new : Room D G) → IsFlushPart state old mid → KeepsAllButDevice mid new → (writes : List Write) → writes ≡ drawn_writes old.session
-    → AreReadyFor old.numbers.geometry (state mid.device) (length writes) writes → ((slot : ℕ) → IsSlotReady mid.numbers.geometry (state mid.device) slot → IsSlotSettled new.numbers.geometry (state new.device) slot)
-    → HasPersisted new.numbers.geometry (state new.device) new.session
-persisted_drawn state old mid new a same writes is ready settles slot has =
-    touched_settled old.numbers.geometry new.numbers.geometry (state mid.device) (state new.device) writes ready
-    (λ s waits. settles s (subst (λ (n : Numbers). IsSlotReady n.geometry (state mid.device) s) (sym a.same.numbers) waits)) slot
-    (subst (λ (ws : List Write). Contains (touched ws) slot) (ap drawn_writes (same.session ∙ a.same.session) ∙ sym is) has)
+  -- it is the one of the plain machine
+  module _ (q : State) (persisted : IsPersisted c before q) where
+    layout-is : numbers.geometry ≡ q.layout
+    layout-is = ap (λ (n : Numbers). n.geometry) same ∙ sym (ap (λ (p : State). p.layout) persisted.shown.shown.plain)
 
--- the fault that a part failed with is the one that is told
-pub told_part : {D : Type 0} {G : Ghosts D} (state : D → Device) (old new : Room D G) {T : Type 0} (result : Result T Fault) (fault : Fault) → IsErrAnd result (λ told. told ≡ fault) → IsFailedPart state old new fault → IfErr result (IsFailedPart state old new)
-told_part state old new (Ok x) fault is part = absurd is
-told_part state old new (Err told) fault is part = subst (IsFailedPart state old new) (sym is) part
+    ruling-is : numbers.record ≡ q.ruling
+    ruling-is = ap (λ (n : Numbers). n.record) same ∙ sym (ap (λ (p : State). p.ruling) persisted.shown.shown.plain)
+
+    next-is : numbers.next ≡ q.next
+    next-is = ap (λ (n : Numbers). n.next) same ∙ sym (ap (λ (p : State). p.next) persisted.shown.shown.plain)
+
+    target-is : target ≡ closing_record q
+    target-is =
+        is ∙ (λ i. record_of_close (ruling-is i) (next-is i) false)
+        ∙ (let gaps : q.ruling.gaps ≡ (if q.swept then [] else q.ruling.gaps) = ap (λ (b : Bool). if b then [] else q.ruling.gaps) (sym persisted.shown.shown.agrees.unswept) in
+        λ i. record { gate = q.ruling.gate + 1; persisted = q.next - 1; dirty = q.next; gaps = gaps i; longs = [] })
+
+    in_range : closing_gate q < 2 ^ 62
+    in_range = omega (arith, gate-is c before q persisted.shown ∙ ap (λ (o : Option Cycling). c.sessions.numbers.record.gate + (if is_some o then 2 else 1)) rests, numbered)
+
+    next-record : IsNextRecord numbers.geometry q.ruling target before
+    next-record =
+        subst (λ (a : Layout). IsNextRecord a q.ruling target before) (sym layout-is)
+        (subst (λ (r : Record). IsNextRecord q.layout q.ruling r before) (sym target-is)
+        (closing-writes.follows persisted.shown.shown.hidden.origin q before (is-closing c before q persisted.shown persisted.works rests stamped) in_range))
+
+    outside-is : Spares (IsOutside (begun numbers.geometry target)) before now → Spares (IsOutside (begun q.layout (closing_record q))) before now
+    outside-is = subst (λ (a : Layout). Spares (IsOutside (begun numbers.geometry target)) before now → Spares (IsOutside (begun a (closing_record q))) before now) layout-is
+        (subst (λ (r : Record). Spares (IsOutside (begun numbers.geometry target)) before now → Spares (IsOutside (begun numbers.geometry r)) before now) target-is (λ s. s))
+
+    pub last-images : Spares (IsOutside (begun numbers.geometry target)) before now → ((old : Record) → IsNextRecord numbers.geometry old target before → LeavesOnly before now (IsRuledByEither numbers.geometry old target)) → LeavesOnly before now (StandsClosing q)
+    last-images outside images =
+        closing-writes.images persisted.shown.shown.hidden.origin q before now (is-closing c before q persisted.shown persisted.works rests stamped) persisted.persisted in_range (outside-is outside)
+        (subst (λ (a : Layout). LeavesOnly before now (IsRuledByEither a q.ruling (closing_record q))) layout-is
+        (subst (λ (r : Record). LeavesOnly before now (IsRuledByEither numbers.geometry q.ruling r)) target-is (images q.ruling next-record)))
+
+    pub last-closed : Spares (IsOutside (begun numbers.geometry target)) before now → ((old : Record) → IsNextRecord numbers.geometry old target before → HoldsRecord numbers.geometry target now) → (image : Image) → MayLeave now image → StandsClosed q image
+    last-closed outside holds =
+        closing-writes.closed persisted.shown.shown.hidden.origin q before now (is-closing c before q persisted.shown persisted.works rests stamped) persisted.persisted in_range (outside-is outside)
+        (subst (λ (a : Layout). HoldsRecord a (closing_record q) now) layout-is (subst (λ (r : Record). HoldsRecord numbers.geometry r now) target-is (holds q.ruling next-record)))
+
+-- ---- why a close is refused
+
+fault-of : (failed past : Bool) → failed ≡ false → option_or (some_if failed Failed) (option_or (some_if past TimestampsOut) None) ≡ cond past (Some TimestampsOut) None
+fault-of true past works = absurd (cc works)
+fault-of false true works = refl
+fault-of false false works = refl
+
+fault-past : (q : State) → q.failed ≡ false → 2 ^ 62 ≤ closing_gate q → closing_fault q ≡ Some TimestampsOut
+fault-past q works past = fault-of q.failed (nat_le (2 ^ 62) (closing_gate q)) works ∙ ap (λ (b : Bool). cond b (Some TimestampsOut) None) (le-leb (2 ^ 62) (closing_gate q) past)
+
+not-past : (n : ℕ) → n < 2 ^ 62 → nat_le (2 ^ 62) n ≡ false
+not-past n less = by_test (nat_le (2 ^ 62) n) refl
+  where
+    by_test : (b : Bool) → nat_le (2 ^ 62) n ≡ b → b ≡ false
+    by_test true is = absurd (omega (arith, less, leb-true (2 ^ 62) n is))
+    by_test false is = refl
+
+fault-none : (q : State) → q.failed ≡ false → closing_gate q < 2 ^ 62 → closing_fault q ≡ None
+fault-none q works below = fault-of q.failed (nat_le (2 ^ 62) (closing_gate q)) works ∙ ap (λ (b : Bool). cond b (Some TimestampsOut) None) (not-past (closing_gate q) below)
+
+module _ (c : Committer) (before : Device) (gate : ℕ) (is : gate ≡ c.sessions.numbers.record.gate + (if is_some c.cycle then 2 else 1)) where
+  -- nothing is done
+  pub unmoved : IsOrderly before → (q : State) → Shows c before q → q.failed ≡ false → LeavesOnly before before (StandsClosing q)
+  unmoved orderly q shown works = leaves_refl before (StandsClosing q) orderly (stands-closing c before q shown)
+
+  -- no number is left
+  pub refused-past : 2 ^ 62 ≤ gate → (q : State) → Shows c before q → q.failed ≡ false → IsClosingRefusal q before before TimestampsOut
+  refused-past past q shown works = inl (fault-past q works (omega (arith, past, is, gate-is c before q shown)), refl)
+
+  module _ (below : gate < 2 ^ 62) where
+    pub may-close : (q : State) → Shows c before q → q.failed ≡ false → closing_fault q ≡ None
+    may-close q shown works = fault-none q works (omega (arith, below, is, gate-is c before q shown))
+
+    -- a part fails
+    pub refused-part : (now : Device) (fault : Fault) → IsFailedPart c before now fault → (q : State) → Shows c before q → q.failed ≡ false → IsClosingRefusal q before now fault
+    refused-part now fault part q shown works = inr (may-close q shown works, part.fault_is, part.failure)
+
+    -- ---- the close as a whole
+
+    module _ (new : Committer) (between : Device) (done : IsDonePart c new before between) (rests : new.cycle ≡ None) where
+      pub numbered-last : ∥ ShowsSome c before ∥₁ → new.sessions.numbers.record.gate + 1 < 2 ^ 62
+      numbered-last some = ∥∥₁_elim some le_prop (λ shown.
+          let at = done.goes_on shown.0 shown.1 shown.2 in
+          let last : closing_gate at.0 ≡ new.sessions.numbers.record.gate + 1 = gate-is new between at.0 at.1.shows ∙ ap (λ (o : Option Cycling). new.sessions.numbers.record.gate + (if is_some o then 2 else 1)) rests in
+          omega (arith, below, is, gate-is c before shown.0 shown.1, at.1.closes.number, last))
+
+      module _ (after now : Device) (persists : PersistsDrawn new between after) where
+        pub shown-last : ∥ ShowsSome c before ∥₁ → ∥ ShowsSome new after ∥₁
+        shown-last some = ∥∥₁_map some (λ shown.
+            let at = done.goes_on shown.0 shown.1 shown.2 in
+            let there = persists at.0 at.1.shows at.1.works in
+            (at.0, there.0.shown, there.0.works))
+
+        pub images-last : ((q : State) → IsPersisted new after q → LeavesOnly after now (StandsClosing q)) → (q : State) → Shows c before q → q.failed ≡ false → LeavesOnly before now (StandsClosing q)
+        images-last images q shown works =
+            let at = done.goes_on q shown works in
+            let there = persists at.0 at.1.shows at.1.works in
+            leaves_trans at.1.images (leaves_weaken at.1.closes.within (leaves_trans there.1 (images at.0 there.0)))
+
+        pub closed-last : ((q : State) → IsPersisted new after q → (image : Image) → MayLeave now image → StandsClosed q image) → (q : State) → Shows c before q → q.failed ≡ false → (image : Image) → MayLeave now image → StandsClosed q image
+        closed-last closed q shown works image may =
+            let at = done.goes_on q shown works in
+            let there = persists at.0 at.1.shows at.1.works in
+            at.1.closes.after_it image (closed at.0 there.0 image may)
+
+        pub refused-last : (result : Result (Unit {0}) Fault) → HasNoFailure between after → OnErr result (after.failures < now.failures) → IfErr result (λ fault. fault ≡ DeviceFault)
+            → IfErr result (λ fault. (q : State) → Shows c before q → q.failed ≡ false → IsClosingRefusal q before now fault)
+        refused-last (Ok ok) none failure told = tt
+        refused-last (Err fault) none failure told = λ q shown works. inr (may-close q shown works, told, omega (arith, done.no_failure, none, failure))
+
+pub on_ok-from : (result : Result (Unit {0}) Fault) {P : Type 0} → P → OnOk result P
+on_ok-from (Ok ok) p = p
+on_ok-from (Err fault) p = tt

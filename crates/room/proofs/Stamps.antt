@@ -1,200 +1,276 @@
--- What a stamp of a write stores, and what it leaves on the device.
-use Rattle.std.proofs.Common.{◌≡◌, ◌⊎◌, inl, inr, ℕ, ◌+◌, ◌<◌, ◌≤◌, sym, ◌∙◌, ap, subst, arith, get_or, refl}
-use Rattle.std.specs.Prelude.{Option, Some, None}
-use Rattle.std.proofs.lemmas.Bool.{cases_lt, cases_order}
-use Rattle.base.specs.Images.{Image}
-use Rattle.base.specs.Layout.{Layout, slot_start, slot_words}
-use Rattle.base.specs.Records.{Record}
-use Rattle.pmem.specs.Device.{Device, MayLeave, IsOrderly}
-use Rattle.pmem.specs.Words.{LeavesOnly, Survives, value_of, OldOr, OnlyShrinks, IsSettledAt, operations_of}
-use Rattle.pmem.proofs.Images.{leaves_refl, leaves_trans}
-use Rattle.txn.specs.declared.write.Write.{Write}
-use Rattle.version_slot.specs.Filling.{StoresRun, Stamps, IsOfRun}
-use Rattle.log_area.specs.Rulings.{HoldsRecord}
-use Rattle.invariant.specs.Moves.{ShrinksSlots, ShrinksOthers, IsStampedWith, IsEndedWith, HasStamps}
-use Rattle.invariant.specs.Slots.{word_of}
-use Rattle.invariant.proofs.Moves.{within-slot, shrinks_refl}
-use Rattle.pmem.proofs.Changes.{each-settled}
-use Rattle.invariant.proofs.Ending.{stamps-none, stamps-begun, stamps-ended, stamps-shrink}
-use Rattle.room.specs.Storing.{StampsAt, StampsWrite, FailsAt, FailsStampingWrite}
-use Rattle.pmem.proofs.Changes.{shrinks-same}
-use Rattle.room.proofs.Storing.{run_others, run_record, run_before, run_after, survives_still, run_leaves}
+-- A stamp, as a part of a close.
+use Rattle.std.proofs.Common.{◌≡◌, ◌≢◌, inl, inr, ℕ, ◌+◌, ◌-◌, ◌<◌, ◌≤◌, Bool, true, false, cond, ◌&&◌, not, List, [], ◌∷◌, length, map, refl, sym, ◌∙◌, ap, subst, arith}
+use Rattle.std.proofs.Math.Bridge.{le_prop}
+use Rattle.std.proofs.Math.Logic.{∥∥₁_elim, ∥∥₁_map}
+use Rattle.std.proofs.Math.Nat.{ℕ_set}
+use Rattle.std.proofs.lemmas.Bool.{and_parts, cases_lt, eq-eqb, eqb-true, leb-true}
+use Rattle.std.proofs.lemmas.List.Sums.{sum_by-cons}
+use Rattle.std.specs.Prelude.{Option, Some, None, nat_eq, nat_le, find, sum_by}
+use Rattle.std.specs.List.{list_all, list_any}
+use Rattle.std.specs.Option.{option_map}
+use Rattle.base.specs.declared.fault.Fault.{Fault}
+use Rattle.base.specs.declared.fault.Fault.TheVariants.{Device as DeviceFault}
+use Rattle.base.specs.declared.step.Step.TheVariants as step
+use Rattle.base.specs.declared.step.Reply.TheVariants as reply
+use Rattle.base.specs.declared.step.SessionStep.TheVariants.{Stamp}
+use Rattle.base.specs.declared.step.SessionReply.{SessionReply}
+use Rattle.base.specs.declared.step.SessionReply.TheVariants.{Refused}
+use Rattle.base.specs.SessionSteps.{as_reply}
+use Rattle.base.specs.Stands.{has_timestamp}
+use Rattle.base.specs.Machine.{State, Drawn as PlainDrawn, Drew, IsCovered, IsStamped, IsDrawn, Hand, Stepped, refused, answered, memory_refused, device_failed, refusal, next_state, allows, standing_of, is_stamped, is_last_stamp, timestamp_of, counted, drawn_at, StandsWithin}
+use Rattle.pmem.specs.Device.{Device}
+use Rattle.pmem.proofs.Images.{leaves_weaken}
+use Rattle.txn.specs.declared.drawn.DrawnCommit.{DrawnCommit}
+use Rattle.txn.specs.declared.transaction.Transaction.TheVariants.{Drawn}
+use Rattle.txn.specs.DrawnCommits.{is_stamped as is_stamped_whole}
+use Rattle.txn.specs.Transactions.{transaction_at}
+use Rattle.txn.proofs.Plain.{length-plain_writes}
+use Rattle.state_invariant.proofs.Choosing.{any-by_timestamp}
+use Rattle.state_invariant.proofs.Lists.{find-any, find-map}
+use Rattle.cycle_invariant.specs.Closing.{ClosesAs}
+use Rattle.cycle_invariant.proofs.Closings.{closes-on}
+use Rattle.session_steps.specs.declared.sessions.Sessions.{Sessions}
+use Rattle.session_steps.specs.Shows.{plain_drawn, HoldsDrawn, Shows as SessionsShow}
+use Rattle.session_steps.specs.Steps.{Steps, ShowsSome as SessionsShowSome}
+use Rattle.session_steps.proofs.Quiet.{found, not-both}
+use Rattle.session_steps.proofs.Refusals.{passes}
+use Rattle.session_steps.proofs.Stamped.{found-all, one-at}
+use Rattle.room.specs.declared.committer.Committer.{Committer}
+use Rattle.room.specs.Committing.{HoldsCycle, Shows}
+use Rattle.room.specs.Steps.{ShowsSome}
+use Rattle.room.specs.Closing.{IsDonePart, IsFailedPart, unstamped_session}
+use Rattle.room.proofs.Parts.{device-fault}
 
--- ---- one word
+-- ---- how many writes are left
 
-plus-zero : (n : ℕ) → n ≡ n + 0
-plus-zero n = omega arith
+-- how many writes of the commit aren't stamped
+abbrev pub left_of : PlainDrawn → ℕ
+left_of d = length d.commit.writes - d.stamped
 
-module _ (a : Layout) (slot v t n failed : ℕ) (old new : Device) (of_two : v < 2) (le : n ≤ 1) (run : Stamps (word_of a slot v) t n failed old new) where
-  fits_word : v + n ≤ slot_words a.version
-  fits_word = omega (arith, of_two, le, within-slot a.version 1 (omega arith))
+-- of all of them
+abbrev pub left_in : List PlainDrawn → ℕ
+left_in ds = sum_by left_of ds
 
-  pub stamping_others : ShrinksOthers a slot old new
-  stamping_others = run_others a slot v n failed (word_of a slot v) refl fits_word (λ k. t) old new run
+no-more : (t : ℕ) (d : PlainDrawn) → left_of (counted t d) ≤ left_of d
+no-more t d = by (nat_eq d.commit.timestamp t)
+  where
+    by : (b : Bool) → left_of (cond b (record { commit = d.commit; stamped = d.stamped + 1 }) d) ≤ left_of d
+    by true = omega arith
+    by false = omega arith
 
-  pub stamping_record : (r : Record) → HoldsRecord a r old → HoldsRecord a r new
-  stamping_record = run_record a slot v n failed (word_of a slot v) refl fits_word (λ k. t) old new run
+no-more_in : (t : ℕ) (ds : List PlainDrawn) → left_in (map (counted t) ds) ≤ left_in ds
+no-more_in t [] = omega arith
+no-more_in t (d ∷ ds) = omega (arith, sum_by-cons left_of (counted t d) (map (counted t) ds), sum_by-cons left_of d ds, no-more t d, no-more_in t ds)
 
-  pub stamping_word : (w : ℕ) → (w ≡ v → ⊥) → OnlyShrinks old new (word_of a slot w)
-  stamping_word w apart = by_order (cases_order w v)
+-- each is stamped no further than it writes
+abbrev counts : PlainDrawn → Bool
+counts d = nat_le d.stamped (length d.commit.writes)
+
+-- one that isn't stamped whole has one left less
+fewer-at : (t : ℕ) (d : PlainDrawn) → counts d ≡ true → is_stamped d ≡ false → d.commit.timestamp ≡ t → left_of (counted t d) < left_of d
+fewer-at t d counted_so unstamped is = by (nat_eq d.commit.timestamp t) (eq-eqb d.commit.timestamp t is)
+  where
+    less : d.stamped < length d.commit.writes
+    less = elim (cases_lt d.stamped (length d.commit.writes)) [
+      | inl under ↦ under
+      | inr over ↦
+          let same : d.stamped ≡ length d.commit.writes = omega (arith, over, leb-true d.stamped (length d.commit.writes) counted_so) in
+          absurd (cc (unstamped, eq-eqb d.stamped (length d.commit.writes) same))
+    ]
+
+    by : (b : Bool) → b ≡ true → left_of (cond b (record { commit = d.commit; stamped = d.stamped + 1 }) d) < left_of d
+    by true e = omega (arith, less)
+    by false e = absurd (cc e)
+
+fewer-in : (t : ℕ) (ds : List PlainDrawn) (d : PlainDrawn) → list_all counts ds ≡ true → find (λ e. not (is_stamped e)) ds ≡ Some d → d.commit.timestamp ≡ t → left_in (map (counted t) ds) < left_in ds
+fewer-in t [] d all at is = absurd (cc at)
+fewer-in t (x ∷ ds) d all at is = by (is_stamped x) refl at (fewer-in t ds d both.1)
+  where
+    both : (counts x ≡ true) × (list_all counts ds ≡ true)
+    both = and_parts (counts x) (list_all counts ds) all
+
+    by : (b : Bool) → is_stamped x ≡ b → cond (not b) (Some x) (find (λ e. not (is_stamped e)) ds) ≡ Some d
+        → (find (λ e. not (is_stamped e)) ds ≡ Some d → d.commit.timestamp ≡ t → left_in (map (counted t) ds) < left_in ds) → left_in (map (counted t) (x ∷ ds)) < left_in (x ∷ ds)
+    by true stamped at rest = omega (arith, sum_by-cons left_of (counted t x) (map (counted t) ds), sum_by-cons left_of x ds, no-more t x, rest at is)
+    by false stamped at rest =
+        let same : x ≡ d = cc at in
+        omega (arith, sum_by-cons left_of (counted t x) (map (counted t) ds), sum_by-cons left_of x ds, fewer-at t x both.0 stamped (ap (λ (e : PlainDrawn). e.commit.timestamp) same ∙ is), no-more_in t ds)
+
+-- ---- the commit that is stamped next
+
+-- the first commit that isn't stamped whole, as the sessions and as the plain state have it
+pub record IsNext (old : Sessions) (n : ℕ) : Type 0 where
+  pub commit : DrawnCommit
+  pub first : find (λ d. not (is_stamped_whole d)) old.drawn.commits ≡ Some commit
+  pub session : commit.session ≡ n
+
+next-of : (old : Sessions) (n : ℕ) → unstamped_session old.drawn.commits ≡ Some n → IsNext old n
+next-of old n is = by (find (λ d. not (is_stamped_whole d)) old.drawn.commits) refl is
+  where
+    by : (o : Option DrawnCommit) → find (λ d. not (is_stamped_whole d)) old.drawn.commits ≡ o → option_map (λ (d : DrawnCommit). d.session) o ≡ Some n → IsNext old n
+    by None at is = absurd (cc is)
+    by (Some d) at is = record { commit = d; first = at; session = cc is }
+
+module _ (old : Sessions) (before : Device) (q : State) (n : ℕ) (shown : SessionsShow old before q) (works : q.failed ≡ false) (next : IsNext old n) where
+  abbrev d : DrawnCommit
+  d = next.commit
+
+  drawn-is : q.drawn ≡ map plain_drawn old.drawn.commits
+  drawn-is = ap (λ (p : State). p.drawn) shown.plain
+
+  plain-first : find (λ e. not (is_stamped e)) q.drawn ≡ Some (plain_drawn d)
+  plain-first =
+      ap (find (λ e. not (is_stamped e))) drawn-is ∙ find-map (λ e. not (is_stamped e)) plain_drawn old.drawn.commits
+      ∙ (λ i. option_map plain_drawn (find (λ e. not (nat_eq e.stamped (length-plain_writes e.writes i))) old.drawn.commits)) ∙ ap (option_map plain_drawn) next.first
+
+  -- it is the session's
+  session-is : q.sessions n ≡ Some (Drew d.timestamp)
+  session-is =
+      let holds = found-all (HoldsDrawn old q) (λ e. not (is_stamped_whole e)) old.drawn.commits d shown.agrees.drawn next.first in
+      ap (λ (p : State). p.sessions n) shown.plain ∙ found old shown.hidden n (Some (Drawn d.timestamp)) (ap (λ (m : ℕ). transaction_at old.transactions m) (sym next.session) ∙ holds.session)
+
+  -- it is found by its timestamp
+  by-timestamp : (e : PlainDrawn) × (drawn_at q d.timestamp ≡ Some e) × (is_stamped e ≡ false)
+  by-timestamp =
+      let some : list_any (λ e. not (is_stamped e) && nat_eq e.commit.timestamp d.timestamp) q.drawn ≡ true =
+      find-any (λ (e : PlainDrawn). not (is_stamped e)) (λ e. nat_eq e.commit.timestamp d.timestamp) q.drawn (plain_drawn d) plain-first (eq-eqb d.timestamp d.timestamp refl) in
+      let one = any-by_timestamp (λ e. not (is_stamped e) && nat_eq e.commit.timestamp d.timestamp) q.drawn shown.upholds.keeps.draws.rising some in
+      let both = and_parts (not (is_stamped one.0)) (nat_eq one.0.commit.timestamp d.timestamp) one.2 in
+      (one.0, ap (λ (u : ℕ). drawn_at q u) (sym (eqb-true one.0.commit.timestamp d.timestamp both.1)) ∙ one.1, unnot (is_stamped one.0) both.0)
     where
-      by_order : (w ≡ v) ⊎ ((w < v) ⊎ (v < w)) → OnlyShrinks old new (word_of a slot w)
-      by_order (inl same) = absurd (apart same)
-      by_order (inr (inl before)) = shrinks-same (word_of a slot w) (run_before a slot v n failed (word_of a slot v) refl fits_word (λ k. t) old new run w before)
-      by_order (inr (inr after)) = shrinks-same (word_of a slot w) (run_after a slot v n failed (word_of a slot v) refl fits_word (λ k. t) old new run w (omega (arith, after, le)))
+      unnot : (b : Bool) → not b ≡ true → b ≡ false
+      unnot true e = absurd (cc e)
+      unnot false e = refl
 
-  old_or_stamp : (x : ℕ) → OldOr old (IsOfRun (word_of a slot v) (λ k. t) n) (word_of a slot v) x → Survives old (word_of a slot v) x ⊎ (x ≡ t)
-  old_or_stamp x (inl there) = inl there
-  old_or_stamp x (inr part) = inr part.3
+  -- so its session may stamp
+  allowed : allows (step.Stamp n) (standing_of q (Drew d.timestamp)) ≡ true
+  allowed = by (has_timestamp q.history d.timestamp) refl (list_any (λ e. nat_eq e.commit.timestamp d.timestamp && is_stamped e) q.drawn)
+      (one-at shown.hidden.origin q d.timestamp by-timestamp.0 is_stamped shown.upholds.keeps by-timestamp.1 ∙ by-timestamp.2)
+    where
+      by : (a : Bool) → has_timestamp q.history d.timestamp ≡ a → (b : Bool) → b ≡ false → allows (step.Stamp n) (cond a IsCovered (cond b IsStamped IsDrawn)) ≡ true
+      by true covered b whole = absurd (not-both shown.hidden.origin q d.timestamp by-timestamp.0 shown.upholds.keeps covered by-timestamp.1)
+      by false covered true whole = absurd (cc whole)
+      by false covered false whole = refl
 
-  pub stamping_survivor : (x : ℕ) → Survives new (word_of a slot v) x → Survives old (word_of a slot v) x ⊎ (x ≡ t)
-  stamping_survivor x there = old_or_stamp x (run.keeps.now (word_of a slot v) x there)
+  pub unrefused : refusal q (step.Stamp n) ≡ None
+  unrefused = passes q (step.Stamp n) n (Drew d.timestamp) works refl session-is allowed
 
-stamped-value : (a : Layout) (slot v t failed : ℕ) (old new : Device) → Stamps (word_of a slot v) t 1 failed old new → value_of new (word_of a slot v) ≡ t
-stamped-value a slot v t failed old new run = ap (value_of new) (plus-zero (word_of a slot v)) ∙ run.values 0 (omega arith)
+  pub fewer : left_in (next_state q (step.Stamp n)).drawn < left_in q.drawn
+  fewer =
+      subst (λ (t : ℕ). left_in (map (counted t) q.drawn) < left_in q.drawn) (sym (ap timestamp_of session-is))
+      (fewer-in d.timestamp q.drawn (plain_drawn d) shown.upholds.keeps.draws.counted plain-first refl)
 
--- in the begin of a version that has none
-pub stamping_stamped : (a : Layout) (slot t : ℕ) (old new : Device) → Stamps (word_of a slot 0) t 1 0 old new → IsSettledAt old (word_of a slot 0) 0 → IsStampedWith a old new slot t
-stamping_stamped a slot t old new run begin = record {
-  begin = stamped-value a slot 0 t 0 old new run;
-  survives = record { each = λ x there. zero_or_stamp x (stamping_survivor a slot 0 t 1 0 old new (omega arith) (omega arith) run x there) };
-  others = λ w one lt. stamping_word a slot 0 t 1 0 old new (omega arith) (omega arith) run w (λ e. omega (arith, e, one));
-}
+-- ---- what the stamp comes to
+
+module _ (q q' : State) (n : ℕ) (r : SessionReply) (un : refusal q (step.Stamp n) ≡ None) (stepped : Stepped q (step.Stamp n) (as_reply r) q') where
+  -- the last, or one of several
+  answers : (b : Bool) (fault : Fault) → cond b reply.Stamped reply.More ≡ reply.Refused fault → ⊥
+  answers true fault told = cc told
+  answers false fault told = cc told
+
+  fails : (fault : Fault) → r ≡ Refused fault → (fault ≡ DeviceFault) × (q' ≡ record q { failed = true })
+  fails fault is = by stepped
+    where
+      by : Stepped q (step.Stamp n) (as_reply r) q' → (fault ≡ DeviceFault) × (q' ≡ record q { failed = true })
+      by (refused other why told same) = absurd (cc (un, why))
+      by (answered none told same) = absurd (answers (is_last_stamp q n) fault (sym told ∙ ap as_reply is))
+      by (memory_refused none takes told same) = absurd (cc takes)
+      by (device_failed none operating told same) = (let e : reply.Refused fault ≡ reply.Refused DeviceFault = sym (ap as_reply is) ∙ told in cc e, same)
+
+  -- a reply that isn't a refusal
+  as-refused : (r : SessionReply) (fault : Fault) → as_reply r ≡ reply.Refused fault → r ≡ Refused fault
+  as-refused (Refused other) fault told = cc told
+  as-refused _ fault told = absurd (cc told)
+
+  stamps : ((fault : Fault) → r ≢ Refused fault) → q' ≡ next_state q (step.Stamp n)
+  stamps unrefused_so = by stepped
+    where
+      by : Stepped q (step.Stamp n) (as_reply r) q' → q' ≡ next_state q (step.Stamp n)
+      by (refused other why told same) = absurd (cc (un, why))
+      by (answered none told same) = same
+      by (memory_refused none takes told same) = absurd (cc takes)
+      by (device_failed none operating told same) = absurd (unrefused_so DeviceFault (as-refused r DeviceFault told))
+
+-- ---- a part
+
+-- with no cycle there is no batch in hand
+still-none : (q q' : State) (ds ds' : List DrawnCommit) (h : Option Hand) → HoldsCycle q ds h None → HoldsCycle q' ds' h None
+still-none q q' ds ds' None none = tt
+still-none q q' ds ds' (Some hand) none = none
+
+pub sessions-shown : (c : Committer) (device : Device) → ∥ ShowsSome c device ∥₁ → ∥ SessionsShowSome c.sessions device ∥₁
+sessions-shown c device some = ∥∥₁_map some (λ shown. (shown.0, shown.1.shown, shown.2))
+
+module _ (old : Committer) (new : Sessions) (before now : Device) (n : ℕ) (r : SessionReply) (rests : old.cycle ≡ None) (some : ∥ ShowsSome old before ∥₁) (is : unstamped_session old.sessions.drawn.commits ≡ Some n)
+    (steps : Steps old.sessions new before now (Stamp n) r) where
+  abbrev after : Committer
+  after = record { sessions = new; cycle = old.cycle }
+
+  next : IsNext old.sessions n
+  next = next-of old.sessions n is
+
+  may : (q : State) → Shows old before q → q.failed ≡ false → refusal q (step.Stamp n) ≡ None
+  may q shown works = unrefused old.sessions before q n shown.shown works next
+
+  pub stamp-done : ((fault : Fault) → r ≢ Refused fault) → IsDonePart old after before now
+  stamp-done un = record {
+    no_failure = ∥∥₁_elim some (ℕ_set _ _) (λ shown.
+        let told = (steps shown.0 shown.1.shown shown.2).1.failure in
+        elim (cases_lt before.failures now.failures) [
+          | inl more ↦ absurd (un DeviceFault (told.shown more))
+          | inr least ↦ omega (arith, least, told.no_fewer)
+        ]);
+    goes_on = λ q shown works.
+        let to = steps q shown.shown works in
+        let same : to.0 ≡ next_state q (step.Stamp n) = stamps q to.0 n r (may q shown works) to.1.stepped un in (
+          to.0,
+          record {
+            shows = record {
+              shown = to.1.shows;
+              cycle_is =
+                  let before_it : HoldsCycle q old.sessions.drawn.commits q.hand None = subst (HoldsCycle q old.sessions.drawn.commits q.hand) rests shown.cycle_is in
+                  let hand : to.0.hand ≡ q.hand = ap (λ (p : State). p.hand) same in
+                  subst (HoldsCycle to.0 new.drawn.commits to.0.hand) (sym rests)
+                  (subst (λ (h : Option Hand). HoldsCycle to.0 new.drawn.commits h None) (sym hand) (still-none q to.0 old.sessions.drawn.commits new.drawn.commits q.hand before_it));
+            };
+            works = ap (λ (p : State). p.failed) same ∙ works;
+            closes = subst (λ (p : State). ClosesAs q p) (sym same) (closes-on.stamp q n);
+            images = leaves_weaken (λ image s. closes-on.stamping q n image (subst (λ (p : State). StandsWithin q p image) same s)) to.1.images;
+          },
+        );
+  }
+
+  pub stamp-failed : (fault : Fault) → r ≡ Refused fault → IsFailedPart old before now fault
+  stamp-failed fault told = record {
+    fault_is = is_device;
+    failure = ∥∥₁_elim some le_prop (λ shown. (steps shown.0 shown.1.shown shown.2).1.failure.cause (told ∙ ap (λ (f : Fault). Refused f) is_device));
+    images = λ q shown works.
+        let to = steps q shown.shown works in
+        let same = (fails q to.0 n r (may q shown works) to.1.stepped fault told).1 in
+        leaves_weaken (λ image s. closes-on.failing q image (subst (λ (p : State). StandsWithin q p image) same s)) to.1.images;
+  }
+    where
+      is_device : fault ≡ DeviceFault
+      is_device = device-fault fault some (λ shown.
+          let to = steps shown.0 shown.1.shown shown.2 in
+          (fails shown.0 to.0 n r (may shown.0 shown.1 shown.2) to.1.stepped fault told).0)
+
+  pub stamp-fewer : ((fault : Fault) → r ≢ Refused fault) → left_in (map plain_drawn new.drawn.commits) < left_in (map plain_drawn old.sessions.drawn.commits)
+  stamp-fewer un = ∥∥₁_elim some le_prop (λ shown.
+      let q = shown.0 in
+      let to = steps q shown.1.shown shown.2 in
+      let same : to.0 ≡ next_state q (step.Stamp n) = stamps q to.0 n r (may q shown.1 shown.2) to.1.stepped un in
+      let drawn : (next_state q (step.Stamp n)).drawn ≡ map plain_drawn new.drawn.commits = ap (λ (p : State). p.drawn) (sym same ∙ to.1.shows.plain) in
+      let first = fewer old.sessions before q n shown.1.shown shown.2 next in
+      subst (λ (ds : List PlainDrawn). left_in (map plain_drawn new.drawn.commits) < left_in ds) (ap (λ (p : State). p.drawn) shown.1.shown.plain) (subst (λ (ds : List PlainDrawn). left_in ds < left_in q.drawn) drawn first))
+
+-- ---- none is left
+
+pub none-left : (ds : List DrawnCommit) → unstamped_session ds ≡ None → list_all is_stamped_whole ds ≡ true
+none-left [] none = refl
+none-left (d ∷ ds) none = by (is_stamped_whole d) none (none-left ds)
   where
-    zero_or_stamp : (x : ℕ) → Survives old (word_of a slot 0) x ⊎ (x ≡ t) → (x ≡ 0) ⊎ (x ≡ t)
-    zero_or_stamp x (inl there) = inl ((each-settled begin).each x there)
-    zero_or_stamp x (inr is) = inr is
-
--- in the end of a version
-pub stamping_ended : (a : Layout) (slot t : ℕ) (old new : Device) → Stamps (word_of a slot 1) t 1 0 old new → IsEndedWith a old new slot t
-stamping_ended a slot t old new run = record {
-  end = stamped-value a slot 1 t 0 old new run;
-  survives = record { each = λ x there. stamping_survivor a slot 1 t 1 0 old new (omega arith) (omega arith) run x there };
-  others = λ w lt apart. stamping_word a slot 1 t 1 0 old new (omega arith) (omega arith) run w apart;
-}
-
--- ---- the slots
-
-pub begun-stamps : (a : Layout) (o : Option ℕ) (t : ℕ) (old new : Device) → ((slot : ℕ) → o ≡ Some slot → IsSettledAt old (word_of a slot 0) 0) → StampsAt a 0 o t old new → HasStamps a old new o None t
-begun-stamps a None t old new begin same = subst (λ (d : Device). HasStamps a old d None None t) (sym same) (stamps-none t (shrinks_refl a old))
-begun-stamps a (Some slot) t old new begin run =
-    stamps-begun slot t (stamping_others a slot 0 t 1 0 old new (omega arith) (omega arith) run) (stamping_stamped a slot t old new run (begin slot refl))
-
-pub ended-stamps : (a : Layout) (begun o : Option ℕ) (t : ℕ) (old mid new : Device) → ((slot : ℕ) → o ≡ Some slot → (slot < a.slots) × (begun ≡ Some slot → ⊥)) → HasStamps a old mid begun None t → StampsAt a 1 o t mid new
-    → HasStamps a old new begun o t
-ended-stamps a begun None t old mid new apart has same = subst (λ (d : Device). HasStamps a old d begun None t) (sym same) has
-ended-stamps a begun (Some slot) t old mid new apart has run =
-    stamps-ended slot t (apart slot refl).0 (apart slot refl).1 has (stamping_others a slot 1 t 1 0 mid new (omega arith) (omega arith) run) (stamping_ended a slot t mid new run)
-
--- a store that fails stores nothing
-pub failing-shrinks : (a : Layout) (first t : ℕ) (old new : Device) → Stamps first t 0 1 old new → ShrinksSlots a old new
-failing-shrinks a first t old new run = record { each = λ slot lt. record { each = λ w in_slot. shrinks-same (word_of a slot w) (run.others (word_of a slot w) (beside_none (word_of a slot w) (cases_lt (word_of a slot w) first))) } }
-  where
-    beside_none : (word : ℕ) → (word < first) ⊎ (first ≤ word) → (word < first) ⊎ (first + 0 ≤ word)
-    beside_none word (inl before) = inl before
-    beside_none word (inr after) = inr (omega (arith, after))
-
-pub fails-shrinks : (a : Layout) (v t : ℕ) (o : Option ℕ) (old new : Device) → FailsAt a v o t old new → ShrinksSlots a old new
-fails-shrinks a v t None old new fails = absurd fails
-fails-shrinks a v t (Some slot) old new fails = failing-shrinks a (slot_start a slot + v) t old new fails
-
--- whatever of it was stored
-pub fails-stamps : (a : Layout) (write : Write) (t : ℕ) (old new : Device) → ((slot : ℕ) → write.slot ≡ Some slot → IsSettledAt old (word_of a slot 0) 0) → FailsStampingWrite a write t old new
-    → HasStamps a old new None None t ⊎ HasStamps a old new write.slot None t
-fails-stamps a write t old new begin (inl first) = inl (stamps-none t (fails-shrinks a 0 t write.slot old new first))
-fails-stamps a write t old new begin (inr later) =
-    inr (stamps-shrink (begun-stamps a write.slot t old later.0 begin later.1) (fails-shrinks a 1 t write.replaces later.0 new later.2))
-
--- ---- the log area
-
-pub at-record : (a : Layout) (v t : ℕ) (o : Option ℕ) (old new : Device) → v < 2 → StampsAt a v o t old new → (r : Record) → HoldsRecord a r old → HoldsRecord a r new
-at-record a v t None old new of_two same r holds = subst (λ (d : Device). HoldsRecord a r d) (sym same) holds
-at-record a v t (Some slot) old new of_two run r holds = stamping_record a slot v t 1 0 old new of_two (omega arith) run r holds
-
-pub fails-record : (a : Layout) (v t : ℕ) (o : Option ℕ) (old new : Device) → v < 2 → FailsAt a v o t old new → (r : Record) → HoldsRecord a r old → HoldsRecord a r new
-fails-record a v t None old new of_two fails r holds = absurd fails
-fails-record a v t (Some slot) old new of_two run r holds = stamping_record a slot v t 0 1 old new of_two (omega arith) run r holds
-
-pub write-record : (a : Layout) (write : Write) (t : ℕ) (old new : Device) → StampsWrite a write t old new → (r : Record) → HoldsRecord a r old → HoldsRecord a r new
-write-record a write t old new stamps r holds =
-    at-record a 1 t write.replaces stamps.0 new (omega arith) stamps.2 r (at-record a 0 t write.slot old stamps.0 (omega arith) stamps.1 r holds)
-
-pub failing-record : (a : Layout) (write : Write) (t : ℕ) (old new : Device) → FailsStampingWrite a write t old new → (r : Record) → HoldsRecord a r old → HoldsRecord a r new
-failing-record a write t old new (inl first) r holds = fails-record a 0 t write.slot old new (omega arith) first r holds
-failing-record a write t old new (inr later) r holds =
-    fails-record a 1 t write.replaces later.0 new (omega arith) later.2 r (at-record a 0 t write.slot old later.0 (omega arith) later.1 r holds)
-
--- ---- what may be left meanwhile
-
--- what may be left before may be left after
-run-left : (first : ℕ) (value : ℕ → ℕ) (n failed : ℕ) (old new : Device) → StoresRun first value n failed old new → (image : Image) → MayLeave old image → MayLeave new image
-run-left first value n failed old new run image may = record {
-  size = may.size ∙ sym run.keeps.images.continues.same_words;
-  each = λ word lt. survives_still first value n failed old new run word (get_or image word 0) (may.each word (omega (arith, lt, run.keeps.images.continues.same_words)));
-}
-
--- the first store, and then the second, or its failure
-then-leaves : (a : Layout) (o : Option ℕ) (t word n failed : ℕ) (old mid new : Device) → StampsAt a 0 o t old mid → Stamps word t n failed mid new → (P : Image → Type 0) → ((image : Image) → MayLeave new image → P image) → LeavesOnly old new P
-then-leaves a None t word n failed old mid new same run P here = subst (λ (d : Device). LeavesOnly d new P) same (run_leaves word (λ k. t) n failed mid new run P here)
-then-leaves a (Some slot) t word n failed old mid new first run P here =
-    leaves_trans
-    (run_leaves (slot_start a slot + 0) (λ k. t) 1 0 old mid first P (λ image may. here image (run-left word (λ k. t) n failed mid new run image may)))
-    (run_leaves word (λ k. t) n failed mid new run P here)
-
-one-leaves : (a : Layout) (v t : ℕ) (o : Option ℕ) (old new : Device) → IsOrderly old → StampsAt a v o t old new → (P : Image → Type 0) → ((image : Image) → MayLeave new image → P image) → LeavesOnly old new P
-one-leaves a v t None old new orderly same P here =
-    subst (λ (d : Device). LeavesOnly old d P) (sym same) (leaves_refl old P orderly (λ image may. here image (subst (λ (d : Device). MayLeave d image) (sym same) may)))
-one-leaves a v t (Some slot) old new orderly run P here = run_leaves (slot_start a slot + v) (λ k. t) 1 0 old new run P here
-
-both-leave : (a : Layout) (o p : Option ℕ) (t : ℕ) (old mid new : Device) → IsOrderly old → StampsAt a 0 o t old mid → StampsAt a 1 p t mid new → (P : Image → Type 0) → ((image : Image) → MayLeave new image → P image) → LeavesOnly old new P
-both-leave a o None t old mid new orderly first same P here =
-    subst (λ (d : Device). LeavesOnly old d P) (sym same) (one-leaves a 0 t o old mid orderly first P (λ image may. here image (subst (λ (d : Device). MayLeave d image) (sym same) may)))
-both-leave a o (Some slot) t old mid new orderly first run P here = then-leaves a o t (slot_start a slot + 1) 1 0 old mid new first run P here
-
-pub write-leaves : (a : Layout) (write : Write) (t : ℕ) (old new : Device) → IsOrderly old → StampsWrite a write t old new → (P : Image → Type 0) → ((image : Image) → MayLeave new image → P image) → LeavesOnly old new P
-write-leaves a write t old new orderly stamps P here = both-leave a write.slot write.replaces t old stamps.0 new orderly stamps.1 stamps.2 P here
-
-failed-leaves : (a : Layout) (o p : Option ℕ) (t : ℕ) (old mid new : Device) → StampsAt a 0 o t old mid → FailsAt a 1 p t mid new → (P : Image → Type 0) → ((image : Image) → MayLeave new image → P image) → LeavesOnly old new P
-failed-leaves a o None t old mid new first fails P here = absurd fails
-failed-leaves a o (Some slot) t old mid new first fails P here = then-leaves a o t (slot_start a slot + 1) 0 1 old mid new first fails P here
-
-first-leaves : (a : Layout) (o : Option ℕ) (t : ℕ) (old new : Device) → FailsAt a 0 o t old new → (P : Image → Type 0) → ((image : Image) → MayLeave new image → P image) → LeavesOnly old new P
-first-leaves a None t old new fails P here = absurd fails
-first-leaves a (Some slot) t old new fails P here = run_leaves (slot_start a slot + 0) (λ k. t) 0 1 old new fails P here
-
-pub failing-leaves : (a : Layout) (write : Write) (t : ℕ) (old new : Device) → FailsStampingWrite a write t old new → (P : Image → Type 0) → ((image : Image) → MayLeave new image → P image) → LeavesOnly old new P
-failing-leaves a write t old new (inl first) P here = first-leaves a write.slot t old new first P here
-failing-leaves a write t old new (inr later) P here = failed-leaves a write.slot write.replaces t old later.0 new later.1 later.2 P here
-
--- ---- how many operations were made
-
--- at most so many were made, and so many failed
-pub record MakesAtMost (most failed : ℕ) (old new : Device) : Type 0 where
-  pub few : operations_of new ≤ operations_of old + most
-  pub failures : new.failures ≡ old.failures + failed
-
-run-makes : (first : ℕ) (value : ℕ → ℕ) (n failed : ℕ) (old new : Device) → StoresRun first value n failed old new → MakesAtMost n failed old new
-run-makes first value n failed old new run = record { few = omega (arith, run.made.stores_made, run.made.flushes_made, run.made.fences_made); failures = run.made.failures_made }
-
-at-makes : (a : Layout) (v t : ℕ) (o : Option ℕ) (old new : Device) → StampsAt a v o t old new → MakesAtMost 1 0 old new
-at-makes a v t None old new same = subst (λ (d : Device). MakesAtMost 1 0 old d) (sym same) (record { few = omega arith; failures = omega arith })
-at-makes a v t (Some slot) old new run = run-makes (slot_start a slot + v) (λ k. t) 1 0 old new run
-
-fails-makes : (a : Layout) (v t : ℕ) (o : Option ℕ) (old new : Device) → FailsAt a v o t old new → MakesAtMost 0 1 old new
-fails-makes a v t None old new fails = absurd fails
-fails-makes a v t (Some slot) old new run = run-makes (slot_start a slot + v) (λ k. t) 0 1 old new run
-
-pub write-makes : (a : Layout) (write : Write) (t : ℕ) (old new : Device) → StampsWrite a write t old new → MakesAtMost 2 0 old new
-write-makes a write t old new stamps =
-    let first = at-makes a 0 t write.slot old stamps.0 stamps.1 in
-    let second = at-makes a 1 t write.replaces stamps.0 new stamps.2 in
-    record { few = omega (arith, first.few, second.few); failures = omega (arith, first.failures, second.failures) }
-
-pub failing-makes : (a : Layout) (write : Write) (t : ℕ) (old new : Device) → FailsStampingWrite a write t old new → MakesAtMost 2 1 old new
-failing-makes a write t old new (inl first) =
-    let made = fails-makes a 0 t write.slot old new first in
-    record { few = omega (arith, made.few); failures = made.failures }
-failing-makes a write t old new (inr later) =
-    let first = at-makes a 0 t write.slot old later.0 later.1 in
-    let second = fails-makes a 1 t write.replaces later.0 new later.2 in
-    record { few = omega (arith, first.few, second.few); failures = omega (arith, first.failures, second.failures) }
+    by : (b : Bool) → option_map (λ (d : DrawnCommit). d.session) (cond (not b) (Some d) (find (λ d. not (is_stamped_whole d)) ds)) ≡ None → (unstamped_session ds ≡ None → list_all is_stamped_whole ds ≡ true)
+        → (b && list_all is_stamped_whole ds) ≡ true
+    by true none rest = rest none
+    by false none rest = absurd (cc none)

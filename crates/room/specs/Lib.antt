@@ -1,7 +1,6 @@
-pub mod Sessions
-pub mod Fits
-pub mod Tables
-pub mod Agrees
-pub mod Room
-pub mod Storing
+pub mod Committing
+pub mod Steps
+pub mod Ticks
 pub mod Closing
+pub mod Room
+pub mod Opening

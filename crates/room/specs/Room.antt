@@ -1,58 +1,34 @@
 -- Which plain states a room shows.
-use Rattle.std.specs.Prelude.{◌≡◌, ℕ, ◌+◌, ◌<◌, ◌≤◌, true, List, Option, Some, None, Contains}
+use Rattle.std.specs.Prelude.{◌≡◌, ◌+◌, ◌≤◌, List, Contains}
 use Rattle.base.specs.declared.fault.Fault.TheVariants.{Device as DeviceFault}
 use Rattle.base.specs.declared.step.Step.{Step}
 use Rattle.base.specs.declared.step.Reply.{Reply}
-use Rattle.base.specs.declared.step.Reply.TheVariants.{Refused, Idle, Covered as CoveredReply}
-use Rattle.base.specs.Records.{Record}
+use Rattle.base.specs.declared.step.Reply.TheVariants.{Refused}
 use Rattle.base.specs.Images.{Image}
 use Rattle.base.specs.Machine.{State, Stepped, most_operations, most_operations_along, Run, final, StandsAt, StandsWithin, StandsAlong}
 use Rattle.pmem.specs.Device.{Device, MayLeave}
 use Rattle.pmem.specs.Words.{LeavesOnly, operations_of}
 use Rattle.pmem.specs.declared.device.Pmem.{Ghosts}
-use Rattle.room.specs.Agrees.{Agrees}
-use Rattle.room.specs.declared.cycle.InHand.{InHand}
+use Rattle.session_steps.specs.Steps.{TellsFailure, RunsBy}
+use Rattle.room.specs.Committing.{Shows as CommitterShows}
+use Rattle.room.specs.Steps.{actor_of}
 use Rattle.room.specs.declared.room.Room.{Room}
-use Rattle.room.specs.declared.session.Session.TheVariants.{Covered}
 use Rattle.room.specs.declared.status.Status.{Status}
 
 -- the room's device
 abbrev pub device_of : {D : Type 0} → {G : Ghosts D} → (D → Device) → Room D G → Device
 device_of state room = state room.device
 
+-- the committer shows the state on the room's device, and the mark says whether the device failed
+pub record Agrees {D : Type 0} {G : Ghosts D} (state : D → Device) (room : Room D G) (q : State) : Type 0 where
+  pub shown : CommitterShows room.committer (device_of state room) q
+  pub failed : q.failed ≡ room.failed
+
 -- The room shows the state: a crash now leaves only images that the state's record rules, or that
 -- of the batch in hand, and that stand for what it covers; and the fields agree with it
 pub record Shows {D : Type 0} {G : Ghosts D} (state : D → Device) (room : Room D G) (q : State) : Type 0 where
   pub stands : (image : Image) → MayLeave (device_of state room) image → StandsAt q image
   pub agrees : Agrees state room q
-
--- the device failed, and all but the mark is as it was
-pub record HasFailed {D : Type 0} {G : Ghosts D} (old new : Room D G) : Type 0 where
-  pub device : new.device ≡ old.device
-  pub numbers : new.numbers ≡ old.numbers
-  pub failed : new.failed ≡ true
-
--- the record rules, and the session's commit is covered
-pub record HasCovered {D : Type 0} {G : Ghosts D} (r : Record) (old new : Room D G) : Type 0 where
-  pub device : new.device ≡ old.device
-  pub geometry : new.numbers.geometry ≡ old.numbers.geometry
-  pub rules : new.numbers.record ≡ r
-  pub next : new.numbers.next ≡ old.numbers.next
-  pub session : new.session ≡ Some (Covered r.persisted)
-  pub cycle : new.cycle ≡ None
-  pub slots : new.slots ≡ old.slots
-  pub failed : new.failed ≡ old.failed
-
--- the reply once the batch in hand is covered
-abbrev pub covering : Option InHand → Reply
-covering (Some in_hand) = CoveredReply in_hand.batch
-covering None = Idle
-
--- a failing device is told exactly where an operation failed
-pub record TellsFailure (old new : Device) (told : Type 0) : Type 0 where
-  pub no_fewer : old.failures ≤ new.failures
-  pub cause : told → old.failures < new.failures
-  pub shown : old.failures < new.failures → told
 
 -- the step leads from q to q', which the room shows then
 pub record StepsTo {D : Type 0} {G : Ghosts D} (state : D → Device) (old new : Room D G) (step : Step) (reply : Reply) (q q' : State) : Type 0 where
@@ -61,6 +37,7 @@ pub record StepsTo {D : Type 0} {G : Ghosts D} (state : D → Device) (old new :
   pub images : LeavesOnly (device_of state old) (device_of state new) (StandsWithin q q')
   pub failure : TellsFailure (device_of state old) (device_of state new) (reply ≡ Refused DeviceFault)
   pub operations : operations_of (device_of state new) ≤ operations_of (device_of state old) + most_operations q step
+  pub actor : RunsBy (actor_of step) (device_of state old) (device_of state new)
 
 -- the steps lead from q through these states, of which the room shows the last
 pub record RunsTo {D : Type 0} {G : Ghosts D} (state : D → Device) (old new : Room D G) (steps : List Step) (replies : List Reply) (q : State) (states : List State) : Type 0 where

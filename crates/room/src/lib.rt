@@ -1,20 +1,20 @@
 //! The room: every step of the engine, one at a time.
 #![tactic(auto)]
 
-mod cycle;
-mod giving;
+mod closing;
+mod committer;
+mod ending;
+mod finishing;
 mod law;
-mod numbers;
+mod opening;
+mod persisting;
 mod room;
-mod session;
 mod stamping;
 mod status;
+mod step;
 mod tables;
+mod tick;
 
-use cycle::{Cycle, CycleStage, InHand};
 pub use law::steps_run;
-use numbers::Numbers;
 pub use room::Room;
-use session::Session;
 pub use status::Status;
-use tables::Found;

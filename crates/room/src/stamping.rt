@@ -1,69 +1,43 @@
-ghost use Rattle.std.specs.Prelude.{◌≡◌, IsTrue, IfErr, OnErr, OnOk};
-ghost use Rattle.base.specs.Layout.{total_words};
-ghost use Rattle.room.specs.Fits.{fits_slot, fits_write};
-ghost use Rattle.room.specs.Storing.{StampsAt, StampsWrite, FailsAt, FailsStampingWrite};
-
+use crate::committer::Committer;
 use base::fault::Fault;
-use base::geometry::Geometry;
-use base::{SlotNo, Ts};
+use base::step::{SessionReply, SessionStep};
 use pmem::Pmem;
-use txn::Write;
-use version_slot::{stamp_begin, stamp_end};
 
-/// Stores the timestamp in the begin of the version that is written, and then in the end of the one that it replaces.
-pub fn stamp_write<D: Pmem>(
-    device: &mut D,
-    geometry: Geometry,
-    write: Write,
-    timestamp: Ts,
-) -> Result<(), Fault>
-    requires slots { IsTrue (fits_write geometry.slots write) }
-    requires device { (D.state device.old).words ≡ total_words geometry }
-    ensures ok { OnOk result (StampsWrite geometry write timestamp (D.state device.old) (D.state device.new)) }
-    ensures err { OnErr result (FailsStampingWrite geometry write timestamp (D.state device.old) (D.state device.new)) }
-    ensures fault { IfErr result (λ fault. fault ≡ Fault.Device) }
-    ensures size { (D.state device.new).words ≡ (D.state device.old).words }
-{
-    begin_at(device, geometry, write.slot, timestamp)?;
-    end_at(device, geometry, write.replaces, timestamp)
-}
+impl Committer {
+    ghost use Rattle.std.specs.Prelude.{◌≡◌, None, IfErr, OnOk, IsTrue};
+    ghost use Rattle.std.specs.List.{list_all};
+    ghost use Rattle.txn.specs.DrawnCommits.{is_stamped};
+    ghost use Rattle.room.specs.Steps.{ShowsSome};
+    ghost use Rattle.room.specs.Closing.{IsDonePart, IsFailedPart, unstamped_session};
 
-// Stores the timestamp in the begin of the slot's version, if there is a slot.
-fn begin_at<D: Pmem>(
-    device: &mut D,
-    geometry: Geometry,
-    slot: Option<SlotNo>,
-    timestamp: Ts,
-) -> Result<(), Fault>
-    requires slot { IsTrue (fits_slot geometry.slots slot) }
-    requires device { (D.state device.old).words ≡ total_words geometry }
-    ensures ok { OnOk result (StampsAt geometry 0 slot timestamp (D.state device.old) (D.state device.new)) }
-    ensures err { OnErr result (FailsAt geometry 0 slot timestamp (D.state device.old) (D.state device.new)) }
-    ensures fault { IfErr result (λ fault. fault ≡ Fault.Device) }
-    ensures size { (D.state device.new).words ≡ (D.state device.old).words }
-{
-    match slot {
-        Some(slot) => stamp_begin(device, geometry, slot, timestamp),
-        None => Ok(()),
+    // Stamps what is drawn and isn't stamped.
+    pub(crate) fn stamp_rest<D: Pmem>(&mut self, device: &mut D) -> Result<(), Fault>
+        requires shown { ∥ ShowsSome self.old (D.state device.old) ∥₁ }
+        requires rests { self.old.cycle ≡ None }
+        ensures ok { OnOk result (IsDonePart self.old self.new (D.state device.old) (D.state device.new)) }
+        ensures rests { OnOk result (self.new.cycle ≡ None) }
+        ensures stamped { OnOk result (IsTrue (list_all is_stamped self.new.sessions.drawn.commits)) }
+        ensures err { IfErr result (IsFailedPart self.old (D.state device.old) (D.state device.new)) }
+    {
+        while let Some(session) = self.unstamped() {
+            let step = SessionStep::Stamp { session };
+            if let SessionReply::Refused(fault) = self.sessions.step(device, step) {
+                return Err(fault);
+            }
+        }
+        Ok(())
     }
-}
 
-// Stores the timestamp in the end of the slot's version, if there is a slot.
-fn end_at<D: Pmem>(
-    device: &mut D,
-    geometry: Geometry,
-    slot: Option<SlotNo>,
-    timestamp: Ts,
-) -> Result<(), Fault>
-    requires slot { IsTrue (fits_slot geometry.slots slot) }
-    requires device { (D.state device.old).words ≡ total_words geometry }
-    ensures ok { OnOk result (StampsAt geometry 1 slot timestamp (D.state device.old) (D.state device.new)) }
-    ensures err { OnErr result (FailsAt geometry 1 slot timestamp (D.state device.old) (D.state device.new)) }
-    ensures fault { IfErr result (λ fault. fault ≡ Fault.Device) }
-    ensures size { (D.state device.new).words ≡ (D.state device.old).words }
-{
-    match slot {
-        Some(slot) => stamp_end(device, geometry, slot, timestamp),
-        None => Ok(()),
+    // The session of the first drawn commit that isn't stamped whole.
+    fn unstamped(&self) -> Option<u8>
+        ensures { result ≡ unstamped_session self.now.sessions.drawn.commits }
+    {
+        let commit = self
+            .sessions
+            .drawn()
+            .as_slice()
+            .iter()
+            .find(|commit| !commit.is_stamped())?;
+        Some(commit.session)
     }
 }

@@ -1,5 +1,5 @@
 -- The ruling record as a snapshot.
-use Rattle.std.proofs.Common.{◌≡◌, inl, inr, ℕ, ◌<◌, ◌≤◌, Bool, true, false, not, ◌&&◌, List, [], ◌∷◌, length, take, drop, map, refl, sym, ◌∙◌, ap, arith, true≢false}
+use Rattle.std.proofs.Common.{◌≡◌, inl, inr, ℕ, ◌<◌, ◌≤◌, Bool, true, false, not, ◌&&◌, List, [], ◌∷◌, length, take, drop, map, refl, sym, ◌∙◌, ap, arith}
 use Rattle.std.specs.Prelude.{nat_eq, nat_lt, nat_le}
 use Rattle.std.specs.List.{list_any, list_all}
 use Rattle.std.specs.Cmp.{both_ways}
@@ -13,7 +13,7 @@ use Rattle.base.specs.Stands.{has_timestamp}
 use Rattle.base.specs.Machine.{State, Drawn, drawn_of}
 use Rattle.base.proofs.Spelling.{few_gaps}
 use Rattle.state_invariant.specs.Kept.{Origin, Keeps, KeepsOrigin, covered_since}
-use Rattle.state_invariant.specs.Shown.{counts_at}
+use Rattle.state_invariant.specs.Shown.{IsOutOfSwept, counts_at}
 use Rattle.state_invariant.proofs.Lists.{all-drop}
 use Rattle.state_invariant.proofs.Commits.{timestamp-all}
 use Rattle.snapshot.specs.Snapshots.{seen_by}
@@ -37,26 +37,27 @@ no-longs a r limits formed = empty r.longs (omega (arith, (few_gaps a.version r 
     empty [] le = refl
     empty (t ∷ ts) le = absurd (omega (arith, le))
 
-module _ (o : Origin) (q : State) (unswept : q.swept ≡ false) (kept : Keeps o q) where
+module _ (o : Origin) (q : State) (kept : Keeps o q) where
   origin : KeepsOrigin o q
   origin = kept.numbers.origin
 
-  same-gaps : q.ruling.gaps ≡ o.ruling.gaps
-  same-gaps = elim origin.gaps [
-    | inl same ↦ same
-    | inr swept ↦ absurd (true≢false (sym swept.0 ∙ unswept))
+  -- what lies in no gap of the record's and in no swept one, lies in none of the opening's
+  no-gap : (t : ℕ) → IsOutOfSwept o q t → not (is_in q.ruling.gaps t) ≡ true → not (is_in o.ruling.gaps t) ≡ true
+  no-gap t out is = elim origin.gaps [
+    | inl same ↦ ap (λ gs. not (is_in gs t)) (sym same) ∙ is
+    | inr swept ↦ ap not (out swept.0)
   ]
 
   -- what the ruling record commits of what the opening's persisted, that committed too
-  committed-before : (t : ℕ) → t ≤ o.ruling.persisted → is_committed q.ruling t ≡ true → is_committed o.ruling t ≡ true
-  committed-before t low is =
+  committed-before : (t : ℕ) → IsOutOfSwept o q t → t ≤ o.ruling.persisted → is_committed q.ruling t ≡ true → is_committed o.ruling t ≡ true
+  committed-before t out low is =
       let a = and_parts (nat_le 1 t && nat_le t q.ruling.persisted && not (is_in q.ruling.gaps t)) (not (list_any (nat_eq t) q.ruling.longs)) is in
       let b = and_parts (nat_le 1 t && nat_le t q.ruling.persisted) (not (is_in q.ruling.gaps t)) a.0 in
       let c = and_parts (nat_le 1 t) (nat_le t q.ruling.persisted) b.0 in
       and_from (nat_le 1 t && nat_le t o.ruling.persisted && not (is_in o.ruling.gaps t)) (not (list_any (nat_eq t) o.ruling.longs))
       (and_from (nat_le 1 t && nat_le t o.ruling.persisted) (not (is_in o.ruling.gaps t))
       (and_from (nat_le 1 t) (nat_le t o.ruling.persisted) c.0 (le-leb t o.ruling.persisted low))
-      (ap (λ gs. not (is_in gs t)) (sym same-gaps) ∙ b.1))
+      (no-gap t out b.1))
       (ap (λ ls. not (list_any (nat_eq t) ls)) (no-longs q.layout o.ruling kept.numbers.layout origin.formed))
 
   -- a drawn commit isn't committed
@@ -73,14 +74,14 @@ module _ (o : Origin) (q : State) (unswept : q.swept ≡ false) (kept : Keeps o 
             | inr later ↦ by ds both.1 later
           ]
 
-  counts-now : (t : ℕ) → t < q.next → is_committed q.ruling t ≡ true → counts_at o q (length q.history) t ≡ true
-  counts-now t before is = by (nat_le t o.ruling.persisted) refl
+  counts-now : (t : ℕ) → t < q.next → IsOutOfSwept o q t → is_committed q.ruling t ≡ true → counts_at o q (length q.history) t ≡ true
+  counts-now t before out is = by (nat_le t o.ruling.persisted) refl
     where
       here : has_timestamp (covered_since o q) t ≡ true → counts_at o q (length q.history) t ≡ true
       here has = or_right (is_committed o.ruling t) (has_timestamp (drop o.opened (take (length q.history) q.history)) t) (ap (λ cs. has_timestamp (drop o.opened cs) t) (take_all (length q.history) q.history (omega arith)) ∙ has)
 
       by : (b : Bool) → nat_le t o.ruling.persisted ≡ b → counts_at o q (length q.history) t ≡ true
-      by true low = or_left (is_committed o.ruling t) (has_timestamp (drop o.opened (take (length q.history) q.history)) t) (committed-before t (leb-true t o.ruling.persisted low) is)
+      by true low = or_left (is_committed o.ruling t) (has_timestamp (drop o.opened (take (length q.history) q.history)) t) (committed-before t out (leb-true t o.ruling.persisted low) is)
       by false high =
           elim (or_cases (has_timestamp (covered_since o q) t) (has_timestamp (drawn_of q) t) (sym (list_any-append (λ (c : Commit). nat_eq c.timestamp t) (covered_since o q) (drawn_of q)) ∙ origin.each t (leb-false t o.ruling.persisted high) before)) [
             | inl covered ↦ here covered
@@ -95,6 +96,6 @@ module _ (o : Origin) (q : State) (unswept : q.swept ≡ false) (kept : Keeps o 
 
   pub present-sees : Sees o q (seen_by q.ruling) (length q.history)
   present-sees = record {
-    covered = λ t before. both_ways (is_committed q.ruling t) (counts_at o q (length q.history) t) (counts-now t before) (counted-now t);
+    covered = λ t before out. both_ways (is_committed q.ruling t) (counts_at o q (length q.history) t) (counts-now t before out) (counted-now t);
     early = kept.numbers.persisted;
   }

@@ -14,9 +14,9 @@ use Rattle.device_invariant.specs.Upholds.{Upholds}
 use Rattle.snapshot.specs.Snapshots.{Seen, covers, seen_by}
 use Rattle.session_invariant.specs.Sees.{Sees, ReadsBy, last_on, is_unseen}
 
--- the ruling record is a snapshot of all that is covered, as long as no gap was swept
+-- the ruling record is a snapshot of all that is covered
 abbrev pub PresentSees : Type 0
-PresentSees = (o : Origin) (q : State) → q.swept ≡ false → Keeps o q → Sees o q (seen_by q.ruling) (length q.history)
+PresentSees = (o : Origin) (q : State) → Keeps o q → Sees o q (seen_by q.ruling) (length q.history)
 
 -- a snapshot of so many commits stays one over every step
 abbrev pub StepsKeepSight : Type 0

@@ -6,9 +6,10 @@ use Rattle.std.specs.Cmp.{both_ways}
 use Rattle.std.proofs.lemmas.Bool.{eq-eqb, eqb-true}
 use Rattle.base.specs.Commits.{Commit}
 use Rattle.base.specs.Machine.{State, Drawn as PlainDrawn, drawn_of}
+use Rattle.base.specs.Records.{are_rising}
 use Rattle.dirty_table.specs.declared.touches.Touch.{Touch}
-use Rattle.dirty_table.specs.Touches.{has, is_touched, lines_touched, are_in_order}
-use Rattle.dirty_table.proofs.Tables.{lines_touched-any, lines_touched-rising}
+use Rattle.dirty_table.specs.Touches.{has, is_touched, lines_touched}
+use Rattle.dirty_table.proofs.Tables.{lines_touched-any}
 use Rattle.cycle_invariant.specs.Batches.{line_numbers, is_line_of}
 use Rattle.txn.specs.declared.drawn.DrawnCommit.{DrawnCommit}
 use Rattle.session_steps.specs.Shows.{plain_drawn, HoldsLines}
@@ -83,7 +84,7 @@ module _ (q : State) (drawn : List DrawnCommit) (dirty : List Touch) (sessions :
   abbrev commits : List Commit
   commits = map (λ (d : DrawnCommit). (plain_drawn d).commit) (take count drawn)
 
-  member : (l : ℕ) → list_any (λ x. nat_eq x l) (lines_touched (has sessions) dirty) ≡ list_any (λ x. nat_eq x l) (line_numbers q commits)
+  pub member : (l : ℕ) → list_any (λ x. nat_eq x l) (lines_touched (has sessions) dirty) ≡ list_any (λ x. nat_eq x l) (line_numbers q commits)
   member l =
       lines_touched-any (λ x. nat_eq x l) (has sessions) dirty
       ∙ any-same (λ (t : Touch). has sessions t.session && nat_eq t.line l) (λ (t : Touch). list_any (λ (d : DrawnCommit). nat_eq t.session d.session) (take count drawn) && nat_eq t.line l) dirty
@@ -94,7 +95,7 @@ module _ (q : State) (drawn : List DrawnCommit) (dirty : List Touch) (sessions :
       ∙ sym (any-map (λ (c : Commit). is_line_of l (line_numbers q (c ∷ []))) (λ (d : DrawnCommit). (plain_drawn d).commit) (take count drawn))
       ∙ sym (lines-are_in_order.each q commits l)
 
-  pub table-lines : are_in_order dirty ≡ true → lines_touched (has sessions) dirty ≡ line_numbers q (take count (drawn_of q))
-  table-lines ordered =
-      lines-are_in_order.one (lines_touched (has sessions) dirty) (line_numbers q commits) (lines_touched-rising (has sessions) dirty ordered) (lines-are_in_order.rising q commits) member
+  pub table-lines : are_rising (lines_touched (has sessions) dirty) ≡ true → lines_touched (has sessions) dirty ≡ line_numbers q (take count (drawn_of q))
+  table-lines rising =
+      lines-are_in_order.one (lines_touched (has sessions) dirty) (line_numbers q commits) rising (lines-are_in_order.rising q commits) member
       ∙ ap (line_numbers q) (sym (first-commits count drawn q is))

@@ -152,7 +152,7 @@ module _ (s : Sessions) (count : ℕ) (ruling : Record) (h : Hidden) (hand : Han
 
       sees : Sees o q snapshot (h.seen n) → Sees o q' snapshot (h.seen n)
       sees sight = record {
-        covered = λ t lt. sight.covered t lt ∙ ap (λ (cs : List Commit). is_committed o.ruling t || has_timestamp (drop o.opened cs) t) (sym (take-append-le (h.seen n) h.history hand.commits within));
+        covered = λ t lt out. sight.covered t lt out ∙ ap (λ (cs : List Commit). is_committed o.ruling t || has_timestamp (drop o.opened cs) t) (sym (take-append-le (h.seen n) h.history hand.commits within));
         early = sight.early;
       }
 

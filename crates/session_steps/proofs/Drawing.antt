@@ -26,7 +26,7 @@ use Rattle.dirty_table.specs.Touches.{is_touched, Touches}
 use Rattle.index.specs.declared.entry.Entry.{Entry}
 use Rattle.index.specs.Entries.{entry_at, has_room, live_of}
 use Rattle.state_invariant.specs.Kept.{version_by, commits_of_life, covered_since}
-use Rattle.state_invariant.specs.Shown.{counts_at}
+use Rattle.state_invariant.specs.Shown.{IsOutOfSwept, counts_at}
 use Rattle.state_invariant.proofs.Commits.{timestamp-all, committed-bounds, uncommitted-above}
 use Rattle.state_invariant.proofs.Drawing.{held-drawn, held-stays, held-turns}
 use Rattle.state_invariant.proofs.Lists.{all-drop, all-take}
@@ -147,7 +147,7 @@ module _ (s : Sessions) (h : Hidden) (n : ℕ) (snapshot : Seen) (writes : List 
     -- ---- sessions
 
     sees-more : (seen : ℕ) (snap : Seen) → Sees h.origin old snap seen → Sees h.origin then snap seen
-    sees-more seen snap sees = record { covered = λ u lt. by u lt (nat_lt u t) refl; early = omega (arith, sees.early) }
+    sees-more seen snap sees = record { covered = λ u lt unswept. by u lt unswept (nat_lt u t) refl; early = omega (arith, sees.early) }
       where
         earlier : List Commit
         earlier = drop h.origin.opened (take seen h.history)
@@ -159,9 +159,9 @@ module _ (s : Sessions) (h : Hidden) (n : ℕ) (snapshot : Seen) (writes : List 
             (all-drop (λ c. is_committed s.numbers.record c.timestamp) h.origin.opened (take seen h.history) (all-take (λ c. is_committed s.numbers.record c.timestamp) seen h.history holds.keeps.numbers.covered)) has in
             absurd (omega (arith, le, (committed-bounds s.numbers.record u counts).1, holds.keeps.numbers.persisted))
 
-        by : (u : ℕ) → u < t + 1 → (b : Bool) → nat_lt u t ≡ b → covers snap u ≡ counts_at h.origin old seen u
-        by u lt true below = sees.covered u (grind (arith, nat_tests))
-        by u lt false above =
+        by : (u : ℕ) → u < t + 1 → IsOutOfSwept h.origin then u → (b : Bool) → nat_lt u t ≡ b → covers snap u ≡ counts_at h.origin old seen u
+        by u lt unswept true below = sees.covered u (grind (arith, nat_tests)) unswept
+        by u lt unswept false above =
             let le : t ≤ u = grind (arith, nat_tests) in
             uncovered-above snap u (omega (arith, le, sees.early))
             ∙ sym (λ i. uncommitted-above h.origin.ruling u (omega (arith, le, holds.keeps.numbers.persisted, holds.keeps.numbers.origin.further)) i || out u le (has_timestamp (drop h.origin.opened (take seen h.history)) u) refl i)

@@ -119,7 +119,7 @@ aborts s ts slots n snapshot writes h at gives sets holds = record {
 
 -- the deletion of a key
 abbrev pub deletion : Key → Write
-deletion key = record { key = key; row = None; slot = None; replaces = None }
+deletion key = record { key = key; row = None; slot = None }
 
 -- the writes are full as the machine says
 pub full-plain : (key : Key) (writes : List Write) → (is_none (lookup_key (plain_writes writes) key) && nat_le most_writes (length (plain_writes writes))) ≡ is_full_of key writes

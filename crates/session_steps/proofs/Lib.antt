@@ -24,5 +24,7 @@ pub mod Stepping
 pub mod Stamped
 pub mod Puts
 pub mod Reading
+pub mod Scanning
 pub mod Hands
 pub mod BatchLines
+pub mod CoveredRows

@@ -12,7 +12,7 @@ use Rattle.session_steps.specs.Shows.{Hidden}
 use Rattle.session_steps.specs.Steps.{Holds}
 
 -- the gaps of a well-formed record are a list of gaps
-formed-gaps : (version : ℕ) (r : Record) → is_well_formed version r ≡ true → is_gap_list r.gaps ≡ true
+pub formed-gaps : (version : ℕ) (r : Record) → is_well_formed version r ≡ true → is_gap_list r.gaps ≡ true
 formed-gaps version r e =
     let p = nat_lt r.persisted r.dirty && nat_lt r.dirty (2 ^ 62) in
     let each = list_all (λ gap. nat_le 1 gap.first && nat_le gap.first gap.last && nat_le gap.last r.persisted) r.gaps in

@@ -4,7 +4,7 @@ use Rattle.std.specs.Prelude.{Option, Some, None, is_none, find}
 use Rattle.std.specs.Option.{option_map}
 use Rattle.std.specs.List.{range_with_len}
 use Rattle.std.proofs.lemmas.Bool.Decides.{nat_tests}
-use Rattle.base.specs.Machine.{replaced, free_session}
+use Rattle.base.specs.Machine.{replaced, most_sessions, free_session}
 use Rattle.txn.specs.declared.transaction.Transaction.{Transaction}
 use Rattle.txn.specs.Transactions.{transaction_at, Sets, IsLowestFree, IsFull}
 use Rattle.session_steps.specs.declared.sessions.Sessions.{Sessions}
@@ -73,11 +73,13 @@ none-where seen None = refl
 none-where seen (Some t) = refl
 
 pub free-at : (s : Sessions) (h : Hidden) (n : ℕ) → IsLowestFree s.transactions n → free_session (plain_of s h) ≡ Some n
+unfolding most_sessions
 free-at s h n lowest =
     find-at (λ n. is_none (option_map (plain_session (h.seen n)) (transaction_at s.transactions n))) 2 62 n lowest.first lowest.last
     (none-where (h.seen n) (transaction_at s.transactions n) ∙ ap (λ (t : Option Transaction). is_none t) lowest.free)
     (λ k lo hi. none-where (h.seen k) (transaction_at s.transactions k) ∙ lowest.before k lo hi)
 
 pub free-none : (s : Sessions) (h : Hidden) → IsFull s.transactions → free_session (plain_of s h) ≡ None
+unfolding most_sessions
 free-none s h full =
     find-none (λ n. is_none (option_map (plain_session (h.seen n)) (transaction_at s.transactions n))) 2 62 (λ k lo hi. none-where (h.seen k) (transaction_at s.transactions k) ∙ full.each k lo hi)

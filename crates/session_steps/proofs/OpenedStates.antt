@@ -149,7 +149,7 @@ module _ (s : Sessions) (device : Device) (free : List Bool) (q : State) (same :
   no-session-open n = begins.none_open n ∙ sym (ap (λ (t : Option Transaction). option_map (plain_session 0) t) (none_open n))
 
   plain : q ≡ plain_of s hidden
-  plain = λ i. record q { layout = begins.layout_is i; limits = begins.limits_are i; ruling = begins.ruling_is i; drawn = no-drawn i; sessions = λ n. no-session-open n i; next = begins.next_is i }
+  plain = λ i. record q { layout = begins.layout_is i; ruling = begins.ruling_is i; drawn = no-drawn i; sessions = λ n. no-session-open n i; next = begins.next_is i }
 
   no-lines : HoldsLines q s.drawn.commits s.dirty
   no-lines =

@@ -116,7 +116,7 @@ link-fits s h key holds = by (entry_at s.index key).drawn refl (entry_at s.index
 
 -- the write of a row
 abbrev pub row-at : Key → List ℕ → ℕ → Write
-row-at key row slot = record { key = key; row = Some row; slot = Some slot; replaces = None }
+row-at key row slot = record { key = key; row = Some row; slot = Some slot }
 
 -- ---- whose operations they are
 
@@ -136,7 +136,7 @@ module _ (s : Sessions) (h : Hidden) (n : ℕ) (snapshot : Seen) (writes : List 
   q = plain_of s h
 
   abbrev new : Write
-  new = record { key = v.key; row = Some v.row; slot = Some slot; replaces = None }
+  new = record { key = v.key; row = Some v.row; slot = Some slot }
 
   held : Holds s h
   held = held-on s h before holds

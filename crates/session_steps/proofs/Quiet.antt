@@ -131,7 +131,7 @@ begins s ts n snapshot h lowest is sets holds = record {
 
     sees : Sees h.origin (plain_of (record s { transactions = ts }) (record h { seen = seen })) snapshot (length h.history)
     sees =
-        let present = present-sees h.origin (plain_of s h) holds.agrees.unswept holds.keeps in
+        let present = present-sees h.origin (plain_of s h) holds.keeps in
         let none : s.numbers.record.longs ≡ [] = no-longs s.numbers.geometry s.numbers.record holds.keeps.numbers.layout holds.keeps.numbers.formed in
         let all : Sees h.origin (plain_of s h) snapshot (length h.history) = subst (λ (x : Seen). Sees h.origin (plain_of s h) x (length h.history)) ((λ i. record { persisted = s.numbers.record.persisted; gaps = s.numbers.record.gaps; longs = none i }) ∙ sym is) present in
         record { covered = all.covered; early = all.early }

@@ -5,7 +5,7 @@ use Rattle.std.specs.Option.{option_or, option_map, option_map_or}
 use Rattle.base.specs.declared.fault.Fault.{Fault}
 use Rattle.base.specs.declared.fault.Fault.TheVariants.{Failed, SessionsFull, NoSession, WrongState, TooLong, WriteSetFull, SlotsOut, Conflict, WindowFull, TimestampsOut}
 use Rattle.base.specs.declared.step.Step.{Step}
-use Rattle.base.specs.declared.step.Step.TheVariants.{Begin, Get, Put, Delete, Draw, Abort}
+use Rattle.base.specs.declared.step.Step.TheVariants.{Begin, Get, Scan, Put, Delete, Draw, Abort}
 use Rattle.base.specs.Search.{first_of as first_there, some_if}
 use Rattle.base.specs.Machine.{State, Session, IsDrawn, IsStamped, IsCovered, refusal, begins, free_session, session_of, is_absent, is_misplaced, is_misplaced_in, is_too_long, overfills, lacks_slot, conflicts, draws, chooses, allows, standing_of}
 
@@ -79,6 +79,7 @@ refusal-begin q full works is = begin-order q.failed (is_none (free_session q)) 
 -- only an Active session allows it
 abbrev pub is_of_active : Step → Bool
 is_of_active (Get n key) = true
+is_of_active (Scan n table lo hi) = true
 is_of_active (Put n key row) = true
 is_of_active (Delete n key) = true
 is_of_active (Draw n) = true
@@ -93,6 +94,7 @@ pub record Bars (step : Step) : Type 0 where
 
 pub others-bar : (step : Step) → is_of_active step ≡ true → Bars step
 others-bar (Get n key) of = record { drawn = refl; stamped = refl; covered = refl }
+others-bar (Scan n table lo hi) of = record { drawn = refl; stamped = refl; covered = refl }
 others-bar (Put n key row) of = record { drawn = refl; stamped = refl; covered = refl }
 others-bar (Delete n key) of = record { drawn = refl; stamped = refl; covered = refl }
 others-bar (Draw n) of = record { drawn = refl; stamped = refl; covered = refl }

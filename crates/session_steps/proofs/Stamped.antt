@@ -128,7 +128,7 @@ module _ (s : Sessions) (h : Hidden) (t spare : ℕ) where
 -- ---- one commit has a timestamp
 
 -- a test of all that have the timestamp is that of the one that has it
-one-at : (o : Origin) (q : State) (t : ℕ) (d : PlainDrawn) (r : PlainDrawn → Bool) → Keeps o q → drawn_at q t ≡ Some d → list_any (λ e. nat_eq e.commit.timestamp t && r e) q.drawn ≡ r d
+pub one-at : (o : Origin) (q : State) (t : ℕ) (d : PlainDrawn) (r : PlainDrawn → Bool) → Keeps o q → drawn_at q t ≡ Some d → list_any (λ e. nat_eq e.commit.timestamp t && r e) q.drawn ≡ r d
 one-at o q t d r keeps at = by (list_any (λ e. nat_eq e.commit.timestamp t && r e) q.drawn) refl (r d) refl
   where
     by : (a : Bool) → list_any (λ e. nat_eq e.commit.timestamp t && r e) q.drawn ≡ a → (b : Bool) → r d ≡ b → a ≡ b
@@ -144,7 +144,7 @@ one-at o q t d r keeps at = by (list_any (λ e. nat_eq e.commit.timestamp t && r
         absurd (cc (both.1, ap r e, is))
 
 -- what is found has what all have
-found-all : {X : Type 0} (P : X → Type 0) (test : X → Bool) (xs : List X) (x : X) → All P xs → find test xs ≡ Some x → P x
+pub found-all : {X : Type 0} (P : X → Type 0) (test : X → Bool) (xs : List X) (x : X) → All P xs → find test xs ≡ Some x → P x
 found-all P test [] x all found = absurd (cc found)
 found-all P test (y ∷ xs) x all found = by (test y) found (λ rest. found-all P test xs x (All-tail P y xs all) rest)
   where

@@ -1,24 +1,23 @@
 -- From what is hidden to the plain states that are shown.
-use Rattle.std.proofs.Common.{◌≡◌, ℕ, zero, suc, ◌+◌, ◌*◌, ◌^◌, Bool, true, false, ◌&&◌, ◌||◌, cond, List, [], ◌∷◌, ◌++◌, take, refl, sym, ◌∙◌, ap, subst, arith, nat_eq, nat_le}
-use Rattle.std.specs.Prelude.{Option, Some, None, is_none}
-use Rattle.std.specs.Option.{option_or, option_map}
+use Rattle.std.proofs.Common.{◌≡◌, ℕ, zero, suc, true, false, ◌&&◌, List, [], ◌∷◌, ◌++◌, take, refl, sym, ◌∙◌, ap, subst, arith}
+use Rattle.std.specs.Prelude.{Some}
 use Rattle.std.specs.List.{list_all}
 use Rattle.std.proofs.lemmas.Bool.{and_parts}
 use Rattle.std.proofs.Math.Logic.{∥∥₁_map}
-use Rattle.base.specs.declared.key.Key.{Key}
 use Rattle.base.specs.declared.fault.Fault.{Fault}
-use Rattle.base.specs.declared.fault.Fault.TheVariants.{Failed, SessionsFull, NoSession, WrongState, TooLong, WriteSetFull, SlotsOut, Conflict, WindowFull, TimestampsOut, OutOfMemory, Device as DeviceFault}
+use Rattle.base.specs.declared.fault.Fault.TheVariants.{OutOfMemory, Device as DeviceFault}
 use Rattle.base.specs.declared.step.Step.{Step}
 use Rattle.base.specs.declared.step.Reply.{Reply}
 use Rattle.base.specs.declared.step.Reply.TheVariants as reply
 use Rattle.base.specs.declared.step.SessionStep.{SessionStep}
-use Rattle.base.specs.declared.step.SessionStep.TheVariants.{Begin, Get, Put, Delete, Draw, Stamp, Poll, Abort, End}
+use Rattle.base.specs.declared.step.SessionStep.TheVariants.{Begin, Get, Scan, Put, Delete, Draw, Stamp, Poll, Abort, End}
 use Rattle.base.specs.declared.step.SessionReply.{SessionReply}
 use Rattle.base.specs.declared.step.SessionReply.TheVariants.{Refused}
 use Rattle.base.specs.SessionSteps.{as_step, as_reply, SessionStepped}
-use Rattle.base.specs.Search.{some_if}
-use Rattle.base.specs.Stands.{has_timestamp}
-use Rattle.base.specs.Machine.{State, Session, Active, Drew, WroteNothing, Answers, answered, refused, memory_refused, device_failed, refusal, begins, free_session, is_absent, is_misplaced, is_too_long, overfills, lacks_slot, conflicts, draws, chooses, operates, polled, is_nil, writes_of, is_last_stamp}
+use Rattle.base.specs.Machine.{State, Answers, answered, refused, memory_refused, device_failed, refusal, operates}
+use Rattle.base.specs.Lives.{is_failure}
+use Rattle.base.proofs.Failures.{refusal-quiet, answer-quiet}
+use Rattle.base.proofs.Runs.{Answers-answer}
 use Rattle.pmem.specs.Device.{Device, IsOrderly}
 use Rattle.pmem.specs.Trace.{Operation, failure}
 use Rattle.state_invariant.specs.Kept.{Origin}
@@ -33,65 +32,21 @@ use Rattle.session_steps.specs.Steps.{is_by_actor, Holds, HoldsOn, Goes, GoesOn,
 
 -- ---- who tells of the device
 
-or-apart : (a b : Option Fault) → (a ≡ Some DeviceFault → ⊥) → (b ≡ Some DeviceFault → ⊥) → option_or a b ≡ Some DeviceFault → ⊥
-or-apart None b first rest is = rest is
-or-apart (Some fault) b first rest is = first is
-
-if-apart : (b : Bool) (fault : Fault) → (fault ≡ DeviceFault → ⊥) → some_if b fault ≡ Some DeviceFault → ⊥
-if-apart true fault apart is = apart (cc is)
-if-apart false fault apart is = absurd (cc is)
-
-conflict-apart : (o : Option Key) → option_map Conflict o ≡ Some DeviceFault → ⊥
-conflict-apart None is = absurd (cc is)
-conflict-apart (Some key) is = absurd (cc is)
-
 -- no step is refused for the device before it is asked
 undevice : (q : State) (step : Step) → refusal q step ≡ Some DeviceFault → ⊥
-undevice q step =
-    or-apart (some_if q.failed Failed) _ (if-apart q.failed Failed (λ is. absurd (cc is)))
-    (or-apart (some_if (begins step && is_none (free_session q)) SessionsFull) _ (if-apart _ SessionsFull (λ is. absurd (cc is)))
-    (or-apart (some_if (is_absent q step) NoSession) _ (if-apart _ NoSession (λ is. absurd (cc is)))
-    (or-apart (some_if (is_misplaced q step) WrongState) _ (if-apart _ WrongState (λ is. absurd (cc is)))
-    (or-apart (some_if (is_too_long q step) TooLong) _ (if-apart _ TooLong (λ is. absurd (cc is)))
-    (or-apart (some_if (overfills q step) WriteSetFull) _ (if-apart _ WriteSetFull (λ is. absurd (cc is)))
-    (or-apart (some_if (lacks_slot q step) SlotsOut) _ (if-apart _ SlotsOut (λ is. absurd (cc is)))
-    (or-apart (option_map Conflict (conflicts q step)) _ (conflict-apart (conflicts q step))
-    (or-apart (some_if (draws q step && nat_eq q.next q.ruling.dirty) WindowFull) _ (if-apart _ WindowFull (λ is. absurd (cc is)))
-    (or-apart (some_if (draws q step && nat_le (2 ^ 62) (q.next + 2 * q.layout.window) || chooses q step && nat_le (2 ^ 62) (q.ruling.gate + 1)) TimestampsOut) None (if-apart _ TimestampsOut (λ is. absurd (cc is))) (λ is. absurd (cc is)))))))))))
+undevice q step is = let quiet = refusal-quiet q step DeviceFault is in absurd (cc quiet)
 
 -- no answer is one of the device's
 answered-apart : (q : State) (s : SessionStep) (r : Reply) → Answers q (as_step s) r → r ≡ reply.Refused DeviceFault → ⊥
-answered-apart q Begin r is told = absurd (cc (is, told))
-answered-apart q (Get n key) r is told = absurd (cc (is, told))
-answered-apart q (Put n key row) r is told = absurd (cc (is, told))
-answered-apart q (Delete n key) r is told = absurd (cc (is, told))
-answered-apart q (Draw n) r is told = by (is_nil (writes_of (q.sessions n))) (sym is ∙ told)
-  where
-    by : (b : Bool) → cond b reply.Done (reply.Drawn q.next) ≡ reply.Refused DeviceFault → ⊥
-    by true same = absurd (cc same)
-    by false same = absurd (cc same)
-answered-apart q (Stamp n) r is told = by (is_last_stamp q n) (sym is ∙ told)
-  where
-    by : (b : Bool) → cond b reply.Stamped reply.More ≡ reply.Refused DeviceFault → ⊥
-    by true same = absurd (cc same)
-    by false same = absurd (cc same)
-answered-apart q (Poll n) r is told = by (q.sessions n) (sym is ∙ told)
-  where
-    whether : (b : Bool) (t : ℕ) → cond b (reply.Committed t) reply.Waiting ≡ reply.Refused DeviceFault → ⊥
-    whether true t same = absurd (cc same)
-    whether false t same = absurd (cc same)
-
-    by : (o : Option Session) → polled q o ≡ reply.Refused DeviceFault → ⊥
-    by None same = absurd (cc same)
-    by (Some (Active begun writes)) same = absurd (cc same)
-    by (Some (Drew t)) same = whether (has_timestamp q.history t) t same
-    by (Some WroteNothing) same = absurd (cc same)
-answered-apart q (Abort n) r is told = absurd (cc (is, told))
-answered-apart q (End n) r is told = absurd (cc (is, told))
+answered-apart q s r is told =
+    let quiet = answer-quiet r (Answers-answer q (as_step s) r is) in
+    let failure : is_failure r ≡ true = ap is_failure told in
+    absurd (cc (quiet, failure))
 
 quiet-idle : (q : State) (s : SessionStep) → is_quiet (as_step s) ≡ true → operates q (as_step s) ≡ false
 quiet-idle q Begin quiet = refl
 quiet-idle q (Get n key) quiet = refl
+quiet-idle q (Scan n table lo hi) quiet = refl
 quiet-idle q (Put n key row) quiet = absurd (cc quiet)
 quiet-idle q (Delete n key) quiet = refl
 quiet-idle q (Draw n) quiet = refl

@@ -56,6 +56,10 @@ pub record MayCover (s : Sessions) (count : ℕ) (ruling : Record) (h : Hidden) 
   pub agrees : Agrees s h.origin h.seen (plain_of s h)
   pub batch : IsOfFirst (plain_of s h) hand count ruling
 
+-- something is hidden of which that holds
+abbrev pub MayCoverSome : Sessions → ℕ → Record → Type 0
+MayCoverSome s count ruling = (h : Hidden) × (hand : Hand) × MayCover s count ruling h hand
+
 -- what is hidden once the batch is covered
 abbrev pub hidden_covered : Hidden → Hand → Hidden
 hidden_covered h hand = record h { history = h.history ++ hand.commits; hand = None }

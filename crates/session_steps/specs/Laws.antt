@@ -3,11 +3,12 @@
 use Rattle.std.specs.Prelude.{◌≡◌, ℕ, Bool, nat_eq, List, map, take, Option, IsTrue}
 use Rattle.std.specs.List.{list_any}
 use Rattle.base.specs.Machine.{State, Hand, drawn_of}
+use Rattle.base.specs.Records.{are_rising}
 use Rattle.pmem.specs.Device.{Device}
 use Rattle.device_invariant.specs.Upholds.{Upholds}
 use Rattle.txn.specs.declared.drawn.DrawnCommit.{DrawnCommit}
 use Rattle.dirty_table.specs.declared.touches.Touch.{Touch}
-use Rattle.dirty_table.specs.Touches.{has, lines_touched, are_in_order}
+use Rattle.dirty_table.specs.Touches.{has, lines_touched}
 use Rattle.session_steps.specs.declared.sessions.Sessions.{Sessions}
 use Rattle.session_steps.specs.Shows.{plain_drawn, line_numbers, HoldsLines, Shows}
 
@@ -19,5 +20,5 @@ pub record ShowsAnyHand : Type 0 where
 -- the lines that the dirty table has for the sessions of the first so many drawn commits are those that these touch
 abbrev pub TableHasLines : Type 0
 TableHasLines =
-    (q : State) (drawn : List DrawnCommit) (dirty : List Touch) (sessions : List Bool) (count : ℕ) → q.drawn ≡ map plain_drawn drawn → HoldsLines q drawn dirty → IsTrue (are_in_order dirty)
+    (q : State) (drawn : List DrawnCommit) (dirty : List Touch) (sessions : List Bool) (count : ℕ) → q.drawn ≡ map plain_drawn drawn → HoldsLines q drawn dirty → IsTrue (are_rising (lines_touched (has sessions) dirty))
     → ((n : ℕ) → has sessions n ≡ list_any (λ d. nat_eq d.session n) (take count drawn)) → lines_touched (has sessions) dirty ≡ line_numbers q (take count (drawn_of q))

@@ -3,7 +3,6 @@ use Rattle.std.specs.Prelude.{◌≡◌, ◌⊎◌, ℕ, ◌<◌, Bool, true, fa
 use Rattle.base.specs.declared.key.Key.{Key}
 use Rattle.base.specs.Layout.{Layout}
 use Rattle.base.specs.Records.{Record}
-use Rattle.base.specs.Restrictions.{whole_limits}
 use Rattle.base.specs.Images.{Image, key_of, is_misfit}
 use Rattle.base.specs.Machine.{State}
 use Rattle.pmem.specs.Device.{Device}
@@ -20,7 +19,6 @@ use Rattle.session_steps.specs.Shows.{Shows}
 -- drawn, and these slots are free
 pub record Begins (a : Layout) (ruling : Record) (next : ℕ) (free : List Bool) (q : State) : Type 0 where
   pub layout_is : q.layout ≡ a
-  pub limits_are : q.limits ≡ whole_limits
   pub ruling_is : q.ruling ≡ ruling
   pub next_is : q.next ≡ next
   pub none_drawn : q.drawn ≡ []

@@ -4,7 +4,6 @@ use Rattle.std.specs.List.{list_any}
 use Rattle.std.specs.Option.{option_map}
 use Rattle.base.specs.declared.key.Key.{Key}
 use Rattle.base.specs.Commits.{Commit}
-use Rattle.base.specs.Restrictions.{whole_limits}
 use Rattle.base.specs.Machine.{State, Session, Active as Reads, Drew, WroteNothing, Drawn as PlainDrawn, Hand, Version, Writer, BySession, ByCommit}
 use Rattle.pmem.specs.Device.{Device}
 use Rattle.txn.specs.declared.drawn.DrawnCommit.{DrawnCommit}
@@ -53,7 +52,6 @@ plain_drawn d = record { commit = record { timestamp = d.timestamp; writes = pla
 abbrev pub plain_of : Sessions → Hidden → State
 plain_of s h = record {
   layout = s.numbers.geometry;
-  limits = whole_limits;
   ruling = s.numbers.record;
   history = h.history;
   drawn = map plain_drawn s.drawn.commits;
@@ -123,3 +121,7 @@ pub record Shows (s : Sessions) (device : Device) (q : State) : Type 0 where
   pub plain : q ≡ plain_of s hidden
   pub upholds : Upholds hidden.origin q device
   pub agrees : Agrees s hidden.origin hidden.seen q
+
+-- the sessions show some state
+abbrev pub ShowsAny : Sessions → Device → Type 0
+ShowsAny s device = (q : State) × Shows s device q

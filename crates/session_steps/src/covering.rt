@@ -1,6 +1,5 @@
-ghost use Rattle.std.specs.Prelude.{◌≡◌, ◌≤◌, ◌<◌, ℕ, Some, All, length};
-ghost use Rattle.txn.specs.Transactions.{transaction_at};
-ghost use Rattle.txn.specs.declared.transaction.Transaction.TheVariants.{Drawn};
+ghost use Rattle.std.specs.Prelude.{◌≡◌, ◌≤◌, ◌<◌, ℕ, IsTrue, All, length};
+ghost use Rattle.txn.specs.DrawnCommits.{are_numbered};
 ghost use Rattle.dirty_table.specs.Touches.{has};
 ghost use Rattle.session_steps.specs.Shows.{has_drawn_by};
 ghost use Rattle.session_steps.specs.Covering.{HasRoom, CoversWrites, CoversCommits};
@@ -9,7 +8,7 @@ use crate::sessions::Sessions;
 use dirty_table::SessionSet;
 use index::Index;
 use log_area::Record;
-use txn::{DrawnCommit, Transactions, WriteSet};
+use txn::{DrawnCommit, WriteSet};
 
 // Covers the versions of these writes.
 fn cover_writes(index: &mut Index, writes: &WriteSet)
@@ -32,35 +31,31 @@ fn cover_commits(index: &mut Index, commits: &[DrawnCommit])
 }
 
 // The numbers of the sessions that drew these commits.
-fn sessions_of(transactions: &Transactions, commits: &[DrawnCommit]) -> SessionSet
-    requires { All (λ d. transaction_at transactions.now d.session ≡ Some (Drawn d.timestamp)) commits.now }
+fn sessions_of(commits: &[DrawnCommit]) -> SessionSet
+    requires { IsTrue (are_numbered commits.now) }
     ensures { (n : ℕ) → has result n ≡ has_drawn_by commits.now n }
 {
     let mut sessions = SessionSet::none();
     for commit in commits {
-        if transactions.get(commit.session).is_some() {
-            sessions.insert(commit.session);
-        }
+        sessions.insert(commit.session);
     }
     sessions
 }
 
 impl Sessions {
     ghost use Rattle.std.specs.Prelude.{drop};
-    ghost use Rattle.base.specs.Machine.{Hand};
-    ghost use Rattle.session_steps.specs.Shows.{Hidden};
-    ghost use Rattle.session_steps.specs.Covering.{MayCover, Covers, ShowsCovered};
+    ghost use Rattle.session_steps.specs.Covering.{MayCoverSome, Covers, ShowsCovered};
 
     /// Covers the first so many drawn commits under the record that rules from now on. It takes no memory.
     pub fn cover(&mut self, count: usize, ruling: Record)
         requires within { count ≤ length self.old.drawn.commits }
-        requires batch { (h : Hidden) × (hand : Hand) × MayCover self.old count ruling h hand }
+        requires batch { ∥ MayCoverSome self.old count ruling ∥₁ }
         ensures drawn { self.new.drawn.commits ≡ drop count self.old.drawn.commits }
         ensures covers { Covers self.old self.new count ruling }
         ensures shows { ShowsCovered self.old self.new count ruling }
     {
         let commits = &self.drawn.as_slice()[..count];
-        let sessions = sessions_of(&self.transactions, commits);
+        let sessions = sessions_of(commits);
         cover_commits(&mut self.index, commits);
         self.dirty.forget(&sessions);
         self.drawn.cover(count);

@@ -27,7 +27,6 @@ impl Sessions {
             key,
             row: None,
             slot: None,
-            replaces: None,
         };
         self.transactions.write(session, deletion);
         SessionReply::Done

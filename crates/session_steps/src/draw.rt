@@ -18,7 +18,7 @@ use std::alloc::{AllocError, Global};
 use txn::{DrawnCommit, Transaction, WriteSet};
 
 impl Sessions {
-    ghost use Rattle.std.specs.Prelude.{◌≢◌, ◌+◌, ◌*◌, ◌^◌, nat_eq, nat_le, false, find, map, [], Some, None};
+    ghost use Rattle.std.specs.Prelude.{◌≢◌, ◌<◌, ◌+◌, ◌*◌, ◌^◌, nat_eq, nat_le, false, find, map, [], Some, None};
     ghost use Rattle.base.specs.declared.step.SessionStep.TheVariants.{Draw};
     ghost use Rattle.txn.specs.Transactions.{transaction_at};
     ghost use Rattle.txn.specs.declared.transaction.Transaction.TheVariants.{Active as IsActiveWith};
@@ -68,6 +68,7 @@ impl Sessions {
     fn draw_next(&mut self, session: u8, active: Active) -> SessionReply
         requires shown { ∥ HoldsSome self.old ∥₁ }
         requires active { transaction_at self.old.transactions session ≡ Some (IsActiveWith active.snapshot active.writes) }
+        requires numbered { session < 64 }
         requires written { active.writes ≢ [] }
         requires clear { conflict_in self.old.index active.snapshot active.writes ≡ None }
         requires window { nat_eq self.old.numbers.next self.old.numbers.record.dirty ≡ false }

@@ -1,7 +1,7 @@
 use crate::numbers::Numbers;
 use crate::sessions::Sessions;
 use dirty_table::DirtyTable;
-use txn::DrawnCommit;
+use txn::DrawnCommits;
 
 impl Sessions {
     ghost use Rattle.std.specs.Prelude.{◌≡◌};
@@ -14,10 +14,10 @@ impl Sessions {
     }
 
     /// The commits that are drawn and not covered, in the order in which they were drawn.
-    pub fn drawn(&self) -> &[DrawnCommit]
-        ensures { result.now ≡ self.now.drawn.commits }
+    pub fn drawn(&self) -> &DrawnCommits
+        ensures { result.now ≡ self.now.drawn }
     {
-        self.drawn.as_slice()
+        &self.drawn
     }
 
     /// The lines that each drawn commit touches, under the number of its session.

@@ -38,8 +38,8 @@ fn found_at<D: Pmem>(
     }
 }
 
-// The index of the versions in the slots that aren't free.
-fn indexed<D: Pmem>(
+/// The index of the versions in the slots that aren't free.
+pub fn index_slots<D: Pmem>(
     alloc: Global,
     device: &D,
     geometry: Geometry,
@@ -63,37 +63,33 @@ fn indexed<D: Pmem>(
 }
 
 impl Sessions {
+    ghost use Rattle.pmem.specs.Device.{Device, IsOrderly};
     ghost use Rattle.session_steps.specs.Opening.{ShowsOpened};
 
-    /// The sessions of a life that begins on an opened device: none is open.
-    pub fn open<D: Pmem>(
+    /// The sessions of a life that begins on an opened device, with the index of its slots: none is open. It takes no memory.
+    pub fn open(
         alloc: Global,
-        device: &D,
+        index: Index,
         geometry: Geometry,
         ruling: Record,
         next: Ts,
         free: Vec<bool>,
-    ) -> Result<Sessions, Fault>
+    ) -> Sessions
         requires slots { length free.items ≡ geometry.slots }
-        requires device { (D.state device.now).words ≡ total_words geometry }
-        ensures ok { IfOk result (λ sessions. ShowsOpened sessions (D.state device.now) geometry ruling next free.items) }
-        ensures fault { IfErr result (λ fault. fault ≡ OutOfMemory) }
+        ensures { (device : Device) → IsOrderly device → HasFound (image_of device) free.items geometry.slots index → ShowsOpened result device geometry ruling next free.items }
     {
-        match indexed(alloc, device, geometry, free.as_slice()) {
-            Ok(index) => Ok(Sessions {
-                numbers: Numbers {
-                    geometry,
-                    record: ruling,
-                    next,
-                },
-                transactions: Transactions::new(alloc),
-                drawn: DrawnCommits::new(alloc),
-                index,
-                dirty: DirtyTable::new(alloc),
-                slots: SlotAlloc::new(free),
-                alloc,
-            }),
-            Err(fault) => Err(fault),
+        Sessions {
+            numbers: Numbers {
+                geometry,
+                record: ruling,
+                next,
+            },
+            transactions: Transactions::new(alloc),
+            drawn: DrawnCommits::new(alloc),
+            index,
+            dirty: DirtyTable::new(alloc),
+            slots: SlotAlloc::new(free),
+            alloc,
         }
     }
 }

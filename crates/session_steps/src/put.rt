@@ -123,12 +123,11 @@ impl Sessions {
 
 // The write of a row that lies in the slot.
 fn row_write(key: Key, row: Row, slot: SlotNo) -> Write
-    ensures { result ≡ record { key = key; row = Some row; slot = Some slot; replaces = None } }
+    ensures { result ≡ record { key = key; row = Some row; slot = Some slot } }
 {
     Write {
         key,
         row: Some(row),
         slot: Some(slot),
-        replaces: None,
     }
 }

@@ -14,6 +14,12 @@ impl Sessions {
         match step {
             SessionStep::Begin => self.begin(),
             SessionStep::Get { session, key } => self.get(device, session, key),
+            SessionStep::Scan {
+                session,
+                table,
+                lo,
+                hi,
+            } => self.scan(device, session, table, lo, hi),
             SessionStep::Put { session, key, row } => self.put(device, session, key, row),
             SessionStep::Delete { session, key } => self.delete(session, key),
             SessionStep::Draw { session } => self.draw(session),

@@ -131,47 +131,6 @@ counted-from r n (x ∷ ds) u d found none = by (r x) refl (nat_eq (time_of x) u
 counted-found : (r : Drawn → Bool) (ds : List Drawn) (u : ℕ) (d : Drawn) → find (λ (e : Drawn). nat_eq e.commit.timestamp u) ds ≡ Some d → count_by r ds ≤ 0 → r d ≡ false
 counted-found r ds u d found none = counted-from r 0 ds u d found none
 
--- ---- the first of a rising list
-
--- a commit that comes before one of the first is one of them
-taken-before : (n t : ℕ) (cs : List Commit) → are_rising (map (λ (c : Commit). c.timestamp) cs) ≡ true → has_timestamp cs t ≡ true → list_any (nat_le t) (map (λ (c : Commit). c.timestamp) (take n cs)) ≡ true → has_timestamp (take n cs) t ≡ true
-taken-before zero t cs rising has before = absurd (cc before)
-taken-before (suc n) t [] rising has before = absurd (cc before)
-taken-before (suc n) t (c ∷ cs) rising has before =
-    elim (or_cases (nat_eq c.timestamp t) (has_timestamp cs t) has) [
-      | inl here ↦ or_left (nat_eq c.timestamp t) (has_timestamp (take n cs) t) here
-      | inr later ↦ (
-          let above : c.timestamp < t = ltb-true c.timestamp t (timestamp-all (nat_lt c.timestamp) cs t (all-times cs (rising-above c.timestamp (map (λ (c : Commit). c.timestamp) cs) rising)) later) in
-          elim (or_cases (nat_le t c.timestamp) (list_any (nat_le t) (map (λ (c : Commit). c.timestamp) (take n cs))) before) [
-            | inl le ↦ absurd (omega (arith, above, leb-true t c.timestamp le))
-            | inr rest ↦ or_right (nat_eq c.timestamp t) (has_timestamp (take n cs) t) (taken-before n t cs (rising-rest c.timestamp (map (λ (c : Commit). c.timestamp) cs) rising) later rest)
-          ])
-    ]
-  where
-    all-times : (xs : List Commit) → list_all (nat_lt c.timestamp) (map (λ (c : Commit). c.timestamp) xs) ≡ true → list_all (λ x. nat_lt c.timestamp x.timestamp) xs ≡ true
-    all-times [] all = refl
-    all-times (x ∷ xs) all = let both = and_parts (nat_lt c.timestamp x.timestamp) (list_all (nat_lt c.timestamp) (map (λ (c : Commit). c.timestamp) xs)) all in and_from (nat_lt c.timestamp x.timestamp) (list_all (λ x. nat_lt c.timestamp x.timestamp) xs) both.0 (all-times xs both.1)
-
-rising-take : (n : ℕ) (cs : List Commit) → are_rising (map (λ (c : Commit). c.timestamp) cs) ≡ true → are_rising (map (λ (c : Commit). c.timestamp) (take n cs)) ≡ true
-rising-take zero cs rising = refl
-rising-take (suc n) [] rising = refl
-rising-take (suc n) (c ∷ cs) rising =
-    rising-with c.timestamp (map (λ (c : Commit). c.timestamp) (take n cs)) (all-taken n cs (rising-above c.timestamp (map (λ (c : Commit). c.timestamp) cs) rising)) (rising-take n cs (rising-rest c.timestamp (map (λ (c : Commit). c.timestamp) cs) rising))
-  where
-    all-taken : (n : ℕ) (xs : List Commit) → list_all (nat_lt c.timestamp) (map (λ (c : Commit). c.timestamp) xs) ≡ true → list_all (nat_lt c.timestamp) (map (λ (c : Commit). c.timestamp) (take n xs)) ≡ true
-    all-taken zero xs all = refl
-    all-taken (suc n) [] all = refl
-    all-taken (suc n) (x ∷ xs) all = let both = and_parts (nat_lt c.timestamp x.timestamp) (list_all (nat_lt c.timestamp) (map (λ (c : Commit). c.timestamp) xs)) all in and_from (nat_lt c.timestamp x.timestamp) (list_all (nat_lt c.timestamp) (map (λ (c : Commit). c.timestamp) (take n xs))) both.0 (all-taken n xs both.1)
-
-found-taken : (n t : ℕ) (cs : List Commit) (c : Commit) → commit_at (take n cs) t ≡ Some c → commit_at cs t ≡ Some c
-found-taken zero t cs c found = absurd (cc found)
-found-taken (suc n) t [] c found = absurd (cc found)
-found-taken (suc n) t (x ∷ cs) c found = by (nat_eq x.timestamp t) found (found-taken n t cs c)
-  where
-    by : (b : Bool) → cond b (Some x) (commit_at (take n cs) t) ≡ Some c → (commit_at (take n cs) t ≡ Some c → commit_at cs t ≡ Some c) → cond b (Some x) (commit_at cs t) ≡ Some c
-    by true found rest = found
-    by false found rest = rest found
-
 filter-none : {X : Type 0} (p : X → Bool) (xs : List X) → list_all (λ x. not (p x)) xs ≡ true → filter p xs ≡ []
 filter-none p [] all = refl
 filter-none p (x ∷ xs) all = by (p x) (and_parts (not (p x)) (list_all (λ x. not (p x)) xs) all).0 (filter-none p xs (and_parts (not (p x)) (list_all (λ x. not (p x)) xs) all).1)
@@ -227,18 +186,6 @@ module _ (o : Origin) (q : State) (kept : Keeps o q) where
   abbrev run : List Commit
   run = map (λ d. d.commit) (filter fit q.drawn)
 
-  -- how many of the run one batch takes
-  count : ℕ
-  count = cond q.limits.one_commit 1 (length run)
-
-  chosen-run : chosen q ≡ take count run
-  unfolding count
-  chosen-run = by q.limits.one_commit
-    where
-      by : (b : Bool) → cond b (take 1 run) run ≡ take (cond b 1 (length run)) run
-      by true = refl
-      by false = sym (take-length run)
-
   pub rising : are_rising (map time_of q.drawn) ≡ true
   rising = kept.draws.rising
 
@@ -251,7 +198,7 @@ module _ (o : Origin) (q : State) (kept : Keeps o q) where
 
   -- what is chosen is drawn, and stamped
   chosen-drawn : (t : ℕ) (c : Commit) → commit_at (chosen q) t ≡ Some c → (d : Drawn) × (drawn_at q t ≡ Some d) × (d.commit ≡ c) × (is_stamped d ≡ true)
-  chosen-drawn t c found = by (find (λ (d : Drawn). nat_eq d.commit.timestamp t) (filter fit q.drawn)) refl (sym (find-map (λ (c : Commit). nat_eq c.timestamp t) (λ (d : Drawn). d.commit) (filter fit q.drawn)) ∙ found-taken count t run c (subst (λ (cs : List Commit). commit_at cs t ≡ Some c) chosen-run found))
+  chosen-drawn t c found = by (find (λ (d : Drawn). nat_eq d.commit.timestamp t) (filter fit q.drawn)) refl (sym (find-map (λ (c : Commit). nat_eq c.timestamp t) (λ (d : Drawn). d.commit) (filter fit q.drawn)) ∙ found)
     where
       by : (x : Option Drawn) → find (λ (d : Drawn). nat_eq d.commit.timestamp t) (filter fit q.drawn) ≡ x → option_map (λ (d : Drawn). d.commit) x ≡ Some c → (d : Drawn) × (drawn_at q t ≡ Some d) × (d.commit ≡ c) × (is_stamped d ≡ true)
       by None is e = absurd (cc e)
@@ -313,13 +260,13 @@ module _ (o : Origin) (q : State) (kept : Keeps o q) where
       let stamped = run-stamped t d found far in
       let fits : fit d ≡ true = and_from (is_stamped d) (nat_le (time_of d) (end_of_run q)) stamped (le-leb (time_of d) (end_of_run q) (omega (arith, b.0, far))) in
       let has : has_timestamp run t ≡ true = any-map (λ (c : Commit). nat_eq c.timestamp t) (λ (d : Drawn). d.commit) (filter fit q.drawn) ∙ kept-by_filter fit q.drawn t d found fits in
-      (stamped, subst (λ (cs : List Commit). has_timestamp cs t ≡ true) (sym chosen-run) (taken-before count t run run-rising has (subst (λ (cs : List Commit). list_any (nat_le t) (map (λ (c : Commit). c.timestamp) cs) ≡ true) chosen-run any)))
+      (stamped, has)
     where
       -- each that is chosen lies within the run
       chosen-within : list_all (λ c. nat_le c.timestamp (end_of_run q)) (chosen q) ≡ true
-      chosen-within = subst (λ (cs : List Commit). list_all (λ c. nat_le c.timestamp (end_of_run q)) cs ≡ true) (sym chosen-run) (all-take (λ c. nat_le c.timestamp (end_of_run q)) count run
-          (all-map (λ (c : Commit). nat_le c.timestamp (end_of_run q)) (λ (d : Drawn). d.commit) (filter fit q.drawn)
-          (all-filter_with (λ d. true) fit (λ d. nat_le d.commit.timestamp (end_of_run q)) q.drawn (λ d e passes. (and_parts (is_stamped d) (nat_le d.commit.timestamp (end_of_run q)) passes).1) (all-true q.drawn))))
+      chosen-within =
+          all-map (λ (c : Commit). nat_le c.timestamp (end_of_run q)) (λ (d : Drawn). d.commit) (filter fit q.drawn)
+          (all-filter_with (λ d. true) fit (λ d. nat_le d.commit.timestamp (end_of_run q)) q.drawn (λ d e passes. (and_parts (is_stamped d) (nat_le d.commit.timestamp (end_of_run q)) passes).1) (all-true q.drawn))
         where
           all-true : (ds : List Drawn) → list_all (λ d. true) ds ≡ true
           all-true [] = refl
@@ -404,7 +351,7 @@ module _ (o : Origin) (q : State) (kept : Keeps o q) where
     batch = all-by_timestamp (is_committed (target_of q)) (chosen q) (λ t has. let d = chosen-found t has in let b = bounds t d.0 d.1 in counts-target t (omega (arith, b.1)) (chosen-reached t has) (no_gap-above o q t kept.numbers.origin b.1));
     only = λ t counts out. only t counts out (cases_lt o.ruling.persisted t);
     drawn = chosen-drawn;
-    rising = subst (λ (cs : List Commit). are_rising (map (λ (c : Commit). c.timestamp) cs) ≡ true) (sym chosen-run) (rising-take count run run-rising);
+    rising = run-rising;
   }
     where
       no_gap-counted : (t : ℕ) → is_committed q.ruling t ≡ true → is_in q.ruling.gaps t ≡ false

@@ -174,6 +174,7 @@ module _ (o : Origin) (q : State) (hand : Hand) (kept : Keeps o q) (k : KeepsHan
     hand = λ h is. cc is;
     origin = origin-covered;
     snapshots = λ n begun writes is. let s = kept.numbers.snapshots n begun writes is in (s.0, omega (arith, s.1, length-append q.history hand.commits));
+    numbered = kept.numbers.numbered;
   }
     where
       left : (d : Drawn) → ((not (is_committed q.ruling d.commit.timestamp) && nat_lt d.commit.timestamp q.next) && nat_lt o.ruling.persisted d.commit.timestamp) ≡ true → is_left d ≡ true

@@ -18,7 +18,7 @@ use Rattle.state_invariant.proofs.Lookups.{same-keys, replaced-same, replaced-ot
 use Rattle.state_invariant.proofs.Lists.{all-drop, all-weaken, all-one_more, rising-one_more, find-map}
 use Rattle.state_invariant.proofs.Commits.{commit_at-none, commit_at-some, commit_at-has, timestamp-all, commit_at-append, drawn_at-timestamp, uncommitted-above}
 use Rattle.state_invariant.proofs.Refusals.{allowed, active}
-use Rattle.state_invariant.proofs.Sessions.{keeps-session, each-set}
+use Rattle.state_invariant.proofs.Sessions.{numbered-set, number-writing, keeps-session, each-set}
 
 -- the commit that is drawn
 abbrev pub drawn_now : State → Writes → Drawn
@@ -205,6 +205,7 @@ module _ (o : Origin) (q : State) (n : ℕ) (write : Key × Option (List ℕ)) (
     hand = λ hand is. hand-drawn hand (k.hand hand is);
     origin = origin-drawn;
     snapshots = λ m begun writes is. each-set (λ (s : Option Session). s ≡ Some (Active begun writes) → (o.opened ≤ begun) × (begun ≤ length q.history)) n (Some (Drew q.next)) q.sessions (λ e. cc e) (λ m e. k.snapshots m begun writes e) m is;
+    numbered = numbered-set o q n (Some (Drew q.next)) kept (inl (number-writing o q n write rest kept has_writes));
   }
     where
       further : (d : Drawn) → (not (is_committed q.ruling d.commit.timestamp) && nat_lt d.commit.timestamp q.next) ≡ true → (not (is_committed q.ruling d.commit.timestamp) && nat_lt d.commit.timestamp (q.next + 1)) ≡ true
@@ -368,7 +369,10 @@ pub keeps-draw : (o : Origin) (q : State) (n : ℕ) → Keeps o q → refusal q 
 keeps-draw o q n kept none = by (writes_of (q.sessions n)) refl
   where
     nothing : writes_of (q.sessions n) ≡ [] → Keeps o (state_drawn q n [])
-    nothing is = keeps-session o q n (Some WroteNothing) kept record { sorted = refl; drew = λ t e. cc e; snapshot = λ begun writes e. cc e } (sym is)
+    nothing is =
+        let a = allowed q (Draw n) none in
+        let s = active q (Draw n) (q.sessions n) refl refl refl a.there a.placed in
+        keeps-session o q n (Some WroteNothing) kept record { sorted = refl; drew = λ t e. cc e; snapshot = λ begun writes e. cc e } (inl (kept.numbers.numbered n _ s.2)) (sym is)
 
     by : (ws : Writes) → writes_of (q.sessions n) ≡ ws → Keeps o (next_state q (Draw n))
     by [] is = subst (λ (ws : Writes). Keeps o (state_drawn q n ws)) (sym is) (nothing is)

@@ -14,6 +14,9 @@ pub mod Spelling
 pub mod Opening
 pub mod Log
 pub mod Reading
+pub mod Garbage
+pub mod Collecting
+pub mod Agreeing
 pub mod Showing
 pub mod Stamps
 pub mod ShownCovering

@@ -209,6 +209,7 @@ module _ (a : Layout) (r : Record) (image : Image) (history : List Commit) (lost
         gaps = inl refl;
       };
       snapshots = λ n begun writes is. absurd (none-some _ is);
+      numbered = λ n session is. absurd (none-some _ is);
     };
     draws = record {
       rising = refl;
@@ -259,8 +260,11 @@ module _ (a : Layout) (r : Record) (image : Image) (history : List Commit) (lost
   end-value : (slot : ℕ) → value (word_of a slot 1) ≡ end_of image slot
   end-value slot = ap (λ (l : Layout). slice_index image (word_of l slot 1)) (sym opening.layout)
 
-  never : (t : ℕ) → t < r.dirty → is_committed r t ≡ false → IsNever begins t
-  never t h e = never-over a r gaps t opening.gaps_cover h e
+  never : (t : ℕ) → t < r.dirty → is_committed r t ≡ false → IsNever begins start t
+  never t h e = elim (never-over a r gaps t opening.gaps_cover h e) [
+    | inl none ↦ inl none
+    | inr inside ↦ inr (refl, inside)
+  ]
 
   shows-live : (slot : ℕ) → slot < a.slots → is_shown r image slot ≡ true → IsNewest begins start value slot (last_writer history (key_of image slot)) (key_of image slot) (row_of image slot)
   shows-live slot h live =
@@ -270,7 +274,7 @@ module _ (a : Layout) (r : Record) (image : Image) (history : List Commit) (lost
           own = λ above. absurd (omega (arith, above, writer-before (key_of image slot) (row_of image slot) (live-row slot h live)));
           earlier = λ le. ap (is_committed (opening_record a r gaps)) (begin-value slot) ∙ same-committed a r gaps (begin_of image slot) opening.gaps_cover (good slot h).begin ∙ counts.0;
         };
-        end = inl (subst (IsNever begins) (sym (end-value slot)) (never (end_of image slot) (good slot h).end (not-true (is_committed r (end_of image slot)) counts.1)));
+        end = inl (subst (IsNever begins start) (sym (end-value slot)) (never (end_of image slot) (good slot h).end (not-true (is_committed r (end_of image slot)) counts.1)));
         ended = λ u d found is. absurd (none-some d found);
         spells = spells-image a image slot opening.layout opening.size ((good slot h).fits live);
       }
@@ -279,7 +283,7 @@ module _ (a : Layout) (r : Record) (image : Image) (history : List Commit) (lost
   shows-dead slot h dead = by (and_cases (is_committed r (begin_of image slot)) (not (is_committed r (end_of image slot))) dead)
     where
       by : (is_committed r (begin_of image slot) ≡ false) ⊎ (not (is_committed r (end_of image slot)) ≡ false) → IsHidden begins start (value (word_of a slot 0)) (value (word_of a slot 1))
-      by (inl unbegun) = inl (subst (IsNever begins) (sym (begin-value slot)) (never (begin_of image slot) (good slot h).begin unbegun))
+      by (inl unbegun) = inl (subst (IsNever begins start) (sym (begin-value slot)) (never (begin_of image slot) (good slot h).begin unbegun))
       by (inr ended) = inr (λ n in_use.
           or_left (is_committed (opening_record a r gaps) (value (word_of a slot 1))) _
           (ap (is_committed (opening_record a r gaps)) (end-value slot) ∙ same-committed a r gaps (end_of image slot) opening.gaps_cover (good slot h).end ∙ not-false (is_committed r (end_of image slot)) ended))

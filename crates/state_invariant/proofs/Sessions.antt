@@ -1,5 +1,5 @@
 -- One session changes, and with it what it holds.
-use Rattle.std.proofs.Common.{◌≡◌, ◌≢◌, ◌⊎◌, inl, inr, ℕ, ◌<◌, ◌≤◌, Bool, true, false, cond, ◌&&◌, List, [], ◌∷◌, map, length, refl, sym, ◌∙◌, ap, subst, Option, Some, true≢false}
+use Rattle.std.proofs.Common.{◌≡◌, ◌≢◌, ◌⊎◌, inl, inr, ℕ, ◌<◌, ◌≤◌, Bool, true, false, cond, ◌&&◌, List, [], ◌∷◌, map, length, refl, sym, ◌∙◌, ap, subst, Option, Some, None, true≢false}
 use Rattle.std.specs.Prelude.{nat_eq, nat_lt}
 use Rattle.std.proofs.lemmas.Bool.{cases_eq, cases_order, and_parts, and_from, eq-eqb, lt-ltb, or_left, or_right}
 use Rattle.base.specs.declared.key.Key.{Key}
@@ -7,7 +7,7 @@ use Rattle.base.specs.Keys.{key_eq, key_lt, lookup_key, is_rising}
 use Rattle.base.specs.Commits.{Writes, with_write}
 use Rattle.base.specs.Stands.{has_timestamp}
 use Rattle.base.specs.Machine.{State, Session, Active, Drew, Drawn, Hand, Version, Writer, BySession, ByCommit, drawn_at, writes_of, replaced, with_session}
-use Rattle.state_invariant.specs.Kept.{Origin, KeepsHand, KeepsOrigin, KeepsNumbers, DrawsInOrder, Owns, Keeps, IsInUse, wanted, row_in, version_by}
+use Rattle.state_invariant.specs.Kept.{Origin, IsSessionNumber, KeepsHand, KeepsOrigin, KeepsNumbers, DrawsInOrder, Owns, Keeps, IsInUse, wanted, row_in, version_by}
 use Rattle.state_invariant.proofs.Lookups.{replaced-same, replaced-other, same-keys}
 
 -- the state with these sessions and with this in the slots
@@ -20,6 +20,10 @@ pub record SessionKeeps (o : Origin) (q : State) (s : Option Session) : Type 0 w
   pub drew : (t : ℕ) → s ≡ Some (Drew t) → (has_timestamp q.history t ≡ true) ⊎ ((d : Drawn) × (drawn_at q t ≡ Some d))
   pub snapshot : (begun : ℕ) (writes : Writes) → s ≡ Some (Active begun writes) → (o.opened ≤ begun) × (begun ≤ length q.history) × IsInUse q begun
 
+-- each open one has a session's number
+abbrev pub AreNumbered : (ℕ → Option Session) → Type 0
+AreNumbered sessions = (n : ℕ) (session : Session) → sessions n ≡ Some session → IsSessionNumber n
+
 -- what the slots keep when sessions change
 pub record HeldKeeps (q : State) (sessions : ℕ → Option Session) (held : ℕ → Option Version) : Type 0 where
   pub once : (a b : ℕ) (v : Version) → a < q.layout.slots → b < q.layout.slots → held a ≡ Some v → held b ≡ Some v → a ≡ b
@@ -30,7 +34,7 @@ pub record HeldKeeps (q : State) (sessions : ℕ → Option Session) (held : ℕ
   pub has : (slot n : ℕ) (key : Key) → slot < q.layout.slots → held slot ≡ Some (version_by key (BySession n)) → (row : List ℕ) × (row_in (writes_of (sessions n)) key ≡ Some row)
   pub owns : (n : ℕ) (key : Key) (row : List ℕ) → lookup_key (writes_of (sessions n)) key ≡ Some (Some row) → (slot : ℕ) × (slot < q.layout.slots) × (held slot ≡ Some (version_by key (BySession n)))
 
-module _ (o : Origin) (q : State) (sessions : ℕ → Option Session) (held : ℕ → Option Version) (kept : Keeps o q) (each : (n : ℕ) → SessionKeeps o q (sessions n)) where
+module _ (o : Origin) (q : State) (sessions : ℕ → Option Session) (held : ℕ → Option Version) (kept : Keeps o q) (each : (n : ℕ) → SessionKeeps o q (sessions n)) (numbered : AreNumbered sessions) where
   abbrev then : State
   then = with_held q sessions held
 
@@ -77,6 +81,7 @@ module _ (o : Origin) (q : State) (sessions : ℕ → Option Session) (held : �
     hand = λ hand is. hand-held hand (k.hand hand is);
     origin = origin-held;
     snapshots = λ n begun writes is. let s = (each n).snapshot begun writes is in (s.0, s.1);
+    numbered = numbered;
   }
 
   draws-held : DrawsInOrder then
@@ -134,12 +139,29 @@ each-set P n s sessions this each m = by (cases_eq m n)
     by (inl is) = subst P (sym (replaced-same n s sessions m is)) this
     by (inr apart) = subst P (sym (replaced-other n s sessions m apart)) (each m)
 
+-- one that is set where there was one, or at a session's number, or that ends
+pub numbered-set : (o : Origin) (q : State) (n : ℕ) (s : Option Session) → Keeps o q → IsSessionNumber n ⊎ (s ≡ None) → AreNumbered (replaced n s q.sessions)
+numbered-set o q n s kept this m session is = by (cases_eq m n) this
+  where
+    by : (m ≡ n) ⊎ (m ≢ n) → IsSessionNumber n ⊎ (s ≡ None) → IsSessionNumber m
+    by (inl same) (inl here) = subst IsSessionNumber (sym same) here
+    by (inl same) (inr none) = let both : ◌≡◌ {A = Option Session} None (Some session) = sym none ∙ sym (replaced-same n s q.sessions m same) ∙ is in absurd (cc both)
+    by (inr apart) either = kept.numbers.numbered m session (sym (replaced-other n s q.sessions m apart) ∙ is)
+
+-- a session that writes is open
+pub number-writing : (o : Origin) (q : State) (n : ℕ) (write : Key × Option (List ℕ)) (rest : Writes) → Keeps o q → writes_of (q.sessions n) ≡ write ∷ rest → IsSessionNumber n
+number-writing o q n write rest kept has = by (q.sessions n) refl
+  where
+    by : (s : Option Session) → q.sessions n ≡ s → IsSessionNumber n
+    by None is = let clash : ◌≡◌ {A = Writes} [] (write ∷ rest) = sym (ap writes_of is) ∙ has in absurd (cc clash)
+    by (Some s) is = kept.numbers.numbered n s is
+
 -- ---- a session that writes what it wrote
 
 -- its writes are the same, no snapshot is new to the state, and it has drawn nothing
-pub keeps-session : (o : Origin) (q : State) (n : ℕ) (s : Option Session) → Keeps o q → SessionKeeps o q s → writes_of s ≡ writes_of (q.sessions n) → Keeps o (with_session n s q)
-keeps-session o q n s kept its same =
-    keeps-held o q (replaced n s q.sessions) q.held kept (each-set (SessionKeeps o q) n s q.sessions its (λ m. session-keeps o q m kept)) record {
+pub keeps-session : (o : Origin) (q : State) (n : ℕ) (s : Option Session) → Keeps o q → SessionKeeps o q s → IsSessionNumber n ⊎ (s ≡ None) → writes_of s ≡ writes_of (q.sessions n) → Keeps o (with_session n s q)
+keeps-session o q n s kept its number same =
+    keeps-held o q (replaced n s q.sessions) q.held kept (each-set (SessionKeeps o q) n s q.sessions its (λ m. session-keeps o q m kept)) (numbered-set o q n s kept number) record {
       once = kept.owns.once;
       was = λ slot t key at. at;
       stays = λ slot t key at. at;

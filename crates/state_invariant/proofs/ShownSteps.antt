@@ -6,7 +6,7 @@ use Rattle.std.proofs.lemmas.Bool.{cases_eq, eqb-true, eqb-false, or_left}
 use Rattle.std.proofs.lemmas.List.Folds.{list_any-append}
 use Rattle.base.specs.declared.key.Key.{Key}
 use Rattle.base.specs.declared.step.Step.{Step}
-use Rattle.base.specs.declared.step.Step.TheVariants.{Begin, Get, Put, Delete, Draw, Stamp, Poll, Abort, End, Commit as CommitTick}
+use Rattle.base.specs.declared.step.Step.TheVariants.{Begin, Get, Scan, Put, Delete, Draw, Stamp, Poll, Abort, End, Commit as CommitTick}
 use Rattle.base.specs.declared.step.Stage.{Stage}
 use Rattle.base.specs.declared.step.Reply.{Reply}
 use Rattle.base.specs.Commits.{Writes, writes_key}
@@ -92,6 +92,7 @@ module _ (o : Origin) (q : State) (value : ℕ → ℕ) (n : ℕ) (write : Key �
     down = λ down. down;
     drawn = λ key e drawn. list_any-append (λ d. nat_eq d.commit.timestamp e && writes_key key d.commit) q.drawn (drawn_now q (write ∷ rest) ∷ []) ∙ or_left (is_drawn_on q key e) (list_any (λ d. nat_eq d.commit.timestamp e && writes_key key d.commit) (drawn_now q (write ∷ rest) ∷ [])) drawn;
     stamped = λ key u d found is. stamped key u d found is (cases_eq u q.next);
+    unswept = λ is. is;
     follows = λ key t u f. record { place = f.place; since = f.since; commit = f.commit; at = f.at; writes = f.writes; stamped = f.stamped; last = f.last };
   }
     where
@@ -180,6 +181,7 @@ shows-next o q Begin value kept none quiet shows =
     shows-session o q value shows (unwrap_or (free_session q) 0) (Some (Active (length q.history) [])) (sym (ap writes_of (free-session q (allowed q Begin none).room)))
     (λ begun writes e. inl (sym (ap begun_of e)))
 shows-next o q (Get n key) value kept none quiet shows = shows
+shows-next o q (Scan n table lo hi) value kept none quiet shows = shows
 shows-next o q (Put n key row) value kept none quiet shows = absurd (true≢false quiet)
 shows-next o q (Delete n key) value kept none quiet shows =
     let a = allowed q (Delete n key) none in

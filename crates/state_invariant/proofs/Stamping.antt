@@ -170,6 +170,7 @@ module _ (o : Origin) (q : State) (t : ℕ) (unfinished : list_any (λ d. nat_eq
       hand = λ hand is. hand-stamped hand (n.hand hand is);
       origin = origin-stamped;
       snapshots = n.snapshots;
+      numbered = n.numbered;
     };
     draws = record {
       rising = ap are_rising (timestamps-counted t q.drawn) ∙ k.rising;

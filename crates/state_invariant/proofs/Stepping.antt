@@ -1,7 +1,7 @@
 -- Every step, whatever it answers, keeps what a state keeps.
 use Rattle.std.proofs.Common.{◌≡◌, ◌+◌, Bool, true, false, cond, List, [], ◌∷◌, refl, sym, subst, Option, Some, None}
 use Rattle.base.specs.declared.step.Step.{Step}
-use Rattle.base.specs.declared.step.Step.TheVariants.{Begin, Get, Put, Delete, Draw, Stamp, Poll, Abort, End, Commit as CommitTick}
+use Rattle.base.specs.declared.step.Step.TheVariants.{Begin, Get, Scan, Put, Delete, Draw, Stamp, Poll, Abort, End, Commit as CommitTick}
 use Rattle.base.specs.declared.step.Stage.{Stage}
 use Rattle.base.specs.declared.step.Reply.{Reply}
 use Rattle.base.specs.Machine.{State, Hand, Stepped, refused, answered, memory_refused, device_failed, Run, final, next_state, refusal, state_ticked, state_ticked_on, next_stage, is_idle, taken_in_hand}
@@ -52,6 +52,7 @@ keeps-with_hand o q hand failed kept keeps =
         hand = λ h is. hand-as q hand failed h (keeps h is);
         origin = record { formed = p.formed; opened = p.opened; further = p.further; before = p.before; since = p.since; drawn = p.drawn; distinct = p.distinct; each = p.each; still = p.still; gaps = p.gaps };
         snapshots = n.snapshots;
+        numbered = n.numbered;
       };
       draws = record { rising = d.rising; apart = d.apart; counted = d.counted; in_order = d.in_order; sorted = d.sorted; drew = d.drew };
       owns = record { once = w.once; has = w.has; before = w.before; by_session = w.by_session; by_draw = w.by_draw; at_snapshot = w.at_snapshot };
@@ -98,6 +99,7 @@ keeps-ticked o q (Some hand) kept is = keeps-ticked_on o q hand (next_stage q ha
 pub keeps-next : (o : Origin) (q : State) (step : Step) → Keeps o q → refusal q step ≡ None → Keeps o (next_state q step)
 keeps-next o q Begin kept none = keeps-begin o q kept none
 keeps-next o q (Get n key) kept none = kept
+keeps-next o q (Scan n table lo hi) kept none = kept
 keeps-next o q (Put n key row) kept none = keeps-put o q n key row kept none
 keeps-next o q (Delete n key) kept none = keeps-delete o q n key kept none
 keeps-next o q (Draw n) kept none = keeps-draw o q n kept none

@@ -7,7 +7,7 @@ use Rattle.base.specs.Commits.{Commit, Writes, after, writes_key, last_writer}
 use Rattle.base.specs.Layout.{is_in_limits}
 use Rattle.base.specs.Records.{Record, is_committed, is_in, is_well_formed, are_rising}
 use Rattle.base.specs.Stands.{has_timestamp}
-use Rattle.base.specs.Machine.{State, Active, Drew, Drawn, Hand, Version, Writer, BySession, ByCommit, drawn_at, drawn_of, is_stamped, writes_of}
+use Rattle.base.specs.Machine.{most_sessions, State, Session, Active, Drew, Drawn, Hand, Version, Writer, BySession, ByCommit, drawn_at, drawn_of, is_stamped, writes_of}
 
 -- ---- a life
 
@@ -41,6 +41,10 @@ are_distinct (commit ∷ commits) = not (has_timestamp commits commit.timestamp)
 -- sessions, and the one that sees all
 abbrev pub IsInUse : State → ℕ → Type 0
 IsInUse q n = (n ≡ length q.history) ⊎ ((session : ℕ) × (writes : Writes) × (q.sessions session ≡ Some (Active n writes)))
+
+-- the numbers that sessions may have
+abbrev pub IsSessionNumber : ℕ → Type 0
+IsSessionNumber n = (2 ≤ n) × (n < 2 + most_sessions)
 
 -- ---- versions
 
@@ -117,6 +121,7 @@ pub record KeepsNumbers (o : Origin) (q : State) : Type 0 where
   pub origin : KeepsOrigin o q
   -- each snapshot has what the opening found, and no more than is covered
   pub snapshots : (n begun : ℕ) (writes : Writes) → q.sessions n ≡ Some (Active begun writes) → (o.opened ≤ begun) × (begun ≤ length q.history)
+  pub numbered : (n : ℕ) (session : Session) → q.sessions n ≡ Some session → IsSessionNumber n
 
 -- ---- draws
 

@@ -4,7 +4,7 @@ use Rattle.std.specs.Prelude.{Option, Some, None, unwrap_or, length}
 use Rattle.std.proofs.lemmas.Bool.{eqb-true}
 use Rattle.base.specs.declared.key.Key.{Key}
 use Rattle.base.specs.declared.step.Step.{Step}
-use Rattle.base.specs.declared.step.Step.TheVariants.{Begin, Get, Put, Delete, Draw, Stamp, Poll, Abort, End, Commit as CommitTick}
+use Rattle.base.specs.declared.step.Step.TheVariants.{Begin, Get, Scan, Put, Delete, Draw, Stamp, Poll, Abort, End, Commit as CommitTick}
 use Rattle.base.specs.declared.step.Reply.{Reply}
 use Rattle.base.specs.Commits.{Writes, with_write}
 use Rattle.base.specs.Machine.{State, Session, Active, WroteNothing, Version, Writer, BySession, ByCommit, Stepped, refused, answered, memory_refused, device_failed, replaced, free_session, writes_of, begun_of, is_by, is_own_at, is_held_by, held_after_delete, held_after_abort, state_drawn, next_state, operates}
@@ -65,6 +65,7 @@ module _ (o : Origin) (q : State) (device : Device) (u : Upholds o q device) whe
   next-leads : (step : Step) → is_quiet step ≡ true → Keeps o (next_state q step) → SlotsShow o (next_state q step) (value_of device) → Upholds o (next_state q step) device
   next-leads Begin quiet keeps shows = sessions-lead (replaced (unwrap_or (free_session q) 0) (Some (Active (length q.history) [])) q.sessions) keeps shows
   next-leads (Get n key) quiet keeps shows = u
+  next-leads (Scan n table lo hi) quiet keeps shows = u
   next-leads (Put n key row) quiet keeps shows = absurd (cc quiet)
   next-leads (Delete n key) quiet keeps shows =
       holders-keep o q (replaced n (Some (Active (begun_of (q.sessions n)) (with_write key None (writes_of (q.sessions n))))) q.sessions) (held_after_delete q n key) device (λ slot lt. deletes q n key device slot) keeps shows u
@@ -78,6 +79,7 @@ module _ (o : Origin) (q : State) (device : Device) (u : Upholds o q device) whe
 stores-none : (step : Step) → is_quiet step ≡ true → stores step ≡ false
 stores-none Begin quiet = refl
 stores-none (Get n key) quiet = refl
+stores-none (Scan n table lo hi) quiet = refl
 stores-none (Put n key row) quiet = absurd (cc quiet)
 stores-none (Delete n key) quiet = refl
 stores-none (Draw n) quiet = refl
@@ -90,6 +92,7 @@ stores-none CommitTick quiet = refl
 operates-none : (q : State) (step : Step) → is_quiet step ≡ true → operates q step ≡ true → ⊥
 operates-none q Begin quiet is = cc is
 operates-none q (Get n key) quiet is = cc is
+operates-none q (Scan n table lo hi) quiet is = cc is
 operates-none q (Put n key row) quiet is = cc quiet
 operates-none q (Delete n key) quiet is = cc is
 operates-none q (Draw n) quiet is = cc is

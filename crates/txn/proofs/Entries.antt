@@ -1,7 +1,7 @@
 -- A table whose first entry has the number 2.
-use Rattle.std.proofs.Common.{◌≡◌, ◌≢◌, ℕ, zero, suc, ◌+◌, ◌-◌, ◌<◌, ◌≤◌, Bool, true, false, cond, List, [], ◌∷◌, length, map, set, refl, sym, ◌∙◌, ap, subst, arith, nat_eq, nat_lt, Option, Some, None, IsSome, get_or, length-set, rules}
-use Rattle.std.specs.Prelude.{is_none, find, slice_index_or, slice_set}
-use Rattle.std.specs.List.{range_with_len, list_all}
+use Rattle.std.proofs.Common.{◌≡◌, ◌≢◌, ℕ, zero, suc, ◌-◌, ◌<◌, ◌≤◌, Bool, true, false, cond, List, [], ◌∷◌, length, map, set, refl, sym, ◌∙◌, ap, subst, arith, nat_eq, nat_lt, Option, Some, None, IsSome, get_or, length-set, rules}
+use Rattle.std.specs.Prelude.{is_none, slice_index_or, slice_set}
+use Rattle.std.specs.List.{list_all}
 use Rattle.std.proofs.lemmas.Bool.Decides.{nat_tests}
 use Rattle.std.proofs.Math.ListN.{get_or-map}
 use Rattle.std.proofs.lemmas.List.{get_or-set_other, get_or_past}

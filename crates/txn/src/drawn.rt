@@ -36,18 +36,21 @@ pub struct DrawnCommits {
 }
 
 impl Model for DrawnCommits {
-    ghost use Rattle.std.specs.Prelude.{vec_len, vec_capacity, ◌-◌};
+    ghost use Rattle.std.specs.Prelude.{vec_len, vec_capacity, ◌-◌, IsTrue};
     ghost use Rattle.txn.specs.InFlight.{InFlight};
+    ghost use Rattle.txn.specs.DrawnCommits.{are_numbered};
 
     ghost Value = { InFlight };
 
     ghost view = { λ d. record { commits = d.commits.items; spare = vec_capacity d.commits - vec_len d.commits } };
+
+    ghost invariant = { λ d. IsTrue (are_numbered d.commits.items) };
 }
 
 impl DrawnCommits {
-    ghost use Rattle.std.specs.Prelude.{◌≤◌, ◌<◌, ◌++◌, [], ◌∷◌, length, drop, option_copied, IfErr, OnOk, OnErr};
+    ghost use Rattle.std.specs.Prelude.{◌≤◌, ◌<◌, ◌++◌, [], ◌∷◌, length, drop, option_copied, IfErr, IsTrue, OnOk, OnErr};
     ghost use Rattle.base.specs.declared.fault.Fault.TheVariants.{OutOfMemory};
-    ghost use Rattle.txn.specs.DrawnCommits.{drawn_at, stamped_run};
+    ghost use Rattle.txn.specs.DrawnCommits.{are_numbered, drawn_at, stamped_run};
 
     /// None is drawn.
     pub fn new(alloc: Global) -> DrawnCommits
@@ -58,9 +61,10 @@ impl DrawnCommits {
         }
     }
 
-    /// The commits, by rising timestamp where they were drawn so.
+    /// The commits, by rising timestamp where they were drawn so. The sessions that drew them have numbers below 64.
     pub fn as_slice(&self) -> &[DrawnCommit]
-        ensures { result.now ≡ self.now.commits }
+        ensures commits { result.now ≡ self.now.commits }
+        ensures numbered { IsTrue (are_numbered self.now.commits) }
     {
         self.commits.as_slice()
     }
@@ -90,7 +94,8 @@ impl DrawnCommits {
 
     /// Adds the commit that was drawn last, where there is room for it.
     pub fn push(&mut self, commit: DrawnCommit)
-        requires { 0 < self.old.spare }
+        requires room { 0 < self.old.spare }
+        requires numbered { commit.session < 64 }
         ensures { self.new.commits ≡ self.old.commits ++ commit ∷ [] }
     {
         self.commits.push_reserved(commit);
@@ -160,7 +165,6 @@ mod tests {
             key: Key { table: 1, key: 5 },
             row: None,
             slot: None,
-            replaces: None,
         });
         let mut drawn = DrawnCommits::new(rt.alloc());
         for (session, timestamp) in [(2, 8), (3, 9)] {

@@ -169,7 +169,6 @@ mod tests {
                 key: Key { table: 1, key: 5 },
                 row: None,
                 slot: None,
-                replaces: None,
             },
         );
         match transactions.get(first) {

@@ -91,6 +91,7 @@ fn name_of<'a>(order: &Order<'a>) -> &'a str {
         Order::Format { file, .. } => file,
         Order::Run { file } => file,
         Order::Check { file } => file,
+        Order::Lives { file } => file,
     }
 }
 
@@ -99,7 +100,7 @@ fn read_file(rt: &impl Files, alloc: Global, order: &Order) -> io::Result<Vec<u8
     let mut bytes = Vec::new(alloc);
     match *order {
         Order::Format { .. } => {}
-        Order::Run { file } | Order::Check { file } => {
+        Order::Run { file } | Order::Check { file } | Order::Lives { file } => {
             let most = MOST_FILE_BYTES as u64 + 1;
             File::open(rt, file)?.take(most).read_to_end(&mut bytes)?;
         }

@@ -4,11 +4,11 @@ use Rattle.std.specs.List.{range_with_len}
 use Rattle.base.specs.declared.key.Key.{Key}
 use Rattle.base.specs.declared.fault.Fault.TheVariants.{Device, Failed, Conflict, WindowFull, SlotsOut, SessionsFull, WriteSetFull, NoSession, WrongState, TimestampsOut}
 use Rattle.base.specs.declared.step.Step.{Step}
-use Rattle.base.specs.declared.step.Step.TheVariants.{Begin, Get, Put, Delete, Draw, Stamp, Poll, Abort, End, Commit as CommitTick}
+use Rattle.base.specs.declared.step.Step.TheVariants.{Begin, Get, Scan, Put, Delete, Draw, Stamp, Poll, Abort, End, Commit as CommitTick}
 use Rattle.base.specs.declared.step.Stage.TheVariants.{Chosen, LineFlushed, LinesFenced, BodyStored, BodyFlushed, BodyFenced, GateStored, GateFlushed}
 use Rattle.base.specs.declared.step.Reply.{Reply}
-use Rattle.base.specs.declared.step.Reply.TheVariants.{Began, Row, Done, Drawn as DrewAs, More, Stamped, Waiting, Committed, Idle, Ticked, Covered, Refused}
-use Rattle.base.specs.Commits.{after}
+use Rattle.base.specs.declared.step.Reply.TheVariants.{Began, Row, Rows, Done, Drawn as DrewAs, More, Stamped, Waiting, Committed, Idle, Ticked, Covered, Refused}
+use Rattle.base.specs.Commits.{Commit, after}
 use Rattle.base.specs.Machine.{State, Active, BySession, ByCommit, replaced, Stepped, most_operations, operates, refusal, closed}
 use Rattle.base.specs.Openings.{opened}
 use Rattle.base.specs.Replay.{replies, end}
@@ -123,10 +123,10 @@ numbered_key n = record { table = 2; key = n }
 abbrev pub with_32_keys : State
 with_32_keys = end start (Begin ∷ map (λ n. Delete 2 (numbered_key n)) (range_with_len 0 32))
 
--- what the first stages refuse: a second session
-pub record Restricted : Type 0 where
-  pub one_session : replies start (Begin ∷ Begin ∷ Get 3 key_7 ∷ Stamp 2 ∷ End 2 ∷ Draw 2 ∷ Begin ∷ End 2 ∷ Begin ∷ [])
-      ≡ Began 2 ∷ Refused SessionsFull ∷ Refused NoSession ∷ Refused WrongState ∷ Refused WrongState ∷ Done ∷ Refused SessionsFull ∷ Done ∷ Began 2 ∷ []
+-- a session has the lowest number that is free, and each step its state
+pub record SessionNumbers : Type 0 where
+  pub lowest : replies start (Begin ∷ Begin ∷ Get 4 key_7 ∷ Stamp 2 ∷ End 2 ∷ Draw 2 ∷ Begin ∷ End 2 ∷ Begin ∷ [])
+      ≡ Began 2 ∷ Began 3 ∷ Refused NoSession ∷ Refused WrongState ∷ Refused WrongState ∷ Done ∷ Began 4 ∷ Done ∷ Began 2 ∷ []
 
 -- a transaction sees what it wrote and what it deleted; a deletion of what never was is a commit, without a slot or a line
 pub record OwnWrites : Type 0 where
@@ -135,6 +135,33 @@ pub record OwnWrites : Type 0 where
   pub operations : operates (end start (Begin ∷ Delete 2 key_7 ∷ Draw 2 ∷ [])) (Stamp 2) ≡ false
   pub covers : last_reply (replies start (Begin ∷ Delete 2 key_7 ∷ Draw 2 ∷ Stamp 2 ∷ ticks 41))
       ≡ Covered (record { from = 2; stamp = 3; persisted = 1; commits = record { timestamp = 1; writes = (key_7, None) ∷ [] } ∷ [] })
+
+-- keys on both sides of those two
+abbrev pub key_6 : Key
+key_6 = record { table = 1; key = 6 }
+
+abbrev pub key_9 : Key
+key_9 = record { table = 1; key = 9 }
+
+-- three commits of table 1
+abbrev pub three_commits : List Commit
+three_commits =
+    record { timestamp = 1; writes = (key_7, Some ab) ∷ (key_8, Some []) ∷ [] } ∷ record { timestamp = 2; writes = (key_8, None) ∷ (key_9, Some ab) ∷ [] }
+    ∷ record { timestamp = 3; writes = (key_7, None) ∷ [] } ∷ []
+
+-- a session that sees the first two of them, and has put key 6 and deleted key 9
+abbrev pub reading : State
+reading = record start {
+  history = three_commits;
+  sessions = λ n. replaced 2 (Some (Active 2 ((key_6, Some []) ∷ (key_9, None) ∷ []))) (λ m. None) n;
+}
+
+-- a scan shows the rows of the session's snapshot with its own writes laid over, by rising key, both ends included
+pub record Scans : Type 0 where
+  pub whole : replies reading (Scan 2 1 0 9 ∷ []) ≡ Rows ((key_6, []) ∷ (key_7, ab) ∷ []) ∷ []
+  pub ends : replies reading (Scan 2 1 6 7 ∷ Scan 2 1 7 7 ∷ []) ≡ Rows ((key_6, []) ∷ (key_7, ab) ∷ []) ∷ Rows ((key_7, ab) ∷ []) ∷ []
+  pub empty : replies reading (Scan 2 1 8 9 ∷ Scan 2 1 7 6 ∷ Scan 2 2 0 9 ∷ []) ≡ Rows [] ∷ Rows [] ∷ Rows [] ∷ []
+  pub refuses : replies reading (Scan 3 1 0 9 ∷ Draw 2 ∷ Scan 2 1 0 9 ∷ []) ≡ Refused NoSession ∷ DrewAs 1 ∷ Refused WrongState ∷ []
 
 -- an update takes a slot of its own, and the version that it replaces keeps its slot; its cycle has two lines
 pub record Update : Type 0 where

@@ -2,7 +2,7 @@
 #![tactic(auto)]
 
 ghost use Rattle.worked.specs.Images.{FirstRunImages, DamagedImages, NinthGap, ReadImages, LongCommits};
-ghost use Rattle.worked.specs.Runs.{FirstCommit, FailedFence, LostCommit, EmptyWriteSet, HalfWritten, CloseThenOpen, Restricted, OwnWrites, Update, TwoKeys, AbortedWrites, FullWriteSet, NoSlotLeft, FirstCommitterWins, NoTimestampLeft};
+ghost use Rattle.worked.specs.Runs.{FirstCommit, FailedFence, LostCommit, EmptyWriteSet, HalfWritten, CloseThenOpen, SessionNumbers, OwnWrites, Scans, Update, TwoKeys, AbortedWrites, FullWriteSet, NoSlotLeft, FirstCommitterWins, NoTimestampLeft};
 
 /// The words of the images of a first run, and what they stand for.
 pub fn first_run_images()
@@ -59,14 +59,19 @@ pub fn close_then_open()
     ensures { CloseThenOpen }
 {}
 
-/// What the first stages refuse.
-pub fn first_stage_limits()
-    ensures { Restricted }
+/// A session has the lowest number that is free.
+pub fn session_numbers()
+    ensures { SessionNumbers }
 {}
 
 /// A transaction sees what it wrote and deleted.
 pub fn own_writes()
     ensures { OwnWrites }
+{}
+
+/// A scan shows its snapshot's rows of a range, with the session's own writes laid over.
+pub fn scans()
+    ensures { Scans }
 {}
 
 /// An update takes a slot of its own and leaves the version that it replaces in place.

@@ -1,4 +1,4 @@
-use Rattle.std.proofs.Common.{◌∙◌, None, Option, List, unwrap_or, ap, ℕ}
+use Rattle.std.proofs.Common.{◌∙◌, Option, List, unwrap_or, ap, ℕ}
 use Rattle.base.specs.Keys.{lookup_key}
 use Rattle.board.proofs.Puts.{none_on}
 use Rattle.board.proofs.rows.overlay.Goals as goal

@@ -1,4 +1,4 @@
-use Rattle.std.proofs.Common.{rules, ◌∙◌}
+use Rattle.std.proofs.Common.{◌∙◌}
 use Rattle.board.proofs.Puts.{found}
 use Rattle.board.proofs.rows.row_of.Goals as goal
 

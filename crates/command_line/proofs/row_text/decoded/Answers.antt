@@ -1,5 +1,4 @@
 use Rattle.std.proofs.Common.{rules}
-use Rattle.std.proofs.lemmas.Grind.{common_steps}
 use Rattle.command_line.proofs.Rows.{hex-row, no_hex-no_row, bad-no_row}
 use Rattle.command_line.proofs.row_text.decoded.Goals.{then-is_empty-via-then-is_empty, then-is_empty-via-else-is_empty+then-has_upper_case, then-is_empty-via-else-is_empty+else-has_upper_case+then-not-is_hex}
 use Rattle.command_line.proofs.row_text.decoded.Goals as goal

@@ -1,6 +1,6 @@
 use Rattle.std.proofs.Common.{take}
 use Rattle.std.specs.Io.KnownBytes.{Appends}
-use Rattle.console.specs.Checked.{entries_text}
+use Rattle.command_line.specs.Texts.{entries_text}
 use Rattle.console.proofs.checking.show_rows.Given as goal
 
 abbrev pub invariant-loop-key : goal.invariant-loop-key

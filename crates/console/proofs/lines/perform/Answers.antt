@@ -1,6 +1,6 @@
 use Rattle.std.proofs.Common.{List, ℕ, subst}
 use Rattle.base.specs.Machine.{State}
-use Rattle.command_line.specs.declared.command.Command.TheVariants.{Begin, Get, Put, Delete, Draw, Stamp, Poll, Abort, End, Commit, Cycle}
+use Rattle.command_line.specs.declared.command.Command.TheVariants.{Begin, Get, Scan, Put, Delete, Draw, Stamp, Poll, Abort, End, Commit, Cycle}
 use Rattle.console.specs.Obeyed.{Puts}
 use Rattle.console.proofs.Kept.{leads-by}
 use Rattle.console.proofs.Obeyed.{comes-as}
@@ -11,6 +11,10 @@ returns-in-Begin-clause-comes g c = comes-as g.D.Pmem.state c.args.room.now c.st
 
 pub returns-in-Get-clause-comes : goal.returns-in-Get-clause-comes
 returns-in-Get-clause-comes g c = comes-as g.D.Pmem.state c.args.room.now c.step-in-Get.new.room c.args.command.now (Get c.in-Get.session c.in-Get.key) c.step-in-Get.result c.in-Get.is c.step-in-Get.ensures
+
+pub returns-in-Scan-clause-comes : goal.returns-in-Scan-clause-comes
+returns-in-Scan-clause-comes g c =
+    comes-as g.D.Pmem.state c.args.room.now c.step-in-Scan.new.room c.args.command.now (Scan c.in-Scan.session c.in-Scan.table c.in-Scan.lo c.in-Scan.hi) c.step-in-Scan.result c.in-Scan.is c.step-in-Scan.ensures
 
 pub returns-in-Delete-clause-comes : goal.returns-in-Delete-clause-comes
 returns-in-Delete-clause-comes g c = comes-as g.D.Pmem.state c.args.room.now c.step-in-Delete.new.room c.args.command.now (Delete c.in-Delete.session c.in-Delete.key) c.step-in-Delete.result c.in-Delete.is c.step-in-Delete.ensures

@@ -1,8 +1,17 @@
-use Rattle.std.proofs.Common.{sym, refl, subst, arith}
+use Rattle.std.specs.Prelude.{◌≡◌, ◌<◌, Bool, List, Option, IfErr, OnErr, Result, Ok, Err}
+use Rattle.base.specs.declared.gap.Gap.{Gap}
+use Rattle.base.specs.declared.fault.Fault.{Fault}
+use Rattle.base.specs.declared.fault.Fault.TheVariants.{Device as DeviceFault}
+use Rattle.base.specs.Layout.{Layout}
+use Rattle.base.specs.Records.{Record}
+use Rattle.base.specs.Images.{Image, opening_fault}
+use Rattle.pmem.specs.Device.{Device}
 use Rattle.pmem.specs.Words.{image_of}
+use Rattle.recovery.specs.Read.{TellsLogFault}
+use Rattle.recovery.specs.declared.rows.LiveSlot.{LiveSlot}
 use Rattle.recovery.specs.declared.opening.Life.{Life}
-use Rattle.recovery.specs.Opened.{HasOpened}
-use Rattle.recovery.proofs.Lives.{is, some-dirty, limit, gate-limit, target-is, device-words, next-target, images-swept, images-meanwhile, has-opened, images-refused, refusal-examined, refusal-device}
+use Rattle.recovery.specs.Opened.{Examined, IsRefusal}
+use Rattle.recovery.proofs.Lives.{images-refused, refusal-examined, refusal-device}
 use Rattle.recovery.proofs.WhatIsRead.{tells-examined}
 use Rattle.recovery.proofs.opening.open_device.Goals as goal
 
@@ -15,85 +24,20 @@ returns-in-Err-clause-images g c = images-refused (g.D.Pmem.state c.args.device.
 pub returns-in-Err-clause-log : goal.returns-in-Err-clause-log
 returns-in-Err-clause-log g c = c.in-Err.ensures.log
 
--- ---- the gaps
+refused-later : (old new : Device) (result : Result Life Fault) (layout : Layout) (r : Record) (gaps : Option (List Gap)) (free : List Bool) (live : List LiveSlot) → Examined (image_of old) layout r gaps free live
+    → IfErr result (λ fault. fault ≡ DeviceFault) → OnErr result (old.failures < new.failures) → IfErr result (IsRefusal (opening_fault (image_of old)) old new)
+refused-later old new (Ok life) layout r gaps free live ex is more = tt
+refused-later old new (Err fault) layout r gaps free live ex is more = refusal-device old new fault layout r gaps free live ex is more
 
-pub keep_gaps-requires-clause-rules : goal.keep_gaps-requires-clause-rules
-keep_gaps-requires-clause-rules g c = (is (image_of (g.D.Pmem.state c.args.device.now)) c.in-Ok.found.geometry c.in-Ok.found.ruling c.in-Ok.found.gaps c.in-Ok.found.free.items c.in-Ok.found.live.items c.in-Ok.ensures.ok).rules
+told-later : (image : Image) (result : Result Life Fault) (layout : Layout) (r : Record) (gaps : Option (List Gap)) (free : List Bool) (live : List LiveSlot) → Examined image layout r gaps free live → IfErr result (TellsLogFault image)
+told-later image (Ok life) layout r gaps free live ex = tt
+told-later image (Err fault) layout r gaps free live ex = tells-examined image layout r gaps free live ex fault
 
-pub keep_gaps-requires-clause-gaps : goal.keep_gaps-requires-clause-gaps
-keep_gaps-requires-clause-gaps g c = (is (image_of (g.D.Pmem.state c.args.device.now)) c.in-Ok.found.geometry c.in-Ok.found.ruling c.in-Ok.found.gaps c.in-Ok.found.free.items c.in-Ok.found.live.items c.in-Ok.ensures.ok).gaps_are
+pub returns-clause-fault : goal.returns-clause-fault
+returns-clause-fault g c =
+    refused-later (g.D.Pmem.state c.args.device.now) (g.D.Pmem.state c.open.new.device) c.open.result c.in-Ok.found.geometry c.in-Ok.found.ruling c.in-Ok.found.gaps c.in-Ok.found.free.items c.in-Ok.found.live.items c.in-Ok.ensures.ok
+    c.open.ensures.fault c.open.ensures.failed
 
-pub returns-in-Err-keep_gaps-clause-fault : goal.returns-in-Err-keep_gaps-clause-fault
-returns-in-Err-keep_gaps-clause-fault g c =
-    refusal-device (g.D.Pmem.state c.args.device.now) (g.D.Pmem.state c.keep_gaps.new.device) c.in-Err-keep_gaps.fault c.in-Ok.found.geometry c.in-Ok.found.ruling c.in-Ok.found.gaps c.in-Ok.found.free.items c.in-Ok.found.live.items c.in-Ok.ensures.ok
-    c.in-Err-keep_gaps.ensures.fault (omega (arith, c.in-Err-keep_gaps.ensures.failed))
-
-pub returns-in-Err-keep_gaps-clause-log : goal.returns-in-Err-keep_gaps-clause-log
-returns-in-Err-keep_gaps-clause-log g c = tells-examined (image_of (g.D.Pmem.state c.args.device.now)) c.in-Ok.found.geometry c.in-Ok.found.ruling c.in-Ok.found.gaps c.in-Ok.found.free.items c.in-Ok.found.live.items c.in-Ok.ensures.ok c.in-Err-keep_gaps.fault
-
-pub returns-in-Err-keep_gaps-clause-images : goal.returns-in-Err-keep_gaps-clause-images
-returns-in-Err-keep_gaps-clause-images g c =
-    let mid = g.D.Pmem.state c.keep_gaps.new.device in
-    images-swept (g.D.Pmem.state c.args.device.now) mid mid (g.met.D.Pmem.orderly c.keep_gaps.new.device) c.requires c.in-Ok.found.geometry c.in-Ok.found.ruling c.in-Ok.found.gaps c.in-Ok.found.free.items c.in-Ok.found.live.items c.in-Ok.ensures.ok c.in-Err-keep_gaps.ensures.kept
-
--- ---- the record
-
-pub next_record-target-requires-clause-dirty : goal.next_record-target-requires-clause-dirty
-next_record-target-requires-clause-dirty g c = some-dirty (image_of (g.D.Pmem.state c.args.device.now)) c.in-Ok.found.geometry c.in-Ok.found.ruling c.in-Ok.found.gaps c.in-Ok.found.free.items c.in-Ok.found.live.items c.in-Ok.ensures.ok
-
-pub next_record-target-requires-clause-limit : goal.next_record-target-requires-clause-limit
-next_record-target-requires-clause-limit g c = limit (image_of (g.D.Pmem.state c.args.device.now)) c.in-Ok.found.geometry c.in-Ok.found.ruling c.in-Ok.found.gaps c.in-Ok.found.free.items c.in-Ok.found.live.items c.in-Ok.ensures.ok
-
-pub next_record-target-requires-clause-gate : goal.next_record-target-requires-clause-gate
-next_record-target-requires-clause-gate g c = gate-limit (image_of (g.D.Pmem.state c.args.device.now)) c.in-Ok.found.geometry c.in-Ok.found.ruling c.in-Ok.found.gaps c.in-Ok.found.free.items c.in-Ok.found.live.items c.in-Ok.ensures.ok
-
-pub write_record-requires : goal.write_record-requires
-write_record-requires g c =
-    let mid = g.D.Pmem.state c.keep_gaps.new.device in
-    device-words (g.D.Pmem.state c.args.device.now) mid mid (g.met.D.Pmem.orderly c.keep_gaps.new.device) c.requires c.in-Ok.found.geometry c.in-Ok.found.ruling c.in-Ok.found.gaps c.in-Ok.found.free.items c.in-Ok.found.live.items c.in-Ok.ensures.ok c.in-Ok-keep_gaps.ensures.kept
-
-pub returns-in-Err-write_record-clause-fault : goal.returns-in-Err-write_record-clause-fault
-returns-in-Err-write_record-clause-fault g c =
-    refusal-device (g.D.Pmem.state c.args.device.now) (g.D.Pmem.state c.write_record.new.device) c.in-Err-write_record.fault c.in-Ok.found.geometry c.in-Ok.found.ruling c.in-Ok.found.gaps c.in-Ok.found.free.items c.in-Ok.found.live.items c.in-Ok.ensures.ok
-    c.in-Err-write_record.ensures.fault (omega (arith, c.in-Err-write_record.ensures.failed, c.in-Ok-keep_gaps.ensures.kept.images.continues.failures))
-
-pub returns-in-Err-write_record-clause-log : goal.returns-in-Err-write_record-clause-log
-returns-in-Err-write_record-clause-log g c = tells-examined (image_of (g.D.Pmem.state c.args.device.now)) c.in-Ok.found.geometry c.in-Ok.found.ruling c.in-Ok.found.gaps c.in-Ok.found.free.items c.in-Ok.found.live.items c.in-Ok.ensures.ok c.in-Err-write_record.fault
-
-pub returns-in-Err-write_record-clause-images : goal.returns-in-Err-write_record-clause-images
-returns-in-Err-write_record-clause-images g c =
-    let old = g.D.Pmem.state c.args.device.now in
-    let mid = g.D.Pmem.state c.keep_gaps.new.device in
-    let new = g.D.Pmem.state c.write_record.new.device in
-    let orderly = g.met.D.Pmem.orderly c.keep_gaps.new.device in
-    let kept = c.in-Ok-keep_gaps.ensures in
-    let target = c.next_record-target.result in
-    let same = target-is (image_of old) c.in-Ok.found.geometry c.in-Ok.found.ruling c.in-Ok.found.gaps c.in-Ok.found.free.items c.in-Ok.found.live.items c.in-Ok.ensures.ok target c.in-Ok-keep_gaps.gaps kept.ok c.next_record-target.ensures in
-    let follows = next-target old mid new orderly c.requires c.in-Ok.found.geometry c.in-Ok.found.ruling c.in-Ok.found.gaps c.in-Ok.found.free.items c.in-Ok.found.live.items c.in-Ok.ensures.ok kept.kept kept.rest kept.image target same in
-    images-meanwhile old mid new orderly c.requires c.in-Ok.found.geometry c.in-Ok.found.ruling c.in-Ok.found.gaps c.in-Ok.found.free.items c.in-Ok.found.live.items c.in-Ok.ensures.ok kept.kept kept.rest kept.image target same (c.in-Err-write_record.ensures.images c.in-Ok.found.ruling follows) c.in-Err-write_record.ensures.outside
-
-pub returns-in-Ok-write_record-clause-images : goal.returns-in-Ok-write_record-clause-images
-returns-in-Ok-write_record-clause-images g c =
-    let old = g.D.Pmem.state c.args.device.now in
-    let mid = g.D.Pmem.state c.keep_gaps.new.device in
-    let new = g.D.Pmem.state c.write_record.new.device in
-    let orderly = g.met.D.Pmem.orderly c.keep_gaps.new.device in
-    let kept = c.in-Ok-keep_gaps.ensures in
-    let target = c.next_record-target.result in
-    let same = target-is (image_of old) c.in-Ok.found.geometry c.in-Ok.found.ruling c.in-Ok.found.gaps c.in-Ok.found.free.items c.in-Ok.found.live.items c.in-Ok.ensures.ok target c.in-Ok-keep_gaps.gaps kept.ok c.next_record-target.ensures in
-    let follows = next-target old mid new orderly c.requires c.in-Ok.found.geometry c.in-Ok.found.ruling c.in-Ok.found.gaps c.in-Ok.found.free.items c.in-Ok.found.live.items c.in-Ok.ensures.ok kept.kept kept.rest kept.image target same in
-    images-meanwhile old mid new orderly c.requires c.in-Ok.found.geometry c.in-Ok.found.ruling c.in-Ok.found.gaps c.in-Ok.found.free.items c.in-Ok.found.live.items c.in-Ok.ensures.ok kept.kept kept.rest kept.image target same (c.in-Ok-write_record.ensures.images c.in-Ok.found.ruling follows) c.in-Ok-write_record.ensures.outside
-
-pub returns-in-Ok-write_record-clause-ok : goal.returns-in-Ok-write_record-clause-ok
-returns-in-Ok-write_record-clause-ok g c =
-    let old = g.D.Pmem.state c.args.device.now in
-    let mid = g.D.Pmem.state c.keep_gaps.new.device in
-    let new = g.D.Pmem.state c.write_record.new.device in
-    let orderly = g.met.D.Pmem.orderly c.keep_gaps.new.device in
-    let kept = c.in-Ok-keep_gaps.ensures in
-    let target = c.next_record-target.result in
-    let same = target-is (image_of old) c.in-Ok.found.geometry c.in-Ok.found.ruling c.in-Ok.found.gaps c.in-Ok.found.free.items c.in-Ok.found.live.items c.in-Ok.ensures.ok target c.in-Ok-keep_gaps.gaps kept.ok c.next_record-target.ensures in
-    let follows = next-target old mid new orderly c.requires c.in-Ok.found.geometry c.in-Ok.found.ruling c.in-Ok.found.gaps c.in-Ok.found.free.items c.in-Ok.found.live.items c.in-Ok.ensures.ok kept.kept kept.rest kept.image target same in
-    let has = has-opened old mid new orderly c.requires c.in-Ok.found.geometry c.in-Ok.found.ruling c.in-Ok.found.gaps c.in-Ok.found.free.items c.in-Ok.found.live.items c.in-Ok.ensures.ok kept.kept kept.rest kept.image target same
-    (c.in-Ok-write_record.ensures.holds c.in-Ok.found.ruling follows) c.in-Ok-write_record.ensures.outside kept.none kept.made c.in-Ok-write_record.ensures.made c.in-Ok.found.ruling.dirty refl in
-    subst (λ (life : Life). HasOpened old new life.geometry life.ruling life.next life.free.items life.live.items) (sym c.begun.ensures) has
+pub returns-clause-log : goal.returns-clause-log
+returns-clause-log g c =
+    told-later (image_of (g.D.Pmem.state c.args.device.now)) c.open.result c.in-Ok.found.geometry c.in-Ok.found.ruling c.in-Ok.found.gaps c.in-Ok.found.free.items c.in-Ok.found.live.items c.in-Ok.ensures.ok

@@ -10,4 +10,4 @@ pub returns-in-Some : goal.returns-in-Some
 returns-in-Some g c =
     let batch = c.in-Some.batch.now in
     let last = subst (λ (xs : List Batch). Some batch ≡ slice_get xs (length xs - 1)) c.deref.ensures.value c.in-Some.ensures.value in
-    c.persisted.ensures ∙ (last_persisted_is c.self.inside.persisted c.self.inside.batches.items batch last ∙ (c.self.invariant.persisted_is ∙ ap (λ (l : List Change). last_persisted (list_of l)) c.self.view_is))
+    c.persisted.ensures ∙ (last_persisted_is c.self.inside.persisted c.self.inside.batches.items batch last ∙ (c.self.invariant.0.persisted_is ∙ ap (λ (l : List Change). last_persisted (list_of l)) c.self.view_is))

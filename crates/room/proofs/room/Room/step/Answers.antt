@@ -1,14 +1,17 @@
-use Rattle.room.proofs.Steps.{steps-as}
+use Rattle.room.proofs.Rooms.{step-on, step-refused, shows-some, shows-then}
 use Rattle.room.proofs.room.Room.step.Goals as goal
 
-pub returns-in-Draw : goal.returns-in-Draw
-returns-in-Draw g c = record { step = λ q shown. steps-as g.D.Pmem.state c.args.self.now _ q _ _ _ c.in-Draw.is (c.draw.ensures.step q shown) }
+pub returns-then-self : goal.returns-then-self
+returns-then-self g c = record { step = step-refused g.D.Pmem.state c.args.self.now c.args.step (g.met.D.Pmem.orderly c.args.self.now.device) c.if-self.true }
 
-pub returns-in-Stamp : goal.returns-in-Stamp
-returns-in-Stamp g c = record { step = λ q shown. steps-as g.D.Pmem.state c.args.self.now _ q _ _ _ c.in-Stamp.is (c.stamp.ensures.step q shown) }
+pub step-reply-requires : goal.step-reply-requires
+step-reply-requires g c = record { shown = shows-some c.args.self.now.committer _ c.args.self.now.failed c.if-self.false c.args.self.now.shown }
 
-pub returns-in-Poll : goal.returns-in-Poll
-returns-in-Poll g c = record { step = λ q shown. steps-as g.D.Pmem.state c.args.self.now _ q _ _ _ c.in-Poll.is (c.poll.ensures.step q shown) }
+pub invariant_of-self : goal.invariant_of-self
+invariant_of-self g c = record {
+  shown = shows-then c.args.self.now.committer c.step-reply.new.self (g.D.Pmem.state c.args.self.now.device) (g.D.Pmem.state c.step-reply.new.device) c.args.step c.step-reply.result
+      c.is_failure-self.result c.is_failure-self.ensures c.step-reply.ensures.step (shows-some c.args.self.now.committer _ c.args.self.now.failed c.if-self.false c.args.self.now.shown);
+}
 
-pub returns-in-Commit : goal.returns-in-Commit
-returns-in-Commit g c = record { step = λ q shown. steps-as g.D.Pmem.state c.args.self.now _ q _ _ _ c.in-Commit.is (c.commit.ensures.step q shown) }
+pub returns : goal.returns
+returns g c = record { step = step-on g.D.Pmem.state c.args.self.now _ c.args.step c.step-reply.result c.if-self.false c.is_failure-self.ensures c.step-reply.ensures.step }

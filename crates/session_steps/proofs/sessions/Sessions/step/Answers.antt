@@ -9,6 +9,9 @@ begin-requires g c = record { shown = shown-held c.args.self.now (g.D.Pmem.state
 pub get-requires : goal.get-requires
 get-requires g c = record { shown = shown-held-on c.args.self.now (g.D.Pmem.state c.args.device.now) c.requires.shown }
 
+pub scan-requires : goal.scan-requires
+scan-requires g c = record { shown = shown-held-on c.args.self.now (g.D.Pmem.state c.args.device.now) c.requires.shown }
+
 pub put-requires : goal.put-requires
 put-requires g c = record { shown = shown-held-on c.args.self.now (g.D.Pmem.state c.args.device.now) c.requires.shown }
 
@@ -57,6 +60,11 @@ returns-in-End g c = record {
 pub returns-in-Get : goal.returns-in-Get
 returns-in-Get g c = record {
   step = steps-as c.args.self.now _ (g.D.Pmem.state c.args.device.now) _ c.args.step _ _ c.in-Get.is (on-device c.args.self.now _ (g.D.Pmem.state c.args.device.now) (g.D.Pmem.state c.args.device.now) _ _ (λ h holds. goes-quietly quiet-steps-lead c.args.self.now c.args.self.now (g.D.Pmem.state c.args.device.now) _ _ (g.met.D.Pmem.orderly _) refl h holds (c.get.ensures.step h holds)));
+}
+
+pub returns-in-Scan : goal.returns-in-Scan
+returns-in-Scan g c = record {
+  step = steps-as c.args.self.now _ (g.D.Pmem.state c.args.device.now) _ c.args.step _ _ c.in-Scan.is (on-device c.args.self.now _ (g.D.Pmem.state c.args.device.now) (g.D.Pmem.state c.args.device.now) _ _ (λ h holds. goes-quietly quiet-steps-lead c.args.self.now c.args.self.now (g.D.Pmem.state c.args.device.now) _ _ (g.met.D.Pmem.orderly _) refl h holds (c.scan.ensures.step h holds)));
 }
 
 pub returns-in-Put : goal.returns-in-Put

@@ -1,4 +1,4 @@
-use Rattle.std.proofs.Common.{◌≡◌, ℕ, ◌≤◌, not, rules, tests, ◌∙◌, sym, ap, arith, length, List, [], ◌∷◌, Option, Some, None, unwrap_or, cond, Bool, true, false, refl}
+use Rattle.std.proofs.Common.{◌≡◌, ℕ, ◌≤◌, not, rules, tests, ◌∙◌, ap, arith, length, List, Option, Some, None, unwrap_or, cond, Bool, true, false, refl}
 use Rattle.std.proofs.lemmas.Bool.{ltb-false}
 use Rattle.std.proofs.lemmas.Iterator.{YieldsList-from_slice}
 use Rattle.std.proofs.lemmas.Iterator.Search.{position_from_yields_List}

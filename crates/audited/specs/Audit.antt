@@ -1,0 +1,72 @@
+-- What a history says of a room.
+use Rattle.std.specs.Prelude.{◌≡◌, ◌≢◌, ℕ, ◌+◌, ◌≤◌, List, [], ◌∷◌, ◌++◌, length, Option, None}
+use Rattle.base.specs.declared.fault.Fault.TheVariants.{OutOfMemory, Device as DeviceFault}
+use Rattle.base.specs.declared.step.Step.{Step}
+use Rattle.base.specs.declared.step.Note.{Note}
+use Rattle.base.specs.declared.step.Reply.{Reply}
+use Rattle.base.specs.declared.step.Reply.TheVariants.{Refused}
+use Rattle.base.specs.Commits.{Commit}
+use Rattle.base.specs.Images.{Image, opening_fault}
+use Rattle.base.specs.Stands.{Stands}
+use Rattle.base.specs.Machine.{State, Stepped, Noted, note_of, most_operations, StandsAt}
+use Rattle.base.specs.Openings.{OpensAs}
+use Rattle.pmem.specs.Device.{Device}
+use Rattle.pmem.specs.Words.{LeavesOnly, HasNoFailure, operations_of}
+use Rattle.pmem.specs.declared.device.Pmem.{Ghosts}
+use Rattle.room.specs.declared.room.Room.{Room}
+use Rattle.room.specs.declared.status.Status.{Status}
+use Rattle.room.specs.Room.{Shows, ShowsStatus, device_of}
+use Rattle.audited.specs.declared.receipt.Receipt.{Receipt}
+
+-- The entries are a run, from the state that the image opens as under this history, which has the numbers of the
+-- opening, to one that the room shows. So every image that its device may leave now stands for that last state
+pub record RunsFrom {D : Type 0} {G : Ghosts D} (state : D → Device) (room : Room D G) (image : Image) (history : List Commit) (lost : List ℕ) (opening : Status) (entries : List (Step × Note)) : Type 0 where
+  pub start : State
+  pub now : State
+  pub opens : OpensAs image history lost start
+  pub status : ShowsStatus start opening
+  pub run : Noted start entries now
+  pub shows : Shows state room now
+
+-- The image is one that opens, and whatever history it stands for, the entries are a run from there
+pub record IsAudited {D : Type 0} {G : Ghosts D} (state : D → Device) (room : Room D G) (image : Image) (opening : Status) (entries : List (Step × Note)) : Type 0 where
+  pub may_open : opening_fault image ≡ None
+  pub runs : (history drawn : List Commit) (next : ℕ) (lost : List ℕ) → Stands image history drawn next → RunsFrom state room image history lost opening entries
+
+-- so it is for some image: that of the device that was opened
+abbrev pub HasHistory : {D : Type 0} → {G : Ghosts D} → (D → Device) → Room D G → Status → List (Step × Note) → Type 0
+HasHistory state room opening entries = (image : Image) × IsAudited state room image opening entries
+
+-- the state is that of an opening of some image that stands for some history
+abbrev pub IsOpeningState : State → Type 0
+IsOpeningState q =
+    (image : Image) × (history drawn : List Commit) × (next : ℕ) × (lost : List ℕ) × Stands image history drawn next × OpensAs image history lost q
+
+-- the receipt's note ends a run of place + 1 steps from an opening
+pub record EndsRun (receipt : Receipt) : Type 0 where
+  pub start : State
+  pub now : State
+  pub before : List (Step × Note)
+  pub is_opening : IsOpeningState start
+  pub length_is : length before ≡ receipt.place
+  pub run : Noted start (before ++ (receipt.step, receipt.note) ∷ []) now
+
+-- the step was kept with its reply's note, and the receipt is that entry
+pub record Keeps (old new : List (Step × Note)) (step : Step) (reply : Reply) (receipt : Receipt) : Type 0 where
+  pub kept : reply ≢ Refused OutOfMemory
+  pub entries : new ≡ old ++ (step, note_of reply) ∷ []
+  pub place : receipt.place ≡ length old
+  pub asked : receipt.step ≡ step
+  pub note : receipt.note ≡ note_of reply
+
+-- the room shows the state as before, and so stands whatever a crash left meanwhile; no operation failed
+pub record Stays {D : Type 0} {G : Ghosts D} (state : D → Device) (old new : Room D G) (step : Step) (q : State) : Type 0 where
+  pub shows : Shows state new q
+  pub images : LeavesOnly (device_of state old) (device_of state new) (StandsAt q)
+  pub no_failure : HasNoFailure (device_of state old) (device_of state new)
+  pub operations : operations_of (device_of state new) ≤ operations_of (device_of state old) + most_operations q step
+
+-- a step with this reply changes nothing, and no operation failed in it
+pub record ChangesNothing (reply : Reply) : Type 0 where
+  pub works : reply ≢ Refused DeviceFault
+  pub same : (q q' : State) (step : Step) → Stepped q step reply q' → q' ≡ q

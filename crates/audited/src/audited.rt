@@ -1,0 +1,103 @@
+ghost use Rattle.audited.specs.Audit.{HasHistory};
+
+use crate::noting::{notes_of, wants_memory};
+use crate::receipt::Receipt;
+use base::fault::Fault;
+use base::key::Key;
+use base::row::Row;
+use base::step::{Note, Reply, Step};
+use pmem::Pmem;
+use room::{Room, Status};
+
+/// A room, the numbers that it was opened with, and its history: each step that it made since, with what was answered.
+#[derive(Drop)]
+pub struct Audited<D: Pmem> {
+    pub(crate) room: Room<D>,
+    pub(crate) opening: Status,
+    pub(crate) entries: Vec<(Step, Note)>,
+    pub ghost audited: { ∥ HasHistory D.state room opening entries.items ∥₁ },
+}
+
+impl<D: Pmem + Drop> Audited<D> {
+    ghost use Rattle.std.specs.Prelude.{◌≡◌, IfOk, IfErr, IfSome, IfNone};
+    ghost use Rattle.base.specs.declared.fault.Fault.TheVariants.{OutOfMemory};
+    ghost use Rattle.base.specs.declared.step.Reply.TheVariants.{Refused};
+    ghost use Rattle.base.specs.Commits.{Lists, after};
+    ghost use Rattle.base.specs.Images.{Image};
+    ghost use Rattle.base.specs.Machine.{State};
+    ghost use Rattle.room.specs.Room.{Shows, ShowsStatus, StepsTo};
+    ghost use Rattle.audited.specs.Audit.{IsAudited, EndsRun, Keeps, Stays};
+
+    /// One step, which is kept in the history. For want of memory there is no receipt, and nothing is kept or changed.
+    pub fn step(&mut self, step: Step) -> (Reply, Option<Receipt>)
+        // The entry is the history's last: the step asked, and the note of the reply.
+        ensures kept { IfSome result.1 (λ receipt. Keeps self.old.entries.items self.new.entries.items step result.0 receipt) }
+        ensures step { IfSome result.1 (λ receipt. (q : State) → Shows D.state self.old.room q → (q' : State) × StepsTo D.state self.old.room self.new.room step result.0 q q') }
+        ensures run { IfSome result.1 (λ receipt. ∥ EndsRun receipt ∥₁) }
+        ensures refused { IfNone result.1 ((result.0 ≡ Refused OutOfMemory) × (self.new.entries.items ≡ self.old.entries.items)) }
+        ensures stays { IfNone result.1 ((q : State) → Shows D.state self.old.room q → Stays D.state self.old.room self.new.room step q) }
+        ensures opening { self.new.opening ≡ self.old.opening }
+
+        // From whatever image the history is a run, it stays one from there.
+        ensures audited { (image : Image) → IsAudited D.state self.old.room image self.old.opening self.old.entries.items → IsAudited D.state self.new.room image self.new.opening self.new.entries.items }
+    {
+        if self.entries.reserve(1).is_err() {
+            return (Reply::Refused(Fault::OutOfMemory), None);
+        }
+        let asked = step;
+        let reply = self.room.step(step);
+        if wants_memory(&reply) {
+            return (reply, None);
+        }
+        let Ok((kept, told)) = notes_of(&reply) else {
+            return (Reply::Refused(Fault::OutOfMemory), None);
+        };
+        let place = self.entries.len() as u64;
+        let again = asked;
+        self.entries.push_reserved((asked, kept));
+        let receipt = Receipt {
+            place,
+            step: again,
+            note: told,
+        };
+        (reply, Some(receipt))
+    }
+
+    /// The numbers that it was opened with.
+    pub fn opening(&self) -> Status
+        ensures { result ≡ self.now.opening }
+    {
+        self.opening
+    }
+
+    /// Each step since the opening, with its note.
+    pub fn history(&self) -> &[(Step, Note)]
+        ensures entries { result.now ≡ self.now.entries.items }
+        ensures audited { ∥ HasHistory D.state self.now.room self.now.opening self.now.entries.items ∥₁ }
+    {
+        &self.entries
+    }
+
+    /// The numbers. It takes no memory.
+    pub fn status(&self) -> Status
+        ensures { (q : State) → Shows D.state self.now.room q → ShowsStatus q result }
+    {
+        self.room.status()
+    }
+
+    /// The covered rows, by rising key.
+    pub fn tables(&self) -> Result<Vec<(Key, Row)>, Fault>
+        ensures ok { IfOk result (λ rows. (q : State) → Shows D.state self.now.room q → Lists rows.items (after q.history)) }
+        ensures fault { IfErr result (λ fault. fault ≡ OutOfMemory) }
+    {
+        self.room.tables()
+    }
+
+    /// The room, which shows what it showed.
+    pub fn into_room(self) -> Room<D>
+        ensures room { result ≡ self.room }
+        ensures audited { ∥ HasHistory D.state result self.opening self.entries.items ∥₁ }
+    {
+        self.room
+    }
+}

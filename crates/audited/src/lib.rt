@@ -1,0 +1,10 @@
+//! A room with the history of its steps: each step that it made and what was answered.
+#![tactic(auto)]
+
+mod audited;
+mod noting;
+mod opening;
+mod receipt;
+
+pub use audited::Audited;
+pub use receipt::Receipt;

@@ -1,0 +1,33 @@
+ghost use Rattle.std.specs.Prelude.{◌≡◌, ◌↔◌, IsTrue, IfOk, OnErr};
+ghost use Rattle.base.specs.declared.fault.Fault.TheVariants.{OutOfMemory};
+ghost use Rattle.base.specs.declared.step.Reply.TheVariants.{Refused};
+ghost use Rattle.base.specs.Machine.{note_of};
+ghost use Rattle.audited.specs.Audit.{ChangesNothing};
+
+use base::fault::Fault;
+use base::step::{Note, Reply};
+use std::alloc::AllocError;
+
+/// What the history and the receipt keep of a reply. Memory may be wanting only where nothing was changed.
+pub fn notes_of(reply: &Reply) -> Result<(Note, Note), AllocError>
+    ensures ok { IfOk result (λ notes. (notes.0 ≡ note_of reply.now) × (notes.1 ≡ note_of reply.now)) }
+    ensures err { OnErr result (ChangesNothing reply.now) }
+{
+    match Note::of(reply) {
+        Ok(kept) => match Note::of(reply) {
+            Ok(told) => Ok((kept, told)),
+            Err(error) => Err(error),
+        },
+        Err(error) => Err(error),
+    }
+}
+
+/// Whether the step was refused for want of memory.
+pub fn wants_memory(reply: &Reply) -> bool
+    ensures { IsTrue result ↔ (reply.now ≡ Refused OutOfMemory) }
+{
+    match reply {
+        Reply::Refused(fault) => matches!(fault, Fault::OutOfMemory),
+        _ => false,
+    }
+}

@@ -1,0 +1,72 @@
+use crate::audited::Audited;
+use base::fault::Fault;
+use pmem::Pmem;
+use room::Room;
+use std::alloc::Global;
+use std::thread::Threads;
+
+impl<D: Pmem + Drop + Send + Sync> Audited<D> {
+    ghost use Rattle.std.specs.Prelude.{◌≡◌, List, [], ℕ, ◌+◌, ◌*◌, ◌<◌, ◌≤◌, true, false, None, slice_index, IfOk, IfErr, MatchResult};
+    ghost use Rattle.base.specs.Commits.{Commit};
+    ghost use Rattle.base.specs.Images.{layout_of, opening_fault, needs_sweep};
+    ghost use Rattle.base.specs.Stands.{Stands};
+    ghost use Rattle.base.specs.Machine.{State};
+    ghost use Rattle.base.specs.Openings.{OpensAs, StandsOpening, opened_slots, words_swept, lines_swept};
+    ghost use Rattle.pmem.specs.Words.{LeavesOnly, IsAtRest, value_of, image_of, IsSettledAt, Makes, HasNoFailure};
+    ghost use Rattle.recovery.specs.Opened.{IsRefusal};
+    ghost use Rattle.recovery.specs.Read.{TellsLogFault};
+    ghost use Rattle.room.specs.Room.{Shows, ShowsStatus, device_of};
+    ghost use Rattle.audited.specs.Audit.{IsAudited};
+
+    /// Opens a device at rest, as a room is opened, with an empty history; gives it back where it is refused.
+    pub fn open<R: Threads + Sync>(
+        rt: &R,
+        alloc: Global,
+        device: D,
+    ) -> Result<Audited<D>, (Fault, D)>
+        requires at_rest { IsAtRest (D.state device) }
+        ensures empty { IfOk result (λ audited. audited.entries.items ≡ []) }
+
+        // The history is a run from the image of this very device.
+        ensures audited { IfOk result (λ audited. IsAudited D.state audited.room (image_of (D.state device)) audited.opening audited.entries.items) }
+
+        // Whatever history the image stands for, the room shows the state that it opens as, and `opening` has its numbers.
+        ensures ok { IfOk result (λ audited. (history drawn : List Commit) (next : ℕ) (lost : List ℕ)
+            → Stands (image_of (D.state device)) history drawn next
+            → (q : State) × OpensAs (image_of (D.state device)) history lost q × Shows D.state audited.room q × ShowsStatus q audited.opening) }
+
+        // It opens exactly where nothing speaks against it, memory and a failing device aside.
+        ensures may_open { IfOk result (λ audited. opening_fault (image_of (D.state device)) ≡ None) }
+        ensures no_failure { IfOk result (λ audited. HasNoFailure (D.state device) (device_of D.state audited.room)) }
+        ensures fault { IfErr result (λ e. IsRefusal (opening_fault (image_of (D.state device))) (D.state device) (D.state e.1) e.0) }
+
+        // What is wrong with its log is reported before want of memory.
+        ensures log { IfErr result (λ e. TellsLogFault (image_of (D.state device)) e.0) }
+
+        // The operations, and the words of superblock and slots, are those of the room's opening.
+        ensures made { IfOk result (λ audited. needs_sweep (image_of (D.state device)) ≡ false → Makes 32 5 2 0 (D.state device) (device_of D.state audited.room)) }
+        ensures made_sweeping { IfOk result (λ audited. needs_sweep (image_of (D.state device)) ≡ true
+            → Makes (32 + words_swept (image_of (D.state device))) (5 + lines_swept (image_of (D.state device))) 3 0 (D.state device) (device_of D.state audited.room)) }
+        ensures superblock { IfOk result (λ audited. (word : ℕ) → word < 8 → IsSettledAt (device_of D.state audited.room) word (value_of (D.state device) word)) }
+        ensures slots { IfOk result (λ audited. (word : ℕ) → 8 + 32 * (layout_of (image_of (D.state device))).places ≤ word → word < (D.state device).words
+            → IsSettledAt (device_of D.state audited.room) word (slice_index (opened_slots (image_of (D.state device))) word)) }
+
+        // A crash at any moment leaves the same history, as a crash within the room's opening.
+        ensures images { (history drawn : List Commit) (next : ℕ)
+            → Stands (image_of (D.state device)) history drawn next
+            → MatchResult result
+            (λ audited. LeavesOnly (D.state device) (device_of D.state audited.room) (StandsOpening (image_of (D.state device)) history next))
+            (λ e. LeavesOnly (D.state device) (D.state e.1) (StandsOpening (image_of (D.state device)) history next)) }
+    {
+        let room = match Room::open(rt, alloc, device) {
+            Ok(room) => room,
+            Err(refusal) => return Err(refusal),
+        };
+        let opening = room.status();
+        Ok(Audited {
+            room,
+            opening,
+            entries: Vec::new(alloc),
+        })
+    }
+}

@@ -1,0 +1,9 @@
+use base::step::{Note, Step};
+
+/// The entry that a step made: its place in the history, the step and its note.
+#[derive(Debug, Drop)]
+pub struct Receipt {
+    pub place: u64,
+    pub step: Step,
+    pub note: Note,
+}

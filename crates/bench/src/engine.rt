@@ -1,0 +1,153 @@
+use anyhow::Error;
+use base::fault::Fault;
+use base::geometry::Geometry;
+use base::key::Key;
+use base::row::Row;
+use base::step::{Reply, Step};
+use pmem_model::SimPmem;
+use recovery::format;
+use room::Room;
+use std::alloc::Global;
+use std::rt::Clock;
+use std::thread::Threads;
+use std::time::{Duration, Instant};
+
+/// How many keys have rows, how many commits update one each, how many of those stand stamped before each cycle, and
+/// how many rows are read then.
+#[derive(Clone, Copy)]
+pub struct Load {
+    pub keys: u64,
+    pub commits: u64,
+    pub batch: u64,
+    pub reads: u64,
+}
+
+/// What a run came to.
+#[derive(Clone, Copy)]
+pub struct Made {
+    pub cycles: u64,
+    pub ticks: u64,
+    pub rows: u64,
+    pub committing: Duration,
+    pub reading: Duration,
+}
+
+/// A room in whose tables each key has a row, and in which there is a slot for each update. Its device counts the
+/// operations from its opening on.
+pub fn load_keys<H: Threads + Sync>(
+    rt: &H,
+    alloc: Global,
+    load: &Load,
+) -> Result<Room<SimPmem>, Error> {
+    let slots = load.keys.saturating_add(load.commits);
+    let geometry = Geometry::new(slots, Geometry::LEAST_PLACES, Geometry::MOST_WINDOW)?;
+    let mut device = SimPmem::from_words(alloc, &vec![in alloc; 0; geometry.words() as usize]?)?;
+    format(&mut device, geometry)?;
+    let mut room = open(rt, alloc, &device.image()?)?;
+    let each = Load {
+        commits: load.keys,
+        batch: 32,
+        ..*load
+    };
+    for cycle in 0..cycles(&each) {
+        commit_batch(&mut room, &each, cycle)?;
+    }
+    match room.close() {
+        Ok(device) => Ok(open(rt, alloc, &device.image()?)?),
+        Err((fault, _device)) => Err(Error::from(fault)),
+    }
+}
+
+fn open<H: Threads + Sync>(rt: &H, alloc: Global, words: &[u64]) -> Result<Room<SimPmem>, Fault> {
+    let device = SimPmem::from_words(alloc, words)?;
+    match Room::open(rt, alloc, device) {
+        Ok(room) => Ok(room),
+        Err((fault, _device)) => Err(fault),
+    }
+}
+
+/// Makes all updates, and then all reads.
+pub fn run_load<H: Clock>(rt: &H, room: &mut Room<SimPmem>, load: &Load) -> Result<Made, Error> {
+    let start = Instant::now(rt)?;
+    let mut ticks: u64 = 0;
+    for cycle in 0..cycles(load) {
+        ticks = ticks.saturating_add(commit_batch(room, load, cycle)?);
+    }
+    let committing = start.elapsed(rt)?;
+    let start = Instant::now(rt)?;
+    let rows = read_rows(room, load)?;
+    let reading = start.elapsed(rt)?;
+    Ok(Made {
+        cycles: cycles(load),
+        ticks,
+        rows,
+        committing,
+        reading,
+    })
+}
+
+fn cycles(load: &Load) -> u64 {
+    load.commits.div_ceil(load.batch.max(1))
+}
+
+// Updates one key in each session of a batch, and covers them by one record. How many ticks that took.
+fn commit_batch(room: &mut Room<SimPmem>, load: &Load, cycle: u64) -> Result<u64, Fault> {
+    let first = cycle.saturating_mul(load.batch);
+    let end = first.saturating_add(load.batch).min(load.commits);
+    for number in first..end {
+        let session = match step(room, Step::Begin)? {
+            Reply::Began(session) => session,
+            _ => return Err(Fault::WrongState),
+        };
+        let key = key_of(number, load);
+        let row = Row::new(&number.to_le_bytes())?;
+        step(room, Step::Put { session, key, row })?;
+        step(room, Step::Draw { session })?;
+        step(room, Step::Stamp { session })?;
+    }
+    let ticks = cover(room)?;
+    for (session, _) in (2..).zip(first..end) {
+        step(room, Step::End { session })?;
+    }
+    Ok(ticks)
+}
+
+fn key_of(number: u64, load: &Load) -> Key {
+    Key {
+        table: 1,
+        key: number % load.keys.max(1),
+    }
+}
+
+// Makes a step that is not refused.
+fn step(room: &mut Room<SimPmem>, step: Step) -> Result<Reply, Fault> {
+    match room.step(step) {
+        Reply::Refused(fault) => Err(fault),
+        reply => Ok(reply),
+    }
+}
+
+// Ticks the committer until it has covered a batch, or has nothing to do. How often it did.
+fn cover(room: &mut Room<SimPmem>) -> Result<u64, Fault> {
+    for ticks in 1..u64::MAX {
+        match step(room, Step::Commit)? {
+            Reply::Ticked(_) => {}
+            _ => return Ok(ticks),
+        }
+    }
+    Ok(u64::MAX)
+}
+
+// Reads in one session. How many rows it found.
+fn read_rows(room: &mut Room<SimPmem>, load: &Load) -> Result<u64, Fault> {
+    let mut rows: u64 = 0;
+    step(room, Step::Begin)?;
+    for number in 0..load.reads {
+        let key = key_of(number, load);
+        if let Reply::Row(Some(_)) = step(room, Step::Get { session: 2, key })? {
+            rows = rows.saturating_add(1);
+        }
+    }
+    step(room, Step::Abort { session: 2 })?;
+    Ok(rows)
+}

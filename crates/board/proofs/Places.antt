@@ -1,0 +1,206 @@
+-- What a map of versions has under a key at a stamp, and after changes.
+use Rattle.std.proofs.Common.{◌≡◌, ℕ, suc, ◌+◌, ◌<◌, ◌≤◌, ◌&&◌, ◌||◌, Bool, true, false, cond, List, [], ◌∷◌, drop, take, length, get_or, drop-cons, add-one, Option, Some, None, IsSome, is_some, if◌then◌else◌, refl, sym, ap, ◌∙◌, subst, arith, nat_eq}
+use Rattle.std.proofs.lemmas.Bool.Decides.{nat_tests}
+use Rattle.std.specs.declared.cmp.Ordering.{Ordering}
+use Rattle.std.specs.declared.cmp.Ordering.TheVariants.{Less, Equal, Greater}
+use Rattle.std.specs.Ordering.{nat_cmp, ordering_then, is_gt, is_lt}
+use Rattle.std.specs.Option.{option_or}
+use Rattle.std.specs.Cmp.{nat_cmp_is}
+use Rattle.std.specs.BTreeMap.{BTreeMap, is_at, get}
+use Rattle.std.specs.BTreeMap.Range.{IsInRange, IsEntryInRange}
+use Rattle.std.specs.declared.ops.Bound.{Bound}
+use Rattle.std.specs.declared.ops.Bound.TheVariants.{Included}
+use Rattle.std.proofs.lemmas.Map.Keys.{le_from_not_gt}
+use Rattle.std.specs.Map.{lookup}
+use Rattle.base.specs.declared.key.Key.{Key}
+use Rattle.base.specs.Keys.{key_eq, lookup_key}
+use Rattle.base.specs.Commits.{Commit, writes_key}
+use Rattle.board.specs.declared.versions.Place.{Place}
+use Rattle.board.specs.Cells.{is_written}
+use Rattle.board.specs.Versions.{lookup_version, version_after, IsLatest}
+use Rattle.board.proofs.Puts.{key_cmp, is_at-key, key_eq-swap, is_eq-then, is_eq-nat, unwritten_first}
+
+-- the order of places
+abbrev pub place_cmp : Place → Place → Ordering
+place_cmp a b = ordering_then (key_cmp a.key b.key) (nat_cmp a.stamp b.stamp)
+
+-- the order tells two places apart exactly where they differ
+pub is_at-place : (p q : Place) → is_at (place_cmp p) q ≡ (key_eq p.key q.key && nat_eq p.stamp q.stamp)
+is_at-place p q = is_eq-then (key_cmp p.key q.key) (nat_cmp p.stamp q.stamp) ∙ (λ i. is_at-key p.key q.key i && is_eq-nat p.stamp q.stamp i)
+
+stamps-swap : (a b : ℕ) → nat_eq a b ≡ nat_eq b a
+stamps-swap a b = grind (arith, nat_tests)
+
+-- a map finds the first entry at the place
+pub found_version : (es : List (Place × Option (List ℕ))) (p : Place) → lookup (is_at (place_cmp p)) es ≡ lookup_version es p.key p.stamp
+found_version [] p = refl
+found_version (e ∷ es) p =
+    let here : is_at (place_cmp p) e.0 ≡ (key_eq e.0.key p.key && nat_eq e.0.stamp p.stamp) =
+    is_at-place p e.0 ∙ (λ i. key_eq-swap p.key e.0.key i && stamps-swap p.stamp e.0.stamp i) in
+    ap (λ (b : Bool). if b then Some e.1 else lookup (is_at (place_cmp p)) es) here
+    ∙ ap (λ (r : Option (Option (List ℕ))). if key_eq e.0.key p.key && nat_eq e.0.stamp p.stamp then Some e.1 else r) (found_version es p)
+
+-- what is found after a change at one place
+pub version_changed : (es fs : List (Place × Option (List ℕ))) (p : Place) (w : Option (Option (List ℕ)))
+    → ((q : Place) → lookup (is_at (place_cmp q)) fs ≡ cond (is_at (place_cmp p) q) w (lookup (is_at (place_cmp q)) es))
+    → (k : Key) (s : ℕ) → lookup_version fs k s ≡ (if key_eq p.key k && nat_eq p.stamp s then w else lookup_version es k s)
+version_changed es fs p w h k s =
+    let q : Place = record { key = k; stamp = s } in
+    sym (found_version fs q) ∙ (h q ∙ (ap (λ (b : Bool). if b then w else lookup (is_at (place_cmp q)) es) (is_at-place p q)
+    ∙ ap (λ (r : Option (Option (List ℕ))). if key_eq p.key k && nat_eq p.stamp s then w else r) (found_version es q)))
+
+-- one more write is entered
+entered_one : (here there : Bool) (w : Option (List ℕ)) (rest old : Option (Option (List ℕ)))
+    → (if here && there then Some w else (if there then option_or rest old else old)) ≡ (if there then option_or (if here then Some w else rest) old else old)
+entered_one true true w rest old = refl
+entered_one true false w rest old = refl
+entered_one false true w rest old = refl
+entered_one false false w rest old = refl
+
+drop_at : {A : Type 0} (xs : List A) (i : ℕ) (x : A) → x ≡ get_or xs i x → i < length xs → drop i xs ≡ x ∷ drop (i + 1) xs
+drop_at xs i x is lt = drop-cons xs i x lt ∙ (ap (λ y. y ∷ drop (suc i) xs) (sym is) ∙ rw add-one refl)
+
+pub entered_next : (ws : List (Key × Option (List ℕ))) (i j : ℕ) (x : Key × Option (List ℕ)) (k : Key) (there : Bool) (old now next : Option (Option (List ℕ))) → x ≡ get_or ws i x → i < length ws → j ≡ i + 1
+    → now ≡ (if there then option_or (lookup_key (drop j ws) k) old else old) → next ≡ (if key_eq x.0 k && there then Some x.1 else now)
+    → next ≡ (if there then option_or (lookup_key (drop i ws) k) old else old)
+entered_next ws i j x k there old now next is lt n before after =
+    after ∙ (ap (λ v. if key_eq x.0 k && there then Some x.1 else v) before
+    ∙ (entered_one (key_eq x.0 k) there x.1 (lookup_key (drop j ws) k) old
+    ∙ ap (λ (xs : List (Key × Option (List ℕ))). if there then option_or (lookup_key xs k) old else old) (sym (drop_at ws i x is lt ∙ ap (λ (m : ℕ). x ∷ drop m ws) (sym n)))))
+
+-- one more write, or commit, is forgotten
+forgotten_one : (here there rest : Bool) (now : Option (Option (List ℕ)))
+    → (if rest && there then None else (if here && there then None else now)) ≡ (if (here || rest) && there then None else now)
+forgotten_one true true true now = refl
+forgotten_one true true false now = refl
+forgotten_one true false true now = refl
+forgotten_one true false false now = refl
+forgotten_one false there rest now = refl
+
+is_some-pick : {X : Type 0} (here : Bool) (x : X) (rest : Option X) → is_some (if here then Some x else rest) ≡ (here || is_some rest)
+is_some-pick true x rest = refl
+is_some-pick false x rest = refl
+
+pub forgotten_write : (ws : List (Key × Option (List ℕ))) (i : ℕ) (x : Key × Option (List ℕ)) (k : Key) (there : Bool) (now next : Option (Option (List ℕ))) → x ≡ get_or ws i x → i < length ws
+    → next ≡ (if key_eq x.0 k && there then None else now)
+    → (if is_some (lookup_key (drop (i + 1) ws) k) && there then None else next) ≡ (if is_some (lookup_key (drop i ws) k) && there then None else now)
+forgotten_write ws i x k there now next is lt after =
+    let rest : Option (Option (List ℕ)) = lookup_key (drop (i + 1) ws) k in
+    ap (λ v. if is_some rest && there then None else v) after
+    ∙ (forgotten_one (key_eq x.0 k) there (is_some rest) now
+    ∙ (ap (λ (b : Bool). if b && there then None else now) (sym (is_some-pick (key_eq x.0 k) x.1 rest))
+    ∙ ap (λ (xs : List (Key × Option (List ℕ))). if is_some (lookup_key xs k) && there then None else now) (sym (drop_at ws i x is lt))))
+
+pub forgotten_commit : (cs : List Commit) (i : ℕ) (c : Commit) (k : Key) (there : Bool) (now next : Option (Option (List ℕ))) → c ≡ get_or cs i c → i < length cs
+    → next ≡ (if is_some (lookup_key c.writes k) && there then None else now)
+    → (if is_written k (drop (i + 1) cs) && there then None else next) ≡ (if is_written k (drop i cs) && there then None else now)
+forgotten_commit cs i c k there now next is lt after =
+    ap (λ v. if is_written k (drop (i + 1) cs) && there then None else v) after
+    ∙ (forgotten_one (writes_key k c) there (is_written k (drop (i + 1) cs)) now
+    ∙ ap (λ (xs : List Commit). if is_written k xs && there then None else now) (sym (drop_at cs i c is lt)))
+
+-- at another stamp, or where nothing is written, the version stays
+pub unentered : (a s : ℕ) (w old : Option (Option (List ℕ))) → (a ≡ s → w ≡ None) → (if nat_eq a s then option_or w old else old) ≡ old
+unentered a s w old none = pick (nat_eq a s) refl
+  where
+    pick : (there : Bool) → nat_eq a s ≡ there → (if there then option_or w old else old) ≡ old
+    pick true e = rw (none (grind (arith, nat_tests, e))) refl
+    pick false e = refl
+
+-- commits that don't write a key leave its version
+pub version_unwritten : (k : Key) (v : Option (Option (List ℕ))) (commits : List Commit) → is_written k commits ≡ false → version_after k v commits ≡ v
+version_unwritten k v [] h = refl
+version_unwritten k v (c ∷ cs) h = pick (lookup_key c.writes k) refl (version_unwritten k v cs)
+  where
+    pick : (w : Option (Option (List ℕ))) → lookup_key c.writes k ≡ w → (is_written k cs ≡ false → version_after k v cs ≡ v) → version_after k v (c ∷ cs) ≡ v
+    pick (Some w) e rest = absurd (cc (subst (λ (w : Option (Option (List ℕ))). (is_some w || is_written k cs) ≡ false) e h))
+    pick None e rest = rw e (rest (subst (λ (w : Option (Option (List ℕ))). (is_some w || is_written k cs) ≡ false) e h))
+
+pub unentered_commits : (a s : ℕ) (k : Key) (old : Option (Option (List ℕ))) (commits : List Commit) (i : ℕ) → (a ≡ s → is_written k commits ≡ false)
+    → (if nat_eq a s then version_after k old (take i commits) else old) ≡ old
+unentered_commits a s k old commits i none = pick (nat_eq a s) refl
+  where
+    pick : (there : Bool) → nat_eq a s ≡ there → (if there then version_after k old (take i commits) else old) ≡ old
+    pick true e = version_unwritten k old (take i commits) (unwritten_first k commits i (none (grind (arith, nat_tests, e))))
+    pick false e = refl
+
+not_gt : (a b : ℕ) → a ≤ b → is_gt (nat_cmp a b) ≡ false
+not_gt a b le = grind (arith, nat_tests)
+
+less : (a b : ℕ) → a < b → nat_cmp a b ≡ Less
+less a b lt = sym (nat_cmp_is a b Less lt)
+
+equal : (a b : ℕ) → a ≡ b → nat_cmp a b ≡ Equal
+equal a b e = sym (nat_cmp_is a b Equal e)
+
+-- what an order by two parts says of the first, and of the second where the first is equal
+first_part : (o r : Ordering) → is_gt (ordering_then o r) ≡ false → is_gt o ≡ false
+first_part Less r h = refl
+first_part Equal r h = refl
+first_part Greater r h = h
+
+second_part : (o r : Ordering) → o ≡ Equal → is_gt (ordering_then o r) ≡ false → is_gt r ≡ false
+second_part o r e h = subst (λ (o : Ordering). is_gt (ordering_then o r) ≡ false) e h
+
+key_self : (key : Key) → key_cmp key key ≡ Equal
+key_self key = ap (λ (o : Ordering). ordering_then o (nat_cmp key.key key.key)) (equal key.table key.table refl) ∙ equal key.key key.key refl
+
+-- keys of which neither comes after the other are one
+one_key : (a b : Key) → is_gt (key_cmp a b) ≡ false → is_gt (key_cmp b a) ≡ false → a ≡ b
+one_key a b h g =
+    let ab = first_part (nat_cmp a.table b.table) (nat_cmp a.key b.key) h in
+    let ba = first_part (nat_cmp b.table a.table) (nat_cmp b.key a.key) g in
+    let table : a.table ≡ b.table = omega (arith, le_from_not_gt a.table b.table ab, le_from_not_gt b.table a.table ba) in
+    let up = second_part (nat_cmp a.table b.table) (nat_cmp a.key b.key) (equal a.table b.table table) h in
+    let down = second_part (nat_cmp b.table a.table) (nat_cmp b.key a.key) (equal b.table a.table (sym table)) g in
+    let key : a.key ≡ b.key = omega (arith, le_from_not_gt a.key b.key up, le_from_not_gt b.key a.key down) in
+    λ i. record { table = table i; key = key i }
+
+-- places of one key are ordered by their stamps
+same_key : (key : Key) (a b : ℕ) → place_cmp (record { key = key; stamp = a }) (record { key = key; stamp = b }) ≡ nat_cmp a b
+same_key key a b = ap (λ (o : Ordering). ordering_then o (nat_cmp a b)) (key_self key)
+
+-- the places of one key up to a stamp
+pub in_range : (key : Key) (a at stamp : ℕ) → a ≤ at → at ≤ stamp
+    → IsInRange place_cmp (Included (record { key = key; stamp = a })) (Included (record { key = key; stamp = stamp })) (record { key = key; stamp = at })
+in_range key a at stamp low high = (ap is_gt (same_key key a at) ∙ not_gt a at low, ap is_gt (same_key key at stamp) ∙ not_gt at stamp high)
+
+from_range : (key : Key) (stamp : ℕ) (p : Place) → IsInRange place_cmp (Included (record { key = key; stamp = 0 })) (Included (record { key = key; stamp = stamp })) p → (p.key ≡ key) × (p.stamp ≤ stamp)
+from_range key stamp p h =
+    let low = first_part (key_cmp key p.key) (nat_cmp 0 p.stamp) h.0 in
+    let high = first_part (key_cmp p.key key) (nat_cmp p.stamp stamp) h.1 in
+    let is : p.key ≡ key = one_key p.key key high low in
+    let same : key_cmp p.key key ≡ Equal = ap (λ (k : Key). key_cmp k key) is ∙ key_self key in
+    (is, le_from_not_gt p.stamp stamp (second_part (key_cmp p.key key) (nat_cmp p.stamp stamp) same h.1))
+
+-- the range of one key's places ends in the key's latest version
+abbrev from_first : Key → Bound Place
+from_first key = Included (record { key = key; stamp = 0 })
+
+abbrev up_to : Key → ℕ → Bound Place
+up_to key stamp = Included (record { key = key; stamp = stamp })
+
+pub latest_none : (m : BTreeMap Place (Option (List ℕ))) (key : Key) (stamp : ℕ)
+    → ((q : Place) → IsInRange place_cmp (from_first key) (up_to key stamp) q → get place_cmp m q ≡ None)
+    → (at : ℕ) → at ≤ stamp → lookup_version m.entries key at ≡ None
+latest_none m key stamp none at le =
+    let q : Place = record { key = key; stamp = at } in
+    sym (found_version m.entries q) ∙ none q (in_range key 0 at stamp (omega arith) le)
+
+some_or_none : {X : Type 0} (o : Option X) → (IsSome o → false ≡ true) → o ≡ None
+some_or_none None h = refl
+some_or_none (Some x) h = absurd (cc (h refl))
+
+pub latest_some : (m : BTreeMap Place (Option (List ℕ))) (key : Key) (stamp : ℕ) (e : Place × Option (List ℕ))
+    → IsEntryInRange place_cmp (from_first key) (up_to key stamp) m e
+    → ((q : Place) → IsInRange place_cmp (from_first key) (up_to key stamp) q → IsSome (get place_cmp m q) → is_lt (place_cmp e.0 q) ≡ false)
+    → IsLatest m.entries key stamp (Some e.1)
+latest_some m key stamp e there last =
+    let place = from_range key stamp e.0 there.0 in
+    let found : lookup_version m.entries key e.0.stamp ≡ Some e.1 =
+    ap (λ (k : Key). lookup_version m.entries k e.0.stamp) (sym place.0) ∙ (sym (found_version m.entries e.0) ∙ there.1) in
+    let later : (at : ℕ) → e.0.stamp < at → at ≤ stamp → lookup_version m.entries key at ≡ None = λ at lt le.
+    let q : Place = record { key = key; stamp = at } in
+    let order : place_cmp e.0 q ≡ Less = ap (λ (k : Key). ordering_then (key_cmp k key) (nat_cmp e.0.stamp at)) place.0 ∙ (same_key key e.0.stamp at ∙ less e.0.stamp at lt) in
+    sym (found_version m.entries q) ∙ some_or_none (get place_cmp m q) (λ some. sym (last q (in_range key 0 at stamp (omega arith) le) some) ∙ ap is_lt order) in
+    (e.0.stamp, place.1, found, later)

@@ -1,0 +1,4 @@
+pub mod Moving
+pub mod Visits
+pub mod Counting
+pub mod Garbage

@@ -1,0 +1,63 @@
+-- The operations of a sweep, from those of its parts.
+use Rattle.std.proofs.Common.{◌≡◌, ◌≢◌, ℕ, ◌+◌, ◌/◌, Bool, true, false, cond, List, [], ◌∷◌, ◌++◌, Result, Ok, Err, OnErr, sym, ◌∙◌, ap, subst, arith}
+use Rattle.base.specs.declared.gap.Gap.{Gap}
+use Rattle.base.specs.Actors.{collector}
+use Rattle.base.specs.Layout.{Layout, slot_start}
+use Rattle.base.specs.Records.{is_in}
+use Rattle.pmem.specs.Device.{Device, IsOrderly, flushed, failed}
+use Rattle.pmem.specs.Words.{value_of}
+use Rattle.pmem.specs.Trace.{Operation, store_op, flush_op}
+use Rattle.pmem.proofs.Steps.{value-stored_other}
+use Rattle.version_slot.specs.Operations.{Runs, StopsWithin}
+use Rattle.version_slot.proofs.Operations.{runs-then, runs-more, stops-first, stops-then}
+use Rattle.collector.specs.Sweeping.{zero_operations, sweep_operations}
+
+pub on_err : {T E P : Type 0} (r : Result T E) → P → OnErr r P
+on_err (Ok x) p = tt
+on_err (Err e) p = p
+
+-- the one operation fails
+pub stops-one : (op : Operation) (old new : Device) → IsOrderly old → IsOrderly new → new ≡ failed old → StopsWithin (op ∷ []) old new
+stops-one op old new orderly orderly' is = (0, omega arith, record { made = is; orderly = (orderly, subst IsOrderly is orderly') })
+
+pub zero-stops : (gaps : List Gap) (word value : ℕ) (old new : Device) → is_in gaps value ≡ true → IsOrderly old → IsOrderly new → new ≡ failed old → StopsWithin (zero_operations gaps word value) old new
+zero-stops gaps word value old new gap orderly orderly' is =
+    subst (λ (b : Bool). StopsWithin (cond b (store_op word 0 ∷ []) []) old new) (sym gap) (stops-one (store_op word 0) old new orderly orderly' is)
+
+-- the other words keep their values
+zero-others : (gaps : List Gap) (word value other : ℕ) (old new : Device) → other ≢ word → Runs (zero_operations gaps word value) old new → value_of new other ≡ value_of old other
+zero-others gaps word value other old new apart run = by (is_in gaps value) run
+  where
+    by : (b : Bool) → Runs (cond b (store_op word 0 ∷ []) []) old new → value_of new other ≡ value_of old other
+    by true r = ap (λ (d : Device). value_of d other) r.made ∙ value-stored_other word 0 old other apart
+    by false r = ap (λ (d : Device). value_of d other) r.made
+
+module _ (a : Layout) (gaps : List Gap) (slot start line : ℕ) (old one : Device) (at : start ≡ slot_start a slot) (first : Runs (zero_operations gaps start (value_of old start)) old one) where
+  abbrev begins : List Operation
+  begins = zero_operations gaps (slot_start a slot) (value_of old (slot_start a slot))
+
+  abbrev ends : List Operation
+  ends = zero_operations gaps (slot_start a slot + 1) (value_of old (slot_start a slot + 1))
+
+  begun : Runs begins old one
+  begun = subst (λ (k : ℕ). Runs (zero_operations gaps k (value_of old k)) old one) at first
+
+  same : value_of one (start + 1) ≡ value_of old (start + 1)
+  same = zero-others gaps start (value_of old start) (start + 1) old one (λ e. omega (arith, e)) first
+
+  -- the end's operations go by the value that it has after the begin's
+  end-are : zero_operations gaps (start + 1) (value_of one (start + 1)) ≡ ends
+  end-are = ap (zero_operations gaps (start + 1)) same ∙ ap (λ (k : ℕ). zero_operations gaps (k + 1) (value_of old (k + 1))) at
+
+  pub stops-end : (new : Device) → StopsWithin (zero_operations gaps (start + 1) (value_of one (start + 1))) one new → StopsWithin (sweep_operations a gaps (value_of old) slot) old new
+  stops-end new stop = stops-first (flush_op collector (slot_start a slot / 8) ∷ []) (stops-then begun (subst (λ (ops : List Operation). StopsWithin ops one new) end-are stop))
+
+  module _ (two : Device) (second : Runs (zero_operations gaps (start + 1) (value_of one (start + 1))) one two) (new : Device) (orderly : IsOrderly two) (orderly' : IsOrderly new) where
+    both : Runs (begins ++ ends) old two
+    both = runs-then begun (subst (λ (ops : List Operation). Runs ops one two) end-are second)
+
+    pub stops-flush : new ≡ failed two → StopsWithin (sweep_operations a gaps (value_of old) slot) old new
+    stops-flush is = stops-then both (stops-one (flush_op collector (slot_start a slot / 8)) two new orderly orderly' is)
+
+    pub runs-sweep : line ≡ slot_start a slot / 8 → new ≡ flushed collector line two → Runs (sweep_operations a gaps (value_of old) slot) old new
+    runs-sweep line_is is = runs-more (begins ++ ends) (flush_op collector (slot_start a slot / 8)) old two new orderly' (is ∙ ap (λ (l : ℕ). flushed collector l two) line_is) both

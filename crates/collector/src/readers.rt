@@ -1,0 +1,13 @@
+ghost use Rattle.std.specs.Prelude.{◌≡◌, ℕ, Bool};
+
+use base::Ts;
+
+/// All who may still read a version.
+pub trait Readers {
+    /// Which commits each of them covers.
+    ghost covered: { Self → ℕ → Bool };
+
+    /// Whether the commit of this timestamp is covered, now and by the snapshot of each who reads.
+    fn cover(&self, ts: Ts) -> bool
+        ensures { result ≡ covered self.now ts };
+}

@@ -1,0 +1,134 @@
+ghost use Rattle.std.specs.Prelude.{◌≡◌, OnErr, OnOk, IfErr};
+
+use crate::readers::Readers;
+use crate::sweeping::sweep_slot;
+use crate::visit::Visit;
+use base::SlotNo;
+use base::actor::Actor;
+use base::fault::Fault;
+use base::geometry::Geometry;
+use gap_list::GapList;
+use pmem::Pmem;
+use slot_alloc::SlotAlloc;
+
+/// Where the collector is on its way round the slots, and whether it has been round in this life.
+#[derive(Clone, Copy, Debug, PartialEq, Eq)]
+pub struct Collector {
+    place: SlotNo,
+    swept: bool,
+}
+
+impl Collector {
+    ghost use Rattle.std.specs.Prelude.{◌+◌, ◌<◌, length, true, false, IfOk};
+    ghost use Rattle.base.specs.Layout.{total_words};
+    ghost use Rattle.pmem.specs.Words.{value_of};
+    ghost use Rattle.version_slot.specs.Operations.{Runs, StopsWithin};
+    ghost use Rattle.collector.specs.declared.visit.Visit.TheVariants.{Slot, SweepEnd};
+    ghost use Rattle.collector.specs.Sweeping.{is_due, slot_operations, end_operations, tick_operations};
+    ghost use Rattle.collector.specs.Ticks.{visit_at, moved_on, freed, freed_at};
+
+    /// The collector of a life that begins: at slot 0, and no gap is swept.
+    pub fn new() -> Collector
+        ensures { result ≡ record { place = 0; swept = false } }
+    {
+        Collector {
+            place: 0,
+            swept: false,
+        }
+    }
+
+    /// Whether the gaps with which the life began are swept.
+    pub fn has_swept(&self) -> bool
+        ensures { result ≡ self.now.swept }
+    {
+        self.swept
+    }
+
+    // Whether gaps stand that aren't swept.
+    fn is_due(&self, gaps: GapList) -> bool
+        ensures { result ≡ is_due self.now.swept gaps }
+    {
+        !self.swept && !gaps.gaps().as_slice().is_empty()
+    }
+
+    /// Visits the next place: it frees a slot whose version nobody reads any more. While gaps stand that aren't swept it
+    /// sweeps the slot, by at most three operations, and at the closing place it waits until that persists. It takes no
+    /// memory. Where the device fails, the slots and the collector are as before.
+    pub fn tick<D: Pmem, R: Readers>(
+        &mut self,
+        device: &mut D,
+        geometry: Geometry,
+        gaps: GapList,
+        slots: &mut SlotAlloc,
+        readers: &R,
+    ) -> Result<Visit, Fault>
+        requires slots { length slots.old ≡ geometry.slots }
+        requires size { (D.state device.old).words ≡ total_words geometry }
+
+        ensures visit { IfOk result (λ visit. visit ≡ visit_at geometry self.old.place) }
+        ensures moved { OnOk result (self.new ≡ moved_on geometry self.old) }
+        ensures freed { OnOk result (slots.new ≡ freed_at geometry self.old.place (R.covered readers.now) (value_of (D.state device.old)) slots.old) }
+        ensures run { OnOk result (Runs (tick_operations geometry gaps self.old.swept self.old.place (value_of (D.state device.old))) (D.state device.old) (D.state device.new)) }
+
+        ensures fault { IfErr result (λ fault. fault ≡ Fault.Device) }
+        ensures stopped { OnErr result (StopsWithin (tick_operations geometry gaps self.old.swept self.old.place (value_of (D.state device.old))) (D.state device.old) (D.state device.new)) }
+        ensures same { OnErr result (self.new ≡ self.old) }
+        ensures kept { OnErr result (slots.new ≡ slots.old) }
+    {
+        if self.place < geometry.slots() {
+            self.visit_slot(device, geometry, gaps, slots, readers)
+        } else {
+            self.end_sweep(device, gaps)
+        }
+    }
+
+    // Visits the slot of the place.
+    fn visit_slot<D: Pmem, R: Readers>(
+        &mut self,
+        device: &mut D,
+        geometry: Geometry,
+        gaps: GapList,
+        slots: &mut SlotAlloc,
+        readers: &R,
+    ) -> Result<Visit, Fault>
+        requires at { self.old.place < geometry.slots }
+        requires slots { length slots.old ≡ geometry.slots }
+        requires size { (D.state device.old).words ≡ total_words geometry }
+        ensures visit { IfOk result (λ visit. visit ≡ Slot self.old.place) }
+        ensures moved { OnOk result (self.new ≡ record { place = self.old.place + 1; swept = self.old.swept }) }
+        ensures freed { OnOk result (slots.new ≡ freed geometry self.old.place (R.covered readers.now) (value_of (D.state device.old)) slots.old) }
+        ensures run { OnOk result (Runs (slot_operations geometry gaps self.old.swept self.old.place (value_of (D.state device.old))) (D.state device.old) (D.state device.new)) }
+        ensures fault { IfErr result (λ fault. fault ≡ Fault.Device) }
+        ensures stopped { OnErr result (StopsWithin (slot_operations geometry gaps self.old.swept self.old.place (value_of (D.state device.old))) (D.state device.old) (D.state device.new)) }
+        ensures same { OnErr result (self.new ≡ self.old) }
+        ensures kept { OnErr result (slots.new ≡ slots.old) }
+    {
+        let slot = self.place;
+        let ended = device.load(geometry.slot_start(slot) + 1);
+        if self.is_due(gaps) {
+            sweep_slot(device, geometry, gaps, slot)?;
+        }
+        if readers.cover(ended) {
+            slots.give(slot);
+        }
+        self.place += 1;
+        Ok(Visit::Slot(slot))
+    }
+
+    // Visits the closing place.
+    fn end_sweep<D: Pmem>(&mut self, device: &mut D, gaps: GapList) -> Result<Visit, Fault>
+        ensures visit { IfOk result (λ visit. visit ≡ SweepEnd) }
+        ensures moved { OnOk result (self.new ≡ record { place = 0; swept = true }) }
+        ensures run { OnOk result (Runs (end_operations gaps self.old.swept) (D.state device.old) (D.state device.new)) }
+        ensures fault { IfErr result (λ fault. fault ≡ Fault.Device) }
+        ensures stopped { OnErr result (StopsWithin (end_operations gaps self.old.swept) (D.state device.old) (D.state device.new)) }
+        ensures same { OnErr result (self.new ≡ self.old) }
+    {
+        if self.is_due(gaps) {
+            device.fence(Actor::COLLECTOR)?;
+        }
+        self.place = 0;
+        self.swept = true;
+        Ok(Visit::SweepEnd)
+    }
+}

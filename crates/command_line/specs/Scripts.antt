@@ -1,0 +1,212 @@
+-- What a script of lives spells, and which line of it is wrong.
+use Rattle.std.specs.Prelude.{◌≡◌, ◌≢◌, ◌⊎◌, ℕ, ◌+◌, ◌-◌, ◌^◌, min, Bool, true, false, List, [], ◌∷◌, ◌++◌, length, map, codes, ◌==◌, Option, Some, None, option_map, option_and_then, unwrap_or, if◌then◌else◌, ⊤}
+use Rattle.std.specs.List.{flat_map, slice_split}
+use Rattle.std.specs.Option.{option_to_list}
+use Rattle.base.specs.Layout.{Layout, is_in_limits, layout_with, newest_version}
+use Rattle.base.specs.declared.key.Key.{Key}
+use Rattle.command_line.specs.Lines.{command_of, has_outer_space, is_skipped, is_word, words_of}
+use Rattle.command_line.specs.Numbers.{Text, number_below}
+use Rattle.command_line.specs.declared.command.Command.{Command}
+use Rattle.command_line.specs.declared.command.Command.TheVariants as command
+use Rattle.command_line.specs.declared.command.Survivor.{Survivor}
+use Rattle.command_line.specs.declared.command.Survivor.TheVariants.{Oldest, Newest}
+use Rattle.command_line.specs.declared.script.Script.{Script}
+use Rattle.command_line.specs.declared.script.ScriptFault.{ScriptFault}
+use Rattle.command_line.specs.declared.script.ScriptFault.TheVariants.{WrongLine, BadGeometry, OutOfMemory}
+use Rattle.command_line.specs.declared.script.ScriptLife.{ScriptLife}
+use Rattle.command_line.specs.declared.script_line.ScriptLine.{ScriptLine}
+use Rattle.command_line.specs.declared.script_line.ScriptLine.TheVariants as line
+
+-- ---- one line
+
+-- a command is a line of a script, but for `cycle` and `crash`
+abbrev pub line_of_command : Command → Option ScriptLine
+line_of_command command.Cycle = None
+line_of_command (command.Crash keeps) = None
+line_of_command c = Some (line.Command c)
+
+-- so some words spell a command
+abbrev pub command_line_of : List Text → Option ScriptLine
+command_line_of words = option_and_then line_of_command (command_of words)
+
+-- a fuse: a number of operations, or `-` for none
+abbrev pub fuse_of : Text → Option (Option ℕ)
+fuse_of word = if is_word word (codes "-") then Some None else option_map (λ n. Some n) (number_below (2 ^ 64) word)
+
+-- what a stop keeps
+abbrev pub survivor_of : Text → Option Survivor
+survivor_of word =
+    if is_word word (codes "oldest") then Some Oldest
+    else if is_word word (codes "newest") then Some Newest
+    else None
+
+-- the beginning of a life, by its fuse and by what its stop keeps
+abbrev pub life_line : Text → Text → Option ScriptLine
+life_line fuse keeps = option_and_then (λ f. option_map (line.Life f) (survivor_of keeps)) (fuse_of fuse)
+
+-- the numbers of an image
+abbrev pub geometry_line : Text → Text → Text → Option ScriptLine
+geometry_line slots places window =
+    option_and_then (λ s. option_and_then (λ p. option_map (line.Geometry s p) (number_below (2 ^ 64) window)) (number_below (2 ^ 64) places)) (number_below (2 ^ 64) slots)
+
+-- the line of a name and what follows it, where the name is one that no command has. `None` stands for another name, and
+-- `Some None` for words that are wrong after this one
+abbrev pub close_line : Text → Option (Option ScriptLine)
+close_line name = if is_word name (codes "close") then Some (Some line.Close) else None
+
+abbrev pub named_life : Text → Text → Text → Option (Option ScriptLine)
+named_life name fuse keeps = if is_word name (codes "life") then Some (life_line fuse keeps) else None
+
+abbrev pub named_geometry : Text → Text → Text → Text → Option (Option ScriptLine)
+named_geometry name slots places window = if is_word name (codes "geometry") then Some (geometry_line slots places window) else None
+
+abbrev pub own_line : List Text → Option (Option ScriptLine)
+own_line [] = None
+own_line (name ∷ []) = close_line name
+own_line (name ∷ a ∷ []) = None
+own_line (name ∷ fuse ∷ keeps ∷ []) = named_life name fuse keeps
+own_line (name ∷ slots ∷ places ∷ window ∷ []) = named_geometry name slots places window
+own_line (name ∷ a ∷ b ∷ c ∷ d ∷ more) = None
+
+-- the line that some words spell, where they spell one
+abbrev pub line_of_words : List Text → Option ScriptLine
+line_of_words words = unwrap_or (own_line words) (command_line_of words)
+
+-- what a line is read as: `None` where it is no line of a script, `Some None` where it is skipped
+abbrev pub script_line_of : Text → Option (Option ScriptLine)
+script_line_of text =
+    if is_skipped text then Some None
+    else if has_outer_space text then None
+    else option_map (λ read. Some read) (line_of_words (words_of text))
+
+-- the line is a put
+abbrev pub IsScriptPut : Option ScriptLine → Type 0
+IsScriptPut read = (session : ℕ) × (key : Key) × (row : List ℕ) × (read ≡ Some (line.Command (command.Put session key row)))
+
+-- the text spells a put
+abbrev pub SpellsScriptPut : Text → Type 0
+SpellsScriptPut text = (session : ℕ) × (key : Key) × (row : List ℕ) × (script_line_of text ≡ Some (Some (line.Command (command.Put session key row))))
+
+-- ---- the whole
+
+-- what stands between the line feeds of a text
+abbrev pub script_lines : Text → List Text
+script_lines = slice_split (λ byte. byte == 10)
+
+-- the texts are read as these lines, those that are skipped left out
+abbrev pub AreReadAs : List Text → List ScriptLine → Type 0
+AreReadAs written lines = (each : List (Option ScriptLine)) × (map script_line_of written ≡ map (λ read. Some read) each) × (lines ≡ flat_map option_to_list each)
+
+-- a close, where one is asked
+abbrev pub closing : Bool → List ScriptLine
+closing true = line.Close ∷ []
+closing false = []
+
+-- the lines of a life: its beginning, its commands, and perhaps a close
+abbrev pub lines_of_life : ScriptLife → List ScriptLine
+lines_of_life life = line.Life life.fuse life.keeps ∷ (map (λ c. line.Command c) life.commands.items ++ closing life.closes)
+
+-- the lines of a script: the numbers of the image, and those of the lives
+abbrev pub lines_of : Layout → List ScriptLife → List ScriptLine
+lines_of layout lives = line.Geometry layout.slots layout.places layout.window ∷ flat_map lines_of_life lives
+
+-- the text spells these lives from a fresh image of this layout on
+pub record SpellsScript (text : Text) (layout : Layout) (lives : List ScriptLife) : Type 0 where
+  pub lines : AreReadAs (script_lines text) (lines_of layout lives)
+  pub newest : layout.version ≡ newest_version
+
+-- ---- a line that is wrong
+
+abbrev pub is_geometry : ScriptLine → Bool
+is_geometry (line.Geometry slots places window) = true
+is_geometry _ = false
+
+-- the line stands within a life
+abbrev pub is_within_life : ScriptLine → Bool
+is_within_life (line.Command c) = true
+is_within_life line.Close = true
+is_within_life _ = false
+
+-- after this line a life goes on
+abbrev pub leaves_life_open : ScriptLine → Bool
+leaves_life_open (line.Life fuse keeps) = true
+leaves_life_open (line.Command c) = true
+leaves_life_open _ = false
+
+-- The line can't stand after these: the geometry is the first line and no other, and what belongs to a life stands after its
+-- beginning and before its close
+abbrev pub IsOutOfPlace : List ScriptLine → ScriptLine → Type 0
+IsOutOfPlace before one =
+    ((before ≡ []) × (is_geometry one ≡ false))
+    ⊎ ((before ≢ []) × (is_geometry one ≡ true))
+    ⊎ ((is_within_life one ≡ true) × (earlier : List ScriptLine) × (last : ScriptLine) × (before ≡ earlier ++ last ∷ []) × (leaves_life_open last ≡ false))
+
+-- after these lines the text is no line of a script, or spells one that is out of its place
+abbrev pub IsWrongAfter : List ScriptLine → Text → Type 0
+IsWrongAfter before text = (script_line_of text ≡ None) ⊎ ((one : ScriptLine) × (script_line_of text ≡ Some (Some one)) × IsOutOfPlace before one)
+
+-- the line is the first, and a geometry that is out of its limits
+abbrev pub IsBadGeometry : List ScriptLine → ScriptLine → Type 0
+IsBadGeometry before one = (before ≡ []) × (slots : ℕ) × (places : ℕ) × (window : ℕ)
+    × (one ≡ line.Geometry slots places window) × (is_in_limits (layout_with newest_version slots places window) ≡ false)
+
+-- after these lines the text spells such a geometry
+abbrev pub HasBadGeometryAfter : List ScriptLine → Text → Type 0
+HasBadGeometryAfter before text = (one : ScriptLine) × (script_line_of text ≡ Some (Some one)) × IsBadGeometry before one
+
+-- the script has a line of this number, and this holds of it and of what the lines before it are read as. Numbers begin at 1, and
+-- one past the greatest that can be printed is printed as that one
+pub record HasLineAt (text : Text) (number : ℕ) (Is : List ScriptLine → Text → Type 0) : Type 0 where
+  pub before : List Text
+  pub line : Text
+  pub later : List Text
+  pub stands : script_lines text ≡ before ++ line ∷ later
+  pub read : List ScriptLine
+  pub reads : AreReadAs before read
+  pub counted : number ≡ min (length before + 1) (2 ^ 64 - 1)
+  pub is : Is read line
+
+-- the line of this number is wrong; or there is none but skipped ones, and then it is the first
+abbrev pub IsWrongLine : Text → ℕ → Type 0
+IsWrongLine text number = HasLineAt text number IsWrongAfter ⊎ (AreReadAs (script_lines text) [] × (number ≡ 1))
+
+-- the script begins with a geometry that is out of its limits
+abbrev pub HasBadGeometry : Text → Type 0
+HasBadGeometry text = (number : ℕ) × HasLineAt text number HasBadGeometryAfter
+
+-- ---- why a text is no script
+
+-- this of the number of the line, where a line is wrong
+abbrev pub IfWrongLine : (ℕ → Type 0) → ScriptFault → Type 0
+IfWrongLine P (WrongLine number) = P number
+IfWrongLine P BadGeometry = ⊤
+IfWrongLine P OutOfMemory = ⊤
+
+-- this, where the geometry is out of its limits
+abbrev pub IfBadGeometry : Type 0 → ScriptFault → Type 0
+IfBadGeometry P (WrongLine number) = ⊤
+IfBadGeometry P BadGeometry = P
+IfBadGeometry P OutOfMemory = ⊤
+
+-- ---- a script that is being read
+
+-- the layout is of the newest version
+abbrev pub IsNewest : Script → Type 0
+IsNewest script = script.geometry.version ≡ newest_version
+
+-- the lines that were read
+abbrev pub lines_so_far : Option Script → List ScriptLine
+lines_so_far None = []
+lines_so_far (Some script) = lines_of script.geometry script.lives.items
+
+-- the text is read as one line more, or as none
+abbrev pub TakesLine : Option Script → Text → Option Script → Type 0
+TakesLine old text now = (read : Option ScriptLine) × (script_line_of text ≡ Some read) × (lines_so_far now ≡ lines_so_far old ++ option_to_list read)
+
+-- no life is open: there is none, or the last one has its close
+abbrev pub IsShut : List ScriptLife → Type 0
+IsShut lives = (lives ≡ []) ⊎ ((earlier : List ScriptLife) × (life : ScriptLife) × (lives ≡ earlier ++ life ∷ []) × (life.closes ≡ true))
+
+-- the line can't come after these lives
+abbrev pub IsNoLineOf : List ScriptLife → ScriptLine → Type 0
+IsNoLineOf lives one = (is_geometry one ≡ true) ⊎ ((is_within_life one ≡ true) × IsShut lives)

@@ -1,0 +1,149 @@
+-- What the lives of a script are asked, and what is printed of their reports.
+use Rattle.std.specs.Prelude.{◌≡◌, ℕ, ◌+◌, ◌-◌, ◌^◌, slice_get, Bool, true, false, nat_le, List, [], ◌∷◌, ◌++◌, length, map, take, drop, flat_map, replicate, codes, decimal, Option, Some, None, Result, Ok, Err, if◌then◌else◌}
+use Rattle.std.specs.Option.{option_to_list}
+use Rattle.std.specs.Io.KnownBytes.{Appends}
+use Rattle.base.specs.declared.fault.Fault.{Fault}
+use Rattle.base.specs.declared.fault.Fault.TheVariants.{BadGeometry, OutOfMemory, TooLong}
+use Rattle.base.specs.declared.step.Step.{Step}
+use Rattle.base.specs.declared.step.Step.TheVariants as step
+use Rattle.base.specs.declared.step.Reply.{Reply}
+use Rattle.base.specs.Layout.{Layout}
+use Rattle.base.specs.Lives.{is_failure}
+use Rattle.pmem_model.specs.declared.choice.Choice.{Choice}
+use Rattle.command_line.specs.Numbers.{Text}
+use Rattle.command_line.specs.Scripts.{SpellsScript}
+use Rattle.command_line.specs.Texts.{closed_line, opened_line, refused_text}
+use Rattle.command_line.specs.declared.command.Command.{Command}
+use Rattle.command_line.specs.declared.command.Command.TheVariants.{Begin, Get, Scan, Put, Delete, Draw, Stamp, Poll, Abort, End, Commit, Cycle, Crash}
+use Rattle.command_line.specs.declared.script.ScriptFault.{ScriptFault}
+use Rattle.command_line.specs.declared.script.ScriptFault.TheVariants as script
+use Rattle.command_line.specs.declared.script.ScriptLife.{ScriptLife}
+use Rattle.lives.specs.Chains.{AreLives}
+use Rattle.lives.specs.declared.life.Life.{Life}
+use Rattle.lives.specs.declared.life.LifeReport.{LifeReport}
+use Rattle.lives.specs.declared.life.Numbers.{Numbers}
+use Rattle.lives.specs.declared.life.Opened.{Opened}
+use Rattle.console.specs.Crash.{choice_of}
+use Rattle.console.specs.Obeyed.{reply_text}
+use Rattle.console.specs.declared.stop.Stop.{Stop}
+use Rattle.console.specs.declared.stop.Stop.TheVariants.{Refused, NotACommand}
+
+-- how a subcommand ends where a text is no script
+abbrev pub stop_of : ScriptFault → Stop
+stop_of (script.WrongLine number) = NotACommand number
+stop_of script.BadGeometry = Refused BadGeometry
+stop_of script.OutOfMemory = Refused OutOfMemory
+
+-- ---- what is asked
+
+-- the step of a command that has one. A row that is too long has none, and is refused before anything else is
+abbrev pub step_of : Command → Option Step
+step_of Begin = Some step.Begin
+step_of (Get n key) = Some (step.Get n key)
+step_of (Scan n table lo hi) = Some (step.Scan n table lo hi)
+step_of (Put n key row) = if nat_le (length row) 32 then Some (step.Put n key row) else None
+step_of (Delete n key) = Some (step.Delete n key)
+step_of (Draw n) = Some (step.Draw n)
+step_of (Stamp n) = Some (step.Stamp n)
+step_of (Poll n) = Some (step.Poll n)
+step_of (Abort n) = Some (step.Abort n)
+step_of (End n) = Some (step.End n)
+step_of _ = None
+
+-- the steps of a command: of `commit` as many ticks as it asks for
+abbrev pub steps_of : Command → List Step
+steps_of (Commit ticks) = replicate ticks step.Commit
+steps_of command = option_to_list (step_of command)
+
+-- what is asked of a life: its steps, a close, a fuse, and which survivors its stop leaves
+pub record Wish : Type 0 where
+  pub steps : List Step
+  pub closes : Bool
+  pub fuse : Option ℕ
+  pub choice : Choice
+
+-- what a script asks of a life
+abbrev pub asked_by : ScriptLife → Wish
+asked_by life = record { steps = flat_map steps_of life.commands.items; closes = life.closes; fuse = life.fuse; choice = choice_of life.keeps }
+
+abbrev pub asked_of : Life → Wish
+asked_of life = record { steps = life.steps.items; closes = life.close; fuse = life.fuse; choice = life.choice }
+
+-- ---- what is printed
+
+-- the last of some replies
+abbrev pub last_of : List Reply → Option Reply
+last_of replies = slice_get replies (length replies - 1)
+
+-- the line of the last reply to a command's steps. What has no reply is a row that is too long
+abbrev pub answer_of : Option Reply → Text
+answer_of None = refused_text TooLong
+answer_of (Some reply) = reply_text reply
+
+abbrev pub answer_text : List Reply → Text
+answer_text replies = answer_of (last_of replies)
+
+-- the device failed in the last of these
+abbrev pub is_failed_by : Option Reply → Bool
+is_failed_by None = false
+is_failed_by (Some reply) = is_failure reply
+
+abbrev pub has_failed : List Reply → Bool
+has_failed replies = is_failed_by (last_of replies)
+
+-- a line for each command, up to the first in which the device failed
+abbrev pub replies_text : List Command → List Reply → Text
+replies_text [] replies = []
+replies_text (command ∷ commands) replies =
+    let own = take (length (steps_of command)) replies in
+    (answer_text own ++ 10 ∷ []) ++ (if has_failed own then [] else replies_text commands (drop (length (steps_of command)) replies))
+
+-- the line of an opening
+abbrev pub opened_text : Opened → Text
+opened_text opened = opened_line opened.numbers.gate opened.numbers.persisted opened.numbers.dirty opened.next opened.gaps
+
+-- the line of a close, or of its fault, where one was asked and come to
+abbrev pub closed_text : Option (Result Numbers Fault) → Text
+closed_text None = []
+closed_text (Some (Ok numbers)) = closed_line numbers.gate numbers.persisted numbers.dirty ++ 10 ∷ []
+closed_text (Some (Err fault)) = refused_text fault ++ 10 ∷ []
+
+-- what a life prints that was opened
+abbrev pub lived_text : Opened → List Command → LifeReport → Text
+lived_text opened commands report = ((opened_text opened ++ 10 ∷ []) ++ replies_text commands report.replies.items) ++ closed_text report.closed
+
+-- what a life whose opening came to this prints
+abbrev pub opening_text : Result Opened Fault → List Command → LifeReport → Text
+opening_text (Ok opened) commands report = lived_text opened commands report
+opening_text (Err fault) commands report = refused_text fault ++ 10 ∷ []
+
+-- the lines of a report
+abbrev pub report_text : ScriptLife → LifeReport → Text
+report_text life report = opening_text report.opening life.commands.items report
+
+-- the lines of a life of this number
+abbrev pub life_text : ℕ → ScriptLife → LifeReport → Text
+life_text number life report =
+    (((codes "life " ++ decimal number) ++ 10 ∷ []) ++ report_text life report) ++ (codes "stopped" ++ 10 ∷ [])
+
+-- the lines of lives, the first of which has this number
+abbrev pub lives_text : ℕ → List ScriptLife → List LifeReport → Text
+lives_text number [] reports = []
+lives_text number (life ∷ lives) [] = []
+lives_text number (life ∷ lives) (report ∷ reports) = life_text number life report ++ lives_text (number + 1) lives reports
+
+-- the lives are lived one over another from a fresh image on, asked as the script asks, and exactly the lines of their reports are
+-- printed
+pub record PrintsReports (layout : Layout) (script : List ScriptLife) (old new : Option Text) : Type 0 where
+  pub lives : List Life
+  pub asked : map asked_of lives ≡ map asked_by script
+  pub reports : List LifeReport
+  pub lived : AreLives layout lives reports
+  pub prints : Appends old new (lives_text 1 script reports)
+
+-- the text spells lives, and so they are lived and printed
+pub record PrintsLives (text : Text) (old new : Option Text) : Type 0 where
+  pub layout : Layout
+  pub script : List ScriptLife
+  pub spelled : SpellsScript text layout script
+  pub prints : PrintsReports layout script old new

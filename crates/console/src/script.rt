@@ -1,0 +1,326 @@
+ghost use Rattle.std.specs.Prelude.{◌≡◌, ◌⊎◌, ◌++◌, ◌∷◌, [], IfErr, IfOk, OnOk, length, map, replicate};
+ghost use Rattle.std.specs.Io.KnownBytes.{Appends};
+ghost use Rattle.base.specs.declared.fault.Fault.TheVariants.{BadGeometry, OutOfMemory};
+ghost use Rattle.base.specs.Lives.{is_failure};
+ghost use Rattle.command_line.specs.Scripts.{HasBadGeometry, IsWrongLine};
+ghost use Rattle.console.specs.BadLine.{BlamesNoLine, IfBadLine};
+ghost use Rattle.console.specs.Refusals.{IfRefused, WantsMemory};
+ghost use Rattle.console.specs.Scripts.{PrintsLives, PrintsReports, answer_text, asked_by, asked_of, closed_text, has_failed, life_text, lived_text, lives_text, opened_text, replies_text, report_text, step_of, steps_of, stop_of};
+ghost use Rattle.console.specs.Crash.{choice_of};
+ghost use Rattle.base.specs.declared.step.Step.TheVariants as step;
+
+use crate::replies::show;
+use crate::stop::Stop;
+use base::fault::Fault;
+use base::row::Row;
+use base::step::{Reply, Step};
+use command_line::command::{Command, Survivor};
+use command_line::printed::{Printed, print};
+use command_line::script::{Script, ScriptFault, ScriptLife, read_script};
+use lives::{Life, LifeReport, Numbers, Opened, run_lives};
+use pmem_model::Choice;
+use std::alloc::{AllocError, Global};
+use std::io;
+use std::io::Write;
+use std::thread::Threads;
+
+/// Lives the lives of a script, and prints what they report.
+pub fn live_script<T: Threads + Sync, W: Write>(
+    rt: &T,
+    alloc: Global,
+    text: &[u8],
+    output: &mut W,
+) -> Result<(), Stop>
+    ensures lived { OnOk result (PrintsLives text.now (W.contents output.old) (W.contents output.new)) }
+    ensures bad_line { IfErr result (IfBadLine (λ number. IsWrongLine text.now number × (W.contents output.new ≡ W.contents output.old))) }
+    ensures refused { IfErr result (IfRefused (λ fault. (fault ≡ OutOfMemory)
+        ⊎ ((fault ≡ BadGeometry) × HasBadGeometry text.now × (W.contents output.new ≡ W.contents output.old)))) }
+{
+    match read_script(alloc, text) {
+        Ok(script) => match live(rt, alloc, &script, output) {
+            Ok(()) => Ok(()),
+            Err(stop) => Err(stop),
+        },
+        Err(fault) => Err(stop_of(fault)),
+    }
+}
+
+// How the subcommand ends where a text is no script.
+fn stop_of(fault: ScriptFault) -> Stop
+    ensures { result ≡ stop_of fault }
+{
+    match fault {
+        ScriptFault::WrongLine(number) => Stop::NotACommand(number),
+        ScriptFault::BadGeometry => Stop::Refused(Fault::BadGeometry),
+        ScriptFault::OutOfMemory => Stop::Refused(Fault::OutOfMemory),
+    }
+}
+
+// Lives the lives, and prints their reports.
+fn live<T: Threads + Sync, W: Write>(
+    rt: &T,
+    alloc: Global,
+    script: &Script,
+    output: &mut W,
+) -> Result<(), Stop>
+    ensures lived { OnOk result (PrintsReports script.now.geometry script.now.lives.items (W.contents output.old) (W.contents output.new)) }
+    ensures blames { IfErr result BlamesNoLine }
+    ensures memory { IfErr result WantsMemory }
+{
+    let lives = asked_lives(alloc, script.lives.as_slice())?;
+    let reports = run_lives(rt, alloc, script.geometry, lives.as_slice())?;
+    print_lives(alloc, script.lives.as_slice(), reports.as_slice(), output)?;
+    Ok(())
+}
+
+// What is asked of the lives.
+fn asked_lives(alloc: Global, lives: &[ScriptLife]) -> Result<Vec<Life>, AllocError>
+    ensures { IfOk result (λ asked. map asked_of asked.items ≡ map asked_by lives.now) }
+{
+    let mut asked = Vec::new(alloc);
+    for life in lives {
+        asked.push(asked_life(alloc, life)?)?;
+    }
+    Ok(asked)
+}
+
+fn asked_life(alloc: Global, life: &ScriptLife) -> Result<Life, AllocError>
+    ensures { IfOk result (λ asked. asked_of asked ≡ asked_by life.now) }
+{
+    let mut steps = Vec::new(alloc);
+    for command in life.commands.as_slice() {
+        add_steps(command, &mut steps)?;
+    }
+    Ok(Life {
+        steps,
+        close: life.closes,
+        fuse: life.fuse,
+        choice: choice_of(life.keeps),
+    })
+}
+
+fn choice_of(keeps: Survivor) -> Choice
+    ensures { result ≡ choice_of keeps }
+{
+    match keeps {
+        Survivor::Oldest => Choice::Oldest,
+        Survivor::Newest => Choice::Newest,
+    }
+}
+
+// Adds the steps of a command. A row that is too long has none, since it is refused before anything else is.
+fn add_steps(command: &Command, steps: &mut Vec<Step>) -> Result<(), AllocError>
+    ensures { OnOk result (steps.new.items ≡ steps.old.items ++ steps_of command.now) }
+{
+    if let Command::Commit { ticks } = command {
+        return add_ticks(*ticks, steps);
+    }
+    if let Some(step) = step_of(command) {
+        steps.push(step)?;
+    }
+    Ok(())
+}
+
+fn add_ticks(ticks: u64, steps: &mut Vec<Step>) -> Result<(), AllocError>
+    ensures { OnOk result (steps.new.items ≡ steps.old.items ++ replicate ticks step.Commit) }
+{
+    for _ in 0..ticks {
+        steps.push(Step::Commit)?;
+    }
+    Ok(())
+}
+
+// The step of a command that has one.
+fn step_of(command: &Command) -> Option<Step>
+    ensures { result ≡ step_of command.now }
+{
+    match command {
+        Command::Begin => Some(Step::Begin),
+        Command::Get { session, key } => Some(Step::Get {
+            session: *session,
+            key: *key,
+        }),
+        Command::Scan {
+            session,
+            table,
+            lo,
+            hi,
+        } => Some(Step::Scan {
+            session: *session,
+            table: *table,
+            lo: *lo,
+            hi: *hi,
+        }),
+        Command::Put { session, key, row } => {
+            let row = Row::new(row.as_slice()).ok()?;
+            Some(Step::Put {
+                session: *session,
+                key: *key,
+                row,
+            })
+        }
+        Command::Delete { session, key } => Some(Step::Delete {
+            session: *session,
+            key: *key,
+        }),
+        Command::Draw { session } => Some(Step::Draw { session: *session }),
+        Command::Stamp { session } => Some(Step::Stamp { session: *session }),
+        Command::Poll { session } => Some(Step::Poll { session: *session }),
+        Command::Abort { session } => Some(Step::Abort { session: *session }),
+        Command::End { session } => Some(Step::End { session: *session }),
+        _ => None,
+    }
+}
+
+fn print_lives<W: Write>(
+    alloc: Global,
+    lives: &[ScriptLife],
+    reports: &[LifeReport],
+    output: &mut W,
+) -> io::Result<()>
+    ensures { OnOk result (Appends (W.contents output.old) (W.contents output.new) (lives_text 1 lives.now reports.now)) }
+{
+    for index in 0..lives.len().min(reports.len()) {
+        print_life(alloc, index + 1, &lives[index], &reports[index], output)?;
+    }
+    Ok(())
+}
+
+fn print_life<W: Write>(
+    alloc: Global,
+    number: usize,
+    life: &ScriptLife,
+    report: &LifeReport,
+    output: &mut W,
+) -> io::Result<()>
+    ensures { OnOk result (Appends (W.contents output.old) (W.contents output.new) (life_text number life.now report.now)) }
+{
+    print(alloc, output, &Printed::Life(number))?;
+    print_report(alloc, life, report, output)?;
+    print(alloc, output, &Printed::LifeStopped)
+}
+
+fn print_report<W: Write>(
+    alloc: Global,
+    life: &ScriptLife,
+    report: &LifeReport,
+    output: &mut W,
+) -> io::Result<()>
+    ensures { OnOk result (Appends (W.contents output.old) (W.contents output.new) (report_text life.now report.now)) }
+{
+    match &report.opening {
+        Ok(opened) => print_lived(alloc, opened, life, report, output),
+        Err(fault) => print(alloc, output, &Printed::Refused(*fault)),
+    }
+}
+
+fn print_lived<W: Write>(
+    alloc: Global,
+    opened: &Opened,
+    life: &ScriptLife,
+    report: &LifeReport,
+    output: &mut W,
+) -> io::Result<()>
+    ensures { OnOk result (Appends (W.contents output.old) (W.contents output.new) (lived_text opened.now life.now.commands.items report.now)) }
+{
+    print_opened(alloc, opened, output)?;
+    print_replies(
+        alloc,
+        life.commands.as_slice(),
+        report.replies.as_slice(),
+        output,
+    )?;
+    print_closed(alloc, &report.closed, output)
+}
+
+fn print_opened<W: Write>(alloc: Global, opened: &Opened, output: &mut W) -> io::Result<()>
+    ensures { OnOk result (Appends (W.contents output.old) (W.contents output.new) (opened_text opened.now ++ 10 ∷ [])) }
+{
+    let line = Printed::Opened {
+        gate: opened.numbers.gate,
+        persisted: opened.numbers.persisted,
+        dirty: opened.numbers.dirty,
+        next: opened.next,
+        gaps: opened.gaps.as_slice(),
+    };
+    print(alloc, output, &line)
+}
+
+fn print_closed<W: Write>(
+    alloc: Global,
+    closed: &Option<Result<Numbers, Fault>>,
+    output: &mut W,
+) -> io::Result<()>
+    ensures { OnOk result (Appends (W.contents output.old) (W.contents output.new) (closed_text closed.now)) }
+{
+    match closed {
+        None => Ok(()),
+        Some(Ok(numbers)) => {
+            let line = Printed::Closed {
+                gate: numbers.gate,
+                persisted: numbers.persisted,
+                dirty: numbers.dirty,
+            };
+            print(alloc, output, &line)
+        }
+        Some(Err(fault)) => print(alloc, output, &Printed::Refused(*fault)),
+    }
+}
+
+// Prints for each command the reply to the last of its steps, up to the first in which the device failed.
+fn print_replies<W: Write>(
+    alloc: Global,
+    commands: &[Command],
+    replies: &[Reply],
+    output: &mut W,
+) -> io::Result<()>
+    ensures { OnOk result (Appends (W.contents output.old) (W.contents output.new) (replies_text commands.now replies.now)) }
+{
+    let mut rest = replies;
+    for command in commands {
+        let (own, later) = rest.split_at(step_count(command).min(rest.len()));
+        print_answer(alloc, own, output)?;
+        if has_failed(own) {
+            return Ok(());
+        }
+        rest = later;
+    }
+    Ok(())
+}
+
+// How many steps a command has.
+fn step_count(command: &Command) -> usize
+    ensures { result ≡ length (steps_of command.now) }
+{
+    match command {
+        Command::Put { row, .. } if row.as_slice().len() > Row::LIMIT => 0,
+        Command::Commit { ticks } => *ticks as usize,
+        Command::Cycle | Command::Crash { .. } => 0,
+        _ => 1,
+    }
+}
+
+// Prints the last reply to a command's steps. What has none is a row that is too long.
+fn print_answer<W: Write>(alloc: Global, replies: &[Reply], output: &mut W) -> io::Result<()>
+    ensures { OnOk result (Appends (W.contents output.old) (W.contents output.new) (answer_text replies.now ++ 10 ∷ [])) }
+{
+    match replies.last() {
+        Some(reply) => show(alloc, reply, output),
+        None => print(alloc, output, &Printed::Refused(Fault::TooLong)),
+    }
+}
+
+fn has_failed(replies: &[Reply]) -> bool
+    ensures { result ≡ has_failed replies.now }
+{
+    match replies.last() {
+        Some(reply) => is_failure(reply),
+        None => false,
+    }
+}
+
+fn is_failure(reply: &Reply) -> bool
+    ensures { result ≡ is_failure reply.now }
+{
+    matches!(reply, Reply::Refused(Fault::Device))
+}

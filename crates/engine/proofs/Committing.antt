@@ -1,0 +1,112 @@
+-- A prepare, its polls and its end.
+use Rattle.std.proofs.Common.{◌≡◌, ℕ, ◌≤◌, List, [], ◌∷◌, ◌++◌, length, refl, sym, ap, subst, ◌∙◌, inl, inr, arith, append_assoc, append-nil}
+use Rattle.std.specs.Prelude.{All, Option, ◌≢◌}
+use Rattle.std.proofs.lemmas.List.Elements.{All-nil, All-cons, All-tail}
+use Rattle.base.specs.declared.fault.Fault.{Fault}
+use Rattle.base.specs.declared.fault.Fault.TheVariants.{NoSession}
+use Rattle.base.specs.declared.step.Step.TheVariants.{Poll, End}
+use Rattle.base.specs.declared.step.Note.TheVariants.{Done, Refused}
+use Rattle.audited.specs.declared.receipt.Receipt.{Receipt}
+use Rattle.engine.specs.declared.phase.Phase.{Phase}
+use Rattle.engine.specs.declared.phase.Phase.TheVariants.{Idle, Active, Drawn, Stamped, Covered}
+use Rattle.engine.specs.Phases.{number_of, IsOpenAs}
+use Rattle.engine.specs.Receipts.{Asks, Refuses}
+use Rattle.engine.specs.Calls.{Called, AskPrepare, AskCommit, ArePolls, TellsCommit, TellsLast, TellsFault, DeclinesCall, note_of_commit}
+use Rattle.engine.proofs.Calls.{Called-none, Called-append, Called-weaken, Called-more, Called-one}
+
+TellsFault-append : (one two : List Receipt) (fault : Fault) → TellsFault two fault → TellsFault (one ++ two) fault
+TellsFault-append one two fault (inl none) = inl none
+TellsFault-append one two fault (inr (before, r, is, told)) = inr (one ++ before, r, ap (λ (rs : List Receipt). one ++ rs) is ∙ sym (append_assoc one before (r ∷ [])), told)
+
+asks_some : (phase : Phase) (n : ℕ) (one two three : List Receipt) → n ≡ number_of phase → AskPrepare phase one → ArePolls n two → All (λ r. r.step ≡ End n) three → length three ≤ 1
+    → AskCommit phase (one ++ (two ++ three))
+asks_some phase n one two three is asks polls ends short = record {
+  prepare = one;
+  polls = two;
+  end = three;
+  is = refl;
+  asks = asks;
+  all_polls = subst (λ (k : ℕ). ArePolls k two) is polls;
+  ends = subst (λ (k : ℕ). All (λ (r : Receipt). r.step ≡ End k) three) is ends;
+  one_end = short;
+}
+
+-- where a transaction is open, a call is declined as its steps tell
+pub declines : (phase : Phase) (added : List Receipt) (fault : Fault) → phase ≢ Idle → TellsFault added fault → DeclinesCall phase added fault
+declines Idle added fault is_open tells = absurd (is_open refl)
+declines (Active n) added fault is_open tells = tells
+declines (Drawn n t) added fault is_open tells = tells
+declines (Stamped n t) added fault is_open tells = tells
+declines (Covered n) added fault is_open tells = tells
+
+-- none is open
+pub commit_idle : (old : List Receipt) (phase : Phase) → phase ≡ Idle → Called old old (λ added. AskCommit phase added × DeclinesCall phase added NoSession)
+commit_idle old phase is = Called-none old _ (subst (λ (p : Phase). AskCommit p [] × DeclinesCall p [] NoSession) (sym is) (none, refl))
+  where
+    none : AskCommit Idle []
+    none = record { prepare = []; polls = []; end = []; is = refl; asks = refl; all_polls = All-nil (λ (r : Receipt). r.step ≡ Poll 0); ends = All-nil (λ (r : Receipt). r.step ≡ End 0); one_end = omega arith }
+
+-- the prepare failed
+pub commit_only_prepared : (old new : List Receipt) (phase : Phase) (fault : Fault) → Called old new (λ added. AskPrepare phase added × DeclinesCall phase added fault)
+    → Called old new (λ added. AskCommit phase added × DeclinesCall phase added fault)
+commit_only_prepared old new phase fault c = Called-weaken _ _ _ _ c (λ added tells. (
+  subst (AskCommit phase) (append-nil added) (asks_some phase (number_of phase) added [] [] refl tells.0 (All-nil (λ (r : Receipt). r.step ≡ Poll (number_of phase))) (All-nil (λ (r : Receipt). r.step ≡ End (number_of phase))) (omega arith)),
+  tells.1,
+))
+
+-- a poll failed
+pub commit_polled : (old mid new : List Receipt) (phase : Phase) (n : ℕ) (fault : Fault) (R : List Receipt → Type 0) → IsOpenAs n phase → Called old mid (λ one. AskPrepare phase one × R one)
+    → Called mid new (λ two. ArePolls n two × TellsFault two fault) → Called old new (λ added. AskCommit phase added × DeclinesCall phase added fault)
+commit_polled old mid new phase n fault R is c d = Called-append _ _ _ _ _ _ c d (λ one two prepared polled. (
+  subst (λ (rs : List Receipt). AskCommit phase (one ++ rs)) (append-nil two) (asks_some phase n one two [] is.number prepared.0 polled.0 (All-nil (λ (r : Receipt). r.step ≡ End n)) (omega arith)),
+  declines phase _ fault is.is_open (TellsFault-append one two fault polled.1),
+))
+
+-- it ended
+pub commit_ended : (old mid mid' new : List Receipt) (phase : Phase) (n : ℕ) (answer : Option ℕ) (R : List Receipt → Type 0) → IsOpenAs n phase → Called old mid (λ one. AskPrepare phase one × R one)
+    → Called mid mid' (λ two. ArePolls n two × TellsLast two (note_of_commit answer)) → Asks mid' new (End n) Done → Called old new (λ added. AskCommit phase added × TellsCommit phase added answer)
+commit_ended old mid mid' new phase n answer R is c d a =
+    Called-append _ _ _ _ (λ three. (two : List Receipt) × (r : Receipt) × (three ≡ two ++ r ∷ []) × (ArePolls n two × TellsLast two (note_of_commit answer)) × (r.step ≡ End n)) _ c
+    (Called-more _ _ _ _ _ _ _ d a (λ two r polled step told. (two, r, refl, polled, step))) join
+  where
+    join : (one three : List Receipt) → AskPrepare phase one × R one
+        → (two : List Receipt) × (r : Receipt) × (three ≡ two ++ r ∷ []) × (ArePolls n two × TellsLast two (note_of_commit answer)) × (r.step ≡ End n)
+        → AskCommit phase (one ++ three) × TellsCommit phase (one ++ three) answer
+    join one three prepared (two, r, same, (polls, (before, poll, last, told)), step) = (
+      subst (λ (rs : List Receipt). AskCommit phase (one ++ rs)) (sym same)
+          (asks_some phase n one two (r ∷ []) is.number prepared.0 polls (All-cons (λ (s : Receipt). s.step ≡ End n) r [] step (All-nil (λ (s : Receipt). s.step ≡ End n))) (omega arith)),
+      record {
+        open_then = is.is_open;
+        before = one ++ before;
+        poll = poll;
+        end = r;
+        is = ap (λ (rs : List Receipt). one ++ rs) (same ∙ ap (λ (rs : List Receipt). rs ++ r ∷ []) last)
+            ∙ (sym (append_assoc one (before ++ poll ∷ []) (r ∷ [])) ∙ ap (λ (rs : List Receipt). rs ++ r ∷ []) (sym (append_assoc one before (poll ∷ []))));
+        polled = last_of before poll (subst (ArePolls n) last polls) ∙ ap Poll is.number;
+        told = told;
+        ended = step ∙ ap End is.number;
+      },
+    )
+      where
+        last_of : (before : List Receipt) (poll : Receipt) → ArePolls n (before ++ poll ∷ []) → poll.step ≡ Poll n
+        last_of [] poll all = all 0 poll (omega arith)
+        last_of (x ∷ before) poll all = last_of before poll (All-tail (λ (s : Receipt). s.step ≡ Poll n) x (before ++ poll ∷ []) all)
+
+-- the end failed
+pub commit_end_failed : (old mid mid' new : List Receipt) (phase : Phase) (n : ℕ) (fault : Fault) (R S : List Receipt → Type 0) → IsOpenAs n phase → Called old mid (λ one. AskPrepare phase one × R one)
+    → Called mid mid' (λ two. ArePolls n two × S two) → Refuses mid' new (End n) fault → Called old new (λ added. AskCommit phase added × DeclinesCall phase added fault)
+commit_end_failed old mid mid' new phase n fault R S is c d (inl (same, none)) =
+    subst (λ (rs : List Receipt). Called old rs (λ added. AskCommit phase added × DeclinesCall phase added fault)) (sym same)
+    (commit_polled old mid mid' phase n fault R is c (Called-weaken _ _ _ _ d (λ two polled. (polled.0, inl none))))
+commit_end_failed old mid mid' new phase n fault R S is c d (inr a) =
+    Called-append _ _ _ _ (λ three. (two : List Receipt) × (r : Receipt) × (three ≡ two ++ r ∷ []) × ArePolls n two × (r.step ≡ End n) × (r.note ≡ Refused fault)) _ c
+    (Called-more _ _ _ _ _ _ _ d a (λ two r polled step told. (two, r, refl, polled.0, step, told))) join
+  where
+    join : (one three : List Receipt) → AskPrepare phase one × R one
+        → (two : List Receipt) × (r : Receipt) × (three ≡ two ++ r ∷ []) × ArePolls n two × (r.step ≡ End n) × (r.note ≡ Refused fault)
+        → AskCommit phase (one ++ three) × DeclinesCall phase (one ++ three) fault
+    join one three prepared (two, r, same, polls, step, told) = (
+      subst (λ (rs : List Receipt). AskCommit phase (one ++ rs)) (sym same)
+          (asks_some phase n one two (r ∷ []) is.number prepared.0 polls (All-cons (λ (s : Receipt). s.step ≡ End n) r [] step (All-nil (λ (s : Receipt). s.step ≡ End n))) (omega arith)),
+      declines phase _ fault is.is_open (TellsFault-append one three fault (inr (two, r, same, told))),
+    )

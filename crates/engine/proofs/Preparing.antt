@@ -1,0 +1,35 @@
+-- A draw and its stamps.
+use Rattle.std.proofs.Common.{◌≡◌, ℕ, List, [], ◌∷◌, ◌++◌, refl, sym, ap, subst, inl, inr}
+use Rattle.std.specs.Prelude.{All}
+use Rattle.base.specs.declared.fault.Fault.{Fault}
+use Rattle.base.specs.declared.step.Step.TheVariants.{Draw, Stamp}
+use Rattle.base.specs.declared.step.Note.{Note}
+use Rattle.audited.specs.declared.receipt.Receipt.{Receipt}
+use Rattle.engine.specs.declared.phase.Phase.{Phase}
+use Rattle.engine.specs.declared.phase.Phase.TheVariants.{Active}
+use Rattle.engine.specs.Receipts.{Asks}
+use Rattle.engine.specs.Calls.{Called, AskPrepare, TellsFault, DeclinesCall}
+use Rattle.engine.proofs.Calls.{Called-one, Called-append}
+
+drawn_first : (old mid new : List Receipt) (n : ℕ) (note : Note) (F G : List Receipt → Type 0)
+    → Asks old mid (Draw n) note → Called mid new F
+    → ((r : Receipt) (rest : List Receipt) → r.step ≡ Draw n → r.note ≡ note → F rest → G (r ∷ rest)) → Called old new G
+drawn_first old mid new n note F G a c both =
+    Called-append old mid new (λ one. (r : Receipt) × (one ≡ r ∷ []) × (r.step ≡ Draw n) × (r.note ≡ note)) F G
+    (Called-one old mid (Draw n) note _ a (λ r step told. (r, refl, step, told))) c (λ one two first rest. join one two first rest)
+  where
+    join : (one two : List Receipt) → (r : Receipt) × (one ≡ r ∷ []) × (r.step ≡ Draw n) × (r.note ≡ note) → F two → G (one ++ two)
+    join one two (r, same, step, told) rest = subst (λ (rs : List Receipt). G (rs ++ two)) (sym same) (both r two step told rest)
+
+pub broken_off : (old mid new : List Receipt) (phase : Phase) (n : ℕ) (note : Note) (fault : Fault) → phase ≡ Active n
+    → Asks old mid (Draw n) note → Called mid new (λ added. All (λ r. r.step ≡ Stamp n) added × TellsFault added fault)
+    → Called old new (λ added. AskPrepare phase added × DeclinesCall phase added fault)
+broken_off old mid new phase n note fault is a c =
+    drawn_first old mid new n note _ _ a c (λ r rest step told stamps. (
+      subst (λ (p : Phase). AskPrepare p (r ∷ rest)) (sym is) (inr (r, rest, refl, step, stamps.0)),
+      subst (λ (p : Phase). DeclinesCall p (r ∷ rest) fault) (sym is) (longer r rest stamps.1),
+    ))
+  where
+    longer : (r : Receipt) (rest : List Receipt) → TellsFault rest fault → TellsFault (r ∷ rest) fault
+    longer r rest (inl none) = inl none
+    longer r rest (inr (before, last, same, told)) = inr (r ∷ before, last, ap (λ (rs : List Receipt). r ∷ rs) same, told)

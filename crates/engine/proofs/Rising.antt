@@ -1,0 +1,31 @@
+-- Places that rise.
+use Rattle.std.proofs.Common.{◌≡◌, ℕ, ◌+◌, ◌≤◌, List, [], ◌∷◌, ◌++◌, refl, sym, ap, subst, ◌∙◌, arith}
+use Rattle.std.specs.Prelude.{length, Bool, true, false, nat_le, ◌&&◌, Option, Some, IfSome}
+use Rattle.std.proofs.lemmas.Bool.Decides.{nat_tests}
+use Rattle.audited.specs.declared.receipt.Receipt.{Receipt}
+use Rattle.engine.specs.Receipts.{rises, floor_of}
+
+pub floor_of-append : (least : ℕ) (rs : List Receipt) (r : Receipt) → floor_of least (rs ++ r ∷ []) ≡ r.place + 1
+floor_of-append least [] r = refl
+floor_of-append least (x ∷ rs) r = floor_of-append (x.place + 1) rs r
+
+head : (a b : Bool) → (a && b) ≡ true → a ≡ true
+head true b h = refl
+head false b h = h
+
+tail : (a b : Bool) → (a && b) ≡ true → b ≡ true
+tail true b h = h
+tail false b h = cc
+
+both : (a b : Bool) → a ≡ true → b ≡ true → (a && b) ≡ true
+both true b h k = k
+both false b h k = h
+
+pub rises-append : (least : ℕ) (rs : List Receipt) (r : Receipt) → rises least rs ≡ true → floor_of least rs ≤ r.place → rises least (rs ++ r ∷ []) ≡ true
+rises-append least [] r h le = both (nat_le least r.place) true (grind (arith, nat_tests)) refl
+rises-append least (x ∷ rs) r h le =
+    both (nat_le least x.place) (rises (x.place + 1) (rs ++ r ∷ [])) (head (nat_le least x.place) (rises (x.place + 1) rs) h)
+    (rises-append (x.place + 1) rs r (tail (nat_le least x.place) (rises (x.place + 1) rs) h) le)
+
+pub some_is : {A : Type 0} (P : A → Type 0) (o : Option A) (x : A) → IfSome o P → o ≡ Some x → P x
+some_is {A} P o x p is = subst (λ (a : Option A). IfSome a P) is p

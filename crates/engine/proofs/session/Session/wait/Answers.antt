@@ -1,0 +1,28 @@
+use Rattle.std.proofs.Common.{◌≡◌, ◌∙◌, ap, inr, List, refl}
+use Rattle.std.proofs.lemmas.List.Elements.{All-push}
+use Rattle.base.specs.declared.step.Step.TheVariants.{Poll}
+use Rattle.base.specs.Machine.{note_of}
+use Rattle.audited.specs.declared.receipt.Receipt.{Receipt}
+use Rattle.engine.proofs.Calls.{Called-more}
+use Rattle.engine.proofs.session.Session.wait.Goals as goal
+
+pub loop-preserved : goal.loop-preserved
+loop-preserved g c = record {
+  steps = Called-more _ _ _ _ _ _ _ c.loop.invariant.steps c.in_ok-make.ensures.ok (λ added r all step note. All-push (λ (s : Receipt). s.step ≡ Poll c.args.number) added r all step);
+  phase = c.make.ensures.phase ∙ c.loop.invariant.phase;
+}
+
+pub returns-in-Committed-clause-steps : goal.returns-in-Committed-clause-steps
+returns-in-Committed-clause-steps g c =
+    Called-more _ _ _ _ _ _ _ c.loop.invariant.steps c.in_ok-make.ensures.ok (λ added r all step note.
+    (All-push (λ (s : Receipt). s.step ≡ Poll c.args.number) added r all step, (added, r, refl, note ∙ ap note_of c.in-Committed.is)))
+
+pub returns-in-Done-clause-steps : goal.returns-in-Done-clause-steps
+returns-in-Done-clause-steps g c =
+    Called-more _ _ _ _ _ _ _ c.loop.invariant.steps c.in_ok-make.ensures.ok (λ added r all step note.
+    (All-push (λ (s : Receipt). s.step ≡ Poll c.args.number) added r all step, (added, r, refl, note ∙ ap note_of c.in-Done.is)))
+
+pub returns-in-Refused-clause-steps : goal.returns-in-Refused-clause-steps
+returns-in-Refused-clause-steps g c =
+    Called-more _ _ _ _ _ _ _ c.loop.invariant.steps c.in_ok-make.ensures.ok (λ added r all step note.
+    (All-push (λ (s : Receipt). s.step ≡ Poll c.args.number) added r all step, inr (added, r, refl, note ∙ ap note_of c.in-Refused.is)))

@@ -1,0 +1,40 @@
+-- When the receipts of sessions are the steps of a list.
+use Rattle.std.specs.Prelude.{◌≡◌, ℕ, ◌<◌, ◌≤◌, nat_eq, Bool, true, false, List, [], ◌∷◌, ◌++◌, length, Option, Some, None, All, count_by, flat_map, slice_get, IsTrue}
+use Rattle.base.specs.declared.step.Step.{Step}
+use Rattle.base.specs.declared.step.Step.TheVariants.{Commit as CommitTick}
+use Rattle.base.specs.declared.step.Note.{Note}
+use Rattle.audited.specs.declared.receipt.Receipt.{Receipt}
+use Rattle.pmem.specs.declared.device.Pmem.{Ghosts}
+use Rattle.engine.specs.declared.session.Session.{Session}
+
+-- whether a session makes such a step; the workers make the others
+abbrev pub is_of_session : Step → Bool
+is_of_session CommitTick = false
+is_of_session _ = true
+
+-- it is the list's entry at its place
+pub record IsEntry (entries : List (Step × Note)) (first : ℕ) (r : Receipt) : Type 0 where
+  pub from : first ≤ r.place
+  pub entry : slice_get entries r.place ≡ Some (r.step, r.note)
+  pub of_session : IsTrue (is_of_session r.step)
+
+-- how many of the receipts have this place
+abbrev pub count_at : ℕ → List Receipt → ℕ
+count_at place receipts = count_by (λ r. nat_eq r.place place) receipts
+
+-- a session step at this place has exactly one receipt
+abbrev pub IsOnceAt : List (Step × Note) → List Receipt → ℕ → Type 0
+IsOnceAt entries receipts place = (entry : Step × Note) → slice_get entries place ≡ Some entry → IsTrue (is_of_session entry.0) → count_at place receipts ≡ 1
+
+-- each session step of the list at these places has exactly one receipt
+abbrev pub AreOnce : List (Step × Note) → ℕ → ℕ → List Receipt → Type 0
+AreOnce entries first end receipts = (place : ℕ) → first ≤ place → place < end → IsOnceAt entries receipts place
+
+-- the receipts are the list's session steps from the first place on
+pub record Agrees (entries : List (Step × Note)) (first : ℕ) (receipts : List Receipt) : Type 0 where
+  pub each : All (IsEntry entries first) receipts
+  pub once : AreOnce entries first (length entries) receipts
+
+-- the receipts of all the sessions
+abbrev pub receipts_in : {D : Type 0} → {G : Ghosts D} → List (Session D G) → List Receipt
+receipts_in sessions = flat_map (λ s. s.receipts.items) sessions

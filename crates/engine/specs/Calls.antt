@@ -1,0 +1,95 @@
+-- Calls of several steps.
+use Rattle.std.specs.Prelude.{◌≡◌, ◌≢◌, ◌⊎◌, ℕ, ◌≤◌, List, [], ◌∷◌, ◌++◌, length, Option, Some, None, All}
+use Rattle.base.specs.declared.fault.Fault.{Fault}
+use Rattle.base.specs.declared.fault.Fault.TheVariants.{NoSession}
+use Rattle.base.specs.declared.step.Step.TheVariants.{Draw, Stamp, Poll, End}
+use Rattle.base.specs.declared.step.Note.{Note}
+use Rattle.base.specs.declared.step.Note.TheVariants.{Refused, Done, Drawn as DrewAs, Waiting, Committed}
+use Rattle.audited.specs.declared.receipt.Receipt.{Receipt}
+use Rattle.audited.specs.Audit.{EndsRun}
+use Rattle.engine.specs.declared.phase.Phase.{Phase}
+use Rattle.engine.specs.declared.phase.Phase.TheVariants.{Idle, Active, Drawn, Stamped, Covered}
+use Rattle.engine.specs.declared.phase.PollReply.{PollReply}
+use Rattle.engine.specs.declared.phase.PollReply.TheVariants.{Waiting as PollWaiting, Committed as PollCommitted, Done as PollDone}
+use Rattle.engine.specs.Phases.{number_of}
+use Rattle.engine.specs.Receipts.{IsUnmade}
+
+-- these receipts were added, each ends a run, and this holds of them
+pub record Called (old new : List Receipt) (fact : List Receipt → Type 0) : Type 0 where
+  pub added : List Receipt
+  pub is : new ≡ old ++ added
+  pub runs : All (λ r. ∥ EndsRun r ∥₁) added
+  pub tells : fact added
+
+-- the last note is this
+abbrev pub TellsLast : List Receipt → Note → Type 0
+TellsLast added note = (before : List Receipt) × (r : Receipt) × (added ≡ before ++ r ∷ []) × (r.note ≡ note)
+
+-- the last note refuses with this fault, or a step wasn't made
+abbrev pub TellsFault : List Receipt → Fault → Type 0
+TellsFault added fault = IsUnmade fault ⊎ TellsLast added (Refused fault)
+
+-- so it is where a transaction is open, and else the fault is NoSession
+abbrev pub DeclinesCall : Phase → List Receipt → Fault → Type 0
+DeclinesCall Idle added fault = fault ≡ NoSession
+DeclinesCall _ added fault = TellsFault added fault
+
+-- ---- a prepare
+
+-- the receipts are those of a draw and of stamps after it, as far as they came
+abbrev pub AskPrepare : Phase → List Receipt → Type 0
+AskPrepare (Active n) added = (added ≡ []) ⊎ ((r : Receipt) × (rest : List Receipt) × (added ≡ r ∷ rest) × (r.step ≡ Draw n) × All (λ s. s.step ≡ Stamp n) rest)
+AskPrepare (Drawn n t) added = All (λ s. s.step ≡ Stamp n) added
+AskPrepare _ added = added ≡ []
+
+-- what a draw is answered
+abbrev pub note_of_draw : Option ℕ → Note
+note_of_draw (Some t) = DrewAs t
+note_of_draw None = Done
+
+-- the answer is the draw's: the first note's, or that of an earlier call
+abbrev pub TellsDraw : Phase → List Receipt → Option ℕ → Type 0
+TellsDraw (Active n) added answer = (r : Receipt) × (rest : List Receipt) × (added ≡ r ∷ rest) × (r.note ≡ note_of_draw answer)
+TellsDraw (Drawn n t) added answer = answer ≡ Some t
+TellsDraw (Stamped n t) added answer = answer ≡ Some t
+TellsDraw (Covered n) added answer = answer ≡ None
+TellsDraw Idle added answer = ⊥
+
+-- ---- a commit
+
+-- what a poll is answered
+abbrev pub note_of_poll : PollReply → Note
+note_of_poll PollWaiting = Waiting
+note_of_poll (PollCommitted t) = Committed t
+note_of_poll PollDone = Done
+
+-- polls, as far as they came
+abbrev pub ArePolls : ℕ → List Receipt → Type 0
+ArePolls n added = All (λ r. r.step ≡ Poll n) added
+
+-- what a commit's last poll is answered
+abbrev pub note_of_commit : Option ℕ → Note
+note_of_commit (Some t) = Committed t
+note_of_commit None = Done
+
+-- the receipts are those of a prepare, of polls after it and of an end, as far as they came
+pub record AskCommit (phase : Phase) (added : List Receipt) : Type 0 where
+  pub prepare : List Receipt
+  pub polls : List Receipt
+  pub end : List Receipt
+  pub is : added ≡ prepare ++ (polls ++ end)
+  pub asks : AskPrepare phase prepare
+  pub all_polls : ArePolls (number_of phase) polls
+  pub ends : All (λ r. r.step ≡ End (number_of phase)) end
+  pub one_end : length end ≤ 1
+
+-- a transaction was open, its last poll's note tells the answer, and an end follows it
+pub record TellsCommit (phase : Phase) (added : List Receipt) (answer : Option ℕ) : Type 0 where
+  pub open_then : phase ≢ Idle
+  pub before : List Receipt
+  pub poll : Receipt
+  pub end : Receipt
+  pub is : added ≡ (before ++ poll ∷ []) ++ end ∷ []
+  pub polled : poll.step ≡ Poll (number_of phase)
+  pub told : poll.note ≡ note_of_commit answer
+  pub ended : end.step ≡ End (number_of phase)

@@ -1,0 +1,4 @@
+pub mod Phases
+pub mod Receipts
+pub mod Calls
+pub mod Agreement

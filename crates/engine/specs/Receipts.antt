@@ -1,0 +1,46 @@
+-- The receipts of a session.
+use Rattle.std.specs.Prelude.{◌≡◌, ◌≢◌, ◌⊎◌, ℕ, ◌+◌, nat_le, Bool, true, ◌&&◌, List, [], ◌∷◌, ◌++◌}
+use Rattle.base.specs.declared.fault.Fault.{Fault}
+use Rattle.base.specs.declared.fault.Fault.TheVariants.{OutOfMemory, NoSession, Failed}
+use Rattle.base.specs.declared.step.Step.{Step}
+use Rattle.base.specs.declared.step.Note.{Note}
+use Rattle.base.specs.declared.step.Note.TheVariants.{Refused}
+use Rattle.audited.specs.declared.receipt.Receipt.{Receipt}
+use Rattle.audited.specs.Audit.{EndsRun}
+use Rattle.engine.specs.declared.phase.Phase.{Phase}
+use Rattle.engine.specs.declared.phase.Phase.TheVariants.{Idle}
+
+-- the place after the last
+abbrev pub floor_of : ℕ → List Receipt → ℕ
+floor_of least [] = least
+floor_of least (r ∷ rs) = floor_of (r.place + 1) rs
+
+-- the places rise, from the least on
+abbrev pub rises : ℕ → List Receipt → Bool
+rises least [] = true
+rises least (r ∷ rs) = nat_le least r.place && rises (r.place + 1) rs
+
+-- the step was asked, and answered with this note: a receipt more, which ends a run of place + 1 steps
+pub record Asks (old new : List Receipt) (step : Step) (note : Note) : Type 0 where
+  pub receipt : Receipt
+  pub added : new ≡ old ++ receipt ∷ []
+  pub asked : receipt.step ≡ step
+  pub told : receipt.note ≡ note
+  pub run : ∥ EndsRun receipt ∥₁
+
+-- the faults where no step is made, or none that is kept, although a transaction allows it: memory is wanting, or the engine
+-- was closed without this session
+abbrev pub IsUnmade : Fault → Type 0
+IsUnmade fault = (fault ≡ OutOfMemory) ⊎ (fault ≡ Failed)
+
+-- the step was asked and refused with this fault, or it wasn't made
+abbrev pub Refuses : List Receipt → List Receipt → Step → Fault → Type 0
+Refuses old new step fault = ((new ≡ old) × IsUnmade fault) ⊎ Asks old new step (Refused fault)
+
+-- a transaction is open, and its step was answered with this note
+abbrev pub Answers : Phase → List Receipt → List Receipt → Step → Note → Type 0
+Answers phase old new step note = (phase ≢ Idle) × Asks old new step note
+
+-- a transaction is open, and its step is refused; or none is open, and so no step was made
+abbrev pub Declines : Phase → List Receipt → List Receipt → Step → Fault → Type 0
+Declines phase old new step fault = ((phase ≢ Idle) × Refuses old new step fault) ⊎ ((phase ≡ Idle) × (fault ≡ NoSession) × (new ≡ old))

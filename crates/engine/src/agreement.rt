@@ -1,0 +1,104 @@
+ghost use Rattle.std.specs.Prelude.{◌≡◌, ◌↔◌, ◌<◌, IsTrue, All, length};
+ghost use Rattle.engine.specs.Receipts.{rises};
+ghost use Rattle.engine.specs.Agreement.{is_of_session, IsEntry, count_at, receipts_in, IsOnceAt, Agrees};
+
+use crate::session::Session;
+use audited::Receipt;
+use base::step::{Note, Step};
+use pmem::Pmem;
+
+/// Whether the receipts of these sessions are the list's session steps from the first place on.
+pub fn agrees<D: Pmem + Drop>(entries: &[(Step, Note)], first: u64, sessions: &[Session<D>]) -> bool
+    ensures { IsTrue result ↔ Agrees entries.now first (receipts_in sessions.now) }
+{
+    for session in sessions {
+        if !are_entries(entries, first, session.receipts()) {
+            return false;
+        }
+    }
+    for place in first..entries.len() as u64 {
+        if !is_once_at(entries, sessions, place) {
+            return false;
+        }
+    }
+    true
+}
+
+// Whether each receipt is the list's entry at its place.
+fn are_entries(entries: &[(Step, Note)], first: u64, receipts: &[Receipt]) -> bool
+    ensures { IsTrue result ↔ All (IsEntry entries.now first) receipts.now }
+{
+    for receipt in receipts {
+        if !is_entry(entries, first, receipt) {
+            return false;
+        }
+    }
+    true
+}
+
+// Whether the receipt is the list's entry at its place.
+fn is_entry(entries: &[(Step, Note)], first: u64, receipt: &Receipt) -> bool
+    ensures { IsTrue result ↔ IsEntry entries.now first receipt.now }
+{
+    match entries.get(receipt.place as usize) {
+        Some((step, note)) => {
+            first <= receipt.place
+                && receipt.step.is(step)
+                && receipt.note.is(note)
+                && is_of_session(step)
+        }
+        None => false,
+    }
+}
+
+// Whether a session makes such a step.
+fn is_of_session(step: &Step) -> bool
+    ensures { result ≡ is_of_session step.now }
+{
+    !matches!(step, Step::Commit)
+}
+
+// Whether the entry at this place, where a session made it, has just one receipt.
+fn is_once_at<D: Pmem + Drop>(entries: &[(Step, Note)], sessions: &[Session<D>], place: u64) -> bool
+    requires { place < length entries.now }
+    ensures { IsTrue result ↔ IsOnceAt entries.now (receipts_in sessions.now) place }
+{
+    let (step, _) = &entries[place as usize];
+    if is_of_session(step) {
+        is_once(sessions, place)
+    } else {
+        true
+    }
+}
+
+// Whether just one of all the receipts has this place.
+fn is_once<D: Pmem + Drop>(sessions: &[Session<D>], place: u64) -> bool
+    ensures { IsTrue result ↔ (count_at place (receipts_in sessions.now) ≡ 1) }
+{
+    let mut found = false;
+    for session in sessions {
+        let count = count_at(session.receipts(), place);
+        if count > 1 {
+            return false;
+        }
+        if count == 1 {
+            if found {
+                return false;
+            }
+            found = true;
+        }
+    }
+    found
+}
+
+// How many of the receipts have this place: one at most, since places rise.
+fn count_at(receipts: &[Receipt], place: u64) -> usize
+    requires { IsTrue (rises 0 receipts.now) }
+    ensures { result ≡ count_at place receipts.now }
+{
+    let at = receipts.partition_point(|r| r.place < place);
+    match receipts.get(at) {
+        Some(receipt) => { if receipt.place == place { 1 } else { 0 } }
+        None => 0,
+    }
+}

@@ -1,0 +1,223 @@
+ghost use Rattle.std.specs.Prelude.{◌≡◌, IsTrue};
+ghost use Rattle.engine.specs.Receipts.{rises, floor_of};
+
+use crate::phase::{Phase, PollReply};
+use crate::shared::Shared;
+use audited::Receipt;
+use base::fault::Fault;
+use base::key::Key;
+use base::row::Row;
+use base::step::{Reply, Step};
+use pmem::Pmem;
+use std::alloc::Global;
+use std::sync::{Arc, Wait};
+
+/// One transaction after another, with a receipt for each step that was kept. Room for a receipt is made before its step.
+#[derive(Drop)]
+pub struct Session<D: Pmem> {
+    shared: Arc<Shared<D>, Global>,
+    pub(crate) phase: Phase,
+    receipts: Vec<Receipt>,
+    floor: u64,
+    ghost rising: { IsTrue (rises 0 receipts.items) },
+    ghost floor_is: { floor ≡ floor_of 0 receipts.items },
+}
+
+impl<D: Pmem + Drop> Session<D> {
+    ghost use Rattle.std.specs.Prelude.{◌≢◌, ◌⊎◌, [], ℕ, length, IfOk, IfErr};
+    ghost use Rattle.base.specs.declared.fault.Fault.TheVariants.{NoSession, WrongState};
+    ghost use Rattle.base.specs.declared.step.Step.TheVariants.{Begin, Get, Scan, Put, Delete, Poll, Abort};
+    ghost use Rattle.base.specs.declared.step.Note.TheVariants.{Began, Row as RowNote, Rows, Done};
+    ghost use Rattle.base.specs.Machine.{note_of};
+    ghost use Rattle.base.specs.Notes.{fits};
+    ghost use Rattle.engine.specs.declared.phase.Phase.TheVariants.{Idle, Active};
+    ghost use Rattle.engine.specs.Phases.{number_of, IsOpenAs};
+    ghost use Rattle.engine.specs.Receipts.{Asks, Refuses, IsUnmade, Answers, Declines};
+    ghost use Rattle.engine.specs.Calls.{note_of_poll};
+
+    /// Begins a transaction. Fails with `WrongState`, without a step, exactly while one is open.
+    pub fn begin<R: Wait>(&mut self, rt: &R) -> Result<(), Fault>
+        ensures ok { IfOk result (λ _. (n : ℕ) × (self.old.phase ≡ Idle) × Asks self.old.receipts.items self.new.receipts.items Begin (Began n) × (self.new.phase ≡ Active n)) }
+        ensures err { IfErr result (λ fault. ((self.old.phase ≡ Idle) × Refuses self.old.receipts.items self.new.receipts.items Begin fault)
+            ⊎ ((self.old.phase ≢ Idle) × (fault ≡ WrongState) × (self.new.receipts.items ≡ self.old.receipts.items))) }
+        ensures phase { IfErr result (λ fault. self.new.phase ≡ self.old.phase) }
+    {
+        if !matches!(self.phase, Phase::Idle) {
+            return Err(Fault::WrongState);
+        }
+        match self.make(rt, Step::Begin)? {
+            Reply::Began(number) => {
+                self.phase = Phase::Active(number);
+                Ok(())
+            }
+            Reply::Refused(fault) => Err(fault),
+            _ => unreachable!(),
+        }
+    }
+
+    /// The row under the key, as the transaction sees it.
+    pub fn get<R: Wait>(&mut self, rt: &R, key: Key) -> Result<Option<Row>, Fault>
+        ensures ok { IfOk result (λ row. Answers self.old.phase self.old.receipts.items self.new.receipts.items (Get (number_of self.old.phase) key) (RowNote row)) }
+        ensures err { IfErr result (λ fault. Declines self.old.phase self.old.receipts.items self.new.receipts.items (Get (number_of self.old.phase) key) fault) }
+        ensures phase { self.new.phase ≡ self.old.phase }
+    {
+        let session = self.number()?;
+        match self.make(rt, Step::Get { session, key })? {
+            Reply::Row(row) => Ok(row),
+            Reply::Refused(fault) => Err(fault),
+            _ => unreachable!(),
+        }
+    }
+
+    /// The rows of the table at the keys from `lo` to `hi`, both included, by rising key, as the transaction sees them.
+    pub fn scan<R: Wait>(
+        &mut self,
+        rt: &R,
+        table: u16,
+        lo: u64,
+        hi: u64,
+    ) -> Result<Vec<(Key, Row)>, Fault>
+        ensures ok { IfOk result (λ rows. Answers self.old.phase self.old.receipts.items self.new.receipts.items (Scan (number_of self.old.phase) table lo hi) (Rows rows.items)) }
+        ensures err { IfErr result (λ fault. Declines self.old.phase self.old.receipts.items self.new.receipts.items (Scan (number_of self.old.phase) table lo hi) fault) }
+        ensures phase { self.new.phase ≡ self.old.phase }
+    {
+        let session = self.number()?;
+        let scan = Step::Scan {
+            session,
+            table,
+            lo,
+            hi,
+        };
+        match self.make(rt, scan)? {
+            Reply::Rows(rows) => Ok(rows.into_items()),
+            Reply::Refused(fault) => Err(fault),
+            _ => unreachable!(),
+        }
+    }
+
+    /// Writes the row under the key.
+    pub fn put<R: Wait>(&mut self, rt: &R, key: Key, row: Row) -> Result<(), Fault>
+        ensures ok { IfOk result (λ _. Answers self.old.phase self.old.receipts.items self.new.receipts.items (Put (number_of self.old.phase) key row) Done) }
+        ensures err { IfErr result (λ fault. Declines self.old.phase self.old.receipts.items self.new.receipts.items (Put (number_of self.old.phase) key row) fault) }
+        ensures phase { self.new.phase ≡ self.old.phase }
+    {
+        let session = self.number()?;
+        match self.make(rt, Step::Put { session, key, row })? {
+            Reply::Done => Ok(()),
+            Reply::Refused(fault) => Err(fault),
+            _ => unreachable!(),
+        }
+    }
+
+    /// Deletes the row under the key, if there is one.
+    pub fn delete<R: Wait>(&mut self, rt: &R, key: Key) -> Result<(), Fault>
+        ensures ok { IfOk result (λ _. Answers self.old.phase self.old.receipts.items self.new.receipts.items (Delete (number_of self.old.phase) key) Done) }
+        ensures err { IfErr result (λ fault. Declines self.old.phase self.old.receipts.items self.new.receipts.items (Delete (number_of self.old.phase) key) fault) }
+        ensures phase { self.new.phase ≡ self.old.phase }
+    {
+        let session = self.number()?;
+        match self.make(rt, Step::Delete { session, key })? {
+            Reply::Done => Ok(()),
+            Reply::Refused(fault) => Err(fault),
+            _ => unreachable!(),
+        }
+    }
+
+    /// Gives the transaction up.
+    pub fn abort<R: Wait>(&mut self, rt: &R) -> Result<(), Fault>
+        ensures ok { IfOk result (λ _. Answers self.old.phase self.old.receipts.items self.new.receipts.items (Abort (number_of self.old.phase)) Done × (self.new.phase ≡ Idle)) }
+        ensures err { IfErr result (λ fault. Declines self.old.phase self.old.receipts.items self.new.receipts.items (Abort (number_of self.old.phase)) fault) }
+        ensures phase { IfErr result (λ fault. self.new.phase ≡ self.old.phase) }
+    {
+        let session = self.number()?;
+        match self.make(rt, Step::Abort { session })? {
+            Reply::Done => {
+                self.phase = Phase::Idle;
+                Ok(())
+            }
+            Reply::Refused(fault) => Err(fault),
+            _ => unreachable!(),
+        }
+    }
+
+    /// Whether the commit is covered.
+    pub fn poll<R: Wait>(&mut self, rt: &R) -> Result<PollReply, Fault>
+        ensures ok { IfOk result (λ reply. Answers self.old.phase self.old.receipts.items self.new.receipts.items (Poll (number_of self.old.phase)) (note_of_poll reply)) }
+        ensures err { IfErr result (λ fault. Declines self.old.phase self.old.receipts.items self.new.receipts.items (Poll (number_of self.old.phase)) fault) }
+        ensures phase { self.new.phase ≡ self.old.phase }
+    {
+        let session = self.number()?;
+        match self.make(rt, Step::Poll { session })? {
+            Reply::Waiting => Ok(PollReply::Waiting),
+            Reply::Committed(timestamp) => Ok(PollReply::Committed(timestamp)),
+            Reply::Done => Ok(PollReply::Done),
+            Reply::Refused(fault) => Err(fault),
+            _ => unreachable!(),
+        }
+    }
+
+    /// The receipts of its kept steps, at rising places.
+    pub fn receipts(&self) -> &[Receipt]
+        ensures receipts { result.now ≡ self.now.receipts.items }
+        ensures rising { IsTrue (rises 0 result.now) }
+    {
+        &self.receipts
+    }
+
+    /// How many steps were kept.
+    pub fn steps(&self) -> u64
+        ensures { result ≡ length self.now.receipts.items }
+    {
+        self.receipts.len() as u64
+    }
+
+    pub(crate) fn new(alloc: Global, shared: Arc<Shared<D>, Global>) -> Session<D>
+        ensures receipts { result.receipts.items ≡ [] }
+        ensures phase { result.phase ≡ Idle }
+    {
+        Session {
+            shared,
+            phase: Phase::Idle,
+            receipts: Vec::new(alloc),
+            floor: 0,
+        }
+    }
+
+    // The number of the transaction that is open.
+    fn number(&self) -> Result<u8, Fault>
+        ensures ok { IfOk result (λ n. IsOpenAs n self.now.phase) }
+        ensures err { IfErr result (λ fault. (fault ≡ NoSession) × (self.now.phase ≡ Idle)) }
+    {
+        self.phase.number().ok_or(Fault::NoSession)
+    }
+
+    /// Makes the step under the lock. Where it fails there was no step, or none that was kept.
+    pub(crate) fn make<R: Wait>(&mut self, rt: &R, step: Step) -> Result<Reply, Fault>
+        ensures ok { IfOk result (λ reply. Asks self.old.receipts.items self.new.receipts.items step (note_of reply)) }
+        ensures err { IfErr result (λ fault. (self.new.receipts.items ≡ self.old.receipts.items) × IsUnmade fault) }
+        ensures fits { IfOk result (λ reply. IsTrue (fits step (note_of reply))) }
+        ensures phase { self.new.phase ≡ self.old.phase }
+    {
+        if self.receipts.reserve(1).is_err() {
+            return Err(Fault::OutOfMemory);
+        }
+        let mut desk = self.shared.desk.lock(rt);
+
+        // The engine was closed without this session, which its caller doesn't do.
+        let Some(audited) = &mut desk.audited else {
+            return Err(Fault::Failed);
+        };
+
+        // A history never gets shorter; that it doesn't is not known of what another thread left under a lock.
+        if (audited.history().len() as u64) < self.floor {
+            return Err(Fault::Failed);
+        }
+        let (reply, receipt) = audited.step(step);
+        let Some(receipt) = receipt else {
+            return Err(Fault::OutOfMemory);
+        };
+        self.floor = receipt.place + 1;
+        self.receipts.push_reserved(receipt);
+        Ok(reply)
+    }
+}

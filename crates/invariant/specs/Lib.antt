@@ -1,4 +1,0 @@
-pub mod Slots
-pub mod Kept
-pub mod Theorem
-pub mod Moves

@@ -1,0 +1,36 @@
+use anyhow::Error;
+use command_line::image_file::{file_of_words, words_of_file};
+use std::alloc::Global;
+
+/// Prints so many words of the image, from this one on, in one line.
+pub fn print_words<H: Print>(
+    rt: &H,
+    alloc: Global,
+    file: &[u8],
+    first: &str,
+    count: &str,
+) -> Result<(), Error> {
+    let words = words_of_file(alloc, file)?;
+    let first = first.parse::<usize>()?;
+    let count = count.parse::<usize>()?;
+    for (at, word) in words.iter().skip(first).take(count).enumerate() {
+        let space = if at == 0 { "" } else { " " };
+        print!(rt; "{space}{word}")?;
+    }
+    println!(rt; "")?;
+    Ok(())
+}
+
+/// Changes words of the image: each change is a word and its new value.
+pub fn set_words(alloc: Global, file: &mut Vec<u8>, changes: &[&str]) -> Result<(), Error> {
+    let mut words = words_of_file(alloc, file.as_slice())?;
+    for change in changes.chunks_exact(2) {
+        if let [word, value] = change
+            && let Some(word) = words.get_mut(word.parse::<usize>()?)
+        {
+            *word = value.parse::<u64>()?;
+        }
+    }
+    *file = file_of_words(alloc, words.as_slice())?;
+    Ok(())
+}

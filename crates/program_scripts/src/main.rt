@@ -1,0 +1,93 @@
+//! A program that obeys scripts of what `wbl` is asked to do with one file, and prints what comes of it. A command
+//! begins with `$`, and the lines after it are its input.
+#![tactic(auto)]
+
+mod image;
+
+use anyhow::Error;
+use command_line::orders::{Order, WordFault};
+use command_line::words::order;
+use console::ended::Ended;
+use console::execute::execute;
+use image::{print_words, set_words};
+use std::alloc::Global;
+use std::thread::Threads;
+use std::{env, fs, io};
+
+fn main(rt: HostRuntime) -> Result<(), Error> {
+    let alloc = rt.alloc();
+    let names: Vec<String> = env::args(&rt)?.skip(1).collect(alloc)?;
+    for name in names.as_slice() {
+        println!(rt; "== {name}")?;
+        let script = fs::read_to_string(&rt, name.as_str())?;
+        let mut file = Vec::new(alloc);
+        for part in script.as_str().split('$').skip(1) {
+            println!(rt; "${}", part.lines().next().unwrap_or(""))?;
+            obey(&rt, alloc, part, &mut file)?;
+        }
+    }
+    Ok(())
+}
+
+// Obeys a command with its input.
+fn obey<H: Print + Threads + Sync>(
+    rt: &H,
+    alloc: Global,
+    part: &str,
+    file: &mut Vec<u8>,
+) -> Result<(), Error> {
+    let (command, input) = part.split_once('\n').unwrap_or((part, ""));
+    let words: Vec<&str> = command
+        .split(' ')
+        .filter(|word| !word.is_empty())
+        .collect(alloc)?;
+    match words.as_slice() {
+        ["words", first, count] => print_words(rt, alloc, file.as_slice(), first, count),
+        ["set", changes @ ..] => set_words(alloc, file, changes),
+        ["length", bytes] => Ok(file.resize(bytes.parse::<usize>()?, 0)?),
+        ["wbl", words @ ..] => match order(alloc, words) {
+            Ok(order) => execute_order(rt, alloc, &order, input, file),
+            Err(fault) => tell(rt, fault),
+        },
+        _ => Ok(println!(rt; "not a command")?),
+    }
+}
+
+// Does the work of a subcommand, and tells how it ended where it didn't end well.
+fn execute_order<H: Print + Threads + Sync>(
+    rt: &H,
+    alloc: Global,
+    order: &Order,
+    input: &str,
+    file: &mut Vec<u8>,
+) -> Result<(), Error> {
+    let Ended {
+        status,
+        file: left,
+        refused: _,
+    } = execute(
+        rt,
+        alloc,
+        order,
+        file.as_slice(),
+        &mut input.as_bytes(),
+        &mut io::writer(rt),
+    );
+    if let Some(left) = left {
+        *file = left;
+    }
+    if status != 0 {
+        println!(rt; "status {status}")?;
+    }
+    Ok(())
+}
+
+fn tell<H: Print>(rt: &H, fault: WordFault) -> Result<(), Error> {
+    let told = match fault {
+        WordFault::Help(_) => "help",
+        WordFault::BadWords(_) => "bad words",
+        WordFault::OutOfMemory(_) => "out of memory",
+    };
+    println!(rt; "{told}")?;
+    Ok(())
+}

@@ -1,0 +1,244 @@
+-- What an opening gives is shown.
+use Rattle.std.proofs.Common.{◌≡◌, ℕ, ◌+◌, ◌*◌, ◌<◌, ◌≤◌, Bool, true, false, cond, not, ◌&&◌, List, [], length, get_or, map, refl, sym, ◌∙◌, ap, subst, nat_lt, arith}
+use Rattle.std.specs.Prelude.{slice_get, Option, Some, None, is_none, is_some}
+use Rattle.std.specs.List.{range_with_len}
+use Rattle.std.proofs.lemmas.Bool.{lt-ltb, false≢true}
+use Rattle.std.proofs.lemmas.Option.{slice_get-get_or}
+use Rattle.std.proofs.lemmas.List.FromFn.{length-map-range_with_len, get_or-map-range_with_len}
+use Rattle.base.specs.declared.key.Key.{Key}
+use Rattle.base.specs.declared.gap.Gap.{Gap}
+use Rattle.base.specs.Commits.{Commit}
+use Rattle.base.specs.Layout.{Layout, slot_start, slot_words, total_words}
+use Rattle.base.specs.Records.{Record, opened_gaps}
+use Rattle.base.specs.Images.{Image, IsSound, layout_of, ruling, is_shown, needs_sweep, IsRuledBy}
+use Rattle.base.specs.Stands.{Stands}
+use Rattle.base.specs.Openings.{OpensAs, IsOpenedGaps, opened as opened-state, opening_record, gaps_kept, opened_slots}
+use Rattle.base.specs.Machine.{State}
+use Rattle.base.proofs.Alike.{HasRowsOf, key-same, misfit-same}
+use Rattle.base.proofs.Histories.{history_in, sound-stands, opens-sound}
+use Rattle.base.proofs.Opened.{opened-rows, same_opened, whole-of, size-of, covers-of, wide-of}
+use Rattle.pmem.specs.Device.{Device}
+use Rattle.pmem.specs.Words.{image_of, HasNoFailure}
+use Rattle.pmem.specs.declared.device.Pmem.{Ghosts}
+use Rattle.log_area.specs.Rulings.{HoldsRecord}
+use Rattle.log_area.proofs.Heads.{image_size, image_word}
+use Rattle.log_area.proofs.Rulings.{log_within}
+use Rattle.group_commit.specs.Cycles.{Cycling}
+use Rattle.index.specs.declared.entry.Entry.{Entry}
+use Rattle.index.specs.Entries.{entry_at}
+use Rattle.state_invariant.specs.Kept.{origin_of}
+use Rattle.state_invariant.specs.Shown.{word_of}
+use Rattle.device_invariant.specs.Laws.{RestsOn}
+use Rattle.device_invariant.specs.Upholds.{Upholds}
+use Rattle.device_invariant.proofs.Opened.{opened-upholds}
+use Rattle.device_invariant.proofs.Words.{word-within}
+use Rattle.session_steps.specs.Opening.{Begins, HasFound}
+use Rattle.recovery.specs.Opened.{HasOpened, Examined, free_in}
+use Rattle.recovery.specs.Slots.{free_below}
+use Rattle.recovery.proofs.Lives.{is, ruled-size}
+use Rattle.recovery.specs.declared.rows.LiveSlot.{LiveSlot}
+use Rattle.room.specs.declared.committer.Committer.{Committer}
+use Rattle.room.specs.declared.room.Room.{Room}
+use Rattle.room.specs.Committing.{HoldsCycle, Shows as CommitterShows}
+use Rattle.room.specs.Steps.{ShowsAs}
+use Rattle.room.specs.Opening.{HasBegun}
+use Rattle.room.specs.Room.{Shows}
+use Rattle.room.proofs.Rooms.{shown-stands}
+
+above-log : (a : Layout) (slot w : ℕ) → 8 + 32 * a.places ≤ word_of a slot w
+above-log a slot w = at (slot_words a.version)
+  where
+    at : (width : ℕ) → 8 + 32 * a.places ≤ 8 + 32 * a.places + width * slot + w
+    at width = omega arith
+
+none-held : {X : Type 0} (b c : Bool) (x : X) → b ≡ true → not c ≡ is_none (cond (b && c) (Some x) None)
+none-held true true x e = refl
+none-held true false x e = refl
+none-held false c x e = absurd (false≢true e)
+
+-- ---- the index was made before the operations
+
+-- the index of an image is that of one with the same rows
+found-alike : (before image : Image) (free : List Bool) (index : List (Key × Entry)) → HasRowsOf before image → 8 ≤ slot_words (layout_of before).version
+    → HasFound before free (layout_of before).slots index → HasFound image free (layout_of before).slots index
+found-alike before image free index like wide found = record {
+  nothing_else = found.nothing_else;
+  newest = λ key slot is. let at = found.newest key slot is in (at.0, at.1, key-same before image like slot at.0 wide ∙ at.2);
+  each = λ slot lt taken fits.
+      let known = found.each slot lt taken (sym (misfit-same before image like slot lt wide) ∙ fits) in
+      subst (λ (key : Key). is_some (entry_at index key).newest ≡ true) (sym (key-same before image like slot lt wide)) known;
+}
+
+module _ (old new : Device) (layout : Layout) (r : Record) (next : ℕ) (free : List Bool) (live : List LiveSlot) (opened : HasOpened old new layout r next free live) where
+  abbrev image : Image
+  image = image_of old
+
+  sound : IsSound image
+  sound = opens-sound image opened.opens
+
+  old-words : old.words ≡ total_words layout
+  old-words = sym (image_size old) ∙ (size-of image (whole-of image sound).geometry).1 ∙ ap total_words (sym opened.layout_is)
+
+  new-words : new.words ≡ old.words
+  new-words = opened.holds.stands.size ∙ sym old-words
+
+  -- ---- the words of the opened device
+
+  -- the words of the slots that are no begins and no ends are as they were
+  word-now : (word : ℕ) → 8 + 32 * layout.places ≤ word → word < old.words → get_or (image_of new) word 0 ≡ get_or (opened_slots image) word 0
+  word-now word past within = image_word new word (omega (arith, within, new-words)) ∙ (opened.slots word past within).holds
+
+  low-now : (word : ℕ) → word < 8 → get_or (image_of new) word 0 ≡ get_or image word 0
+  low-now word low =
+      let lt : word < old.words = omega (arith, low, old-words, log_within layout) in
+      image_word new word (omega (arith, lt, new-words)) ∙ (opened.superblock word low).holds ∙ sym (image_word old word lt)
+
+  layout-now : layout_of (image_of new) ≡ layout_of image
+  layout-now = λ i. record { version = low-now 1 (omega arith) i; slots = low-now 2 (omega arith) i; places = low-now 3 (omega arith) i; window = low-now 4 (omega arith) i }
+
+  slot-now : (slot w : ℕ) → slot < layout.slots → w < slot_words layout.version → get_or (image_of new) (word_of layout slot w) 0 ≡ get_or (opened_slots image) (word_of layout slot w) 0
+  slot-now slot w lt inside = word-now (word_of layout slot w) (above-log layout slot w) (omega (arith, old-words, word-within layout slot w lt inside))
+
+  rows-now : HasRowsOf image (image_of new)
+  rows-now = record {
+    size = image_size new ∙ new-words ∙ sym (image_size old);
+    laid_out = layout-now;
+    same = λ slot w lt low high.
+        ap (λ (l : Layout). get_or (image_of new) (slot_start l slot + w) 0) (layout-now ∙ sym opened.layout_is)
+        ∙ slot-now slot w (subst (λ (l : Layout). slot < l.slots) (sym opened.layout_is) lt) (subst (λ (l : Layout). w < slot_words l.version) (sym opened.layout_is) high)
+        ∙ ap (λ (l : Layout). get_or (opened_slots image) (slot_start l slot + w) 0) (opened.layout_is ∙ sym (opened-rows image).laid_out)
+        ∙ (opened-rows image).same slot w lt low high;
+  }
+
+  wide : 8 ≤ slot_words (layout_of image).version
+  wide = omega (arith, wide-of image sound)
+
+  -- so the index that was made before is that of the opened device
+  pub found-now : (was : List Bool) (slots : ℕ) (index : List (Key × Entry)) → was ≡ free → slots ≡ layout.slots → HasFound image was slots index → HasFound (image_of new) free layout.slots index
+  found-now was slots index same-free same-slots found =
+      subst (λ (n : ℕ). HasFound (image_of new) free n index) (ap (λ (l : Layout). l.slots) (sym opened.layout_is))
+      (found-alike image (image_of new) free index rows-now wide
+      (subst (λ (n : ℕ). HasFound image free n index) (same-slots ∙ ap (λ (l : Layout). l.slots) opened.layout_is)
+      (subst (λ (f : List Bool). HasFound image f slots index) same-free found)))
+
+  -- each slot is free or not
+  pub free-counted : length free ≡ layout.slots
+  free-counted =
+      ap (λ (l : List Bool). length l) opened.free_is
+      ∙ (length-map-range_with_len (λ slot. not (is_shown (ruling image) image slot)) 0 (layout_of image).slots ∙ ap (λ (l : Layout). l.slots) (sym opened.layout_is))
+
+  -- no operation failed
+  pub no-failure : HasNoFailure old new
+  no-failure = by (needs_sweep image) refl
+    where
+      by : (b : Bool) → needs_sweep image ≡ b → HasNoFailure old new
+      by true is = let made = (opened.made_sweeping is).failures_made in omega (arith, made)
+      by false is = let made = (opened.made is).failures_made in omega (arith, made)
+
+  -- ---- the state that it opens as
+
+  module _ (history drawn : List Commit) (before : ℕ) (lost : List ℕ) (stands : Stands image history drawn before) where
+    abbrev pub state_opened : State
+    state_opened = opened-state image history lost (opened_gaps (ruling image))
+
+    covers : IsOpenedGaps (ruling image) (opened_gaps (ruling image))
+    covers = covers-of image stands.sound
+
+    pub opens-as : OpensAs image history lost state_opened
+    opens-as = (opened_gaps (ruling image), covers, refl)
+
+    same-layout : state_opened.layout ≡ layout_of image
+    same-layout = sym (ap (λ (q : State). q.layout) (same_opened image history lost (opened_gaps (ruling image)) stands.sound covers))
+
+    layout-is : state_opened.layout ≡ layout
+    layout-is = same-layout ∙ sym opened.layout_is
+
+    ruling-is : state_opened.ruling ≡ r
+    ruling-is = ap (λ (l : Layout). opening_record l (ruling image) (gaps_kept (opened_gaps (ruling image)))) same-layout ∙ sym opened.record_is
+
+    free-each : (slot : ℕ) → slot < layout.slots → slice_get free slot ≡ Some (is_none (state_opened.held slot))
+    free-each slot h =
+        let lt : slot < (layout_of image).slots = subst (λ (l : Layout). slot < l.slots) opened.layout_is h in
+        let within : slot < length (free_in image) = omega (arith, lt, length-map-range_with_len (λ s. not (is_shown (ruling image) image s)) 0 (layout_of image).slots) in
+        ap (λ (l : List Bool). slice_get l slot) opened.free_is
+        ∙ slice_get-get_or (free_in image) slot false within
+        ∙ ap (λ (b : Bool). Some b) (get_or-map-range_with_len (λ s. not (is_shown (ruling image) image s)) 0 (layout_of image).slots slot slot false lt (omega arith)
+        ∙ none-held (nat_lt slot (layout_of image).slots) (is_shown (ruling image) image slot) _ (lt-ltb slot (layout_of image).slots lt))
+
+    begins : Begins layout r next free state_opened
+    begins = record {
+      layout_is = layout-is;
+      ruling_is = ruling-is;
+      next_is = sym opened.next_is;
+      none_drawn = refl;
+      none_open = λ n. refl;
+      unswept = refl;
+      free_are = free-each;
+    }
+
+    rests : RestsOn layout new (opened_slots image)
+    rests = record { each = λ slot w lt inside. opened.slots (word_of layout slot w) (above-log layout slot w) (omega (arith, old-words, word-within layout slot w lt inside)) }
+
+    upholds : Upholds (origin_of state_opened) state_opened new
+    upholds =
+        opened-upholds image history drawn before lost state_opened new opened.opens stands opens-as
+        (subst (λ (l : Layout). RestsOn l new (opened_slots image)) (sym layout-is) rests)
+        (subst (λ (l : Layout). HoldsRecord l state_opened.ruling new) (sym layout-is) (subst (λ (x : Record). HoldsRecord layout x new) (sym ruling-is) opened.holds))
+
+-- ---- what was examined
+
+module _ (old : Device) (layout : Layout) (r : Record) (gaps : Option (List Gap)) (free : List Bool) (live : List LiveSlot) (ex : Examined (image_of old) layout r gaps free live) where
+  rules : IsRuledBy layout r (image_of old)
+  rules = (is (image_of old) layout r gaps free live ex).rules
+
+  pub examined-size : old.words ≡ total_words layout
+  examined-size = ruled-size old layout r rules
+
+  pub examined-free : free ≡ free_in (image_of old)
+  unfolding free_below
+  examined-free =
+      (is (image_of old) layout r gaps free live ex).free_are
+      ∙ ap (λ (l : Layout). map (λ slot. not (is_shown (ruling (image_of old)) (image_of old) slot)) (range_with_len 0 l.slots)) (sym rules.laid_out)
+
+  pub examined-counted : length free ≡ layout.slots
+  examined-counted =
+      ap (λ (l : List Bool). length l) examined-free
+      ∙ length-map-range_with_len (λ slot. not (is_shown (ruling (image_of old)) (image_of old) slot)) 0 (layout_of (image_of old)).slots ∙ ap (λ (l : Layout). l.slots) rules.laid_out
+
+  -- the index of what was examined is that of the opened device
+  pub examined-found : (new : Device) (layout' : Layout) (r' : Record) (next : ℕ) (free' : List Bool) (live' : List LiveSlot) → HasOpened old new layout' r' next free' live' → (was : List Bool) (index : List (Key × Entry)) → was ≡ free
+      → (layout_of (image_of old) ≡ layout → HasFound (image_of old) was layout.slots index) → HasFound (image_of new) free' layout'.slots index
+  examined-found new layout' r' next free' live' opened was index same found =
+      found-now old new layout' r' next free' live' opened was layout.slots index (same ∙ examined-free ∙ sym opened.free_is) (ap (λ (l : Layout). l.slots) (sym rules.laid_out ∙ sym opened.layout_is)) (found rules.laid_out)
+
+-- ---- what is shown then
+
+-- the committer shows the state that the image opens as
+pub begun-shows : (old new : Device) (c : Committer) (begun : HasBegun old new c) (history drawn : List Commit) (before : ℕ) (lost : List ℕ) → Stands (image_of old) history drawn before
+    → (q : State) × OpensAs (image_of old) history lost q × CommitterShows c new q × (q.failed ≡ false)
+begun-shows old new c begun history drawn before lost stands =
+    let q : State = state_opened old new begun.layout begun.ruling begun.next begun.free begun.live begun.opened history drawn before lost stands in (
+      q,
+      opens-as old new begun.layout begun.ruling begun.next begun.free begun.live begun.opened history drawn before lost stands,
+      record {
+        shown = begun.shows q (begins old new begun.layout begun.ruling begun.next begun.free begun.live begun.opened history drawn before lost stands)
+            (upholds old new begun.layout begun.ruling begun.next begun.free begun.live begun.opened history drawn before lost stands);
+        cycle_is = subst (λ (cycle : Option Cycling). HoldsCycle q c.sessions.drawn.commits None cycle) (sym begun.rests) tt;
+      },
+      refl,
+    )
+
+-- so it shows some state: each image that opens stands for some history
+pub begun-shows-some : (old new : Device) (c : Committer) (begun : HasBegun old new c) → ∥ ShowsAs c new false ∥₁
+begun-shows-some old new c begun =
+    let shown = begun-shows old new c begun (history_in (image_of old)) [] (ruling (image_of old)).dirty [] (sound-stands (image_of old) (opens-sound (image_of old) begun.opened.opens)) in ∣ (shown.0, shown.2, shown.3) ∣₁
+
+-- a room with that committer shows it
+pub opened-shows : {D : Type 0} {G : Ghosts D} (state : D → Device) (old : Device) (room : Room D G) → HasBegun old (state room.device) room.committer → room.failed ≡ false
+    → (history drawn : List Commit) (before : ℕ) (lost : List ℕ) → Stands (image_of old) history drawn before → (q : State) × OpensAs (image_of old) history lost q × Shows state room q
+opened-shows state old room begun works history drawn before lost stands =
+    let shown = begun-shows old (state room.device) room.committer begun history drawn before lost stands in (
+      shown.0,
+      shown.1,
+      record { stands = shown-stands room.committer (state room.device) shown.0 shown.2; agrees = record { shown = shown.2; failed = shown.3 ∙ sym works } },
+    )

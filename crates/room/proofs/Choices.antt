@@ -1,0 +1,177 @@
+-- The ticks that make no operation: nothing is due, or a batch is chosen, or the tick is refused.
+use Rattle.std.proofs.Common.{◌≡◌, inl, inr, ℕ, ◌+◌, ◌^◌, ◌<◌, ◌≤◌, true, false, List, [], map, refl, sym, ◌∙◌, ap, subst, arith, nat_eq, nat_le}
+use Rattle.std.specs.Prelude.{Option, Some, None}
+use Rattle.std.specs.List.{list_any}
+use Rattle.std.proofs.lemmas.Bool.{le-leb, lt-leb}
+use Rattle.base.specs.declared.fault.Fault.{Fault}
+use Rattle.base.specs.declared.fault.Fault.TheVariants.{Device as DeviceFault, TimestampsOut}
+use Rattle.base.specs.declared.step.Step.TheVariants.{Commit as CommitTick}
+use Rattle.base.specs.declared.step.Stage.TheVariants.{Chosen}
+use Rattle.base.specs.declared.step.Reply.{Reply}
+use Rattle.base.specs.declared.step.Reply.TheVariants.{Idle, Ticked, Refused}
+use Rattle.base.specs.Batches.{Batch}
+use Rattle.base.specs.Records.{Record}
+use Rattle.base.specs.Machine.{State, Hand, is_idle, refusal, taken_in_hand, chosen, target_of, batch_of}
+use Rattle.pmem.specs.Device.{Device, IsOrderly}
+use Rattle.log_area.specs.declared.stage.WritingStage.TheVariants.{StoreBody, Done}
+use Rattle.log_area.specs.Rulings.{HoldsRecord}
+use Rattle.log_area.specs.Writings.{Progress, begun}
+use Rattle.txn.specs.declared.drawn.DrawnCommit.{DrawnCommit}
+use Rattle.txn.specs.DrawnCommits.{stamped_run}
+use Rattle.dirty_table.specs.Touches.{has}
+use Rattle.group_commit.specs.declared.stage.CycleStage.TheVariants.{FlushLines}
+use Rattle.group_commit.specs.Choosing.{run, commit_of, batch_of_run, IsBeginFault}
+use Rattle.group_commit.specs.Choosing as group
+use Rattle.group_commit.specs.Cycles.{Cycling}
+use Rattle.group_commit.proofs.Counting.{ticks-are_counted}
+use Rattle.state_invariant.specs.Kept.{Origin}
+use Rattle.device_invariant.specs.Log.{HoldsHand as LogHoldsHand}
+use Rattle.device_invariant.specs.Upholds.{Upholds}
+use Rattle.cycle_invariant.specs.Leads.{Ticks}
+use Rattle.cycle_invariant.specs.Laws.{ChoosesRun}
+use Rattle.cycle_invariant.proofs.Runs.{runs-are_chosen}
+use Rattle.cycle_invariant.proofs.Ticks.{idle-ticks, choosing-ticks, refused-ticks}
+use Rattle.session_steps.specs.declared.sessions.Sessions.{Sessions}
+use Rattle.session_steps.specs.Shows.{plain_drawn, line_numbers}
+use Rattle.session_steps.proofs.Hands.{shows-hand}
+use Rattle.room.specs.Committing.{HoldsHand, HoldsCycle, ShowsIn}
+use Rattle.room.specs.Steps.{StepsToIn}
+use Rattle.room.proofs.Chosen.{commits-same, run-first, run-within, record-same, idle-same}
+
+-- without a cycle nothing is in hand
+pub rests-of : (q : State) (drawn : List DrawnCommit) → HoldsCycle q drawn q.hand None → q.hand ≡ None
+rests-of q drawn holds = by q.hand holds
+  where
+    by : (hand : Option Hand) → HoldsCycle q drawn hand None → hand ≡ None
+    by None holds = refl
+    by (Some hand) holds = absurd holds
+
+-- the numbers are in range
+pub next-below : (s : Sessions) (cycle : Option Cycling) (device : Device) (q : State) → ShowsIn s cycle device q → s.numbers.next ≤ 2 ^ 62
+next-below s cycle device q shows = let is : q.next ≡ s.numbers.next = ap (λ (p : State). p.next) shows.shown.plain in omega (arith, is, shows.shown.upholds.keeps.numbers.room)
+
+pub gate-below : (s : Sessions) (device : Device) (q : State) → ShowsIn s None device q → s.numbers.record.gate < 2 ^ 62
+gate-below s device q shows =
+    let is : q.ruling.gate ≡ s.numbers.record.gate = ap (λ (p : State). p.ruling.gate) shows.shown.plain in
+    let holds : HoldsRecord q.layout q.ruling device = subst (λ (hand : Option Hand). LogHoldsHand q device hand) (rests-of q s.drawn.commits shows.cycle_is) shows.shown.upholds.holds.log in
+    omega (arith, is, holds.stands.fits.in_range)
+
+-- a tick without an operation, whose reply isn't the device's
+quietly : (o : Origin) (q q' : State) (reply : Reply) (device : Device) (sessions : Sessions) (cycle : Option Cycling) → Ticks o q q' reply device device → ShowsIn sessions cycle device q' → (reply ≡ Refused DeviceFault → ⊥)
+    → StepsToIn sessions cycle device device CommitTick reply q q'
+quietly o q q' reply device sessions cycle ticks shows untold = record {
+  stepped = ticks.stepped;
+  shows = shows;
+  images = ticks.leads.images;
+  failure = record { no_fewer = omega arith; cause = λ told. absurd (untold told); shown = λ more. absurd (omega (arith, more)) };
+  operations = omega arith;
+  actor = record { operations = []; made = refl; by_actor = refl };
+}
+
+module _ (s : Sessions) (device : Device) (orderly : IsOrderly device) (q : State) (shows : ShowsIn s None device q) (works : q.failed ≡ false) where
+  abbrev ds : List DrawnCommit
+  ds = s.drawn.commits
+
+  abbrev o : Origin
+  o = shows.shown.hidden.origin
+
+  upholds : Upholds o q device
+  upholds = shows.shown.upholds
+
+  rests : q.hand ≡ None
+  rests = rests-of q ds shows.cycle_is
+
+  layout : q.layout ≡ s.numbers.geometry
+  layout = ap (λ (p : State). p.layout) shows.shown.plain
+
+  ruling : q.ruling ≡ s.numbers.record
+  ruling = ap (λ (p : State). p.ruling) shows.shown.plain
+
+  next : q.next ≡ s.numbers.next
+  next = ap (λ (p : State). p.next) shows.shown.plain
+
+  drawn : q.drawn ≡ map plain_drawn ds
+  drawn = ap (λ (p : State). p.drawn) shows.shown.plain
+
+  law : ChoosesRun q
+  law = runs-are_chosen.run o q upholds.keeps
+
+  due-same : is_idle q ≡ group.is_idle s.numbers.geometry s.numbers.record s.numbers.next false ds
+  due-same = idle-same q ds drawn shows.shown.agrees.unswept law ∙ λ i. group.is_idle (layout i) (ruling i) (next i) false ds
+
+  abbrev record_is : Record
+  record_is = group.record_of_run s.numbers.geometry s.numbers.record s.numbers.next false (run ds)
+
+  target-same : target_of q ≡ record_is
+  target-same = law.record_is ∙ record-same q ds drawn shows.shown.agrees.unswept ∙ λ i. group.record_of_run (layout i) (ruling i) (next i) false (run ds)
+
+  -- ---- nothing is due
+
+  pub idles : group.is_idle s.numbers.geometry s.numbers.record s.numbers.next false ds ≡ true → (q' : State) × StepsToIn s None device device CommitTick Idle q q'
+  idles idle =
+      let due : is_idle q ≡ true = due-same ∙ idle in
+      let none : refusal q CommitTick ≡ None = rw (works, rests, due) refl in
+      (q, quietly o q q Idle device s None (idle-ticks o q device orderly none rests due upholds) shows (λ told. absurd (cc told)))
+
+  -- ---- a batch is due
+
+  module _ (busy : group.is_idle s.numbers.geometry s.numbers.record s.numbers.next false ds ≡ false) where
+    due : is_idle q ≡ false
+    due = due-same ∙ busy
+
+    within : s.numbers.record.gate + 1 < 2 ^ 62 → nat_le (2 ^ 62) (q.ruling.gate + 1) ≡ false
+    within lt = ap (λ (r : Record). nat_le (2 ^ 62) (r.gate + 1)) ruling ∙ lt-leb (2 ^ 62) (s.numbers.record.gate + 1) lt
+
+    unrefused : s.numbers.record.gate + 1 < 2 ^ 62 → refusal q CommitTick ≡ None
+    unrefused lt = let fits = within lt in rw (works, rests, due, fits) refl
+
+    refused-out : 2 ^ 62 ≤ s.numbers.record.gate + 1 → refusal q CommitTick ≡ Some TimestampsOut
+    refused-out le =
+        let past : nat_le (2 ^ 62) (q.ruling.gate + 1) ≡ true = ap (λ (r : Record). nat_le (2 ^ 62) (r.gate + 1)) ruling ∙ le-leb (2 ^ 62) (s.numbers.record.gate + 1) le in
+        rw (works, rests, due, past) refl
+
+    pub refuses : (fault : Fault) → IsBeginFault s.numbers.record fault → (q' : State) × StepsToIn s None device device CommitTick (Refused fault) q q'
+    refuses fault (inl out) = (
+      q,
+      quietly o q q (Refused fault) device s None
+          (refused-ticks.refused o q device fault orderly (refused-out out.0 ∙ ap (λ (f : Fault). Some f) (sym out.1)) upholds) shows
+          (λ told. let same : fault ≡ DeviceFault = cc told in absurd (cc (same, out.1))),
+    )
+    refuses fault (inr wanting) = (
+      q,
+      quietly o q q (Refused fault) device s None
+          (subst (λ (f : Fault). Ticks o q q (Refused f) device device) (sym wanting.1) (refused-ticks.memory o q device orderly (unrefused wanting.0) rests due upholds)) shows
+          (λ told. let same : fault ≡ DeviceFault = cc told in absurd (cc (same, wanting.1))),
+    )
+
+    module _ (cycle : Cycling) (numbered : s.numbers.record.gate + 1 < 2 ^ 62) (batch : cycle.batch ≡ batch_of_run s.numbers.record record_is (run ds))
+        (sessions : (n : ℕ) → has cycle.sessions n ≡ list_any (λ (d : DrawnCommit). nat_eq d.session n) (run ds)) (writing : cycle.writing ≡ begun s.numbers.geometry record_is) (stage : cycle.stage ≡ FlushLines 0 0) where
+      abbrev taken : State
+      taken = record q { hand = Some (taken_in_hand q) }
+
+      writing-stage : cycle.writing.stage ≡ StoreBody 1
+      writing-stage = ap (λ (p : Progress). p.stage) writing
+
+      commits-are : chosen q ≡ map commit_of (run ds)
+      commits-are = law.commits ∙ commits-same q ds drawn
+
+      batch-same : batch_of q (taken_in_hand q) ≡ batch_of_run s.numbers.record record_is (run ds)
+      batch-same = λ i. let b : Batch = record { from = (ruling i).gate; stamp = (target-same i).gate; persisted = (target-same i).persisted; commits = commits-are i } in b
+
+      holds : HoldsHand taken ds (taken_in_hand q) cycle
+      holds = record {
+        count = stamped_run ds;
+        within = run-within ds;
+        commits = law.commits ∙ run-first q ds drawn;
+        sessions = sessions;
+        batch = batch ∙ sym batch-same;
+        layout = ap (λ (p : Progress). p.layout) writing ∙ sym layout;
+        target = ap (λ (p : Progress). p.target) writing ∙ sym target-same;
+        unfinished = λ done. let both : StoreBody 1 ≡ Done = sym writing-stage ∙ done in absurd (cc both);
+        ticks = ticks-are_counted.begins (line_numbers taken (chosen q)) cycle stage writing-stage;
+      }
+
+      pub takes : (q' : State) × StepsToIn s (Some cycle) device device CommitTick (Ticked Chosen) q q'
+      takes =
+          let ticks = choosing-ticks o q device orderly (unrefused numbered) rests due upholds in
+          (taken, quietly o q taken (Ticked Chosen) device s (Some cycle) ticks record { shown = shows-hand s device device q (Some (taken_in_hand q)) shows.shown ticks.leads.upholds; cycle_is = holds } (λ told. absurd (cc told)))

@@ -1,0 +1,80 @@
+-- What a step makes of a room, from what it makes of its committer.
+use Rattle.std.proofs.Common.{◌≡◌, Bool, true, false, [], refl, sym, ◌∙◌, subst, arith}
+use Rattle.std.proofs.Math.Logic.{∥∥₁_map}
+use Rattle.base.specs.declared.fault.Fault.TheVariants.{Failed, Device as DeviceFault}
+use Rattle.base.specs.declared.step.Step.{Step}
+use Rattle.base.specs.declared.step.Reply.{Reply}
+use Rattle.base.specs.declared.step.Reply.TheVariants.{Refused}
+use Rattle.base.specs.Images.{Image}
+use Rattle.base.specs.Lives.{is_failure}
+use Rattle.base.specs.Machine.{State, refused, StandsAt, StandsWithin}
+use Rattle.base.proofs.Failures.{failed-after, failed-refuses}
+use Rattle.base.proofs.Runs.{StandsAt-within}
+use Rattle.pmem.specs.Device.{Device, IsOrderly, MayLeave}
+use Rattle.pmem.specs.declared.device.Pmem.{Ghosts}
+use Rattle.pmem.proofs.Images.{leaves_refl}
+use Rattle.device_invariant.proofs.Upheld.{every-image-stands}
+use Rattle.session_steps.specs.Shows.{ShowsAny}
+use Rattle.room.specs.declared.committer.Committer.{Committer}
+use Rattle.room.specs.declared.room.Room.{Room}
+use Rattle.room.specs.Committing.{Shows as CommitterShows}
+use Rattle.room.specs.Steps.{Steps, ShowsSome, ShowsAs}
+use Rattle.room.specs.Room.{Shows, StepsTo}
+
+-- what a committer shows stands in each image that its device may leave
+pub shown-stands : (c : Committer) (device : Device) (q : State) → CommitterShows c device q → (image : Image) → MayLeave device image → StandsAt q image
+shown-stands c device q shows image left = every-image-stands shows.shown.hidden.origin q device image shows.shown.upholds left
+
+module _ {D : Type 0} {G : Ghosts D} (state : D → Device) where
+  -- a room whose device doesn't fail steps as its committer does
+  pub step-on : (old new : Room D G) (step : Step) (reply : Reply) → old.failed ≡ false → new.failed ≡ is_failure reply
+      → Steps old.committer new.committer (state old.device) (state new.device) step reply → (q : State) → Shows state old q → (q' : State) × StepsTo state old new step reply q q'
+  step-on old new step reply works tells steps q shows =
+      let agrees = shows.agrees in
+      let here : q.failed ≡ false = agrees.failed ∙ works in
+      let one = steps q agrees.shown here in (
+        one.0,
+        record {
+          stepped = one.1.stepped;
+          shows = record {
+            stands = shown-stands new.committer (state new.device) one.0 one.1.shows;
+            agrees = record { shown = one.1.shows; failed = failed-after q step reply one.0 one.1.stepped here ∙ sym tells };
+          };
+          images = one.1.images;
+          failure = one.1.failure;
+          operations = one.1.operations;
+          actor = one.1.actor;
+        },
+      )
+
+  -- one whose device failed refuses each step
+  pub step-refused : (room : Room D G) (step : Step) → IsOrderly (state room.device) → room.failed ≡ true → (q : State) → Shows state room q → (q' : State) × StepsTo state room room step (Refused Failed) q q'
+  step-refused room step orderly failed q shows = (
+    q,
+    record {
+      stepped = refused Failed (failed-refuses q step (shows.agrees.failed ∙ failed)) refl refl;
+      shows = shows;
+      images = leaves_refl (state room.device) (StandsWithin q q) orderly (λ image left. StandsAt-within q q image (shows.stands image left));
+      failure = record { no_fewer = omega arith; cause = λ told. absurd (apart told); shown = λ more. absurd (omega (arith, more)) };
+      operations = omega arith;
+      actor = record { operations = []; made = refl; by_actor = refl };
+    },
+  )
+    where
+      apart : ◌≡◌ {A = Reply} (Refused Failed) (Refused DeviceFault) → ⊥
+      apart told = cc told
+
+-- ---- that some state is shown
+
+-- one that hasn't failed, where the room says so
+pub shows-some : (c : Committer) (device : Device) (failed : Bool) → failed ≡ false → ∥ ShowsAs c device failed ∥₁ → ∥ ShowsSome c device ∥₁
+shows-some c device failed works some = subst (λ (b : Bool). ∥ ShowsAs c device b ∥₁) works some
+
+-- and after a step, failed where the step reports it
+pub shows-then : (old new : Committer) (before now : Device) (step : Step) (reply : Reply) (failed : Bool) → failed ≡ is_failure reply → Steps old new before now step reply → ∥ ShowsSome old before ∥₁ → ∥ ShowsAs new now failed ∥₁
+shows-then old new before now step reply failed tells steps some =
+    ∥∥₁_map some (λ shown. let one = steps shown.0 shown.1 shown.2 in (one.0, one.1.shows, failed-after shown.0 step reply one.0 one.1.stepped shown.2 ∙ sym tells))
+
+-- the sessions show it
+pub sessions-show : (c : Committer) (device : Device) (failed : Bool) → ∥ ShowsAs c device failed ∥₁ → ∥ ShowsAny c.sessions device ∥₁
+sessions-show c device failed some = ∥∥₁_map some (λ shown. (shown.0, shown.1.shown))

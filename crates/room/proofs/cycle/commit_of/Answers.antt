@@ -1,9 +1,0 @@
-use Rattle.std.proofs.Common.{arith, subst, sym}
-use Rattle.txn.specs.WriteSets.{IsRising}
-use Rattle.room.proofs.Touching.{rising-plain}
-use Rattle.room.proofs.cycle.commit_of.Goals as goal
-
-pub new-requires : goal.new-requires
-new-requires c =
-    rising-plain c.as_slice-write-items.result.now c.loop-write.write-index c.loop-write.rows.items c.loop-write.invariant (omega arith)
-    (subst IsRising (sym c.as_slice-write-items.ensures.slice) c.as_slice-write-items.ensures.rising)

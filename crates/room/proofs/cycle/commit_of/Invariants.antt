@@ -1,6 +1,0 @@
-use Rattle.std.proofs.Common.{◌≡◌, take}
-use Rattle.txn.specs.WriteSets.{plain_writes}
-use Rattle.room.proofs.cycle.commit_of.Given as goal
-
-abbrev pub invariant-loop-write : goal.invariant-loop-write
-invariant-loop-write l = l.rows.items ≡ plain_writes (take l.write-index l.write-items)

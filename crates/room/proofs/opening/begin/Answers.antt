@@ -1,0 +1,69 @@
+use Rattle.std.proofs.Common.{List, Bool, length, sym, ◌∙◌, ap, subst}
+use Rattle.pmem.specs.Words.{image_of}
+use Rattle.recovery.proofs.Lives.{images-refused, refusal-examined, refusal-device}
+use Rattle.recovery.proofs.WhatIsRead.{tells-examined}
+use Rattle.session_steps.specs.declared.sessions.Sessions.{Sessions}
+use Rattle.session_steps.specs.Opening.{ShowsOpened}
+use Rattle.room.proofs.Begun.{free-counted, examined-size, examined-counted, examined-found}
+use Rattle.room.proofs.opening.begin.Goals as goal
+
+pub returns-in-Err-clause-fault : goal.returns-in-Err-clause-fault
+returns-in-Err-clause-fault g c = refusal-examined (g.D.Pmem.state c.args.device.now) c.in-Err.fault c.in-Err.ensures.fault
+
+pub returns-in-Err-clause-images : goal.returns-in-Err-clause-images
+returns-in-Err-clause-images g c = images-refused (g.D.Pmem.state c.args.device.now) (g.met.D.Pmem.orderly c.args.device.now) c.requires.at_rest
+
+-- ---- the index
+
+pub index_slots-requires-clause-slots : goal.index_slots-requires-clause-slots
+index_slots-requires-clause-slots g c =
+    ap (λ (l : List Bool). length l) c.as_slice.ensures.value
+    ∙ examined-counted (g.D.Pmem.state c.args.device.now) c.in-Ok.found.geometry c.in-Ok.found.ruling c.in-Ok.found.gaps c.in-Ok.found.free.items c.in-Ok.found.live.items c.in-Ok.ensures.ok
+
+pub index_slots-requires-clause-device : goal.index_slots-requires-clause-device
+index_slots-requires-clause-device g c =
+    examined-size (g.D.Pmem.state c.args.device.now) c.in-Ok.found.geometry c.in-Ok.found.ruling c.in-Ok.found.gaps c.in-Ok.found.free.items c.in-Ok.found.live.items c.in-Ok.ensures.ok
+
+pub returns-in-Err-index_slots-clause-log : goal.returns-in-Err-index_slots-clause-log
+returns-in-Err-index_slots-clause-log g c =
+    tells-examined (image_of (g.D.Pmem.state c.args.device.now)) c.in-Ok.found.geometry c.in-Ok.found.ruling c.in-Ok.found.gaps c.in-Ok.found.free.items c.in-Ok.found.live.items c.in-Ok.ensures.ok c.in-Err-index_slots.fault
+
+pub returns-in-Err-index_slots-clause-images : goal.returns-in-Err-index_slots-clause-images
+returns-in-Err-index_slots-clause-images g c = images-refused (g.D.Pmem.state c.args.device.now) (g.met.D.Pmem.orderly c.args.device.now) c.requires.at_rest
+
+-- ---- the operations
+
+pub returns-in-Err-open-clause-fault : goal.returns-in-Err-open-clause-fault
+returns-in-Err-open-clause-fault g c =
+    refusal-device (g.D.Pmem.state c.args.device.now) (g.D.Pmem.state c.open.new.device) c.in-Err-open.fault c.in-Ok.found.geometry c.in-Ok.found.ruling c.in-Ok.found.gaps c.in-Ok.found.free.items c.in-Ok.found.live.items c.in-Ok.ensures.ok
+    c.in-Err-open.ensures.fault c.in-Err-open.ensures.failed
+
+pub returns-in-Err-open-clause-log : goal.returns-in-Err-open-clause-log
+returns-in-Err-open-clause-log g c =
+    tells-examined (image_of (g.D.Pmem.state c.args.device.now)) c.in-Ok.found.geometry c.in-Ok.found.ruling c.in-Ok.found.gaps c.in-Ok.found.free.items c.in-Ok.found.live.items c.in-Ok.ensures.ok c.in-Err-open.fault
+
+-- ---- the sessions
+
+pub open-sessions-requires : goal.open-sessions-requires
+open-sessions-requires g c = record {
+  slots = free-counted (g.D.Pmem.state c.args.device.now) (g.D.Pmem.state c.open.new.device) c.in-Ok-open.life.geometry c.in-Ok-open.life.ruling c.in-Ok-open.life.next c.in-Ok-open.life.free.items c.in-Ok-open.life.live.items c.in-Ok-open.ensures.ok;
+}
+
+pub returns-clause-ok : goal.returns-clause-ok
+returns-clause-ok g c =
+    let old = g.D.Pmem.state c.args.device.now in
+    let new = g.D.Pmem.state c.open.new.device in
+    let life = c.in-Ok-open.life in
+    record {
+      layout = life.geometry;
+      ruling = life.ruling;
+      next = life.next;
+      free = life.free.items;
+      live = life.live.items;
+      opened = c.in-Ok-open.ensures.ok;
+      shows = subst (λ (s : Sessions). ShowsOpened s new life.geometry life.ruling life.next life.free.items) (sym c.new.ensures.sessions)
+          (c.open-sessions.ensures new (g.met.D.Pmem.orderly c.open.new.device)
+          (examined-found old c.in-Ok.found.geometry c.in-Ok.found.ruling c.in-Ok.found.gaps c.in-Ok.found.free.items c.in-Ok.found.live.items c.in-Ok.ensures.ok new
+          life.geometry life.ruling life.next life.free.items life.live.items c.in-Ok-open.ensures.ok c.as_slice.result.now c.in-Ok-index_slots.index c.as_slice.ensures.value c.in-Ok-index_slots.ensures.ok));
+      rests = c.new.ensures.rests;
+    }

@@ -1,0 +1,12 @@
+use Rattle.std.proofs.Common.{◌≡◌, ◌≤◌, List, length, take}
+use Rattle.std.specs.Vec.{vec_len, vec_capacity}
+use Rattle.base.specs.Machine.{State}
+use Rattle.room.specs.Room.{Shows, RunsTo}
+use Rattle.room.proofs.room.Room.drive.Given as goal
+
+abbrev pub invariant-loop-step : goal.invariant-loop-step
+invariant-loop-step g l = record {
+  runs : (q : State) → Shows g.D.Pmem.state l.initial.self q → (states : List State) × RunsTo g.D.Pmem.state l.initial.self l.self (take l.step-index l.steps) l.replies.items q states;
+  replied : vec_len l.replies ≡ l.step-index;
+  reserved : length l.steps ≤ vec_capacity l.replies;
+}

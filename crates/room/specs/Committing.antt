@@ -1,0 +1,41 @@
+-- Which plain states a committer shows on a device.
+use Rattle.std.specs.Prelude.{◌≡◌, ◌≢◌, ℕ, ◌≤◌, nat_eq, List, length, take, Option, Some, None}
+use Rattle.std.specs.List.{list_any}
+use Rattle.base.specs.Machine.{State, Hand, drawn_of, batch_of}
+use Rattle.pmem.specs.Device.{Device}
+use Rattle.log_area.specs.declared.stage.WritingStage.TheVariants.{Done}
+use Rattle.txn.specs.declared.drawn.DrawnCommit.{DrawnCommit}
+use Rattle.dirty_table.specs.Touches.{has}
+use Rattle.group_commit.specs.Cycles.{Cycling}
+use Rattle.group_commit.specs.Laws.{IsAfter}
+use Rattle.session_steps.specs.Shows.{line_numbers, Shows as SessionsShow}
+use Rattle.session_steps.specs.declared.sessions.Sessions.{Sessions}
+use Rattle.room.specs.declared.committer.Committer.{Committer}
+
+-- The cycle is that of the batch in hand, after the ticks that were made for it: the batch is of the first so many drawn
+-- commits, the cycle's sessions drew these, and its last operation isn't made
+pub record HoldsHand (q : State) (drawn : List DrawnCommit) (hand : Hand) (cycle : Cycling) : Type 0 where
+  pub count : ℕ
+  pub within : count ≤ length drawn
+  pub commits : hand.commits ≡ take count (drawn_of q)
+  pub sessions : (n : ℕ) → has cycle.sessions n ≡ list_any (λ d. nat_eq d.session n) (take count drawn)
+  pub batch : cycle.batch ≡ batch_of q hand
+  pub layout : cycle.writing.layout ≡ q.layout
+  pub target : cycle.writing.target ≡ hand.target
+  pub unfinished : cycle.writing.stage ≢ Done
+  pub ticks : IsAfter (line_numbers q hand.commits) hand.ticks cycle
+
+-- there is a cycle exactly while a batch is in hand
+abbrev pub HoldsCycle : State → List DrawnCommit → Option Hand → Option Cycling → Type 0
+HoldsCycle q drawn None None = Unit {0}
+HoldsCycle q drawn (Some hand) (Some cycle) = HoldsHand q drawn hand cycle
+HoldsCycle q drawn None (Some cycle) = ⊥
+HoldsCycle q drawn (Some hand) None = ⊥
+
+-- the sessions show the state, and the cycle is that of the batch in hand
+pub record ShowsIn (sessions : Sessions) (cycle : Option Cycling) (device : Device) (q : State) : Type 0 where
+  pub shown : SessionsShow sessions device q
+  pub cycle_is : HoldsCycle q sessions.drawn.commits q.hand cycle
+
+abbrev pub Shows : Committer → Device → State → Type 0
+Shows c device q = ShowsIn c.sessions c.cycle device q

@@ -1,0 +1,20 @@
+-- What an opening makes of a device and its committer.
+use Rattle.std.specs.Prelude.{◌≡◌, ℕ, Bool, List, None}
+use Rattle.base.specs.Layout.{Layout}
+use Rattle.base.specs.Records.{Record}
+use Rattle.pmem.specs.Device.{Device}
+use Rattle.recovery.specs.Opened.{HasOpened}
+use Rattle.recovery.specs.declared.rows.LiveSlot.{LiveSlot}
+use Rattle.session_steps.specs.Opening.{ShowsOpened}
+use Rattle.room.specs.declared.committer.Committer.{Committer}
+
+-- the device was opened, the committer's sessions show each state in which a life begins on it so, and nothing is in hand
+pub record HasBegun (old new : Device) (c : Committer) : Type 0 where
+  pub layout : Layout
+  pub ruling : Record
+  pub next : ℕ
+  pub free : List Bool
+  pub live : List LiveSlot
+  pub opened : HasOpened old new layout ruling next free live
+  pub shows : ShowsOpened c.sessions new layout ruling next free
+  pub rests : c.cycle ≡ None

@@ -1,0 +1,51 @@
+-- What a step makes of a committer and its device.
+use Rattle.std.specs.Prelude.{◌≡◌, ℕ, ◌+◌, ◌≤◌, Bool, false, Option, Some}
+use Rattle.base.specs.declared.fault.Fault.TheVariants.{Device as DeviceFault}
+use Rattle.base.specs.declared.step.Step.{Step}
+use Rattle.base.specs.declared.step.Step.TheVariants.{Commit as CommitTick}
+use Rattle.base.specs.declared.step.Reply.{Reply}
+use Rattle.base.specs.declared.step.Reply.TheVariants.{Refused}
+use Rattle.base.specs.Actors.{committer}
+use Rattle.base.specs.Machine.{State, Stepped, session_of, most_operations, StandsWithin}
+use Rattle.pmem.specs.Device.{Device}
+use Rattle.pmem.specs.Words.{LeavesOnly, operations_of}
+use Rattle.group_commit.specs.Cycles.{Cycling}
+use Rattle.session_steps.specs.declared.sessions.Sessions.{Sessions}
+use Rattle.session_steps.specs.Steps.{TellsFailure, RunsBy}
+use Rattle.room.specs.declared.committer.Committer.{Committer}
+use Rattle.room.specs.Committing.{ShowsIn}
+
+-- who flushes and fences for a step: its session, and for a tick the committer
+abbrev pub actor_of : Step → Option ℕ
+actor_of CommitTick = Some committer
+actor_of step = session_of step
+
+-- the step leads from q to q', which is shown then on the device as it is then
+pub record StepsToIn (sessions : Sessions) (cycle : Option Cycling) (before now : Device) (step : Step) (reply : Reply) (q q' : State) : Type 0 where
+  pub stepped : Stepped q step reply q'
+  pub shows : ShowsIn sessions cycle now q'
+  pub images : LeavesOnly before now (StandsWithin q q')
+  pub failure : TellsFailure before now (reply ≡ Refused DeviceFault)
+  pub operations : operations_of now ≤ operations_of before + most_operations q step
+  pub actor : RunsBy (actor_of step) before now
+
+abbrev pub StepsTo : Committer → Device → Device → Step → Reply → State → State → Type 0
+StepsTo new before now step reply q q' = StepsToIn new.sessions new.cycle before now step reply q q'
+
+-- so it does from every state that was shown and that hadn't failed
+abbrev pub StepsIn : Sessions → Option Cycling → Committer → Device → Device → Step → Reply → Type 0
+StepsIn sessions cycle new before now step reply = (q : State) → ShowsIn sessions cycle before q → q.failed ≡ false → (q' : State) × StepsTo new before now step reply q q'
+
+abbrev pub Steps : Committer → Committer → Device → Device → Step → Reply → Type 0
+Steps old new before now step reply = StepsIn old.sessions old.cycle new before now step reply
+
+-- some state is shown that hasn't failed
+abbrev pub ShowsSomeIn : Sessions → Option Cycling → Device → Type 0
+ShowsSomeIn sessions cycle device = (q : State) × ShowsIn sessions cycle device q × (q.failed ≡ false)
+
+abbrev pub ShowsSome : Committer → Device → Type 0
+ShowsSome c device = ShowsSomeIn c.sessions c.cycle device
+
+-- some state is shown, failed or not as this says
+abbrev pub ShowsAs : Committer → Device → Bool → Type 0
+ShowsAs c device failed = (q : State) × ShowsIn c.sessions c.cycle device q × (q.failed ≡ failed)

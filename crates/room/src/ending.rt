@@ -1,0 +1,63 @@
+use crate::committer::Committer;
+use crate::tick::SWEPT;
+use base::NUMBER_LIMIT;
+use base::fault::Fault;
+use group_commit::closing_record;
+use log_area::write_record;
+use pmem::Pmem;
+
+impl Committer {
+    ghost use Rattle.std.specs.Prelude.{◌≡◌, ◌+◌, ◌^◌, ◌<◌, false, None, IfErr, OnOk, OnErr, IsTrue};
+    ghost use Rattle.std.specs.List.{list_all};
+    ghost use Rattle.base.specs.declared.fault.Fault.TheVariants.{Device as DeviceFault};
+    ghost use Rattle.base.specs.Images.{Image};
+    ghost use Rattle.base.specs.Machine.{State, StandsClosing, StandsClosed, closing_fault};
+    ghost use Rattle.pmem.specs.Device.{MayLeave};
+    ghost use Rattle.pmem.specs.Words.{LeavesOnly, HasNoFailure};
+    ghost use Rattle.txn.specs.DrawnCommits.{is_stamped};
+    ghost use Rattle.room.specs.Committing.{Shows};
+    ghost use Rattle.room.specs.Steps.{ShowsSome};
+    ghost use Rattle.room.specs.Closing.{IsClosingRefusal, IsPersisted};
+
+    // Covers all that is drawn, under a record that reserves no timestamp. Fails with `TimestampsOut` before any operation
+    // where no record number is left, and with `Device` where an operation fails. It takes no memory.
+    pub(crate) fn close<D: Pmem>(&mut self, device: &mut D) -> Result<(), Fault>
+        requires shown { ∥ ShowsSome self.old (D.state device.old) ∥₁ }
+
+        // A crash meanwhile leaves what was covered, with the batch in hand, or with all that was drawn; and after it that last.
+        ensures images { (q : State) → Shows self.old (D.state device.old) q → q.failed ≡ false → LeavesOnly (D.state device.old) (D.state device.new) (StandsClosing q) }
+        ensures ok { OnOk result ((q : State) → Shows self.old (D.state device.old) q → q.failed ≡ false → (image : Image) → MayLeave (D.state device.new) image → StandsClosed q image) }
+
+        // It closes unless one of these faults applies, a failing device aside.
+        ensures may_close { OnOk result ((q : State) → Shows self.old (D.state device.old) q → q.failed ≡ false → closing_fault q ≡ None) }
+        ensures no_failure { OnOk result (HasNoFailure (D.state device.old) (D.state device.new)) }
+        ensures fault { IfErr result (λ fault. (q : State) → Shows self.old (D.state device.old) q → q.failed ≡ false → IsClosingRefusal q (D.state device.old) (D.state device.new) fault) }
+    {
+        if NUMBER_LIMIT <= self.closing_gate() {
+            return Err(Fault::TimestampsOut);
+        }
+        self.finish_cycle(device)?;
+        self.stamp_rest(device)?;
+        self.persist_drawn(device)?;
+        self.write_last(device)
+    }
+
+    // Writes the record under which all that is drawn is covered.
+    fn write_last<D: Pmem>(&self, device: &mut D) -> Result<(), Fault>
+        requires shown { ∥ ShowsSome self.now (D.state device.old) ∥₁ }
+        requires rests { self.now.cycle ≡ None }
+        requires stamped { IsTrue (list_all is_stamped self.now.sessions.drawn.commits) }
+        requires numbered { self.now.sessions.numbers.record.gate + 1 < 2 ^ 62 }
+
+        // Where what is drawn persists, a crash meanwhile leaves what a close may leave, and after it all that was drawn.
+        ensures images { (q : State) → IsPersisted self.now (D.state device.old) q → LeavesOnly (D.state device.old) (D.state device.new) (StandsClosing q) }
+        ensures ok { OnOk result ((q : State) → IsPersisted self.now (D.state device.old) q → (image : Image) → MayLeave (D.state device.new) image → StandsClosed q image) }
+        ensures no_failure { OnOk result (HasNoFailure (D.state device.old) (D.state device.new)) }
+        ensures failure { OnErr result ((D.state device.old).failures < (D.state device.new).failures) }
+        ensures fault { IfErr result (λ fault. fault ≡ DeviceFault) }
+    {
+        let numbers = self.sessions.numbers();
+        let target = closing_record(numbers.record, numbers.next, SWEPT);
+        write_record(device, numbers.geometry, target)
+    }
+}

@@ -1,0 +1,106 @@
+ghost use Rattle.std.specs.Prelude.{ℕ, List, IfOk, IfErr};
+ghost use Rattle.base.specs.Commits.{Commit};
+ghost use Rattle.base.specs.Images.{opening_fault};
+ghost use Rattle.base.specs.Stands.{Stands};
+ghost use Rattle.base.specs.Openings.{StandsOpening};
+ghost use Rattle.pmem.specs.Words.{LeavesOnly, IsAtRest, image_of};
+ghost use Rattle.recovery.specs.Opened.{IsRefusal};
+ghost use Rattle.recovery.specs.Read.{TellsLogFault};
+ghost use Rattle.room.specs.Opening.{HasBegun};
+
+use crate::committer::Committer;
+use crate::room::Room;
+use base::fault::Fault;
+use pmem::Pmem;
+use recovery::examine;
+use session_steps::{Sessions, index_slots};
+use std::alloc::Global;
+use std::thread::Threads;
+
+impl<D: Pmem + Drop + Send + Sync> Room<D> {
+    ghost use Rattle.std.specs.Prelude.{◌≡◌, ◌+◌, ◌*◌, ◌<◌, ◌≤◌, true, false, None, slice_index, MatchResult};
+    ghost use Rattle.base.specs.Images.{layout_of, needs_sweep};
+    ghost use Rattle.base.specs.Machine.{State};
+    ghost use Rattle.base.specs.Openings.{OpensAs, opened_slots, words_swept, lines_swept};
+    ghost use Rattle.pmem.specs.Words.{value_of, IsSettledAt, Makes, HasNoFailure};
+    ghost use Rattle.room.specs.Room.{Shows, device_of};
+
+    /// Opens a device at rest, and returns it where that is refused. More than eight gaps are swept first.
+    pub fn open<R: Threads + Sync>(rt: &R, alloc: Global, device: D) -> Result<Room<D>, (Fault, D)>
+        requires at_rest { IsAtRest (D.state device) }
+
+        // Whatever history the image stands for, the room shows the state that it opens as.
+        ensures ok { IfOk result (λ room. (history drawn : List Commit) (next : ℕ) (lost : List ℕ)
+            → Stands (image_of (D.state device)) history drawn next
+            → (q : State) × OpensAs (image_of (D.state device)) history lost q × Shows D.state room q) }
+
+        // It opens an image that has none of the faults that an opening reports, and fails with the first of them, or for
+        // want of memory, or where an operation fails.
+        ensures may_open { IfOk result (λ room. opening_fault (image_of (D.state device)) ≡ None) }
+        ensures no_failure { IfOk result (λ room. HasNoFailure (D.state device) (device_of D.state room)) }
+        ensures fault { IfErr result (λ e. IsRefusal (opening_fault (image_of (D.state device))) (D.state device) (D.state e.1) e.0) }
+
+        // What is wrong with its log is reported before want of memory.
+        ensures log { IfErr result (λ e. TellsLogFault (image_of (D.state device)) e.0) }
+
+        // It makes the operations of one record, after those of a sweep where there are more than eight gaps, and the
+        // words of superblock and slots are settled as they were, but for what a sweep stores.
+        ensures made { IfOk result (λ room. needs_sweep (image_of (D.state device)) ≡ false → Makes 32 5 2 0 (D.state device) (device_of D.state room)) }
+        ensures made_sweeping { IfOk result (λ room. needs_sweep (image_of (D.state device)) ≡ true
+            → Makes (32 + words_swept (image_of (D.state device))) (5 + lines_swept (image_of (D.state device))) 3 0 (D.state device) (device_of D.state room)) }
+        ensures superblock { IfOk result (λ room. (word : ℕ) → word < 8 → IsSettledAt (device_of D.state room) word (value_of (D.state device) word)) }
+        ensures slots { IfOk result (λ room. (word : ℕ) → 8 + 32 * (layout_of (image_of (D.state device))).places ≤ word → word < (D.state device).words
+            → IsSettledAt (device_of D.state room) word (slice_index (opened_slots (image_of (D.state device))) word)) }
+
+        // A crash at any moment leaves the same history, under the record that ruled or the one that the
+        // opening writes. What was drawn and not covered is left out.
+        ensures images { (history drawn : List Commit) (next : ℕ)
+            → Stands (image_of (D.state device)) history drawn next
+            → MatchResult result
+            (λ room. LeavesOnly (D.state device) (device_of D.state room) (StandsOpening (image_of (D.state device)) history next))
+            (λ e. LeavesOnly (D.state device) (D.state e.1) (StandsOpening (image_of (D.state device)) history next)) }
+    {
+        let mut device = device;
+        match begin(alloc, &mut device) {
+            Ok(committer) => Ok(Room {
+                alloc,
+                device,
+                committer,
+                failed: false,
+            }),
+            Err(fault) => Err((fault, device)),
+        }
+    }
+}
+
+// Opens the device where it is. All memory that this takes is taken before the device is changed.
+fn begin<D: Pmem>(alloc: Global, device: &mut D) -> Result<Committer, Fault>
+    requires at_rest { IsAtRest (D.state device.old) }
+    ensures ok { IfOk result (HasBegun (D.state device.old) (D.state device.new)) }
+    ensures fault { IfErr result (IsRefusal (opening_fault (image_of (D.state device.old))) (D.state device.old) (D.state device.new)) }
+    ensures log { IfErr result (TellsLogFault (image_of (D.state device.old))) }
+    ensures images { (history drawn : List Commit) (next : ℕ) → Stands (image_of (D.state device.old)) history drawn next
+        → LeavesOnly (D.state device.old) (D.state device.new) (StandsOpening (image_of (D.state device.old)) history next) }
+{
+    let found = match examine(alloc, device) {
+        Ok(found) => found,
+        Err(fault) => return Err(fault),
+    };
+    let index = match index_slots(alloc, device, found.geometry, found.free.as_slice()) {
+        Ok(index) => index,
+        Err(fault) => return Err(fault),
+    };
+    let life = match found.open(device) {
+        Ok(life) => life,
+        Err(fault) => return Err(fault),
+    };
+    let sessions = Sessions::open(
+        alloc,
+        index,
+        life.geometry,
+        life.ruling,
+        life.next,
+        life.free,
+    );
+    Ok(Committer::new(sessions))
+}

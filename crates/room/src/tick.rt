@@ -1,0 +1,93 @@
+use crate::committer::Committer;
+use base::fault::Fault;
+use base::step::{Reply, Stage};
+use group_commit::{Covered, Cycle, is_idle};
+use pmem::Pmem;
+use std::alloc::Global;
+
+// No gap is swept within a life, until there is a collector.
+pub(crate) const SWEPT: bool = false;
+
+impl Committer {
+    ghost use Rattle.std.specs.Prelude.{◌≡◌, ◌≢◌, ◌<◌, ◌≤◌, length, Some, None};
+    ghost use Rattle.base.specs.declared.step.Step.TheVariants.{Commit};
+    ghost use Rattle.log_area.specs.declared.stage.WritingStage.TheVariants.{Done};
+    ghost use Rattle.base.specs.declared.fault.Fault.{Fault};
+    ghost use Rattle.base.specs.declared.step.Reply.TheVariants.{Refused};
+    ghost use Rattle.room.specs.Steps.{ShowsSome, ShowsSomeIn, Steps, StepsIn};
+    ghost use Rattle.session_steps.specs.Covering.{MayCoverSome, ShowsCovered};
+    ghost use Rattle.room.specs.Ticks.{ShowsResting, TicksQuietly};
+    ghost use Rattle.room.specs.Closing.{ticks_left};
+
+    // One tick: the choice of a batch, or the next operation of the one in hand.
+    pub(crate) fn tick<D: Pmem>(&mut self, alloc: Global, device: &mut D) -> Reply
+        requires shown { ∥ ShowsSome self.old (D.state device.old) ∥₁ }
+        ensures step { Steps self.old self.new (D.state device.old) (D.state device.new) Commit result }
+    {
+        match self.cycle.take() {
+            None => self.choose(alloc),
+            Some(cycle) => self.advance(device, cycle),
+        }
+    }
+
+    // Takes a batch in hand, unless there is nothing to do.
+    fn choose(&mut self, alloc: Global) -> Reply
+        requires rests { self.old.cycle ≡ None }
+        requires shown { ∥ ShowsResting self.old.sessions ∥₁ }
+        ensures step { TicksQuietly self.old.sessions self.new result }
+    {
+        let numbers = self.sessions.numbers();
+        let drawn = self.sessions.drawn();
+        if is_idle(numbers.geometry, numbers.record, numbers.next, SWEPT, drawn) {
+            return Reply::Idle;
+        }
+        match Cycle::begin(
+            alloc,
+            numbers.geometry,
+            numbers.record,
+            numbers.next,
+            SWEPT,
+            drawn,
+        ) {
+            Ok(cycle) => {
+                self.cycle = Some(cycle);
+                Reply::Ticked(Stage::Chosen)
+            }
+            Err(fault) => Reply::Refused(fault),
+        }
+    }
+
+    // Makes the next operation of the cycle that was in hand.
+    pub(crate) fn advance<D: Pmem>(&mut self, device: &mut D, cycle: Cycle) -> Reply
+        requires rests { self.old.cycle ≡ None }
+        requires shown { ∥ ShowsSomeIn self.old.sessions (Some cycle) (D.state device.old) ∥₁ }
+        ensures step { StepsIn self.old.sessions (Some cycle) self.new (D.state device.old) (D.state device.new) Commit result }
+        ensures closer { ((fault : Fault) → result ≢ Refused fault) → ticks_left self.new.sessions.dirty self.new.cycle < ticks_left self.old.sessions.dirty (Some cycle) }
+    {
+        let mut cycle = cycle;
+        match cycle.tick(device, self.sessions.dirty()) {
+            Ok(Some(stage)) => {
+                self.cycle = Some(cycle);
+                Reply::Ticked(stage)
+            }
+            Ok(None) => self.cover(cycle.finish()),
+            Err(fault) => {
+                self.cycle = Some(cycle);
+                Reply::Refused(fault)
+            }
+        }
+    }
+
+    // The batch is covered: its record rules.
+    fn cover(&mut self, covered: Covered) -> Reply
+        requires within { length covered.batch.commits ≤ length self.old.sessions.drawn.commits }
+        requires shown { ∥ MayCoverSome self.old.sessions (length covered.batch.commits) covered.record ∥₁ }
+        ensures reply { result ≡ Reply.Covered covered.batch }
+        ensures cycle { self.new.cycle ≡ self.old.cycle }
+        ensures shows { ShowsCovered self.old.sessions self.new.sessions (length covered.batch.commits) covered.record }
+    {
+        let count = covered.batch.commits().len();
+        self.sessions.cover(count, covered.record);
+        Reply::Covered(covered.batch)
+    }
+}

@@ -1,0 +1,7 @@
+use Rattle.base.specs.Commits.{Tables}
+use Rattle.index.specs.Reading.{HasRows, ranged}
+use Rattle.session_steps.proofs.Scanning.{laid}
+use Rattle.session_steps.proofs.scan.lay_over.Given as goal
+
+abbrev pub invariant-loop-write : goal.invariant-loop-write
+invariant-loop-write l = (tables : Tables) → HasRows l.initial.rows (ranged l.range tables) → HasRows l.rows (ranged l.range (laid l.write-index l.writes tables))

@@ -1,0 +1,113 @@
+ghost use Rattle.std.specs.Prelude.{◌≡◌, ℕ, Bool, IfOk, if◌then◌else◌};
+ghost use Rattle.std.specs.Result.{OnOk};
+ghost use Rattle.std.specs.BTreeMap.{get};
+ghost use Rattle.base.specs.declared.key.Key.{Key as KeyValue};
+ghost use Rattle.base.specs.Keys.{key_eq};
+ghost use Rattle.base.specs.Commits.{Lists, Tables, overlaid};
+ghost use Rattle.base.specs.Layout.{total_words};
+ghost use Rattle.pmem.specs.Words.{image_of};
+ghost use Rattle.txn.specs.WriteSets.{plain_writes};
+ghost use Rattle.index.specs.Entries.{key_cmp};
+ghost use Rattle.index.specs.Reading.{CountsAs, ShowsTables, HasRows, ranged};
+
+use crate::active::Active;
+use crate::sessions::Sessions;
+use base::fault::Fault;
+use base::key::Key;
+use base::row::Row;
+use base::rows::Rows;
+use base::step::SessionReply;
+use index::{KeyRange, listed, rows_by_key};
+use pmem::Pmem;
+use std::alloc::AllocError;
+use std::collections::BTreeMap;
+use txn::WriteSet;
+
+impl Sessions {
+    ghost use Rattle.base.specs.declared.step.SessionStep.TheVariants.{Scan};
+    ghost use Rattle.session_steps.specs.Shows.{Hidden};
+    ghost use Rattle.session_steps.specs.Steps.{HoldsOn, HoldsSomeOn, Goes};
+
+    // The rows that the session sees at the keys of the table from lo to hi, both included.
+    pub(crate) fn scan<D: Pmem>(
+        &self,
+        device: &D,
+        session: u8,
+        table: u16,
+        lo: u64,
+        hi: u64,
+    ) -> SessionReply
+        requires shown { ∥ HoldsSomeOn self.now (D.state device.now) ∥₁ }
+        ensures step { (h : Hidden) → HoldsOn self.now h (D.state device.now) → Goes self.now self.now (Scan session table lo hi) result h }
+    {
+        let active = match self.active(session) {
+            Ok(active) => active,
+            Err(fault) => return SessionReply::Refused(fault),
+        };
+        let range = KeyRange::Within { table, lo, hi };
+        match self.seen_rows(device, &active, range) {
+            Ok(rows) => SessionReply::Rows(Rows::new(rows)),
+            Err(_) => SessionReply::Refused(Fault::OutOfMemory),
+        }
+    }
+
+    // The rows of the snapshot in the range, with the session's own writes laid over them.
+    fn seen_rows<D: Pmem>(
+        &self,
+        device: &D,
+        active: &Active,
+        range: KeyRange,
+    ) -> Result<Vec<(Key, Row)>, AllocError>
+        requires device { (D.state device.now).words ≡ total_words self.now.numbers.geometry }
+        ensures { IfOk result (λ rows. (counts : ℕ → Bool) (tables : Tables) → CountsAs counts active.now.snapshot self.now.numbers.geometry (image_of (D.state device.now)) → ShowsTables counts self.now.numbers.geometry (image_of (D.state device.now)) tables → Lists rows.items (ranged range (overlaid (plain_writes active.now.writes) tables))) }
+    {
+        let geometry = self.numbers.geometry;
+        let mut rows = match rows_by_key(self.alloc, device, geometry, &active.snapshot, range) {
+            Ok(rows) => rows,
+            Err(fault) => return Err(fault),
+        };
+        match lay_over(&mut rows, &active.writes, range) {
+            Ok(()) => {}
+            Err(fault) => return Err(fault),
+        }
+        match listed(self.alloc, rows) {
+            Ok(list) => Ok(list),
+            Err(fault) => Err(fault),
+        }
+    }
+}
+
+// Lays the writes in the range over the rows.
+fn lay_over(
+    rows: &mut BTreeMap<Key, Row>,
+    writes: &WriteSet,
+    range: KeyRange,
+) -> Result<(), AllocError>
+    ensures { OnOk result ((tables : Tables) → HasRows rows.old (ranged range tables) → HasRows rows.new (ranged range (overlaid (plain_writes writes.now) tables))) }
+{
+    for write in writes.as_slice() {
+        if range.contains(write.key) {
+            match lay(rows, write.key, write.row) {
+                Ok(()) => {}
+                Err(fault) => return Err(fault),
+            }
+        }
+    }
+    Ok(())
+}
+
+// Puts the row in at the key, or takes out what is there.
+fn lay(rows: &mut BTreeMap<Key, Row>, key: Key, row: Option<Row>) -> Result<(), AllocError>
+    ensures { OnOk result ((k : KeyValue) → get key_cmp rows.new k ≡ (if key_eq key k then row else get key_cmp rows.old k)) }
+{
+    match row {
+        Some(row) => match rows.insert(key, row) {
+            Ok(_) => Ok(()),
+            Err(_) => Err(AllocError),
+        },
+        None => {
+            rows.remove(&key);
+            Ok(())
+        }
+    }
+}

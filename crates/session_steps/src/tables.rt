@@ -1,0 +1,31 @@
+use crate::sessions::Sessions;
+use base::fault::Fault;
+use base::key::Key;
+use base::row::Row;
+use index::{KeyRange, rows};
+use pmem::Pmem;
+use std::alloc::Global;
+
+impl Sessions {
+    ghost use Rattle.std.specs.Prelude.{◌≡◌, IfOk, IfErr};
+    ghost use Rattle.base.specs.Commits.{after, Lists};
+    ghost use Rattle.base.specs.Machine.{State};
+    ghost use Rattle.base.specs.declared.fault.Fault.TheVariants.{OutOfMemory};
+    ghost use Rattle.session_steps.specs.Shows.{Shows, ShowsAny};
+
+    /// The covered rows by rising key, on the device on which the sessions show a plain state, a failed one too.
+    pub fn tables<D: Pmem>(&self, alloc: Global, device: &D) -> Result<Vec<(Key, Row)>, Fault>
+        requires shown { ∥ ShowsAny self.now (D.state device.now) ∥₁ }
+        ensures ok { IfOk result (λ rows. (q : State) → Shows self.now (D.state device.now) q → Lists rows.items (after q.history)) }
+        ensures fault { IfErr result (λ fault. fault ≡ OutOfMemory) }
+    {
+        let snapshot = self.numbers.snapshot();
+        rows(
+            alloc,
+            device,
+            self.numbers.geometry,
+            &snapshot,
+            KeyRange::All,
+        )
+    }
+}

@@ -1,0 +1,11 @@
+use Rattle.std.proofs.Common.{◌≡◌, true, List, map, subst, sym, ◌∙◌, ap, rules}
+use Rattle.std.proofs.lemmas.List.{with_items_is}
+use Rattle.txn.specs.declared.drawn.DrawnCommit.{DrawnCommit}
+use Rattle.txn.specs.DrawnCommits.{with_stamp, are_numbered}
+use Rattle.txn.proofs.Numbered.{numbered-stamped}
+use Rattle.txn.proofs.drawn.DrawnCommits.stamp.Goals as goal
+
+pub invariant_of-self : goal.invariant_of-self
+invariant_of-self c =
+    let same : c.stamp_each.new.commits ≡ map (with_stamp c.args.timestamp) c.self.inside.commits.items = c.stamp_each.ensures ∙ ap (map (with_stamp c.args.timestamp)) c.as_mut_slice.ensures.value in
+    subst (λ (ds : List DrawnCommit). are_numbered ds ≡ true) (sym (with_items_is c.self.inside.commits c.stamp_each.new.commits (search rules) ∙ same)) (numbered-stamped c.args.timestamp c.self.inside.commits.items c.self.invariant)
