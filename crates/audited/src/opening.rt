@@ -35,7 +35,8 @@ impl<D: Pmem + Drop + Send + Sync> Audited<D> {
             → Stands (image_of (D.state device)) history drawn next
             → (q : State) × OpensAs (image_of (D.state device)) history lost q × Shows D.state audited.room q × ShowsStatus q audited.opening) }
 
-        // It opens exactly where nothing speaks against it, memory and a failing device aside.
+        // It opens an image that has none of the faults that an opening reports, and fails with the first of them, or for
+        // want of memory, or where an operation fails.
         ensures may_open { IfOk result (λ audited. opening_fault (image_of (D.state device)) ≡ None) }
         ensures no_failure { IfOk result (λ audited. HasNoFailure (D.state device) (device_of D.state audited.room)) }
         ensures fault { IfErr result (λ e. IsRefusal (opening_fault (image_of (D.state device))) (D.state device) (D.state e.1) e.0) }

@@ -176,7 +176,7 @@ pub record TwoKeys : Type 0 where
   pub covers : last_reply (replies two_keys (ticks 43)) ≡ Covered (record { from = 3; stamp = 4; persisted = 2; commits = record { timestamp = 2; writes = (key_7, None) ∷ (key_8, Some ab) ∷ [] } ∷ [] })
   pub reads : replies (end two_keys (ticks 43)) (End 2 ∷ Begin ∷ Get 2 key_7 ∷ Get 2 key_8 ∷ []) ≡ Done ∷ Began 2 ∷ Row None ∷ Row (Some ab) ∷ []
 
--- an abort gives back the slots and the number
+-- an abort frees the slots and the number
 pub record AbortedWrites : Type 0 where
   pub aborts : replies start (Begin ∷ Put 2 key_7 ab ∷ Put 2 key_8 ab ∷ Abort 2 ∷ Get 2 key_7 ∷ Begin ∷ Get 2 key_7 ∷ []) ≡ Began 2 ∷ Done ∷ Done ∷ Done ∷ Refused NoSession ∷ Began 2 ∷ Row None ∷ []
   pub gives_back : map (end start (Begin ∷ Put 2 key_7 ab ∷ Put 2 key_8 ab ∷ Abort 2 ∷ [])).held (0 ∷ 1 ∷ []) ≡ None ∷ None ∷ []

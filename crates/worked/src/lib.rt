@@ -84,7 +84,7 @@ pub fn two_keys_in_one_commit()
     ensures { TwoKeys }
 {}
 
-/// An abort gives back the slots and the session's number.
+/// An abort frees the slots and the session's number.
 pub fn aborted_transaction()
     ensures { AbortedWrites }
 {}
