@@ -7,17 +7,19 @@ use Rattle.std.proofs.lemmas.List.{map-append}
 use Rattle.std.proofs.lemmas.List.Elements.{All-nil, All-cons, All-append, All-map, All-filter, All-weaker, All-contains, All-same, All-head, All-tail, Contains-append_left, Contains-push}
 use Rattle.base.specs.declared.fault.Fault.{Fault}
 use Rattle.base.specs.declared.step.Step.{Step}
-use Rattle.base.specs.declared.step.Step.TheVariants.{Begin, Get, Scan, Put, Delete, Draw, Stamp, Poll, Abort, End, Commit as CommitTick}
+use Rattle.base.specs.declared.step.Step.TheVariants.{Begin, Get, Scan, Put, Delete, Draw, Stamp, Poll, Abort, End, Commit as CommitTick, Collect}
 use Rattle.base.specs.declared.step.Stage.{Stage}
 use Rattle.base.specs.declared.step.Stage.TheVariants.{Chosen}
 use Rattle.base.specs.declared.step.Reply.{Reply}
-use Rattle.base.specs.declared.step.Reply.TheVariants.{Rows, Done, Drawn as DrewAs, More, Stamped, Waiting, Committed, Idle, Ticked, Covered}
+use Rattle.base.specs.declared.step.Reply.TheVariants.{Rows, Done, Drawn as DrewAs, More, Stamped, Waiting, Committed, Idle, Ticked, Covered, Visited, SweepEnd}
 use Rattle.base.specs.Commits.{Commit, Writes}
 use Rattle.base.specs.Stands.{has_timestamp}
 use Rattle.base.specs.Machine.{State, Session, Active, Drew, WroteNothing, Drawn, Hand, Stepped, refused, answered, memory_refused, device_failed, Answers, Run, final, next_state, state_ticked, state_ticked_on, state_drawn, state_covered, next_stage, is_idle, is_nil, is_stamped, is_last_stamp, end_of_run, writes_of, counted, timestamp_of, polled, ticked, ticked_on, chosen, taken_in_hand, batch_of, drawn_of, in_hand, uncovered, Cover, present, of_hand, covers_at, covers_closing, closed}
 use Rattle.base.specs.Lives.{World, IsWorld, Opening, Opens, Fails, Numbers, Asked, Report, StopsAt, EndsAs, LifeAs, Lives}
 use Rattle.base.specs.Laws.{drawn_by, drawn_in, covered_by, covered_in, acknowledged_by, acknowledged_in, has_closed, AddsDrawn, LifeAdds, LivesAdd}
+use Rattle.base.specs.Collecting.{is_at_slot, visited}
 use Rattle.base.proofs.Growth.{any-append, extends-run}
+use Rattle.base.proofs.Visiting.{visit-changes}
 use Rattle.base.proofs.Returns.{runs-up}
 use Rattle.base.proofs.LivesLaws.{life-stands}
 
@@ -241,6 +243,13 @@ told-next before covered ts q (Abort n) reply told a = told-still before covered
 told-next before covered ts q (End n) reply told a = told-still before covered ts q reply _ (next_state q (End n)) told a (refl, refl) (record { history = refl; drawn = refl; hand = refl })
 told-next before covered ts q CommitTick reply told a =
     subst (λ (r : Reply). ToldAfter before covered ts r (next_state q CommitTick)) (sym a) (told-ticked before covered ts q q.hand told.hand_among told)
+told-next before covered ts q Collect reply told a =
+    let changes = visit-changes q in
+    told-still before covered ts q reply _ (visited q) told a (quiet-if (is_at_slot q) (Visited q.place) SweepEnd (refl, refl) (refl, refl)) (record {
+      history = changes.history;
+      drawn = ap (λ (ds : List Drawn). map (λ (d : Drawn). d.commit) ds) changes.drawn;
+      hand = ap (λ (o : Option Hand). option_map_or (λ (h : Hand). h.commits) o []) changes.hand;
+    })
 
 told-stepped : (before covered : List Commit) (ts : List ℕ) (q : State) (step : Step) (reply : Reply) (q' : State) → Told before covered ts q → Stepped q step reply q' → ToldAfter before covered ts reply q'
 told-stepped before covered ts q step reply q' told (refused fault e r s) =
@@ -399,6 +408,7 @@ ack-next q (Poll n) reply a = ack-along reply _ q a (ack-polled q (q.sessions n)
 ack-next q (Abort n) reply a = ack-along reply _ (next_state q (Abort n)) a (ack-none q)
 ack-next q (End n) reply a = ack-along reply _ (next_state q (End n)) a (ack-none q)
 ack-next q CommitTick reply a = ack-along reply _ (next_state q CommitTick) a (ack-ticked q q.hand)
+ack-next q Collect reply a = ack-along reply _ (visited q) a (ack-if (visited q).history (is_at_slot q) (Visited q.place) SweepEnd (ack-none (visited q)) (ack-none (visited q)))
 
 ack-stepped : (q : State) (step : Step) (reply : Reply) (q' : State) → Stepped q step reply q' → Acknowledges reply q'
 ack-stepped q step reply q' (refused fault e r s) = ack-along reply _ q' r (ack-none q')

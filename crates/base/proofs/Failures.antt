@@ -1,20 +1,21 @@
 -- Which replies report a failing device, and what a failed state answers.
-use Rattle.std.proofs.Common.{◌≡◌, ℕ, ◌+◌, ◌*◌, ◌^◌, ◌&&◌, ◌||◌, nat_eq, Bool, true, false, cond, List, [], ◌∷◌, refl, sym, ◌∙◌, ap, subst}
+use Rattle.std.proofs.Common.{◌≡◌, ℕ, ◌+◌, ◌*◌, ◌^◌, ◌&&◌, ◌||◌, nat_eq, Bool, true, false, cond, [], ◌∷◌, refl, sym, ◌∙◌, ap, subst}
 use Rattle.std.specs.Prelude.{Option, Some, None, is_none, nat_le}
 use Rattle.std.specs.Option.{option_or, option_map}
 use Rattle.base.specs.declared.key.Key.{Key}
 use Rattle.base.specs.declared.fault.Fault.{Fault}
 use Rattle.base.specs.declared.fault.Fault.TheVariants.{Failed, SessionsFull, NoSession, WrongState, TooLong, WriteSetFull, SlotsOut, Conflict, WindowFull, TimestampsOut}
 use Rattle.base.specs.declared.step.Step.{Step}
-use Rattle.base.specs.declared.step.Step.TheVariants.{Begin, Get, Scan, Put, Delete, Draw, Stamp, Poll, Abort, End, Commit as CommitTick}
+use Rattle.base.specs.declared.step.Step.TheVariants.{Begin, Get, Scan, Put, Delete, Draw, Stamp, Poll, Abort, End, Commit as CommitTick, Collect}
 use Rattle.base.specs.declared.step.Stage.{Stage}
 use Rattle.base.specs.declared.step.Reply.{Reply}
-use Rattle.base.specs.declared.step.Reply.TheVariants.{Began, Row, Rows, Done, Drawn, More, Stamped, Waiting, Committed, Idle, Ticked, Covered, Refused}
+use Rattle.base.specs.declared.step.Reply.TheVariants.{Began, Row, Rows, Done, Drawn, More, Stamped, Waiting, Committed, Idle, Ticked, Covered, Visited, SweepEnd, Refused}
 use Rattle.base.specs.Commits.{Writes}
 use Rattle.base.specs.Search.{some_if}
 use Rattle.base.specs.Machine.{State, Hand, Stepped, refused, answered, memory_refused, device_failed, refusal, conflicts, begins, free_session, is_absent, is_misplaced, is_too_long, overfills, lacks_slot, draws, chooses, is_idle, writes_of, next_stage, taken_in_hand, next_state, state_drawn, state_ticked, state_ticked_on}
 use Rattle.base.specs.Lives.{is_failure}
 use Rattle.base.proofs.Runs.{IsAnswer, Answers-answer}
+use Rattle.base.proofs.Visiting.{visit-changes}
 
 -- ---- no refusal of a step that is not made reports one
 
@@ -67,6 +68,8 @@ answer-quiet (Committed t) a = refl
 answer-quiet Idle a = refl
 answer-quiet (Ticked stage) a = refl
 answer-quiet (Covered batch) a = refl
+answer-quiet (Visited slot) a = refl
+answer-quiet SweepEnd a = refl
 answer-quiet (Refused fault) a = absurd a
 
 -- ---- the state fails with the device, and never else
@@ -99,6 +102,7 @@ answered-works q (Poll n) = refl
 answered-works q (Abort n) = refl
 answered-works q (End n) = refl
 answered-works q CommitTick = ticked-works q q.hand
+answered-works q Collect = (visit-changes q).failed
 
 pub failed-after : (q : State) (step : Step) (reply : Reply) (q' : State) → Stepped q step reply q' → q.failed ≡ false → q'.failed ≡ is_failure reply
 failed-after q step reply q' (refused fault e r s) works = ap (λ (x : State). x.failed) s ∙ works ∙ sym (refusal-quiet q step fault e) ∙ sym (ap is_failure r)

@@ -4,16 +4,18 @@ use Rattle.std.specs.Prelude.{Option, Some, None, IsTrue, if◌then◌else◌}
 use Rattle.base.specs.declared.fault.Fault.{Fault}
 use Rattle.base.specs.declared.fault.Fault.TheVariants.{Device}
 use Rattle.base.specs.declared.step.Step.{Step}
-use Rattle.base.specs.declared.step.Step.TheVariants.{Begin, Get, Scan, Put, Delete, Draw, Stamp, Poll, Abort, End, Commit as CommitTick}
+use Rattle.base.specs.declared.step.Step.TheVariants.{Begin, Get, Scan, Put, Delete, Draw, Stamp, Poll, Abort, End, Commit as CommitTick, Collect}
 use Rattle.base.specs.declared.step.Stage.{Stage}
 use Rattle.base.specs.declared.step.Stage.TheVariants.{Chosen}
 use Rattle.base.specs.declared.step.Reply.{Reply}
-use Rattle.base.specs.declared.step.Reply.TheVariants.{Rows, Done, Drawn as DrewAs, More, Stamped, Waiting, Committed, Idle, Ticked, Refused}
+use Rattle.base.specs.declared.step.Reply.TheVariants.{Rows, Done, Drawn as DrewAs, More, Stamped, Waiting, Committed, Idle, Ticked, Visited, SweepEnd, Refused}
 use Rattle.base.specs.Commits.{Commit, Writes}
 use Rattle.base.specs.Stands.{has_timestamp}
 use Rattle.base.specs.Machine.{State, Session, Active, Drew, WroteNothing, Hand, Stepped, refused, answered, memory_refused, device_failed, Answers, Run, final, next_state, state_ticked, state_ticked_on, state_drawn, next_stage, is_idle, is_nil, writes_of, polled, ticked, ticked_on, is_last_stamp}
 use Rattle.base.specs.Laws.{drawn_by, drawn_in, RiseBetween}
+use Rattle.base.specs.Collecting.{is_at_slot, visited}
 use Rattle.base.proofs.Runs.{Answers-answer}
+use Rattle.base.proofs.Visiting.{visit-changes}
 
 -- Refusals
 
@@ -66,6 +68,7 @@ extends-next q (Poll n) = ([], none_more q.history)
 extends-next q (Abort n) = ([], none_more q.history)
 extends-next q (End n) = ([], none_more q.history)
 extends-next q CommitTick = extends-ticked q q.hand
+extends-next q Collect = extends-same q.history (visited q) (visit-changes q).history
 
 pub extends-stepped : (q : State) (step : Step) (reply : Reply) (q' : State) → Stepped q step reply q' → Extends q.history q'
 extends-stepped q step reply q' (refused fault e r s) = extends-same q.history q' (ap (λ (p : State). p.history) s)
@@ -176,6 +179,7 @@ next-rise q (Poll n) reply a = along q reply _ q a (same-rise q _ q (polled_none
 next-rise q (Abort n) reply a = along q reply _ (next_state q (Abort n)) a (omega arith)
 next-rise q (End n) reply a = along q reply _ (next_state q (End n)) a (omega arith)
 next-rise q CommitTick reply a = along q reply _ (next_state q CommitTick) a (same-rise q _ (next_state q CommitTick) (ticked-same q q.hand))
+next-rise q Collect reply a = along q reply _ (visited q) a (same-rise q _ (visited q) (either_none (is_at_slot q) (Visited q.place) SweepEnd refl refl, (visit-changes q).next))
 
 refused-rise : (q : State) (reply : Reply) (fault : Fault) (q' : State) → reply ≡ Refused fault → q'.next ≡ q.next → RiseBetween q.next (drawn_by reply) q'.next
 refused-rise q reply fault q' r s = same-rise q reply q' (ap drawn_by r, s)

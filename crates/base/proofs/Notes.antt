@@ -1,18 +1,18 @@
 -- A step has a note of its kind.
-use Rattle.std.proofs.Common.{◌≡◌, ℕ, refl, sym, ap, subst, ◌∙◌, Bool, true, false, List, [], ◌∷◌, ◌++◌}
+use Rattle.std.proofs.Common.{◌≡◌, ℕ, refl, sym, ap, ◌∙◌, Bool, true, false, List, [], ◌∷◌}
 use Rattle.std.specs.Prelude.{Option, Some, None, if◌then◌else◌}
 use Rattle.base.specs.declared.key.Key.{Key}
 use Rattle.base.specs.declared.fault.Fault.{Fault}
 use Rattle.base.specs.declared.fault.Fault.TheVariants.{OutOfMemory, Device}
 use Rattle.base.specs.declared.step.Step.{Step}
-use Rattle.base.specs.declared.step.Step.TheVariants.{Begin, Get, Scan, Put, Delete, Draw, Stamp, Poll, Abort, End, Commit as CommitTick}
+use Rattle.base.specs.declared.step.Step.TheVariants.{Begin, Get, Scan, Put, Delete, Draw, Stamp, Poll, Abort, End, Commit as CommitTick, Collect}
 use Rattle.base.specs.declared.step.Stage.{Stage}
 use Rattle.base.specs.declared.step.Stage.TheVariants.{Chosen}
 use Rattle.base.specs.declared.step.Reply.{Reply}
-use Rattle.base.specs.declared.step.Reply.TheVariants.{Rows, Done, Drawn as DrewAs, More, Stamped, Waiting, Committed, Idle, Ticked, Refused}
-use Rattle.base.specs.declared.step.Note.{Note}
+use Rattle.base.specs.declared.step.Reply.TheVariants.{Rows, Done, Drawn as DrewAs, More, Stamped, Waiting, Committed, Idle, Ticked, Visited, SweepEnd, Refused}
 use Rattle.base.specs.Stands.{has_timestamp}
-use Rattle.base.specs.Machine.{State, Hand, Session, Active, Drew, WroteNothing, Stepped, refused, answered, memory_refused, device_failed, Answers, Noted, note_of, next_state, polled, ticked, ticked_on, next_stage, is_idle, is_nil, writes_of, is_last_stamp}
+use Rattle.base.specs.Collecting.{is_at_slot}
+use Rattle.base.specs.Machine.{State, Hand, Session, Active, Drew, WroteNothing, Stepped, refused, answered, memory_refused, device_failed, Answers, note_of, next_state, polled, ticked, ticked_on, next_stage, is_idle, is_nil, writes_of, is_last_stamp}
 use Rattle.base.specs.Notes.{fits, StepsFit, RunsFit}
 
 -- a refusal fits each step
@@ -28,6 +28,7 @@ refused_fits (Poll n) fault = refl
 refused_fits (Abort n) fault = refl
 refused_fits (End n) fault = refl
 refused_fits CommitTick fault = refl
+refused_fits Collect fault = refl
 
 either_fits : (step : Step) (b : Bool) (x y : Reply) → fits step (note_of x) ≡ true → fits step (note_of y) ≡ true → fits step (note_of (if b then x else y)) ≡ true
 either_fits step true x y p q = p
@@ -63,6 +64,7 @@ answered_fits q (Poll n) reply a = along (Poll n) reply _ a (polled_fits q n (q.
 answered_fits q (Abort n) reply a = along (Abort n) reply _ a refl
 answered_fits q (End n) reply a = along (End n) reply _ a refl
 answered_fits q CommitTick reply a = along CommitTick reply _ a (ticked_fits q q.hand)
+answered_fits q Collect reply a = along Collect reply _ a (either_fits Collect (is_at_slot q) (Visited q.place) SweepEnd refl refl)
 
 -- ---- replies that list rows
 
@@ -107,6 +109,7 @@ listed q (Poll n) reply has a = refl
 listed q (Abort n) reply has a = unlisted reply _ has a refl
 listed q (End n) reply has a = unlisted reply _ has a refl
 listed q CommitTick reply has a = unlisted reply _ has a (ticked_lists q q.hand)
+listed q Collect reply has a = unlisted reply _ has a (either_lists (is_at_slot q) (Visited q.place) SweepEnd refl refl)
 
 -- a step that lists rows changes nothing
 pub rows-unchanged : (q q' : State) (step : Step) (rows : List (Key × List ℕ)) → Stepped q step (Rows rows) q' → q' ≡ q

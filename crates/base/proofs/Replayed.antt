@@ -4,7 +4,7 @@ use Rattle.std.specs.Prelude.{Option, Some, None}
 use Rattle.base.specs.declared.fault.Fault.{Fault}
 use Rattle.base.specs.declared.fault.Fault.TheVariants.{OutOfMemory, Device}
 use Rattle.base.specs.declared.step.Step.{Step}
-use Rattle.base.specs.declared.step.Step.TheVariants.{Begin, Get, Scan, Put, Delete, Draw, Stamp, Poll, Abort, End, Commit as CommitTick}
+use Rattle.base.specs.declared.step.Step.TheVariants.{Begin, Get, Scan, Put, Delete, Draw, Stamp, Poll, Abort, End, Commit as CommitTick, Collect}
 use Rattle.base.specs.declared.step.Reply.{Reply}
 use Rattle.base.specs.declared.step.Reply.TheVariants.{Rows, Refused}
 use Rattle.base.specs.Commits.{in_range}
@@ -24,6 +24,7 @@ accepted q (Poll n) e = answered e refl refl
 accepted q (Abort n) e = answered e refl refl
 accepted q (End n) e = answered e refl refl
 accepted q CommitTick e = answered e refl refl
+accepted q Collect e = answered e refl refl
 
 step_on : (q : State) (step : Step) (o : Option Fault) → refusal q step ≡ o → Stepped q step (reply_on q step o) (state_on q step o)
 step_on q step None e = accepted q step e
@@ -52,6 +53,7 @@ answers-answer q (Poll n) reply a = a
 answers-answer q (Abort n) reply a = a
 answers-answer q (End n) reply a = a
 answers-answer q CommitTick reply a = a
+answers-answer q Collect reply a = a
 
 reply-when : (q : State) (step : Step) (o : Option Fault) → refusal q step ≡ o → reply_on q step o ≡ reply_of q step
 reply-when q step o e = ap (reply_on q step) (sym e)

@@ -1,17 +1,18 @@
 -- What was left out by a stop never returns, and no timestamp is drawn twice over lives.
-use Rattle.std.proofs.Common.{◌≡◌, ℕ, ◌+◌, ◌<◌, ◌≤◌, Bool, true, false, cond, not, ◌||◌, ◌&&◌, nat_eq, nat_le, List, [], ◌∷◌, ◌++◌, take, refl, sym, ◌∙◌, ap, subst, append-nil, append_assoc, arith, inl, inr, map, get_or}
+use Rattle.std.proofs.Common.{◌≡◌, ℕ, ◌+◌, ◌<◌, ◌≤◌, Bool, true, false, cond, not, ◌||◌, ◌&&◌, nat_eq, nat_le, List, [], ◌∷◌, ◌++◌, refl, sym, ◌∙◌, ap, subst, append-nil, append_assoc, arith, inl, inr, get_or}
 use Rattle.std.specs.Prelude.{Option, Some, None, All, Result, Ok, Err, filter}
 use Rattle.std.specs.Option.{option_map_or}
 use Rattle.std.proofs.lemmas.Bool.{ne_eqb}
-use Rattle.std.proofs.lemmas.List.Elements.{All-nil, All-cons, All-append, All-take, All-map, All-filter, All-weaker, All-contains, All-same, All-head, All-tail, filter_passes}
+use Rattle.std.proofs.lemmas.List.Elements.{All-nil, All-cons, All-append, All-map, All-filter, All-weaker, All-contains, All-same, All-head, All-tail, filter_passes}
 use Rattle.base.specs.declared.fault.Fault.{Fault}
 use Rattle.base.specs.declared.step.Step.{Step}
-use Rattle.base.specs.declared.step.Step.TheVariants.{Begin, Get, Scan, Put, Delete, Draw, Stamp, Poll, Abort, End, Commit as CommitTick}
+use Rattle.base.specs.declared.step.Step.TheVariants.{Begin, Get, Scan, Put, Delete, Draw, Stamp, Poll, Abort, End, Commit as CommitTick, Collect}
 use Rattle.base.specs.declared.step.Stage.{Stage}
 use Rattle.base.specs.declared.step.Reply.{Reply}
 use Rattle.base.specs.Commits.{Commit, Writes}
 use Rattle.base.specs.Stands.{has_timestamp}
 use Rattle.base.specs.Machine.{State, Drawn, Hand, Stepped, refused, answered, memory_refused, device_failed, Run, final, next_state, state_ticked, state_ticked_on, state_drawn, next_stage, is_idle, writes_of, counted, drawn_of, in_hand, uncovered, is_stamped, end_of_run, timestamp_of, chosen, taken_in_hand, Cover, covers_at, of_hand, present, covers_closing, closed}
+use Rattle.base.specs.Collecting.{is_at_slot, slot_visited, sweep_ended}
 use Rattle.base.specs.Lives.{World, IsWorld, Opening, Opens, Fails, Numbers, Asked, Report, StopsAt, EndsAs, LifeAs, Lives, RunsUp, left_out}
 use Rattle.base.specs.Laws.{RiseBetween, drawn_in, drawn_over, StayOut}
 use Rattle.base.proofs.Growth.{rise-append, run-rise}
@@ -119,6 +120,11 @@ kept-next from q (Poll n) f = (f, none_more from q)
 kept-next from q (Abort n) f = (record { le = f.le; drawn = f.drawn; hand = f.hand }, ([], sym (append-nil q.history), All-nil (Within from q.next)))
 kept-next from q (End n) f = (record { le = f.le; drawn = f.drawn; hand = f.hand }, ([], sym (append-nil q.history), All-nil (Within from q.next)))
 kept-next from q CommitTick f = kept-ticked from q q.hand f f.hand
+kept-next from q Collect f = by (is_at_slot q)
+  where
+    by : (b : Bool) → Fresh from (cond b (slot_visited q) (sweep_ended q)) × Grows from q (cond b (slot_visited q) (sweep_ended q))
+    by true = (record { le = f.le; drawn = f.drawn; hand = f.hand }, ([], sym (append-nil q.history), All-nil (Within from q.next)))
+    by false = (record { le = f.le; drawn = f.drawn; hand = f.hand }, ([], sym (append-nil q.history), All-nil (Within from q.next)))
 
 kept-stepped : (from : ℕ) (q : State) (step : Step) (reply : Reply) (q' : State) → Fresh from q → Stepped q step reply q' → Kept from q q'
 unfolding Kept

@@ -5,7 +5,7 @@ use Rattle.std.proofs.lemmas.Bool.{ne_eqb}
 use Rattle.std.proofs.lemmas.List.{take-append-le, length-append}
 use Rattle.base.specs.declared.fault.Fault.{Fault}
 use Rattle.base.specs.declared.step.Step.{Step}
-use Rattle.base.specs.declared.step.Step.TheVariants.{Begin, Get, Scan, Put, Delete, Draw, Stamp, Poll, Abort, End, Commit as CommitTick}
+use Rattle.base.specs.declared.step.Step.TheVariants.{Begin, Get, Scan, Put, Delete, Draw, Stamp, Poll, Abort, End, Commit as CommitTick, Collect}
 use Rattle.base.specs.declared.step.Stage.{Stage}
 use Rattle.base.specs.declared.step.Reply.{Reply}
 use Rattle.base.specs.Images.{Image}
@@ -14,6 +14,7 @@ use Rattle.base.specs.Machine.{State, Session, Active, Drew, WroteNothing, Hand,
 use Rattle.base.specs.Openings.{OpensAs}
 use Rattle.base.specs.Laws.{SeesCovered, SeesTheSame}
 use Rattle.base.proofs.Growth.{Extends, extends-stepped}
+use Rattle.base.proofs.Visiting.{visit-changes}
 
 -- ---- sessions after a step
 
@@ -69,6 +70,7 @@ does-next q (Poll n) sees = nothing (λ m. refl)
 does-next q (Abort n) sees = one n None (omega arith) (λ m. refl)
 does-next q (End n) sees = one n None (omega arith) (λ m. refl)
 does-next q CommitTick sees = does-ticked q q.hand
+does-next q Collect sees = nothing (λ m. ap (λ (f : ℕ → Option Session). f m) (visit-changes q).sessions)
 
 does-same : (q q' p : State) → p ≡ q' → Does q q' → Does q p
 does-same q q' p e d = subst (Does q) (sym e) d
@@ -171,6 +173,7 @@ stays-next n q (Poll m) session ok is_at not = refl
 stays-next n q (Abort m) session ok is_at not = other n m None q (unnamed n m not)
 stays-next n q (End m) session ok is_at not = other n m None q (unnamed n m not)
 stays-next n q CommitTick session ok is_at not = stays-ticked n q q.hand
+stays-next n q Collect session ok is_at not = ap (λ (f : ℕ → Option Session). f n) (visit-changes q).sessions
 
 stays : (n : ℕ) (q : State) (step : Step) (reply : Reply) (q' : State) (session : Session) → Stepped q step reply q' → q.sessions n ≡ Some session → (session_of step ≡ Some n → ⊥) → Stays n q q'
 unfolding Stays

@@ -1,6 +1,7 @@
 //! What follows from the definitions. The functions do nothing: the contract of each is a law.
 
 ghost use Rattle.base.specs.Laws.{EachFreshStands, SnapshotsStay, CyclesAreWhole, OthersKeepHand, WorldsAdd, AcknowledgedStaysOverLives, SoundStands, OpenedGaps, OneGapList, OneOpening, HasRun, OneRecord, OneSpelling, FoundRecord, RefusedKeeps, FailedStays, OneReply, HasReply, HistoryGrows, AcknowledgedStays, CoveredIsKept, DrawnOnce, WorldsStand, WorldsGrow, NeverReturns, DrawnOnceOverLives, CloseTold};
+ghost use Rattle.base.specs.Rounds.{VisitsFollow, RoundsRepeat};
 
 /// A freshly formatted image, of each layout in the limits, stands for no commits, and opens.
 pub fn fresh_images_stand()
@@ -75,4 +76,11 @@ pub fn lives_keep_the_history()
 /// A commit that some stop left out never returns.
 pub fn lost_commits_never_return()
     ensures { NeverReturns }
+{}
+
+/// Visits of the collector that follow each other with no step between them settle after a round: a second round changes
+/// nothing, and so no later one does.
+pub fn rounds_repeat()
+    ensures follow { VisitsFollow }
+    ensures repeat { RoundsRepeat }
 {}

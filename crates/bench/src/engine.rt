@@ -12,10 +12,11 @@ use std::rt::Clock;
 use std::thread::Threads;
 use std::time::{Duration, Instant};
 
-/// How many keys have rows, how many commits update one each, how many of those stand stamped before each cycle, and
-/// how many rows are read then.
+/// How many slots there are, how many keys have rows, how many commits update one each, how many of those stand stamped
+/// before each cycle, and how many rows are read then.
 #[derive(Clone, Copy)]
 pub struct Load {
+    pub slots: u64,
     pub keys: u64,
     pub commits: u64,
     pub batch: u64,
@@ -32,15 +33,13 @@ pub struct Made {
     pub reading: Duration,
 }
 
-/// A room in whose tables each key has a row, and in which there is a slot for each update. Its device counts the
-/// operations from its opening on.
+/// A room in whose tables each key has a row. Its device counts the operations from its opening on.
 pub fn load_keys<H: Threads + Sync>(
     rt: &H,
     alloc: Global,
     load: &Load,
 ) -> Result<Room<SimPmem>, Error> {
-    let slots = load.keys.saturating_add(load.commits);
-    let geometry = Geometry::new(slots, Geometry::LEAST_PLACES, Geometry::MOST_WINDOW)?;
+    let geometry = Geometry::new(load.slots, Geometry::LEAST_PLACES, Geometry::MOST_WINDOW)?;
     let mut device = SimPmem::from_words(alloc, &vec![in alloc; 0; geometry.words() as usize]?)?;
     format(&mut device, geometry)?;
     let mut room = open(rt, alloc, &device.image()?)?;
@@ -127,12 +126,14 @@ fn step(room: &mut Room<SimPmem>, step: Step) -> Result<Reply, Fault> {
     }
 }
 
-// Ticks the committer until it has covered a batch, or has nothing to do. How often it did.
+// Ticks the committer until it has covered a batch, or has nothing to do, and lets the collector make a visit with each
+// tick. How often they did.
 fn cover(room: &mut Room<SimPmem>) -> Result<u64, Fault> {
     for ticks in 1..u64::MAX {
-        match step(room, Step::Commit)? {
-            Reply::Ticked(_) => {}
-            _ => return Ok(ticks),
+        let reply = step(room, Step::Commit)?;
+        step(room, Step::Collect)?;
+        if !matches!(reply, Reply::Ticked(_)) {
+            return Ok(ticks);
         }
     }
     Ok(u64::MAX)

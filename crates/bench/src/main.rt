@@ -1,6 +1,6 @@
 //! Counts of what the modelled device, the engine and the board do, and with the word `time` first how fast: rounds of
 //! stores on the device; commits and reads of the engine; reads on a board beside a writer that publishes.
-//! `engine KEYS COMMITS BATCH READS` runs the engine alone, and `readers N` the reads of N readers, each in a thread of
+//! `engine SLOTS KEYS COMMITS BATCH READS` runs the engine alone, and `readers N` the reads of N readers, each in a thread of
 //! its own.
 #![tactic(auto)]
 
@@ -24,10 +24,12 @@ use std::time::{Duration, Instant};
 
 const ROUNDS: u64 = 1_000;
 
+// So many commits take each slot a hundred times.
 const SMALL: Load = Load {
-    keys: 1_024,
-    commits: 64,
-    batch: 32,
+    slots: 16,
+    keys: 8,
+    commits: 1_600,
+    batch: 4,
     reads: 1_000,
 };
 
@@ -47,8 +49,9 @@ fn main(rt: HostRuntime) -> Result<(), Error> {
         words => (false, words),
     };
     match words {
-        ["engine", keys, commits, batch, reads] => {
+        ["engine", slots, keys, commits, batch, reads] => {
             let load = Load {
+                slots: slots.parse::<u64>()?,
                 keys: keys.parse::<u64>()?,
                 commits: commits.parse::<u64>()?,
                 batch: batch.parse::<u64>()?,
@@ -95,8 +98,8 @@ fn measure_engine<H: Print + Clock + Threads + Sync>(
     let mut room = load_keys(rt, alloc, load)?;
     let made = run_load(rt, &mut room, load)?;
     println!(rt;
-        "keys {} commits {} batch {} reads {}",
-        load.keys, load.commits, load.batch, load.reads
+        "slots {} keys {} commits {} batch {} reads {}",
+        load.slots, load.keys, load.commits, load.batch, load.reads
     )?;
     println!(rt;
         "cycles {} ticks {} rows {}",

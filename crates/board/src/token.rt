@@ -26,9 +26,9 @@ impl<J: Naming> Model for Token<J> {
 }
 
 impl<J: Naming> Token<J> {
-    ghost use Rattle.std.specs.Prelude.{◌≡◌, ◌<◌, ◌↔◌, IsTrue};
+    ghost use Rattle.std.specs.Prelude.{◌≡◌, ◌⊎◌, ◌<◌, ◌↔◌, IsTrue};
     ghost use Rattle.base.specs.Published.{last_stamp};
-    ghost use Rattle.board.specs.Lists.{has_commit};
+    ghost use Rattle.board.specs.Lists.{Begins, has_commit};
 
     /// The last stamp that was published.
     pub fn stamp(&self) -> u64
@@ -43,5 +43,29 @@ impl<J: Naming> Token<J> {
     {
         self.front.is_published();
         timestamp <= self.persisted
+    }
+
+    /// Another one of the same list.
+    pub fn again(&self) -> Token<J>
+        ensures { result ≡ self.now }
+    {
+        Token {
+            front: self.front.again(),
+            stamp: self.stamp,
+            persisted: self.persisted,
+        }
+    }
+
+    /// The later of the two: its list begins with the other's.
+    #[tactic(auto, using(crate::proofs::Rules::begins_self))]
+    pub fn later(self, other: Token<J>) -> Token<J>
+        ensures begins { Begins self result × Begins other result }
+        ensures one { (result ≡ self) ⊎ (result ≡ other) }
+    {
+        if self.front.begins(&other.front) {
+            other
+        } else {
+            self
+        }
     }
 }

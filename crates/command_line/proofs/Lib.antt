@@ -6,3 +6,4 @@ pub mod Rows
 pub mod Complete
 pub mod Refused
 pub mod Scripts
+pub mod Help

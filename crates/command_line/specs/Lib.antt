@@ -4,5 +4,6 @@ pub mod Lines
 pub mod ImageFile
 pub mod Texts
 pub mod Words
+pub mod Help
 pub mod Given
 pub mod Scripts

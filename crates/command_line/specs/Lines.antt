@@ -7,7 +7,7 @@ use Rattle.base.specs.declared.key.Key.{Key}
 use Rattle.command_line.specs.Numbers.{Text, number_below}
 use Rattle.command_line.specs.Rows.{row_of}
 use Rattle.command_line.specs.declared.command.Command.{Command}
-use Rattle.command_line.specs.declared.command.Command.TheVariants.{Begin, Get, Scan, Put, Delete, Draw, Stamp, Poll, Abort, End, Commit, Cycle, Crash}
+use Rattle.command_line.specs.declared.command.Command.TheVariants.{Begin, Get, Scan, Put, Delete, Draw, Stamp, Poll, Abort, End, Commit, Collect, Cycle, Crash}
 use Rattle.command_line.specs.declared.command.Survivor.TheVariants.{Oldest, Newest}
 
 -- the texts behind references
@@ -44,9 +44,9 @@ session_command name session =
     else if is_word name (codes "end") then Some (End session)
     else None
 
--- so many ticks, at least one
-abbrev pub commit_of : ℕ → Option Command
-commit_of ticks = if ticks == 0 then None else Some (Commit ticks)
+-- a number that is at least 1
+abbrev pub count_of : Text → Option ℕ
+count_of word = option_and_then (λ n. if n == 0 then None else Some n) (number_below (2 ^ 64) word)
 
 -- a crash that keeps the oldest or the newest
 abbrev pub crash_of : Text → Option Command
@@ -58,7 +58,8 @@ crash_of keeps =
 -- a command with one word after its name
 abbrev pub one_word_command : Text → Text → Option Command
 one_word_command name word =
-    if is_word name (codes "commit") then option_and_then commit_of (number_below (2 ^ 64) word)
+    if is_word name (codes "commit") then option_map Commit (count_of word)
+    else if is_word name (codes "collect") then option_map Collect (count_of word)
     else if is_word name (codes "crash") then crash_of word
     else option_and_then (session_command name) (number_below (2 ^ 8) word)
 

@@ -82,6 +82,10 @@ pub enum Command {
     Commit {
         ticks: u64,
     },
+    /// As many visits of the collector.
+    Collect {
+        visits: u64,
+    },
     /// Ticks of the committer until one covers or finds nothing to do.
     Cycle,
     Crash {

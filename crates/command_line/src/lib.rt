@@ -5,6 +5,7 @@
 pub mod command;
 mod given;
 pub mod image_file;
+pub mod law;
 pub mod line;
 pub mod number;
 pub mod orders;

@@ -1,5 +1,5 @@
 ghost use Rattle.std.specs.Prelude.{◌≡◌, ◌^◌, ◌<◌, ◌≤◌, IfOk, IfErr, length, take, option_and_then};
-ghost use Rattle.command_line.specs.Lines.{bare_command, command_of, key_command, spelled_key_command, line_of, commit_of, crash_of, key_of, one_word_command, put_command, scan_command, four_word_command, session_command, texts, words_of, is_skipped, has_outer_space, IsPut, SpellsPut};
+ghost use Rattle.command_line.specs.Lines.{bare_command, command_of, key_command, spelled_key_command, line_of, count_of, crash_of, key_of, one_word_command, put_command, scan_command, four_word_command, session_command, texts, words_of, is_skipped, has_outer_space, IsPut, SpellsPut};
 ghost use Rattle.command_line.specs.Numbers.{number_below};
 ghost use Rattle.command_line.specs.declared.line.LineFault.TheVariants.{NotACommand, OutOfMemory};
 
@@ -117,7 +117,11 @@ fn with_one_word(name: &[u8], argument: &[u8]) -> Option<Command>
     ensures { result ≡ one_word_command name.now argument.now }
 {
     if name == b"commit".as_slice() {
-        commit(argument)
+        let ticks = count(argument)?;
+        Some(Command::Commit { ticks })
+    } else if name == b"collect".as_slice() {
+        let visits = count(argument)?;
+        Some(Command::Collect { visits })
     } else if name == b"crash".as_slice() {
         crash(argument)
     } else {
@@ -143,12 +147,13 @@ fn of_session(name: &[u8], session: u8) -> Option<Command>
     }
 }
 
-fn commit(word: &[u8]) -> Option<Command>
-    ensures { result ≡ option_and_then commit_of (number_below (2 ^ 64) word.now) }
+// A number that is at least 1.
+fn count(word: &[u8]) -> Option<u64>
+    ensures { result ≡ count_of word.now }
 {
     match number(word)? {
         0 => None,
-        ticks => Some(Command::Commit { ticks }),
+        count => Some(count),
     }
 }
 

@@ -64,6 +64,9 @@ pub enum Printed<'a> {
     Idle,
     Tick,
     Covered(u64),
+    /// The collector visited this slot.
+    Visited(u64),
+    SweepEnd,
     Stopped(Survivor),
     /// A life of a script begins, the number of which counts from 1.
     Life(usize),
@@ -131,6 +134,8 @@ pub fn text(alloc: Global, line: &Printed) -> Result<String, AllocError>
         Printed::Idle => String::from_str(alloc, "idle"),
         Printed::Tick => String::from_str(alloc, "tick"),
         Printed::Covered(gate) => format!(in alloc; "covered {gate}"),
+        Printed::Visited(slot) => format!(in alloc; "slot {slot}"),
+        Printed::SweepEnd => String::from_str(alloc, "sweep end"),
         Printed::Stopped(keeps) => stopped_line(alloc, keeps),
         Printed::Life(number) => format!(in alloc; "life {number}"),
         Printed::LifeStopped => String::from_str(alloc, "stopped"),

@@ -1,11 +1,14 @@
-ghost use Rattle.std.specs.Prelude.{IfOk, OnErr};
+ghost use Rattle.std.specs.Prelude.{◌≡◌, codes, false, IfErr, IfOk, OnErr};
+ghost use Rattle.clap.specs.Words.{app_of, kind_of, rule_of, shape_of};
+ghost use Rattle.command_line.specs.Help.{AnswersHelp, TellsKind, check_shape, format_shape, lives_shape, name_rule, number_rule, run_shape, wbl};
 ghost use Rattle.command_line.specs.Lines.{texts};
 ghost use Rattle.command_line.specs.Words.{Gives, GivesNothing};
 
 use crate::given::spelled_order;
 use crate::orders::{Order, WordFault};
+use clap::builder::ValueParser;
 use clap::error::ErrorKind;
-use clap::{Arg, ArgAction, Command, value_parser};
+use clap::{Arg, ArgAction, Command};
 use std::alloc::{AllocError, Global};
 
 /// What the words after the program's name ask for: a subcommand, a file, and numbers that have
@@ -13,35 +16,52 @@ use std::alloc::{AllocError, Global};
 pub fn order<'a>(alloc: Global, words: &'a [&'a str]) -> Result<Order<'a>, WordFault>
     ensures gives { IfOk result (λ order. Gives (texts words.now) order) }
     ensures refused { OnErr result (GivesNothing (texts words.now)) }
+
+    // Help is answered where it is asked for, and only there.
+    ensures help { IfErr result (AnswersHelp (texts words.now)) }
 {
     match spelled_order(words) {
         Some(order) => Ok(order),
-        None => Err(bad_words(alloc, words)?),
+        None => match bad_words(alloc, words) {
+            Ok(fault) => Err(fault),
+            Err(error) => Err(WordFault::OutOfMemory(error)),
+        },
     }
 }
 
 // What to say of words that give no order: help where it was asked for, and else what is wrong with them.
-fn bad_words<'a>(alloc: Global, words: &'a [&'a str]) -> Result<WordFault, AllocError> {
+fn bad_words<'a>(alloc: Global, words: &'a [&'a str]) -> Result<WordFault, AllocError>
+    ensures help { IfOk result (AnswersHelp (texts words.now)) }
+{
     let mut command = command_line(alloc)?;
-    let error = match command.try_get_matches_from_mut(words) {
-        Err(error) => error,
-        Ok(_) => command.error(ErrorKind::InvalidValue, UNUSUAL_WORDS)?,
-    };
-    Ok(word_fault(alloc, &error))
+    match command.try_get_matches_from_mut(words) {
+        Err(error) => Ok(word_fault(alloc, &error)),
+        Ok(_) => {
+            let error = command.error(ErrorKind::InvalidValue, UNUSUAL_WORDS)?;
+            Ok(word_fault(alloc, &error))
+        }
+    }
 }
 
 const UNUSUAL_WORDS: &str =
     "a number is written in digits alone, and a file whose name begins with '-' as ./-NAME";
 
-fn word_fault(alloc: Global, error: &clap::Error) -> WordFault {
+fn word_fault(alloc: Global, error: &clap::Error) -> WordFault
+    ensures { TellsKind (kind_of error.now) result }
+{
+    if matches!(error.kind(), ErrorKind::OutOfMemory) {
+        return WordFault::OutOfMemory(AllocError);
+    }
     match error.to_string(alloc) {
-        Ok(text) if error.use_stderr() => WordFault::BadWords(text),
-        Ok(text) => WordFault::Help(text),
+        Ok(text) if matches!(error.kind(), ErrorKind::DisplayHelp) => WordFault::Help(text),
+        Ok(text) => WordFault::BadWords(text),
         Err(error) => WordFault::OutOfMemory(error),
     }
 }
 
-fn command_line<'a>(alloc: Global) -> Result<Command<'a>, AllocError> {
+fn command_line<'a>(alloc: Global) -> Result<Command<'a>, AllocError>
+    ensures { IfOk result (λ command. app_of command ≡ wbl) }
+{
     let format = format_command(alloc)?;
     let run = run_command(alloc)?;
     let check = check_command(alloc)?;
@@ -60,16 +80,18 @@ fn command_line<'a>(alloc: Global) -> Result<Command<'a>, AllocError> {
     Ok(command)
 }
 
-fn format_command<'a>(alloc: Global) -> Result<Command<'a>, AllocError> {
-    let slots = number_option(alloc, "slots", "1024")
-        .value_parser(value_parser!(u64).range(1..=65_536))
-        .help("How many versions of rows there is room for, 1 to 65536");
-    let places = number_option(alloc, "places", "4")
-        .value_parser(value_parser!(u64).range(2..=64))
-        .help("How many places there are for commit records, 2 to 64");
-    let window = number_option(alloc, "window", "64")
-        .value_parser(value_parser!(u64).range(4..=1024))
-        .help("How many timestamps a commit record leaves for later commits, 4 to 1024");
+fn format_command<'a>(alloc: Global) -> Result<Command<'a>, AllocError>
+    ensures { IfOk result (λ command. shape_of command ≡ format_shape) }
+{
+    let slots = number_option(alloc, "slots", "1024", 1, 65_536).help(
+        "How many versions of rows there is room for, 1 to 65536",
+    );
+    let places = number_option(alloc, "places", "4", 2, 64).help(
+        "How many places there are for commit records, 2 to 64",
+    );
+    let window = number_option(alloc, "window", "64", 4, 1024).help(
+        "How many timestamps a commit record leaves for later commits, 4 to 1024",
+    );
     Command::new(alloc, "format")
         .about("Writes a new, empty image into FILE")
         .after_help(
@@ -81,7 +103,9 @@ fn format_command<'a>(alloc: Global) -> Result<Command<'a>, AllocError> {
         .arg(window)
 }
 
-fn run_command<'a>(alloc: Global) -> Result<Command<'a>, AllocError> {
+fn run_command<'a>(alloc: Global) -> Result<Command<'a>, AllocError>
+    ensures { IfOk result (λ command. shape_of command ≡ run_shape) }
+{
     Command::new(alloc, "run")
         .about("Opens the image in FILE and obeys the lines of standard input")
         .after_help(RUN_EXAMPLE)
@@ -98,7 +122,9 @@ const RUN_EXAMPLE: &str = "Example: wbl run db.img, with the lines
 puts the row 6162 under key 7 of table 1, and commits it. At the end of the input the image is
 closed and written back.";
 
-fn check_command<'a>(alloc: Global) -> Result<Command<'a>, AllocError> {
+fn check_command<'a>(alloc: Global) -> Result<Command<'a>, AllocError>
+    ensures { IfOk result (λ command. shape_of command ≡ check_shape) }
+{
     Command::new(alloc, "check")
         .about("Tests the image in FILE without opening it, and prints its rows")
         .after_help(
@@ -107,11 +133,10 @@ fn check_command<'a>(alloc: Global) -> Result<Command<'a>, AllocError> {
         .arg(file_argument(alloc))
 }
 
-fn lives_command<'a>(alloc: Global) -> Result<Command<'a>, AllocError> {
-    let script = Arg::new(alloc, "SCRIPT")
-        .required(true)
-        .action(ArgAction::Set)
-        .help("The file that holds the script");
+fn lives_command<'a>(alloc: Global) -> Result<Command<'a>, AllocError>
+    ensures { IfOk result (λ command. shape_of command ≡ lives_shape) }
+{
+    let script = name_argument(alloc, "SCRIPT", "The file that holds the script");
     Command::new(alloc, "lives")
         .about("Lives the lives of the script in SCRIPT, each stopped by a crash, and reports them")
         .after_help(LIVES_EXAMPLE)
@@ -132,16 +157,36 @@ const LIVES_EXAMPLE: &str = "Example: wbl lives two.script, with the lines
 formats a device. In the first life it fails after 90 operations, within the covering of the commit,
 and of each word the newest value that may have survived is kept. So the second life reads the row.";
 
-fn file_argument<'a>(alloc: Global) -> Arg<'a> {
-    Arg::new(alloc, "FILE")
-        .required(true)
-        .action(ArgAction::Set)
-        .help("The file that holds the image")
+fn file_argument<'a>(alloc: Global) -> Arg<'a>
+    ensures rule { rule_of result ≡ name_rule (codes "FILE") }
+    ensures global { result.global ≡ false }
+{
+    name_argument(alloc, "FILE", "The file that holds the image")
 }
 
-fn number_option<'a>(alloc: Global, name: &'a str, default: &'a str) -> Arg<'a> {
+fn name_argument<'a>(alloc: Global, id: &'a str, help: &'a str) -> Arg<'a>
+    ensures rule { rule_of result ≡ name_rule id.now }
+    ensures global { result.global ≡ false }
+{
+    Arg::new(alloc, id)
+        .required(true)
+        .action(ArgAction::Set)
+        .help(help)
+}
+
+fn number_option<'a>(
+    alloc: Global,
+    name: &'a str,
+    default: &'a str,
+    least: u64,
+    most: u64,
+) -> Arg<'a>
+    ensures rule { rule_of result ≡ number_rule name.now default.now least most }
+    ensures global { result.global ≡ false }
+{
     Arg::new(alloc, name)
         .long(name)
         .value_name("N")
         .default_value(default)
+        .value_parser(ValueParser::unsigned(least, most))
 }

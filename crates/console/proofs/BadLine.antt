@@ -1,6 +1,6 @@
 -- How a line that is no command is met, passed on and told.
 use Rattle.std.proofs.Common.{◌≡◌, ℕ, ◌+◌, ◌-◌, ◌^◌, false, List, [], ◌∷◌, ◌++◌, length, sym, ◌∙◌, ap, subst, append-nil}
-use Rattle.std.specs.Prelude.{Option, Some, None, is_some, option_map, option_and_then, Result, Ok, Err, IsErrAnd, IfErr, All, min, ⊤}
+use Rattle.std.specs.Prelude.{Option, Some, None, is_some, option_map, option_and_then, Result, Ok, Err, IsErrAnd, IfErr, IfSome, All, min, ⊤}
 use Rattle.std.specs.Io.KnownBytes.{Appends}
 use Rattle.base.specs.Commits.{Commit}
 use Rattle.base.specs.Machine.{State}
@@ -13,13 +13,14 @@ use Rattle.room.specs.declared.room.Room.{Room}
 use Rattle.command_line.specs.ImageFile.{HoldsWords}
 use Rattle.command_line.specs.Lines.{line_of}
 use Rattle.command_line.specs.Numbers.{Text}
+use Rattle.command_line.specs.Scripts.{IsWrongLine}
 use Rattle.command_line.specs.Texts.{text_of}
 use Rattle.command_line.specs.declared.command.Command.{Command}
 use Rattle.command_line.specs.declared.command.Survivor.{Survivor}
 use Rattle.command_line.specs.declared.orders.Order.{Order}
 use Rattle.command_line.specs.declared.orders.Order.TheVariants.{Format, Run, Check, Lives}
 use Rattle.command_line.specs.declared.printed.Printed.TheVariants as printed
-use Rattle.console.specs.BadLine.{BlamesNoLine, EndsAtBadLine, EndsAtLine, IfBadLine, IsBadLineAnd, IsPassed, MeetsBadLine, Tells, TellsLine, kept_by, kept_in}
+use Rattle.console.specs.BadLine.{BlamesNoLine, EndsAtBadLine, EndsAtLine, IfBadLine, IsLineOf, IsPassed, MeetsBadLine, Tells, TellsLine, kept_by, kept_in}
 use Rattle.console.specs.Input.{BeginsWith}
 use Rattle.console.specs.Kept.{Leads}
 use Rattle.console.specs.Lives.{opened_text}
@@ -95,17 +96,26 @@ ends-so file input old mid new number ended met told = record {
   each = met.each;
 }
 
-pub told-so : (order : Order) (stop : Stop) (file : List ℕ) (input old mid new : Option Text)
-    → IfBadLine (λ number. EndsAtLine order file input old mid number []) stop → IsBadLineAnd (Tells mid new) stop
-    → TellsLine order file input old new
-told-so order (Refused fault) file input old mid new met told = absurd told
-told-so order (Broken reason) file input old mid new met told = absurd told
-told-so (Format name slots places window) (NotACommand number) file input old mid new met told = absurd met
-told-so (Check name) (NotACommand number) file input old mid new met told = absurd met
-told-so (Run name) (NotACommand number) file input old mid new met told =
-    (number, ends-so file input old mid new number (text_of (printed.NotACommand number) ++ 10 ∷ []) met told)
-told-so (Lives name) (NotACommand number) file input old mid new met told =
-    (number, (met.0, appends-more old mid new [] (text_of (printed.NotACommand number) ++ 10 ∷ []) met.1 told))
+told-by : (order : Order) (stop : Stop) (file : List ℕ) (input old mid new : Option Text) (number : ℕ)
+    → IfBadLine (λ line. EndsAtLine order file input old mid line []) stop → IsLineOf stop number → Tells mid new number
+    → TellsLine order file input old new number
+told-by order (Refused fault) file input old mid new number met is told = absurd is
+told-by order (Broken reason) file input old mid new number met is told = absurd is
+told-by (Format name slots places window) (NotACommand line) file input old mid new number met is told = absurd met
+told-by (Check name) (NotACommand line) file input old mid new number met is told = absurd met
+told-by (Run name) (NotACommand line) file input old mid new number met is told =
+    ends-so file input old mid new number (text_of (printed.NotACommand number) ++ 10 ∷ []) (subst (λ (n : ℕ). EndsAtBadLine file input old mid n []) (sym is) met) told
+told-by (Lives name) (NotACommand line) file input old mid new number met is told =
+    (subst (λ (n : ℕ). IsWrongLine file n) (sym is) met.0, appends-more old mid new [] (text_of (printed.NotACommand number) ++ 10 ∷ []) met.1 told)
+
+pub told-so : (order : Order) (stop : Stop) (file : List ℕ) (input old mid new : Option Text) (stopped : Option Stop)
+    → IfBadLine (λ line. EndsAtLine order file input old mid line []) stop
+    → IfSome stopped (IfBadLine (λ number. IsLineOf stop number × Tells mid new number))
+    → IfSome stopped (IfBadLine (TellsLine order file input old new))
+told-so order stop file input old mid new None met told = tt
+told-so order stop file input old mid new (Some after) met told =
+    bad-line-by after (λ (number : ℕ). IsLineOf stop number × Tells mid new number) (TellsLine order file input old new)
+    (λ number t. told-by order stop file input old mid new number met t.0 t.1) told
 
 -- what is returned as it is
 pub at-line : {T : Type 0} (r : Result T Stop) (order actual : Order) (file : List ℕ) (input old new : Option Text) (P : ℕ → Type 0) → order ≡ actual

@@ -7,12 +7,13 @@ use Rattle.base.specs.declared.step.Step.TheVariants as step
 use Rattle.base.specs.declared.step.Reply.{Reply}
 use Rattle.base.specs.declared.step.Stage.{Stage}
 use Rattle.base.specs.Commits.{Writes}
+use Rattle.base.specs.Collecting.{is_at_slot, slot_visited, sweep_ended}
 use Rattle.base.specs.Machine.{State, Hand, Stepped, refused, answered, memory_refused, device_failed, next_state, next_stage, is_idle, writes_of, state_drawn, state_ticked, state_ticked_on}
 use Rattle.base.proofs.Growth.{extends-stepped}
 use Rattle.command_line.specs.Lines.{line_of}
 use Rattle.command_line.specs.Numbers.{Text}
 use Rattle.command_line.specs.declared.command.Command.{Command}
-use Rattle.command_line.specs.declared.command.Command.TheVariants.{Begin, Get, Scan, Put, Delete, Draw, Stamp, Poll, Abort, End, Commit as CommitTicks, Cycle, Crash}
+use Rattle.command_line.specs.declared.command.Command.TheVariants.{Begin, Get, Scan, Put, Delete, Draw, Stamp, Poll, Abort, End, Commit as CommitTicks, Collect as CollectVisits, Cycle, Crash}
 use Rattle.command_line.specs.declared.command.Survivor.{Survivor}
 use Rattle.console.specs.declared.lines.Outcome.{Outcome}
 use Rattle.console.specs.declared.lines.Outcome.TheVariants.{Replied, Crashed}
@@ -46,6 +47,10 @@ laid-ticked : (q : State) (o : Option Hand) → (state_ticked q o).layout ≡ q.
 laid-ticked q None = laid-idle q _ (is_idle q)
 laid-ticked q (Some hand) = laid-on q hand (next_stage q hand)
 
+laid-visited : (q : State) (b : Bool) → (if b then slot_visited q else sweep_ended q).layout ≡ q.layout
+laid-visited q true = refl
+laid-visited q false = refl
+
 laid-next : (q : State) (one : Step) → (next_state q one).layout ≡ q.layout
 laid-next q step.Begin = refl
 laid-next q (step.Get n key) = refl
@@ -58,6 +63,7 @@ laid-next q (step.Poll n) = refl
 laid-next q (step.Abort n) = refl
 laid-next q (step.End n) = refl
 laid-next q step.Commit = laid-ticked q q.hand
+laid-next q step.Collect = laid-visited q (is_at_slot q)
 
 laid-stepped : (q : State) (one : Step) (answer : Reply) (q' : State) → Stepped q one answer q' → q'.layout ≡ q.layout
 laid-stepped q one answer q' (refused fault is told same) = ap (λ (p : State). p.layout) same
@@ -68,10 +74,10 @@ laid-stepped q one answer q' (device_failed un operating told is) = ap (λ (p : 
 grows-stepped : (q : State) (one : Step) (answer : Reply) (q' : State) → Stepped q one answer q' → Grows q q'
 grows-stepped q one answer q' made = (extends-stepped q one answer q' made, laid-stepped q one answer q' made)
 
-grows-ticks : (goes_on : Reply → Bool) (more : ℕ) (q : State) (answer : Reply) (q' : State) → Ticks goes_on more q answer q' → Grows q q'
-grows-ticks goes_on zero q answer q' t = grows-stepped q step.Commit answer q' t
-grows-ticks goes_on (suc more) q answer q' (before, mid, earlier, goes, last) =
-    grows-trans q mid q' (grows-ticks goes_on more q before mid earlier) (grows-stepped mid step.Commit answer q' last)
+grows-ticks : (tick : Step) (goes_on : Reply → Bool) (more : ℕ) (q : State) (answer : Reply) (q' : State) → Ticks tick goes_on more q answer q' → Grows q q'
+grows-ticks tick goes_on zero q answer q' t = grows-stepped q tick answer q' t
+grows-ticks tick goes_on (suc more) q answer q' (before, mid, earlier, goes, last) =
+    grows-trans q mid q' (grows-ticks tick goes_on more q before mid earlier) (grows-stepped mid tick answer q' last)
 
 grows-puts : (q : State) (n : ℕ) (key : Key) (row : List ℕ) (answer : Reply) (q' : State) → Puts q n key row answer q' → Grows q q'
 grows-puts q n key row answer q' (inl (few, made)) = grows-stepped q (step.Put n key row) answer q' made
@@ -88,8 +94,9 @@ grows-answers q (Stamp n) answer q' s = grows-stepped q (step.Stamp n) answer q'
 grows-answers q (Poll n) answer q' s = grows-stepped q (step.Poll n) answer q' s
 grows-answers q (Abort n) answer q' s = grows-stepped q (step.Abort n) answer q' s
 grows-answers q (End n) answer q' s = grows-stepped q (step.End n) answer q' s
-grows-answers q (CommitTicks ticks) answer q' s = grows-ticks _ s.0 q answer q' s.1
-grows-answers q Cycle answer q' s = grows-ticks _ s.0 q answer q' s.1
+grows-answers q (CommitTicks ticks) answer q' s = grows-ticks step.Commit _ s.0 q answer q' s.1
+grows-answers q (CollectVisits visits) answer q' s = grows-ticks step.Collect _ s.0 q answer q' s.1
+grows-answers q Cycle answer q' s = grows-ticks step.Commit _ s.0 q answer q' s.1
 grows-answers q (Crash keeps) answer q' s = absurd s
 
 grows-comes : (q : State) (command : Command) (outcome : Outcome) (q' : State) → ComesTo q command outcome q' → Grows q q'

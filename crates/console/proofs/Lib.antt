@@ -3,6 +3,7 @@ mod Files
 mod Rows
 mod Grown
 mod Obeyed
+mod Repeating
 mod Lives
 mod Input
 mod Crash

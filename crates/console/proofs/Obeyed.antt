@@ -2,6 +2,7 @@
 use Rattle.std.proofs.Common.{◌≡◌, ℕ, ◌-◌, ◌≤◌, ◌^◌, suc, List, [], ◌∷◌, ◌++◌, ◌⊎◌, Bool, true, false, refl, sym, ◌∙◌, ap, subst, append_assoc, append-nil}
 use Rattle.std.specs.Prelude.{Option, Some, None, is_some}
 use Rattle.std.specs.Io.KnownBytes.{Appends}
+use Rattle.base.specs.declared.step.Step.{Step}
 use Rattle.base.specs.declared.step.Step.TheVariants as step
 use Rattle.base.specs.declared.step.Reply.{Reply}
 use Rattle.base.specs.Machine.{State, Stepped}
@@ -20,22 +21,22 @@ use Rattle.console.proofs.Kept.{leads-nowhere, leads-by, leads-trans}
 
 -- ---- ticks
 
-pub more-ticks : {D : Type 0} {G : Ghosts D} (state : D → Device) (old mid new : Room D G) (goes_on : Reply → Bool) (more : ℕ) (before answer : Reply) → goes_on before ≡ true
-    → Leads state old mid (λ q m. Ticks goes_on more q before m) → Leads state mid new (λ m q'. Stepped m step.Commit answer q')
-    → Leads state old new (λ q q'. Ticks goes_on (suc more) q answer q')
-more-ticks state old mid new goes_on more before answer goes earlier last =
-    leads-trans state old mid new (λ (q m : State). Ticks goes_on more q before m) (λ (m q' : State). Stepped m step.Commit answer q')
-    (λ (q q' : State). Ticks goes_on (suc more) q answer q') (λ q m q' a b. (before, m, a, goes, b)) earlier last
+pub more-ticks : {D : Type 0} {G : Ghosts D} (state : D → Device) (old mid new : Room D G) (tick : Step) (goes_on : Reply → Bool) (more : ℕ) (before answer : Reply) → goes_on before ≡ true
+    → Leads state old mid (λ q m. Ticks tick goes_on more q before m) → Leads state mid new (λ m q'. Stepped m tick answer q')
+    → Leads state old new (λ q q'. Ticks tick goes_on (suc more) q answer q')
+more-ticks state old mid new tick goes_on more before answer goes earlier last =
+    leads-trans state old mid new (λ (q m : State). Ticks tick goes_on more q before m) (λ (m q' : State). Stepped m tick answer q')
+    (λ (q q' : State). Ticks tick goes_on (suc more) q answer q') (λ q m q' a b. (before, m, a, goes, b)) earlier last
 
 pub commits-so : {D : Type 0} {G : Ghosts D} (state : D → Device) (old new : Room D G) (ticks more : ℕ) (answer : Reply) → more ≤ ticks - 1 → (more ≡ ticks - 1) ⊎ (is_busy answer ≡ false)
-    → Leads state old new (λ q q'. Ticks is_busy more q answer q') → Leads state old new (λ q q'. Commits q ticks answer q')
+    → Leads state old new (λ q q'. Ticks step.Commit is_busy more q answer q') → Leads state old new (λ q q'. Commits q ticks answer q')
 commits-so state old new ticks more answer few all made =
-    leads-by state old new (λ (q q' : State). Ticks is_busy more q answer q') (λ (q q' : State). Commits q ticks answer q') (λ q q' t. (more, t, few, all)) made
+    leads-by state old new (λ (q q' : State). Ticks step.Commit is_busy more q answer q') (λ (q q' : State). Commits q ticks answer q') (λ q q' t. (more, t, few, all)) made
 
 pub cycles-so : {D : Type 0} {G : Ghosts D} (state : D → Device) (old new : Room D G) (more : ℕ) (answer : Reply) → more ≤ 2 ^ 64 - 2 → (more ≡ 2 ^ 64 - 2) ⊎ (is_tick answer ≡ false)
-    → Leads state old new (λ q q'. Ticks is_tick more q answer q') → Leads state old new (λ q q'. Cycles q answer q')
+    → Leads state old new (λ q q'. Ticks step.Commit is_tick more q answer q') → Leads state old new (λ q q'. Cycles q answer q')
 cycles-so state old new more answer few all made =
-    leads-by state old new (λ (q q' : State). Ticks is_tick more q answer q') (λ (q q' : State). Cycles q answer q') (λ q q' t. (more, t, few, all)) made
+    leads-by state old new (λ (q q' : State). Ticks step.Commit is_tick more q answer q') (λ (q q' : State). Cycles q answer q') (λ q q' t. (more, t, few, all)) made
 
 -- ---- commands
 

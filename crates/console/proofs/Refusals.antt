@@ -98,12 +98,14 @@ refused-by order (Refused why) file input old mid new fault (inl memory) is line
 refused-by order (Refused why) file input old mid new fault (inr met) is line =
     inr (ends-said order file input old mid new fault (refusal_line fault) (subst (λ (f : Fault). EndsRefused order file input old mid f []) (sym is) met) line)
 
-pub refused-so : (order : Order) (stop : Stop) (file : List ℕ) (input old mid new : Option Text) (refused : Option Fault)
+pub refused-so : (order : Order) (stop : Stop) (file : List ℕ) (input old mid new : Option Text) (stopped : Option Stop)
     → IfRefused (λ why. (why ≡ OutOfMemory) ⊎ EndsRefused order file input old mid why []) stop
-    → IfSome refused (λ fault. IsFaultOf stop fault × Appends mid new (refusal_line fault))
-    → IfSome refused (Refuses order file input old new)
+    → IfSome stopped (IfRefused (λ fault. IsFaultOf stop fault × Appends mid new (refusal_line fault)))
+    → IfSome stopped (IfRefused (Refuses order file input old new))
 refused-so order stop file input old mid new None met told = tt
-refused-so order stop file input old mid new (Some fault) met told = refused-by order stop file input old mid new fault met told.0 told.1
+refused-so order stop file input old mid new (Some after) met told =
+    fault-by after (λ (fault : Fault). IsFaultOf stop fault × Appends mid new (refusal_line fault)) (Refuses order file input old new)
+    (λ fault t. refused-by order stop file input old mid new fault met t.0 t.1) told
 
 -- ---- the faults
 

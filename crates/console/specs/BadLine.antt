@@ -89,9 +89,9 @@ EndsAtLine (Run name) file input old new number ended = EndsAtBadLine file input
 EndsAtLine (Check name) file input old new number ended = ⊥
 EndsAtLine (Lives name) file input old new number ended = IsWrongLine file number × Appends old new ended
 
--- a line is to blame, and what is printed at the end is that it is no command
-abbrev pub TellsLine : Order → List ℕ → Option Text → Option Text → Option Text → Type 0
-TellsLine order file input old new = (number : ℕ) × EndsAtLine order file input old new number (text_of (printed.NotACommand number) ++ 10 ∷ [])
+-- the line of this number is to blame, and what is printed at the end is that it is no command
+abbrev pub TellsLine : Order → List ℕ → Option Text → Option Text → Option Text → ℕ → Type 0
+TellsLine order file input old new number = EndsAtLine order file input old new number (text_of (printed.NotACommand number) ++ 10 ∷ [])
 
 -- ---- why a subcommand ended
 
@@ -101,11 +101,11 @@ IfBadLine P (NotACommand number) = P number
 IfBadLine P (Refused fault) = ⊤
 IfBadLine P (Broken reason) = ⊤
 
--- a line is to blame, and this of its number
-abbrev pub IsBadLineAnd : (ℕ → Type 0) → Stop → Type 0
-IsBadLineAnd P (NotACommand number) = P number
-IsBadLineAnd P (Refused fault) = ⊥
-IsBadLineAnd P (Broken reason) = ⊥
+-- this is the number of the line that is to blame
+abbrev pub IsLineOf : Stop → ℕ → Type 0
+IsLineOf (NotACommand line) number = number ≡ line
+IsLineOf (Refused fault) number = ⊥
+IsLineOf (Broken reason) number = ⊥
 
 -- no line is to blame
 abbrev pub BlamesNoLine : Stop → Type 0

@@ -1,5 +1,6 @@
 pub mod Kept
 pub mod Obeyed
+pub mod Rounds
 pub mod Lives
 pub mod Input
 pub mod Crash

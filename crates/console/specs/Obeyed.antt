@@ -2,6 +2,7 @@
 use Rattle.std.specs.Prelude.{suc, zero, ◌≡◌, ◌⊎◌, ℕ, ◌-◌, ◌^◌, ◌<◌, ◌≤◌, Bool, true, false, List, [], ◌∷◌, ◌++◌, length, codes, decimal, Option, Some, None}
 use Rattle.base.specs.declared.key.Key.{Key}
 use Rattle.base.specs.declared.fault.Fault.TheVariants.{TooLong}
+use Rattle.base.specs.declared.step.Step.{Step}
 use Rattle.base.specs.declared.step.Step.TheVariants as step
 use Rattle.base.specs.declared.step.Reply.{Reply}
 use Rattle.base.specs.declared.step.Reply.TheVariants as reply
@@ -11,18 +12,18 @@ use Rattle.command_line.specs.Numbers.{Text}
 use Rattle.command_line.specs.Rows.{row_text}
 use Rattle.command_line.specs.Texts.{refused_text, rows_text}
 use Rattle.command_line.specs.declared.command.Command.{Command}
-use Rattle.command_line.specs.declared.command.Command.TheVariants.{Begin, Get, Scan, Put, Delete, Draw, Stamp, Poll, Abort, End, Commit, Cycle, Crash}
+use Rattle.command_line.specs.declared.command.Command.TheVariants.{Begin, Get, Scan, Put, Delete, Draw, Stamp, Poll, Abort, End, Commit, Collect, Cycle, Crash}
 use Rattle.command_line.specs.declared.command.Survivor.{Survivor}
 use Rattle.console.specs.declared.lines.Outcome.{Outcome}
 use Rattle.console.specs.declared.lines.Outcome.TheVariants.{Replied, Crashed}
 
 -- ---- commands
 
--- a tick of the committer and so many more, each after a reply that lets it go on; the last reply, and the state then
-abbrev pub Ticks : (Reply → Bool) → ℕ → State → Reply → State → Type 0
-Ticks goes_on zero q answer q' = Stepped q step.Commit answer q'
-Ticks goes_on (suc more) q answer q' =
-    (before : Reply) × (mid : State) × Ticks goes_on more q before mid × (goes_on before ≡ true) × Stepped mid step.Commit answer q'
+-- this step and so many more, each after a reply that lets it go on; the last reply, and the state then
+abbrev pub Ticks : Step → (Reply → Bool) → ℕ → State → Reply → State → Type 0
+Ticks tick goes_on zero q answer q' = Stepped q tick answer q'
+Ticks tick goes_on (suc more) q answer q' =
+    (before : Reply) × (mid : State) × Ticks tick goes_on more q before mid × (goes_on before ≡ true) × Stepped mid tick answer q'
 
 -- there may be more to do: the reply is no refusal, and not that nothing is left
 abbrev pub is_busy : Reply → Bool
@@ -38,12 +39,22 @@ is_tick _ = false
 -- `commit`: as many ticks as asked for, or up to the first after which there is nothing to do
 abbrev pub Commits : State → ℕ → Reply → State → Type 0
 Commits q ticks answer q' =
-    (more : ℕ) × Ticks is_busy more q answer q' × (more ≤ ticks - 1) × ((more ≡ ticks - 1) ⊎ (is_busy answer ≡ false))
+    (more : ℕ) × Ticks step.Commit is_busy more q answer q' × (more ≤ ticks - 1) × ((more ≡ ticks - 1) ⊎ (is_busy answer ≡ false))
 
 -- `cycle`: ticks up to the first that leaves no cycle under way, or to the greatest number of ticks
 abbrev pub Cycles : State → Reply → State → Type 0
 Cycles q answer q' =
-    (more : ℕ) × Ticks is_tick more q answer q' × (more ≤ 2 ^ 64 - 2) × ((more ≡ 2 ^ 64 - 2) ⊎ (is_tick answer ≡ false))
+    (more : ℕ) × Ticks step.Commit is_tick more q answer q' × (more ≤ 2 ^ 64 - 2) × ((more ≡ 2 ^ 64 - 2) ⊎ (is_tick answer ≡ false))
+
+-- the reply is no refusal
+abbrev pub is_answered : Reply → Bool
+is_answered (reply.Refused fault) = false
+is_answered _ = true
+
+-- `collect`: as many visits as asked for, or up to the first that is refused
+abbrev pub Collects : State → ℕ → Reply → State → Type 0
+Collects q visits answer q' =
+    (more : ℕ) × Ticks step.Collect is_answered more q answer q' × (more ≤ visits - 1) × ((more ≡ visits - 1) ⊎ (is_answered answer ≡ false))
 
 -- `put`: a row that is too long is refused before anything else is
 abbrev pub Puts : State → ℕ → Key → List ℕ → Reply → State → Type 0
@@ -64,6 +75,7 @@ Answers q (Poll n) answer q' = Stepped q (step.Poll n) answer q'
 Answers q (Abort n) answer q' = Stepped q (step.Abort n) answer q'
 Answers q (End n) answer q' = Stepped q (step.End n) answer q'
 Answers q (Commit ticks) answer q' = Commits q ticks answer q'
+Answers q (Collect visits) answer q' = Collects q visits answer q'
 Answers q Cycle answer q' = Cycles q answer q'
 Answers q (Crash keeps) answer q' = ⊥
 
@@ -89,6 +101,8 @@ reply_text (reply.Committed timestamp) = codes "committed " ++ decimal timestamp
 reply_text reply.Idle = codes "idle"
 reply_text (reply.Ticked stage) = codes "tick"
 reply_text (reply.Covered batch) = codes "covered " ++ decimal batch.stamp
+reply_text (reply.Visited slot) = codes "slot " ++ decimal slot
+reply_text reply.SweepEnd = codes "sweep end"
 reply_text (reply.Refused fault) = refused_text fault
 
 -- the line of a command's reply, and what a crash keeps

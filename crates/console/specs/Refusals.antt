@@ -96,3 +96,10 @@ abbrev pub IsFaultOf : Stop → Fault → Type 0
 IsFaultOf (Refused reason) fault = fault ≡ reason
 IsFaultOf (NotACommand number) fault = ⊥
 IsFaultOf (Broken reason) fault = fault ≡ OutOfMemory
+
+-- the exit status: 0 where the work was done, 2 where a line is no command, 1 where a refusal, the input or the output ended it
+abbrev pub status_of : Option Stop → ℕ
+status_of None = 0
+status_of (Some (NotACommand number)) = 2
+status_of (Some (Refused fault)) = 1
+status_of (Some (Broken reason)) = 1

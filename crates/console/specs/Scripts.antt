@@ -14,7 +14,7 @@ use Rattle.command_line.specs.Numbers.{Text}
 use Rattle.command_line.specs.Scripts.{SpellsScript}
 use Rattle.command_line.specs.Texts.{closed_line, opened_line, refused_text}
 use Rattle.command_line.specs.declared.command.Command.{Command}
-use Rattle.command_line.specs.declared.command.Command.TheVariants.{Begin, Get, Scan, Put, Delete, Draw, Stamp, Poll, Abort, End, Commit, Cycle, Crash}
+use Rattle.command_line.specs.declared.command.Command.TheVariants.{Begin, Get, Scan, Put, Delete, Draw, Stamp, Poll, Abort, End, Commit, Collect, Cycle, Crash}
 use Rattle.command_line.specs.declared.script.ScriptFault.{ScriptFault}
 use Rattle.command_line.specs.declared.script.ScriptFault.TheVariants as script
 use Rattle.command_line.specs.declared.script.ScriptLife.{ScriptLife}
@@ -25,6 +25,7 @@ use Rattle.lives.specs.declared.life.Numbers.{Numbers}
 use Rattle.lives.specs.declared.life.Opened.{Opened}
 use Rattle.console.specs.Crash.{choice_of}
 use Rattle.console.specs.Obeyed.{reply_text}
+use Rattle.console.specs.Rounds.{visits_needed}
 use Rattle.console.specs.declared.stop.Stop.{Stop}
 use Rattle.console.specs.declared.stop.Stop.TheVariants.{Refused, NotACommand}
 
@@ -50,10 +51,12 @@ step_of (Abort n) = Some (step.Abort n)
 step_of (End n) = Some (step.End n)
 step_of _ = None
 
--- the steps of a command: of `commit` as many ticks as it asks for
-abbrev pub steps_of : Command → List Step
-steps_of (Commit ticks) = replicate ticks step.Commit
-steps_of command = option_to_list (step_of command)
+-- the steps of a command in a life on an image of this layout: of `commit` as many ticks as it asks for, and of `collect` as many visits
+-- as its visits come to
+abbrev pub steps_of : Layout → Command → List Step
+steps_of layout (Commit ticks) = replicate ticks step.Commit
+steps_of layout (Collect visits) = replicate (visits_needed layout visits) step.Collect
+steps_of layout command = option_to_list (step_of command)
 
 -- what is asked of a life: its steps, a close, a fuse, and which survivors its stop leaves
 pub record Wish : Type 0 where
@@ -62,9 +65,9 @@ pub record Wish : Type 0 where
   pub fuse : Option ℕ
   pub choice : Choice
 
--- what a script asks of a life
-abbrev pub asked_by : ScriptLife → Wish
-asked_by life = record { steps = flat_map steps_of life.commands.items; closes = life.closes; fuse = life.fuse; choice = choice_of life.keeps }
+-- what a script asks of a life on an image of this layout
+abbrev pub asked_by : Layout → ScriptLife → Wish
+asked_by layout life = record { steps = flat_map (steps_of layout) life.commands.items; closes = life.closes; fuse = life.fuse; choice = choice_of life.keeps }
 
 abbrev pub asked_of : Life → Wish
 asked_of life = record { steps = life.steps.items; closes = life.close; fuse = life.fuse; choice = life.choice }
@@ -91,12 +94,12 @@ is_failed_by (Some reply) = is_failure reply
 abbrev pub has_failed : List Reply → Bool
 has_failed replies = is_failed_by (last_of replies)
 
--- a line for each command, up to the first in which the device failed
-abbrev pub replies_text : List Command → List Reply → Text
-replies_text [] replies = []
-replies_text (command ∷ commands) replies =
-    let own = take (length (steps_of command)) replies in
-    (answer_text own ++ 10 ∷ []) ++ (if has_failed own then [] else replies_text commands (drop (length (steps_of command)) replies))
+-- of a life on an image of this layout, a line for each command, up to the first in which the device failed
+abbrev pub replies_text : Layout → List Command → List Reply → Text
+replies_text layout [] replies = []
+replies_text layout (command ∷ commands) replies =
+    let own = take (length (steps_of layout command)) replies in
+    (answer_text own ++ 10 ∷ []) ++ (if has_failed own then [] else replies_text layout commands (drop (length (steps_of layout command)) replies))
 
 -- the line of an opening
 abbrev pub opened_text : Opened → Text
@@ -109,37 +112,37 @@ closed_text (Some (Ok numbers)) = closed_line numbers.gate numbers.persisted num
 closed_text (Some (Err fault)) = refused_text fault ++ 10 ∷ []
 
 -- what a life prints that was opened
-abbrev pub lived_text : Opened → List Command → LifeReport → Text
-lived_text opened commands report = ((opened_text opened ++ 10 ∷ []) ++ replies_text commands report.replies.items) ++ closed_text report.closed
+abbrev pub lived_text : Layout → Opened → List Command → LifeReport → Text
+lived_text layout opened commands report = ((opened_text opened ++ 10 ∷ []) ++ replies_text layout commands report.replies.items) ++ closed_text report.closed
 
 -- what a life whose opening came to this prints
-abbrev pub opening_text : Result Opened Fault → List Command → LifeReport → Text
-opening_text (Ok opened) commands report = lived_text opened commands report
-opening_text (Err fault) commands report = refused_text fault ++ 10 ∷ []
+abbrev pub opening_text : Layout → Result Opened Fault → List Command → LifeReport → Text
+opening_text layout (Ok opened) commands report = lived_text layout opened commands report
+opening_text layout (Err fault) commands report = refused_text fault ++ 10 ∷ []
 
 -- the lines of a report
-abbrev pub report_text : ScriptLife → LifeReport → Text
-report_text life report = opening_text report.opening life.commands.items report
+abbrev pub report_text : Layout → ScriptLife → LifeReport → Text
+report_text layout life report = opening_text layout report.opening life.commands.items report
 
 -- the lines of a life of this number
-abbrev pub life_text : ℕ → ScriptLife → LifeReport → Text
-life_text number life report =
-    (((codes "life " ++ decimal number) ++ 10 ∷ []) ++ report_text life report) ++ (codes "stopped" ++ 10 ∷ [])
+abbrev pub life_text : Layout → ℕ → ScriptLife → LifeReport → Text
+life_text layout number life report =
+    (((codes "life " ++ decimal number) ++ 10 ∷ []) ++ report_text layout life report) ++ (codes "stopped" ++ 10 ∷ [])
 
 -- the lines of lives, the first of which has this number
-abbrev pub lives_text : ℕ → List ScriptLife → List LifeReport → Text
-lives_text number [] reports = []
-lives_text number (life ∷ lives) [] = []
-lives_text number (life ∷ lives) (report ∷ reports) = life_text number life report ++ lives_text (number + 1) lives reports
+abbrev pub lives_text : Layout → ℕ → List ScriptLife → List LifeReport → Text
+lives_text layout number [] reports = []
+lives_text layout number (life ∷ lives) [] = []
+lives_text layout number (life ∷ lives) (report ∷ reports) = life_text layout number life report ++ lives_text layout (number + 1) lives reports
 
 -- the lives are lived one over another from a fresh image on, asked as the script asks, and exactly the lines of their reports are
 -- printed
 pub record PrintsReports (layout : Layout) (script : List ScriptLife) (old new : Option Text) : Type 0 where
   pub lives : List Life
-  pub asked : map asked_of lives ≡ map asked_by script
+  pub asked : map asked_of lives ≡ map (asked_by layout) script
   pub reports : List LifeReport
   pub lived : AreLives layout lives reports
-  pub prints : Appends old new (lives_text 1 script reports)
+  pub prints : Appends old new (lives_text layout 1 script reports)
 
 -- the text spells lives, and so they are lived and printed
 pub record PrintsLives (text : Text) (old new : Option Text) : Type 0 where

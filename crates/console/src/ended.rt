@@ -1,4 +1,4 @@
-use base::fault::Fault;
+use crate::stop::Stop;
 
 /// How a subcommand ended.
 #[derive(Drop)]
@@ -7,7 +7,7 @@ pub struct Ended {
     pub status: u8,
     /// What FILE is to hold, or `None` where it stays as it was.
     pub file: Option<Vec<u8>>,
-    /// The refusal that ended it, whose line was printed last. `None` where the work was done, where
-    /// a line is no command, and where the input or the output failed: then less may be printed.
-    pub refused: Option<Fault>,
+    /// Why it ended before its work was done, or `None` where the work was done. The line of a refusal, or of a line that
+    /// is no command, was printed last; where the input or the output failed, less may be printed.
+    pub stopped: Option<Stop>,
 }

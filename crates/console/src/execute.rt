@@ -1,14 +1,14 @@
-ghost use Rattle.std.specs.Prelude.{◌≡◌, ◌⊎◌, ◌≤◌, ◌↔◌, ◌++◌, ◌∷◌, [], codes, decimal, IfErr, IfOk, IfSome, IsSome, IsTrue, None, OnOk, is_some};
+ghost use Rattle.std.specs.Prelude.{◌≡◌, ◌⊎◌, ◌≤◌, ◌↔◌, ◌++◌, ◌∷◌, [], codes, decimal, IfErr, IfOk, IfSome, IsSome, IsTrue, None, OnOk, Some, is_some};
 ghost use Rattle.std.specs.Io.KnownBytes.{Appends};
 ghost use Rattle.base.specs.Layout.{total_words};
 ghost use Rattle.command_line.specs.ImageFile.{IsFileOf};
 ghost use Rattle.base.specs.Fresh.{fresh_image};
-ghost use Rattle.console.specs.BadLine.{BlamesNoLine, EndsAtLine, IfBadLine, IsBadLineAnd, Tells, TellsLine};
+ghost use Rattle.console.specs.BadLine.{BlamesNoLine, EndsAtLine, IfBadLine, IsLineOf, Tells, TellsLine};
 ghost use Rattle.console.specs.Checked.{PrintsChecked};
 ghost use Rattle.console.specs.Kept.{IfCheck, IfLives, Leaves, writes_file};
 ghost use Rattle.console.specs.Lives.{Prints};
 ghost use Rattle.console.specs.Scripts.{PrintsLives};
-ghost use Rattle.console.specs.Refusals.{EndsRefused, IfRefused, IsFaultOf, Refuses, refusal_line};
+ghost use Rattle.console.specs.Refusals.{EndsRefused, IfRefused, IsFaultOf, Refuses, refusal_line, status_of};
 ghost use Rattle.base.specs.declared.fault.Fault.TheVariants.{Device as DeviceFault, OutOfMemory};
 
 use crate::checking::check_file;
@@ -25,12 +25,6 @@ use std::alloc::Global;
 use std::io::{ErrorKind, Read, Write};
 use std::thread::Threads;
 
-/// The exit status of a refusal, and of an input or an output that fails.
-const REFUSED: u8 = 1;
-
-/// The exit status of a line that is no command.
-const BAD_LINE: u8 = 2;
-
 /// Does the work of a subcommand. `file` is what FILE holds, or SCRIPT, and nothing for `format`.
 pub fn execute<T: Threads + Sync, R: Read, W: Write>(
     rt: &T,
@@ -40,7 +34,8 @@ pub fn execute<T: Threads + Sync, R: Read, W: Write>(
     input: &mut R,
     output: &mut W,
 ) -> Ended
-    ensures status { result.status ≤ 2 }
+    // Any status but 0 says why: which fault, which line, or how the input or the output failed.
+    ensures status { result.status ≡ status_of result.stopped }
 
     // There is something for FILE exactly where the status is 0, but for a check and for lives.
     ensures written { IsSome result.file ↔ ((result.status ≡ 0) × IsTrue (writes_file order.now)) }
@@ -48,17 +43,16 @@ pub fn execute<T: Threads + Sync, R: Read, W: Write>(
     ensures printed { IfSome result.file (λ left. Prints order.now file.now (R.remaining input.old) (W.contents output.old) (W.contents output.new) left.items) }
     ensures checked { result.status ≡ 0 → IfCheck order.now (PrintsChecked file.now (W.contents output.old) (W.contents output.new)) }
     ensures lived { result.status ≡ 0 → IfLives order.now (PrintsLives file.now (W.contents output.old) (W.contents output.new)) }
-    ensures bad_line { result.status ≡ 2 → TellsLine order.now file.now (R.remaining input.old) (W.contents output.old) (W.contents output.new) }
 
-    // A refusal ends with status 1, and exactly its line is printed after what was printed before it.
-    ensures refusal { IfSome result.refused (λ fault. result.status ≡ 1) }
-    ensures refused { IfSome result.refused (Refuses order.now file.now (R.remaining input.old) (W.contents output.old) (W.contents output.new)) }
+    // Exactly the line of the refusal, or of the bad line, is printed after what was printed before it.
+    ensures bad_line { IfSome result.stopped (IfBadLine (TellsLine order.now file.now (R.remaining input.old) (W.contents output.old) (W.contents output.new))) }
+    ensures refused { IfSome result.stopped (IfRefused (Refuses order.now file.now (R.remaining input.old) (W.contents output.old) (W.contents output.new))) }
 {
     match obey(rt, alloc, order, file, input, output) {
         Ok(file) => Ended {
             status: 0,
             file,
-            refused: None,
+            stopped: None,
         },
         Err(stop) => tell(alloc, &stop, output),
     }
@@ -130,52 +124,59 @@ fn format<W: Write>(alloc: Global, geometry: Geometry, output: &mut W) -> Result
 // Prints why the work ended early.
 fn tell<W: Write>(alloc: Global, stop: &Stop, output: &mut W) -> Ended
     ensures some { 1 ≤ result.status }
-    ensures limit { result.status ≤ 2 }
+    ensures status { result.status ≡ status_of result.stopped }
     ensures none { result.file ≡ None }
-    ensures bad_line { result.status ≡ 2 → IsBadLineAnd (Tells (W.contents output.old) (W.contents output.new)) stop.now }
-    ensures refusal { IfSome result.refused (λ fault. result.status ≡ 1) }
-    ensures refused { IfSome result.refused (λ fault. IsFaultOf stop.now fault × Appends (W.contents output.old) (W.contents output.new) (refusal_line fault)) }
+    ensures bad_line { IfSome result.stopped (IfBadLine (λ number. IsLineOf stop.now number × Tells (W.contents output.old) (W.contents output.new) number)) }
+    ensures refused { IfSome result.stopped (IfRefused (λ fault. IsFaultOf stop.now fault × Appends (W.contents output.old) (W.contents output.new) (refusal_line fault))) }
+{
+    let told = announce(alloc, stop, output);
+    Ended {
+        status: status_of(&told),
+        file: None,
+        stopped: Some(told),
+    }
+}
+
+// Prints the line of a refusal, or of what is no command. Where that fails, the failure is what ended the work.
+fn announce<W: Write>(alloc: Global, stop: &Stop, output: &mut W) -> Stop
+    ensures bad_line { IfBadLine (λ number. IsLineOf stop.now number × Tells (W.contents output.old) (W.contents output.new) number) result }
+    ensures refused { IfRefused (λ fault. IsFaultOf stop.now fault × Appends (W.contents output.old) (W.contents output.new) (refusal_line fault)) result }
 {
     match *stop {
         Stop::Refused(fault) => refuse(alloc, fault, output),
         Stop::NotACommand(line) => blame(alloc, line, output),
         Stop::Broken(ErrorKind::OutOfMemory) => refuse(alloc, Fault::OutOfMemory, output),
-        Stop::Broken(_) => early(REFUSED, None),
+        Stop::Broken(reason) => Stop::Broken(reason),
     }
 }
 
-fn refuse<W: Write>(alloc: Global, fault: Fault, output: &mut W) -> Ended
-    ensures status { result.status ≡ 1 }
-    ensures none { result.file ≡ None }
-    ensures refused { IfSome result.refused (λ told. (told ≡ fault) × Appends (W.contents output.old) (W.contents output.new) (refusal_line fault)) }
+fn refuse<W: Write>(alloc: Global, fault: Fault, output: &mut W) -> Stop
+    ensures refused { IfRefused (λ told. (told ≡ fault) × Appends (W.contents output.old) (W.contents output.new) (refusal_line fault)) result }
+    ensures blames { BlamesNoLine result }
 {
     match print(alloc, output, &Printed::Refused(fault)) {
-        Ok(()) => early(REFUSED, Some(fault)),
-        Err(_) => early(REFUSED, None),
+        Ok(()) => Stop::Refused(fault),
+        Err(error) => Stop::Broken(error.kind()),
     }
 }
 
 // Names the line that is no command.
-fn blame<W: Write>(alloc: Global, line: u64, output: &mut W) -> Ended
-    ensures some { 1 ≤ result.status }
-    ensures limit { result.status ≤ 2 }
-    ensures none { result.file ≡ None }
-    ensures refused { result.refused ≡ None }
-    ensures bad_line { result.status ≡ 2 → Tells (W.contents output.old) (W.contents output.new) line }
+fn blame<W: Write>(alloc: Global, line: u64, output: &mut W) -> Stop
+    ensures bad_line { IfBadLine (λ told. (told ≡ line) × Tells (W.contents output.old) (W.contents output.new) line) result }
+    ensures refused { IfRefused (λ fault. ⊥) result }
 {
     match print(alloc, output, &Printed::NotACommand { line }) {
-        Ok(()) => early(BAD_LINE, None),
-        Err(_) => early(REFUSED, None),
+        Ok(()) => Stop::NotACommand(line),
+        Err(error) => Stop::Broken(error.kind()),
     }
 }
 
-// What ends with FILE as it was.
-fn early(status: u8, refused: Option<Fault>) -> Ended
-    ensures { result ≡ record { status = status; file = None; refused = refused } }
+// The exit status where this ended the work.
+fn status_of(stop: &Stop) -> u8
+    ensures { result ≡ status_of (Some stop.now) }
 {
-    Ended {
-        status,
-        file: None,
-        refused,
+    match stop {
+        Stop::Refused(_) | Stop::Broken(_) => 1,
+        Stop::NotACommand(_) => 2,
     }
 }

@@ -9,6 +9,7 @@ pub mod format;
 pub mod law;
 mod lines;
 mod replies;
+mod rounds;
 mod run;
 mod script;
-mod stop;
+pub mod stop;

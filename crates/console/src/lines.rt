@@ -7,9 +7,10 @@ ghost use Rattle.console.specs.BadLine.{BlamesNoLine, IfBadLine, MeetsBadLine, k
 ghost use Rattle.console.specs.Input.{Reads};
 ghost use Rattle.console.specs.Kept.{Leads};
 ghost use Rattle.console.specs.Refusals.{WantsMemory};
-ghost use Rattle.console.specs.Obeyed.{Puts, Commits, Cycles, ComesTo, Obeys, ObeysLine, ObeysLines, is_busy, is_tick, reply_text};
+ghost use Rattle.console.specs.Obeyed.{Puts, Commits, Collects, Cycles, ComesTo, Obeys, ObeysLine, ObeysLines, is_answered, is_busy, is_tick, reply_text};
 
 use crate::replies::show;
+use crate::rounds::visits_needed;
 use crate::stop::Stop;
 use base::fault::Fault;
 use base::key::Key;
@@ -172,6 +173,7 @@ fn perform<D: Pmem + Drop>(room: &mut Room<D>, command: &Command) -> Outcome
             Outcome::Replied(step(room, Step::End { session: *session }))
         }
         Command::Commit { ticks } => Outcome::Replied(tick(room, *ticks)),
+        Command::Collect { visits } => Outcome::Replied(collect(room, *visits)),
         Command::Cycle => Outcome::Replied(cycle(room)),
         Command::Crash { keeps } => Outcome::Crashed(*keeps),
     }
@@ -202,6 +204,22 @@ fn tick<D: Pmem + Drop>(room: &mut Room<D>, ticks: u64) -> Reply
     reply
 }
 
+// Lets the collector visit as many places, and answers the last reply. It stops at a refusal. After a round of all places
+// further ones change nothing, so that they are counted and not made.
+fn collect<D: Pmem + Drop>(room: &mut Room<D>, visits: u64) -> Reply
+    ensures { Leads D.state room.old room.new (λ q q'. Collects q visits result q') }
+{
+    let needed = visits_needed(room.geometry(), visits);
+    let mut reply = step(room, Step::Collect);
+    for _ in 1..needed {
+        if !is_answered(&reply) {
+            break;
+        }
+        reply = step(room, Step::Collect);
+    }
+    reply
+}
+
 // Ticks the committer until it has covered a batch, has nothing to do, or is refused.
 fn cycle<D: Pmem + Drop>(room: &mut Room<D>) -> Reply
     ensures { Leads D.state room.old room.new (λ q q'. Cycles q result q') }
@@ -224,6 +242,12 @@ fn is_busy(reply: &Reply) -> bool
         Reply::Idle | Reply::Refused(_) => false,
         _ => true,
     }
+}
+
+fn is_answered(reply: &Reply) -> bool
+    ensures { result ≡ is_answered reply.now }
+{
+    !matches!(reply, Reply::Refused(_))
 }
 
 // Is a cycle under way after this reply?

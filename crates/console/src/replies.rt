@@ -33,6 +33,8 @@ fn printed<'a>(reply: &'a Reply) -> Printed<'a>
         Reply::Idle => Printed::Idle,
         Reply::Ticked(_) => Printed::Tick,
         Reply::Covered(batch) => Printed::Covered(batch.stamp()),
+        Reply::Visited(slot) => Printed::Visited(*slot),
+        Reply::SweepEnd => Printed::SweepEnd,
         Reply::Refused(fault) => Printed::Refused(*fault),
     }
 }

@@ -7,11 +7,12 @@ ghost use Rattle.console.specs.BadLine.{BlamesNoLine, IfBadLine};
 ghost use Rattle.console.specs.Refusals.{IfRefused, WantsMemory};
 ghost use Rattle.console.specs.Scripts.{PrintsLives, PrintsReports, answer_text, asked_by, asked_of, closed_text, has_failed, life_text, lived_text, lives_text, opened_text, replies_text, report_text, step_of, steps_of, stop_of};
 ghost use Rattle.console.specs.Crash.{choice_of};
-ghost use Rattle.base.specs.declared.step.Step.TheVariants as step;
 
 use crate::replies::show;
+use crate::rounds::visits_needed;
 use crate::stop::Stop;
 use base::fault::Fault;
+use base::geometry::Geometry;
 use base::row::Row;
 use base::step::{Reply, Step};
 use command_line::command::{Command, Survivor};
@@ -67,29 +68,40 @@ fn live<T: Threads + Sync, W: Write>(
     ensures blames { IfErr result BlamesNoLine }
     ensures memory { IfErr result WantsMemory }
 {
-    let lives = asked_lives(alloc, script.lives.as_slice())?;
+    let geometry = script.geometry;
+    let lives = asked_lives(alloc, geometry, script.lives.as_slice())?;
     let reports = run_lives(rt, alloc, script.geometry, lives.as_slice())?;
-    print_lives(alloc, script.lives.as_slice(), reports.as_slice(), output)?;
+    print_lives(
+        alloc,
+        geometry,
+        script.lives.as_slice(),
+        reports.as_slice(),
+        output,
+    )?;
     Ok(())
 }
 
 // What is asked of the lives.
-fn asked_lives(alloc: Global, lives: &[ScriptLife]) -> Result<Vec<Life>, AllocError>
-    ensures { IfOk result (λ asked. map asked_of asked.items ≡ map asked_by lives.now) }
+fn asked_lives(
+    alloc: Global,
+    geometry: Geometry,
+    lives: &[ScriptLife],
+) -> Result<Vec<Life>, AllocError>
+    ensures { IfOk result (λ asked. map asked_of asked.items ≡ map (asked_by geometry) lives.now) }
 {
     let mut asked = Vec::new(alloc);
     for life in lives {
-        asked.push(asked_life(alloc, life)?)?;
+        asked.push(asked_life(alloc, geometry, life)?)?;
     }
     Ok(asked)
 }
 
-fn asked_life(alloc: Global, life: &ScriptLife) -> Result<Life, AllocError>
-    ensures { IfOk result (λ asked. asked_of asked ≡ asked_by life.now) }
+fn asked_life(alloc: Global, geometry: Geometry, life: &ScriptLife) -> Result<Life, AllocError>
+    ensures { IfOk result (λ asked. asked_of asked ≡ asked_by geometry life.now) }
 {
     let mut steps = Vec::new(alloc);
     for command in life.commands.as_slice() {
-        add_steps(command, &mut steps)?;
+        add_steps(geometry, command, &mut steps)?;
     }
     Ok(Life {
         steps,
@@ -109,11 +121,14 @@ fn choice_of(keeps: Survivor) -> Choice
 }
 
 // Adds the steps of a command. A row that is too long has none, since it is refused before anything else is.
-fn add_steps(command: &Command, steps: &mut Vec<Step>) -> Result<(), AllocError>
-    ensures { OnOk result (steps.new.items ≡ steps.old.items ++ steps_of command.now) }
+fn add_steps(geometry: Geometry, command: &Command, steps: &mut Vec<Step>) -> Result<(), AllocError>
+    ensures { OnOk result (steps.new.items ≡ steps.old.items ++ steps_of geometry command.now) }
 {
     if let Command::Commit { ticks } = command {
-        return add_ticks(*ticks, steps);
+        return add_each(&Step::Commit, *ticks, steps);
+    }
+    if let Command::Collect { visits } = command {
+        return add_each(&Step::Collect, visits_needed(geometry, *visits), steps);
     }
     if let Some(step) = step_of(command) {
         steps.push(step)?;
@@ -121,11 +136,11 @@ fn add_steps(command: &Command, steps: &mut Vec<Step>) -> Result<(), AllocError>
     Ok(())
 }
 
-fn add_ticks(ticks: u64, steps: &mut Vec<Step>) -> Result<(), AllocError>
-    ensures { OnOk result (steps.new.items ≡ steps.old.items ++ replicate ticks step.Commit) }
+fn add_each(step: &Step, count: u64, steps: &mut Vec<Step>) -> Result<(), AllocError>
+    ensures { OnOk result (steps.new.items ≡ steps.old.items ++ replicate count step.now) }
 {
-    for _ in 0..ticks {
-        steps.push(Step::Commit)?;
+    for _ in 0..count {
+        steps.push(*step)?;
     }
     Ok(())
 }
@@ -174,58 +189,70 @@ fn step_of(command: &Command) -> Option<Step>
 
 fn print_lives<W: Write>(
     alloc: Global,
+    geometry: Geometry,
     lives: &[ScriptLife],
     reports: &[LifeReport],
     output: &mut W,
 ) -> io::Result<()>
-    ensures { OnOk result (Appends (W.contents output.old) (W.contents output.new) (lives_text 1 lives.now reports.now)) }
+    ensures { OnOk result (Appends (W.contents output.old) (W.contents output.new) (lives_text geometry 1 lives.now reports.now)) }
 {
     for index in 0..lives.len().min(reports.len()) {
-        print_life(alloc, index + 1, &lives[index], &reports[index], output)?;
+        print_life(
+            alloc,
+            geometry,
+            index + 1,
+            &lives[index],
+            &reports[index],
+            output,
+        )?;
     }
     Ok(())
 }
 
 fn print_life<W: Write>(
     alloc: Global,
+    geometry: Geometry,
     number: usize,
     life: &ScriptLife,
     report: &LifeReport,
     output: &mut W,
 ) -> io::Result<()>
-    ensures { OnOk result (Appends (W.contents output.old) (W.contents output.new) (life_text number life.now report.now)) }
+    ensures { OnOk result (Appends (W.contents output.old) (W.contents output.new) (life_text geometry number life.now report.now)) }
 {
     print(alloc, output, &Printed::Life(number))?;
-    print_report(alloc, life, report, output)?;
+    print_report(alloc, geometry, life, report, output)?;
     print(alloc, output, &Printed::LifeStopped)
 }
 
 fn print_report<W: Write>(
     alloc: Global,
+    geometry: Geometry,
     life: &ScriptLife,
     report: &LifeReport,
     output: &mut W,
 ) -> io::Result<()>
-    ensures { OnOk result (Appends (W.contents output.old) (W.contents output.new) (report_text life.now report.now)) }
+    ensures { OnOk result (Appends (W.contents output.old) (W.contents output.new) (report_text geometry life.now report.now)) }
 {
     match &report.opening {
-        Ok(opened) => print_lived(alloc, opened, life, report, output),
+        Ok(opened) => print_lived(alloc, geometry, opened, life, report, output),
         Err(fault) => print(alloc, output, &Printed::Refused(*fault)),
     }
 }
 
 fn print_lived<W: Write>(
     alloc: Global,
+    geometry: Geometry,
     opened: &Opened,
     life: &ScriptLife,
     report: &LifeReport,
     output: &mut W,
 ) -> io::Result<()>
-    ensures { OnOk result (Appends (W.contents output.old) (W.contents output.new) (lived_text opened.now life.now.commands.items report.now)) }
+    ensures { OnOk result (Appends (W.contents output.old) (W.contents output.new) (lived_text geometry opened.now life.now.commands.items report.now)) }
 {
     print_opened(alloc, opened, output)?;
     print_replies(
         alloc,
+        geometry,
         life.commands.as_slice(),
         report.replies.as_slice(),
         output,
@@ -270,15 +297,16 @@ fn print_closed<W: Write>(
 // Prints for each command the reply to the last of its steps, up to the first in which the device failed.
 fn print_replies<W: Write>(
     alloc: Global,
+    geometry: Geometry,
     commands: &[Command],
     replies: &[Reply],
     output: &mut W,
 ) -> io::Result<()>
-    ensures { OnOk result (Appends (W.contents output.old) (W.contents output.new) (replies_text commands.now replies.now)) }
+    ensures { OnOk result (Appends (W.contents output.old) (W.contents output.new) (replies_text geometry commands.now replies.now)) }
 {
     let mut rest = replies;
     for command in commands {
-        let (own, later) = rest.split_at(step_count(command).min(rest.len()));
+        let (own, later) = rest.split_at(step_count(geometry, command).min(rest.len()));
         print_answer(alloc, own, output)?;
         if has_failed(own) {
             return Ok(());
@@ -289,12 +317,13 @@ fn print_replies<W: Write>(
 }
 
 // How many steps a command has.
-fn step_count(command: &Command) -> usize
-    ensures { result ≡ length (steps_of command.now) }
+fn step_count(geometry: Geometry, command: &Command) -> usize
+    ensures { result ≡ length (steps_of geometry command.now) }
 {
     match command {
         Command::Put { row, .. } if row.as_slice().len() > Row::LIMIT => 0,
         Command::Commit { ticks } => *ticks as usize,
+        Command::Collect { visits } => visits_needed(geometry, *visits) as usize,
         Command::Cycle | Command::Crash { .. } => 0,
         _ => 1,
     }

@@ -12,7 +12,7 @@ use Rattle.engine.specs.declared.phase.Phase.TheVariants.{Idle, Active, Drawn, S
 use Rattle.engine.specs.Phases.{number_of, IsOpenAs}
 use Rattle.engine.specs.Receipts.{Asks, Refuses}
 use Rattle.engine.specs.Calls.{Called, AskPrepare, AskCommit, ArePolls, TellsCommit, TellsLast, TellsFault, DeclinesCall, note_of_commit}
-use Rattle.engine.proofs.Calls.{Called-none, Called-append, Called-weaken, Called-more, Called-one}
+use Rattle.engine.proofs.Calls.{Called-none, Called-append, Called-weaken, Called-more}
 
 TellsFault-append : (one two : List Receipt) (fault : Fault) → TellsFault two fault → TellsFault (one ++ two) fault
 TellsFault-append one two fault (inl none) = inl none

@@ -1,9 +1,7 @@
 -- What a run tells of its last note.
-use Rattle.std.proofs.Common.{◌≡◌, sym, ap, ◌∙◌, true, ◌++◌, ◌∷◌, []}
+use Rattle.std.proofs.Common.{◌≡◌, true}
 use Rattle.std.proofs.Math.Logic.{∥∥₁_elim}
 use Rattle.std.specs.Coded.{Coded-set, coded_bool}
-use Rattle.base.specs.declared.step.Step.{Step}
-use Rattle.base.specs.declared.step.Note.{Note}
 use Rattle.base.specs.Notes.{fits}
 use Rattle.base.proofs.Notes.{runs-fit}
 use Rattle.audited.specs.declared.receipt.Receipt.{Receipt}

@@ -1,15 +1,17 @@
 -- When the receipts of sessions are the steps of a list.
-use Rattle.std.specs.Prelude.{◌≡◌, ℕ, ◌<◌, ◌≤◌, nat_eq, Bool, true, false, List, [], ◌∷◌, ◌++◌, length, Option, Some, None, All, count_by, flat_map, slice_get, IsTrue}
+use Rattle.std.specs.Prelude.{◌≡◌, ℕ, ◌<◌, ◌≤◌, nat_eq, Bool, true, false, List, length, Some, All, count_by, flat_map, slice_get, IsTrue}
 use Rattle.base.specs.declared.step.Step.{Step}
-use Rattle.base.specs.declared.step.Step.TheVariants.{Commit as CommitTick}
+use Rattle.base.specs.declared.step.Step.TheVariants.{Commit as CommitTick, Collect}
 use Rattle.base.specs.declared.step.Note.{Note}
 use Rattle.audited.specs.declared.receipt.Receipt.{Receipt}
 use Rattle.pmem.specs.declared.device.Pmem.{Ghosts}
+use Rattle.board.specs.declared.history.Naming.{Ghosts as Names}
 use Rattle.engine.specs.declared.session.Session.{Session}
 
 -- whether a session makes such a step; the workers make the others
 abbrev pub is_of_session : Step → Bool
 is_of_session CommitTick = false
+is_of_session Collect = false
 is_of_session _ = true
 
 -- it is the list's entry at its place
@@ -36,5 +38,5 @@ pub record Agrees (entries : List (Step × Note)) (first : ℕ) (receipts : List
   pub once : AreOnce entries first (length entries) receipts
 
 -- the receipts of all the sessions
-abbrev pub receipts_in : {D : Type 0} → {G : Ghosts D} → List (Session D G) → List Receipt
+abbrev pub receipts_in : {D J B : Type 0} → {G : Ghosts D} → {N : Names J} → List (Session D J B G N) → List Receipt
 receipts_in sessions = flat_map (λ s. s.receipts.items) sessions

@@ -2,3 +2,5 @@ pub mod Phases
 pub mod Receipts
 pub mod Calls
 pub mod Agreement
+pub mod Posting
+pub mod Started

@@ -5,10 +5,15 @@ ghost use Rattle.engine.specs.Agreement.{is_of_session, IsEntry, count_at, recei
 use crate::session::Session;
 use audited::Receipt;
 use base::step::{Note, Step};
+use board::Naming;
 use pmem::Pmem;
 
 /// Whether the receipts of these sessions are the list's session steps from the first place on.
-pub fn agrees<D: Pmem + Drop>(entries: &[(Step, Note)], first: u64, sessions: &[Session<D>]) -> bool
+pub fn agrees<D: Pmem + Drop, J: Naming, B: Drop>(
+    entries: &[(Step, Note)],
+    first: u64,
+    sessions: &[Session<D, J, B>],
+) -> bool
     ensures { IsTrue result ↔ Agrees entries.now first (receipts_in sessions.now) }
 {
     for session in sessions {
@@ -55,11 +60,15 @@ fn is_entry(entries: &[(Step, Note)], first: u64, receipt: &Receipt) -> bool
 fn is_of_session(step: &Step) -> bool
     ensures { result ≡ is_of_session step.now }
 {
-    !matches!(step, Step::Commit)
+    !matches!(step, Step::Commit | Step::Collect)
 }
 
 // Whether the entry at this place, where a session made it, has just one receipt.
-fn is_once_at<D: Pmem + Drop>(entries: &[(Step, Note)], sessions: &[Session<D>], place: u64) -> bool
+fn is_once_at<D: Pmem + Drop, J: Naming, B: Drop>(
+    entries: &[(Step, Note)],
+    sessions: &[Session<D, J, B>],
+    place: u64,
+) -> bool
     requires { place < length entries.now }
     ensures { IsTrue result ↔ IsOnceAt entries.now (receipts_in sessions.now) place }
 {
@@ -72,7 +81,7 @@ fn is_once_at<D: Pmem + Drop>(entries: &[(Step, Note)], sessions: &[Session<D>],
 }
 
 // Whether just one of all the receipts has this place.
-fn is_once<D: Pmem + Drop>(sessions: &[Session<D>], place: u64) -> bool
+fn is_once<D: Pmem + Drop, J: Naming, B: Drop>(sessions: &[Session<D, J, B>], place: u64) -> bool
     ensures { IsTrue result ↔ (count_at place (receipts_in sessions.now) ≡ 1) }
 {
     let mut found = false;

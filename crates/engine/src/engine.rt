@@ -2,88 +2,122 @@ ghost use Rattle.std.specs.Prelude.{◌≡◌, ◌↔◌, IsTrue};
 
 use crate::agreement::agrees;
 use crate::gate::Gate;
+use crate::opening::board_of;
 use crate::session::Session;
 use crate::shared::{Desk, Shared};
-use crate::worker::commit;
+use crate::worker::spawn_worker;
 use audited::Audited;
 use base::fault::Fault;
+use base::step::{Note, Step};
+use board::{Board, History, Naming, Reader, Token};
 use pmem::Pmem;
 use room::Status;
 use std::alloc::Global;
 use std::sync::{Arc, Mutex, Wait};
-use std::thread;
 use std::thread::{JoinHandle, Threads};
 
-/// A room under a lock, with a worker for its committer.
+/// A room under a lock, with a worker for its committer and one for its collector, and a board of what is covered.
 #[derive(Drop)]
-pub struct Engine<D: Pmem> {
+pub struct Engine<D: Pmem, J: Naming, B: Drop> {
     alloc: Global,
-    shared: Arc<Shared<D>, Global>,
+    shared: Arc<Shared<D, B>, Global>,
+    readers: Mutex<Vec<Reader<J>>>,
+    // What was published at the start.
+    told: Token<J>,
     opening: Status,
     first: u64,
-    committer: Option<JoinHandle<()>>,
+    workers: Option<Workers>,
 }
 
-impl<D: Pmem + Drop + Send + Sync + 'static> Engine<D> {
-    ghost use Rattle.std.specs.Prelude.{◌⊎◌, [], IfOk, IfErr, IfSome, length};
-    ghost use Rattle.base.specs.declared.fault.Fault.TheVariants.{OutOfMemory, WrongState, NoThread};
-    ghost use Rattle.audited.specs.Audit.{HasHistory};
-    ghost use Rattle.engine.specs.declared.phase.Phase.TheVariants.{Idle};
-    ghost use Rattle.engine.specs.Agreement.{Agrees, receipts_in};
+// The threads of the committer and of the collector.
+#[derive(Drop)]
+struct Workers {
+    committer: JoinHandle<()>,
+    collector: JoinHandle<()>,
+}
 
-    /// Starts the committer. Until the room collects there is no second worker.
-    pub fn start<R: Threads + Wait + Copy + Send + 'static, G: Gate + Send + Drop + 'static>(
+impl<
+    D: Pmem + Drop + Send + Sync + 'static,
+    J: Naming + Send + Sync + 'static,
+    R: Threads + Wait + Copy + Drop + Send + 'static,
+> Engine<D, J, Board<J, R>> {
+    ghost use Rattle.std.specs.Prelude.{◌≡◌, ◌⊎◌, IfOk, IfErr, length};
+    ghost use Rattle.base.specs.declared.fault.Fault.TheVariants.{OutOfMemory, NoThread};
+    ghost use Rattle.base.specs.Machine.{State};
+    ghost use Rattle.room.specs.Room.{Shows};
+    ghost use Rattle.engine.specs.Started.{IsStartedOn};
+
+    /// Publishes the room's tables, and starts the committer and the collector, each with its gate.
+    pub fn start<G: Gate + Send + Drop + 'static, H: Gate + Send + Drop + 'static>(
         rt: &R,
         alloc: Global,
+        history: History,
         audited: Audited<D>,
         committer: G,
-    ) -> Result<Engine<D>, (Fault, Audited<D>)>
+        collector: H,
+    ) -> Result<Engine<D, J, Board<J, R>>, (Fault, Audited<D>)>
+        requires name { history ≡ J.book }
         ensures opening { IfOk result (λ engine. engine.opening ≡ audited.opening) }
         ensures first { IfOk result (λ engine. engine.first ≡ length audited.entries.items) }
+        ensures told { IfOk result (λ engine. (q : State) → Shows D.state audited.room q → IsStartedOn q engine.told) }
         ensures fault { IfErr result (λ e. (e.0 ≡ OutOfMemory) ⊎ (e.0 ≡ NoThread)) }
         ensures back { IfErr result (λ e. e.1 ≡ audited) }
     {
         let opening = audited.opening();
         let first = audited.history().len() as u64;
-        let desk = Desk {
-            audited: None,
-            handed: 0,
-            closing: false,
-        };
-        let Ok(shared) = Arc::new(
-            alloc,
-            Shared {
-                desk: Mutex::new(desk),
-            },
-        ) else {
+        let Ok((board, readers)) = board_of(*rt, alloc, history, &audited) else {
             return Err((Fault::OutOfMemory, audited));
         };
-        let Ok(own) = Arc::try_clone(&shared) else {
+        let told = board.token();
+        let Ok(shared) = Arc::new(alloc, Shared::new(board)) else {
             return Err((Fault::OutOfMemory, audited));
         };
-        let handle = *rt;
 
-        // The worker waits for the lock until the room is put in.
+        // The workers wait for the lock until the room is put in.
         let mut desk = shared.desk.lock(rt);
-        let Ok(committer) = thread::spawn(rt, move || { drop(commit(&handle, &own, committer)) })
-        else {
-            return Err((Fault::NoThread, audited));
+        let committer = match spawn_worker(rt, &shared, Step::Commit, Note::Idle, committer) {
+            Ok(committer) => committer,
+            Err(fault) => return Err((fault, audited)),
+        };
+        let collector = match spawn_worker(rt, &shared, Step::Collect, Note::SweepEnd, collector) {
+            Ok(collector) => collector,
+            Err(fault) => {
+                desk.closing = true;
+                drop(desk);
+                committer.join(rt);
+                return Err((fault, audited));
+            }
         };
         desk.audited = Some(audited);
         drop(desk);
         Ok(Engine {
             alloc,
             shared,
+            readers: Mutex::new(readers),
+            told,
             opening,
             first,
-            committer: Some(committer),
+            workers: Some(Workers {
+                committer,
+                collector,
+            }),
         })
     }
+}
+
+impl<D: Pmem + Drop, J: Naming, B: Drop> Engine<D, J, B> {
+    ghost use Rattle.std.specs.Prelude.{[], IfOk, IfErr, IfSome};
+    ghost use Rattle.base.specs.declared.fault.Fault.TheVariants.{OutOfMemory, WrongState, ReadersOut};
+    ghost use Rattle.audited.specs.Audit.{HasHistory};
+    ghost use Rattle.board.specs.Lists.{Begins};
+    ghost use Rattle.engine.specs.declared.phase.Phase.TheVariants.{Idle};
+    ghost use Rattle.engine.specs.Agreement.{Agrees, receipts_in};
 
     /// A session, for one thread.
-    pub fn session<R: Wait>(&self, rt: &R) -> Result<Session<D>, Fault>
+    pub fn session<R: Wait>(&self, rt: &R) -> Result<Session<D, J, B>, Fault>
         ensures empty { IfOk result (λ session. session.receipts.items ≡ []) }
         ensures phase { IfOk result (λ session. session.phase ≡ Idle) }
+        ensures told { IfOk result (λ session. session.told ≡ self.now.told) }
         ensures memory { IfErr result (λ fault. fault ≡ OutOfMemory) }
     {
         let Ok(shared) = Arc::try_clone(&self.shared) else {
@@ -92,17 +126,33 @@ impl<D: Pmem + Drop + Send + Sync + 'static> Engine<D> {
         let mut desk = self.shared.desk.lock(rt);
         desk.handed = desk.handed.saturating_add(1);
         drop(desk);
-        Ok(Session::new(self.alloc, shared))
+        Ok(Session::new(self.alloc, shared, self.told.again()))
     }
 
-    /// Joins the worker and gives the room back. Fails with `WrongState`, and hands everything back, where a session that was
+    /// A reader, for one thread. There are eight at most.
+    pub fn reader<R: Wait>(&self, rt: &R) -> Result<Reader<J>, Fault>
+        ensures told { IfOk result (λ reader. Begins self.now.told reader) }
+        ensures fault { IfErr result (λ fault. fault ≡ ReadersOut) }
+    {
+        let mut readers = self.readers.lock(rt);
+        match readers.pop() {
+            Some(reader) => {
+                let mut reader = reader;
+                reader.learn(&self.told);
+                Ok(reader)
+            }
+            None => Err(Fault::ReadersOut),
+        }
+    }
+
+    /// Joins the workers and gives the room back. Fails with `WrongState`, and hands everything back, where a session that was
     /// handed out is missing, or the room isn't the one that was lent: it was opened with other numbers, or the receipts of
-    /// the sessions aren't its steps. An engine that is handed back after the joining has no worker.
+    /// the sessions aren't its steps. An engine that is handed back after the joining has no workers.
     pub fn close<R: Threads + Wait>(
         mut self,
         rt: &R,
-        sessions: Vec<Session<D>>,
-    ) -> Result<Audited<D>, (Fault, Engine<D>, Vec<Session<D>>)>
+        sessions: Vec<Session<D, J, B>>,
+    ) -> Result<Audited<D>, (Fault, Engine<D, J, B>, Vec<Session<D, J, B>>)>
         ensures opening { IfOk result (λ audited. audited.opening ≡ self.opening) }
         ensures agrees { IfOk result (λ audited. Agrees audited.entries.items self.first (receipts_in sessions.items)) }
         ensures run { IfOk result (λ audited. ∥ HasHistory D.state audited.room audited.opening audited.entries.items ∥₁) }
@@ -112,8 +162,9 @@ impl<D: Pmem + Drop + Send + Sync + 'static> Engine<D> {
         if !self.may_close(rt, sessions.len() as u64) {
             return Err((Fault::WrongState, self, sessions));
         }
-        if let Some(worker) = self.committer.take() {
-            worker.join(rt);
+        if let Some(workers) = self.workers.take() {
+            workers.committer.join(rt);
+            workers.collector.join(rt);
         }
         match self.take_back(rt, sessions.as_slice()) {
             Some(audited) => Ok(audited),
@@ -132,7 +183,7 @@ impl<D: Pmem + Drop + Send + Sync + 'static> Engine<D> {
     }
 
     // Takes the room out, where it is the one that was opened so and the receipts are its steps.
-    fn take_back<R: Wait>(&self, rt: &R, sessions: &[Session<D>]) -> Option<Audited<D>>
+    fn take_back<R: Wait>(&self, rt: &R, sessions: &[Session<D, J, B>]) -> Option<Audited<D>>
         ensures opening { IfSome result (λ audited. audited.opening ≡ self.now.opening) }
         ensures agrees { IfSome result (λ audited. Agrees audited.entries.items self.now.first (receipts_in sessions.now)) }
     {

@@ -7,8 +7,9 @@ pub enum Go {
     Stop,
 }
 
-/// Asked before each tick of a worker, outside the lock. It may wait.
+/// Asked before each tick of a worker, outside the locks. It may wait.
 pub trait Gate {
-    /// `after` is what the worker's own last tick was answered; before its first, `Idle`.
+    /// `after` is what the worker's own last tick was answered; before its first, `Idle` for the committer and
+    /// `SweepEnd` for the collector.
     fn pass(&mut self, after: &Note) -> Go;
 }

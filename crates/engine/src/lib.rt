@@ -1,13 +1,17 @@
-//! A room that threads share: sessions step it under a lock, and so does a committer. Each session has a receipt for each of
-//! its steps, and a close compares them with the room's history.
+//! A room that threads share: sessions step it under a lock, and so do a committer and a collector. Each session has a receipt
+//! for each of its steps, and a close compares them with the room's history. What is covered is published on a board, whose
+//! readers wait for nobody.
 #![tactic(auto)]
 
 mod agreement;
 mod engine;
 mod gate;
+mod opening;
 mod phase;
+mod posting;
 mod session;
 mod shared;
+mod telling;
 mod transacting;
 mod worker;
 

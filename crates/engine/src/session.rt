@@ -8,14 +8,17 @@ use base::fault::Fault;
 use base::key::Key;
 use base::row::Row;
 use base::step::{Reply, Step};
+use board::{Naming, Token};
 use pmem::Pmem;
 use std::alloc::Global;
 use std::sync::{Arc, Wait};
 
 /// One transaction after another, with a receipt for each step that was kept. Room for a receipt is made before its step.
 #[derive(Drop)]
-pub struct Session<D: Pmem> {
-    shared: Arc<Shared<D>, Global>,
+pub struct Session<D: Pmem, J: Naming, B: Drop> {
+    pub(crate) shared: Arc<Shared<D, B>, Global>,
+    // What had been published when the engine was started.
+    pub(crate) told: Token<J>,
     pub(crate) phase: Phase,
     receipts: Vec<Receipt>,
     floor: u64,
@@ -23,7 +26,7 @@ pub struct Session<D: Pmem> {
     ghost floor_is: { floor ≡ floor_of 0 receipts.items },
 }
 
-impl<D: Pmem + Drop> Session<D> {
+impl<D: Pmem + Drop, J: Naming, B: Drop> Session<D, J, B> {
     ghost use Rattle.std.specs.Prelude.{◌≢◌, ◌⊎◌, [], ℕ, length, IfOk, IfErr};
     ghost use Rattle.base.specs.declared.fault.Fault.TheVariants.{NoSession, WrongState};
     ghost use Rattle.base.specs.declared.step.Step.TheVariants.{Begin, Get, Scan, Put, Delete, Poll, Abort};
@@ -171,12 +174,18 @@ impl<D: Pmem + Drop> Session<D> {
         self.receipts.len() as u64
     }
 
-    pub(crate) fn new(alloc: Global, shared: Arc<Shared<D>, Global>) -> Session<D>
+    pub(crate) fn new(
+        alloc: Global,
+        shared: Arc<Shared<D, B>, Global>,
+        told: Token<J>,
+    ) -> Session<D, J, B>
         ensures receipts { result.receipts.items ≡ [] }
         ensures phase { result.phase ≡ Idle }
+        ensures told { result.told ≡ told }
     {
         Session {
             shared,
+            told,
             phase: Phase::Idle,
             receipts: Vec::new(alloc),
             floor: 0,

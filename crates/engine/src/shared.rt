@@ -1,8 +1,8 @@
 use audited::Audited;
 use pmem::Pmem;
-use std::sync::Mutex;
+use std::sync::{Mutex, Wait};
 
-/// What lies under the lock.
+/// What lies under the room's lock.
 #[derive(Drop)]
 pub struct Desk<D: Pmem> {
     /// Taken out once the engine is closed.
@@ -13,8 +13,30 @@ pub struct Desk<D: Pmem> {
     pub closing: bool,
 }
 
-/// What the threads share.
+/// What the threads share. The board stands under a lock of its own, and no thread holds both.
 #[derive(Drop)]
-pub struct Shared<D: Pmem> {
+pub struct Shared<D: Pmem, B: Drop> {
     pub desk: Mutex<Desk<D>>,
+    pub board: Mutex<B>,
+}
+
+impl<D: Pmem + Drop, B: Drop> Shared<D, B> {
+    /// The board, and no room yet.
+    pub fn new(board: B) -> Shared<D, B> {
+        let desk = Desk {
+            audited: None,
+            handed: 0,
+            closing: false,
+        };
+        Shared {
+            desk: Mutex::new(desk),
+            board: Mutex::new(board),
+        }
+    }
+
+    /// Whether the engine is being closed.
+    pub fn is_closing<R: Wait>(&self, rt: &R) -> bool {
+        let desk = self.desk.lock(rt);
+        desk.closing || desk.audited.is_none()
+    }
 }

@@ -1,56 +1,139 @@
 use crate::gate::{Gate, Go};
+use crate::posting::post;
 use crate::shared::Shared;
+use audited::Receipt;
 use base::fault::Fault;
-use base::step::{Note, Step};
+use base::step::{Note, Reply, Step};
+use board::{Board, Naming, Token};
 use pmem::Pmem;
 use std::alloc::Global;
 use std::sync::{Arc, Wait};
+use std::thread;
+use std::thread::{JoinHandle, Threads};
 
-/// Ticks the committer again and again, until the gate says so, the device fails or the engine is being closed.
-pub fn commit<R: Wait, D: Pmem + Drop, G: Gate>(
+/// Why a turn has no note.
+#[derive(Clone, Copy)]
+pub enum Missed {
+    /// There was no memory for its tick.
+    Memory,
+    /// The engine is being closed, or what was covered can't be published.
+    Over,
+}
+
+/// What a turn came to.
+#[derive(Drop)]
+pub struct Turn<J: Naming> {
+    /// Of its tick.
+    pub note: Note,
+    /// Where the tick covered a batch: what is published since.
+    pub told: Option<Token<J>>,
+}
+
+ghost use Rattle.std.specs.Prelude.{◌≡◌, ◌⊎◌, IfSome, IfOk, IfErr};
+ghost use Rattle.base.specs.declared.fault.Fault.TheVariants.{OutOfMemory, NoThread};
+ghost use Rattle.base.specs.Machine.{note_of};
+ghost use Rattle.engine.specs.Posting.{IsPosted};
+
+/// Starts a worker that makes this step.
+pub fn spawn_worker<
+    R: Threads + Wait + Copy + Drop + Send + 'static,
+    D: Pmem + Drop + Send + Sync + 'static,
+    J: Naming + Send + Sync + 'static,
+    G: Gate + Send + Drop + 'static,
+>(
     rt: &R,
-    shared: &Arc<Shared<D>, Global>,
+    shared: &Arc<Shared<D, Board<J, R>>, Global>,
+    step: Step,
+    before: Note,
+    gate: G,
+) -> Result<JoinHandle<()>, Fault>
+    ensures { IfErr result (λ fault. (fault ≡ OutOfMemory) ⊎ (fault ≡ NoThread)) }
+{
+    let Ok(own) = Arc::try_clone(shared) else {
+        return Err(Fault::OutOfMemory);
+    };
+    let handle = *rt;
+    match thread::spawn(rt, move || {
+        drop(work(&handle, &own, &step, before, gate))
+    }) {
+        Ok(worker) => Ok(worker),
+        Err(_) => Err(Fault::NoThread),
+    }
+}
+
+// Makes the step again and again, until the gate says so, the device fails or the engine is being closed. What a tick covers
+// is published before the next one. `before` is what the gate is shown before the first.
+fn work<R: Wait + Drop, D: Pmem + Drop, J: Naming, G: Gate>(
+    rt: &R,
+    shared: &Arc<Shared<D, Board<J, R>>, Global>,
+    step: &Step,
+    before: Note,
     mut gate: G,
 ) -> G {
-    let mut last = Note::Idle;
+    let mut last = before;
     for _ in rt.forever() {
-        if is_over(rt, shared) {
+        if shared.is_closing(rt) {
             break;
         }
         if matches!(gate.pass(&last), Go::Stop) {
             break;
         }
-        if let Some(note) = tick(rt, shared) {
-            last = note;
-            if ends(&last) {
-                break;
-            }
+        match take_turn(rt, shared, step) {
+            Ok(made) => last = made.note,
+            Err(Missed::Memory) => {}
+            Err(Missed::Over) => break,
+        }
+        if ends(&last) {
+            break;
         }
     }
     gate
 }
 
-// Whether the engine is being closed.
-fn is_over<R: Wait, D: Pmem + Drop>(rt: &R, shared: &Arc<Shared<D>, Global>) -> bool {
-    let desk = shared.desk.lock(rt);
-    desk.closing || desk.audited.is_none()
+// A tick. What it covered is published then.
+fn take_turn<R: Wait + Drop, D: Pmem + Drop, J: Naming>(
+    rt: &R,
+    shared: &Arc<Shared<D, Board<J, R>>, Global>,
+    step: &Step,
+) -> Result<Turn<J>, Missed>
+    ensures { IfOk result (λ made. IsPosted made.note made.told) }
+{
+    let Some((reply, receipt)) = tick(rt, shared, step) else {
+        return Err(Missed::Over);
+    };
+    let Some(receipt) = receipt else {
+        return Err(Missed::Memory);
+    };
+    match reply {
+        Reply::Covered(batch) => match post(rt, shared, batch) {
+            Some(told) => Ok(Turn {
+                note: receipt.note,
+                told: Some(told),
+            }),
+            None => Err(Missed::Over),
+        },
+        _ => Ok(Turn {
+            note: receipt.note,
+            told: None,
+        }),
+    }
 }
 
-// One tick, and its note: none where memory was wanting. Where the engine is being closed it is refused without one.
-fn tick<R: Wait, D: Pmem + Drop>(rt: &R, shared: &Arc<Shared<D>, Global>) -> Option<Note> {
+// One tick, unless the engine is being closed. Without memory it has no receipt.
+fn tick<R: Wait, D: Pmem + Drop, B: Drop>(
+    rt: &R,
+    shared: &Arc<Shared<D, B>, Global>,
+    step: &Step,
+) -> Option<(Reply, Option<Receipt>)>
+    ensures { IfSome result (λ made. IfSome made.1 (λ receipt. (receipt.step ≡ step.now) × (receipt.note ≡ note_of made.0))) }
+{
     let mut desk = shared.desk.lock(rt);
     if desk.closing {
-        return Some(Note::Refused(Fault::Failed));
+        return None;
     }
     match &mut desk.audited {
-        Some(audited) => {
-            let (_, receipt) = audited.step(Step::Commit);
-            match receipt {
-                Some(receipt) => Some(receipt.note),
-                None => None,
-            }
-        }
-        None => Some(Note::Refused(Fault::Failed)),
+        Some(audited) => Some(audited.step(*step)),
+        None => None,
     }
 }
 

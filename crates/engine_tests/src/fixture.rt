@@ -96,6 +96,7 @@ pub fn steps(rt: &impl Abort, alloc: Global, lines: &str) -> Result<Vec<Step>, F
 fn add_steps(rt: &impl Abort, steps: &mut Vec<Step>, command: &Command) -> Result<(), Fault> {
     let count = match command {
         Command::Commit { ticks } => *ticks,
+        Command::Collect { visits } => *visits,
         _ => 1,
     };
     push_each(steps, &step_of(rt, command)?, count)
@@ -151,6 +152,7 @@ fn step_of(rt: &impl Abort, command: &Command) -> Result<Step, Fault> {
         Command::Abort { session } => Step::Abort { session: *session },
         Command::End { session } => Step::End { session: *session },
         Command::Commit { .. } => Step::Commit,
+        Command::Collect { .. } => Step::Collect,
         Command::Cycle | Command::Crash { .. } => panic!(rt; "no step"),
     };
     Ok(step)

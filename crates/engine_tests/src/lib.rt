@@ -1,5 +1,5 @@
-//! The modelled device and on it free slots and whole lives of the room, stopped at each operation, at random
-//! and with memory refused; images that are checked and opened; the program where its input or output fails.
+//! The modelled device and on it free slots and whole lives of the room, stopped at each operation and
+//! with memory refused; images that are checked and opened; the program where its input or output fails.
 #![tactic(auto)]
 
 #[cfg(test)]
@@ -17,13 +17,9 @@ mod fixture;
 #[cfg(test)]
 mod memory;
 #[cfg(test)]
-mod model;
-#[cfg(test)]
 mod numbers;
 #[cfg(test)]
 mod program;
-#[cfg(test)]
-mod random;
 #[cfg(test)]
 mod rows;
 #[cfg(test)]

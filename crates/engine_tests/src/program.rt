@@ -3,6 +3,7 @@ use base::fault::Fault;
 use command_line::orders::Order;
 use console::ended::Ended;
 use console::execute::execute;
+use console::stop::Stop;
 use std::alloc::Global;
 use std::io;
 use std::io::{ErrorKind, Read, Write};
@@ -62,6 +63,14 @@ fn fresh<H: Threads + Sync>(rt: &H, alloc: Global) -> Result<Vec<u8>, Fail> {
     Ok(ended.file.ok_or("no file")?)
 }
 
+// Did the input or the output fail so?
+fn is_broken_by(ended: &Ended, reason: ErrorKind) -> bool {
+    match &ended.stopped {
+        Some(Stop::Broken(kind)) => *kind == reason,
+        _ => false,
+    }
+}
+
 #[test]
 fn an_input_that_fails_leaves_the_file(rt: HostRuntime) -> Result<(), Fail> {
     let file = fresh(&rt, rt.alloc())?;
@@ -71,6 +80,7 @@ fn an_input_that_fails_leaves_the_file(rt: HostRuntime) -> Result<(), Fail> {
         let mut input = Torn { rest };
         let ended = execute(&rt, rt.alloc(), &RUN, &file, &mut input, &mut output);
         assert!(rt; ended.status == 1 && ended.file.is_none(), "after {lines}");
+        assert!(rt; is_broken_by(&ended, ErrorKind::ConnectionReset));
     }
     Ok(())
 }
@@ -121,6 +131,7 @@ fn an_output_that_fails_leaves_the_file(rt: HostRuntime) -> Result<(), Fail> {
             ended.status == 1 && ended.file.is_none(),
             "after {left} bytes"
         );
+        assert!(rt; is_broken_by(&ended, ErrorKind::WriteZero));
     }
     Ok(())
 }
@@ -133,7 +144,11 @@ fn a_refusal_is_told_where_its_line_is_printed(rt: HostRuntime) -> Result<(), Fa
     for (left, refused) in [(100, geometry), (5, None)] {
         let ended = cut(&rt, rt.alloc(), &RUN, &file, "", left);
         assert_eq!(rt; ended.status, 1);
-        assert!(rt; ended.refused == refused);
+        let told = match ended.stopped {
+            Some(Stop::Refused(fault)) => Some(fault),
+            _ => None,
+        };
+        assert!(rt; told == refused);
     }
     Ok(())
 }

@@ -2,11 +2,14 @@ ghost use Rattle.std.specs.Prelude.{◌≡◌, ◌<◌, ◌≤◌, IfOk, length}
 ghost use Rattle.base.specs.Layout.{layout_with, newest_version};
 ghost use Rattle.pmem_model.specs.Sim.{device_of};
 
+use crate::fixture::{fresh, opened, steps};
 use base::actor::Actor;
 use base::fault::Fault;
 use base::geometry::Geometry;
+use base::key::Key;
 use pmem::Pmem;
-use pmem_model::SimPmem;
+use pmem_model::{Choice, SimPmem};
+use recovery::{LiveSlot, open};
 use slot_alloc::SlotAlloc;
 use std::alloc::Global;
 
@@ -42,5 +45,39 @@ fn taken_slot_is_cleared(rt: HostRuntime) -> Result<(), Fault> {
     assert!(rt; device.survivors(80) == 2);
     assert!(rt; take(&mut device, &mut slots) == Ok(1));
     assert!(rt; (device.survivors(80), device.load(80)) == (1, 0));
+    Ok(())
+}
+
+// A version of key 7 in slot 0 that one in slot 1 replaces, with which slot 2 gets a version of key 8; slot 3 is free.
+const REPLACED: &str = "begin
+put 2 1 7 01
+draw 2
+stamp 2
+commit 42
+end 2
+begin
+put 2 1 7 02
+put 2 1 8 03
+draw 2
+stamp 2
+stamp 2
+commit 44";
+
+#[test]
+fn opening_lists_the_live_slots(rt: HostRuntime) -> Result<(), Fault> {
+    let mut room = opened(&rt, rt.alloc(), fresh(rt.alloc(), 4, 8)?)?;
+    room.drive(steps(&rt, rt.alloc(), REPLACED)?.as_slice())?;
+    let stopped = room.into_device().crash(&Choice::Oldest)?;
+    assert!(rt; stopped.at_rest());
+    let opened = match open(&rt, rt.alloc(), stopped) {
+        Ok(opened) => opened,
+        Err((fault, _device)) => return Err(fault),
+    };
+    let live = |key, slot| LiveSlot {
+        key: Key { table: 1, key },
+        slot,
+        begin: 2,
+    };
+    assert!(rt; opened.live.as_slice() == [live(7, 1), live(8, 2)].as_slice());
     Ok(())
 }

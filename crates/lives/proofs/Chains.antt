@@ -13,7 +13,7 @@ use Rattle.base.specs.Machine.{State, final}
 use Rattle.base.specs.Openings.{OpensAs, StandsOpening}
 use Rattle.base.specs.Stands.{Stands}
 use Rattle.base.specs.Laws.{StayOut}
-use Rattle.base.specs.Lives.{World, IsWorld, Asked, Report, Opening, Opens, Fails, Life as PlainLife, LifeAs, Lives, numbers_of as state_numbers, FailsAs}
+use Rattle.base.specs.Lives.{World, IsWorld, Opening, Opens, Fails, Life as PlainLife, LifeAs, Lives, numbers_of as state_numbers, FailsAs}
 use Rattle.base.proofs.LivesLaws.{lives-stand}
 use Rattle.base.proofs.Returns.{lives-lived}
 use Rattle.base.proofs.Adding.{lives-add, lives-acknowledge}
@@ -25,7 +25,9 @@ use Rattle.recovery.specs.Read.{TellsLogFault}
 use Rattle.image_check.specs.Checked.{ListsTables}
 use Rattle.lives.specs.declared.life.Life.{Life}
 use Rattle.lives.specs.declared.life.LifeReport.{LifeReport}
-use Rattle.lives.specs.Chains.{asked_of, report_of, fresh_world, AreLives}
+use Rattle.lives.specs.Plain.{asked_of, report_of}
+use Rattle.lives.specs.Chains.{fresh_world, AreLives}
+use Rattle.lives.specs.Stops.{AreStopped, IsStopped, WhereItStands}
 use Rattle.lives.specs.Parts.{HasLived, HasObeyed, HasEnded, HasPlayed}
 use Rattle.lives.proofs.Ends.{leaves-now, log-first, first-damage, ends-as_asked}
 
@@ -131,36 +133,47 @@ played-so q rows life report image failed P opening obeyed ends =
 
 -- ---- one life after another
 
-lives-more : (before : World) (asked : List Asked) (reports : List Report) (mid : World) (a : Asked) (r : Report) (last : World)
-    → Lives before asked reports mid → PlainLife mid a r last → Lives before (asked ++ a ∷ []) (reports ++ r ∷ []) last
-lives-more before [] [] mid a r last e life = (last, subst (λ (w : World). PlainLife w a r last) e life, refl)
-lives-more before (b ∷ asked) (s ∷ reports) mid a r last (next, first, rest) life = (next, first, lives-more next asked reports mid a r last rest life)
-lives-more before [] (s ∷ reports) mid a r last none life = absurd none
-lives-more before (b ∷ asked) [] mid a r last none life = absurd none
+stopped-more : (before : World) (lives : List Life) (reports : List LifeReport) (mid : World) (a : Life) (r : LifeReport) (last : World)
+    → AreStopped before lives reports mid → PlainLife mid (asked_of a) (report_of r) last → IsStopped a r mid.image last.image
+    → AreStopped before (lives ++ a ∷ []) (reports ++ r ∷ []) last
+stopped-more before [] [] mid a r last e life stop = (
+  last,
+  subst (λ (w : World). PlainLife w (asked_of a) (report_of r) last) e life,
+  subst (λ (w : World). IsStopped a r w.image last.image) e stop,
+  refl,
+)
+stopped-more before (b ∷ lives) (s ∷ reports) mid a r last (next, first, stop, rest) life stop' = (next, first, stop, stopped-more next lives reports mid a r last rest life stop')
+stopped-more before [] (s ∷ reports) mid a r last none life stop = absurd none
+stopped-more before (b ∷ lives) [] mid a r last none life stop = absurd none
 
--- the reports are those of a chain of lives, and the image is what the last one left
+-- such lives are a chain of lives
+plain-lives : (before : World) (lives : List Life) (reports : List LifeReport) (last : World) → AreStopped before lives reports last → Lives before (map asked_of lives) (map report_of reports) last
+plain-lives before [] [] last same = same
+plain-lives before (b ∷ lives) (s ∷ reports) last (next, first, stop, rest) = (next, first, plain-lives next lives reports last rest)
+plain-lives before [] (s ∷ reports) last none = absurd none
+plain-lives before (b ∷ lives) [] last none = absurd none
+
+-- the reports are those of a chain of lives, each stopped as it was asked to be, and the image is what the last one left
 pub record Chain (layout : Layout) (lives : List Life) (reports : List LifeReport) (image : Image) : Type 0 where
   pub last : World
-  pub lives_are : Lives (fresh_world layout) (map asked_of lives) (map report_of reports) last
+  pub stopped : AreStopped (fresh_world layout) lives reports last
   pub left : last.image ≡ image
 
 pub chain-none : (layout : Layout) (image : Image) → image ≡ (fresh_world layout).image → Chain layout [] [] image
-chain-none layout image is = record { last = fresh_world layout; lives_are = refl; left = sym is }
-
-map-more : {X Y : Type 0} (f : X → Y) (xs : List X) (x : X) → map f (xs ++ x ∷ []) ≡ map f xs ++ f x ∷ []
-map-more f [] x = refl
-map-more {Y = Y} f (y ∷ xs) x = ap (λ (l : List Y). f y ∷ l) (map-more f xs x)
+chain-none layout image is = record { last = fresh_world layout; stopped = refl; left = sym is }
 
 pub chain-more : (layout : Layout) (lives : List Life) (reports : List LifeReport) (image image' : Image) (life : Life) (report : LifeReport)
-    → IsWorld (fresh_world layout) → Chain layout lives reports image → HasLived image life report image'
+    → IsWorld (fresh_world layout) → Chain layout lives reports image → HasLived image life report image' → WhereItStands image (IsStopped life report image image')
     → Chain layout (lives ++ life ∷ []) (reports ++ report ∷ []) image'
-chain-more layout lives reports image image' life report w chain lived =
-    let one = lived chain.last (lives-stand (fresh_world layout) (map asked_of lives) (map report_of reports) chain.last w chain.lives_are) chain.left in
+chain-more layout lives reports image image' life report w chain lived stops =
+    let stands = lives-stand (fresh_world layout) (map asked_of lives) (map report_of reports) chain.last w (plain-lives (fresh_world layout) lives reports chain.last chain.stopped) in
+    let one = lived chain.last stands chain.left in
+    let stop : IsStopped life report chain.last.image one.0.image =
+    subst (λ (i : Image). IsStopped life report i one.0.image) (sym chain.left)
+    (subst (λ (i : Image). IsStopped life report image i) (sym one.1) (stops chain.last stands chain.left)) in
     record {
       last = one.0;
-      lives_are = subst (λ (l : List Asked). Lives (fresh_world layout) l (map report_of (reports ++ report ∷ [])) one.0) (sym (map-more asked_of lives life))
-          (subst (λ (l : List Report). Lives (fresh_world layout) (map asked_of lives ++ asked_of life ∷ []) l one.0) (sym (map-more report_of reports report))
-          (lives-more (fresh_world layout) (map asked_of lives) (map report_of reports) chain.last (asked_of life) (report_of report) one.0 chain.lives_are one.2));
+      stopped = stopped-more (fresh_world layout) lives reports chain.last life report one.0 chain.stopped one.2 stop;
       left = one.1;
     }
 
@@ -172,14 +185,16 @@ are-lives layout lives reports image w chain =
     let first = fresh_world layout in
     let asked = map asked_of lives in
     let told = map report_of reports in
-    let grown = lives-lived first asked told chain.last w chain.lives_are in
+    let lives_are = plain-lives first lives reports chain.last chain.stopped in
+    let grown = lives-lived first asked told chain.last w lives_are in
     record {
       last = chain.last;
-      chain = chain.lives_are;
+      chain = lives_are;
+      stopped = chain.stopped;
       keeps = record {
-        stands = lives-stand first asked told chain.last w chain.lives_are;
-        adds = lives-add first asked told chain.last w chain.lives_are;
-        acknowledged = lives-acknowledge first asked told chain.last w chain.lives_are;
+        stands = lives-stand first asked told chain.last w lives_are;
+        adds = lives-add first asked told chain.last w lives_are;
+        acknowledged = lives-acknowledge first asked told chain.last w lives_are;
         left_out = grown.2 (nothing-out layout);
         once = grown.1;
       };

@@ -18,13 +18,13 @@ use Rattle.pmem_model.specs.declared.sim.SimPmem.{SimPmem}
 use Rattle.recovery.proofs.Restarted.{image-restarted}
 use Rattle.room.specs.Closing.{IsClosingRefusal}
 use Rattle.lives.specs.declared.life.Numbers.{Numbers as ToldNumbers}
-use Rattle.lives.specs.Chains.{numbers_of, closed_of}
+use Rattle.lives.specs.Plain.{numbers_of, closed_of}
 use Rattle.lives.specs.Parts.{HasEnded, ruling_numbers}
 
 -- ---- what a crash leaves now
 
 pub orderly : (sim : SimPmem) → IsOrderly (device_of sim)
-orderly sim = orderly_of sim.cells.histories.log.items sim.cells.histories.last.items sim.cells.histories.clock (device_of sim).failures sim.stores sim.flushes sim.fences sim.cells.histories.sound
+orderly sim = orderly_of sim.cells.histories.log.items sim.cells.histories.last.items sim.cells.histories.clock (device_of sim).limit (device_of sim).failures sim.stores sim.flushes sim.fences sim.cells.histories.sound
 
 pub leaves-now : (old new : Device) (P : Image → Type 0) → IsOrderly new → LeavesOnly old new P → (image : Image) → MayLeave new image → P image
 leaves-now old new P tidy leaves image may = leaves.each image (record { moment = new.clock; from = leaves.continues.later; to = omega arith; left = left_now tidy may })

@@ -1,3 +1,4 @@
 pub mod Taken
 pub mod Ends
+pub mod Stops
 pub mod Chains

@@ -1,2 +1,4 @@
+pub mod Plain
+pub mod Stops
 pub mod Chains
 pub mod Parts

@@ -7,7 +7,7 @@ use Rattle.base.specs.declared.step.Reply.{Reply}
 use Rattle.base.specs.Images.{Image, ruling}
 use Rattle.base.specs.Machine.{State, final}
 use Rattle.base.specs.Lives.{World, IsWorld, Numbers, Opens, RunsUp, EndsAs, Life as PlainLife, numbers_of as state_numbers}
-use Rattle.lives.specs.Chains.{asked_of, opening_of, report_of}
+use Rattle.lives.specs.Plain.{asked_of, opening_of, report_of}
 use Rattle.lives.specs.declared.life.Life.{Life}
 use Rattle.lives.specs.declared.life.LifeReport.{LifeReport}
 

@@ -2,9 +2,10 @@ ghost use Rattle.std.specs.Prelude.{◌≡◌, IfOk, IfErr};
 ghost use Rattle.base.specs.declared.fault.Fault.TheVariants.{OutOfMemory};
 ghost use Rattle.base.specs.Machine.{State};
 ghost use Rattle.pmem.specs.Words.{IsAtRest, image_of};
-ghost use Rattle.pmem_model.specs.Sim.{device_of, fuse_of};
-ghost use Rattle.room.specs.Room.{Shows};
+ghost use Rattle.pmem_model.specs.Sim.{device_of};
+ghost use Rattle.room.specs.Room.{Shows, device_of as device_in};
 ghost use Rattle.lives.specs.Parts.{HasLived, HasPlayed};
+ghost use Rattle.lives.specs.Stops.{IsRestarted, IsStopped, ReportsDevice, StopsBy, WhereItStands};
 
 use crate::ending::{end, stop};
 use crate::life::{Life, LifeReport, Numbers, Opened};
@@ -25,9 +26,11 @@ pub fn live<R: Threads + Sync>(
     mut device: SimPmem,
     life: &Life,
 ) -> Result<(LifeReport, SimPmem), Fault>
-    requires { IsAtRest (device_of device) }
+    requires { IsRestarted (device_of device) }
     ensures ok { IfOk result (λ lived. HasLived (image_of (device_of device)) life.now lived.0 (image_of (device_of lived.1))) }
-    ensures rests { IfOk result (λ lived. IsAtRest (device_of lived.1)) }
+    ensures stopped { IfOk result (λ lived. WhereItStands (image_of (device_of device))
+        (IsStopped life.now lived.0 (image_of (device_of device)) (image_of (device_of lived.1)))) }
+    ensures rests { IfOk result (λ lived. IsRestarted (device_of lived.1)) }
     ensures fault { IfErr result (λ fault. fault ≡ OutOfMemory) }
 {
     device.set_fuse(life.fuse);
@@ -41,10 +44,11 @@ fn live_under_fuse<R: Threads + Sync>(
     device: SimPmem,
     life: &Life,
 ) -> Result<(LifeReport, SimPmem), Fault>
-    requires rests { IsAtRest (device_of device) }
-    requires fuse { fuse_of device ≡ life.now.fuse }
+    requires { IsAtRest (device_of device) }
     ensures ok { IfOk result (λ lived. HasLived (image_of (device_of device)) life.now lived.0 (image_of (device_of lived.1))) }
-    ensures rests { IfOk result (λ lived. IsAtRest (device_of lived.1)) }
+    ensures stopped { IfOk result (λ lived. WhereItStands (image_of (device_of device))
+        (StopsBy life.now.choice (device_of device) (ReportsDevice lived.0) (image_of (device_of lived.1)))) }
+    ensures rests { IfOk result (λ lived. IsRestarted (device_of lived.1)) }
     ensures fault { IfErr result (λ fault. fault ≡ OutOfMemory) }
 {
     let image = device.image()?;
@@ -77,7 +81,9 @@ fn play(
     life: &Life,
 ) -> Result<(LifeReport, SimPmem), Fault>
     ensures ok { IfOk result (λ played. (q : State) → Shows device_of room q → HasPlayed q rows.items life.now played.0 (image_of (device_of played.1))) }
-    ensures rests { IfOk result (λ played. IsAtRest (device_of played.1)) }
+    ensures stopped { IfOk result (λ played. (q : State) → Shows device_of room q
+        → StopsBy life.now.choice (device_in device_of room) (ReportsDevice played.0) (image_of (device_of played.1))) }
+    ensures rests { IfOk result (λ played. IsRestarted (device_of played.1)) }
     ensures fault { IfErr result (λ fault. fault ≡ OutOfMemory) }
 {
     let status = room.status();

@@ -3,12 +3,13 @@ ghost use Rattle.base.specs.declared.fault.Fault.TheVariants.{OutOfMemory};
 ghost use Rattle.base.specs.Images.{log_damage};
 ghost use Rattle.base.specs.Machine.{State};
 ghost use Rattle.pmem.specs.Device.{MayLeave};
-ghost use Rattle.pmem.specs.Words.{IsAtRest, image_of};
+ghost use Rattle.pmem.specs.Words.{image_of};
 ghost use Rattle.pmem_model.specs.Chosen.{IsChosen};
-ghost use Rattle.pmem_model.specs.Sim.{device_of};
-ghost use Rattle.room.specs.Room.{Shows};
-ghost use Rattle.lives.specs.Chains.{numbers_of, closed_of};
+ghost use Rattle.pmem_model.specs.Sim.{device_of, IsWithinLimit};
+ghost use Rattle.room.specs.Room.{Shows, device_of as device_in};
 ghost use Rattle.lives.specs.Parts.{HasEnded, ruling_numbers};
+ghost use Rattle.lives.specs.Plain.{numbers_of, closed_of};
+ghost use Rattle.lives.specs.Stops.{ClosesWithDevice, IsRestarted, StopsBy};
 
 use crate::life::Numbers;
 use base::fault::Fault;
@@ -24,7 +25,9 @@ pub fn end(
     choice: &Choice,
 ) -> Result<(Option<Result<Numbers, Fault>>, SimPmem), Fault>
     ensures ok { IfOk result (λ ended. (q : State) → Shows device_of room q → HasEnded q closes (closed_of ended.0) (image_of (device_of ended.1))) }
-    ensures rests { IfOk result (λ ended. IsAtRest (device_of ended.1)) }
+    ensures stopped { IfOk result (λ ended. (q : State) → Shows device_of room q
+        → StopsBy choice.now (device_in device_of room) (ClosesWithDevice ended.0) (image_of (device_of ended.1))) }
+    ensures rests { IfOk result (λ ended. IsRestarted (device_of ended.1)) }
     ensures fault { IfErr result (λ fault. fault ≡ OutOfMemory) }
 {
     if !closes {
@@ -43,13 +46,18 @@ pub fn end(
     }
 }
 
-/// The device after a crash with this choice, at rest, and without a fuse.
+/// The device after a crash with this choice, at rest, and without a fuse. Fails where the device couldn't keep what was
+/// done to it for want of memory, so that an operation failed that no fuse stopped.
 pub fn stop(device: &SimPmem, choice: &Choice) -> Result<SimPmem, Fault>
     ensures chosen { IfOk result (λ left. IsChosen choice.now (device_of device.now) (image_of (device_of left))) }
     ensures possible { IfOk result (λ left. MayLeave (device_of device.now) (image_of (device_of left))) }
-    ensures rests { IfOk result (λ left. IsAtRest (device_of left)) }
+    ensures within { IfOk result (λ left. IsWithinLimit (device_of device.now)) }
+    ensures rests { IfOk result (λ left. IsRestarted (device_of left)) }
     ensures fault { IfErr result (λ fault. fault ≡ OutOfMemory) }
 {
+    if device.failed_otherwise() {
+        return Err(Fault::OutOfMemory);
+    }
     device.crash(choice)
 }
 

@@ -2,9 +2,10 @@ ghost use Rattle.std.specs.Prelude.{◌≡◌, [], IfOk, IfErr};
 ghost use Rattle.base.specs.declared.fault.Fault.TheVariants.{OutOfMemory};
 ghost use Rattle.base.specs.Fresh.{fresh_image};
 ghost use Rattle.base.specs.Stands.{Stands};
-ghost use Rattle.pmem.specs.Words.{IsAtRest, image_of};
+ghost use Rattle.pmem.specs.Words.{image_of};
 ghost use Rattle.pmem_model.specs.Sim.{device_of};
 ghost use Rattle.lives.specs.Chains.{AreLives};
+ghost use Rattle.lives.specs.Stops.{IsRestarted};
 
 use crate::beginning::live;
 use crate::ending::stop;
@@ -16,8 +17,9 @@ use recovery::format;
 use std::alloc::Global;
 use std::thread::Threads;
 
-/// Formats a device and plays the lives on it, each over the image that the one before it left. It fails where a report or
-/// a device can't be kept for want of memory; want of memory within a life is in its report.
+/// Formats a device and plays the lives on it, each over the image that the one before it left, under its own fuse and with
+/// its own choice. It fails where a report or a device can't be kept for want of memory; want of memory within a life is in
+/// its report.
 pub fn run_lives<R: Threads + Sync>(
     rt: &R,
     alloc: Global,
@@ -43,7 +45,7 @@ pub fn run_lives<R: Threads + Sync>(
 fn formatted(alloc: Global, geometry: Geometry) -> Result<SimPmem, Fault>
     ensures image { IfOk result (λ device. image_of (device_of device) ≡ fresh_image geometry) }
     ensures empty { IfOk result (λ device. Stands (image_of (device_of device)) [] [] 1) }
-    ensures rests { IfOk result (λ device. IsAtRest (device_of device)) }
+    ensures rests { IfOk result (λ device. IsRestarted (device_of device)) }
     ensures fault { IfErr result (λ fault. fault ≡ OutOfMemory) }
 {
     let Ok(words) = vec![in alloc; 0; geometry.words() as usize] else {

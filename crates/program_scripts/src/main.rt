@@ -64,7 +64,7 @@ fn execute_order<H: Print + Threads + Sync>(
     let Ended {
         status,
         file: left,
-        refused: _,
+        ..
     } = execute(
         rt,
         alloc,

@@ -173,6 +173,7 @@ module _ (old new : Device) (layout : Layout) (r : Record) (next : ℕ) (free : 
       none_drawn = refl;
       none_open = λ n. refl;
       unswept = refl;
+      first = refl;
       free_are = free-each;
     }
 

@@ -90,24 +90,27 @@ module _ (s : Sessions) (device : Device) (orderly : IsOrderly device) (q : Stat
   next : q.next ≡ s.numbers.next
   next = ap (λ (p : State). p.next) shows.shown.plain
 
+  swept : q.swept ≡ s.collector.swept
+  swept = ap (λ (p : State). p.swept) shows.shown.plain
+
   drawn : q.drawn ≡ map plain_drawn ds
   drawn = ap (λ (p : State). p.drawn) shows.shown.plain
 
   law : ChoosesRun q
   law = runs-are_chosen.run o q upholds.keeps
 
-  due-same : is_idle q ≡ group.is_idle s.numbers.geometry s.numbers.record s.numbers.next false ds
-  due-same = idle-same q ds drawn shows.shown.agrees.unswept law ∙ λ i. group.is_idle (layout i) (ruling i) (next i) false ds
+  due-same : is_idle q ≡ group.is_idle s.numbers.geometry s.numbers.record s.numbers.next s.collector.swept ds
+  due-same = idle-same q ds s.collector.swept drawn swept law ∙ λ i. group.is_idle (layout i) (ruling i) (next i) s.collector.swept ds
 
   abbrev record_is : Record
-  record_is = group.record_of_run s.numbers.geometry s.numbers.record s.numbers.next false (run ds)
+  record_is = group.record_of_run s.numbers.geometry s.numbers.record s.numbers.next s.collector.swept (run ds)
 
   target-same : target_of q ≡ record_is
-  target-same = law.record_is ∙ record-same q ds drawn shows.shown.agrees.unswept ∙ λ i. group.record_of_run (layout i) (ruling i) (next i) false (run ds)
+  target-same = law.record_is ∙ record-same q ds s.collector.swept drawn swept ∙ λ i. group.record_of_run (layout i) (ruling i) (next i) s.collector.swept (run ds)
 
   -- ---- nothing is due
 
-  pub idles : group.is_idle s.numbers.geometry s.numbers.record s.numbers.next false ds ≡ true → (q' : State) × StepsToIn s None device device CommitTick Idle q q'
+  pub idles : group.is_idle s.numbers.geometry s.numbers.record s.numbers.next s.collector.swept ds ≡ true → (q' : State) × StepsToIn s None device device CommitTick Idle q q'
   idles idle =
       let due : is_idle q ≡ true = due-same ∙ idle in
       let none : refusal q CommitTick ≡ None = rw (works, rests, due) refl in
@@ -115,7 +118,7 @@ module _ (s : Sessions) (device : Device) (orderly : IsOrderly device) (q : Stat
 
   -- ---- a batch is due
 
-  module _ (busy : group.is_idle s.numbers.geometry s.numbers.record s.numbers.next false ds ≡ false) where
+  module _ (busy : group.is_idle s.numbers.geometry s.numbers.record s.numbers.next s.collector.swept ds ≡ false) where
     due : is_idle q ≡ false
     due = due-same ∙ busy
 

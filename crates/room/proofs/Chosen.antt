@@ -64,12 +64,12 @@ run-first q ds is =
 last-same : (before : ℕ) (ds : List DrawnCommit) → fold (λ (last : ℕ) (c : Commit). c.timestamp) before (map commit_of ds) ≡ group.last_timestamp before ds
 last-same before ds = fold-map (λ (last : ℕ) (c : Commit). c.timestamp) commit_of before ds
 
-pub record-same : (q : State) (ds : List DrawnCommit) → q.drawn ≡ map plain_drawn ds → q.swept ≡ false → record_of_run q ≡ group.record_of_run q.layout q.ruling q.next false (run ds)
-record-same q ds is unswept = λ i. record {
+pub record-same : (q : State) (ds : List DrawnCommit) (swept : Bool) → q.drawn ≡ map plain_drawn ds → q.swept ≡ swept → record_of_run q ≡ group.record_of_run q.layout q.ruling q.next swept (run ds)
+record-same q ds swept is has = λ i. record {
   gate = q.ruling.gate + 1;
   persisted = (ap (λ (cs : List Commit). fold (λ (last : ℕ) (c : Commit). c.timestamp) q.ruling.persisted cs) (commits-same q ds is) ∙ last-same q.ruling.persisted (run ds)) i;
   dirty = q.next + q.layout.window;
-  gaps = cond (unswept i) [] q.ruling.gaps;
+  gaps = cond (has i) [] q.ruling.gaps;
   longs = [];
 }
 
@@ -79,8 +79,8 @@ nil-map : {X Y : Type 0} (f : X → Y) (xs : List X) → is_nil (map f xs) ≡ i
 nil-map f [] = refl
 nil-map f (x ∷ xs) = refl
 
-pub idle-same : (q : State) (ds : List DrawnCommit) → q.drawn ≡ map plain_drawn ds → q.swept ≡ false → ChoosesRun q → is_idle q ≡ group.is_idle q.layout q.ruling q.next false ds
-idle-same q ds is unswept law =
+pub idle-same : (q : State) (ds : List DrawnCommit) (swept : Bool) → q.drawn ≡ map plain_drawn ds → q.swept ≡ swept → ChoosesRun q → is_idle q ≡ group.is_idle q.layout q.ruling q.next swept ds
+idle-same q ds swept is has law =
     law.idle
     ∙ ap (λ (b : Bool). b && not (has_other_reason_to_write q)) (ap is_nil (commits-same q ds is) ∙ nil-map commit_of (run ds))
-    ∙ λ i. is_nil (run ds) && not (nat_lt (2 * (q.ruling.dirty - q.next)) q.layout.window || unswept i && not (is_nil q.ruling.gaps))
+    ∙ λ i. is_nil (run ds) && not (nat_lt (2 * (q.ruling.dirty - q.next)) q.layout.window || has i && not (is_nil q.ruling.gaps))

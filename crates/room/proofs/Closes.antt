@@ -1,5 +1,5 @@
 -- The last record of a close, and the close as a whole.
-use Rattle.std.proofs.Common.{◌≡◌, inl, inr, ℕ, ◌+◌, ◌-◌, ◌^◌, ◌<◌, ◌≤◌, Bool, true, false, cond, [], refl, sym, ◌∙◌, ap, subst, arith}
+use Rattle.std.proofs.Common.{◌≡◌, inl, inr, ℕ, ◌+◌, ◌^◌, ◌<◌, ◌≤◌, Bool, true, false, cond, refl, sym, ◌∙◌, ap, subst, arith}
 use Rattle.std.proofs.Math.Bridge.{le_prop}
 use Rattle.std.proofs.Math.Logic.{∥∥₁_elim, ∥∥₁_map}
 use Rattle.std.proofs.Math.Nat.{ℕ_set}
@@ -62,7 +62,7 @@ some-below c device some = ∥∥₁_elim some le_prop (λ shown. ruling-below c
 
 -- ---- the last record
 
-module _ (c : Committer) (before now : Device) (numbers : Numbers) (target : Record) (same : numbers ≡ c.sessions.numbers) (is : target ≡ record_of_close numbers.record numbers.next false)
+module _ (c : Committer) (before now : Device) (numbers : Numbers) (target : Record) (swept : Bool) (same : numbers ≡ c.sessions.numbers) (swept_is : swept ≡ c.sessions.collector.swept) (is : target ≡ record_of_close numbers.record numbers.next swept)
     (rests : c.cycle ≡ None) (stamped : list_all is_stamped_whole c.sessions.drawn.commits ≡ true) (numbered : c.sessions.numbers.record.gate + 1 < 2 ^ 62) where
   pub words-last : ∥ ShowsSome c before ∥₁ → IsOrderly before → before.words ≡ total_words numbers.geometry
   words-last some orderly = ∥∥₁_elim some (ℕ_set _ _) (λ shown.
@@ -80,11 +80,12 @@ module _ (c : Committer) (before now : Device) (numbers : Numbers) (target : Rec
     next-is : numbers.next ≡ q.next
     next-is = ap (λ (n : Numbers). n.next) same ∙ sym (ap (λ (p : State). p.next) persisted.shown.shown.plain)
 
+    has-swept : swept ≡ q.swept
+    has-swept = swept_is ∙ sym (ap (λ (p : State). p.swept) persisted.shown.shown.plain)
+
     target-is : target ≡ closing_record q
     target-is =
-        is ∙ (λ i. record_of_close (ruling-is i) (next-is i) false)
-        ∙ (let gaps : q.ruling.gaps ≡ (if q.swept then [] else q.ruling.gaps) = ap (λ (b : Bool). if b then [] else q.ruling.gaps) (sym persisted.shown.shown.agrees.unswept) in
-        λ i. record { gate = q.ruling.gate + 1; persisted = q.next - 1; dirty = q.next; gaps = gaps i; longs = [] })
+        is ∙ (λ i. record_of_close (ruling-is i) (next-is i) (has-swept i))
 
     in_range : closing_gate q < 2 ^ 62
     in_range = omega (arith, gate-is c before q persisted.shown ∙ ap (λ (o : Option Cycling). c.sessions.numbers.record.gate + (if is_some o then 2 else 1)) rests, numbered)

@@ -1,12 +1,13 @@
--- A session's step leaves the batch in hand as it is, and its cycle with it.
+-- A step that is no tick of the committer leaves the batch in hand as it is, and its cycle with it: one of a session, and
+-- a visit of the collector, also where a sweep ends with it.
 use Rattle.std.proofs.Common.{◌≡◌, ℕ, ◌+◌, ◌≤◌, Bool, true, false, List, [], ◌∷◌, ◌++◌, length, map, take, refl, sym, ◌∙◌, ap, subst, arith, nat_eq, cond}
-use Rattle.std.specs.Prelude.{Option, Some, None}
+use Rattle.std.specs.Prelude.{Option, Some, None, Result, Ok, Err}
 use Rattle.std.specs.List.{list_any}
 use Rattle.std.proofs.lemmas.List.{take-map, take-append-le, append-nil, map-append, length-map, length-append}
 use Rattle.base.specs.declared.fault.Fault.{Fault}
 use Rattle.base.specs.declared.fault.Fault.TheVariants.{Device as DeviceFault}
 use Rattle.base.specs.declared.step.Step.{Step}
-use Rattle.base.specs.declared.step.Step.TheVariants.{Begin, Get, Scan, Put, Delete, Draw, Stamp, Poll, Abort, End, Commit as CommitTick}
+use Rattle.base.specs.declared.step.Step.TheVariants.{Begin, Get, Scan, Put, Delete, Draw, Stamp, Poll, Abort, End, Commit as CommitTick, Collect}
 use Rattle.base.specs.declared.step.Reply.{Reply}
 use Rattle.base.specs.declared.step.Reply.TheVariants as reply
 use Rattle.base.specs.declared.step.SessionStep.{SessionStep}
@@ -19,9 +20,12 @@ use Rattle.base.specs.Commits.{Commit, Writes}
 use Rattle.base.specs.Layout.{Layout}
 use Rattle.base.specs.Laws.{is_no_tick}
 use Rattle.base.specs.Records.{Record}
+use Rattle.base.proofs.Visiting.{visit-changes}
 use Rattle.base.specs.Machine.{State, Hand, Drawn, Stepped, refused, answered, memory_refused, device_failed, next_state, state_drawn, counted, drawn_of, writes_of, timestamp_of, session_of}
 use Rattle.pmem.specs.Device.{Device}
 use Rattle.txn.specs.declared.drawn.DrawnCommit.{DrawnCommit}
+use Rattle.collector.specs.declared.visit.Visit.{Visit}
+use Rattle.collector.specs.declared.visit.Visit.TheVariants.{Slot, SweepEnd}
 use Rattle.group_commit.specs.Cycles.{Cycling}
 use Rattle.group_commit.specs.Laws.{IsAfter}
 use Rattle.device_invariant.specs.Log.{Line, line_number, lines_in}
@@ -29,13 +33,15 @@ use Rattle.state_invariant.specs.Kept.{Origin, Keeps}
 use Rattle.cycle_invariant.proofs.Staying.{lines-stay}
 use Rattle.session_steps.specs.declared.sessions.Sessions.{Sessions}
 use Rattle.session_steps.specs.Shows.{plain_drawn, line_numbers, Shows as SessionsShow}
-use Rattle.session_steps.specs.Steps.{RunsBy, Steps as SessionSteps}
+use Rattle.session_steps.specs.Steps.{RunsBy, Drawers, Steps as SessionSteps}
+use Rattle.session_steps.specs.Collecting.{Collects}
+use Rattle.session_steps.specs.Collecting as visit
 use Rattle.session_steps.proofs.Lines.{any-map}
 use Rattle.room.specs.declared.committer.Committer.{Committer}
 use Rattle.room.specs.Committing.{HoldsHand, HoldsCycle, ShowsIn}
 use Rattle.room.specs.Steps.{actor_of, StepsToIn, StepsIn}
 
--- what a session's step leaves of a state
+-- what such a step leaves of a state
 record LeavesHand (q q' : State) : Type 0 where
   pub hand : q'.hand ≡ q.hand
   pub ruling : q'.ruling ≡ q.ruling
@@ -70,6 +76,9 @@ next-leaves q (Poll n) is = same-leaves q
 next-leaves q (Abort n) is = record { hand = refl; ruling = refl; layout = refl; more = []; drawn = sym (append-nil (drawn_of q)) }
 next-leaves q (End n) is = record { hand = refl; ruling = refl; layout = refl; more = []; drawn = sym (append-nil (drawn_of q)) }
 next-leaves q CommitTick is = absurd (cc is)
+next-leaves q Collect is =
+    let changes = visit-changes q in
+    record { hand = changes.hand; ruling = changes.ruling; layout = changes.layout; more = []; drawn = ap (λ (ds : List Drawn). map (λ (d : Drawn). d.commit) ds) changes.drawn ∙ sym (append-nil (drawn_of q)) }
 
 leaves : (q q' : State) (step : Step) (reply : Reply) → is_no_tick step ≡ true → Stepped q step reply q' → LeavesHand q q'
 leaves q q' step reply is (refused fault why told same) = subst (LeavesHand q) (sym same) (same-leaves q)
@@ -135,6 +144,18 @@ module _ (o : Origin) (q q' : State) (step : Step) (reply : Reply) (old new : Li
       by (Some hand) is None holds = absurd holds
       by (Some hand) is (Some cycle) holds = hand-stays hand cycle is holds
 
+-- what the sessions show has the drawn commits that they keep
+pub shown-drawn : (s : Sessions) (device : Device) (q : State) → SessionsShow s device q → q.drawn ≡ map plain_drawn s.drawn.commits
+shown-drawn s device q shown = ap (λ (p : State). p.drawn) shown.plain
+
+-- so what is shown after the step is shown with its cycle
+pub shows-after : (old new : Sessions) (cycle : Option Cycling) (before now : Device) (step : Step) (reply : Reply) (q q' : State) → is_no_tick step ≡ true → ShowsIn old cycle before q → Stepped q step reply q' → SessionsShow new now q' → Drawers old new
+    → ShowsIn new cycle now q'
+shows-after old new cycle before now step reply q q' no_tick shows stepped shown drawers = record {
+  shown = shown;
+  cycle_is = cycle-stays shows.shown.hidden.origin q q' step reply old.drawn.commits new.drawn.commits shows.shown.upholds.keeps no_tick stepped (shown-drawn old before q shows.shown) drawers cycle shows.cycle_is;
+}
+
 -- ---- a session's step
 
 told-back : (r : SessionReply) → as_reply r ≡ reply.Refused DeviceFault → r ≡ Refused DeviceFault
@@ -173,10 +194,6 @@ its-actor (session.Poll n) = refl
 its-actor (session.Abort n) = refl
 its-actor (session.End n) = refl
 
--- what the sessions show has the drawn commits that they keep
-pub shown-drawn : (s : Sessions) (device : Device) (q : State) → SessionsShow s device q → q.drawn ≡ map plain_drawn s.drawn.commits
-shown-drawn s device q shown = ap (λ (p : State). p.drawn) shown.plain
-
 pub session-steps : (old new : Sessions) (cycle : Option Cycling) (before now : Device) (s : SessionStep) (r : SessionReply) → SessionSteps old new before now s r
     → (q : State) → ShowsIn old cycle before q → q.failed ≡ false → (q' : State) × StepsToIn new cycle before now (as_step s) (as_reply r) q q'
 session-steps old new cycle before now s r steps q shows works =
@@ -184,10 +201,7 @@ session-steps old new cycle before now s r steps q shows works =
       went.0,
       record {
         stepped = went.1.stepped;
-        shows = record {
-          shown = went.1.shows;
-          cycle_is = cycle-stays shows.shown.hidden.origin q went.0 (as_step s) (as_reply r) old.drawn.commits new.drawn.commits shows.shown.upholds.keeps (no-tick s) went.1.stepped (shown-drawn old before q shows.shown) went.1.drawers cycle shows.cycle_is;
-        };
+        shows = shows-after old new cycle before now (as_step s) (as_reply r) q went.0 (no-tick s) shows went.1.stepped went.1.shows went.1.drawers;
         images = went.1.images;
         failure = record { no_fewer = went.1.failure.no_fewer; cause = λ told. went.1.failure.cause (told-back r told); shown = λ more. ap as_reply (went.1.failure.shown more) };
         operations = went.1.operations;
@@ -201,3 +215,30 @@ pub steps-named : (old : Sessions) (new : Committer) (before now : Device) (s : 
 steps-named old new before now s step r reply is told steps = λ q shows works.
     subst (λ (x : Step). (q' : State) × StepsToIn new.sessions new.cycle before now x reply q q') is
     (subst (λ (x : Reply). (q' : State) × StepsToIn new.sessions new.cycle before now (as_step s) x q q') (sym told) (session-steps old new.sessions new.cycle before now s r steps q shows works))
+
+-- ---- a visit of the collector
+
+visit-told-back : (r : Result Visit Fault) → visit.as_reply r ≡ reply.Refused DeviceFault → r ≡ Err DeviceFault
+visit-told-back (Ok (Slot slot)) is = absurd (cc is)
+visit-told-back (Ok SweepEnd) is = absurd (cc is)
+visit-told-back (Err fault) is = let same : fault ≡ DeviceFault = cc is in ap (λ (f : Fault). let r : Result Visit Fault = Err f in r) same
+
+visit-steps : (old new : Sessions) (cycle : Option Cycling) (before now : Device) (r : Result Visit Fault) → Collects old new before now r
+    → (q : State) → ShowsIn old cycle before q → q.failed ≡ false → (q' : State) × StepsToIn new cycle before now Collect (visit.as_reply r) q q'
+visit-steps old new cycle before now r steps q shows works =
+    let went = steps q shows.shown works in (
+      went.0,
+      record {
+        stepped = went.1.stepped;
+        shows = shows-after old new cycle before now Collect (visit.as_reply r) q went.0 refl shows went.1.stepped went.1.shows went.1.drawers;
+        images = went.1.images;
+        failure = record { no_fewer = went.1.failure.no_fewer; cause = λ told. went.1.failure.cause (visit-told-back r told); shown = λ more. ap visit.as_reply (went.1.failure.shown more) };
+        operations = went.1.operations;
+        actor = went.1.actor;
+      },
+    )
+
+-- the same, under the reply of the machine
+pub visits-named : (old : Sessions) (new : Committer) (before now : Device) (r : Result Visit Fault) (reply : Reply) → visit.as_reply r ≡ reply → Collects old new.sessions before now r → StepsIn old new.cycle new before now Collect reply
+visits-named old new before now r reply is steps = λ q shows works.
+    subst (λ (x : Reply). (q' : State) × StepsToIn new.sessions new.cycle before now Collect x q q') is (visit-steps old new.sessions new.cycle before now r steps q shows works)

@@ -2,10 +2,10 @@
 use Rattle.std.specs.Prelude.{◌≡◌, ℕ, ◌+◌, ◌≤◌, Bool, false, Option, Some}
 use Rattle.base.specs.declared.fault.Fault.TheVariants.{Device as DeviceFault}
 use Rattle.base.specs.declared.step.Step.{Step}
-use Rattle.base.specs.declared.step.Step.TheVariants.{Commit as CommitTick}
+use Rattle.base.specs.declared.step.Step.TheVariants.{Commit as CommitTick, Collect}
 use Rattle.base.specs.declared.step.Reply.{Reply}
 use Rattle.base.specs.declared.step.Reply.TheVariants.{Refused}
-use Rattle.base.specs.Actors.{committer}
+use Rattle.base.specs.Actors.{committer, collector}
 use Rattle.base.specs.Machine.{State, Stepped, session_of, most_operations, StandsWithin}
 use Rattle.pmem.specs.Device.{Device}
 use Rattle.pmem.specs.Words.{LeavesOnly, operations_of}
@@ -15,9 +15,10 @@ use Rattle.session_steps.specs.Steps.{TellsFailure, RunsBy}
 use Rattle.room.specs.declared.committer.Committer.{Committer}
 use Rattle.room.specs.Committing.{ShowsIn}
 
--- who flushes and fences for a step: its session, and for a tick the committer
+-- who flushes and fences for a step: its session, for a tick the committer, and for a visit the collector
 abbrev pub actor_of : Step → Option ℕ
 actor_of CommitTick = Some committer
+actor_of Collect = Some collector
 actor_of step = session_of step
 
 -- the step leads from q to q', which is shown then on the device as it is then

@@ -1,5 +1,4 @@
 use crate::committer::Committer;
-use crate::tick::SWEPT;
 use base::NUMBER_LIMIT;
 use base::fault::Fault;
 use group_commit::closing_record;
@@ -57,7 +56,7 @@ impl Committer {
         ensures fault { IfErr result (λ fault. fault ≡ DeviceFault) }
     {
         let numbers = self.sessions.numbers();
-        let target = closing_record(numbers.record, numbers.next, SWEPT);
+        let target = closing_record(numbers.record, numbers.next, self.sessions.has_swept());
         write_record(device, numbers.geometry, target)
     }
 }

@@ -2,6 +2,7 @@
 #![tactic(auto)]
 
 mod closing;
+mod collect;
 mod committer;
 mod ending;
 mod finishing;

@@ -4,6 +4,7 @@ ghost use Rattle.room.specs.Steps.{ShowsAs};
 use crate::committer::Committer;
 use crate::status::Status;
 use base::fault::Fault;
+use base::geometry::Geometry;
 use base::key::Key;
 use base::row::Row;
 use base::step::{Reply, Step};
@@ -75,6 +76,13 @@ impl<D: Pmem + Drop> Room<D> {
         ensures { D.state result ≡ device_of D.state self }
     {
         self.device
+    }
+
+    /// The layout of the device.
+    pub fn geometry(&self) -> Geometry
+        ensures { (q : State) → Shows D.state self.now q → result ≡ q.layout }
+    {
+        self.committer.numbers().geometry
     }
 
     /// The numbers. It takes no memory.

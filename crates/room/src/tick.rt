@@ -5,9 +5,6 @@ use group_commit::{Covered, Cycle, is_idle};
 use pmem::Pmem;
 use std::alloc::Global;
 
-// No gap is swept within a life, until there is a collector.
-pub(crate) const SWEPT: bool = false;
-
 impl Committer {
     ghost use Rattle.std.specs.Prelude.{◌≡◌, ◌≢◌, ◌<◌, ◌≤◌, length, Some, None};
     ghost use Rattle.base.specs.declared.step.Step.TheVariants.{Commit};
@@ -38,7 +35,8 @@ impl Committer {
     {
         let numbers = self.sessions.numbers();
         let drawn = self.sessions.drawn();
-        if is_idle(numbers.geometry, numbers.record, numbers.next, SWEPT, drawn) {
+        let swept = self.sessions.has_swept();
+        if is_idle(numbers.geometry, numbers.record, numbers.next, swept, drawn) {
             return Reply::Idle;
         }
         match Cycle::begin(
@@ -46,7 +44,7 @@ impl Committer {
             numbers.geometry,
             numbers.record,
             numbers.next,
-            SWEPT,
+            swept,
             drawn,
         ) {
             Ok(cycle) => {

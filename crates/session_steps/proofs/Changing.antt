@@ -14,7 +14,7 @@ use Rattle.session_steps.specs.declared.sessions.Sessions.{Sessions}
 use Rattle.session_invariant.specs.Sees.{Sees}
 use Rattle.session_steps.specs.Shows.{Hidden, plain_of, HoldsSession, HoldsDrawn, Agrees}
 use Rattle.session_steps.proofs.OneSet.{each-set}
-use Rattle.session_steps.proofs.Kept.{SameBut, Moves, slot-kept, writes-kept, table-kept}
+use Rattle.session_steps.proofs.Kept.{SameBut, Moves, slot-kept, version-kept, writes-kept, table-kept}
 
 -- what holds of a session that isn't the one
 pub session-kept : (o : Origin) (n m : ℕ) (q q' : State) (seen : ℕ) (t : Option Transaction) → SameBut n q q' → ((snapshot : _) → Sees o q snapshot seen → Sees o q' snapshot seen) → nat_eq m n ≡ false
@@ -38,9 +38,8 @@ agrees-changed s h ts slots seen held n x agrees sets moves same-seen here apart
   drawn = λ k d lt. drawn _ (agrees.drawn k d lt) (apart k d lt);
   free = free;
   counted = counted;
-  index = λ key. let e = agrees.index key in record { live = slot-kept n q q' (newest_of q key) (live_of (entry_at s.index key)) same refl e.live; last = e.last; newest = e.newest; drawn = e.drawn };
+  index = λ key. let e = agrees.index key in record { live = slot-kept n q q' (newest_of q key) (live_of (entry_at s.index key)) same refl e.live; last = e.last; newest = λ slot at. version-kept n q q' key slot same (e.newest slot at); drawn = e.drawn };
   lines = table-kept n q q' s.drawn.commits s.dirty same agrees.lines;
-  unswept = agrees.unswept;
 }
   where
     q : State

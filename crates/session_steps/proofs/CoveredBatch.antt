@@ -64,7 +64,7 @@ all-before (suc n) (e ∷ ds) t rising k d lt is =
     (all-before n ds t (rising-rest e.timestamp (map (λ (d : PlainDrawn). d.commit.timestamp) (map plain_drawn ds)) rising) k d lt is)
 
 -- a drawn commit is found by its timestamp
-found : (ds : List DrawnCommit) (k : ℕ) (d : DrawnCommit) → AreRising ds → k < length ds → find (λ (e : PlainDrawn). nat_eq e.commit.timestamp (slice_index_or ds k d).timestamp) (map plain_drawn ds) ≡ Some (plain_drawn (slice_index_or ds k d))
+pub found : (ds : List DrawnCommit) (k : ℕ) (d : DrawnCommit) → AreRising ds → k < length ds → find (λ (e : PlainDrawn). nat_eq e.commit.timestamp (slice_index_or ds k d).timestamp) (map plain_drawn ds) ≡ Some (plain_drawn (slice_index_or ds k d))
 found [] k d rising lt = absurd (omega (arith, lt))
 found (e ∷ ds) zero d rising lt = ap (λ (b : Bool). cond b (Some (plain_drawn e)) (find (λ (x : PlainDrawn). nat_eq x.commit.timestamp e.timestamp) (map plain_drawn ds))) (eq-eqb e.timestamp e.timestamp refl)
 found (e ∷ ds) (suc k) d rising lt =
@@ -181,17 +181,17 @@ module _ (s : Sessions) (count : ℕ) (ruling : Record) (h : Hidden) (hand : Han
 
   entry : (key : Key) → HoldsEntry o q' key (entry_at index key)
   entry key = subst (HoldsEntry o q' key) (sym (covers.entries key)) record {
-    live = slot-same q q' (newest_of q' key) _ refl refl (live-commits q (newest_of q' key) key None (take count s.drawn.commits) (entry_at s.index key) (newest-own key) (either (list_any (writes_key key) hand.commits) refl));
+    live = slot-same q q' (newest_of q' key) _ refl refl (live-commits q (newest_of q' key) key None (last_writer q'.history key) refl (take count s.drawn.commits) (entry_at s.index key) (newest-own key) (either (list_any (writes_key key) hand.commits) refl));
     last = within.last_is;
-    newest = within.newest;
+    newest = λ slot at. let has = within.newest slot at in record { within = has.within; timestamp = has.timestamp; held = has.held };
     drawn = within.drawn;
   }
     where
       old : HoldsEntry o q key (entry_at s.index key)
       old = may.agrees.index key
 
-      within : Within q.layout.slots (last_on key (commits_of_life o q')) (covered_by_commits key (entry_at s.index key) (take count s.drawn.commits))
-      within = within-commits q (newest_of q' key) key (last_on key (commits_of_life o q')) (take count s.drawn.commits) (entry_at s.index key) (newest-own key)
+      within : Within q key (last_on key (commits_of_life o q')) (covered_by_commits key (entry_at s.index key) (take count s.drawn.commits))
+      within = within-commits q (newest_of q' key) key (last_on key (commits_of_life o q')) (last_writer q'.history key) refl (take count s.drawn.commits) (entry_at s.index key) (newest-own key)
           record { last_is = old.last ∙ ap (last_on key) (sym (ap (commits_of_life o) plain ∙ first.life)); newest = old.newest; drawn = old.drawn }
 
       either : (b : Bool) → list_any (writes_key key) hand.commits ≡ b → IsSlotOf q (newest_of q' key) (live_of (entry_at s.index key)) ⊎ (list_any (λ (d : DrawnCommit). has_key key d.writes) (take count s.drawn.commits) ≡ true)
@@ -295,7 +295,6 @@ module _ (s : Sessions) (count : ℕ) (ruling : Record) (h : Hidden) (hand : Han
       counted = may.agrees.counted;
       index = entry;
       lines = holds-lines;
-      unswept = may.agrees.unswept;
     };
   }
 

@@ -1,18 +1,19 @@
 -- What the index has of a key once commits are covered.
-use Rattle.std.proofs.Common.{◌≡◌, ◌⊎◌, inl, inr, ℕ, zero, suc, ◌<◌, Bool, true, false, ◌||◌, cond, List, [], ◌∷◌, length, map, take, refl, ap, subst, arith}
+use Rattle.std.proofs.Common.{◌≡◌, ◌⊎◌, inl, inr, ℕ, zero, suc, ◌<◌, Bool, true, false, ◌||◌, cond, List, [], ◌∷◌, length, map, take, refl, ◌∙◌, ap, subst, arith}
 use Rattle.std.specs.Prelude.{Option, Some, None, is_some, slice_index_or, All}
 use Rattle.std.specs.List.{list_any}
 use Rattle.base.specs.declared.key.Key.{Key}
 use Rattle.base.specs.Keys.{key_eq, lookup_key}
 use Rattle.base.specs.Commits.{writes_key}
-use Rattle.base.specs.Machine.{State, Version, Drawn as PlainDrawn}
+use Rattle.base.specs.Machine.{State, Version, ByCommit, Drawn as PlainDrawn}
 use Rattle.txn.specs.declared.drawn.DrawnCommit.{DrawnCommit}
 use Rattle.txn.specs.declared.write.Write.{Write}
 use Rattle.txn.specs.WriteSets.{plain_writes}
 use Rattle.index.specs.declared.entry.Entry.{Entry}
 use Rattle.index.specs.Entries.{covered, live_of}
 use Rattle.step_invariant.specs.Moves.{IsSlotOf}
-use Rattle.session_steps.specs.Shows.{plain_drawn}
+use Rattle.state_invariant.specs.Kept.{version_by}
+use Rattle.session_steps.specs.Shows.{plain_drawn, HasVersionOf}
 use Rattle.session_steps.specs.Covering.{covered_by, covered_by_all, covered_by_commits}
 
 -- ---- lists
@@ -54,37 +55,37 @@ written-first key (suc n) (d ∷ ds) = λ i. written-plain key d.writes i || wri
 
 -- ---- the entry
 
--- the slots of the entry are of so many, and it has this last timestamp
-pub record Within (slots : ℕ) (last : Option ℕ) (e : Entry) : Type 0 where
+-- the slots of the entry are the state's, the newest has a version of the key, and it has this last timestamp
+pub record Within (q : State) (key : Key) (last : Option ℕ) (e : Entry) : Type 0 where
   pub last_is : e.last ≡ last
-  pub newest : (slot : ℕ) → e.newest ≡ Some slot → slot < slots
-  pub drawn : (slot : ℕ) → e.drawn ≡ Some slot → slot < slots
+  pub newest : (slot : ℕ) → e.newest ≡ Some slot → HasVersionOf q key slot
+  pub drawn : (slot : ℕ) → e.drawn ≡ Some slot → slot < q.layout.slots
 
 -- the slot of a write under the key is the version's
 abbrev pub IsOwn : State → Version → Key → Write → Type 0
 IsOwn q v key w = key_eq w.key key ≡ true → IsSlotOf q v w.slot
 
-module _ (q : State) (v : Version) (key : Key) (last : Option ℕ) where
-  within-covered : (slot : Option ℕ) (e : Entry) → IsSlotOf q v slot → Within q.layout.slots last e → Within q.layout.slots last (covered slot e)
+module _ (q : State) (v : Version) (key : Key) (last : Option ℕ) (t : ℕ) (written : v ≡ version_by key (ByCommit t)) where
+  within-covered : (slot : Option ℕ) (e : Entry) → IsSlotOf q v slot → Within q key last e → Within q key last (covered slot e)
   within-covered (Some slot) e is within = record {
     last_is = within.last_is;
-    newest = λ other at. let same : slot ≡ other = cc at in subst (λ (n : ℕ). n < q.layout.slots) same is.0;
+    newest = λ other at. let same : slot ≡ other = cc at in subst (HasVersionOf q key) same (record { within = is.0; timestamp = t; held = is.1 ∙ ap (λ (x : Version). Some x) written });
     drawn = λ other at. absurd (cc at);
   }
   within-covered None e is within = record { last_is = within.last_is; newest = within.newest; drawn = λ other at. absurd (cc at) }
 
-  within-one : (w : Write) (e : Entry) → IsOwn q v key w → Within q.layout.slots last e → Within q.layout.slots last (covered_by key e w)
+  within-one : (w : Write) (e : Entry) → IsOwn q v key w → Within q key last e → Within q key last (covered_by key e w)
   within-one w e own within = by (key_eq w.key key) refl
     where
-      by : (b : Bool) → key_eq w.key key ≡ b → Within q.layout.slots last (cond b (covered w.slot e) e)
+      by : (b : Bool) → key_eq w.key key ≡ b → Within q key last (cond b (covered w.slot e) e)
       by true is = within-covered w.slot e (own is) within
       by false is = within
 
-  within-writes : (writes : List Write) (e : Entry) → All (IsOwn q v key) writes → Within q.layout.slots last e → Within q.layout.slots last (covered_by_all key e writes)
+  within-writes : (writes : List Write) (e : Entry) → All (IsOwn q v key) writes → Within q key last e → Within q key last (covered_by_all key e writes)
   within-writes [] e own within = within
   within-writes (w ∷ writes) e own within = within-writes writes (covered_by key e w) (all-tail (IsOwn q v key) w writes own) (within-one w e (all-head (IsOwn q v key) w writes own) within)
 
-  pub within-commits : (ds : List DrawnCommit) (e : Entry) → All (λ (d : DrawnCommit). All (IsOwn q v key) d.writes) ds → Within q.layout.slots last e → Within q.layout.slots last (covered_by_commits key e ds)
+  pub within-commits : (ds : List DrawnCommit) (e : Entry) → All (λ (d : DrawnCommit). All (IsOwn q v key) d.writes) ds → Within q key last e → Within q key last (covered_by_commits key e ds)
   within-commits [] e own within = within
   within-commits (d ∷ ds) e own within =
       within-commits ds (covered_by_all key e d.writes) (all-tail (λ (d : DrawnCommit). All (IsOwn q v key) d.writes) d ds own) (within-writes d.writes e (all-head (λ (d : DrawnCommit). All (IsOwn q v key) d.writes) d ds own) within)

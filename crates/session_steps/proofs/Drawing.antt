@@ -37,7 +37,7 @@ use Rattle.step_invariant.specs.Moves.{IsSlotOf}
 use Rattle.session_steps.specs.declared.sessions.Sessions.{Sessions}
 use Rattle.session_steps.specs.Drawing.{touched_lines, drawn_entry}
 use Rattle.session_invariant.specs.Sees.{Sees, last_on}
-use Rattle.session_steps.specs.Shows.{Hidden, plain_of, plain_drawn, HasItsSlot, HoldsSession, HoldsEntry, HoldsDrawn, HoldsLines, Agrees, has_drawn_by, line_numbers}
+use Rattle.session_steps.specs.Shows.{Hidden, plain_of, plain_drawn, HasItsSlot, HoldsSession, HasVersionOf, HoldsEntry, HoldsDrawn, HoldsLines, Agrees, has_drawn_by, line_numbers}
 use Rattle.session_steps.specs.Steps.{Holds}
 use Rattle.session_steps.proofs.Kept.{numbers-by-tests}
 use Rattle.session_invariant.proofs.Conflicts.{last_on-append}
@@ -209,17 +209,21 @@ module _ (s : Sessions) (h : Hidden) (n : ℕ) (snapshot : Seen) (writes : List 
         ap (λ (cs : List Commit). last_on key cs) life-more ∙ last_on-append key (commits_of_life h.origin old) (commit ∷ [])
         ∙ ap (λ (b : Bool). option_or (cond b (Some t) None) (last_on key (commits_of_life h.origin old))) (writes-plain key t writes)
 
+    -- a commit's version stays in its slot
+    version-turns : (key : Key) (slot : ℕ) → HasVersionOf old key slot → HasVersionOf then key slot
+    version-turns key slot has = record { within = has.within; timestamp = has.timestamp; held = ap (by_commit n t) has.held }
+
     entry-more : (key : Key) (o : Option Write) → write_of key writes ≡ o → HoldsEntry h.origin old key (entry_at s.index key) → HoldsEntry h.origin then key (drawn_entry o t (entry_at s.index key))
     entry-more key None none has = record {
       live = slot-stays (newest_of old key) _ refl (not-now (last_writer h.history key) (newest-early key)) has.live;
       last = has.last ∙ sym (last-more key ∙ ap (λ (o : Option Write). option_or (cond (is_some o) (Some t) None) (last_on key (commits_of_life h.origin old))) none);
-      newest = has.newest;
+      newest = λ slot at. version-turns key slot (has.newest slot at);
       drawn = has.drawn;
     }
     entry-more key (Some write) found has = record {
       live = slot-stays (newest_of old key) _ refl (not-now (last_writer h.history key) (newest-early key)) has.live;
       last = sym (last-more key ∙ ap (λ (o : Option Write). option_or (cond (is_some o) (Some t) None) (last_on key (commits_of_life h.origin old))) found);
-      newest = has.newest;
+      newest = λ slot at. version-turns key slot (has.newest slot at);
       drawn = λ slot is. by write.slot is (All-contains (HasItsSlot old (BySession n)) writes write session.1 (found-in key writes write found).0).slot;
     }
       where
@@ -473,5 +477,4 @@ module _ (s : Sessions) (h : Hidden) (n : ℕ) (snapshot : Seen) (writes : List 
       counted = holds.agrees.counted;
       index = λ key. subst (HoldsEntry h.origin then key) (sym (entries key)) (entry-more key (write_of key writes) refl (holds.agrees.index key));
       lines = lines-hold touches;
-      unswept = holds.agrees.unswept;
     }

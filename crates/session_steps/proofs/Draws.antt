@@ -144,7 +144,6 @@ agrees-grown s h spare index same kept agrees = record {
   counted = agrees.counted;
   index = λ key. subst (HoldsEntry h.origin (plain_of s h) key) (sym (same key)) (agrees.index key);
   lines = agrees.lines;
-  unswept = agrees.unswept;
 }
 
 pub draws-not : (s : Sessions) (h : Hidden) (n : ℕ) (snapshot : Seen) (writes : List Write) (commits : InFlight) (index : List (Key × Entry)) (fault : Fault) → Holds s h → transaction_at s.transactions n ≡ Some (Active snapshot writes) → writes ≢ []

@@ -19,7 +19,6 @@ failed-agrees s h agrees = record {
   drawn = λ k d lt. let has = agrees.drawn k d lt in record { session = has.session; writes = λ j w below. record { slot = (has.writes j w below).slot; row = (has.writes j w below).row }; room = has.room };
   free = agrees.free;
   counted = agrees.counted;
-  index = λ key. let e = agrees.index key in record { live = e.live; last = e.last; newest = e.newest; drawn = e.drawn };
+  index = λ key. let e = agrees.index key in record { live = e.live; last = e.last; newest = λ slot at. let has = e.newest slot at in record { within = has.within; timestamp = has.timestamp; held = has.held }; drawn = e.drawn };
   lines = record { own = agrees.lines.own; none = agrees.lines.none };
-  unswept = agrees.unswept;
 }

@@ -52,11 +52,10 @@ module _ (s : Sessions) (h : Hidden) (hand : Option Hand) (failed : Bool) (a : A
     index = λ key. record {
       live = slot-with (newest_of was key) (live_of (entry_at s.index key)) (a.index key).live;
       last = (a.index key).last;
-      newest = (a.index key).newest;
+      newest = λ slot at. let has = (a.index key).newest slot at in record { within = has.within; timestamp = has.timestamp; held = has.held };
       drawn = (a.index key).drawn;
     };
     lines = record { own = a.lines.own; none = a.lines.none };
-    unswept = a.unswept;
   }
 
 -- the sessions show the state with that batch in hand, or that mark, on a device that upholds it

@@ -2,6 +2,7 @@
 use Rattle.std.proofs.Common.{◌≡◌, ◌⊎◌, inl, inr, ℕ, ◌<◌, Bool, true, false, ◌&&◌, cond, List, [], ◌∷◌, map, refl, sym, ◌∙◌, ap, subst, nat_eq, get_or}
 use Rattle.std.specs.Prelude.{Option, Some, None, All}
 use Rattle.std.specs.List.{list_any, range_with_len, flat_map}
+use Rattle.base.specs.declared.key.Key.{Key}
 use Rattle.base.specs.Commits.{Commit, last_writer, writes_key}
 use Rattle.base.specs.Layout.{Layout}
 use Rattle.base.specs.Machine.{State, Version, Writer, BySession, ByCommit, is_by, version_lines}
@@ -11,7 +12,7 @@ use Rattle.dirty_table.specs.declared.touches.Touch.{Touch}
 use Rattle.state_invariant.specs.Kept.{version_by}
 use Rattle.device_invariant.specs.Log.{Line, is_own, is_ended, lines_in, line_at, line_number}
 use Rattle.step_invariant.specs.Moves.{IsSlotOf}
-use Rattle.session_steps.specs.Shows.{HasItsSlot, HoldsLines, line_numbers, plain_drawn}
+use Rattle.session_steps.specs.Shows.{HasItsSlot, HasVersionOf, HoldsLines, line_numbers, plain_drawn}
 
 -- nobody holds it, or this session does
 abbrev pub is_nobodys_or : ℕ → Option Version → Bool
@@ -43,6 +44,12 @@ slot-kept n q q' v None same other is = λ slot lt at. by slot (subst (λ (a : L
     by : (slot : ℕ) → slot < q.layout.slots → q'.held slot ≡ Some v → (q'.held slot ≡ q.held slot) ⊎ ((is_nobodys_or n (q.held slot) ≡ true) × (is_nobodys_or n (q'.held slot) ≡ true)) → ⊥
     by slot lt at (inl stays) = is slot lt (sym stays ∙ at)
     by slot lt at (inr own) = by-other n (q'.held slot) v at own.1 other
+
+-- a commit's version stays in its slot
+pub version-kept : (n : ℕ) (q q' : State) (key : Key) (slot : ℕ) → SameBut n q q' → HasVersionOf q key slot → HasVersionOf q' key slot
+version-kept n q q' key slot same has =
+    let is = slot-kept n q q' (version_by key (ByCommit has.timestamp)) (Some slot) same refl (has.within, has.held) in
+    record { within = is.0; timestamp = has.timestamp; held = is.1 }
 
 pub write-kept : (n : ℕ) (q q' : State) (writer : Writer) (write : Write) → SameBut n q q' → is_by n writer ≡ false → HasItsSlot q writer write → HasItsSlot q' writer write
 write-kept n q q' writer write same other has = record { slot = slot-kept n q q' (version_by write.key writer) write.slot same other has.slot; row = has.row }

@@ -28,3 +28,6 @@ pub mod Scanning
 pub mod Hands
 pub mod BatchLines
 pub mod CoveredRows
+pub mod Readers
+pub mod Freed
+pub mod Visiting

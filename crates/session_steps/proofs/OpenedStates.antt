@@ -31,6 +31,7 @@ use Rattle.device_invariant.proofs.Words.{word-within}
 use Rattle.device_invariant.proofs.Says.{says-newest}
 use Rattle.device_invariant.proofs.Reading.{ruled-image}
 use Rattle.step_invariant.specs.Moves.{IsSlotOf}
+use Rattle.collector.specs.declared.rounds.Collector.{Collector}
 use Rattle.session_steps.specs.declared.sessions.Sessions.{Sessions}
 use Rattle.session_invariant.specs.Sees.{last_on}
 use Rattle.session_steps.specs.Shows.{Hidden, plain_of, plain_session, plain_drawn, HoldsSession, HoldsEntry, HoldsDrawn, HoldsLines, line_numbers, Shows}
@@ -130,17 +131,17 @@ module _ (a : Layout) (ruling : Record) (next : ℕ) (free : List Bool) (q : Sta
     holds-found = record {
       live = subst (IsSlotOf q (newest_of q key)) (sym (ap (λ (e : Entry). live_of e) (found.nothing_else key))) (newest-slot (entry_at index key).newest refl);
       last = ap (λ (e : Entry). e.last) (found.nothing_else key) ∙ ap (last_on key) (sym life);
-      newest = λ slot at. in-layout slot (found.newest key slot at).0;
+      newest = λ slot at. let is = newest-slot (Some slot) at in record { within = is.0; timestamp = last_writer q.history key; held = is.1 };
       drawn = λ slot at. absurd (none-some slot (sym (ap (λ (e : Entry). e.drawn) (found.nothing_else key)) ∙ at));
     }
 
 -- ---- all
 
-module _ (s : Sessions) (device : Device) (free : List Bool) (q : State) (same : s.slots ≡ free) (begins : Begins s.numbers.geometry s.numbers.record s.numbers.next free q) (u : Upholds (origin_of q) q device) (orderly : IsOrderly device)
+module _ (s : Sessions) (device : Device) (free : List Bool) (q : State) (same : s.slots ≡ free) (begun : s.collector ≡ record { place = 0; swept = false }) (begins : Begins s.numbers.geometry s.numbers.record s.numbers.next free q) (u : Upholds (origin_of q) q device) (orderly : IsOrderly device)
     (none_open : (n : ℕ) → transaction_at s.transactions n ≡ None) (none_drawn : s.drawn.commits ≡ []) (none_touched : s.dirty ≡ []) (counted : length free ≡ s.numbers.geometry.slots)
     (found : layout_of (image_of device) ≡ s.numbers.geometry → HasFound (image_of device) free s.numbers.geometry.slots s.index) where
   abbrev hidden : Hidden
-  hidden = record { origin = origin_of q; history = q.history; lost = q.lost; seen = λ n. 0; swept = q.swept; place = q.place; failed = q.failed; hand = q.hand; held = q.held }
+  hidden = record { origin = origin_of q; history = q.history; lost = q.lost; seen = λ n. 0; failed = q.failed; hand = q.hand; held = q.held }
 
   no-drawn : q.drawn ≡ map plain_drawn s.drawn.commits
   no-drawn = begins.none_drawn ∙ sym (ap (map plain_drawn) none_drawn)
@@ -148,8 +149,14 @@ module _ (s : Sessions) (device : Device) (free : List Bool) (q : State) (same :
   no-session-open : (n : ℕ) → q.sessions n ≡ option_map (plain_session 0) (transaction_at s.transactions n)
   no-session-open n = begins.none_open n ∙ sym (ap (λ (t : Option Transaction). option_map (plain_session 0) t) (none_open n))
 
+  is-unswept : q.swept ≡ s.collector.swept
+  is-unswept = begins.unswept ∙ sym (ap (λ (c : Collector). c.swept) begun)
+
+  is-first : q.place ≡ s.collector.place
+  is-first = begins.first ∙ sym (ap (λ (c : Collector). c.place) begun)
+
   plain : q ≡ plain_of s hidden
-  plain = λ i. record q { layout = begins.layout_is i; ruling = begins.ruling_is i; drawn = no-drawn i; sessions = λ n. no-session-open n i; next = begins.next_is i }
+  plain = λ i. record q { layout = begins.layout_is i; ruling = begins.ruling_is i; drawn = no-drawn i; sessions = λ n. no-session-open n i; next = begins.next_is i; swept = is-unswept i; place = is-first i }
 
   no-lines : HoldsLines q s.drawn.commits s.dirty
   no-lines =
@@ -169,6 +176,5 @@ module _ (s : Sessions) (device : Device) (free : List Bool) (q : State) (same :
       counted = ap (λ (f : List Bool). length f) same ∙ counted ∙ ap (λ (l : Layout). l.slots) (sym begins.layout_is);
       index = λ key. holds-found s.numbers.geometry s.numbers.record s.numbers.next free q device begins u orderly s.index (found (laid-out s.numbers.geometry s.numbers.record s.numbers.next free q device begins u orderly)) key;
       lines = no-lines;
-      unswept = begins.unswept;
     };
   }

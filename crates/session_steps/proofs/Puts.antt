@@ -111,7 +111,7 @@ link-fits s h key holds = by (entry_at s.index key).drawn refl (entry_at s.index
 
     by : (d : Option ℕ) → (entry_at s.index key).drawn ≡ d → (m : Option ℕ) → (entry_at s.index key).newest ≡ m → link_number (option_or d m) ≤ s.numbers.geometry.slots
     by (Some slot) is m newest = let lt = e.drawn slot is in omega (arith, lt)
-    by None is (Some slot) newest = let lt = e.newest slot newest in omega (arith, lt)
+    by None is (Some slot) newest = let lt = (e.newest slot newest).within in omega (arith, lt)
     by None is None newest = omega arith
 
 -- the write of a row

@@ -113,7 +113,7 @@ module _ (s : Sessions) (h : Hidden) (t spare : ℕ) where
     index = λ key. let e = agrees.index key in record {
       live = e.live;
       last = e.last ∙ ap (λ (cs : List Commit). last_on key (covered_since h.origin (plain_of s h) ++ cs)) (sym (commits-stamped t s.drawn.commits));
-      newest = e.newest;
+      newest = λ slot at. let has = e.newest slot at in record { within = has.within; timestamp = has.timestamp; held = has.held };
       drawn = e.drawn;
     };
     lines = record {
@@ -122,7 +122,6 @@ module _ (s : Sessions) (h : Hidden) (t spare : ℕ) where
           ∙ ap (λ (c : Commit). list_any (λ l. nat_eq l line) (line_numbers (plain_of s h) (c ∷ []))) (sym (same-commit t (get_or s.drawn.commits k d))));
       none = λ n line out. agrees.lines.none n line (sym (by-stamped t n s.drawn.commits) ∙ out);
     };
-    unswept = agrees.unswept;
   }
 
 -- ---- one commit has a timestamp

@@ -24,6 +24,7 @@ pub record Begins (a : Layout) (ruling : Record) (next : ℕ) (free : List Bool)
   pub none_drawn : q.drawn ≡ []
   pub none_open : (n : ℕ) → q.sessions n ≡ None
   pub unswept : q.swept ≡ false
+  pub first : q.place ≡ 0
   pub free_are : (slot : ℕ) → slot < a.slots → slice_get free slot ≡ Some (is_none (q.held slot))
 
 -- the sessions show each such state that the device upholds

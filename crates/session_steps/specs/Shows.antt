@@ -32,8 +32,6 @@ pub record Hidden : Type 0 where
   pub history : List Commit
   pub lost : List ℕ
   pub seen : ℕ → ℕ  -- how many commits each session's snapshot has
-  pub swept : Bool
-  pub place : ℕ
   pub failed : Bool
   pub hand : Option Hand
   pub held : ℕ → Option Version
@@ -58,8 +56,8 @@ plain_of s h = record {
   lost = h.lost;
   sessions = λ n. option_map (plain_session (h.seen n)) (transaction_at s.transactions n);
   next = s.numbers.next;
-  swept = h.swept;
-  place = h.place;
+  swept = s.collector.swept;
+  place = s.collector.place;
   failed = h.failed;
   hand = h.hand;
   held = h.held;
@@ -77,12 +75,18 @@ abbrev pub HoldsSession : Origin → State → ℕ → ℕ → Option Transactio
 HoldsSession o q n seen (Some (Active snapshot writes)) = Sees o q snapshot seen × All (HasItsSlot q (BySession n)) writes
 HoldsSession o q n seen _ = Unit {0}
 
+-- the slot has a version of the key, which a commit wrote
+pub record HasVersionOf (q : State) (key : Key) (slot : ℕ) : Type 0 where
+  pub within : slot < q.layout.slots
+  pub timestamp : ℕ
+  pub held : q.held slot ≡ Some (version_by key (ByCommit timestamp))
+
 -- what the index has of a key: the slot of its newest covered version, while that has a row, and the last timestamp that was
--- drawn for it in this life; the other slots are within the slots
+-- drawn for it in this life. Also the slot of a version that a deletion ended is the key's, as long as it isn't freed
 pub record HoldsEntry (o : Origin) (q : State) (key : Key) (entry : Entry) : Type 0 where
   pub live : IsSlotOf q (newest_of q key) (live_of entry)
   pub last : entry.last ≡ last_on key (commits_of_life o q)
-  pub newest : (slot : ℕ) → entry.newest ≡ Some slot → slot < q.layout.slots
+  pub newest : (slot : ℕ) → entry.newest ≡ Some slot → HasVersionOf q key slot
   pub drawn : (slot : ℕ) → entry.drawn ≡ Some slot → slot < q.layout.slots
 
 -- one of the drawn commits is the session's
@@ -112,8 +116,6 @@ pub record Agrees (s : Sessions) (o : Origin) (seen : ℕ → ℕ) (q : State) :
   pub counted : length s.slots ≡ q.layout.slots
   pub index : (key : Key) → HoldsEntry o q key (entry_at s.index key)
   pub lines : HoldsLines q s.drawn.commits s.dirty
-  -- Restriction: no gap is swept in a life, until there is a collector
-  pub unswept : q.swept ≡ false
 
 -- the sessions show the state on the device
 pub record Shows (s : Sessions) (device : Device) (q : State) : Type 0 where

@@ -4,6 +4,7 @@
 mod abort;
 mod active;
 mod begin;
+mod collect;
 mod covering;
 mod delete;
 mod draw;

@@ -10,6 +10,7 @@ use crate::sessions::Sessions;
 use base::fault::Fault;
 use base::geometry::Geometry;
 use base::{SlotNo, Ts};
+use collector::Collector;
 use dirty_table::DirtyTable;
 use index::Index;
 use log_area::Record;
@@ -89,6 +90,7 @@ impl Sessions {
             index,
             dirty: DirtyTable::new(alloc),
             slots: SlotAlloc::new(free),
+            collector: Collector::new(),
             alloc,
         }
     }

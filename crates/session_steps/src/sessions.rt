@@ -1,4 +1,5 @@
 use crate::numbers::Numbers;
+use collector::Collector;
 use dirty_table::DirtyTable;
 use index::Index;
 use slot_alloc::SlotAlloc;
@@ -14,5 +15,6 @@ pub struct Sessions {
     pub(crate) index: Index,
     pub(crate) dirty: DirtyTable,
     pub(crate) slots: SlotAlloc,
+    pub(crate) collector: Collector,
     pub(crate) alloc: Global,
 }

@@ -12,14 +12,19 @@ use std::marker::Model;
 #[derive(Drop)]
 pub struct SlotAlloc {
     free: Vec<bool>,
+    // No slot below it is free.
+    first: usize,
 }
 
 impl Model for SlotAlloc {
-    ghost use Rattle.std.specs.Prelude.{Bool, List};
+    ghost use Rattle.std.specs.Prelude.{Bool, List, length, ◌≤◌};
+    ghost use Rattle.slot_alloc.specs.Free.{AreTakenBelow};
 
     ghost Value = { List Bool };
 
     ghost view = { λ s. s.free.items };
+
+    ghost invariant = { λ s. (s.first ≤ length s.free.items) × AreTakenBelow s.first s.free.items };
 }
 
 impl SlotAlloc {
@@ -27,7 +32,7 @@ impl SlotAlloc {
     ghost use Rattle.base.specs.Layout.{slot_start, total_words};
     ghost use Rattle.pmem.specs.Device.{fenced, flushed, stored};
     ghost use Rattle.pmem.specs.Words.{IsSettledAt, Keeps, Makes, OldOr, OnlyShrinks};
-    ghost use Rattle.slot_alloc.specs.Free.{lowest_free, IsBeginOfLowest, IsClear};
+    ghost use Rattle.slot_alloc.specs.Free.{is_free, lowest_free, IsBeginOfLowest, IsClear};
     ghost use Rattle.version_slot.specs.Operations.{Runs, StopsWithin, clear_operations};
     ghost use Rattle.base.specs.declared.fault.Fault.TheVariants.{Device, SlotsOut};
 
@@ -35,15 +40,22 @@ impl SlotAlloc {
     pub fn new(free: Vec<bool>) -> SlotAlloc
         ensures { result ≡ free.items }
     {
-        SlotAlloc { free }
+        SlotAlloc { free, first: 0 }
+    }
+
+    /// Whether the slot is free. None past the last is.
+    pub fn is_free(&self, slot: u64) -> bool
+        ensures { result ≡ is_free self.now slot }
+    {
+        self.free.get(slot as usize).copied().unwrap_or(false)
     }
 
     // The slot that `take` would take.
     fn lowest(&self) -> Option<u64>
         ensures { result ≡ lowest_free self.now }
     {
-        for (slot, free) in self.free.iter().enumerate() {
-            if *free {
+        for slot in self.first..self.free.len() {
+            if self.free[slot] {
                 return Some(slot as u64);
             }
         }
@@ -56,6 +68,7 @@ impl SlotAlloc {
         ensures { self.new ≡ slice_set self.old slot true }
     {
         self.free[slot as usize] = true;
+        self.first = self.first.min(slot as usize);
     }
 
     /// Takes the lowest free slot, once 0 in its begin is sure to outlive a crash.
@@ -99,6 +112,7 @@ impl SlotAlloc {
             Err(fault) => return Err(fault),
         }
         self.free[slot as usize] = false;
+        self.first = slot as usize + 1;
         Ok(slot)
     }
 }
@@ -116,4 +130,23 @@ fn clear<D: Pmem>(device: &mut D, geometry: Geometry, actor: Actor, slot: u64) -
     device.flush(actor, word / 8)?;
     device.fence(actor)?;
     Ok(())
+}
+
+#[cfg(test)]
+mod tests {
+    use super::*;
+    use std::test::Fail;
+
+    #[test]
+    fn a_slot_that_is_given_is_free(rt: HostRuntime) -> Result<(), Fail> {
+        let mut slots = SlotAlloc::new(vec![in rt.alloc(); false, true, false]?);
+        assert!(rt; !slots.is_free(0));
+        assert!(rt; slots.is_free(1));
+        assert!(rt; !slots.is_free(3));
+        slots.give(0);
+        assert!(rt; slots.is_free(0));
+        assert!(rt; slots.is_free(1));
+        assert!(rt; !slots.is_free(2));
+        Ok(())
+    }
 }

@@ -1,7 +1,7 @@
 -- Every step, whatever it answers, keeps what a state keeps.
 use Rattle.std.proofs.Common.{◌≡◌, ◌+◌, Bool, true, false, cond, List, [], ◌∷◌, refl, sym, subst, Option, Some, None}
 use Rattle.base.specs.declared.step.Step.{Step}
-use Rattle.base.specs.declared.step.Step.TheVariants.{Begin, Get, Scan, Put, Delete, Draw, Stamp, Poll, Abort, End, Commit as CommitTick}
+use Rattle.base.specs.declared.step.Step.TheVariants.{Begin, Get, Scan, Put, Delete, Draw, Stamp, Poll, Abort, End, Commit as CommitTick, Collect}
 use Rattle.base.specs.declared.step.Stage.{Stage}
 use Rattle.base.specs.declared.step.Reply.{Reply}
 use Rattle.base.specs.Machine.{State, Hand, Stepped, refused, answered, memory_refused, device_failed, Run, final, next_state, refusal, state_ticked, state_ticked_on, next_stage, is_idle, taken_in_hand}
@@ -10,6 +10,7 @@ use Rattle.state_invariant.proofs.Covering.{keeps-covered}
 use Rattle.state_invariant.proofs.Choosing.{keeps-chosen}
 use Rattle.state_invariant.proofs.Drawing.{keeps-draw}
 use Rattle.state_invariant.proofs.Stamping.{keeps-stamp}
+use Rattle.state_invariant.proofs.Collecting.{keeps-visited}
 use Rattle.state_invariant.proofs.Writing.{keeps-begin, keeps-put, keeps-delete, keeps-abort, keeps-end}
 
 -- ---- another batch in hand, or a device that failed
@@ -108,6 +109,7 @@ keeps-next o q (Poll n) kept none = kept
 keeps-next o q (Abort n) kept none = keeps-abort o q n kept
 keeps-next o q (End n) kept none = keeps-end o q n kept none
 keeps-next o q CommitTick kept none = keeps-ticked o q q.hand kept refl
+keeps-next o q Collect kept none = keeps-visited o q kept
 
 pub keeps-failed : (o : Origin) (q : State) → Keeps o q → Keeps o (record q { failed = true })
 keeps-failed o q kept = keeps-with_hand o q q.hand true kept (λ h is. kept.numbers.hand h is)

@@ -2,7 +2,7 @@
 use Rattle.std.specs.Prelude.{◌≡◌, ℕ, ◌<◌, Bool, true, false, Option, Some, None, List, length, slice_index}
 use Rattle.base.specs.declared.key.Key.{Key}
 use Rattle.base.specs.declared.step.Step.{Step}
-use Rattle.base.specs.declared.step.Step.TheVariants.{Put, Stamp}
+use Rattle.base.specs.declared.step.Step.TheVariants.{Put, Stamp, Collect}
 use Rattle.base.specs.declared.step.Reply.{Reply}
 use Rattle.base.specs.Machine.{State, Hand, BySession, Stepped, Run, final, state_covered, refusal, next_state, held_after_put, stamped_write, timestamp_of}
 use Rattle.base.specs.Commits.{Commit}
@@ -47,6 +47,7 @@ CoveringShows = (o : Origin) (q : State) (hand : Hand) (value : ℕ → ℕ) →
 abbrev pub stores : Step → Bool
 stores (Put n key row) = true
 stores (Stamp n) = true
+stores Collect = true
 stores _ = false
 
 -- the values may stay over any other step

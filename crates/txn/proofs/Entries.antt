@@ -51,12 +51,14 @@ IsPlace key (Some k) x = (k ≡ key) × IsSome x
 
 pub changed : {T : Type 0} (slab slab' : Slab T) (places places' : List (Option ℕ)) (n key : ℕ) (p : Option ℕ) (x : Option T) → IsTable slab places → Updates slab slab' key x → IsPlace key p x
     → length places' ≡ 62 → ((m : ℕ) → entry_at places' m ≡ replaced n p (entry_at places) m) → ((m : ℕ) → m ≢ n → entry_at places m ≡ Some key → ⊥)
+    → ((k : ℕ) → entry_at places n ≡ Some k → k ≡ key)
     → Changed slab slab' places places' n x
-changed {T} slab slab' places places' n key p x table updates is size new apart = record {
+changed {T} slab slab' places places' n key p x table updates is size new apart only = record {
   table = record {
     size = size;
     there = λ m k at. there m k (nat_eq m n) refl (sym (new m) ∙ at);
     apart = λ l m k at at'. one l m k (nat_eq l n) (nat_eq m n) refl refl (sym (new l) ∙ at) (sym (new m) ∙ at');
+    placed = λ k some. placed k (nat_eq k key) refl some;
   };
   sets = λ m. entry_at-listed slab' places' m ∙ ap (found slab') (new m) ∙ at_each m (nat_eq m n) refl ∙ ap (λ (o : Option T). cond (nat_eq m n) x o) (sym (entry_at-listed slab places m));
 }
@@ -81,6 +83,30 @@ changed {T} slab slab' places places' n key p x table updates is size new apart 
     one l m k true false e f at at' = absurd (apart m (grind (arith, nat_tests)) (at' ∙ ap (λ (j : ℕ). Some j) (its p k is at).0))
     one l m k false true e f at at' = absurd (apart l (grind (arith, nat_tests)) (at ∙ ap (λ (j : ℕ). Some j) (its p k is at').0))
     one l m k false false e f at at' = table.apart l m k at at'
+
+    own : (p : Option ℕ) → IsPlace key p x → IsSome x → p ≡ Some key
+    own None is some = absurd (cc (is, some))
+    own (Some j) is some = ap (λ (k : ℕ). Some k) is.0
+
+    kept : (m k : ℕ) (b : Bool) → nat_eq m n ≡ b → k ≢ key → entry_at places m ≡ Some k → cond b p (entry_at places m) ≡ Some k
+    kept m k true same apart at = absurd (apart (only k (let e : m ≡ n = grind (arith, nat_tests) in ap (λ (i : ℕ). entry_at places i) (sym e) ∙ at)))
+    kept m k false ne apart at = at
+
+    replaced-same : (i : ℕ) → replaced i p (entry_at places) i ≡ p
+    replaced-same i = by (nat_eq i i) refl
+      where
+        by : (b : Bool) → nat_eq i i ≡ b → cond b p (entry_at places i) ≡ p
+        by true same = refl
+        by false ne = absurd (grind (arith, nat_tests))
+
+    placed : (k : ℕ) (b : Bool) → nat_eq k key ≡ b → IsSome (get slab' k) → (m : ℕ) × (entry_at places' m ≡ Some k)
+    placed k true same some =
+        let e : k ≡ key = grind (arith, nat_tests) in
+        (n, new n ∙ replaced-same n ∙ own p is (subst IsSome (ap (get slab') e ∙ updates.changed) some) ∙ ap (λ (j : ℕ). Some j) (sym e))
+    placed k false ne some =
+        let apart : k ≢ key = grind (arith, nat_tests) in
+        let was = table.placed k (subst IsSome (updates.others k apart) some) in
+        (was.0, new was.0 ∙ kept was.0 k (nat_eq was.0 n) refl apart was.1)
 
     other : (m : ℕ) (o : Option ℕ) → m ≢ n → entry_at places m ≡ o → found slab' o ≡ found slab o
     other m None ne at = refl
@@ -138,12 +164,13 @@ taken-at {T} slab places n table lo taken = ap (λ (o : Option T). is_none o) (e
     by (Some key) at = some-there (get slab key) (table.there n key at)
 
 -- a value is put in under a free number
-pub inserted : {T : Type 0} (slab slab' : Slab T) (places : List (Option ℕ)) (n key : ℕ) (x : T) → IsTable slab places → 2 ≤ n → n < 64 → get slab key ≡ None → Updates slab slab' key (Some x)
+pub inserted : {T : Type 0} (slab slab' : Slab T) (places : List (Option ℕ)) (n key : ℕ) (x : T) → IsTable slab places → 2 ≤ n → n < 64 → entry_at (listed slab places) n ≡ None → get slab key ≡ None → Updates slab slab' key (Some x)
     → Changed slab slab' places (slice_set places (n - 2) (Some key)) n (Some x)
-inserted {T} slab slab' places n key x table lo hi vacant updates =
+inserted {T} slab slab' places n key x table lo hi free vacant updates =
     changed slab slab' places (slice_set places (n - 2) (Some key)) n key (Some key) (Some x) table updates (refl, some) (length-set places (n - 2) (Some key) ∙ table.size)
     (entry_at-set places n (Some key) table.size lo hi)
     (λ m ne at. none (subst IsSome vacant (table.there m key at)))
+    (λ k at. absurd (none (subst IsSome (sym (ap (found slab) at) ∙ sym (entry_at-listed slab places n) ∙ free) (table.there n k at))))
   where
     some : IsSome {T = T} (Some x)
     some = search rules
@@ -159,6 +186,7 @@ removed slab slab' places n key table at updates =
     changed slab slab' places (slice_set places (n - 2) None) n key None None table updates refl (length-set places (n - 2) None ∙ table.size)
     (entry_at-set places n None table.size number.0 number.1)
     (λ m ne there. ne (table.apart m n key there at))
+    (λ k there. cc (there, at))
 
 -- a value is replaced
 pub put : {T : Type 0} (slab : Slab T) (places : List (Option ℕ)) (n key : ℕ) (x : T) → IsTable slab places → entry_at places n ≡ Some key
@@ -166,7 +194,7 @@ pub put : {T : Type 0} (slab : Slab T) (places : List (Option ℕ)) (n key : ℕ
 put {T} slab places n key x table at =
     changed slab (with_value slab key x) places places n key (Some key) (Some x) table
     (record { changed = get_or-set_at slab.slots key key (Some x) None refl (within (get slab key) refl (table.there n key at)); others = λ other ne. get_or-set_other slab.slots key other (Some x) None ne })
-    (refl, some) table.size same (λ m ne there. ne (table.apart m n key there at))
+    (refl, some) table.size same (λ m ne there. ne (table.apart m n key there at)) (λ k there. cc (there, at))
   where
     some : IsSome {T = T} (Some x)
     some = search rules

@@ -27,6 +27,15 @@ impl DrawnCommit {
     {
         self.stamped == self.writes.len()
     }
+
+    // One more of its writes is stamped, if it has the timestamp and one is left.
+    fn stamp(&mut self, timestamp: Ts)
+        ensures { self.new ≡ with_stamp timestamp self.old }
+    {
+        if self.timestamp == timestamp && self.stamped < self.writes.len() {
+            self.stamped += 1;
+        }
+    }
 }
 
 /// The commits that are drawn and not covered, in the order in which they were drawn.
@@ -113,9 +122,7 @@ impl DrawnCommits {
         requires { count ≤ length self.old.commits }
         ensures { self.new.commits ≡ drop count self.old.commits }
     {
-        for _ in 0..count {
-            self.commits.remove(0);
-        }
+        drop(self.commits.drain(..count));
     }
 
     /// How many commits, from the first on, have all their writes stamped.
@@ -136,19 +143,8 @@ fn stamp_each(commits: &mut [DrawnCommit], timestamp: Ts)
     ensures { commits.new ≡ map (with_stamp timestamp) commits.old }
 {
     for commit in commits {
-        *commit = with_stamp(*commit, timestamp);
+        commit.stamp(timestamp);
     }
-}
-
-// The commit, with one more write stamped if it has the timestamp and one is left.
-fn with_stamp(commit: DrawnCommit, timestamp: Ts) -> DrawnCommit
-    ensures { result ≡ with_stamp timestamp commit }
-{
-    let mut commit = commit;
-    if commit.timestamp == timestamp && commit.stamped < commit.writes.len() {
-        commit.stamped += 1;
-    }
-    commit
 }
 
 #[cfg(test)]

@@ -10,7 +10,7 @@ use Rattle.base.specs.Commits.{after}
 use Rattle.base.specs.Machine.{State, Active, Drew, BySession, replaced, by_commit, device_failed, most_sessions, closed}
 use Rattle.base.specs.Replay.{replies, end}
 use Rattle.worked.specs.Images.{key_7, ab, commit_1, record_of}
-use Rattle.worked.specs.Runs.{numbers, key_8, numbered_key, ticks, last_reply, start, insert, inserted, committed, updated, two_keys, with_32_keys, FirstCommit, FailedFence, LostCommit, EmptyWriteSet, HalfWritten, CloseThenOpen, SessionNumbers, OwnWrites, Scans, Update, TwoKeys, AbortedWrites, FullWriteSet, NoSlotLeft, FirstCommitterWins, NoTimestampLeft}
+use Rattle.worked.specs.Runs.{numbers, key_8, numbered_key, ticks, last_reply, start, insert, inserted, committed, updated, two_keys, with_32_keys, without, collects, deleted_with, FirstCommit, FailedFence, LostCommit, EmptyWriteSet, HalfWritten, CloseThenOpen, SessionNumbers, OwnWrites, Scans, Update, TwoKeys, AbortedWrites, FullWriteSet, NoSlotLeft, FirstCommitterWins, NoTimestampLeft, FreedSlots, SweptGaps}
 
 -- ---- states in between
 
@@ -173,3 +173,11 @@ first_committer_wins = record { drawn = refl; covered = refl }
 pub no_timestamp_left : NoTimestampLeft
 unfolding most_sessions
 no_timestamp_left = record { window = (refl, refl); limit = (refl, refl); records = (refl, refl, refl) }
+
+pub freed_slots : FreedSlots
+unfolding most_sessions
+freed_slots = record { rounds = refl; frees = refl; keeps = refl; reads = refl; later = refl; operations = refl }
+
+pub swept_gaps : SweptGaps
+unfolding most_sessions
+swept_gaps = record { before = refl; sweeps = refl; operations = refl; due = refl; drops = (refl, refl) }

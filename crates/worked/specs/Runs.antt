@@ -1,15 +1,15 @@
 -- Worked runs of the plain machine, with four slots, two places and a window of eight unless said.
-use Rattle.std.specs.Prelude.{ℕ, ◌≡◌, true, false, List, [], ◌∷◌, ◌++◌, map, replicate, Some, None}
+use Rattle.std.specs.Prelude.{ℕ, ◌≡◌, true, false, List, [], ◌∷◌, ◌++◌, map, replicate, Option, Some, None}
 use Rattle.std.specs.List.{range_with_len}
 use Rattle.base.specs.declared.key.Key.{Key}
 use Rattle.base.specs.declared.fault.Fault.TheVariants.{Device, Failed, Conflict, WindowFull, SlotsOut, SessionsFull, WriteSetFull, NoSession, WrongState, TimestampsOut}
 use Rattle.base.specs.declared.step.Step.{Step}
-use Rattle.base.specs.declared.step.Step.TheVariants.{Begin, Get, Scan, Put, Delete, Draw, Stamp, Poll, Abort, End, Commit as CommitTick}
+use Rattle.base.specs.declared.step.Step.TheVariants.{Begin, Get, Scan, Put, Delete, Draw, Stamp, Poll, Abort, End, Commit as CommitTick, Collect}
 use Rattle.base.specs.declared.step.Stage.TheVariants.{Chosen, LineFlushed, LinesFenced, BodyStored, BodyFlushed, BodyFenced, GateStored, GateFlushed}
 use Rattle.base.specs.declared.step.Reply.{Reply}
-use Rattle.base.specs.declared.step.Reply.TheVariants.{Began, Row, Rows, Done, Drawn as DrewAs, More, Stamped, Waiting, Committed, Idle, Ticked, Covered, Refused}
+use Rattle.base.specs.declared.step.Reply.TheVariants.{Began, Row, Rows, Done, Drawn as DrewAs, More, Stamped, Waiting, Committed, Idle, Ticked, Covered, Visited, SweepEnd, Refused}
 use Rattle.base.specs.Commits.{Commit, after}
-use Rattle.base.specs.Machine.{State, Active, BySession, ByCommit, replaced, Stepped, most_operations, operates, refusal, closed}
+use Rattle.base.specs.Machine.{State, Session, Active, BySession, ByCommit, replaced, Stepped, most_operations, operates, chooses, refusal, closed}
 use Rattle.base.specs.Openings.{opened}
 use Rattle.base.specs.Replay.{replies, end}
 use Rattle.worked.specs.Images.{with_words, formatted_image, covered_image, stamped_image, half_written_image, key_7, ab, commit_1, gap, record_of}
@@ -215,3 +215,36 @@ pub record NoTimestampLeft : Type 0 where
   pub window : (refusal full_window (Draw 2) ≡ Some WindowFull) × (refusal (record full_window { ruling = record full_window.ruling { dirty = 10 } }) (Draw 2) ≡ None)
   pub limit : (refusal near_limit (Draw 2) ≡ Some TimestampsOut) × (refusal (record near_limit { next = 4611686018427387887 }) (Draw 2) ≡ None)
   pub records : (refusal (record inserted { ruling = record inserted.ruling { gate = 4611686018427387903 } }) CommitTick ≡ Some TimestampsOut) × (refusal (record inserted { ruling = record inserted.ruling { gate = 4611686018427387902 } }) CommitTick ≡ None) × (refusal (record start { ruling = record start.ruling { gate = 4611686018427387903 } }) CommitTick ≡ None)
+
+-- ---- the collector
+
+-- so many visits of the collector
+abbrev pub collects : ℕ → List Step
+collects n = replicate n Collect
+
+-- key 7 was written and then deleted, and this is session 2
+abbrev pub deleted_with : Option Session → State
+deleted_with session = record start {
+  history = commit_1 ∷ record { timestamp = 2; writes = (key_7, None) ∷ [] } ∷ [];
+  ruling = record_of 4 2 11 [];
+  next = 3;
+  sessions = λ n. replaced 2 session (λ m. None) n;
+  held = λ slot. replaced 0 (Some (record { key = key_7; writer = ByCommit 1 })) (λ m. None) slot;
+}
+
+-- a slot is free once nobody reads its version: not while a session reads the tables of before the deletion
+pub record FreedSlots : Type 0 where
+  pub rounds : replies (deleted_with None) (collects 6) ≡ Visited 0 ∷ Visited 1 ∷ Visited 2 ∷ Visited 3 ∷ SweepEnd ∷ Visited 0 ∷ []
+  pub frees : (end (deleted_with None) (collects 1)).held 0 ≡ None
+  pub keeps : (end (deleted_with (Some (Active 1 []))) (collects 1)).held 0 ≡ Some (record { key = key_7; writer = ByCommit 1 })
+  pub reads : replies (end (deleted_with (Some (Active 1 []))) (collects 1)) (Get 2 key_7 ∷ []) ≡ Row (Some ab) ∷ []
+  pub later : (end (deleted_with (Some (Active 2 []))) (collects 1)).held 0 ≡ None
+  pub operations : most_operations (deleted_with None) Collect ≡ 0
+
+-- a sweep makes at most three operations at a slot and one at the closing place; then the next record drops the gaps
+pub record SweptGaps : Type 0 where
+  pub before : replies without (ticks 1) ≡ Idle ∷ []
+  pub sweeps : replies without (collects 5) ≡ Visited 0 ∷ Visited 1 ∷ Visited 2 ∷ Visited 3 ∷ SweepEnd ∷ []
+  pub operations : map (λ n. most_operations (end without (collects n)) Collect) (0 ∷ 3 ∷ 4 ∷ 5 ∷ []) ≡ 3 ∷ 3 ∷ 1 ∷ 0 ∷ []
+  pub due : chooses (end without (collects 5)) CommitTick ≡ true
+  pub drops : (numbers (end without (collects 5 ++ ticks 41)) ≡ 4 ∷ 8 ∷ 17 ∷ 9 ∷ []) × ((end without (collects 5 ++ ticks 41)).ruling.gaps ≡ [])

@@ -2,7 +2,7 @@
 #![tactic(auto)]
 
 ghost use Rattle.worked.specs.Images.{FirstRunImages, DamagedImages, NinthGap, ReadImages, LongCommits};
-ghost use Rattle.worked.specs.Runs.{FirstCommit, FailedFence, LostCommit, EmptyWriteSet, HalfWritten, CloseThenOpen, SessionNumbers, OwnWrites, Scans, Update, TwoKeys, AbortedWrites, FullWriteSet, NoSlotLeft, FirstCommitterWins, NoTimestampLeft};
+ghost use Rattle.worked.specs.Runs.{FirstCommit, FailedFence, LostCommit, EmptyWriteSet, HalfWritten, CloseThenOpen, SessionNumbers, OwnWrites, Scans, Update, TwoKeys, AbortedWrites, FullWriteSet, NoSlotLeft, FirstCommitterWins, NoTimestampLeft, FreedSlots, SweptGaps};
 
 /// The words of the images of a first run, and what they stand for.
 pub fn first_run_images()
@@ -107,4 +107,14 @@ pub fn first_committer_wins()
 /// A draw needs a timestamp in the window, and numbers below the limit.
 pub fn no_timestamp_left()
     ensures { NoTimestampLeft }
+{}
+
+/// The slot of a deleted row is free after the collector's visit, unless a session still reads the row.
+pub fn freed_slots()
+    ensures { FreedSlots }
+{}
+
+/// A sweep of the slots, after which the next record names no gap.
+pub fn swept_gaps()
+    ensures { SweptGaps }
 {}

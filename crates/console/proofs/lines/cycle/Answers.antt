@@ -1,4 +1,5 @@
 use Rattle.std.proofs.Common.{suc, inl, inr, arith, rules}
+use Rattle.base.specs.declared.step.Step.TheVariants as step
 use Rattle.console.specs.Obeyed.{is_tick}
 use Rattle.console.proofs.Obeyed.{more-ticks, cycles-so}
 use Rattle.console.proofs.lines.cycle.Goals as goal
@@ -12,7 +13,7 @@ loop-preserved g c =
       suc before.0,
       omega (arith, before.1),
       omega (arith, before.1, before.2, c.loop-test.true),
-      more-ticks g.D.Pmem.state c.args.room.now c.loop.room c.step-reply-in-loop.new.room is_tick before.0 c.loop.reply _ (search rules) before.3 c.step-reply-in-loop.ensures,
+      more-ticks g.D.Pmem.state c.args.room.now c.loop.room c.step-reply-in-loop.new.room step.Commit is_tick before.0 c.loop.reply _ (search rules) before.3 c.step-reply-in-loop.ensures,
     )
 
 pub returns-after-loop : goal.returns-after-loop

@@ -1,6 +1,6 @@
 use Rattle.std.proofs.Common.{List, ℕ, subst}
 use Rattle.base.specs.Machine.{State}
-use Rattle.command_line.specs.declared.command.Command.TheVariants.{Begin, Get, Scan, Put, Delete, Draw, Stamp, Poll, Abort, End, Commit, Cycle}
+use Rattle.command_line.specs.declared.command.Command.TheVariants.{Begin, Get, Scan, Put, Delete, Draw, Stamp, Poll, Abort, End, Commit, Collect, Cycle}
 use Rattle.console.specs.Obeyed.{Puts}
 use Rattle.console.proofs.Kept.{leads-by}
 use Rattle.console.proofs.Obeyed.{comes-as}
@@ -36,6 +36,9 @@ returns-in-End-clause-comes g c = comes-as g.D.Pmem.state c.args.room.now c.step
 
 pub returns-in-Commit-clause-comes : goal.returns-in-Commit-clause-comes
 returns-in-Commit-clause-comes g c = comes-as g.D.Pmem.state c.args.room.now c.tick.new.room c.args.command.now (Commit c.in-Commit.ticks) c.tick.result c.in-Commit.is c.tick.ensures
+
+pub returns-in-Collect-clause-comes : goal.returns-in-Collect-clause-comes
+returns-in-Collect-clause-comes g c = comes-as g.D.Pmem.state c.args.room.now c.collect.new.room c.args.command.now (Collect c.in-Collect.visits) c.collect.result c.in-Collect.is c.collect.ensures
 
 pub returns-in-Cycle-clause-comes : goal.returns-in-Cycle-clause-comes
 returns-in-Cycle-clause-comes g c = comes-as g.D.Pmem.state c.args.room.now c.cycle.new.room c.args.command.now Cycle c.cycle.result c.in-Cycle.is c.cycle.ensures

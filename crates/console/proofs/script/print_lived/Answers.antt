@@ -10,11 +10,11 @@ pub returns : goal.returns
 returns g c =
     let commands = c.args.life.now.commands.items in
     let replies = c.args.report.now.replies.items in
-    let same : replies_text c.as_slice.result.now c.as_slice-2.result.now ≡ replies_text commands replies =
-    ap (λ k. replies_text k c.as_slice-2.result.now) c.as_slice.ensures.value ∙ ap (λ r. replies_text commands r) c.as_slice-2.ensures.value in
+    let same : replies_text c.args.geometry c.as_slice.result.now c.as_slice-2.result.now ≡ replies_text c.args.geometry commands replies =
+    ap (λ k. replies_text c.args.geometry k c.as_slice-2.result.now) c.as_slice.ensures.value ∙ ap (λ r. replies_text c.args.geometry commands r) c.as_slice-2.ensures.value in
     printed-last c.print_closed.result (g.W.Write.contents c.args.output.now) (g.W.Write.contents c.print_replies.new.output) (g.W.Write.contents c.print_closed.new.output)
-    ((opened_text c.args.opened.now ++ 10 ∷ []) ++ replies_text commands replies) (closed_text c.args.report.now.closed)
+    ((opened_text c.args.opened.now ++ 10 ∷ []) ++ replies_text c.args.geometry commands replies) (closed_text c.args.report.now.closed)
     (appends-more (g.W.Write.contents c.args.output.now) (g.W.Write.contents c.print_opened.new.output) (g.W.Write.contents c.print_replies.new.output)
-    (opened_text c.args.opened.now ++ 10 ∷ []) (replies_text commands replies) c.in_ok-print_opened.ensures
+    (opened_text c.args.opened.now ++ 10 ∷ []) (replies_text c.args.geometry commands replies) c.in_ok-print_opened.ensures
     (subst (λ (said : Text). Appends (g.W.Write.contents c.print_opened.new.output) (g.W.Write.contents c.print_replies.new.output) said) same c.in_ok-print_replies.ensures))
     c.print_closed.ensures

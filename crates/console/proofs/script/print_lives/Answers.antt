@@ -12,9 +12,9 @@ loop-index-preserved g c =
     let report = c.index-reports-index.result in
     let test = c.loop-index-test.true in
     let end = c.min-index-end.ensures in (
-      before.0 ++ life_text (i + 1) life report,
-      appends-more (g.W.Write.contents c.args.output.now) (g.W.Write.contents c.loop-index.output) (g.W.Write.contents c.print_life.new.output) before.0 (life_text (i + 1) life report) before.1 c.in_ok-print_life.ensures,
-      lives-go-on before.0 i (i + 1) c.args.lives.now c.args.reports.now life report (lives_text 1 c.args.lives.now c.args.reports.now) (omega (arith, test, end)) (omega (arith, test, end))
+      before.0 ++ life_text c.args.geometry (i + 1) life report,
+      appends-more (g.W.Write.contents c.args.output.now) (g.W.Write.contents c.loop-index.output) (g.W.Write.contents c.print_life.new.output) before.0 (life_text c.args.geometry (i + 1) life report) before.1 c.in_ok-print_life.ensures,
+      lives-go-on c.args.geometry before.0 i (i + 1) c.args.lives.now c.args.reports.now life report (lives_text c.args.geometry 1 c.args.lives.now c.args.reports.now) (omega (arith, test, end)) (omega (arith, test, end))
           c.index-lives-index.is c.index-reports-index.is before.2,
     )
 
@@ -23,5 +23,5 @@ returns g c =
     let before = c.loop-index.invariant in
     let test = c.loop-index-test.false in
     let end = c.min-index-end.ensures in
-    lives-end before.0 c.loop-index.index (c.loop-index.index + 1) c.args.lives.now c.args.reports.now (lives_text 1 c.args.lives.now c.args.reports.now)
+    lives-end c.args.geometry before.0 c.loop-index.index (c.loop-index.index + 1) c.args.lives.now c.args.reports.now (lives_text c.args.geometry 1 c.args.lives.now c.args.reports.now)
     (g.W.Write.contents c.args.output.now) (g.W.Write.contents c.loop-index.output) (omega (arith, test, end)) before.2 before.1

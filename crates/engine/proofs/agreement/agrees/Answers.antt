@@ -1,10 +1,8 @@
-use Rattle.std.proofs.Common.{◌≡◌, ◌+◌, ◌<◌, ◌≤◌, ◌++◌, refl, sym, ap, subst, ◌∙◌, arith, ℕ, List, take, inl, inr, ◌⊎◌}
-use Rattle.std.specs.Prelude.{All, length, IsTrue, true, false, Bool, nat_lt}
+use Rattle.std.proofs.Common.{◌≡◌, refl, sym, ap, ◌∙◌, arith}
+use Rattle.std.specs.Prelude.{true, false}
 use Rattle.std.proofs.lemmas.List.{take_all}
 use Rattle.std.proofs.lemmas.List.Elements.{All-same, All-append}
-use Rattle.std.proofs.lemmas.Bool.Decides.{nat_tests}
-use Rattle.audited.specs.declared.receipt.Receipt.{Receipt}
-use Rattle.engine.specs.Agreement.{IsEntry, Agrees, AreOnce, IsOnceAt, receipts_in}
+use Rattle.engine.specs.Agreement.{IsEntry, receipts_in}
 use Rattle.engine.proofs.Counting.{receipts_more, All-session, Once-more}
 use Rattle.engine.proofs.agreement.agrees.Goals as goal
 

@@ -1,6 +1,5 @@
-use Rattle.std.proofs.Common.{◌≡◌, ◌+◌, ◌<◌, sym, ap, ◌∙◌, arith, length, true, List, ℕ}
+use Rattle.std.proofs.Common.{sym, ap, ◌∙◌, arith}
 use Rattle.std.specs.Prelude.{if◌then◌else◌, Bool}
-use Rattle.audited.specs.declared.receipt.Receipt.{Receipt}
 use Rattle.engine.specs.Agreement.{count_at}
 use Rattle.engine.proofs.Counting.{more_than_once}
 use Rattle.engine.proofs.agreement.is_once.Goals as goal

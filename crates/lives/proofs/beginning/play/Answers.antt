@@ -1,11 +1,15 @@
-use Rattle.std.proofs.Common.{◌≡◌, ◌∙◌, Bool, not, ◌&&◌, List, sym, ap, subst}
+use Rattle.std.proofs.Common.{◌≡◌, refl, ◌∙◌, Bool, not, ◌&&◌, List, sym, ap, subst}
+use Rattle.std.specs.Prelude.{Ok}
 use Rattle.base.specs.declared.step.Step.{Step}
+use Rattle.base.specs.Machine.{final}
 use Rattle.pmem.specs.Words.{image_of}
 use Rattle.pmem_model.specs.Sim.{device_of}
-use Rattle.room.specs.Room.{Shows}
-use Rattle.lives.specs.Chains.{closed_of}
+use Rattle.room.specs.Room.{Shows, device_of as device_in}
+use Rattle.lives.specs.Plain.{closed_of}
 use Rattle.lives.specs.Parts.{HasObeyed, HasEnded}
 use Rattle.lives.proofs.Chains.{opens-so, played-so}
+use Rattle.lives.specs.declared.life.Opened.{Opened}
+use Rattle.lives.proofs.Stops.{played-stops}
 use Rattle.lives.proofs.beginning.play.Goals.{then-life, else-life}
 use Rattle.lives.proofs.beginning.play.Goals as goal
 
@@ -21,5 +25,14 @@ returns-clause-ok c = λ q shows.
     ] in
     played-so q c.args.rows.items c.args.life.now _ image failed (Shows device_of c.obey.new.room)
     (opens-so q s.gate s.persisted s.dirty s.next s.gaps c.args.rows.items says.gate says.persisted says.dirty says.next says.gaps)
-    (subst (λ (steps : List Step). HasObeyed q steps c.in-Ok.obeyed.replies.items failed (Shows device_of c.obey.new.room)) c.as_slice.ensures.value (c.in-Ok.ensures q shows))
+    (subst (λ (steps : List Step). HasObeyed q steps c.in-Ok.obeyed.replies.items failed (Shows device_of c.obey.new.room)) c.as_slice.ensures.value (c.in-Ok.ensures.ok q shows))
     (λ last here. subst (λ (b : Bool). HasEnded last b (closed_of c.in_ok-closed.closed) image) both (c.in_ok-closed.ensures.ok last here))
+
+pub returns-clause-stopped : goal.returns-clause-stopped
+returns-clause-stopped c = λ q shows.
+    let obeyed = c.in-Ok.ensures.ok q shows in
+    let s = c.status-status.result in
+    let opened : Opened = record { numbers = record { gate = s.gate; persisted = s.persisted; dirty = s.dirty }; next = s.next; gaps = s.gaps; rows = c.args.rows } in
+    played-stops c.args.life.now.choice (device_in device_of c.args.room) (device_in device_of c.obey.new.room) (image_of (device_of c.in_ok-closed.left))
+    opened (record { opening = Ok opened; replies = c.in-Ok.obeyed.replies; closed = c.in_ok-closed.closed }) refl
+    (c.in-Ok.ensures.goes_on q shows) (c.in_ok-closed.ensures.stopped (final q obeyed.states) obeyed.after_it)

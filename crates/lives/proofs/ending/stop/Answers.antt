@@ -1,10 +1,11 @@
-use Rattle.std.proofs.Common.{List, ℕ, ◌≡◌, sym, subst}
+use Rattle.std.proofs.Common.{List, ℕ, ◌≡◌, false, sym, ◌∙◌, ap, rules}
 use Rattle.std.proofs.lemmas.Result.{IfOk-weaker}
 use Rattle.pmem.specs.Device.{MayLeave, restarted}
-use Rattle.pmem.specs.Words.{IsAtRest, image_of}
+use Rattle.pmem.specs.Words.{image_of}
 use Rattle.pmem_model.specs.Chosen.{IsChosen}
-use Rattle.pmem_model.specs.Sim.{device_of}
-use Rattle.recovery.proofs.Restarted.{restarted-rests}
+use Rattle.pmem_model.specs.Sim.{device_of, IsWithinLimit}
+use Rattle.recovery.proofs.Restarted.{image-restarted}
+use Rattle.lives.specs.Stops.{IsRestarted}
 use Rattle.lives.proofs.Ends.{of-restarted}
 use Rattle.lives.proofs.ending.stop.Goals as goal
 
@@ -26,11 +27,21 @@ returns-clause-possible c =
     (λ left made. of-restarted (MayLeave device) (device_of left) made)
     c.crash.ensures.possible
 
+pub returns-clause-within : goal.returns-clause-within
+returns-clause-within c =
+    let device = device_of c.args.device.now in
+    let works : c.failed_otherwise.result ≡ false = search rules in
+    IfOk-weaker c.crash.result
+    (λ left. (image : List ℕ) × MayLeave device image × (device_of left ≡ restarted image))
+    (λ left. IsWithinLimit device)
+    (λ left made. c.failed_otherwise.ensures works)
+    c.crash.ensures.possible
+
 pub returns-clause-rests : goal.returns-clause-rests
 returns-clause-rests c =
     let device = device_of c.args.device.now in
     IfOk-weaker c.crash.result
     (λ left. (image : List ℕ) × MayLeave device image × (device_of left ≡ restarted image))
-    (λ left. IsAtRest (device_of left))
-    (λ left made. subst IsAtRest (sym made.2) (restarted-rests made.0))
+    (λ left. IsRestarted (device_of left))
+    (λ left made. made.2 ∙ ap restarted (sym (ap image_of made.2 ∙ image-restarted made.0)))
     c.crash.ensures.possible

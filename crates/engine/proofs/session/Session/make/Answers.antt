@@ -1,8 +1,8 @@
 use Rattle.base.specs.Machine.{note_of}
 use Rattle.engine.proofs.Fitting.{fits-last}
-use Rattle.std.proofs.Common.{◌≡◌, sym, ap, ◌∙◌, ◌≤◌, arith, length, subst, List, ◌++◌, ◌∷◌, []}
+use Rattle.std.proofs.Common.{◌≡◌, sym, ap, ◌∙◌, ◌≤◌, arith, length, List, ◌++◌, ◌∷◌, []}
 use Rattle.audited.specs.declared.receipt.Receipt.{Receipt}
-use Rattle.engine.specs.Receipts.{rises, floor_of}
+use Rattle.engine.specs.Receipts.{floor_of}
 use Rattle.engine.proofs.Rising.{floor_of-append, rises-append, some_is}
 use Rattle.engine.proofs.session.Session.make.Goals as goal
 

@@ -1,11 +1,8 @@
-use Rattle.std.proofs.Common.{◌≡◌, ◌∙◌, ap, inr, List, [], ◌∷◌, ◌++◌, sym, refl}
-use Rattle.std.specs.Prelude.{All}
+use Rattle.std.proofs.Common.{◌≡◌, ◌∙◌, ap, inr, refl}
 use Rattle.std.proofs.lemmas.List.Elements.{All-push}
 use Rattle.base.specs.declared.step.Step.TheVariants.{Stamp}
-use Rattle.base.specs.declared.step.Reply.{Reply}
 use Rattle.base.specs.Machine.{note_of}
 use Rattle.audited.specs.declared.receipt.Receipt.{Receipt}
-use Rattle.engine.specs.Calls.{Called, TellsFault}
 use Rattle.engine.proofs.Calls.{Called-more}
 use Rattle.engine.proofs.session.Session.stamp_all.Goals as goal
 

@@ -1,4 +1,4 @@
-use Rattle.std.proofs.Common.{◌≡◌, ◌∙◌, ap, inr, List, refl}
+use Rattle.std.proofs.Common.{◌≡◌, ◌∙◌, ap, inr, refl}
 use Rattle.std.proofs.lemmas.List.Elements.{All-push}
 use Rattle.base.specs.declared.step.Step.TheVariants.{Poll}
 use Rattle.base.specs.Machine.{note_of}

@@ -1,4 +1,4 @@
-use Rattle.std.proofs.Common.{◌≡◌, All}
+use Rattle.std.proofs.Common.{◌≡◌}
 use Rattle.engine.specs.Calls.{Called, ArePolls}
 use Rattle.engine.proofs.session.Session.wait.Given as goal
 

@@ -1,4 +1,4 @@
-use Rattle.std.proofs.Common.{false, subst, sym, ◌∙◌, ap, arith}
+use Rattle.std.proofs.Common.{subst, sym, ◌∙◌, ap, arith}
 use Rattle.std.specs.Prelude.{Option, nat_eq}
 use Rattle.std.specs.List.{list_any}
 use Rattle.std.proofs.Math.Bridge.{le_prop}
@@ -23,7 +23,7 @@ returns-then-is_idle c = record {
   step = λ device orderly q shows works.
       subst (λ (o : Option Cycling). (q' : State) × StepsToIn c.args.self.now.sessions o device device CommitTick Idle q q') (sym c.requires.rests)
       (idles c.args.self.now.sessions device orderly q shows works
-      (sym (λ i. let n = c.numbers-numbers.ensures i in is_idle n.geometry n.record n.next false (c.drawn-drawn.ensures i).commits) ∙ sym c.is_idle.ensures ∙ c.if-is_idle.true));
+      (sym (λ i. let n = c.numbers-numbers.ensures i in is_idle n.geometry n.record n.next (c.has_swept-swept.ensures i) (c.drawn-drawn.ensures i).commits) ∙ sym c.is_idle.ensures ∙ c.if-is_idle.true));
 }
 
 pub begin-requires-clause-numbered : goal.begin-requires-clause-numbered
@@ -36,11 +36,11 @@ pub returns-in-Ok : goal.returns-in-Ok
 returns-in-Ok c = record {
   step = λ device orderly q shows works.
       takes c.args.self.now.sessions device orderly q shows works
-      (sym (λ i. let n = c.numbers-numbers.ensures i in is_idle n.geometry n.record n.next false (c.drawn-drawn.ensures i).commits) ∙ sym c.is_idle.ensures ∙ c.if-is_idle.false) c.in-Ok.cycle
+      (sym (λ i. let n = c.numbers-numbers.ensures i in is_idle n.geometry n.record n.next (c.has_swept-swept.ensures i) (c.drawn-drawn.ensures i).commits) ∙ sym c.is_idle.ensures ∙ c.if-is_idle.false) c.in-Ok.cycle
       (let is = ap (λ (n : Numbers). n.record.gate) c.numbers-numbers.ensures in let below = c.in-Ok.ensures.numbered in omega (arith, is, below))
-      (c.in-Ok.ensures.batch ∙ λ i. let n = c.numbers-numbers.ensures i in batch_of_run n.record (record_of_run n.geometry n.record n.next false (run (c.drawn-drawn.ensures i).commits)) (run (c.drawn-drawn.ensures i).commits))
+      (c.in-Ok.ensures.batch ∙ λ i. let n = c.numbers-numbers.ensures i in batch_of_run n.record (record_of_run n.geometry n.record n.next (c.has_swept-swept.ensures i) (run (c.drawn-drawn.ensures i).commits)) (run (c.drawn-drawn.ensures i).commits))
       (λ n. c.in-Ok.ensures.sessions n ∙ λ i. list_any (λ (d : DrawnCommit). nat_eq d.session n) (run (c.drawn-drawn.ensures i).commits))
-      (c.in-Ok.ensures.writing ∙ λ i. let n = c.numbers-numbers.ensures i in begun n.geometry (record_of_run n.geometry n.record n.next false (run (c.drawn-drawn.ensures i).commits))) c.in-Ok.ensures.stage;
+      (c.in-Ok.ensures.writing ∙ λ i. let n = c.numbers-numbers.ensures i in begun n.geometry (record_of_run n.geometry n.record n.next (c.has_swept-swept.ensures i) (run (c.drawn-drawn.ensures i).commits))) c.in-Ok.ensures.stage;
 }
 
 pub returns-in-Err : goal.returns-in-Err
@@ -48,6 +48,6 @@ returns-in-Err c = record {
   step = λ device orderly q shows works.
       subst (λ (o : Option Cycling). (q' : State) × StepsToIn c.args.self.now.sessions o device device CommitTick (Refused c.in-Err.fault) q q') (sym c.requires.rests)
       (refuses c.args.self.now.sessions device orderly q shows works
-      (sym (λ i. let n = c.numbers-numbers.ensures i in is_idle n.geometry n.record n.next false (c.drawn-drawn.ensures i).commits) ∙ sym c.is_idle.ensures ∙ c.if-is_idle.false) c.in-Err.fault
+      (sym (λ i. let n = c.numbers-numbers.ensures i in is_idle n.geometry n.record n.next (c.has_swept-swept.ensures i) (c.drawn-drawn.ensures i).commits) ∙ sym c.is_idle.ensures ∙ c.if-is_idle.false) c.in-Err.fault
       (subst (λ (n : Numbers). IsBeginFault n.record c.in-Err.fault) c.numbers-numbers.ensures c.in-Err.ensures.fault));
 }

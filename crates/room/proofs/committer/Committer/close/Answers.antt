@@ -17,6 +17,12 @@ returns-then-closing_gate-ge-NUMBER_LIMIT-clause-images g c =
     let state = g.D.Pmem.state in
     unmoved c.args.self.now (state c.args.device.now) c.closing_gate.result c.closing_gate.ensures (g.met.D.Pmem.orderly _)
 
+pub returns-in_err-finish_cycle-clause-fault : goal.returns-in_err-finish_cycle-clause-fault
+returns-in_err-finish_cycle-clause-fault g c =
+    let state = g.D.Pmem.state in
+    reported c.from_residual.result _ (λ (fault : Fault). (q : State) → Shows c.args.self.now (state c.args.device.now) q → ◌≡◌ {A = Bool} q.failed false → IsClosingRefusal q (state c.args.device.now) (state c.finish_cycle.new.device) fault) c.from_residual.ensures.1
+    (refused-part c.args.self.now (state c.args.device.now) c.closing_gate.result c.closing_gate.ensures c.if-closing_gate-ge-NUMBER_LIMIT.false (state c.finish_cycle.new.device) _ c.in_err-finish_cycle.ensures.err)
+
 pub stamp_rest-requires-clause-shown : goal.stamp_rest-requires-clause-shown
 stamp_rest-requires-clause-shown g c =
     let state = g.D.Pmem.state in

@@ -1,11 +1,17 @@
-use Rattle.std.proofs.Common.{◌≡◌, ◌<◌, Bool, true, false, List, length, get_or, sym, ◌∙◌, subst}
-use Rattle.slot_alloc.specs.Free.{is_free}
-use Rattle.slot_alloc.proofs.Lowest.{lowest_found}
+use Rattle.std.proofs.Common.{◌≡◌, Bool, true, false, List, length, sym, ◌∙◌, ap, subst, arith}
+use Rattle.std.proofs.lemmas.List.{get_or_default}
+use Rattle.slot_alloc.specs.Free.{is_free, AreTakenBelow}
+use Rattle.slot_alloc.proofs.Lowest.{lowest_found, lowest_none}
 use Rattle.slot_alloc.proofs.free.SlotAlloc.lowest.Goals as goal
 
-pub returns-then-free : goal.returns-then-free
-returns-then-free c =
-    let same : c.deref-free-items.result.now ≡ c.args.self.now = c.deref-free-items.ensures.value ∙ c.self.view_is in
-    let within = subst (λ (l : List Bool). c.loop-slot.slot < length l) same c.loop-slot-test.true in
-    let passes : is_free c.args.self.now c.loop-slot.slot ≡ true = subst (λ (l : List Bool). get_or l c.loop-slot.slot false ≡ true) same c.if-free.true in
-    sym (lowest_found c.loop-slot.slot (length c.args.self.now) (is_free c.args.self.now) within c.loop-slot.invariant passes)
+pub loop-slot-init : goal.loop-slot-init
+loop-slot-init c = lowest_none c.self.inside.first (is_free c.args.self.now) (subst (λ (l : List Bool). AreTakenBelow c.self.inside.first l) c.self.view_is c.self.invariant.1)
+
+pub returns-then-index : goal.returns-then-index
+returns-then-index c =
+    let same : c.self.inside.free.items ≡ c.args.self.now = c.self.view_is in
+    let slots : length c.self.inside.free.items ≡ length c.args.self.now = ap (λ (l : List Bool). length l) same in
+    let passes : is_free c.args.self.now c.loop-slot.slot ≡ true =
+    subst (λ (l : List Bool). is_free l c.loop-slot.slot ≡ true) same
+    (get_or_default c.self.inside.free.items c.loop-slot.slot false c.index.result.now (omega (arith, c.loop-slot-test.true, c.len-slot-end.ensures)) ∙ sym c.index.ensures ∙ c.if-index.true) in
+    sym (lowest_found c.loop-slot.slot (length c.args.self.now) (is_free c.args.self.now) (omega (arith, c.loop-slot-test.true, c.len-slot-end.ensures, slots)) c.loop-slot.invariant passes)

@@ -1,8 +1,8 @@
-use Rattle.std.proofs.Common.{rules, ◌<◌, Bool, List, length, sym, subst, arith}
+use Rattle.std.proofs.Common.{rules, ◌+◌, ◌<◌, ◌≤◌, Bool, false, List, length, slice_set, sym, subst, arith}
 use Rattle.base.specs.Layout.{slot_start}
 use Rattle.pmem.proofs.Runs.{keeps_weaken}
-use Rattle.slot_alloc.specs.Free.{is_free}
-use Rattle.slot_alloc.proofs.Lowest.{lowest_below}
+use Rattle.slot_alloc.specs.Free.{is_free, AreTakenBelow}
+use Rattle.slot_alloc.proofs.Lowest.{lowest_below, lowest_first, taken_to}
 use Rattle.slot_alloc.proofs.Clearing.{keeps-all, keeps-stopped, others-all, others-stopped, makes-stopped, clears}
 use Rattle.slot_alloc.proofs.free.SlotAlloc.take.Goals as goal
 
@@ -41,3 +41,16 @@ pub index_mut-requires : goal.index_mut-requires
 index_mut-requires g c =
     let within = subst (λ (l : List Bool). c.in-Some.slot < length l) (sym c.self.view_is) (lowest_below (length c.args.self.now) c.in-Some.slot (is_free c.args.self.now) (sym c.in-Some.ensures)) in
     search rules
+
+pub overflow_add-self : goal.overflow_add-self
+overflow_add-self g c =
+    let within = lowest_below (length c.args.self.now) c.in-Some.slot (is_free c.args.self.now) (sym c.in-Some.ensures) in
+    omega (arith, within, c.requires.slots)
+
+pub invariant_of-self : goal.invariant_of-self
+invariant_of-self g c =
+    let old = c.args.self.now in
+    let lowest = sym c.in-Some.ensures in
+    let within : c.in-Some.slot < length old = lowest_below (length old) c.in-Some.slot (is_free old) lowest in
+    subst (λ (l : List Bool). (c.in-Some.slot + 1 ≤ length (slice_set l c.in-Some.slot false)) × AreTakenBelow (c.in-Some.slot + 1) (slice_set l c.in-Some.slot false)) (sym c.self.view_is)
+    (taken_to old c.in-Some.slot within (lowest_first (length old) c.in-Some.slot (is_free old) lowest))

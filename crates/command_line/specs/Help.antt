@@ -1,0 +1,74 @@
+-- Which words ask for help: the command line as the statements of clap take it, and the kinds of error that they name.
+use Rattle.std.specs.Prelude.{◌≡◌, ◌≢◌, ℕ, List, [], ◌∷◌, Some, true, false, codes, ⊤}
+use Rattle.clap.specs.Simple.{new_shape}
+use Rattle.clap.specs.Words.{App, IsAmong, Rule, Shape, fault_of, new_rule}
+use Rattle.clap.specs.declared.builder.action.ArgAction.TheVariants.{Set}
+use Rattle.clap.specs.declared.builder.value_parser.ValueParser.TheVariants as parser
+use Rattle.clap.specs.declared.error.kind.ErrorKind.{ErrorKind}
+use Rattle.clap.specs.declared.error.kind.ErrorKind.TheVariants as kind
+use Rattle.clap.specs.declared.error.kind.ErrorKind.TheVariants.{DisplayHelp}
+use Rattle.command_line.specs.Numbers.{Text}
+use Rattle.command_line.specs.declared.orders.WordFault.{WordFault}
+use Rattle.command_line.specs.declared.orders.WordFault.TheVariants.{Help, BadWords, OutOfMemory}
+
+-- ---- the command line
+
+-- a name that has to be given
+abbrev pub name_rule : Text → Rule
+name_rule id = record (new_rule id) { required = true; action = Some Set }
+
+-- an option with a number from the least to the most, which may be left out
+abbrev pub number_rule : Text → Text → ℕ → ℕ → Rule
+number_rule name default least most = record (new_rule name) {
+  long = Some name;
+  value_names = 1;
+  defaults = default ∷ [];
+  parser = Some (parser.Unsigned least most);
+}
+
+-- a subcommand with what follows it
+abbrev pub subcommand_shape : Text → List Rule → Shape
+subcommand_shape name rules = record (new_shape name) { rules = rules }
+
+abbrev pub format_shape : Shape
+format_shape = subcommand_shape (codes "format") (name_rule (codes "FILE") ∷ number_rule (codes "slots") (codes "1024") 1 65536
+    ∷ number_rule (codes "places") (codes "4") 2 64 ∷ number_rule (codes "window") (codes "64") 4 1024 ∷ [])
+
+abbrev pub run_shape : Shape
+run_shape = subcommand_shape (codes "run") (name_rule (codes "FILE") ∷ [])
+
+abbrev pub check_shape : Shape
+check_shape = subcommand_shape (codes "check") (name_rule (codes "FILE") ∷ [])
+
+abbrev pub lives_shape : Shape
+lives_shape = subcommand_shape (codes "lives") (name_rule (codes "SCRIPT") ∷ [])
+
+-- all of it
+abbrev pub wbl : App
+wbl = record {
+  top = record (new_shape (codes "wbl")) { is_leaf = false; no_binary_name = true; subcommand_required = true };
+  subs = format_shape ∷ run_shape ∷ check_shape ∷ lives_shape ∷ [];
+}
+
+-- ---- help
+
+-- help is among the answers that the words may get
+abbrev pub MayGetHelp : List Text → Type 0
+MayGetHelp words = IsAmong DisplayHelp (fault_of wbl words)
+
+-- help is the one answer that the words get
+abbrev pub GetsHelp : List Text → Type 0
+GetsHelp words = fault_of wbl words ≡ DisplayHelp ∷ []
+
+-- what a kind of error is answered by: help by its text, want of memory as such, and any other as bad words, unless memory
+-- is wanted for the text
+abbrev pub TellsKind : ErrorKind → WordFault → Type 0
+TellsKind is (Help text) = is ≡ DisplayHelp
+TellsKind is (BadWords text) = (is ≢ DisplayHelp) × (is ≢ kind.OutOfMemory)
+TellsKind is (OutOfMemory error) = ⊤
+
+-- where help is answered, the words may get it, and where bad words are blamed, help isn't the one answer
+abbrev pub AnswersHelp : List Text → WordFault → Type 0
+AnswersHelp words (Help text) = MayGetHelp words
+AnswersHelp words (BadWords text) = GetsHelp words → ⊥
+AnswersHelp words (OutOfMemory error) = ⊤

@@ -1,0 +1,13 @@
+-- What an engine publishes as it starts.
+use Rattle.std.specs.Prelude.{◌≡◌, []}
+use Rattle.base.specs.Commits.{Lists, after}
+use Rattle.base.specs.Machine.{State}
+use Rattle.base.specs.Published.{Published}
+
+-- the tables of the state alone, at the stamp of its ruling record
+pub record IsStartedOn (q : State) (list : Published) : Type 0 where
+  pub stamp : list.stamp ≡ q.ruling.gate
+  pub persisted : list.persisted ≡ q.ruling.persisted
+  pub rows : Lists list.rows (after q.history)
+  pub batches : list.batches ≡ []
+  pub floor : list.floor ≡ q.ruling.gate

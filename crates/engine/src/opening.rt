@@ -1,0 +1,30 @@
+ghost use Rattle.std.specs.Prelude.{◌≡◌, [], IfOk, IfErr};
+ghost use Rattle.base.specs.declared.fault.Fault.TheVariants.{OutOfMemory};
+ghost use Rattle.base.specs.Machine.{State};
+ghost use Rattle.room.specs.Room.{Shows};
+ghost use Rattle.engine.specs.Started.{IsStartedOn};
+
+use audited::Audited;
+use base::fault::Fault;
+use board::{Board, History, Naming, Reader};
+use pmem::Pmem;
+use std::alloc::Global;
+use std::sync::Wait;
+
+/// A board that begins with the room's tables, and its readers.
+pub fn board_of<R: Wait + Drop, D: Pmem + Drop, J: Naming>(
+    rt: R,
+    alloc: Global,
+    history: History,
+    audited: &Audited<D>,
+) -> Result<(Board<J, R>, Vec<Reader<J>>), Fault>
+    requires name { history ≡ J.book }
+    ensures board { IfOk result (λ opened. (q : State) → Shows D.state audited.now.room q → IsStartedOn q opened.0.list) }
+    ensures fault { IfErr result (λ fault. fault ≡ OutOfMemory) }
+{
+    let status = audited.status();
+    match audited.tables() {
+        Ok(rows) => Board::open(rt, alloc, history, status.gate, status.persisted, &rows, 8),
+        Err(fault) => Err(fault),
+    }
+}

@@ -1,0 +1,26 @@
+use crate::session::Session;
+use board::{Board, Naming, Token};
+use pmem::Pmem;
+use std::sync::Wait;
+
+impl<D: Pmem + Drop, J: Naming, R: Wait + Drop> Session<D, J, Board<J, R>> {
+    ghost use Rattle.board.specs.Lists.{Begins};
+
+    /// What is published now, which may not cover the session's last commit yet. Each call has a token of its own.
+    pub fn token<W: Wait>(&self, rt: &W) -> Token<J>
+        ensures { Begins self.now.told result }
+    {
+        let board = self.shared.board.lock(rt);
+        newest(&board, &self.told)
+    }
+}
+
+ghost use Rattle.board.specs.Lists.{Begins};
+
+// What the board has published, and all that was told before.
+fn newest<J: Naming, R: Wait + Drop>(board: &Board<J, R>, told: &Token<J>) -> Token<J>
+    ensures board { Begins board.now.list result }
+    ensures told { Begins told.now result }
+{
+    told.again().later(board.token())
+}

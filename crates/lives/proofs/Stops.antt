@@ -1,0 +1,305 @@
+-- How far a device goes, and where it is stopped.
+use Rattle.std.proofs.Common.{◌≡◌, ◌⊎◌, inl, inr, ℕ, ◌+◌, ◌<◌, ◌≤◌, ◌^◌, nat_le, Bool, true, false, List, [], ◌∷◌, ◌++◌, refl, sym, ◌∙◌, ap, subst, arith}
+use Rattle.std.specs.Prelude.{Contains, Option, Some, None, Result, Ok, Err, IfErr}
+use Rattle.std.specs.Option.{option_map}
+use Rattle.std.proofs.lemmas.Bool.{cases_lt}
+use Rattle.std.proofs.lemmas.List.Elements.{Contains-append_left, Contains-push, Contains-push_cases}
+use Rattle.base.specs.declared.fault.Fault.{Fault}
+use Rattle.base.specs.declared.fault.Fault.TheVariants.{Device as DeviceFault, OutOfMemory, NotFormatted, Version, BadGeometry, Damaged, TimestampsOut, Failed}
+use Rattle.base.specs.declared.step.Step.{Step}
+use Rattle.base.specs.declared.step.Reply.{Reply}
+use Rattle.base.specs.declared.step.Reply.TheVariants.{Refused}
+use Rattle.base.specs.Search.{first_of, first_below, some_if}
+use Rattle.base.specs.Images.{Image, opening_fault, damage, faults_of, log_damage, layout_of, is_wrong_gate, ruling, ruling_place, is_bad_slot, is_near_limit}
+use Rattle.base.specs.Machine.{State, closing_fault, closing_gate}
+use Rattle.pmem.specs.Device.{Device, IsOrderly, limited, restarted}
+use Rattle.pmem.specs.Words.{Continues}
+use Rattle.pmem.proofs.Images.{continues_refl, continues_trans}
+use Rattle.pmem_model.specs.declared.choice.Choice.{Choice}
+use Rattle.pmem_model.specs.Chosen.{IsChosen}
+use Rattle.pmem_model.specs.Sim.{IsWithinLimit}
+use Rattle.recovery.specs.Opened.{IsRefusal}
+use Rattle.pmem.specs.declared.device.Pmem.{Ghosts}
+use Rattle.room.specs.Closing.{IsClosingRefusal}
+use Rattle.room.specs.Room.{StepsTo, device_of as device_in}
+use Rattle.room.specs.declared.room.Room.{Room}
+use Rattle.lives.specs.declared.life.Life.{Life}
+use Rattle.lives.specs.declared.life.LifeReport.{LifeReport}
+use Rattle.lives.specs.declared.life.Numbers.{Numbers}
+use Rattle.lives.specs.declared.life.Opened.{Opened}
+use Rattle.lives.specs.Stops.{ClosesWithDevice, ReportsDevice, GoesOn, StopsBy, IsStopped}
+use Rattle.lives.proofs.Ends.{log-first}
+
+-- ---- going on
+
+no_more : (m n : ℕ) → n ≡ m → m < n → ⊥
+no_more m n same more = omega (arith, same, more)
+
+-- one after the other
+pub goes-on : {A B C : Type 0} {old mid new : Device} → GoesOn old mid A → GoesOn mid new B → (A → C) → (B → C) → (C → A ⊎ B) → GoesOn old new C
+goes-on {A} {B} {C} {old} {mid} {new} first then by_first by_then one = record {
+  continues = continues_trans first.continues then.continues;
+  cause = λ reported. cause (one reported);
+  shown = λ more. shown more (cases_lt old.failures mid.failures);
+}
+  where
+    cause : A ⊎ B → old.failures < new.failures
+    cause (inl a) = omega (arith, first.cause a, then.continues.failures)
+    cause (inr b) = omega (arith, then.cause b, first.continues.failures)
+
+    shown : old.failures < new.failures → (old.failures < mid.failures) ⊎ (mid.failures ≤ old.failures) → C
+    shown more (inl failed) = by_first (first.shown failed)
+    shown more (inr worked) = by_then (then.shown (omega (arith, more, worked)))
+
+-- without a failure, and without a report of one
+pub goes-quietly : {R : Type 0} {old new : Device} → Continues old new → new.failures ≡ old.failures → (R → ⊥) → GoesOn old new R
+goes-quietly {R} {old} {new} continues same none = record {
+  continues = continues;
+  cause = λ reported. absurd (none reported);
+  shown = λ more. absurd (no_more old.failures new.failures same more);
+}
+
+pub goes-nowhere : {R : Type 0} (old new : Device) → new ≡ old → (R → ⊥) → GoesOn old new R
+goes-nowhere old new same none = goes-quietly (subst (λ (d : Device). Continues old d) (sym same) (continues_refl old)) (ap (λ (d : Device). d.failures) same) none
+
+none-yet : (reply : Reply) → Contains [] reply → ⊥
+none-yet reply (k, lt, is) = omega (arith, lt)
+
+-- no reply yet
+pub goes-nowhere-yet : (device : Device) (replies : List Reply) → replies ≡ [] → GoesOn device device (Contains replies (Refused DeviceFault))
+goes-nowhere-yet device replies empty = goes-nowhere device device refl (λ has. none-yet (Refused DeviceFault) (subst (λ (l : List Reply). Contains l (Refused DeviceFault)) empty has))
+
+-- a reply more
+pub goes-on-replying : {old mid new : Device} (replies : List Reply) (reply : Reply) → GoesOn old mid (Contains replies (Refused DeviceFault)) → GoesOn mid new (reply ≡ Refused DeviceFault)
+    → GoesOn old new (Contains (replies ++ reply ∷ []) (Refused DeviceFault))
+goes-on-replying replies reply first then =
+    goes-on first then
+    (λ has. Contains-append_left replies (reply ∷ []) (Refused DeviceFault) has)
+    (λ is. subst (λ (r : Reply). Contains (replies ++ reply ∷ []) r) is (Contains-push replies reply))
+    (λ has. Contains-push_cases replies reply (Refused DeviceFault) has)
+
+-- a step of the room
+pub step-goes : {D : Type 0} {G : Ghosts D} (state : D → Device) (old new : Room D G) (step : Step) (reply : Reply) (q : State) → (q' : State) × StepsTo state old new step reply q q'
+    → GoesOn (device_in state old) (device_in state new) (reply ≡ Refused DeviceFault)
+step-goes state old new step reply q (q', steps) = record { continues = steps.images.continues; cause = steps.failure.cause; shown = steps.failure.shown }
+
+-- ---- what no refusal is for
+
+abbrev IsNotDevice : Option Fault → Type 0
+IsNotDevice reason = reason ≡ Some DeviceFault → ⊥
+
+abbrev AreNotDevice : List (Option Fault) → Type 0
+AreNotDevice [] = Unit {0}
+AreNotDevice (reason ∷ reasons) = IsNotDevice reason × AreNotDevice reasons
+
+none-not : IsNotDevice None
+none-not e = cc
+
+some-not : (fault : Fault) → (fault ≡ DeviceFault → ⊥) → IsNotDevice (Some fault)
+some-not fault other e = other (ap by e)
+  where
+    by : Option Fault → Fault
+    by None = fault
+    by (Some f) = f
+
+first-not : (reasons : List (Option Fault)) → AreNotDevice reasons → IsNotDevice (first_of reasons)
+first-not [] others e = none-not e
+first-not (None ∷ reasons) (one, others) e = first-not reasons others e
+first-not (Some fault ∷ reasons) (one, others) e = one e
+
+if-not : (test : Bool) (fault : Fault) → (fault ≡ DeviceFault → ⊥) → IsNotDevice (some_if test fault)
+if-not true fault other = some-not fault other
+if-not false fault other = none-not
+
+damaged-not : (place : ℕ) → Damaged place ≡ DeviceFault → ⊥
+damaged-not place e = cc
+
+map-not : (f : ℕ → ℕ) (place : Option ℕ) → IsNotDevice (option_map (λ n. Damaged (f n)) place)
+map-not f None = none-not
+map-not f (Some n) = some-not (Damaged (f n)) (damaged-not (f n))
+
+not-formatted : NotFormatted ≡ DeviceFault → ⊥
+not-formatted e = cc
+
+version-not : (version : ℕ) → Version version ≡ DeviceFault → ⊥
+version-not version e = cc
+
+geometry-not : BadGeometry ≡ DeviceFault → ⊥
+geometry-not e = cc
+
+timestamps-not : TimestampsOut ≡ DeviceFault → ⊥
+timestamps-not e = cc
+
+failed-not : Failed ≡ DeviceFault → ⊥
+failed-not e = cc
+
+memory-not : OutOfMemory ≡ DeviceFault → ⊥
+memory-not e = cc
+
+damage-not : (image : Image) → IsNotDevice (damage image)
+damage-not image =
+    first-not (faults_of image) (
+      if-not _ NotFormatted not-formatted,
+      (
+        if-not _ (Version (layout_of image).version) (version-not (layout_of image).version),
+        (
+          if-not _ BadGeometry geometry-not,
+          (
+            map-not (λ n. n) (first_below (layout_of image).places (is_wrong_gate image)),
+            (
+              if-not _ (Damaged (ruling_place image)) (damaged-not (ruling_place image)),
+              (map-not (λ slot. (layout_of image).places + slot) (first_below (layout_of image).slots (is_bad_slot (ruling image) image)), tt),
+            ),
+          ),
+        ),
+      ),
+    )
+
+-- no image is why an opening answers Device
+pub opening-not : (image : Image) → IsNotDevice (opening_fault image)
+opening-not image =
+    first-not (damage image ∷ some_if (is_near_limit image) TimestampsOut ∷ []) (
+      damage-not image,
+      (if-not (is_near_limit image) TimestampsOut timestamps-not, tt),
+    )
+
+-- nor is a state why a close does
+closing-not : (q : State) → IsNotDevice (closing_fault q)
+closing-not q =
+    first-not (some_if q.failed Failed ∷ some_if (nat_le (2 ^ 62) (closing_gate q)) TimestampsOut ∷ []) (
+      if-not q.failed Failed failed-not,
+      (if-not (nat_le (2 ^ 62) (closing_gate q)) TimestampsOut timestamps-not, tt),
+    )
+
+-- ---- an opening
+
+abbrev opening-fault : Result Opened Fault → Fault
+opening-fault (Ok opened) = OutOfMemory
+opening-fault (Err fault) = fault
+
+none-closed : ClosesWithDevice None → ⊥
+none-closed e = cc
+
+-- an opening that was refused
+pub refused-goes : (old new : Device) (image : Image) (fault : Fault) (report : LifeReport) → report.opening ≡ Err fault → report.replies.items ≡ [] → report.closed ≡ None
+    → IsRefusal (opening_fault image) old new fault → Continues old new → GoesOn old new (ReportsDevice report)
+refused-goes old new image fault report opening replies closed refusal continues = by refusal
+  where
+    is_device : ReportsDevice report → fault ≡ DeviceFault
+    is_device (inl told) = ap opening-fault (sym opening ∙ told)
+    is_device (inr (inl has)) = absurd (none-yet (Refused DeviceFault) (subst (λ (l : List Reply). Contains l (Refused DeviceFault)) replies has))
+    is_device (inr (inr told)) = absurd (none-closed (sym closed ∙ told))
+
+    other : (opening_fault image ≡ Some fault) ⊎ (fault ≡ OutOfMemory) → ReportsDevice report → ⊥
+    other (inl reason) told = opening-not image (reason ∙ ap Some (is_device told))
+    other (inr memory) told = memory-not (sym memory ∙ is_device told)
+
+    by : IsRefusal (opening_fault image) old new fault → GoesOn old new (ReportsDevice report)
+    by (inl (why, same)) = goes-nowhere old new same (other why)
+    by (inr (none, is, more)) = record { continues = continues; cause = λ told. more; shown = λ failed. inl (opening ∙ ap Err is) }
+
+ok-not : (opened : Opened) → ◌≡◌ {A = Result Opened Fault} (Ok opened) (Err DeviceFault) → ⊥
+ok-not opened e = cc
+
+-- a life whose opening succeeded goes on by its steps, and up to its stop
+pub played-stops : (choice : Choice) (old mid : Device) (left : Image) (opened : Opened) (report : LifeReport) → report.opening ≡ Ok opened
+    → GoesOn old mid (Contains report.replies.items (Refused DeviceFault)) → StopsBy choice mid (ClosesWithDevice report.closed) left
+    → StopsBy choice old (ReportsDevice report) left
+played-stops choice old mid left opened report opening replied stops = record {
+  last = stops.last;
+  goes_on = goes-on replied stops.goes_on (λ has. inr (inl has)) (λ told. inr (inr told)) cases;
+  orderly = stops.orderly;
+  within = stops.within;
+  chosen = stops.chosen;
+}
+  where
+    cases : ReportsDevice report → Contains report.replies.items (Refused DeviceFault) ⊎ ClosesWithDevice report.closed
+    cases (inl told) = absurd (ok-not opened (sym opening ∙ told))
+    cases (inr later) = later
+
+-- the opening came before
+pub opened-stops : {R : Type 0} (choice : Choice) (old mid : Device) (left : Image) → Continues old mid → mid.failures ≡ old.failures → StopsBy choice mid R left → StopsBy choice old R left
+opened-stops choice old mid left continues same stops = record {
+  last = stops.last;
+  goes_on = goes-on (goes-quietly {R = ⊥} continues same (λ e. e)) stops.goes_on (λ e. absurd e) (λ told. told) (λ told. inr told);
+  orderly = stops.orderly;
+  within = stops.within;
+  chosen = stops.chosen;
+}
+
+-- ---- an end
+
+-- without a close
+pub open-stops : (choice : Choice) (old last : Device) (left : Image) → last ≡ old → IsOrderly last → IsWithinLimit last → IsChosen choice last left
+    → StopsBy choice old (ClosesWithDevice None) left
+open-stops choice old last left same tidy within chosen = record { last = last; goes_on = goes-nowhere old last same none-closed; orderly = tidy; within = within; chosen = chosen }
+
+some-closed : (told : Result Numbers Fault) → ClosesWithDevice (Some told) → told ≡ Err DeviceFault
+some-closed told e = ap by e
+  where
+    by : Option (Result Numbers Fault) → Result Numbers Fault
+    by None = told
+    by (Some t) = t
+
+numbers-not : (numbers : Numbers) → ◌≡◌ {A = Result Numbers Fault} (Ok numbers) (Err DeviceFault) → ⊥
+numbers-not numbers e = cc
+
+sound-not : (reason : Option Fault) (fault : Fault) → reason ≡ None → reason ≡ Some fault → ⊥
+sound-not reason fault none some = cc
+
+read-not : (image : Image) (told : Result Numbers Fault) → damage image ≡ None → IfErr told (λ fault. log_damage image ≡ Some fault) → told ≡ Err DeviceFault → ⊥
+read-not image (Ok numbers) sound is e = numbers-not numbers e
+read-not image (Err fault) sound is e = sound-not (damage image) fault sound (log-first image fault is)
+
+-- after a close that succeeded
+pub closed-stops : (choice : Choice) (old last : Device) (left : Image) (told : Result Numbers Fault) → Continues old last → last.failures ≡ old.failures
+    → damage left ≡ None → IfErr told (λ fault. log_damage left ≡ Some fault) → IsOrderly last → IsWithinLimit last → IsChosen choice last left
+    → StopsBy choice old (ClosesWithDevice (Some told)) left
+closed-stops choice old last left told continues same sound is tidy within chosen = record {
+  last = last;
+  orderly = tidy;
+  goes_on = goes-quietly continues same (λ e. read-not left told sound is (some-closed told e));
+  within = within;
+  chosen = chosen;
+}
+
+abbrev close-fault : Result Numbers Fault → Fault
+close-fault (Ok numbers) = OutOfMemory
+close-fault (Err fault) = fault
+
+-- within a close that failed
+pub refused-stops : (choice : Choice) (q : State) (old last : Device) (left : Image) (fault : Fault) → Continues old last → IsClosingRefusal q old last fault
+    → IsOrderly last → IsWithinLimit last → IsChosen choice last left → StopsBy choice old (ClosesWithDevice (Some (Err fault))) left
+refused-stops choice q old last left fault continues refusal tidy within chosen = record { last = last; goes_on = by refusal; orderly = tidy; within = within; chosen = chosen }
+  where
+    is_device : ClosesWithDevice (Some (Err fault)) → fault ≡ DeviceFault
+    is_device told = ap close-fault (some-closed (Err fault) told)
+
+    by : IsClosingRefusal q old last fault → GoesOn old last (ClosesWithDevice (Some (Err fault)))
+    by (inl (because, same)) = goes-nowhere old last same (λ told. closing-not q (because ∙ ap Some (is_device told)))
+    by (inr (none, is, more)) = record { continues = continues; cause = λ told. more; shown = λ failed. ap (λ (f : Fault). Some (Err f)) is }
+
+-- ---- a life
+
+from-nothing : (fuse : Option ℕ) → option_map (λ left. 0 + left) fuse ≡ fuse
+from-nothing None = refl
+from-nothing (Some n) = ap Some (omega arith)
+
+-- its device began with the image at rest, under its fuse
+pub is-stopped : (life : Life) (report : LifeReport) (image left : Image) (begun : Device) → begun ≡ limited life.fuse (restarted image)
+    → StopsBy life.choice begun (ReportsDevice report) left → IsStopped life report image left
+is-stopped life report image left begun is stops =
+    let last = stops.last in
+    let limit : last.limit ≡ life.fuse = stops.goes_on.continues.same_limit ∙ ap (λ (d : Device). d.limit) is ∙ from-nothing life.fuse in
+    let none : begun.failures ≡ 0 = ap (λ (d : Device). d.failures) is in
+    let within = stops.within in
+    record {
+      last = last;
+      goes_on = subst (λ (d : Device). Continues d last) is stops.goes_on.continues;
+      orderly = stops.orderly;
+      counted = within.counted;
+      most = λ fuse asked. omega (arith, within.counted, within.most fuse (limit ∙ asked));
+      reported = (λ told. omega (arith, none, stops.goes_on.cause told), λ failed. stops.goes_on.shown (omega (arith, none, failed)));
+      all = λ told. sym limit ∙ within.all (λ zero. no_more 0 last.failures zero (omega (arith, none, stops.goes_on.cause told))) ∙ ap Some (sym within.counted);
+      chosen = stops.chosen;
+    }

@@ -1,0 +1,28 @@
+-- A life and its report in the plain words of lives.
+use Rattle.std.specs.Prelude.{Option, Some, None, Result, Ok, Err}
+use Rattle.base.specs.declared.fault.Fault.{Fault}
+use Rattle.base.specs.Lives.{Numbers as PlainNumbers, Opening, Opens, Fails, Asked, Report}
+use Rattle.lives.specs.declared.life.Life.{Life}
+use Rattle.lives.specs.declared.life.LifeReport.{LifeReport}
+use Rattle.lives.specs.declared.life.Numbers.{Numbers}
+use Rattle.lives.specs.declared.life.Opened.{Opened}
+
+-- what is asked of a life
+abbrev pub asked_of : Life → Asked
+asked_of life = record { steps = life.steps.items; closes = life.close }
+
+abbrev pub numbers_of : Numbers → PlainNumbers
+numbers_of numbers = record { gate = numbers.gate; persisted = numbers.persisted; dirty = numbers.dirty }
+
+abbrev pub opening_of : Result Opened Fault → Opening
+opening_of (Ok opened) = Opens (numbers_of opened.numbers) opened.next opened.gaps opened.rows.items
+opening_of (Err fault) = Fails fault
+
+abbrev pub closed_of : Option (Result Numbers Fault) → Option (Result PlainNumbers Fault)
+closed_of None = None
+closed_of (Some (Ok numbers)) = Some (Ok (numbers_of numbers))
+closed_of (Some (Err fault)) = Some (Err fault)
+
+-- what a report tells
+abbrev pub report_of : LifeReport → Report
+report_of report = record { opening = opening_of report.opening; replies = report.replies.items; closed = closed_of report.closed }

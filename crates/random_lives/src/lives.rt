@@ -1,0 +1,209 @@
+use crate::chance::Chance;
+use crate::model::{Model, WINDOW};
+use crate::slots::{KEYS, SLOTS};
+use base::fault::Fault;
+use base::geometry::Geometry;
+use base::key::Key;
+use base::row::Row;
+use base::step::{Note, Step};
+use pmem_model::{Choice, SimPmem};
+use recovery::format;
+use room::Room;
+use std::alloc::Global;
+use std::process::Abort;
+use std::thread::Threads;
+
+const SEEDS: u64 = 60;
+
+const LIVES: u64 = 12;
+
+const STEPS: u64 = 120;
+
+// No opening makes more operations, not even one that sweeps.
+const MOST_IN_AN_OPENING: u64 = 64;
+
+fn key_of(chance: &mut Chance) -> Key {
+    Key {
+        table: 1,
+        key: chance.below(KEYS as u32),
+    }
+}
+
+// A step, and how often it is made: ticks and visits come in numbers.
+fn any_step(chance: &mut Chance) -> Result<(Step, u64), Fault> {
+    let session = 2 + chance.below(4) as u8;
+    let step = match chance.below(20) {
+        0..2 => Step::Begin,
+        2..4 => Step::Get {
+            session,
+            key: key_of(chance),
+        },
+        4..7 => Step::Put {
+            session,
+            key: key_of(chance),
+            row: Row::new(&[chance.below(256) as u8])?,
+        },
+        7 => Step::Delete {
+            session,
+            key: key_of(chance),
+        },
+        8..10 => Step::Draw { session },
+        10..12 => Step::Stamp { session },
+        12 => Step::Poll { session },
+        13 => Step::Abort { session },
+        14 => Step::End { session },
+        15..17 => Step::Scan {
+            session,
+            table: 1 + (chance.below(4) / 3) as u16,
+            lo: chance.below(3),
+            hi: chance.below(4),
+        },
+        17 => return Ok((Step::Collect, 1 + chance.below(12))),
+        _ => return Ok((Step::Commit, 1 + chance.below(60))),
+    };
+    Ok((step, 1))
+}
+
+// The notes agree. The model doesn't tell the ticks of a cycle apart.
+fn are_alike(found: &Note, want: &Note) -> bool {
+    found == want || matches!((found, want), (Note::Ticked(_), Note::Ticked(_)))
+}
+
+// Makes a step, and notes its reply. Want of memory for the note looks like that of a scan, which changes nothing.
+fn noted(room: &mut Room<SimPmem>, step: Step) -> Note {
+    match Note::of(&room.step(step)) {
+        Ok(note) => note,
+        Err(_) => Note::Refused(Fault::OutOfMemory),
+    }
+}
+
+// Makes steps at random up to the first that finds the device failing.
+fn live(
+    rt: &impl Abort,
+    room: &mut Room<SimPmem>,
+    model: &mut Model,
+    chance: &mut Chance,
+    seed: u64,
+) -> Result<(), Fault> {
+    for _ in 0..STEPS {
+        let (step, count) = any_step(chance)?;
+        if step == Step::Begin && model.is_full() {
+            continue;
+        }
+        for _ in 0..count {
+            let found = noted(room, step);
+            if found == Note::Refused(Fault::Device) {
+                return Ok(());
+            }
+            let want = model.step(step);
+            assert!(rt;
+                are_alike(&found, &want),
+                "seed {seed}: {step:?} {found:?} {want:?}"
+            );
+        }
+    }
+    Ok(())
+}
+
+// Of each word any value that may have survived.
+fn any_choice(alloc: Global, chance: &mut Chance, words: u64) -> Result<Choice, Fault> {
+    let mut numbers = Vec::new(alloc);
+    for _ in 0..words {
+        if numbers.push(chance.below(u32::MAX)).is_err() {
+            return Err(Fault::OutOfMemory);
+        }
+    }
+    Ok(Choice::Each(numbers))
+}
+
+// The room has the model's numbers, its gaps and its rows.
+fn assert_agrees(
+    rt: &impl Abort,
+    room: &Room<SimPmem>,
+    model: &Model,
+    seed: u64,
+) -> Result<(), Fault> {
+    let status = room.status();
+    let numbers = (status.gate, status.dirty, status.next);
+    assert!(rt; numbers == model.numbers(), "seed {seed}: {numbers:?}");
+    assert!(rt; status.gaps.as_slice() == model.gaps(), "seed {seed}: gaps");
+    let mut tables = [None; KEYS];
+    for (key, row) in room.tables()?.iter() {
+        if let Some(place) = tables.get_mut(key.key as usize) {
+            *place = row.as_bytes().first().copied();
+        }
+    }
+    assert!(rt; tables == model.tables(), "seed {seed}: {tables:?}");
+    Ok(())
+}
+
+// The room of a device that is at rest.
+fn opened<R: Threads + Sync + Abort>(
+    rt: &R,
+    alloc: Global,
+    device: SimPmem,
+) -> Result<Room<SimPmem>, Fault> {
+    assert!(rt; device.at_rest());
+    match Room::open(rt, alloc, device) {
+        Ok(room) => Ok(room),
+        Err((fault, _device)) => Err(fault),
+    }
+}
+
+// A device that was formatted, at rest.
+fn formatted(alloc: Global, geometry: Geometry) -> Result<SimPmem, Fault> {
+    let Ok(zeros) = vec![in alloc; 0; geometry.words() as usize] else {
+        return Err(Fault::OutOfMemory);
+    };
+    let mut device = SimPmem::from_words(alloc, &zeros)?;
+    format(&mut device, geometry)?;
+    device.crash(&Choice::Oldest)
+}
+
+// One life, after which the device is opened again.
+fn next_life<R: Threads + Sync + Abort>(
+    rt: &R,
+    alloc: Global,
+    device: SimPmem,
+    model: &mut Model,
+    chance: &mut Chance,
+    seed: u64,
+) -> Result<SimPmem, Fault> {
+    let closes = chance.below(4) == 0;
+    let mut device = device;
+    if !closes {
+        device.set_fuse(Some(MOST_IN_AN_OPENING + chance.below(400)));
+    }
+    let mut room = opened(rt, alloc, device)?;
+    live(rt, &mut room, model, chance, seed)?;
+    if !closes {
+        let choice = any_choice(alloc, chance, room.geometry().words())?;
+        let left = room.into_device().crash(&choice)?;
+        let room = opened(rt, alloc, left.crash(&Choice::Oldest)?)?;
+        model.stop(room.status().gate)?;
+        return Ok(left);
+    }
+    match room.close() {
+        Ok(device) => {
+            model.close();
+            device.crash(&Choice::Oldest)
+        }
+        Err((fault, _device)) => Err(fault),
+    }
+}
+
+#[test]
+fn random_lives_agree_with_plain_tables(rt: HostRuntime) -> Result<(), Fault> {
+    for seed in 0..SEEDS {
+        let mut chance = Chance::new(seed);
+        let mut model = Model::new(rt.alloc());
+        let mut device = formatted(rt.alloc(), Geometry::new(SLOTS as u64, 2, WINDOW)?)?;
+        for _ in 0..LIVES {
+            device = next_life(&rt, rt.alloc(), device, &mut model, &mut chance, seed)?;
+            let left = device.crash(&Choice::Oldest)?;
+            let room = opened(&rt, rt.alloc(), left)?;
+            assert_agrees(&rt, &room, &model, seed)?;
+        }
+    }
+    Ok(())
+}

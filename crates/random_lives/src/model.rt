@@ -1,0 +1,491 @@
+use crate::slots::{KEYS, SLOTS, Slots, Version, Writer};
+use base::fault::Fault;
+use base::gap::Gap;
+use base::key::Key;
+use base::row::Row;
+use base::rows::Rows;
+use base::step::{Note, Stage, Step};
+use std::alloc::Global;
+
+/// The window of the device that the model is for.
+pub const WINDOW: u64 = 8;
+
+/// The rows of the first keys of table 1, each of one byte.
+pub type Tables = [Option<u8>; KEYS];
+
+// What is written under these keys: a row, or a deletion.
+type Writes = [Option<Option<u8>>; KEYS];
+
+#[derive(Clone, Copy)]
+struct Commit {
+    timestamp: u64,
+    writes: Writes,
+    lines: u64,
+    stamps_left: u64,
+}
+
+#[derive(Clone, Copy)]
+enum State {
+    Active,
+    /// With the place of its commit.
+    Drawn(usize),
+    ReadOnly,
+}
+
+#[derive(Clone, Copy)]
+struct Session {
+    /// How many commits it sees.
+    begun: usize,
+    writes: Writes,
+    state: State,
+}
+
+// A cycle: up to which commit it covers, how many ticks are left, what it reserves, and whether it drops the gaps.
+#[derive(Clone, Copy)]
+struct Cycle {
+    covered: usize,
+    ticks: u64,
+    dirty: u64,
+    drops_gaps: bool,
+}
+
+/// The engine as one list of commits, of which so many are covered, with four sessions, and what takes each slot.
+#[derive(Drop)]
+pub struct Model {
+    alloc: Global,
+    commits: Vec<Commit>,
+    covered: usize,
+    sessions: [Option<Session>; 4],
+    cycle: Option<Cycle>,
+    gate: u64,
+    persisted: u64,
+    next: u64,
+    dirty: u64,
+    gaps: Vec<Gap>,
+    swept: bool,
+    /// The slot that the collector visits next, or the number of slots for the closing place.
+    place: usize,
+    slots: Slots,
+}
+
+impl Model {
+    /// A fresh device that was opened.
+    pub fn new(alloc: Global) -> Model {
+        Model {
+            alloc,
+            commits: Vec::new(alloc),
+            covered: 0,
+            sessions: [None; 4],
+            cycle: None,
+            gate: 2,
+            persisted: 0,
+            next: 1,
+            dirty: 1 + WINDOW,
+            gaps: Vec::new(alloc),
+            swept: false,
+            place: 0,
+            slots: Slots::new(),
+        }
+    }
+
+    /// The gate, the dirty and the next timestamp.
+    pub fn numbers(&self) -> (u64, u64, u64) {
+        (self.gate, self.dirty, self.next)
+    }
+
+    pub fn gaps(&self) -> &[Gap] {
+        self.gaps.as_slice()
+    }
+
+    /// What the covered commits leave.
+    pub fn tables(&self) -> Tables {
+        self.tables_after(self.covered)
+    }
+
+    fn tables_after(&self, commits: usize) -> Tables {
+        let mut tables = [None; KEYS];
+        for commit in self.commits.iter().take(commits) {
+            for (row, write) in tables.iter_mut().zip(commit.writes.iter()) {
+                if let Some(written) = write {
+                    *row = *written;
+                }
+            }
+        }
+        tables
+    }
+
+    /// Are four sessions open?
+    pub fn is_full(&self) -> bool {
+        self.sessions.iter().all(|place| place.is_some())
+    }
+
+    /// The note of a step. Of the ticks of a cycle it is that of the first.
+    pub fn step(&mut self, step: Step) -> Note {
+        let number = match step {
+            Step::Begin => return self.begin(),
+            Step::Commit => return self.tick(),
+            Step::Collect => return self.visit(),
+            Step::Get { session, .. } | Step::Scan { session, .. } => session,
+            Step::Put { session, .. } => session,
+            Step::Delete { session, .. } | Step::Draw { session } => session,
+            Step::Stamp { session } | Step::Poll { session } => session,
+            Step::Abort { session } | Step::End { session } => session,
+        };
+        let at = number.saturating_sub(2) as usize;
+        let Some(session) = self.sessions.get(at).copied().flatten() else {
+            return Note::Refused(Fault::NoSession);
+        };
+        let (note, after) = self.step_of(at, session, step);
+        if let Some(place) = self.sessions.get_mut(at) {
+            *place = after;
+        }
+        note
+    }
+
+    fn begin(&mut self) -> Note {
+        for (number, place) in (2..).zip(self.sessions.iter_mut()) {
+            if place.is_none() {
+                *place = Some(Session {
+                    begun: self.covered,
+                    writes: [None; KEYS],
+                    state: State::Active,
+                });
+                return Note::Began(number);
+            }
+        }
+        Note::Refused(Fault::SessionsFull)
+    }
+
+    fn step_of(&mut self, at: usize, session: Session, step: Step) -> (Note, Option<Session>) {
+        match session.state {
+            State::Active => self.step_of_active(at, session, step),
+            State::Drawn(commit) => match step {
+                Step::Stamp { .. } => (self.stamp(commit), Some(session)),
+                Step::Poll { .. } => (self.poll(commit), Some(session)),
+                Step::End { .. } if commit < self.covered => (Note::Done, None),
+                _ => (Note::Refused(Fault::WrongState), Some(session)),
+            },
+            State::ReadOnly => match step {
+                Step::Poll { .. } => (Note::Done, Some(session)),
+                Step::End { .. } => (Note::Done, None),
+                _ => (Note::Refused(Fault::WrongState), Some(session)),
+            },
+        }
+    }
+
+    fn step_of_active(
+        &mut self,
+        at: usize,
+        session: Session,
+        step: Step,
+    ) -> (Note, Option<Session>) {
+        match step {
+            Step::Get { key, .. } => (Note::Row(self.seen(&session, key.key)), Some(session)),
+            Step::Scan { table, lo, hi, .. } => (self.scan(&session, table, lo, hi), Some(session)),
+            Step::Put { key, row, .. } => self.put(at, session, key, row),
+            Step::Delete { key, .. } => {
+                self.slots.free_version(own_version(at, key));
+                (Note::Done, Some(with(session, key, Some(None))))
+            }
+            Step::Draw { .. } => self.draw(at, session),
+            Step::Abort { .. } => {
+                self.slots.free_writer(Writer::Session(at));
+                (Note::Done, None)
+            }
+            _ => (Note::Refused(Fault::WrongState), Some(session)),
+        }
+    }
+
+    fn put(&mut self, at: usize, session: Session, key: Key, row: Row) -> (Note, Option<Session>) {
+        if !self.slots.take(own_version(at, key)) {
+            return (Note::Refused(Fault::SlotsOut), Some(session));
+        }
+        let written = Some(row.as_bytes().first().copied());
+        (Note::Done, Some(with(session, key, written)))
+    }
+
+    // The row of the key of table 1 that the session sees.
+    fn seen(&self, session: &Session, key: u64) -> Option<Row> {
+        let at = key as usize;
+        let tables = self.tables_after(session.begun);
+        let seen = tables.get(at).copied().flatten();
+        let row = session.writes.get(at).copied().flatten().unwrap_or(seen);
+        row.and_then(|byte| Row::new(&[byte]).ok())
+    }
+
+    fn scan(&self, session: &Session, table: u16, lo: u64, hi: u64) -> Note {
+        let mut rows = Vec::new(self.alloc);
+        for key in 0..3 {
+            if table == 1 && lo <= key && key <= hi {
+                if let Some(row) = self.seen(session, key) {
+                    if rows.push((Key { table, key }, row)).is_err() {
+                        return Note::Refused(Fault::OutOfMemory);
+                    }
+                }
+            }
+        }
+        Note::Rows(Rows::new(rows))
+    }
+
+    // The first committer wins: a commit that the session doesn't see and that writes one of its keys.
+    fn draw(&mut self, at: usize, session: Session) -> (Note, Option<Session>) {
+        let mut drawn = Commit {
+            timestamp: self.next,
+            writes: session.writes,
+            lines: 0,
+            stamps_left: 0,
+        };
+        let tables = self.tables_after(session.begun);
+        for ((key, write), row) in (0..).zip(session.writes.iter()).zip(tables.iter()) {
+            if let Some(written) = write {
+                if self.is_written_after(session.begun, key) {
+                    let fault = Fault::Conflict(Key {
+                        table: 1,
+                        key: key as u64,
+                    });
+                    return (Note::Refused(fault), Some(session));
+                }
+                drawn.stamps_left = drawn.stamps_left.saturating_add(1);
+                let lines = u64::from(written.is_some()) + u64::from(row.is_some());
+                drawn.lines = drawn.lines.saturating_add(lines);
+            }
+        }
+        if drawn.stamps_left == 0 {
+            let state = State::ReadOnly;
+            return (Note::Done, Some(Session { state, ..session }));
+        }
+        if self.next == self.dirty {
+            return (Note::Refused(Fault::WindowFull), Some(session));
+        }
+        let state = State::Drawn(self.commits.len());
+        if self.commits.push(drawn).is_err() {
+            return (Note::Refused(Fault::OutOfMemory), Some(session));
+        }
+        self.slots
+            .hand_over(Writer::Session(at), Writer::Commit(self.next));
+        self.next = self.next.saturating_add(1);
+        (
+            Note::Drawn(drawn.timestamp),
+            Some(Session { state, ..session }),
+        )
+    }
+
+    fn is_written_after(&self, begun: usize, key: usize) -> bool {
+        for commit in self.commits.iter().skip(begun) {
+            if let Some(Some(_)) = commit.writes.get(key) {
+                return true;
+            }
+        }
+        false
+    }
+
+    fn stamp(&mut self, at: usize) -> Note {
+        match self.commits.get_mut(at) {
+            Some(commit) if commit.stamps_left > 0 => {
+                commit.stamps_left -= 1;
+                if commit.stamps_left == 0 {
+                    Note::Stamped
+                } else {
+                    Note::More
+                }
+            }
+            _ => Note::Refused(Fault::WrongState),
+        }
+    }
+
+    fn poll(&self, at: usize) -> Note {
+        match self.commits.get(at) {
+            Some(commit) if at < self.covered => Note::Committed(commit.timestamp),
+            _ => Note::Waiting,
+        }
+    }
+
+    fn tick(&mut self) -> Note {
+        let Some(cycle) = self.cycle else {
+            return self.choose();
+        };
+        if cycle.ticks > 1 {
+            let ticks = cycle.ticks - 1;
+            self.cycle = Some(Cycle { ticks, ..cycle });
+            return Note::Ticked(Stage::Chosen);
+        }
+        self.cover();
+        Note::Covered(self.gate)
+    }
+
+    // Takes the longest run of stamped commits, unless there is none, half of the window is left, and no swept gap stands.
+    fn choose(&mut self) -> Note {
+        let mut covered = self.covered;
+        let mut ticks: u64 = 40;
+        for commit in self.commits.iter().skip(self.covered) {
+            if commit.stamps_left > 0 {
+                break;
+            }
+            covered = covered.saturating_add(1);
+            ticks = ticks.saturating_add(commit.lines);
+        }
+        let drops_gaps = self.swept && !self.gaps.is_empty();
+        let window_stays = self.dirty.saturating_sub(self.next) >= WINDOW / 2;
+        if covered == self.covered && window_stays && !drops_gaps {
+            return Note::Idle;
+        }
+        let dirty = self.next.saturating_add(WINDOW);
+        self.cycle = Some(Cycle {
+            covered,
+            ticks,
+            dirty,
+            drops_gaps,
+        });
+        Note::Ticked(Stage::Chosen)
+    }
+
+    fn cover(&mut self) {
+        if let Some(cycle) = self.cycle {
+            self.covered = cycle.covered;
+            self.persisted = self.persisted.max(self.last_covered());
+            self.dirty = cycle.dirty;
+            self.gate = self.gate.saturating_add(1);
+            if cycle.drops_gaps {
+                self.gaps.clear();
+            }
+        }
+        self.cycle = None;
+    }
+
+    // The timestamp of the last covered commit.
+    fn last_covered(&self) -> u64 {
+        let mut last = 0;
+        for commit in self.commits.iter().take(self.covered) {
+            last = commit.timestamp;
+        }
+        last
+    }
+
+    // The collector frees the slot of its place where no one reads its version any more, or ends a sweep.
+    fn visit(&mut self) -> Note {
+        let slot = self.place;
+        if slot >= SLOTS {
+            self.place = 0;
+            self.swept = true;
+            return Note::SweepEnd;
+        }
+        self.place = slot + 1;
+        if let Some(version) = self.slots.at(slot) {
+            if self.is_replaced_for_all(version) {
+                self.slots.free(slot);
+            }
+        }
+        Note::Visited(slot as u64)
+    }
+
+    // Do the covered commits replace the version, and so those that each Active session sees?
+    fn is_replaced_for_all(&self, version: Version) -> bool {
+        for place in self.sessions.iter() {
+            if let Some(session) = place {
+                let reads = matches!(session.state, State::Active);
+                if reads && !self.is_replaced(version, session.begun) {
+                    return false;
+                }
+            }
+        }
+        self.is_replaced(version, self.covered)
+    }
+
+    // Is the version of one of so many commits, and is a later one of them on its key?
+    fn is_replaced(&self, version: Version, commits: usize) -> bool {
+        for commit in self.commits.iter().take(commits) {
+            if version.writer == Writer::Commit(commit.timestamp) {
+                return self.last_writer(version.key, commits) != commit.timestamp;
+            }
+        }
+        false
+    }
+
+    // The last of so many commits that writes the key.
+    fn last_writer(&self, key: usize, commits: usize) -> u64 {
+        let mut last = 0;
+        for commit in self.commits.iter().take(commits) {
+            if let Some(Some(_)) = commit.writes.get(key) {
+                last = commit.timestamp;
+            }
+        }
+        last
+    }
+
+    /// The power fails, and the device is opened with this gate. Of a cycle only the whole may survive.
+    pub fn stop(&mut self, gate: u64) -> Result<(), Fault> {
+        if gate > self.gate.saturating_add(1) {
+            self.cover();
+        }
+        self.commits.truncate(self.covered);
+        let first = self.persisted.saturating_add(1);
+        let last = self.dirty.saturating_sub(1);
+        if first <= last {
+            self.add_gap(first, last)?;
+        }
+        self.next = self.dirty;
+        self.open();
+        Ok(())
+    }
+
+    /// The room is closed, and the device opened.
+    pub fn close(&mut self) {
+        self.cover();
+        self.gate = self.gate.saturating_add(1);
+        self.covered = self.commits.len();
+        if self.swept {
+            self.gaps.clear();
+        }
+        self.open();
+    }
+
+    // A gap more, after the others, which is joined to the last where that is adjacent. An opening with a ninth leaves none.
+    fn add_gap(&mut self, first: u64, last: u64) -> Result<(), Fault> {
+        let mut gap = Gap { first, last };
+        if let Some(before) = self.gaps.last().copied() {
+            if before.last.saturating_add(1) == first {
+                gap.first = before.first;
+                self.gaps.pop();
+            }
+        }
+        if self.gaps.push(gap).is_err() {
+            return Err(Fault::OutOfMemory);
+        }
+        if self.gaps.len() > 8 {
+            self.gaps.clear();
+        }
+        Ok(())
+    }
+
+    fn open(&mut self) {
+        self.gate = self.gate.saturating_add(1);
+        self.persisted = self.next.saturating_sub(1);
+        self.dirty = self.next.saturating_add(WINDOW);
+        self.cycle = None;
+        self.sessions = [None; 4];
+        self.swept = false;
+        self.place = 0;
+        let mut kept = [0; KEYS];
+        for (key, commit) in kept.iter_mut().enumerate() {
+            *commit = self.last_writer(key, self.covered);
+        }
+        self.slots.free_others(kept);
+    }
+}
+
+// The version that the session at this place writes under a key.
+fn own_version(at: usize, key: Key) -> Version {
+    Version {
+        key: key.key as usize,
+        writer: Writer::Session(at),
+    }
+}
+
+// The session with another write under this key.
+fn with(session: Session, key: Key, written: Option<Option<u8>>) -> Session {
+    let mut session = session;
+    if let Some(write) = session.writes.get_mut(key.key as usize) {
+        *write = written;
+    }
+    session
+}

@@ -1,0 +1,76 @@
+-- What a visit of the collector leads to, and who may still read a version.
+use Rattle.std.specs.Prelude.{◌≡◌, ℕ, ◌+◌, ◌≤◌, Bool, true, false, ◌&&◌, List, Option, Some, None, Result, Ok, Err}
+use Rattle.std.specs.List.{list_all}
+use Rattle.base.specs.Actors.{collector}
+use Rattle.base.specs.Layout.{Layout}
+use Rattle.base.specs.declared.key.Key.{Key}
+use Rattle.base.specs.declared.fault.Fault.{Fault}
+use Rattle.base.specs.declared.fault.Fault.TheVariants.{Device as DeviceFault}
+use Rattle.base.specs.declared.step.Step.TheVariants.{Collect}
+use Rattle.base.specs.declared.step.Reply.{Reply}
+use Rattle.base.specs.declared.step.Reply.TheVariants.{Visited, SweepEnd as SweepEnded, Refused}
+use Rattle.base.specs.Machine.{State, Stepped, session_numbers, most_operations, StandsWithin}
+use Rattle.pmem.specs.Device.{Device}
+use Rattle.pmem.specs.Words.{LeavesOnly, operations_of}
+use Rattle.snapshot.specs.Snapshots.{Seen, covers}
+use Rattle.txn.specs.declared.transaction.Transaction.{Transaction}
+use Rattle.txn.specs.declared.transaction.Transaction.TheVariants.{Active, Drawn, ReadOnly}
+use Rattle.txn.specs.Transactions.{transaction_at}
+use Rattle.version_slot.specs.declared.words.Slot.{Slot as Content}
+use Rattle.version_slot.specs.Words.{IsSlot, slot_at}
+use Rattle.slot_alloc.specs.Free.{is_free}
+use Rattle.index.specs.declared.entry.Entry.{Entry}
+use Rattle.index.specs.Entries.{entry_at, forgotten, Sets}
+use Rattle.collector.specs.declared.visit.Visit.{Visit}
+use Rattle.collector.specs.declared.visit.Visit.TheVariants.{Slot, SweepEnd}
+use Rattle.session_steps.specs.declared.sessions.Sessions.{Sessions}
+use Rattle.session_steps.specs.Shows.{Shows}
+use Rattle.session_steps.specs.Steps.{TellsFailure, RunsBy, Drawers}
+
+-- ---- who may still read
+
+-- the snapshot of the transaction covers the timestamp, if it is Active
+abbrev pub is_covered_in : ℕ → Option Transaction → Bool
+is_covered_in t None = true
+is_covered_in t (Some (Active snapshot writes)) = covers snapshot t
+is_covered_in t (Some (Drawn u)) = true
+is_covered_in t (Some ReadOnly) = true
+
+-- so does that of each session
+abbrev pub each_covers : List (Option Transaction) → ℕ → Bool
+each_covers transactions t = list_all (λ n. is_covered_in t (transaction_at transactions n)) session_numbers
+
+-- what the ruling record covers does too
+abbrev pub all_cover : Seen → List (Option Transaction) → ℕ → Bool
+all_cover ruling transactions t = covers ruling t && each_covers transactions t
+
+-- ---- a visit
+
+-- the reply of the machine that it is
+abbrev pub as_reply : Result Visit Fault → Reply
+as_reply (Ok (Slot slot)) = Visited slot
+as_reply (Ok SweepEnd) = SweepEnded
+as_reply (Err fault) = Refused fault
+
+-- the visit leads from q to q', which the sessions show then on the device as it is then
+pub record CollectsTo (old new : Sessions) (before now : Device) (result : Result Visit Fault) (q q' : State) : Type 0 where
+  pub stepped : Stepped q Collect (as_reply result) q'
+  pub shows : Shows new now q'
+  pub images : LeavesOnly before now (StandsWithin q q')
+  pub failure : TellsFailure before now (result ≡ Err DeviceFault)
+  pub operations : operations_of now ≤ operations_of before + most_operations q Collect
+  pub actor : RunsBy (Some collector) before now
+  pub drawers : Drawers old new
+
+-- so it does from every state that the sessions showed and that hadn't failed
+abbrev pub Collects : Sessions → Sessions → Device → Device → Result Visit Fault → Type 0
+Collects old new before now result = (q : State) → Shows old before q → q.failed ≡ false → (q' : State) × CollectsTo old new before now result q q'
+
+-- ---- the index
+
+-- What is done once a slot was visited: nothing where it is taken, or has no version; else this version is forgotten
+pub data ForgetsAt (a : Layout) (value : ℕ → ℕ) (slot : ℕ) (free : List Bool) (old new : List (Key × Entry)) : Type 0 where
+  taken : is_free free slot ≡ false → new ≡ old → ForgetsAt a value slot free old new
+  bare : ((found : Content) → IsSlot a (slot_at a slot value) found → ⊥) → new ≡ old → ForgetsAt a value slot free old new
+  gone : (found : Content) → is_free free slot ≡ true → IsSlot a (slot_at a slot value) found
+      → Sets old new found.version.key (forgotten slot (entry_at old found.version.key)) → ForgetsAt a value slot free old new
