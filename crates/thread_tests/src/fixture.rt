@@ -1,0 +1,133 @@
+ghost use Rattle.std.specs.Prelude.{◌≡◌, IfOk};
+ghost use Rattle.pmem.specs.Words.{IsAtRest};
+ghost use Rattle.pmem_model.specs.Sim.{device_of};
+
+use audited::Audited;
+use base::fault::Fault;
+use base::geometry::Geometry;
+use base::key::Key;
+use base::row::Row;
+use base::step::Note;
+use board::{Board, History, Naming};
+use engine::{Engine, Gate, Go, Session};
+use pmem::Pmem;
+use pmem_model::SimPmem;
+use recovery::format;
+use std::alloc::Global;
+use std::sync::Wait;
+use std::thread::Threads;
+
+/// What took memory, or the fault that there was none.
+pub fn granted<T, E: Drop>(made: Result<T, E>) -> Result<T, Fault> {
+    match made {
+        Ok(made) => Ok(made),
+        Err(_) => Err(Fault::OutOfMemory),
+    }
+}
+
+/// Stops its worker before the first tick.
+#[derive(Drop)]
+pub struct Never;
+
+impl Gate for Never {
+    fn pass(&mut self, _after: &Note) -> Go {
+        Go::Stop
+    }
+}
+
+/// A key of the one table of these tests.
+pub fn key(number: u64) -> Key {
+    Key {
+        table: 1,
+        key: number,
+    }
+}
+
+/// A row that holds a number.
+pub fn row(number: u64) -> Result<Row, Fault> {
+    Row::new(&number.to_be_bytes())
+}
+
+/// The device, where it is at rest.
+pub fn at_rest(device: SimPmem) -> Result<SimPmem, Fault>
+    ensures { IfOk result (λ device. IsAtRest (device_of device)) }
+{
+    if device.at_rest() {
+        Ok(device)
+    } else {
+        Err(Fault::Failed)
+    }
+}
+
+/// A device with so many slots, 2 places and this window that was formatted and restarted.
+pub fn fresh(alloc: Global, slots: u64, window: u64) -> Result<SimPmem, Fault>
+    ensures { IfOk result (λ device. IsAtRest (device_of device)) }
+{
+    let geometry = Geometry::new(slots, 2, window)?;
+    let Ok(zeros) = vec![in alloc; 0; geometry.words() as usize] else {
+        return Err(Fault::OutOfMemory);
+    };
+    let mut device = SimPmem::from_words(alloc, &zeros)?;
+    format(&mut device, geometry)?;
+    at_rest(SimPmem::from_words(alloc, &device.image()?)?)
+}
+
+/// The device, opened.
+pub fn opened<D: Pmem + Drop + Send + Sync, R: Threads + Sync>(
+    rt: &R,
+    alloc: Global,
+    device: D,
+) -> Result<Audited<D>, Fault>
+    requires { IsAtRest (D.state device) }
+{
+    match Audited::open(rt, alloc, device) {
+        Ok(audited) => Ok(audited),
+        Err((fault, _device)) => Err(fault),
+    }
+}
+
+/// The room, lent to an engine.
+pub fn started<
+    D: Pmem + Drop + Send + Sync + 'static,
+    J: Naming + Send + Sync + 'static,
+    R: Threads + Wait + Copy + Drop + Send + Sync + 'static,
+    G: Gate + Send + Drop + 'static,
+    H: Gate + Send + Drop + 'static,
+>(
+    rt: &R,
+    alloc: Global,
+    history: History,
+    audited: Audited<D>,
+    committer: G,
+    collector: H,
+) -> Result<Engine<D, J, Board<J, R>>, Fault>
+    requires { history ≡ J.book }
+{
+    match Engine::<D, J, Board<J, R>>::start(rt, alloc, history, audited, committer, collector) {
+        Ok(engine) => Ok(engine),
+        Err((fault, _audited)) => Err(fault),
+    }
+}
+
+/// The room, given back by an engine whose sessions these are.
+pub fn closed<D: Pmem + Drop, J: Naming, B: Drop, R: Threads + Wait>(
+    rt: &R,
+    engine: Engine<D, J, B>,
+    sessions: Vec<Session<D, J, B>>,
+) -> Result<Audited<D>, Fault> {
+    match engine.close(rt, sessions) {
+        Ok(audited) => Ok(audited),
+        Err((fault, _engine, _sessions)) => Err(fault),
+    }
+}
+
+/// Begins a transaction that puts a row.
+pub fn put<D: Pmem + Drop, J: Naming, B: Drop, R: Wait>(
+    rt: &R,
+    session: &mut Session<D, J, B>,
+    number: u64,
+    value: u64,
+) -> Result<(), Fault> {
+    session.begin(rt)?;
+    session.put(rt, key(number), row(value)?)
+}

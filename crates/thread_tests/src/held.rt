@@ -1,0 +1,180 @@
+//! While the committer is held within a cycle, another session works, and so does a reader. An engine that makes whole cycles
+//! under one lock, or one that answers from another device than it was lent, fails this.
+ghost use Rattle.std.specs.Prelude.{◌≡◌};
+
+use crate::counting::Counting;
+use crate::fixture::{Never, closed, fresh, granted, key, opened, put, row, started};
+use base::fault::Fault;
+use base::row::Row;
+use base::step::{Note, Stage};
+use board::{Board, History, Naming, Reader};
+use engine::{Gate, Go, Session};
+use pmem::Pmem;
+use pmem_model::SimPmem;
+use std::alloc::Global;
+use std::marker::Brand;
+use std::sync::atomic::{AtomicBool, AtomicU64, Ordering};
+use std::sync::{Arc, Wait};
+use std::test::*;
+use std::thread::{Threads, join, yield_now};
+
+/// For how many turns the committer is held at most.
+const TURNS: u64 = 1_000_000;
+
+/// What the threads tell one another.
+#[derive(Drop)]
+struct Signals {
+    /// The committer is held.
+    held: AtomicBool,
+    /// It may go on.
+    free: AtomicBool,
+    /// How many operations the device made.
+    made: Arc<AtomicU64, Global>,
+}
+
+type SharedSignals = Arc<Signals, Global>;
+
+/// Holds the committer once the record's body is fenced.
+#[derive(Drop)]
+struct Holding {
+    signals: SharedSignals,
+}
+
+impl Gate for Holding {
+    fn pass(&mut self, after: &Note) -> Go {
+        if matches!(after, Note::Ticked(Stage::BodyFenced)) {
+            self.signals.held.store(true, Ordering::SeqCst);
+            for _ in 0..TURNS {
+                if self.signals.free.load(Ordering::SeqCst) {
+                    break;
+                }
+                yield_now();
+            }
+        }
+        Go::Tick
+    }
+}
+
+/// What is answered while the committer is held.
+#[derive(Clone, Copy, Debug)]
+struct Meanwhile {
+    own: Option<Row>,
+    read: Result<Option<Row>, Fault>,
+    bounds: Result<(u64, u64), Fault>,
+    made: u64,
+}
+
+/// What is answered to both sessions.
+#[derive(Drop)]
+struct Seen {
+    opened: u64,
+    meanwhile: Meanwhile,
+    committed: Option<u64>,
+    made: u64,
+}
+
+fn make_signals(alloc: Global) -> Result<SharedSignals, Fault> {
+    let signals = Signals {
+        held: AtomicBool::new(false),
+        free: AtomicBool::new(false),
+        made: granted(Arc::new(alloc, AtomicU64::new(0)))?,
+    };
+    granted(Arc::new(alloc, signals))
+}
+
+// Puts a row and commits it.
+fn commit<D: Pmem + Drop, J: Naming, B: Drop>(
+    rt: &impl Wait,
+    session: Session<D, J, B>,
+) -> (Session<D, J, B>, Result<Option<u64>, Fault>) {
+    let mut session = session;
+    let committed = match put(rt, &mut session, 7, 1) {
+        Ok(()) => session.commit(rt),
+        Err(fault) => Err(fault),
+    };
+    (session, committed)
+}
+
+// Works in a second transaction and reads, once the committer is held. Lets it go on then.
+fn work_meanwhile<D: Pmem + Drop, J: Naming, B: Drop>(
+    rt: &impl Wait,
+    session: Session<D, J, B>,
+    reader: Reader<J>,
+    signals: &Signals,
+) -> (Session<D, J, B>, Result<Meanwhile, Fault>) {
+    let mut session = session;
+    let mut reader = reader;
+    for _ in rt.forever() {
+        if signals.held.load(Ordering::SeqCst) {
+            break;
+        }
+        yield_now();
+    }
+    let meanwhile = answers(rt, &mut session, &mut reader, signals);
+    signals.free.store(true, Ordering::SeqCst);
+    (session, meanwhile)
+}
+
+fn answers<D: Pmem + Drop, J: Naming, B: Drop>(
+    rt: &impl Wait,
+    session: &mut Session<D, J, B>,
+    reader: &mut Reader<J>,
+    signals: &Signals,
+) -> Result<Meanwhile, Fault> {
+    put(rt, session, 8, 2)?;
+    Ok(Meanwhile {
+        own: session.get(rt, key(8))?,
+        read: reader.read(2, key(7)),
+        bounds: reader.at(),
+        made: signals.made.load(Ordering::SeqCst),
+    })
+}
+
+fn hold<J: Naming + Send + Sync + 'static, R: Threads + Wait + Copy + Drop + Send + Sync + 'static>(
+    rt: &R,
+    alloc: Global,
+    history: History,
+) -> Result<Seen, Fault>
+    requires { history ≡ J.book }
+{
+    let signals = make_signals(alloc)?;
+    let device = Counting::new(fresh(alloc, 4, 8)?, granted(Arc::try_clone(&signals.made))?);
+    let audited = opened(rt, alloc, device)?;
+    let opened = signals.made.load(Ordering::SeqCst);
+    let holding = Holding {
+        signals: granted(Arc::try_clone(&signals))?,
+    };
+    let engine = started::<Counting<SimPmem>, J, R, Holding, Never>(
+        rt, alloc, history, audited, holding, Never,
+    )?;
+    let first = engine.session(rt)?;
+    let second = engine.session(rt)?;
+    let reader = engine.reader(rt)?;
+    let ((first, committed), (second, meanwhile)) = join(
+        rt,
+        || commit(rt, first),
+        || work_meanwhile(rt, second, reader, &signals),
+    );
+    let seen = Seen {
+        opened,
+        meanwhile: meanwhile?,
+        committed: committed?,
+        made: signals.made.load(Ordering::SeqCst),
+    };
+    let sessions = granted(Vec::from_array(alloc, [first, second]))?;
+    closed(rt, engine, sessions)?;
+    Ok(seen)
+}
+
+#[test]
+fn readers_and_writers_inside_a_cycle(rt: HostRuntime) -> Result<(), Fail> {
+    let seen = hold::<Brand, _>(&rt, rt.alloc(), History::new())?;
+    assert_eq!(rt; seen.opened, 39);
+    assert_eq!(rt; seen.meanwhile.own, Some(row(2)?));
+    assert_eq!(rt; seen.meanwhile.read, Ok(None));
+    assert_eq!(rt; seen.meanwhile.bounds, Ok((2, 2)));
+    assert_eq!(rt; seen.meanwhile.made, 98);
+    assert_eq!(rt; seen.committed, Some(1));
+    assert_eq!(rt; seen.made, 101);
+    Ok(())
+}
