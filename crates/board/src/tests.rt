@@ -69,9 +69,8 @@ fn one_commit<J: Naming, R: Wait>(
 {
     let (mut board, mut readers) = Board::<J, &R>::open(rt, alloc, history, 2, 0, &[], 1)?;
     let reader = &mut readers[0];
-    let first = board.token();
     add(alloc, &mut board, Row::new(&[1])?)?;
-    let token = first.later(board.token()).again();
+    let token = board.token();
     reader.learn(&token);
     let before = answers(reader);
     board.prune(token.stamp())?;
