@@ -3,6 +3,7 @@ ghost use Rattle.audited.specs.Audit.{HasHistory};
 use crate::noting::{notes_of, wants_memory};
 use crate::receipt::Receipt;
 use base::fault::Fault;
+use base::geometry::Geometry;
 use base::key::Key;
 use base::row::Row;
 use base::step::{Note, Reply, Step};
@@ -76,6 +77,13 @@ impl<D: Pmem + Drop> Audited<D> {
         ensures audited { ∥ HasHistory D.state self.now.room self.now.opening self.now.entries.items ∥₁ }
     {
         &self.entries
+    }
+
+    /// The layout of the device.
+    pub fn geometry(&self) -> Geometry
+        ensures { (q : State) → Shows D.state self.now.room q → result ≡ q.layout }
+    {
+        self.room.geometry()
     }
 
     /// The numbers. It takes no memory.

@@ -1,15 +1,16 @@
 -- Words that give an order are read: what each part of them leaves to be given by the others.
-use Rattle.std.proofs.Common.{◌≡◌, ◌≢◌, ℕ, suc, ◌+◌, ◌^◌, List, [], ◌∷◌, ◌++◌, true, false, Option, Some, None, refl, sym, ◌∙◌, ap, subst, is_some, length, drop, slice_index, arith, Bor}
+use Rattle.std.proofs.Common.{◌≡◌, ◌≢◌, ℕ, suc, ◌+◌, ◌^◌, List, [], ◌∷◌, ◌++◌, true, false, Option, Some, None, refl, sym, inl, inr, ◌∙◌, ap, subst, is_some, length, drop, slice_index, arith, Bor}
 use Rattle.std.proofs.lemmas.List.{length-append}
 use Rattle.std.specs.Prelude.{IsSomeAnd, IfSome}
 use Rattle.std.specs.List.{flat_map}
 use Rattle.command_line.specs.Lines.{texts}
 use Rattle.command_line.specs.Numbers.{Text, number_below}
-use Rattle.command_line.specs.Words.{Part, is_file_name, file, spaced, joined, file_of, words_of_part, option_word, WritesAtMostOne}
-use Rattle.command_line.specs.Given.{Agrees, AreGiven, IsNamed, Shows, SetsFile, SetsNumber, at_most_one, number_at}
+use Rattle.command_line.specs.Words.{Part, is_file_name, file, spaced, joined, file_of, value_for, value_of, words_of_part, option_word, WritesAtMostOne}
+use Rattle.command_line.specs.Given.{Agrees, AreGiven, IsNamed, Shows, SetsFile, SetsNumber, at_most_one, number_at, with_number}
 use Rattle.command_line.specs.declared.given.Given.{Given}
 use Rattle.command_line.specs.declared.orders.Choice.{Choice}
-use Rattle.command_line.specs.declared.orders.Choice.TheVariants.{Slots, Places, Window}
+use Rattle.command_line.specs.declared.orders.Choice.TheVariants.{Slots, Places, Window, Sessions, Commits}
+use Rattle.command_line.proofs.Parts.{file_kept, number_other, number_same, numbers_kept, same_or_not, value_other, value_same}
 
 -- ---- lists of words
 
@@ -31,35 +32,32 @@ same_tail x y xs ys h = ap (drop 1) h
 
 -- ---- the names of options
 
--- the third letter tells them apart
+-- the fifth letter tells them apart
 abbrev letter : Choice → ℕ
-letter Slots = 115
-letter Places = 112
-letter Window = 119
+letter Slots = 111
+letter Places = 97
+letter Window = 110
+letter Sessions = 115
+letter Commits = 109
 
-letter-at : (choice : Choice) (more : Text) → slice_index (option_word choice ++ more) 2 ≡ letter choice
+letter-at : (choice : Choice) (more : Text) → slice_index (option_word choice ++ more) 4 ≡ letter choice
 letter-at Slots more = refl
-letter-at Places more = refl
-letter-at Window more = refl
+letter-at _ more = refl
 
-letter-plain : (choice : Choice) → slice_index (option_word choice) 2 ≡ letter choice
+letter-plain : (choice : Choice) → slice_index (option_word choice) 4 ≡ letter choice
 letter-plain Slots = refl
-letter-plain Places = refl
-letter-plain Window = refl
+letter-plain _ = refl
 
 by_letter : (a b : Choice) → letter a ≡ letter b → a ≡ b
 by_letter Slots Slots h = refl
-by_letter Slots Places h = absurd (omega (arith, h))
-by_letter Slots Window h = absurd (omega (arith, h))
-by_letter Places Slots h = absurd (omega (arith, h))
 by_letter Places Places h = refl
-by_letter Places Window h = absurd (omega (arith, h))
-by_letter Window Slots h = absurd (omega (arith, h))
-by_letter Window Places h = absurd (omega (arith, h))
 by_letter Window Window h = refl
+by_letter Sessions Sessions h = refl
+by_letter Commits Commits h = refl
+by_letter _ _ h = absurd (omega (arith, h))
 
-abbrev third : Text → ℕ
-third text = slice_index text 2
+abbrev fifth : Text → ℕ
+fifth text = slice_index text 4
 
 size-joined : (choice : Choice) (value : Text) → length (option_word choice ++ 61 ∷ value) ≡ length (option_word choice) + suc (length value)
 size-joined choice value = length-append (option_word choice) (61 ∷ value)
@@ -67,34 +65,34 @@ size-joined choice value = length-append (option_word choice) (61 ∷ value)
 -- a name alone is no name with a value
 alone : (a b : Choice) (value : Text) → option_word a ≡ option_word b ++ 61 ∷ value → ⊥
 alone a b value h =
-    let same : a ≡ b = by_letter a b (sym (letter-plain a) ∙ (ap third h ∙ letter-at b (61 ∷ value))) in
+    let same : a ≡ b = by_letter a b (sym (letter-plain a) ∙ (ap fifth h ∙ letter-at b (61 ∷ value))) in
     let size : length (option_word a) ≡ length (option_word b) + suc (length value) = ap length h ∙ size-joined b value in
     let len : length (option_word a) ≡ length (option_word b) = ap (λ (c : Choice). length (option_word c)) same in
     absurd (omega (arith, size, len))
 
 same_name : (a b : Choice) → option_word a ≡ option_word b → a ≡ b
-same_name a b h = by_letter a b (sym (letter-plain a) ∙ (ap third h ∙ letter-plain b))
+same_name a b h = by_letter a b (sym (letter-plain a) ∙ (ap fifth h ∙ letter-plain b))
 
 same_value-of : (c : Choice) (u v : Text) → option_word c ++ 61 ∷ u ≡ option_word c ++ 61 ∷ v → u ≡ v
 same_value-of Slots u v h = ap (drop 8) h
 same_value-of Places u v h = ap (drop 9) h
 same_value-of Window u v h = ap (drop 9) h
+same_value-of Sessions u v h = ap (drop 11) h
+same_value-of Commits u v h = ap (drop 10) h
 
 same_joined : (a b : Choice) (u v : Text) → option_word a ++ 61 ∷ u ≡ option_word b ++ 61 ∷ v → (a ≡ b) × (u ≡ v)
 same_joined a b u v h =
-    let same : a ≡ b = by_letter a b (sym (letter-at a (61 ∷ u)) ∙ (ap third h ∙ letter-at b (61 ∷ v))) in
+    let same : a ≡ b = by_letter a b (sym (letter-at a (61 ∷ u)) ∙ (ap fifth h ∙ letter-at b (61 ∷ v))) in
     let aligned : option_word b ++ 61 ∷ u ≡ option_word b ++ 61 ∷ v = subst (λ (c : Choice). option_word c ++ 61 ∷ u ≡ option_word b ++ 61 ∷ v) same h in
     (same, same_value-of b u v aligned)
 
 no_file-name : (choice : Choice) (more : Text) → is_file_name (option_word choice ++ more) ≡ false
 no_file-name Slots more = refl
-no_file-name Places more = refl
-no_file-name Window more = refl
+no_file-name _ more = refl
 
 no_file-plain : (choice : Choice) → is_file_name (option_word choice) ≡ false
 no_file-plain Slots = refl
-no_file-plain Places = refl
-no_file-plain Window = refl
+no_file-plain _ = refl
 
 not_both : (name : Text) → is_file_name name ≡ true → is_file_name name ≡ false → ⊥
 not_both name named unnamed = cc (named, unnamed)
@@ -103,13 +101,11 @@ not_both name named unnamed = cc (named, unnamed)
 
 -- all but this option
 abbrev pub without : Choice → Given → Given
-without Slots given = record { file = given.file; slots = None; places = given.places; window = given.window }
-without Places given = record { file = given.file; slots = given.slots; places = None; window = given.window }
-without Window given = record { file = given.file; slots = given.slots; places = given.places; window = None }
+without choice given = with_number choice None given
 
 -- all but the file
 abbrev pub without_file : Given → Given
-without_file given = record { file = None; slots = given.slots; places = given.places; window = given.window }
+without_file given = record given { file = None }
 
 writes_first : (value : Text) (values : List Text) (o : Option ℕ) → WritesAtMostOne (value ∷ values) o
     → (values ≡ []) × (is_some (number_below (2 ^ 64) value) ≡ true) × (o ≡ number_below (2 ^ 64) value)
@@ -134,42 +130,38 @@ record Leaves (choice : Choice) (value : Text) (parts : List Part) (given : Give
   reads : is_some (number_below (2 ^ 64) value) ≡ true
   is : number_at choice given ≡ number_below (2 ^ 64) value
 
-leaves-spaced : (choice : Choice) (value : Text) (parts : List Part) (given : Given) → Shows (spaced choice value ∷ parts) given → Leaves choice value parts given
-leaves-spaced Slots value parts given shown =
-    let w = writes_first value _ given.slots shown.slots_given in record {
-      rest = record { one_file = shown.one_file; file_named = shown.file_named; slots_given = w.0; places_given = shown.places_given; window_given = shown.window_given };
-      reads = w.1;
-      is = w.2;
-    }
-leaves-spaced Places value parts given shown =
-    let w = writes_first value _ given.places shown.places_given in record {
-      rest = record { one_file = shown.one_file; file_named = shown.file_named; slots_given = shown.slots_given; places_given = w.0; window_given = shown.window_given };
-      reads = w.1;
-      is = w.2;
-    }
-leaves-spaced Window value parts given shown =
-    let w = writes_first value _ given.window shown.window_given in record {
-      rest = record { one_file = shown.one_file; file_named = shown.file_named; slots_given = shown.slots_given; places_given = shown.places_given; window_given = w.0 };
-      reads = w.1;
-      is = w.2;
-    }
+-- the numbers of an option's part and of the rest
+abbrev NumbersGiven : Choice → Text → List Part → Given → Type 0
+NumbersGiven choice value parts given = (asked : Choice) → WritesAtMostOne (value_for asked choice value ++ flat_map (value_of asked) parts) (number_at asked given)
 
-leaves-joined : (choice : Choice) (value : Text) (parts : List Part) (given : Given) → Shows (joined choice value ∷ parts) given → Leaves choice value parts given
-leaves-joined Slots value parts given shown =
-    let w = writes_first value _ given.slots shown.slots_given in record {
-      rest = record { one_file = shown.one_file; file_named = shown.file_named; slots_given = w.0; places_given = shown.places_given; window_given = shown.window_given };
-      reads = w.1;
-      is = w.2;
-    }
-leaves-joined Places value parts given shown =
-    let w = writes_first value _ given.places shown.places_given in record {
-      rest = record { one_file = shown.one_file; file_named = shown.file_named; slots_given = shown.slots_given; places_given = w.0; window_given = shown.window_given };
-      reads = w.1;
-      is = w.2;
-    }
-leaves-joined Window value parts given shown =
-    let w = writes_first value _ given.window shown.window_given in record {
-      rest = record { one_file = shown.one_file; file_named = shown.file_named; slots_given = shown.slots_given; places_given = shown.places_given; window_given = w.0 };
+numbers_left : (choice : Choice) (value : Text) (parts : List Part) (given : Given) → NumbersGiven choice value parts given → flat_map (value_of choice) parts ≡ []
+    → (asked : Choice) → WritesAtMostOne (flat_map (value_of asked) parts) (number_at asked (without choice given))
+numbers_left choice value parts given all none asked =
+    elim (same_or_not asked choice) [
+      | inl same ↦
+          let was : number_at asked (without choice given) ≡ None = ap (λ (c : Choice). number_at c (without choice given)) same ∙ number_same choice None given in
+          let left : flat_map (value_of asked) parts ≡ [] = ap (λ (c : Choice). flat_map (value_of c) parts) same ∙ none in
+          rw was left
+      | inr other ↦
+          let first : value_for asked choice value ≡ [] = value_other asked choice value other in
+          let was : number_at asked (without choice given) ≡ number_at asked given = number_other asked choice None given other in
+          let left : WritesAtMostOne ([] ++ flat_map (value_of asked) parts) (number_at asked given) =
+          subst (λ (values : List Text). WritesAtMostOne (values ++ flat_map (value_of asked) parts) (number_at asked given)) first (all asked) in
+          rw was left
+    ]
+
+leaves : (choice : Choice) (value : Text) (parts : List Part) (given : Given) → flat_map file_of parts ≡ at_most_one given.file → IsNamed given.file
+    → NumbersGiven choice value parts given → Leaves choice value parts given
+leaves choice value parts given one_file file_named all =
+    let first : WritesAtMostOne (value ∷ flat_map (value_of choice) parts) (number_at choice given) =
+    subst (λ (values : List Text). WritesAtMostOne (values ++ flat_map (value_of choice) parts) (number_at choice given)) (value_same choice value) (all choice) in
+    let w = writes_first value _ (number_at choice given) first in
+    let same : (without choice given).file ≡ given.file = file_kept choice None given in record {
+      rest = record {
+        one_file = one_file ∙ ap at_most_one (sym same);
+        file_named = subst IsNamed (sym same) file_named;
+        numbers_given = numbers_left choice value parts given all w.0;
+      };
       reads = w.1;
       is = w.2;
     }
@@ -203,7 +195,8 @@ as_spaced choice words (file name ∷ parts) given h shown =
 as_spaced choice words (spaced c value ∷ parts) given h shown =
     let same : c ≡ choice = same_name c choice (same_head (option_word c) (option_word choice) _ words h) in
     let rest : value ∷ flat_map words_of_part parts ≡ words = same_tail (option_word c) (option_word choice) _ words h in
-    let left : Leaves choice value parts given = leaves-spaced choice value parts given (subst (λ (d : Choice). Shows (spaced d value ∷ parts) given) same shown) in
+    let shows : Shows (spaced choice value ∷ parts) given = subst (λ (d : Choice). Shows (spaced d value ∷ parts) given) same shown in
+    let left : Leaves choice value parts given = leaves choice value parts given shows.one_file shows.file_named shows.numbers_given in
     record {
       value = value;
       more = flat_map words_of_part parts;
@@ -229,7 +222,7 @@ as_joined choice value words (joined c v ∷ parts) given h shown =
     let rest : flat_map words_of_part parts ≡ words = same_tail (option_word c ++ 61 ∷ v) (option_word choice ++ 61 ∷ value) _ words h in
     let first : Shows (joined choice v ∷ parts) given = subst (λ (d : Choice). Shows (joined d v ∷ parts) given) both.0 shown in
     let shows : Shows (joined choice value ∷ parts) given = subst (λ (t : Text). Shows (joined choice t ∷ parts) given) both.1 first in
-    let left : Leaves choice value parts given = leaves-joined choice value parts given shows in
+    let left : Leaves choice value parts given = leaves choice value parts given shows.one_file shows.file_named shows.numbers_given in
     record {
       rest = (parts, rest, left.rest);
       reads = left.reads;
@@ -245,7 +238,15 @@ as_file name words (file n ∷ parts) given alone_not joined_not h shown =
     let rest : flat_map words_of_part parts ≡ words = same_tail n name _ words h in
     let left = file_part n (flat_map file_of parts) given.file shown.one_file shown.file_named in
     record {
-      rest = (parts, rest, record { one_file = left.1; file_named = tt; slots_given = shown.slots_given; places_given = shown.places_given; window_given = shown.window_given });
+      rest = (
+        parts,
+        rest,
+        record {
+          one_file = left.1;
+          file_named = tt;
+          numbers_given = λ choice. subst (WritesAtMostOne _) (sym (numbers_kept given (without_file given) refl choice)) (shown.numbers_given choice);
+        },
+      );
       named = subst (λ (t : Text). is_file_name t ≡ true) is left.0;
       is = left.2 ∙ ap (λ (t : Text). t ∷ []) is;
     }
@@ -257,32 +258,20 @@ as_file name words (joined c v ∷ parts) given alone_not joined_not h shown =
 -- ---- what is read agrees
 
 was_none : (old given : Given) (choice : Choice) → Agrees old (without choice given) → number_at choice old ≡ None
-was_none old given Slots same = same.slots
-was_none old given Places same = same.places
-was_none old given Window same = same.window
-
-now_is : (value : Text) (o : Option ℕ) → WritesAtMostOne (value ∷ []) o → o ≡ number_below (2 ^ 64) value
-now_is value o h = (writes_first value [] o h).2
+was_none old given choice same = same.numbers choice ∙ number_same choice None given
 
 agrees-number : (choice : Choice) (value : Text) (old new given : Given) → Agrees old (without choice given) → number_at choice given ≡ number_below (2 ^ 64) value
     → SetsNumber old choice value new → Agrees new given
-agrees-number Slots value old new given same is set = record {
-  file = ap at_most_one set.file_same ∙ same.file;
-  slots = now_is value new.slots set.writes ∙ sym is;
-  places = set.others_same.0 ∙ same.places;
-  window = set.others_same.1 ∙ same.window;
-}
-agrees-number Places value old new given same is set = record {
-  file = ap at_most_one set.file_same ∙ same.file;
-  slots = set.others_same.0 ∙ same.slots;
-  places = now_is value new.places set.writes ∙ sym is;
-  window = set.others_same.1 ∙ same.window;
-}
-agrees-number Window value old new given same is set = record {
-  file = ap at_most_one set.file_same ∙ same.file;
-  slots = set.others_same.0 ∙ same.slots;
-  places = set.others_same.1 ∙ same.places;
-  window = now_is value new.window set.writes ∙ sym is;
+agrees-number choice value old new given same is set = record {
+  file = ap (λ (g : Given). at_most_one g.file) set.is_now ∙ (ap at_most_one (file_kept choice _ old) ∙ (same.file ∙ ap at_most_one (file_kept choice None given)));
+  numbers = λ asked. elim (same_or_not asked choice) [
+    | inl equal ↦
+        let number : number_at choice new ≡ number_at choice given = ap (number_at choice) set.is_now ∙ (number_same choice _ old ∙ sym is) in
+        subst (λ (c : Choice). number_at c new ≡ number_at c given) (sym equal) number
+    | inr other ↦
+        ap (number_at asked) set.is_now
+        ∙ (number_other asked choice _ old other ∙ (same.numbers asked ∙ number_other asked choice None given other))
+  ];
 }
 
 no_file-of : (o : Option (Bor Text)) → at_most_one o ≡ [] → o ≡ None
@@ -292,9 +281,7 @@ no_file-of (Some word) h = absurd (cons_not_nil word.now [] h)
 agrees-file : (name : Text) (old new given : Given) → Agrees old (without_file given) → at_most_one given.file ≡ name ∷ [] → SetsFile old name new → Agrees new given
 agrees-file name old new given same is set = record {
   file = set.is_now ∙ sym is;
-  slots = set.slots_same ∙ same.slots;
-  places = set.places_same ∙ same.places;
-  window = set.window_same ∙ same.window;
+  numbers = λ choice. numbers_kept old new set.others_same choice ∙ (same.numbers choice ∙ numbers_kept given (without_file given) refl choice);
 }
 
 both-some : (r : Option Given) (P Q : Given → Type 0) → is_some r ≡ true → IfSome r P → ((x : Given) → P x → Q x) → IsSomeAnd r Q
@@ -307,23 +294,32 @@ unwritten : (o : Option ℕ) → WritesAtMostOne [] o → o ≡ None
 unwritten None h = refl
 unwritten (Some n) (value, same, is) = absurd (no_cons value [] same)
 
-nothing-by : (parts : List Part) (given new : Given) → flat_map words_of_part parts ≡ [] → Shows parts given
-    → new.file ≡ None → new.slots ≡ None → new.places ≡ None → new.window ≡ None → Agrees new given
-nothing-by [] given new h shown f s p w = record {
-  file = ap at_most_one f ∙ shown.one_file;
-  slots = s ∙ sym (unwritten given.slots shown.slots_given);
-  places = p ∙ sym (unwritten given.places shown.places_given);
-  window = w ∙ sym (unwritten given.window shown.window_given);
-}
-nothing-by (file name ∷ parts) given new h shown f s p w = absurd (cons_not_nil _ _ h)
-nothing-by (spaced c v ∷ parts) given new h shown f s p w = absurd (cons_not_nil _ _ h)
-nothing-by (joined c v ∷ parts) given new h shown f s p w = absurd (cons_not_nil _ _ h)
+-- no file, and no numbers
+record GivesNone (given : Given) : Type 0 where
+  file : given.file ≡ None
+  numbers : (choice : Choice) → number_at choice given ≡ None
 
-pub nothing_given : (words : List (Bor Text)) (given new : Given) → length words ≡ 0 → AreGiven (texts words) given
-    → new.file ≡ None → new.slots ≡ None → new.places ≡ None → new.window ≡ None → Agrees new given
-nothing_given words given new none (parts, spelled, shown) f s p w =
+nothing-by : (parts : List Part) (given new : Given) → flat_map words_of_part parts ≡ [] → Shows parts given → GivesNone new → Agrees new given
+nothing-by [] given new h shown none = record {
+  file = ap at_most_one none.file ∙ shown.one_file;
+  numbers = λ choice. none.numbers choice ∙ sym (unwritten (number_at choice given) (shown.numbers_given choice));
+}
+nothing-by (file name ∷ parts) given new h shown none = absurd (cons_not_nil _ _ h)
+nothing-by (spaced c v ∷ parts) given new h shown none = absurd (cons_not_nil _ _ h)
+nothing-by (joined c v ∷ parts) given new h shown none = absurd (cons_not_nil _ _ h)
+
+-- what no words give
+abbrev pub nothing : Given
+nothing = record { file = None; slots = None; places = None; window = None; sessions = None; commits = None }
+
+no_number : (choice : Choice) → number_at choice nothing ≡ None
+no_number Slots = refl
+no_number _ = refl
+
+pub nothing_given : (words : List (Bor Text)) (given : Given) → length words ≡ 0 → AreGiven (texts words) given → Agrees nothing given
+nothing_given words given none (parts, spelled, shown) =
     let empty : flat_map words_of_part parts ≡ [] = spelled ∙ ap texts (empty-of words none) in
-    nothing-by parts given new empty shown f s p w
+    nothing-by parts given nothing empty shown (record { file = refl; numbers = no_number })
 
 -- an option and its value in the next word
 pub spaced_rest : (words rest more : List (Bor Text)) (first value : Bor Text) (choice : Choice) (given : Given)

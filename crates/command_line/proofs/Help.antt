@@ -1,6 +1,5 @@
 -- What the command line is, as clap's statements take it, and which kinds of error answer with help.
-use Rattle.std.proofs.Common.{◌≡◌, ◌≢◌, ◌⊎◌, ℕ, Bool, true, false, not, ◌&&◌, List, [], ◌∷◌, ◌++◌, sym, ◌∙◌, ap, subst, inl, inr, refl}
-use Rattle.clap.specs.Simple.{has_plain_fields}
+use Rattle.std.proofs.Common.{◌≡◌, ◌⊎◌, Bool, true, false, not, ◌&&◌, List, [], ◌∷◌, ◌++◌, sym, ◌∙◌, ap, subst, inl, inr, refl}
 use Rattle.clap.specs.Words.{AddsArg, AddsSubcommand, App, IsAmong, Kinds, Rule, Shape, app_of, fault_of, rule_of, shape_of, with_rule, with_subcommand}
 use Rattle.clap.specs.declared.builder.arg.Arg.{Arg}
 use Rattle.clap.specs.declared.builder.command.Command.{Command}

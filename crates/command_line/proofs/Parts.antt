@@ -1,20 +1,72 @@
 -- What one more part of a command line sets.
-use Rattle.std.proofs.Common.{◌≡◌, ℕ, List, [], ◌∷◌, ◌++◌, true, Option, Some, None, refl, sym, ◌∙◌, ap, subst, inl, inr, unwrap_or, Bor}
+use Rattle.std.proofs.Common.{◌≡◌, ◌≢◌, ◌⊎◌, ◌^◌, ℕ, List, [], ◌∷◌, ◌++◌, true, false, Option, Some, None, refl, sym, ◌∙◌, ap, subst, inl, inr, is_some, unwrap_or, Bor}
 use Rattle.command_line.specs.Lines.{texts}
 use Rattle.std.specs.List.{flat_map}
-use Rattle.command_line.specs.Numbers.{Text}
+use Rattle.command_line.specs.Numbers.{Text, number_below}
 use Rattle.command_line.specs.Words.{Part, is_file_name, file, spaced, joined, file_of, value_of, value_for, option_word, WritesAtMostOne, HasNumber}
-use Rattle.command_line.specs.Given.{AreGiven, IsNamed, Shows, SetsFile, SetsNumber, at_most_one}
+use Rattle.command_line.specs.Given.{AreGiven, IsNamed, Shows, SetsFile, SetsNumber, at_most_one, number_at, with_number}
 use Rattle.command_line.specs.declared.given.Given.{Given}
 use Rattle.command_line.specs.declared.orders.Choice.{Choice}
-use Rattle.command_line.specs.declared.orders.Choice.TheVariants.{Slots, Places, Window}
+use Rattle.command_line.specs.declared.orders.Choice.TheVariants.{Slots, Places, Window, Sessions, Commits}
+
+-- ---- the options
+
+pub each_choice : (P : Choice → Type 0) → P Slots → P Places → P Window → P Sessions → P Commits → (choice : Choice) → P choice
+each_choice P a b c d e Slots = a
+each_choice P a b c d e Places = b
+each_choice P a b c d e Window = c
+each_choice P a b c d e Sessions = d
+each_choice P a b c d e Commits = e
+
+pub same_or_not : (asked choice : Choice) → (asked ≡ choice) ⊎ (asked ≢ choice)
+same_or_not Slots Slots = inl refl
+same_or_not Places Places = inl refl
+same_or_not Window Window = inl refl
+same_or_not Sessions Sessions = inl refl
+same_or_not Commits Commits = inl refl
+same_or_not _ _ = inr (λ same. cc same)
+
+pub value_same : (choice : Choice) (value : Text) → value_for choice choice value ≡ value ∷ []
+value_same Slots value = refl
+value_same _ value = refl
+
+pub value_other : (asked choice : Choice) (value : Text) → asked ≢ choice → value_for asked choice value ≡ []
+value_other Slots Slots value other = absurd (other refl)
+value_other Places Places value other = absurd (other refl)
+value_other Window Window value other = absurd (other refl)
+value_other Sessions Sessions value other = absurd (other refl)
+value_other Commits Commits value other = absurd (other refl)
+value_other _ _ value other = refl
+
+pub number_same : (choice : Choice) (number : Option ℕ) (given : Given) → number_at choice (with_number choice number given) ≡ number
+number_same Slots number given = refl
+number_same _ number given = refl
+
+pub number_other : (asked choice : Choice) (number : Option ℕ) (given : Given) → asked ≢ choice
+    → number_at asked (with_number choice number given) ≡ number_at asked given
+number_other Slots Slots number given other = absurd (other refl)
+number_other Places Places number given other = absurd (other refl)
+number_other Window Window number given other = absurd (other refl)
+number_other Sessions Sessions number given other = absurd (other refl)
+number_other Commits Commits number given other = absurd (other refl)
+number_other _ _ number given other = refl
+
+pub file_kept : (choice : Choice) (number : Option ℕ) (given : Given) → (with_number choice number given).file ≡ given.file
+file_kept Slots number given = refl
+file_kept _ number given = refl
+
+pub numbers_kept : (old new : Given) → new ≡ record old { file = new.file } → (choice : Choice) → number_at choice new ≡ number_at choice old
+numbers_kept old new same Slots = ap (number_at Slots) same
+numbers_kept old new same Places = ap (number_at Places) same
+numbers_kept old new same Window = ap (number_at Window) same
+numbers_kept old new same Sessions = ap (number_at Sessions) same
+numbers_kept old new same Commits = ap (number_at Commits) same
+
+-- ---- the parts
 
 none_given : (values : List Text) (o : Option ℕ) → o ≡ None → WritesAtMostOne values o → values ≡ []
 none_given values None e h = h
 none_given values (Some n) e h = cc
-
-first_given : (values : List Text) (value : Text) (o : Option ℕ) → values ≡ [] → WritesAtMostOne (value ∷ []) o → WritesAtMostOne (value ∷ values) o
-first_given values value o e h = rw e h
 
 kept : (values : List Text) (old new : Option ℕ) → new ≡ old → WritesAtMostOne values old → WritesAtMostOne values new
 kept values old new e h = rw e h
@@ -41,62 +93,60 @@ shows_file words name old new (parts, spelled, shown) set = (
         let none : flat_map file_of parts ≡ [] = shown.one_file ∙ ap at_most_one set.was_none in
         ap (λ rest. name ∷ rest) none ∙ sym set.is_now;
     file_named = named_file new.file name set.is_now set.named;
-    slots_given = kept _ _ _ set.slots_same shown.slots_given;
-    places_given = kept _ _ _ set.places_same shown.places_given;
-    window_given = kept _ _ _ set.window_same shown.window_given;
+    numbers_given = λ choice. kept _ _ _ (numbers_kept old new set.others_same choice) (shown.numbers_given choice);
   },
 )
 
--- the facts of a part with a number, before the rest
-record Numbers (choice : Choice) (value : Text) (parts : List Part) (new : Given) : Type 0 where
-  slots : WritesAtMostOne (value_for Slots choice value ++ flat_map (value_of Slots) parts) new.slots
-  places : WritesAtMostOne (value_for Places choice value ++ flat_map (value_of Places) parts) new.places
-  window : WritesAtMostOne (value_for Window choice value ++ flat_map (value_of Window) parts) new.window
+-- one value that is a number
+writes_one : (value : Text) (o : Option ℕ) → is_some (number_below (2 ^ 64) value) ≡ true → o ≡ number_below (2 ^ 64) value → WritesAtMostOne (value ∷ []) o
+writes_one value None writes is = let none : is_some (number_below (2 ^ 64) value) ≡ false = ap is_some (sym is) in cc (writes, none)
+writes_one value (Some n) writes is = (value, refl, sym is)
 
-numbers : (choice : Choice) (value : Text) (parts : List Part) (old new : Given) → Shows parts old → SetsNumber old choice value new → Numbers choice value parts new
-numbers Slots value parts old new shown set = record {
-  slots = first_given _ value new.slots (none_given _ old.slots set.was_none shown.slots_given) set.writes;
-  places = kept _ _ _ set.others_same.0 shown.places_given;
-  window = kept _ _ _ set.others_same.1 shown.window_given;
-}
-numbers Places value parts old new shown set = record {
-  slots = kept _ _ _ set.others_same.0 shown.slots_given;
-  places = first_given _ value new.places (none_given _ old.places set.was_none shown.places_given) set.writes;
-  window = kept _ _ _ set.others_same.1 shown.window_given;
-}
-numbers Window value parts old new shown set = record {
-  slots = kept _ _ _ set.others_same.0 shown.slots_given;
-  places = kept _ _ _ set.others_same.1 shown.places_given;
-  window = first_given _ value new.window (none_given _ old.window set.was_none shown.window_given) set.writes;
-}
+-- the numbers of a part with a number, before the rest
+numbers : (choice : Choice) (value : Text) (parts : List Part) (old new : Given) → Shows parts old → SetsNumber old choice value new
+    → (asked : Choice) → WritesAtMostOne (value_for asked choice value ++ flat_map (value_of asked) parts) (number_at asked new)
+numbers choice value parts old new shown set asked =
+    elim (same_or_not asked choice) [
+      | inl same ↦
+          let first : value_for asked choice value ≡ value ∷ [] = ap (λ (c : Choice). value_for c choice value) same ∙ value_same choice value in
+          let none : flat_map (value_of asked) parts ≡ [] = none_given _ (number_at asked old) (ap (λ (c : Choice). number_at c old) same ∙ set.was_none) (shown.numbers_given asked) in
+          let only : value_for asked choice value ++ flat_map (value_of asked) parts ≡ value ∷ [] = rw (first, none) refl in
+          let is : number_at asked new ≡ number_below (2 ^ 64) value =
+          ap (λ (c : Choice). number_at c new) same ∙ (ap (number_at choice) set.is_now ∙ number_same choice _ old) in
+          rw only (writes_one value (number_at asked new) set.writes is)
+      | inr other ↦
+          let first : value_for asked choice value ≡ [] = value_other asked choice value other in
+          let all : value_for asked choice value ++ flat_map (value_of asked) parts ≡ flat_map (value_of asked) parts = rw first refl in
+          let is : number_at asked new ≡ number_at asked old = ap (number_at asked) set.is_now ∙ number_other asked choice _ old other in
+          rw all (kept _ _ _ is (shown.numbers_given asked))
+    ]
+
+same_file : (choice : Choice) (value : Text) (old new : Given) → SetsNumber old choice value new → new.file ≡ old.file
+same_file choice value old new set = ap (λ (g : Given). g.file) set.is_now ∙ file_kept choice _ old
 
 pub shows_spaced : (words : List Text) (choice : Choice) (value : Text) (old new : Given) → AreGiven words old → SetsNumber old choice value new
     → AreGiven (option_word choice ∷ value ∷ words) new
 shows_spaced words choice value old new (parts, spelled, shown) set =
-    let facts = numbers choice value parts old new shown set in (
+    let same = same_file choice value old new set in (
       spaced choice value ∷ parts,
       ap (λ rest. option_word choice ∷ value ∷ rest) spelled,
       record {
-        one_file = shown.one_file ∙ ap at_most_one (sym set.file_same);
-        file_named = still_named old.file new.file set.file_same shown.file_named;
-        slots_given = facts.slots;
-        places_given = facts.places;
-        window_given = facts.window;
+        one_file = shown.one_file ∙ ap at_most_one (sym same);
+        file_named = still_named old.file new.file same shown.file_named;
+        numbers_given = numbers choice value parts old new shown set;
       },
     )
 
 pub shows_joined : (words : List Text) (choice : Choice) (value : Text) (old new : Given) → AreGiven words old → SetsNumber old choice value new
     → AreGiven ((option_word choice ++ 61 ∷ value) ∷ words) new
 shows_joined words choice value old new (parts, spelled, shown) set =
-    let facts = numbers choice value parts old new shown set in (
+    let same = same_file choice value old new set in (
       joined choice value ∷ parts,
       ap (λ rest. (option_word choice ++ 61 ∷ value) ∷ rest) spelled,
       record {
-        one_file = shown.one_file ∙ ap at_most_one (sym set.file_same);
-        file_named = still_named old.file new.file set.file_same shown.file_named;
-        slots_given = facts.slots;
-        places_given = facts.places;
-        window_given = facts.window;
+        one_file = shown.one_file ∙ ap at_most_one (sym same);
+        file_named = still_named old.file new.file same shown.file_named;
+        numbers_given = numbers choice value parts old new shown set;
       },
     )
 

@@ -1,84 +1,127 @@
--- Words that give an order are no others: which subcommand they name, and what a format asks for.
-use Rattle.std.proofs.Common.{◌≡◌, ◌≢◌, ℕ, List, [], ◌∷◌, true, false, Option, Some, None, refl, sym, ◌∙◌, ap, subst, inl, inr, unwrap_or, codes, length, slice_index, arith, Bor}
-use Rattle.std.specs.Prelude.{IfNone, IsOk, Result, Ok, Err, is_err, ◌↔◌}
+-- Words that give an order are no others: which subcommand they name, and what its file and options are.
+use Rattle.std.proofs.Common.{◌≡◌, ◌≢◌, ◌≤◌, ℕ, List, [], ◌∷◌, true, false, Option, Some, None, refl, sym, ◌∙◌, ap, subst, inl, inr, unwrap_or, codes, length, is_some, slice_index, arith, Bor}
+use Rattle.std.specs.Prelude.{IfNone, IfSome, IsOk, Result, Ok, Err, is_err, ◌↔◌}
 use Rattle.std.specs.List.{flat_map}
 use Rattle.base.specs.Layout.{is_in_limits, layout_with, newest_version}
 use Rattle.command_line.specs.Lines.{texts}
 use Rattle.command_line.specs.Numbers.{Text}
-use Rattle.command_line.specs.Words.{GivesFormat, GivesNoFormat, GivesNothing, HasNumber, IsOneFile, Part, SpellsFormat, WritesAtMostOne, file_of, is_file_name, value_of}
-use Rattle.command_line.specs.Given.{Agrees, AreGiven, IsNamed, Shows, at_most_one}
+use Rattle.command_line.specs.Words.{Gives, GivesAfter, GivesNothing, GivesNothingAfter, GivesRest, HasNumber, IsLeftOut, IsOneFile, Part, Spells, SpellsFormat, SpellsThreads, WritesAtMostOne, subcommand_of, value_of}
+use Rattle.command_line.specs.Given.{Agrees, AreGiven, IsNamed, at_most_one, number_at}
 use Rattle.command_line.specs.declared.given.Given.{Given}
 use Rattle.command_line.specs.declared.orders.Choice.{Choice}
-use Rattle.command_line.specs.declared.orders.Choice.TheVariants.{Slots, Places, Window}
+use Rattle.command_line.specs.declared.orders.Choice.TheVariants.{Slots, Places, Window, Sessions, Commits}
 use Rattle.command_line.specs.declared.orders.Order.{Order}
-use Rattle.command_line.specs.declared.orders.Order.TheVariants.{Format, Run, Check, Lives}
-use Rattle.command_line.proofs.Parts.{has_number}
+use Rattle.command_line.specs.declared.orders.Order.TheVariants.{Format, Run, Check, Lives, Threads}
+use Rattle.command_line.proofs.Parts.{each_choice, has_number}
 use Rattle.command_line.proofs.Complete.{empty-of, no_cons, same_head, same_tail}
 
--- ---- a format
+-- ---- the subcommands
 
+-- the first letter tells them apart
+abbrev initial : Order → ℕ
+initial (Format name slots places window) = 102
+initial (Run name) = 114
+initial (Check name) = 99
+initial (Lives name) = 108
+initial (Threads name sessions commits) = 116
+
+begins : (order : Order) (word : Text) → subcommand_of order ≡ word → initial order ≡ slice_index word 0
+begins (Format name slots places window) word is = ap (λ (w : Text). slice_index w 0) is
+begins order word is = ap (λ (w : Text). slice_index w 0) is
+
+-- ---- what is found by a reader that agrees with all that the words give
+
+-- what is found agrees with all that the words give
+abbrev pub AgreesWithAll : List Text → Given → Type 0
+AgreesWithAll words found = (given : Given) → AreGiven words given → Agrees found given
+
+-- the number of an option, or that there is none
 option_given : (parts : List Part) (choice : Choice) (default n : ℕ) → HasNumber parts choice default n
     → (o : Option ℕ) × WritesAtMostOne (flat_map (value_of choice) parts) o × (unwrap_or o default ≡ n)
 option_given parts choice default n (inl h) = (None, h.0, sym h.1)
 option_given parts choice default n (inr h) = (Some n, h, refl)
 
+shown : (words : List Text) (parts : List Part) (name : Bor Text) (given : Given) → Spells words parts name.now → given.file ≡ Some name
+    → ((choice : Choice) → WritesAtMostOne (flat_map (value_of choice) parts) (number_at choice given)) → AreGiven words given
+shown words parts name given s is numbers = (
+  parts,
+  s.spelled,
+  record {
+    one_file = s.one_file ∙ ap at_most_one (sym is);
+    file_named = subst IsNamed (sym is) s.file_named;
+    numbers_given = numbers;
+  },
+)
+
+-- ---- a format
+
 -- what the words of a format give
-record Wanted (words : List Text) (name : Text) (slots places window : ℕ) : Type 0 where
+record FormatGiven (words : List Text) (name : Text) (slots places window : ℕ) : Type 0 where
   given : Given
   read : AreGiven words given
   file : at_most_one given.file ≡ name ∷ []
   slots_are : unwrap_or given.slots 1024 ≡ slots
   places_are : unwrap_or given.places 4 ≡ places
   window_is : unwrap_or given.window 64 ≡ window
-  limits : is_in_limits (layout_with newest_version slots places window) ≡ true
+  no_sessions : given.sessions ≡ None
+  no_commits : given.commits ≡ None
 
-wanted : (words : List Text) (parts : List Part) (name : Bor Text) (slots places window : ℕ) → SpellsFormat words parts name.now slots places window
-    → Wanted words name.now slots places window
-wanted words parts name slots places window s =
+format_given : (words : List Text) (parts : List Part) (name : Bor Text) (slots places window : ℕ) → SpellsFormat words parts name.now slots places window
+    → FormatGiven words name.now slots places window
+format_given words parts name slots places window s =
     let a = option_given parts Slots 1024 slots s.slots_given in
     let b = option_given parts Places 4 places s.places_given in
-    let c = option_given parts Window 64 window s.window_given in record {
-      given = record { file = Some name; slots = a.0; places = b.0; window = c.0 };
-      read = (
-        parts,
-        s.spelled,
-        record { one_file = s.one_file; file_named = s.file_named; slots_given = a.1; places_given = b.1; window_given = c.1 },
-      );
+    let c = option_given parts Window 64 window s.window_given in
+    let given : Given = record { file = Some name; slots = a.0; places = b.0; window = c.0; sessions = None; commits = None } in record {
+      given = given;
+      read = shown words parts name given s.spelled refl
+          (each_choice (λ choice. WritesAtMostOne (flat_map (value_of choice) parts) (number_at choice given)) a.1 b.1 c.1 s.no_sessions s.no_commits);
       file = refl;
       slots_are = a.2;
       places_are = b.2;
       window_is = c.2;
-      limits = s.limits;
+      no_sessions = refl;
+      no_commits = refl;
     }
 
-pub none_given : (words : List Text) → ((given : Given) → AreGiven words given → ⊥) → GivesNoFormat words
-none_given words never (Format name slots places window) (parts, s) = let w = wanted words parts name slots places window s in never w.given w.read
-none_given words never (Run name) h = absurd h
-none_given words never (Check name) h = absurd h
-none_given words never (Lives name) h = absurd h
+-- what is found in the words of a format
+pub record FormatFound (found : Given) (name : Text) (slots places window : ℕ) : Type 0 where
+  pub file : at_most_one found.file ≡ name ∷ []
+  pub slots_are : unwrap_or found.slots 1024 ≡ slots
+  pub places_are : unwrap_or found.places 4 ≡ places
+  pub window_is : unwrap_or found.window 64 ≡ window
+  pub no_sessions : found.sessions ≡ None
+  pub no_commits : found.commits ≡ None
+  pub limits : is_in_limits (layout_with newest_version slots places window) ≡ true
 
-pub no_file_given : (words : List Text) (found : Given) → ((given : Given) → AreGiven words given → Agrees found given) → found.file ≡ None → GivesNoFormat words
-no_file_given words found agrees none (Format name slots places window) (parts, s) =
-    let w = wanted words parts name slots places window s in
-    let same = agrees w.given w.read in
-    no_cons name.now [] (sym (ap at_most_one none) ∙ (same.file ∙ w.file))
-no_file_given words found agrees none (Run name) h = absurd h
-no_file_given words found agrees none (Check name) h = absurd h
-no_file_given words found agrees none (Lives name) h = absurd h
+pub no_format_given : (words : List Text) → ((given : Given) → AreGiven words given → ⊥) → GivesNothingAfter (codes "format") words
+no_format_given words never (Format name slots places window) (is, (parts, s)) = let f = format_given words parts name slots places window s in never f.given f.read
+no_format_given words never order (is, rest) = let first : initial order ≡ 102 = begins order (codes "format") is in absurd (omega (arith, first))
 
-pub out_of_limits : (words : List Text) (found : Given) (slots places window : ℕ) → ((given : Given) → AreGiven words given → Agrees found given)
-    → slots ≡ unwrap_or found.slots 1024 → places ≡ unwrap_or found.places 4 → window ≡ unwrap_or found.window 64
-    → (is_in_limits (layout_with newest_version slots places window) ≡ true → ⊥) → GivesNoFormat words
-out_of_limits words found a b c agrees ea eb ec never (Format name slots places window) (parts, s) =
-    let w = wanted words parts name slots places window s in
-    let same = agrees w.given w.read in
-    let sa : a ≡ slots = ea ∙ (ap (λ (o : Option ℕ). unwrap_or o 1024) same.slots ∙ w.slots_are) in
-    let sb : b ≡ places = eb ∙ (ap (λ (o : Option ℕ). unwrap_or o 4) same.places ∙ w.places_are) in
-    let sc : c ≡ window = ec ∙ (ap (λ (o : Option ℕ). unwrap_or o 64) same.window ∙ w.window_is) in
-    never (rw (sa, sb, sc) w.limits)
-out_of_limits words found a b c agrees ea eb ec never (Run name) h = absurd h
-out_of_limits words found a b c agrees ea eb ec never (Check name) h = absurd h
-out_of_limits words found a b c agrees ea eb ec never (Lives name) h = absurd h
+pub no_format_found : (words : List Text) (found : Given) → AgreesWithAll words found
+    → ((name : Text) (slots places window : ℕ) → FormatFound found name slots places window → ⊥) → GivesNothingAfter (codes "format") words
+no_format_found words found agrees never (Format name slots places window) (is, (parts, s)) =
+    let f = format_given words parts name slots places window s in
+    let same = agrees f.given f.read in
+    never name.now slots places window (record {
+      file = same.file ∙ f.file;
+      slots_are = ap (λ (o : Option ℕ). unwrap_or o 1024) (same.numbers Slots) ∙ f.slots_are;
+      places_are = ap (λ (o : Option ℕ). unwrap_or o 4) (same.numbers Places) ∙ f.places_are;
+      window_is = ap (λ (o : Option ℕ). unwrap_or o 64) (same.numbers Window) ∙ f.window_is;
+      no_sessions = same.numbers Sessions ∙ f.no_sessions;
+      no_commits = same.numbers Commits ∙ f.no_commits;
+      limits = s.limits;
+    })
+no_format_found words found agrees never order (is, rest) = let first : initial order ≡ 102 = begins order (codes "format") is in absurd (omega (arith, first))
+
+pub out_of_limits : (found : Given) (a b c : ℕ) → a ≡ unwrap_or found.slots 1024 → b ≡ unwrap_or found.places 4 → c ≡ unwrap_or found.window 64
+    → (is_in_limits (layout_with newest_version a b c) ≡ true → ⊥)
+    → (name : Text) (slots places window : ℕ) → FormatFound found name slots places window → ⊥
+out_of_limits found a b c ea eb ec never name slots places window f =
+    let sa : a ≡ slots = ea ∙ f.slots_are in
+    let sb : b ≡ places = eb ∙ f.places_are in
+    let sc : c ≡ window = ec ∙ f.window_is in
+    never (rw (sa, sb, sc) f.limits)
 
 pub not_in_limits : {A B : Type 0} (r : Result A B) (P : Type 0) → IsOk r ↔ P → is_err r ≡ true → P → ⊥
 not_in_limits (Ok x) P limits bad p = cc bad
@@ -88,16 +131,92 @@ pub in_limits : {A B : Type 0} (r : Result A B) (P : Type 0) → IsOk r ↔ P �
 in_limits (Ok x) P limits good = limits.0 refl
 in_limits (Err e) P limits good = cc good
 
--- the file is the one that is given, by a file's name
-pub file_given : (parts : List Part) (found : Given) (name : Bor Text) → found.file ≡ Some name → Shows parts found
-    → (flat_map file_of parts ≡ name.now ∷ []) × (is_file_name name.now ≡ true)
-file_given parts found name is shown =
-    let named : IsNamed (Some name) = subst IsNamed is shown.file_named in
-    (shown.one_file ∙ ap at_most_one is, named)
+-- ---- threads
 
-pub number_given : (parts : List Part) (choice : Choice) (default n : ℕ) (o : Option ℕ) → n ≡ unwrap_or o default → WritesAtMostOne (flat_map (value_of choice) parts) o
-    → HasNumber parts choice default n
-number_given parts choice default n o is h = subst (HasNumber parts choice default) (sym is) (has_number parts choice default o h)
+-- what the words of threads give
+record ThreadsGiven (words : List Text) (name : Text) (sessions commits : ℕ) : Type 0 where
+  given : Given
+  read : AreGiven words given
+  file : at_most_one given.file ≡ name ∷ []
+  sessions_are : unwrap_or given.sessions 4 ≡ sessions
+  commits_are : unwrap_or given.commits 8 ≡ commits
+  no_slots : given.slots ≡ None
+  no_places : given.places ≡ None
+  no_window : given.window ≡ None
+
+threads_given : (words : List Text) (parts : List Part) (name : Bor Text) (sessions commits : ℕ) → SpellsThreads words parts name.now sessions commits
+    → ThreadsGiven words name.now sessions commits
+threads_given words parts name sessions commits s =
+    let a = option_given parts Sessions 4 sessions s.sessions_given in
+    let b = option_given parts Commits 8 commits s.commits_given in
+    let given : Given = record { file = Some name; slots = None; places = None; window = None; sessions = a.0; commits = b.0 } in record {
+      given = given;
+      read = shown words parts name given s.spelled refl
+          (each_choice (λ choice. WritesAtMostOne (flat_map (value_of choice) parts) (number_at choice given)) s.no_slots s.no_places s.no_window a.1 b.1);
+      file = refl;
+      sessions_are = a.2;
+      commits_are = b.2;
+      no_slots = refl;
+      no_places = refl;
+      no_window = refl;
+    }
+
+-- what is found in the words of threads
+pub record ThreadsFound (found : Given) (name : Text) (sessions commits : ℕ) : Type 0 where
+  pub file : at_most_one found.file ≡ name ∷ []
+  pub sessions_are : unwrap_or found.sessions 4 ≡ sessions
+  pub commits_are : unwrap_or found.commits 8 ≡ commits
+  pub no_slots : found.slots ≡ None
+  pub no_places : found.places ≡ None
+  pub no_window : found.window ≡ None
+  pub sessions_limits : (1 ≤ sessions) × (sessions ≤ 32)
+  pub commits_limits : (1 ≤ commits) × (commits ≤ 1000)
+
+pub no_threads_given : (words : List Text) → ((given : Given) → AreGiven words given → ⊥) → GivesNothingAfter (codes "threads") words
+no_threads_given words never (Threads name sessions commits) (is, (parts, s)) = let f = threads_given words parts name sessions commits s in never f.given f.read
+no_threads_given words never order (is, rest) = let first : initial order ≡ 116 = begins order (codes "threads") is in absurd (omega (arith, first))
+
+pub no_threads_found : (words : List Text) (found : Given) → AgreesWithAll words found
+    → ((name : Text) (sessions commits : ℕ) → ThreadsFound found name sessions commits → ⊥) → GivesNothingAfter (codes "threads") words
+no_threads_found words found agrees never (Threads name sessions commits) (is, (parts, s)) =
+    let f = threads_given words parts name sessions commits s in
+    let same = agrees f.given f.read in
+    never name.now sessions commits (record {
+      file = same.file ∙ f.file;
+      sessions_are = ap (λ (o : Option ℕ). unwrap_or o 4) (same.numbers Sessions) ∙ f.sessions_are;
+      commits_are = ap (λ (o : Option ℕ). unwrap_or o 8) (same.numbers Commits) ∙ f.commits_are;
+      no_slots = same.numbers Slots ∙ f.no_slots;
+      no_places = same.numbers Places ∙ f.no_places;
+      no_window = same.numbers Window ∙ f.no_window;
+      sessions_limits = s.sessions_limits;
+      commits_limits = s.commits_limits;
+    })
+no_threads_found words found agrees never order (is, rest) = let first : initial order ≡ 116 = begins order (codes "threads") is in absurd (omega (arith, first))
+
+-- ---- the parts of what is given
+
+pub no_file : (name : Text) (file : Option (Bor Text)) → file ≡ None → at_most_one file ≡ name ∷ [] → ⊥
+no_file name file none is = no_cons name [] (sym (ap at_most_one none) ∙ is)
+
+-- the words spell the parts that show what is found, and its file
+pub spells : (words : List Text) (found : Given) (name : Bor Text) (given : AreGiven words found) → found.file ≡ Some name → Spells words given.0 name.now
+spells words found name (parts, spelled, s) is =
+    let named : IsNamed (Some name) = subst IsNamed is s.file_named in
+    record { spelled = spelled; one_file = s.one_file ∙ ap at_most_one is; file_named = named }
+
+pub number_given : (words : List Text) (found : Given) (choice : Choice) (default n : ℕ) (given : AreGiven words found) → n ≡ unwrap_or (number_at choice found) default
+    → HasNumber given.0 choice default n
+number_given words found choice default n (parts, spelled, s) is = subst (HasNumber parts choice default) (sym is) (has_number parts choice default _ (s.numbers_given choice))
+
+pub left_out : (words : List Text) (found : Given) (choice : Choice) (given : AreGiven words found) → number_at choice found ≡ None → IsLeftOut given.0 choice
+left_out words found choice (parts, spelled, s) none = subst (WritesAtMostOne (flat_map (value_of choice) parts)) none (s.numbers_given choice)
+
+pub taken : (o : Option ℕ) → is_some o ≡ true → o ≡ None → ⊥
+taken o some none = let never : is_some o ≡ false = ap is_some none in cc (some, never)
+
+pub untaken : (o : Option ℕ) → is_some o ≡ false → o ≡ None
+untaken None is = refl
+untaken (Some n) is = cc is
 
 pub none_so : (o : Option Order) (P : Type 0) → o ≡ None → P → IfNone o P
 none_so None P e p = p
@@ -106,85 +225,69 @@ none_so (Some order) P e p = tt
 -- ---- the subcommand
 
 pub no_words : (words : List (Bor Text)) → length words ≡ 0 → GivesNothing (texts words)
-no_words words none (Format name slots places window) (rest, e, g) = no_cons _ rest (sym (ap texts (empty-of words none)) ∙ e)
-no_words words none (Run name) (rest, e, g) = no_cons _ rest (sym (ap texts (empty-of words none)) ∙ e)
-no_words words none (Check name) (rest, e, g) = no_cons _ rest (sym (ap texts (empty-of words none)) ∙ e)
-no_words words none (Lives name) (rest, e, g) = no_cons _ rest (sym (ap texts (empty-of words none)) ∙ e)
+no_words words none order (rest, e, g) = no_cons _ rest (sym (ap texts (empty-of words none)) ∙ e)
 
 -- the words begin with this one
-named : (words rest : List (Bor Text)) (first : Bor Text) (name other : Text) (more : List Text) → words ≡ first ∷ rest → first.now ≡ name → texts words ≡ other ∷ more
-    → (name ≡ other) × (texts rest ≡ more)
-named words rest first name other more e1 is e =
+named : (words rest : List (Bor Text)) (first : Bor Text) (other : Text) (more : List Text) → words ≡ first ∷ rest → texts words ≡ other ∷ more
+    → (other ≡ first.now) × (texts rest ≡ more)
+named words rest first other more e1 e =
     let all : first.now ∷ texts rest ≡ other ∷ more = sym (ap texts e1) ∙ e in
-    (sym is ∙ same_head first.now other (texts rest) more all, same_tail first.now other (texts rest) more all)
+    (sym (same_head first.now other (texts rest) more all), same_tail first.now other (texts rest) more all)
 
-pub no_format : (words rest : List (Bor Text)) (first : Bor Text) → words ≡ first ∷ rest → first.now ≡ codes "format" → GivesNoFormat (texts rest) → GivesNothing (texts words)
-no_format words rest first e1 is never (Format name slots places window) (more, e, g) =
-    let n = named words rest first (codes "format") (codes "format") more e1 is e in
-    never (Format name slots places window) (subst (λ (ws : List Text). GivesFormat ws (Format name slots places window)) (sym n.1) g)
-no_format words rest first e1 is never (Run name) (more, e, g) =
-    let n = named words rest first (codes "format") (codes "run") more e1 is e in
-    let size : 6 ≡ 3 = ap length n.0 in absurd (omega (arith, size))
-no_format words rest first e1 is never (Check name) (more, e, g) =
-    let n = named words rest first (codes "format") (codes "check") more e1 is e in
-    let size : 6 ≡ 5 = ap length n.0 in absurd (omega (arith, size))
-no_format words rest first e1 is never (Lives name) (more, e, g) =
-    let n = named words rest first (codes "format") (codes "lives") more e1 is e in
-    let size : 6 ≡ 5 = ap length n.0 in absurd (omega (arith, size))
-
-pub no_run : (words rest : List (Bor Text)) (first : Bor Text) → words ≡ first ∷ rest → first.now ≡ codes "run" → ((name : Text) → IsOneFile (texts rest) name → ⊥)
+-- what follows a word that is a subcommand gives nothing
+pub nothing_after : (words rest : List (Bor Text)) (first : Bor Text) (name : Text) → words ≡ first ∷ rest → first.now ≡ name → GivesNothingAfter name (texts rest)
     → GivesNothing (texts words)
-no_run words rest first e1 is never (Format name slots places window) (more, e, g) =
-    let n = named words rest first (codes "run") (codes "format") more e1 is e in
-    let size : 3 ≡ 6 = ap length n.0 in absurd (omega (arith, size))
-no_run words rest first e1 is never (Run name) (more, e, g) =
-    let n = named words rest first (codes "run") (codes "run") more e1 is e in
-    never name.now (subst (λ (ws : List Text). IsOneFile ws name.now) (sym n.1) g)
-no_run words rest first e1 is never (Check name) (more, e, g) =
-    let n = named words rest first (codes "run") (codes "check") more e1 is e in
-    let size : 3 ≡ 5 = ap length n.0 in absurd (omega (arith, size))
-no_run words rest first e1 is never (Lives name) (more, e, g) =
-    let n = named words rest first (codes "run") (codes "lives") more e1 is e in
-    let size : 3 ≡ 5 = ap length n.0 in absurd (omega (arith, size))
+nothing_after words rest first name e1 is never order (more, e, g) =
+    let n = named words rest first (subcommand_of order) more e1 e in
+    never order (n.0 ∙ is, subst (λ (ws : List Text). GivesRest ws order) (sym n.1) g)
 
-pub no_check : (words rest : List (Bor Text)) (first : Bor Text) → words ≡ first ∷ rest → first.now ≡ codes "check" → ((name : Text) → IsOneFile (texts rest) name → ⊥)
-    → GivesNothing (texts words)
-no_check words rest first e1 is never (Format name slots places window) (more, e, g) =
-    let n = named words rest first (codes "check") (codes "format") more e1 is e in
-    let size : 5 ≡ 6 = ap length n.0 in absurd (omega (arith, size))
-no_check words rest first e1 is never (Run name) (more, e, g) =
-    let n = named words rest first (codes "check") (codes "run") more e1 is e in
-    let size : 5 ≡ 3 = ap length n.0 in absurd (omega (arith, size))
-no_check words rest first e1 is never (Check name) (more, e, g) =
-    let n = named words rest first (codes "check") (codes "check") more e1 is e in
-    never name.now (subst (λ (ws : List Text). IsOneFile ws name.now) (sym n.1) g)
-no_check words rest first e1 is never (Lives name) (more, e, g) =
-    let n = named words rest first (codes "check") (codes "lives") more e1 is e in
-    let initial : 99 ≡ 108 = ap (λ (word : Text). slice_index word 0) n.0 in absurd (omega (arith, initial))
+pub refused_after : (result : Option Order) (words rest : List (Bor Text)) (first : Bor Text) (name : Text) → words ≡ first ∷ rest → first.now ≡ name
+    → IfNone result (GivesNothingAfter name (texts rest)) → IfNone result (GivesNothing (texts words))
+refused_after None words rest first name e1 is none = nothing_after words rest first name e1 is none
+refused_after (Some order) words rest first name e1 is none = tt
 
-pub no_lives : (words rest : List (Bor Text)) (first : Bor Text) → words ≡ first ∷ rest → first.now ≡ codes "lives" → ((name : Text) → IsOneFile (texts rest) name → ⊥)
-    → GivesNothing (texts words)
-no_lives words rest first e1 is never (Format name slots places window) (more, e, g) =
-    let n = named words rest first (codes "lives") (codes "format") more e1 is e in
-    let size : 5 ≡ 6 = ap length n.0 in absurd (omega (arith, size))
-no_lives words rest first e1 is never (Run name) (more, e, g) =
-    let n = named words rest first (codes "lives") (codes "run") more e1 is e in
-    let size : 5 ≡ 3 = ap length n.0 in absurd (omega (arith, size))
-no_lives words rest first e1 is never (Check name) (more, e, g) =
-    let n = named words rest first (codes "lives") (codes "check") more e1 is e in
-    let initial : 108 ≡ 99 = ap (λ (word : Text). slice_index word 0) n.0 in absurd (omega (arith, initial))
-no_lives words rest first e1 is never (Lives name) (more, e, g) =
-    let n = named words rest first (codes "lives") (codes "lives") more e1 is e in
-    never name.now (subst (λ (ws : List Text). IsOneFile ws name.now) (sym n.1) g)
+-- what follows a word that is a subcommand gives the order
+gives_after : (words rest : List (Bor Text)) (first : Bor Text) (name : Text) (order : Order) → words ≡ first ∷ rest → first.now ≡ name → GivesAfter name (texts rest) order
+    → Gives (texts words) order
+gives_after words rest first name order e1 is (of, g) = (texts rest, ap texts e1 ∙ ap (λ (w : Text). w ∷ texts rest) (is ∙ sym of), g)
 
+pub given_after : (result : Option Order) (words rest : List (Bor Text)) (first : Bor Text) (name : Text) → words ≡ first ∷ rest → first.now ≡ name
+    → IfSome result (λ order. GivesAfter name (texts rest) order) → IfSome result (λ order. Gives (texts words) order)
+given_after None words rest first name e1 is some = tt
+given_after (Some order) words rest first name e1 is some = gives_after words rest first name order e1 is some
+
+-- no one file follows
+abbrev pub NoOneFile : List Text → Type 0
+NoOneFile words = (name : Text) → IsOneFile words name → ⊥
+
+no_run-after : (words : List Text) → NoOneFile words → GivesNothingAfter (codes "run") words
+no_run-after words never (Run name) (is, one) = never name.now one
+no_run-after words never order (is, rest) = let first : initial order ≡ 114 = begins order (codes "run") is in absurd (omega (arith, first))
+
+no_check-after : (words : List Text) → NoOneFile words → GivesNothingAfter (codes "check") words
+no_check-after words never (Check name) (is, one) = never name.now one
+no_check-after words never order (is, rest) = let first : initial order ≡ 99 = begins order (codes "check") is in absurd (omega (arith, first))
+
+no_lives-after : (words : List Text) → NoOneFile words → GivesNothingAfter (codes "lives") words
+no_lives-after words never (Lives name) (is, one) = never name.now one
+no_lives-after words never order (is, rest) = let first : initial order ≡ 108 = begins order (codes "lives") is in absurd (omega (arith, first))
+
+pub no_run : (words rest : List (Bor Text)) (first : Bor Text) → words ≡ first ∷ rest → first.now ≡ codes "run" → NoOneFile (texts rest) → GivesNothing (texts words)
+no_run words rest first e1 is never = nothing_after words rest first (codes "run") e1 is (no_run-after (texts rest) never)
+
+pub no_check : (words rest : List (Bor Text)) (first : Bor Text) → words ≡ first ∷ rest → first.now ≡ codes "check" → NoOneFile (texts rest) → GivesNothing (texts words)
+no_check words rest first e1 is never = nothing_after words rest first (codes "check") e1 is (no_check-after (texts rest) never)
+
+pub no_lives : (words rest : List (Bor Text)) (first : Bor Text) → words ≡ first ∷ rest → first.now ≡ codes "lives" → NoOneFile (texts rest) → GivesNothing (texts words)
+no_lives words rest first e1 is never = nothing_after words rest first (codes "lives") e1 is (no_lives-after (texts rest) never)
+
+-- a word that is no subcommand
 pub no_subcommand : (words rest : List (Bor Text)) (first : Bor Text) → words ≡ first ∷ rest
-    → first.now ≢ codes "format" → first.now ≢ codes "run" → first.now ≢ codes "check" → first.now ≢ codes "lives" → GivesNothing (texts words)
-no_subcommand words rest first e1 f r c l (Format name slots places window) (more, e, g) = f (named words rest first first.now (codes "format") more e1 refl e).0
-no_subcommand words rest first e1 f r c l (Run name) (more, e, g) = r (named words rest first first.now (codes "run") more e1 refl e).0
-no_subcommand words rest first e1 f r c l (Check name) (more, e, g) = c (named words rest first first.now (codes "check") more e1 refl e).0
-no_subcommand words rest first e1 f r c l (Lives name) (more, e, g) = l (named words rest first first.now (codes "lives") more e1 refl e).0
-
-pub refused_format : (result : Option Order) (words rest : List (Bor Text)) (first : Bor Text) → words ≡ first ∷ rest → first.now ≡ codes "format" → IfNone result (GivesNoFormat (texts rest))
-    → IfNone result (GivesNothing (texts words))
-refused_format None words rest first e1 is none = no_format words rest first e1 is none
-refused_format (Some order) words rest first e1 is none = tt
+    → first.now ≢ codes "format" → first.now ≢ codes "run" → first.now ≢ codes "check" → first.now ≢ codes "lives" → first.now ≢ codes "threads" → GivesNothing (texts words)
+no_subcommand words rest first e1 f r c l t order (more, e, g) = no_order order (named words rest first (subcommand_of order) more e1 e).0 where
+  no_order : (order : Order) → subcommand_of order ≡ first.now → ⊥
+  no_order (Format name slots places window) is = f (sym is)
+  no_order (Run name) is = r (sym is)
+  no_order (Check name) is = c (sym is)
+  no_order (Lives name) is = l (sym is)
+  no_order (Threads name sessions commits) is = t (sym is)

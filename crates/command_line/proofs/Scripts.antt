@@ -1,15 +1,15 @@
 -- How the lines of a script add up.
-use Rattle.std.proofs.Common.{◌≡◌, ◌≢◌, ◌⊎◌, ℕ, ◌+◌, ◌-◌, ◌^◌, ◌<◌, suc, Bool, true, false, List, [], ◌∷◌, ◌++◌, length, map, take, drop, get_or, Option, Some, None, refl, sym, ◌∙◌, ap, subst, inl, inr, arith, append_assoc, append-nil, Bor}
-use Rattle.std.specs.Prelude.{min, Result, Ok, Err, IfOk, IfErr, IfSome}
+use Rattle.std.proofs.Common.{◌≡◌, ◌≢◌, ℕ, ◌+◌, ◌-◌, ◌^◌, ◌<◌, suc, Bool, true, false, List, [], ◌∷◌, ◌++◌, length, map, take, drop, get_or, Option, Some, None, refl, sym, ◌∙◌, ap, subst, inl, inr, arith, append_assoc, append-nil, Bor}
+use Rattle.std.specs.Prelude.{min, Result, Ok, Err, IfErr, IfSome}
 use Rattle.std.specs.List.{flat_map}
 use Rattle.std.specs.Option.{option_to_list}
 use Rattle.std.proofs.Math.Seq.{split_at}
 use Rattle.std.proofs.lemmas.Grind.{flat_map-append}
 use Rattle.std.proofs.lemmas.List.{map-append, length-map}
-use Rattle.base.specs.Layout.{Layout, newest_version}
-use Rattle.command_line.specs.Lines.{command_of, texts}
+use Rattle.base.specs.Layout.{Layout}
+use Rattle.command_line.specs.Lines.{texts}
 use Rattle.command_line.specs.Numbers.{Text}
-use Rattle.command_line.specs.Scripts.{AreReadAs, HasBadGeometryAfter, HasLineAt, IfBadGeometry, IfWrongLine, IsBadGeometry, IsNewest, IsNoLineOf, IsOutOfPlace, IsShut, IsWrongAfter, IsWrongLine, SpellsScript, TakesLine, closing, is_geometry, is_within_life, leaves_life_open, lines_of, lines_of_life, lines_so_far, script_line_of, script_lines}
+use Rattle.command_line.specs.Scripts.{AreReadAs, HasLineAt, IfBadGeometry, IfWrongLine, IsNewest, IsNoLineOf, IsOutOfPlace, IsShut, IsWrongLine, SpellsScript, closing, leaves_life_open, lines_of, lines_of_life, lines_so_far, script_line_of, script_lines}
 use Rattle.command_line.specs.declared.command.Command.{Command}
 use Rattle.command_line.specs.declared.command.Survivor.{Survivor}
 use Rattle.command_line.specs.declared.script.Script.{Script}

@@ -1,12 +1,12 @@
--- What the words after `format` give, before defaults.
-use Rattle.std.specs.Prelude.{◌≡◌, ℕ, List, [], ◌∷◌, true, Option, Some, None, IfSome}
+-- What the words after a subcommand give, before defaults.
+use Rattle.std.specs.Prelude.{◌≡◌, ◌^◌, ℕ, List, [], ◌∷◌, true, Option, Some, None, IfSome, is_some}
 use Rattle.std.specs.Borrow.{Bor}
 use Rattle.std.specs.List.{flat_map}
-use Rattle.command_line.specs.Numbers.{Text}
+use Rattle.command_line.specs.Numbers.{Text, number_below}
 use Rattle.command_line.specs.Words.{Part, is_file_name, words_of_part, file_of, value_of, WritesAtMostOne}
 use Rattle.command_line.specs.declared.given.Given.{Given}
 use Rattle.command_line.specs.declared.orders.Choice.{Choice}
-use Rattle.command_line.specs.declared.orders.Choice.TheVariants.{Slots, Places, Window}
+use Rattle.command_line.specs.declared.orders.Choice.TheVariants.{Slots, Places, Window, Sessions, Commits}
 
 -- the file, where there is one
 abbrev pub at_most_one : Option (Bor Text) → List Text
@@ -17,13 +17,27 @@ at_most_one (Some name) = name.now ∷ []
 abbrev pub IsNamed : Option (Bor Text) → Type 0
 IsNamed file = IfSome file (λ name. is_file_name name.now ≡ true)
 
+-- an option's number
+abbrev pub number_at : Choice → Given → Option ℕ
+number_at Slots given = given.slots
+number_at Places given = given.places
+number_at Window given = given.window
+number_at Sessions given = given.sessions
+number_at Commits given = given.commits
+
+-- the same, with this number for the option
+abbrev pub with_number : Choice → Option ℕ → Given → Given
+with_number Slots number given = record given { slots = number }
+with_number Places number given = record given { places = number }
+with_number Window number given = record given { window = number }
+with_number Sessions number given = record given { sessions = number }
+with_number Commits number given = record given { commits = number }
+
 -- these parts name this file and these numbers
 pub record Shows (parts : List Part) (given : Given) : Type 0 where
   pub one_file : flat_map file_of parts ≡ at_most_one given.file
   pub file_named : IsNamed given.file
-  pub slots_given : WritesAtMostOne (flat_map (value_of Slots) parts) given.slots
-  pub places_given : WritesAtMostOne (flat_map (value_of Places) parts) given.places
-  pub window_given : WritesAtMostOne (flat_map (value_of Window) parts) given.window
+  pub numbers_given : (choice : Choice) → WritesAtMostOne (flat_map (value_of choice) parts) (number_at choice given)
 
 -- the words are those of parts that show this
 abbrev pub AreGiven : List Text → Given → Type 0
@@ -34,32 +48,15 @@ pub record SetsFile (old : Given) (name : Text) (new : Given) : Type 0 where
   pub was_none : old.file ≡ None
   pub is_now : at_most_one new.file ≡ name ∷ []
   pub named : is_file_name name ≡ true
-  pub slots_same : new.slots ≡ old.slots
-  pub places_same : new.places ≡ old.places
-  pub window_same : new.window ≡ old.window
-
--- an option's number
-abbrev pub number_at : Choice → Given → Option ℕ
-number_at Slots given = given.slots
-number_at Places given = given.places
-number_at Window given = given.window
-
--- the other options are as before
-abbrev pub SameOthers : Choice → Given → Given → Type 0
-SameOthers Slots old new = (new.places ≡ old.places) × (new.window ≡ old.window)
-SameOthers Places old new = (new.slots ≡ old.slots) × (new.window ≡ old.window)
-SameOthers Window old new = (new.slots ≡ old.slots) × (new.places ≡ old.places)
+  pub others_same : new ≡ record old { file = new.file }
 
 -- the option has the number that the text writes, and had none
 pub record SetsNumber (old : Given) (choice : Choice) (value : Text) (new : Given) : Type 0 where
   pub was_none : number_at choice old ≡ None
-  pub writes : WritesAtMostOne (value ∷ []) (number_at choice new)
-  pub file_same : new.file ≡ old.file
-  pub others_same : SameOthers choice old new
+  pub writes : is_some (number_below (2 ^ 64) value) ≡ true
+  pub is_now : new ≡ with_number choice (number_below (2 ^ 64) value) old
 
 -- the same file's name, if there is one, and the same numbers
 pub record Agrees (found given : Given) : Type 0 where
   pub file : at_most_one found.file ≡ at_most_one given.file
-  pub slots : found.slots ≡ given.slots
-  pub places : found.places ≡ given.places
-  pub window : found.window ≡ given.window
+  pub numbers : (choice : Choice) → number_at choice found ≡ number_at choice given

@@ -43,11 +43,15 @@ check_shape = subcommand_shape (codes "check") (name_rule (codes "FILE") ∷ [])
 abbrev pub lives_shape : Shape
 lives_shape = subcommand_shape (codes "lives") (name_rule (codes "SCRIPT") ∷ [])
 
+abbrev pub threads_shape : Shape
+threads_shape = subcommand_shape (codes "threads") (name_rule (codes "FILE")
+    ∷ number_rule (codes "sessions") (codes "4") 1 32 ∷ number_rule (codes "commits") (codes "8") 1 1000 ∷ [])
+
 -- all of it
 abbrev pub wbl : App
 wbl = record {
   top = record (new_shape (codes "wbl")) { is_leaf = false; no_binary_name = true; subcommand_required = true };
-  subs = format_shape ∷ run_shape ∷ check_shape ∷ lives_shape ∷ [];
+  subs = format_shape ∷ run_shape ∷ check_shape ∷ lives_shape ∷ threads_shape ∷ [];
 }
 
 -- ---- help

@@ -87,6 +87,7 @@ text_of printed.SweepEnd = codes "sweep end"
 text_of (printed.Stopped keeps) = codes "stopped " ++ survivor_text keeps
 text_of (printed.Life number) = codes "life " ++ decimal number
 text_of printed.LifeStopped = codes "stopped"
+text_of printed.ThreadsClosed = codes "closed"
 text_of (printed.Refused f) = refused_text f
 text_of (printed.NotACommand line) = codes "line " ++ (decimal line ++ codes ": not a command")
 text_of printed.FileFault = codes "file fault"

@@ -1,13 +1,13 @@
 -- What the words of the command line ask for.
-use Rattle.std.specs.Prelude.{◌≡◌, ℕ, ◌^◌, List, [], ◌∷◌, ◌++◌, ◌⊎◌, Bool, true, not, Option, Some, None, codes}
+use Rattle.std.specs.Prelude.{◌≡◌, ℕ, ◌^◌, ◌≤◌, List, [], ◌∷◌, ◌++◌, ◌⊎◌, Bool, true, not, Option, Some, None, codes}
 use Rattle.std.specs.List.{flat_map}
 use Rattle.std.specs.Str.Parse.{starts_with_minus}
 use Rattle.base.specs.Layout.{is_in_limits, layout_with, newest_version}
 use Rattle.command_line.specs.Numbers.{Text, number_below}
 use Rattle.command_line.specs.declared.orders.Choice.{Choice}
-use Rattle.command_line.specs.declared.orders.Choice.TheVariants.{Slots, Places, Window}
+use Rattle.command_line.specs.declared.orders.Choice.TheVariants.{Slots, Places, Window, Sessions, Commits}
 use Rattle.command_line.specs.declared.orders.Order.{Order}
-use Rattle.command_line.specs.declared.orders.Order.TheVariants.{Format, Run, Check, Lives}
+use Rattle.command_line.specs.declared.orders.Order.TheVariants.{Format, Run, Check, Lives, Threads}
 
 -- the text is a file's name: it doesn't begin with '-'
 abbrev pub is_file_name : Text → Bool
@@ -18,8 +18,10 @@ abbrev pub option_word : Choice → Text
 option_word Slots = codes "--slots"
 option_word Places = codes "--places"
 option_word Window = codes "--window"
+option_word Sessions = codes "--sessions"
+option_word Commits = codes "--commits"
 
--- a part of what follows `format`: the file, an option with its value in a word of its own, or one
+-- a part of what follows a subcommand: the file, an option with its value in a word of its own, or one
 -- with its value in the same word
 pub data Part : Type 0 where
   file : Text → Part
@@ -43,6 +45,8 @@ abbrev pub value_for : Choice → Choice → Text → List Text
 value_for Slots Slots value = value ∷ []
 value_for Places Places value = value ∷ []
 value_for Window Window value = value ∷ []
+value_for Sessions Sessions value = value ∷ []
+value_for Commits Commits value = value ∷ []
 value_for _ _ value = []
 
 -- the value that a part gives to an option
@@ -56,46 +60,75 @@ abbrev pub WritesAtMostOne : List Text → Option ℕ → Type 0
 WritesAtMostOne values None = values ≡ []
 WritesAtMostOne values (Some n) = (value : Text) × (values ≡ value ∷ []) × (number_below (2 ^ 64) value ≡ Some n)
 
+-- an option isn't there
+abbrev pub IsLeftOut : List Part → Choice → Type 0
+IsLeftOut parts choice = WritesAtMostOne (flat_map (value_of choice) parts) None
+
 -- an option has the number of its one value, or the default where it has none
 abbrev pub HasNumber : List Part → Choice → ℕ → ℕ → Type 0
 HasNumber parts choice default n =
-    (WritesAtMostOne (flat_map (value_of choice) parts) None × (n ≡ default))
+    (IsLeftOut parts choice × (n ≡ default))
     ⊎ WritesAtMostOne (flat_map (value_of choice) parts) (Some n)
 
--- these parts are spelled, and name the file once and each option at most once
-pub record SpellsFormat (words : List Text) (parts : List Part) (name : Text) (slots places window : ℕ) : Type 0 where
+-- the words are those of the parts, which name the file once
+pub record Spells (words : List Text) (parts : List Part) (name : Text) : Type 0 where
   pub spelled : flat_map words_of_part parts ≡ words
   pub one_file : flat_map file_of parts ≡ name ∷ []
   pub file_named : is_file_name name ≡ true
+
+-- these parts are spelled, with each option of `format` at most once, and no other
+pub record SpellsFormat (words : List Text) (parts : List Part) (name : Text) (slots places window : ℕ) : Type 0 where
+  pub spelled : Spells words parts name
   pub slots_given : HasNumber parts Slots 1024 slots
   pub places_given : HasNumber parts Places 4 places
   pub window_given : HasNumber parts Window 64 window
+  pub no_sessions : IsLeftOut parts Sessions
+  pub no_commits : IsLeftOut parts Commits
   pub limits : is_in_limits (layout_with newest_version slots places window) ≡ true
 
--- what follows `format` gives this order
-abbrev pub GivesFormat : List Text → Order → Type 0
-GivesFormat words (Format name slots places window) =
-    (parts : List Part) × SpellsFormat words parts name.now slots places window
-GivesFormat words (Run name) = ⊥
-GivesFormat words (Check name) = ⊥
-GivesFormat words (Lives name) = ⊥
+-- these parts are spelled, with each option of `threads` at most once, and no other
+pub record SpellsThreads (words : List Text) (parts : List Part) (name : Text) (sessions commits : ℕ) : Type 0 where
+  pub spelled : Spells words parts name
+  pub sessions_given : HasNumber parts Sessions 4 sessions
+  pub commits_given : HasNumber parts Commits 8 commits
+  pub no_slots : IsLeftOut parts Slots
+  pub no_places : IsLeftOut parts Places
+  pub no_window : IsLeftOut parts Window
+  pub sessions_limits : (1 ≤ sessions) × (sessions ≤ 32)
+  pub commits_limits : (1 ≤ commits) × (commits ≤ 1000)
 
 -- the words are one, a file's name
 pub record IsOneFile (words : List Text) (name : Text) : Type 0 where
   pub only : words ≡ name ∷ []
   pub named : is_file_name name ≡ true
 
--- the words give this order: the subcommand, a file's name, and numbers within their limits
-abbrev pub Gives : List Text → Order → Type 0
-Gives words (Format name slots places window) =
-    (rest : List Text) × (words ≡ codes "format" ∷ rest) × GivesFormat rest (Format name slots places window)
-Gives words (Run name) = (rest : List Text) × (words ≡ codes "run" ∷ rest) × IsOneFile rest name.now
-Gives words (Check name) = (rest : List Text) × (words ≡ codes "check" ∷ rest) × IsOneFile rest name.now
-Gives words (Lives name) = (rest : List Text) × (words ≡ codes "lives" ∷ rest) × IsOneFile rest name.now
+-- the subcommand of an order
+abbrev pub subcommand_of : Order → Text
+subcommand_of (Format name slots places window) = codes "format"
+subcommand_of (Run name) = codes "run"
+subcommand_of (Check name) = codes "check"
+subcommand_of (Lives name) = codes "lives"
+subcommand_of (Threads name sessions commits) = codes "threads"
 
--- what follows `format` gives no order
-abbrev pub GivesNoFormat : List Text → Type 0
-GivesNoFormat words = (order : Order) → GivesFormat words order → ⊥
+-- what follows the subcommand gives the rest of this order: a file's name, and numbers within their limits
+abbrev pub GivesRest : List Text → Order → Type 0
+GivesRest words (Format name slots places window) = (parts : List Part) × SpellsFormat words parts name.now slots places window
+GivesRest words (Run name) = IsOneFile words name.now
+GivesRest words (Check name) = IsOneFile words name.now
+GivesRest words (Lives name) = IsOneFile words name.now
+GivesRest words (Threads name sessions commits) = (parts : List Part) × SpellsThreads words parts name.now sessions commits
+
+-- what follows this subcommand gives this order
+abbrev pub GivesAfter : Text → List Text → Order → Type 0
+GivesAfter subcommand words order = (subcommand_of order ≡ subcommand) × GivesRest words order
+
+-- what follows this subcommand gives no order
+abbrev pub GivesNothingAfter : Text → List Text → Type 0
+GivesNothingAfter subcommand words = (order : Order) → GivesAfter subcommand words order → ⊥
+
+-- the words give this order: its subcommand, and what follows it
+abbrev pub Gives : List Text → Order → Type 0
+Gives words order = (rest : List Text) × (words ≡ subcommand_of order ∷ rest) × GivesRest rest order
 
 -- the words give no order
 abbrev pub GivesNothing : List Text → Type 0

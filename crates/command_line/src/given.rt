@@ -1,22 +1,24 @@
-ghost use Rattle.std.specs.Prelude.{◌≡◌, ◌≢◌, ◌^◌, ◌∷◌, ◌++◌, IfNone, IfSome, IsSome, IsSomeAnd, IsTrue, None};
+ghost use Rattle.std.specs.Prelude.{◌≡◌, ◌≢◌, ◌^◌, ◌∷◌, ◌++◌, IfNone, IfSome, IsSome, IsSomeAnd, IsTrue, None, codes};
 ghost use Rattle.command_line.specs.Lines.{texts};
 ghost use Rattle.command_line.specs.Numbers.{Text, number_below};
-ghost use Rattle.command_line.specs.Words.{Gives, GivesFormat, GivesNoFormat, GivesNothing, IsOneFile, is_file_name, option_word};
+ghost use Rattle.command_line.specs.Words.{Gives, GivesAfter, GivesNothing, GivesNothingAfter, IsOneFile, is_file_name, option_word};
 ghost use Rattle.command_line.specs.Given.{Agrees, AreGiven, SetsFile, SetsNumber, number_at};
 ghost use Rattle.command_line.specs.declared.given.Given.{Given as GivenValue};
 ghost use Rattle.command_line.specs.declared.orders.Choice.{Choice as ChoiceValue};
 
 use crate::number::number;
-use crate::orders::{Choice, Order};
+use crate::orders::{Choice, MOST_COMMITS, MOST_SESSIONS, Order};
 use base::geometry::Geometry;
 
-/// What the words after `format` give, before defaults.
+/// What the words after a subcommand give, before defaults.
 #[derive(Clone, Copy)]
 pub(crate) struct Given<'a> {
     pub(crate) file: Option<&'a str>,
     pub(crate) slots: Option<u64>,
     pub(crate) places: Option<u64>,
     pub(crate) window: Option<u64>,
+    pub(crate) sessions: Option<u64>,
+    pub(crate) commits: Option<u64>,
 }
 
 const DEFAULT_SLOTS: u64 = 1024;
@@ -24,6 +26,10 @@ const DEFAULT_SLOTS: u64 = 1024;
 const DEFAULT_PLACES: u64 = 4;
 
 const DEFAULT_WINDOW: u64 = 64;
+
+const DEFAULT_SESSIONS: u64 = 4;
+
+const DEFAULT_COMMITS: u64 = 8;
 
 /// The order that some words give. It takes no memory.
 pub(crate) fn spelled_order<'a>(words: &[&'a str]) -> Option<Order<'a>>
@@ -42,6 +48,8 @@ pub(crate) fn spelled_order<'a>(words: &[&'a str]) -> Option<Order<'a>>
     } else if *name == "lives" {
         let file = one_file(rest)?;
         Some(Order::Lives { file })
+    } else if *name == "threads" {
+        spelled_threads(rest)
     } else {
         None
     }
@@ -59,11 +67,14 @@ fn one_file<'a>(words: &[&'a str]) -> Option<&'a str>
 }
 
 fn spelled_format<'a>(words: &[&'a str]) -> Option<Order<'a>>
-    ensures gives { IfSome result (λ order. GivesFormat (texts words.now) order) }
-    ensures none { IfNone result (GivesNoFormat (texts words.now)) }
+    ensures gives { IfSome result (λ order. GivesAfter (codes "format") (texts words.now) order) }
+    ensures none { IfNone result (GivesNothingAfter (codes "format") (texts words.now)) }
 {
-    let given = read_format(words)?;
+    let given = read_given(words)?;
     let file = given.file?;
+    if given.sessions.is_some() || given.commits.is_some() {
+        return None;
+    }
     let slots = given.slots.unwrap_or(DEFAULT_SLOTS);
     let places = given.places.unwrap_or(DEFAULT_PLACES);
     let window = given.window.unwrap_or(DEFAULT_WINDOW);
@@ -78,7 +89,29 @@ fn spelled_format<'a>(words: &[&'a str]) -> Option<Order<'a>>
     })
 }
 
-fn read_format<'a>(words: &[&'a str]) -> Option<Given<'a>>
+fn spelled_threads<'a>(words: &[&'a str]) -> Option<Order<'a>>
+    ensures gives { IfSome result (λ order. GivesAfter (codes "threads") (texts words.now) order) }
+    ensures none { IfNone result (GivesNothingAfter (codes "threads") (texts words.now)) }
+{
+    let given = read_given(words)?;
+    let file = given.file?;
+    if given.slots.is_some() || given.places.is_some() || given.window.is_some() {
+        return None;
+    }
+    let sessions = given.sessions.unwrap_or(DEFAULT_SESSIONS);
+    let commits = given.commits.unwrap_or(DEFAULT_COMMITS);
+    if sessions < 1 || sessions > MOST_SESSIONS || commits < 1 || commits > MOST_COMMITS {
+        return None;
+    }
+    Some(Order::Threads {
+        file,
+        sessions,
+        commits,
+    })
+}
+
+// What a file and options with numbers give, each named at most once.
+fn read_given<'a>(words: &[&'a str]) -> Option<Given<'a>>
     ensures given { IfSome result (λ given. AreGiven (texts words.now) given) }
     ensures all { (given : GivenValue) → AreGiven (texts words.now) given → IsSomeAnd result (λ found. Agrees found given) }
 {
@@ -88,16 +121,18 @@ fn read_format<'a>(words: &[&'a str]) -> Option<Given<'a>>
             slots: None,
             places: None,
             window: None,
+            sessions: None,
+            commits: None,
         });
     };
     if let Some(choice) = spaced_choice(first) {
         let (value, rest) = rest.split_first()?;
-        return with_number(read_format(rest)?, choice, value);
+        return with_number(read_given(rest)?, choice, value);
     }
     if let Some((choice, value)) = joined_choice(first) {
-        return with_number(read_format(rest)?, choice, value);
+        return with_number(read_given(rest)?, choice, value);
     }
-    with_file(read_format(rest)?, first)
+    with_file(read_given(rest)?, first)
 }
 
 fn spaced_choice(word: &str) -> Option<Choice>
@@ -110,6 +145,10 @@ fn spaced_choice(word: &str) -> Option<Choice>
         Some(Choice::Places)
     } else if word == "--window" {
         Some(Choice::Window)
+    } else if word == "--sessions" {
+        Some(Choice::Sessions)
+    } else if word == "--commits" {
+        Some(Choice::Commits)
     } else {
         None
     }
@@ -139,9 +178,7 @@ fn with_file<'a>(given: Given<'a>, word: &'a str) -> Option<Given<'a>>
     }
     Some(Given {
         file: Some(word),
-        slots: given.slots,
-        places: given.places,
-        window: given.window,
+        ..given
     })
 }
 
@@ -149,25 +186,27 @@ fn with_number<'a>(given: Given<'a>, choice: Choice, value: &str) -> Option<Give
     ensures sets { IfSome result (λ now. SetsNumber given.entry choice value.now now) }
     ensures may { number_at choice given.entry ≡ None → IsSome (number_below (2 ^ 64) value.now) → IsSome result }
 {
-    let number = number(value.as_bytes())?;
+    let number = Some(number(value.as_bytes())?);
     match choice {
         Choice::Slots if given.slots.is_none() => Some(Given {
-            file: given.file,
-            slots: Some(number),
-            places: given.places,
-            window: given.window,
+            slots: number,
+            ..given
         }),
         Choice::Places if given.places.is_none() => Some(Given {
-            file: given.file,
-            slots: given.slots,
-            places: Some(number),
-            window: given.window,
+            places: number,
+            ..given
         }),
         Choice::Window if given.window.is_none() => Some(Given {
-            file: given.file,
-            slots: given.slots,
-            places: given.places,
-            window: Some(number),
+            window: number,
+            ..given
+        }),
+        Choice::Sessions if given.sessions.is_none() => Some(Given {
+            sessions: number,
+            ..given
+        }),
+        Choice::Commits if given.commits.is_none() => Some(Given {
+            commits: number,
+            ..given
         }),
         _ => None,
     }

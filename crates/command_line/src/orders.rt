@@ -23,15 +23,30 @@ pub enum Order<'a> {
     Lives {
         file: &'a str,
     },
+    /// The image in the file is opened, and so many threads, each with a session of its own, make
+    /// so many commits each.
+    Threads {
+        file: &'a str,
+        sessions: u64,
+        commits: u64,
+    },
 }
 
-/// An option of `format`.
+/// An option with a number: three of `format`, and two of `threads`.
 #[derive(Clone, Copy, Debug, PartialEq, Eq)]
 pub enum Choice {
     Slots,
     Places,
     Window,
+    Sessions,
+    Commits,
 }
+
+/// How many threads with a session there may be, from 1 on.
+pub const MOST_SESSIONS: u64 = 32;
+
+/// How many commits each of them may make, from 1 on.
+pub const MOST_COMMITS: u64 = 1_000;
 
 /// Why the words give no order. Each carries the text for the user.
 #[derive(Debug, Drop, Error)]

@@ -72,6 +72,8 @@ pub enum Printed<'a> {
     Life(usize),
     /// It is over.
     LifeStopped,
+    /// The room that threads worked on is closed.
+    ThreadsClosed,
     Refused(Fault),
     /// The number of a line that is no command, from 1.
     NotACommand {
@@ -139,6 +141,7 @@ pub fn text(alloc: Global, line: &Printed) -> Result<String, AllocError>
         Printed::Stopped(keeps) => stopped_line(alloc, keeps),
         Printed::Life(number) => format!(in alloc; "life {number}"),
         Printed::LifeStopped => String::from_str(alloc, "stopped"),
+        Printed::ThreadsClosed => String::from_str(alloc, "closed"),
         Printed::Refused(fault) => refused_line(alloc, fault),
         Printed::NotACommand { line } => format!(in alloc; "line {line}: not a command"),
         Printed::FileFault => String::from_str(alloc, "file fault"),

@@ -1,11 +1,11 @@
 ghost use Rattle.std.specs.Prelude.{◌≡◌, codes, false, IfErr, IfOk, OnErr};
 ghost use Rattle.clap.specs.Words.{app_of, kind_of, rule_of, shape_of};
-ghost use Rattle.command_line.specs.Help.{AnswersHelp, TellsKind, check_shape, format_shape, lives_shape, name_rule, number_rule, run_shape, wbl};
+ghost use Rattle.command_line.specs.Help.{AnswersHelp, TellsKind, check_shape, format_shape, lives_shape, name_rule, number_rule, run_shape, threads_shape, wbl};
 ghost use Rattle.command_line.specs.Lines.{texts};
 ghost use Rattle.command_line.specs.Words.{Gives, GivesNothing};
 
 use crate::given::spelled_order;
-use crate::orders::{Order, WordFault};
+use crate::orders::{MOST_COMMITS, MOST_SESSIONS, Order, WordFault};
 use clap::builder::ValueParser;
 use clap::error::ErrorKind;
 use clap::{Arg, ArgAction, Command};
@@ -66,6 +66,7 @@ fn command_line<'a>(alloc: Global) -> Result<Command<'a>, AllocError>
     let run = run_command(alloc)?;
     let check = check_command(alloc)?;
     let lives = lives_command(alloc)?;
+    let threads = threads_command(alloc)?;
     let command = Command::new(alloc, "wbl")
         .no_binary_name(true)
         .bin_name("wbl")?
@@ -76,7 +77,8 @@ fn command_line<'a>(alloc: Global) -> Result<Command<'a>, AllocError>
         .subcommand(format)?
         .subcommand(run)?
         .subcommand(check)?
-        .subcommand(lives)?;
+        .subcommand(lives)?
+        .subcommand(threads)?;
     Ok(command)
 }
 
@@ -156,6 +158,25 @@ const LIVES_EXAMPLE: &str = "Example: wbl lives two.script, with the lines
   get 2 1 7
 formats a device. In the first life it fails after 90 operations, within the covering of the commit,
 and of each word the newest value that may have survived is kept. So the second life reads the row.";
+
+fn threads_command<'a>(alloc: Global) -> Result<Command<'a>, AllocError>
+    ensures { IfOk result (λ command. shape_of command ≡ threads_shape) }
+{
+    let sessions = number_option(alloc, "sessions", "4", 1, MOST_SESSIONS).help(
+        "How many threads there are, each with a session of its own, 1 to 32",
+    );
+    let commits = number_option(alloc, "commits", "8", 1, MOST_COMMITS).help(
+        "How many commits each of them makes, 1 to 1000",
+    );
+    Command::new(alloc, "threads")
+        .about("Opens the image in FILE, and commits rows from several threads at once")
+        .after_help(
+            "Example: wbl threads db.img --sessions 2 --commits 3\nprints: committed 6\n        1 0 0300000000000000\n        1 1 0300000000000000\n        end 2\n        closed",
+        )
+        .arg(file_argument(alloc))?
+        .arg(sessions)?
+        .arg(commits)
+}
 
 fn file_argument<'a>(alloc: Global) -> Arg<'a>
     ensures rule { rule_of result ≡ name_rule (codes "FILE") }

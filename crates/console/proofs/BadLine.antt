@@ -18,7 +18,7 @@ use Rattle.command_line.specs.Texts.{text_of}
 use Rattle.command_line.specs.declared.command.Command.{Command}
 use Rattle.command_line.specs.declared.command.Survivor.{Survivor}
 use Rattle.command_line.specs.declared.orders.Order.{Order}
-use Rattle.command_line.specs.declared.orders.Order.TheVariants.{Format, Run, Check, Lives}
+use Rattle.command_line.specs.declared.orders.Order.TheVariants.{Format, Run, Check, Threads, Lives}
 use Rattle.command_line.specs.declared.printed.Printed.TheVariants as printed
 use Rattle.console.specs.BadLine.{BlamesNoLine, EndsAtBadLine, EndsAtLine, IfBadLine, IsLineOf, IsPassed, MeetsBadLine, Tells, TellsLine, kept_by, kept_in}
 use Rattle.console.specs.Input.{BeginsWith}
@@ -105,6 +105,7 @@ told-by (Format name slots places window) (NotACommand line) file input old mid 
 told-by (Check name) (NotACommand line) file input old mid new number met is told = absurd met
 told-by (Run name) (NotACommand line) file input old mid new number met is told =
     ends-so file input old mid new number (text_of (printed.NotACommand number) ++ 10 ∷ []) (subst (λ (n : ℕ). EndsAtBadLine file input old mid n []) (sym is) met) told
+told-by (Threads name sessions commits) (NotACommand line) file input old mid new number met is told = absurd met
 told-by (Lives name) (NotACommand line) file input old mid new number met is told =
     (subst (λ (n : ℕ). IsWrongLine file n) (sym is) met.0, appends-more old mid new [] (text_of (printed.NotACommand number) ++ 10 ∷ []) met.1 told)
 

@@ -25,10 +25,10 @@ use Rattle.console.proofs.Kept.{extends-none, extends-trans}
 abbrev pub Grows : State → State → Type 0
 Grows q q' = Extends q.history q'.history × (q'.layout ≡ q.layout)
 
-grows-same : (q q' : State) → q' ≡ q → Grows q q'
+pub grows-same : (q q' : State) → q' ≡ q → Grows q q'
 grows-same q q' e = subst (λ (p : State). Grows q p) (sym e) (extends-none q.history, refl)
 
-grows-trans : (a b c : State) → Grows a b → Grows b c → Grows a c
+pub grows-trans : (a b c : State) → Grows a b → Grows b c → Grows a c
 grows-trans a b c first second = (extends-trans a.history b.history c.history first.0 second.0, second.1 ∙ first.1)
 
 laid-drawn : (q : State) (n : ℕ) (writes : Writes) → (state_drawn q n writes).layout ≡ q.layout
@@ -71,7 +71,7 @@ laid-stepped q one answer q' (answered un told is) = ap (λ (p : State). p.layou
 laid-stepped q one answer q' (memory_refused un takes told same) = ap (λ (p : State). p.layout) same
 laid-stepped q one answer q' (device_failed un operating told is) = ap (λ (p : State). p.layout) is
 
-grows-stepped : (q : State) (one : Step) (answer : Reply) (q' : State) → Stepped q one answer q' → Grows q q'
+pub grows-stepped : (q : State) (one : Step) (answer : Reply) (q' : State) → Stepped q one answer q' → Grows q q'
 grows-stepped q one answer q' made = (extends-stepped q one answer q' made, laid-stepped q one answer q' made)
 
 grows-ticks : (tick : Step) (goes_on : Reply → Bool) (more : ℕ) (q : State) (answer : Reply) (q' : State) → Ticks tick goes_on more q answer q' → Grows q q'

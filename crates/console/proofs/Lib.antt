@@ -10,3 +10,4 @@ mod Crash
 mod BadLine
 mod Refusals
 mod Scripts
+pub mod Working

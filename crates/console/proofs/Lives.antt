@@ -55,10 +55,10 @@ ends-closed state room device image file q gate persisted next a b c closes left
       (λ i. closed_line (a (works-so q may) i) ((b ∙ ap (λ (n : ℕ). n - 1) c) i) (c i) ++ 10 ∷ []),
     )
 
-opens-history : (image : Image) (history : List Commit) (q : State) → OpensAs image history [] q → q.history ≡ history
+pub opens-history : (image : Image) (history : List Commit) (q : State) → OpensAs image history [] q → q.history ≡ history
 opens-history image history q (gaps, is, e) = ap (λ (p : State). p.history) e
 
-opens-layout : (image : Image) (history : List Commit) (q : State) → OpensAs image history [] q → q.layout ≡ opened_layout (layout_of image)
+pub opens-layout : (image : Image) (history : List Commit) (q : State) → OpensAs image history [] q → q.layout ≡ opened_layout (layout_of image)
 opens-layout image history q (gaps, is, e) = ap (λ (p : State). p.layout) e
 
 file-of-end : (history : List Commit) (q : State) (keeps : Option Survivor) (said : Text) (file : List ℕ) → Extends history q.history → Ends q keeps said file → IsFileWith q.layout history file

@@ -20,7 +20,7 @@ use Rattle.command_line.specs.ImageFile.{HoldsWords, is_image_length}
 use Rattle.command_line.specs.declared.command.Survivor.{Survivor}
 use Rattle.command_line.specs.Numbers.{Text}
 use Rattle.command_line.specs.declared.orders.Order.{Order}
-use Rattle.command_line.specs.declared.orders.Order.TheVariants.{Format, Run, Check, Lives}
+use Rattle.command_line.specs.declared.orders.Order.TheVariants.{Format, Run, Check, Threads, Lives}
 use Rattle.console.specs.Input.{Reads}
 use Rattle.console.specs.Kept.{Leads}
 use Rattle.console.specs.Lives.{opened_text}
@@ -87,6 +87,7 @@ ends-said (Format name slots places window) file input old mid new fault ended m
 ends-said (Run name) file input old mid new fault ended (inl met) line = inl (met.0, appends-more old mid new [] ended met.1 line)
 ends-said (Run name) file input old mid new fault ended (inr met) line = inr (close-said file input old mid new fault ended met line)
 ends-said (Check name) file input old mid new fault ended met line = (met.0, appends-more old mid new [] ended met.1 line)
+ends-said (Threads name sessions commits) file input old mid new fault ended met line = (met.0, appends-more old mid new [] ended met.1 line)
 ends-said (Lives name) file input old mid new fault ended met line = (met.0, met.1, appends-more old mid new [] ended met.2 line)
 
 refused-by : (order : Order) (stop : Stop) (file : List ℕ) (input old mid new : Option Text) (fault : Fault)

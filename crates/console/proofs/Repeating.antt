@@ -18,6 +18,7 @@ use Rattle.base.proofs.Visiting.{visit-changes}
 use Rattle.base.proofs.Rounds.{rounds-repeat}
 use Rattle.pmem.specs.Device.{Device}
 use Rattle.pmem.specs.declared.device.Pmem.{Ghosts}
+use Rattle.workload.proofs.Slots.{few_slots as few}
 use Rattle.room.specs.Room.{Shows}
 use Rattle.room.specs.declared.room.Room.{Room}
 use Rattle.console.specs.Kept.{Leads}
@@ -197,7 +198,4 @@ collects-so state old new layout all more answer laid few done made = record {
 -- ---- the number of slots
 
 pub few_slots : (a : Layout) → IsTrue (is_in_limits a) → a.slots ≤ 65536
-few_slots a limits =
-    let one = and_parts (is_known_version a.version) (is_between 1 65536 a.slots && (is_between 2 64 a.places && is_between 4 1024 a.window)) limits in
-    let two = and_parts (is_between 1 65536 a.slots) (is_between 2 64 a.places && is_between 4 1024 a.window) one.1 in
-    leb-true a.slots 65536 (and_parts (nat_le 1 a.slots) (nat_le a.slots 65536) two.0).1
+few_slots a limits = few a limits

@@ -18,7 +18,7 @@ use Rattle.command_line.specs.declared.command.Command.{Command}
 use Rattle.command_line.specs.declared.command.Command.TheVariants.{Crash}
 use Rattle.command_line.specs.declared.command.Survivor.{Survivor}
 use Rattle.command_line.specs.declared.orders.Order.{Order}
-use Rattle.command_line.specs.declared.orders.Order.TheVariants.{Format, Run, Check, Lives}
+use Rattle.command_line.specs.declared.orders.Order.TheVariants.{Format, Run, Check, Threads, Lives}
 use Rattle.command_line.specs.declared.printed.Printed.TheVariants as printed
 use Rattle.console.specs.Input.{BeginsWith}
 use Rattle.console.specs.Lives.{IsBegun}
@@ -87,6 +87,7 @@ abbrev pub EndsAtLine : Order → List ℕ → Option Text → Option Text → O
 EndsAtLine (Format name slots places window) file input old new number ended = ⊥
 EndsAtLine (Run name) file input old new number ended = EndsAtBadLine file input old new number ended
 EndsAtLine (Check name) file input old new number ended = ⊥
+EndsAtLine (Threads name sessions commits) file input old new number ended = ⊥
 EndsAtLine (Lives name) file input old new number ended = IsWrongLine file number × Appends old new ended
 
 -- the line of this number is to blame, and what is printed at the end is that it is no command

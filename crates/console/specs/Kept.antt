@@ -12,7 +12,7 @@ use Rattle.room.specs.Room.{Shows}
 use Rattle.room.specs.declared.room.Room.{Room}
 use Rattle.command_line.specs.ImageFile.{HoldsWords, IsFileOf}
 use Rattle.command_line.specs.declared.orders.Order.{Order}
-use Rattle.command_line.specs.declared.orders.Order.TheVariants.{Format, Run, Check, Lives}
+use Rattle.command_line.specs.declared.orders.Order.TheVariants.{Format, Run, Check, Threads, Lives}
 
 -- the list begins with this history
 abbrev pub Extends : List Commit → List Commit → Type 0
@@ -47,11 +47,12 @@ pub record KeepsHistories (before after : List ℕ) : Type 0 where
   pub each : (image : Image) → HoldsWords before image → (history drawn : List Commit) (next : ℕ) → Stands image history drawn next
       → IsFileWith (opened_layout (layout_of image)) history after
 
--- what a subcommand leaves in FILE: of a format the fresh image, of a run what keeps the histories
+-- what a subcommand leaves in FILE: of a format the fresh image, of a run and of threads what keeps the histories
 abbrev pub Leaves : Order → List ℕ → List ℕ → Type 0
 Leaves (Format name slots places window) before after = IsFileOf (fresh_image (layout_with newest_version slots places window)) after
 Leaves (Run name) before after = KeepsHistories before after
 Leaves (Check name) before after = ⊥
+Leaves (Threads name sessions commits) before after = ∥ KeepsHistories before after ∥₁
 Leaves (Lives name) before after = ⊥
 
 -- a subcommand that ends well writes FILE, but for a check and for lives
@@ -59,6 +60,7 @@ abbrev pub writes_file : Order → Bool
 writes_file (Format name slots places window) = true
 writes_file (Run name) = true
 writes_file (Check name) = false
+writes_file (Threads name sessions commits) = true
 writes_file (Lives name) = false
 
 -- where the order is a check, this
@@ -66,6 +68,7 @@ abbrev pub IfCheck : Order → Type 0 → Type 0
 IfCheck (Format name slots places window) P = ⊤
 IfCheck (Run name) P = ⊤
 IfCheck (Check name) P = P
+IfCheck (Threads name sessions commits) P = ⊤
 IfCheck (Lives name) P = ⊤
 
 -- where the order is lives, this
@@ -73,4 +76,5 @@ abbrev pub IfLives : Order → Type 0 → Type 0
 IfLives (Format name slots places window) P = ⊤
 IfLives (Run name) P = ⊤
 IfLives (Check name) P = ⊤
+IfLives (Threads name sessions commits) P = ⊤
 IfLives (Lives name) P = P

@@ -8,3 +8,5 @@ pub mod BadLine
 pub mod Checked
 pub mod Refusals
 pub mod Scripts
+pub mod Threads
+pub mod Printed

@@ -11,8 +11,6 @@ use Rattle.command_line.specs.ImageFile.{HoldsWords, IsFileOf, is_image_length}
 use Rattle.command_line.specs.Numbers.{Text}
 use Rattle.command_line.specs.Texts.{opened_line, closed_line, survivor_text}
 use Rattle.command_line.specs.declared.command.Survivor.{Survivor}
-use Rattle.command_line.specs.declared.orders.Order.{Order}
-use Rattle.command_line.specs.declared.orders.Order.TheVariants.{Format, Run, Check, Lives as LivesOf}
 use Rattle.console.specs.Input.{Reads}
 use Rattle.console.specs.Obeyed.{ObeysLines}
 
@@ -65,11 +63,3 @@ pub record Lives (before : List ℕ) (input old new : Option (List ℕ)) (after 
   pub prints : Appends old new ((begun ++ said) ++ ended)
   pub each : (image : Image) → HoldsWords before image → (history drawn : List Commit) (next : ℕ) → Stands image history drawn next
       → IsLife image history lines keeps begun said ended after
-
--- what a subcommand that ends well prints
-abbrev pub Prints : Order → List ℕ → Option (List ℕ) → Option (List ℕ) → Option (List ℕ) → List ℕ → Type 0
-Prints (Format name slots places window) before input old new after =
-    Appends old new ((codes "formatted " ++ (decimal (total_words (layout_with newest_version slots places window)) ++ codes " words")) ++ 10 ∷ [])
-Prints (Run name) before input old new after = Lives before input old new after
-Prints (Check name) before input old new after = ⊥
-Prints (LivesOf name) before input old new after = ⊥

@@ -13,9 +13,10 @@ use Rattle.command_line.specs.Numbers.{Text}
 use Rattle.command_line.specs.Scripts.{HasBadGeometry}
 use Rattle.command_line.specs.Texts.{refused_text}
 use Rattle.command_line.specs.declared.orders.Order.{Order}
-use Rattle.command_line.specs.declared.orders.Order.TheVariants.{Format, Run, Check, Lives}
+use Rattle.command_line.specs.declared.orders.Order.TheVariants.{Format, Run, Check, Threads, Lives}
 use Rattle.console.specs.Input.{Reads}
 use Rattle.console.specs.Lives.{IsBegun}
+use Rattle.console.specs.Threads.{IsThreadsFault}
 use Rattle.console.specs.declared.stop.Stop.{Stop}
 use Rattle.console.specs.declared.stop.Stop.TheVariants.{Refused, NotACommand, Broken}
 
@@ -73,6 +74,7 @@ EndsRefused (Format name slots places window) file input old new fault ended = I
 EndsRefused (Run name) file input old new fault ended =
     (IsFileFault file IsOpeningFault fault × Appends old new ended) ⊎ EndsAtClose file input old new fault ended
 EndsRefused (Check name) file input old new fault ended = IsFileFault file IsDamage fault × Appends old new ended
+EndsRefused (Threads name sessions commits) file input old new fault ended = IsFileFault file (IsThreadsFault sessions) fault × Appends old new ended
 EndsRefused (Lives name) file input old new fault ended = (fault ≡ BadGeometry) × HasBadGeometry file × Appends old new ended
 
 -- the fault is want of memory, or the subcommand's, and then its line ends what is printed

@@ -44,7 +44,11 @@ pub fn check_file<T: Threads + Sync, W: Write>(
     Ok(())
 }
 
-fn show_rows<W: Write>(alloc: Global, rows: &[(Key, Row)], output: &mut W) -> io::Result<()>
+pub(crate) fn show_rows<W: Write>(
+    alloc: Global,
+    rows: &[(Key, Row)],
+    output: &mut W,
+) -> io::Result<()>
     ensures { OnOk result (Appends (W.contents output.old) (W.contents output.new) (entries_text rows.now)) }
 {
     for (key, row) in rows {

@@ -6,7 +6,7 @@ ghost use Rattle.base.specs.Fresh.{fresh_image};
 ghost use Rattle.console.specs.BadLine.{BlamesNoLine, EndsAtLine, IfBadLine, IsLineOf, Tells, TellsLine};
 ghost use Rattle.console.specs.Checked.{PrintsChecked};
 ghost use Rattle.console.specs.Kept.{IfCheck, IfLives, Leaves, writes_file};
-ghost use Rattle.console.specs.Lives.{Prints};
+ghost use Rattle.console.specs.Printed.{Prints};
 ghost use Rattle.console.specs.Scripts.{PrintsLives};
 ghost use Rattle.console.specs.Refusals.{EndsRefused, IfRefused, IsFaultOf, Refuses, refusal_line, status_of};
 ghost use Rattle.base.specs.declared.fault.Fault.TheVariants.{Device as DeviceFault, OutOfMemory};
@@ -17,16 +17,19 @@ use crate::format::fresh_file;
 use crate::run::run;
 use crate::script::live_script;
 use crate::stop::Stop;
+use crate::threads::run_threads;
 use base::fault::Fault;
 use base::geometry::Geometry;
 use command_line::orders::Order;
 use command_line::printed::{Printed, print};
 use std::alloc::Global;
 use std::io::{ErrorKind, Read, Write};
+use std::sync::Wait;
 use std::thread::Threads;
+use workload::Load;
 
 /// Does the work of a subcommand. `file` is what FILE holds, or SCRIPT, and nothing for `format`.
-pub fn execute<T: Threads + Sync, R: Read, W: Write>(
+pub fn execute<T: Threads + Wait + Copy + Drop + Send + Sync + 'static, R: Read, W: Write>(
     rt: &T,
     alloc: Global,
     order: &Order,
@@ -59,7 +62,7 @@ pub fn execute<T: Threads + Sync, R: Read, W: Write>(
 }
 
 // What FILE is to hold, or `None` where it stays as it is.
-fn obey<T: Threads + Sync, R: Read, W: Write>(
+fn obey<T: Threads + Wait + Copy + Drop + Send + Sync + 'static, R: Read, W: Write>(
     rt: &T,
     alloc: Global,
     order: &Order,
@@ -100,6 +103,17 @@ fn obey<T: Threads + Sync, R: Read, W: Write>(
             Ok(()) => Ok(None),
             Err(stop) => Err(stop),
         },
+        Order::Threads {
+            sessions,
+            commits,
+            ..
+        } => {
+            let load = Load { sessions, commits };
+            match run_threads(rt, alloc, file, load, output) {
+                Ok(left) => Ok(Some(left)),
+                Err(stop) => Err(stop),
+            }
+        }
         Order::Lives { .. } => match live_script(rt, alloc, file, output) {
             Ok(()) => Ok(None),
             Err(stop) => Err(stop),

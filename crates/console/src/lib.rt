@@ -13,3 +13,4 @@ mod rounds;
 mod run;
 mod script;
 pub mod stop;
+mod threads;

@@ -170,7 +170,7 @@ fn close<W: Write>(alloc: Global, room: Room<SimPmem>, output: &mut W) -> Result
     Ok(file)
 }
 
-fn close_room(room: Room<SimPmem>) -> Result<SimPmem, Fault>
+pub(crate) fn close_room(room: Room<SimPmem>) -> Result<SimPmem, Fault>
     ensures closed { IfOk result (λ device. HasClosed device_of room (device_of device)) }
     ensures fault { IfErr result (λ fault. (q : State) → Shows device_of room q → IsClosingFault q fault) }
 {

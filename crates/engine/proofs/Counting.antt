@@ -7,6 +7,7 @@ use Rattle.std.proofs.lemmas.List.Sums.{sum_by-append}
 use Rattle.std.proofs.lemmas.List.Elements.{All-same, All-tail, All-nil, All-cons, All-head}
 use Rattle.pmem.specs.declared.device.Pmem.{Ghosts}
 use Rattle.board.specs.declared.history.Naming.{Ghosts as Names}
+use Rattle.engine.specs.declared.origin.Origin.{Ghosts as Origins}
 use Rattle.audited.specs.declared.receipt.Receipt.{Receipt}
 use Rattle.engine.specs.declared.session.Session.{Session}
 use Rattle.base.specs.declared.step.Step.{Step}
@@ -14,29 +15,29 @@ use Rattle.base.specs.declared.step.Note.{Note}
 use Rattle.std.proofs.lemmas.Bool.Decides.{nat_tests}
 use Rattle.engine.specs.Agreement.{count_at, receipts_in, AreOnce, IsOnceAt}
 
-pub receipts_more : {D J B : Type 0} {G : Ghosts D} {N : Names J} (sessions : List (Session D J B G N)) (i : ℕ) (s : Session D J B G N) → i < length sessions → s ≡ slice_index_or sessions i s
+pub receipts_more : {D J B : Type 0} {G : Ghosts D} {N : Origins J} {M : Names J} (sessions : List (Session D J B G N M)) (i : ℕ) (s : Session D J B G N M) → i < length sessions → s ≡ slice_index_or sessions i s
     → receipts_in (take (i + 1) sessions) ≡ receipts_in (take i sessions) ++ s.receipts.items
-receipts_more {D} {J} {B} {G} {N} sessions i s less at =
+receipts_more {D} {J} {B} {G} {N} {M} sessions i s less at =
     ap receipts_in (take_more sessions i s less)
-    ∙ (ap (λ (x : Session D J B G N). receipts_in (take i sessions ++ x ∷ [])) (sym at)
-    ∙ (flat_map-append (λ (x : Session D J B G N). x.receipts.items) (take i sessions) (s ∷ [])
+    ∙ (ap (λ (x : Session D J B G N M). receipts_in (take i sessions ++ x ∷ [])) (sym at)
+    ∙ (flat_map-append (λ (x : Session D J B G N M). x.receipts.items) (take i sessions) (s ∷ [])
     ∙ ap (λ (rs : List Receipt). receipts_in (take i sessions) ++ rs) (append-nil s.receipts.items)))
 
-pub count_more : {D J B : Type 0} {G : Ghosts D} {N : Names J} (place : ℕ) (sessions : List (Session D J B G N)) (i : ℕ) (s : Session D J B G N) → i < length sessions → s ≡ slice_index_or sessions i s
+pub count_more : {D J B : Type 0} {G : Ghosts D} {N : Origins J} {M : Names J} (place : ℕ) (sessions : List (Session D J B G N M)) (i : ℕ) (s : Session D J B G N M) → i < length sessions → s ≡ slice_index_or sessions i s
     → count_at place (receipts_in (take (i + 1) sessions)) ≡ count_at place (receipts_in (take i sessions)) + count_at place s.receipts.items
 count_more place sessions i s less at =
     ap (count_at place) (receipts_more sessions i s less at)
     ∙ sum_by-append (λ (r : Receipt). if nat_eq r.place place then 1 else 0) (receipts_in (take i sessions)) s.receipts.items
 
-pub count_le : {D J B : Type 0} {G : Ghosts D} {N : Names J} (place : ℕ) (sessions : List (Session D J B G N)) (n : ℕ) → count_at place (receipts_in (take n sessions)) ≤ count_at place (receipts_in sessions)
-count_le {D} {J} {B} {G} {N} place sessions n =
+pub count_le : {D J B : Type 0} {G : Ghosts D} {N : Origins J} {M : Names J} (place : ℕ) (sessions : List (Session D J B G N M)) (n : ℕ) → count_at place (receipts_in (take n sessions)) ≤ count_at place (receipts_in sessions)
+count_le {D} {J} {B} {G} {N} {M} place sessions n =
     let f : Receipt → ℕ = λ r. if nat_eq r.place place then 1 else 0 in
     let parts : receipts_in sessions ≡ receipts_in (take n sessions) ++ receipts_in (drop n sessions) =
-    ap receipts_in (sym (take-append-drop n sessions)) ∙ flat_map-append (λ (x : Session D J B G N). x.receipts.items) (take n sessions) (drop n sessions) in
+    ap receipts_in (sym (take-append-drop n sessions)) ∙ flat_map-append (λ (x : Session D J B G N M). x.receipts.items) (take n sessions) (drop n sessions) in
     omega (arith, ap (count_at place) parts, sum_by-append f (receipts_in (take n sessions)) (receipts_in (drop n sessions)))
 
 -- where the sessions so far have it more than once, they all do
-pub more_than_once : {D J B : Type 0} {G : Ghosts D} {N : Names J} (place : ℕ) (sessions : List (Session D J B G N)) (i : ℕ) (s : Session D J B G N) (before here : ℕ) → i < length sessions → s ≡ slice_index_or sessions i s
+pub more_than_once : {D J B : Type 0} {G : Ghosts D} {N : Origins J} {M : Names J} (place : ℕ) (sessions : List (Session D J B G N M)) (i : ℕ) (s : Session D J B G N M) (before here : ℕ) → i < length sessions → s ≡ slice_index_or sessions i s
     → count_at place (receipts_in (take i sessions)) ≡ before → count_at place s.receipts.items ≡ here → 1 < before + here
     → (IsTrue false → count_at place (receipts_in sessions) ≡ 1) × (count_at place (receipts_in sessions) ≡ 1 → IsTrue false)
 more_than_once place sessions i s before here less at was is many =
@@ -54,14 +55,14 @@ All-left P [] ys all = All-nil P
 All-left P (x ∷ xs) ys all = All-cons P x xs (All-head P x (xs ++ ys) all) (All-left P xs ys (All-tail P x (xs ++ ys) all))
 
 -- what holds of all receipts holds of one session's
-pub All-session : {D J B : Type 0} {G : Ghosts D} {N : Names J} (P : Receipt → Type 0) (sessions : List (Session D J B G N)) (i : ℕ) (s : Session D J B G N) → i < length sessions → s ≡ slice_index_or sessions i s
+pub All-session : {D J B : Type 0} {G : Ghosts D} {N : Origins J} {M : Names J} (P : Receipt → Type 0) (sessions : List (Session D J B G N M)) (i : ℕ) (s : Session D J B G N M) → i < length sessions → s ≡ slice_index_or sessions i s
     → All P (receipts_in sessions) → All P s.receipts.items
-All-session {D} {J} {B} {G} {N} P sessions i s less at all =
+All-session {D} {J} {B} {G} {N} {M} P sessions i s less at all =
     All-right P (receipts_in (take i sessions)) s.receipts.items (All-same P _ _ (sym (receipts_more sessions i s less at))
     (All-left P (receipts_in (take (i + 1) sessions)) (receipts_in (drop (i + 1) sessions)) (All-same P _ _ (sym parts) all)))
   where
     parts : receipts_in sessions ≡ receipts_in (take (i + 1) sessions) ++ receipts_in (drop (i + 1) sessions)
-    parts = ap receipts_in (sym (take-append-drop (i + 1) sessions)) ∙ flat_map-append (λ (x : Session D J B G N). x.receipts.items) (take (i + 1) sessions) (drop (i + 1) sessions)
+    parts = ap receipts_in (sym (take-append-drop (i + 1) sessions)) ∙ flat_map-append (λ (x : Session D J B G N M). x.receipts.items) (take (i + 1) sessions) (drop (i + 1) sessions)
 
 -- the places go on by one
 pub Once-more : (entries : List (Step × Note)) (first place : ℕ) (receipts : List Receipt) → AreOnce entries first place receipts → IsOnceAt entries receipts place → AreOnce entries first (place + 1) receipts

@@ -1,6 +1,6 @@
 -- A draw and its stamps.
-use Rattle.std.proofs.Common.{◌≡◌, ℕ, List, [], ◌∷◌, ◌++◌, refl, sym, ap, subst, inl, inr}
-use Rattle.std.specs.Prelude.{All}
+use Rattle.std.proofs.Common.{◌≡◌, ℕ, List, [], ◌∷◌, ◌++◌, refl, sym, ◌∙◌, ap, subst, inl, inr}
+use Rattle.std.specs.Prelude.{⊤, All, Option, Some}
 use Rattle.base.specs.declared.fault.Fault.{Fault}
 use Rattle.base.specs.declared.step.Step.TheVariants.{Draw, Stamp}
 use Rattle.base.specs.declared.step.Note.{Note}
@@ -8,7 +8,7 @@ use Rattle.audited.specs.declared.receipt.Receipt.{Receipt}
 use Rattle.engine.specs.declared.phase.Phase.{Phase}
 use Rattle.engine.specs.declared.phase.Phase.TheVariants.{Active}
 use Rattle.engine.specs.Receipts.{Asks}
-use Rattle.engine.specs.Calls.{Called, AskPrepare, TellsFault, DeclinesCall}
+use Rattle.engine.specs.Calls.{Called, AskPrepare, TellsDraw, TellsFault, DeclinesCall, note_of_draw}
 use Rattle.engine.proofs.Calls.{Called-one, Called-append}
 
 drawn_first : (old mid new : List Receipt) (n : ℕ) (note : Note) (F G : List Receipt → Type 0)
@@ -33,3 +33,12 @@ broken_off old mid new phase n note fault is a c =
     longer : (r : Receipt) (rest : List Receipt) → TellsFault rest fault → TellsFault (r ∷ rest) fault
     longer r rest (inl none) = inl none
     longer r rest (inr (before, last, same, told)) = inr (r ∷ before, last, ap (λ (rs : List Receipt). r ∷ rs) same, told)
+
+pub drawn_told : (old mid new : List Receipt) (phase : Phase) (n t : ℕ) (answer : Option ℕ) → phase ≡ Active n → answer ≡ Some t
+    → Asks old mid (Draw n) (note_of_draw answer) → Called mid new (λ added. All (λ r. r.step ≡ Stamp n) added × ⊤)
+    → Called old new (λ added. AskPrepare phase added × TellsDraw phase added (Some t))
+drawn_told old mid new phase n t answer is at a c =
+    drawn_first old mid new n (note_of_draw answer) _ _ a c (λ r rest step told stamps. (
+      subst (λ (p : Phase). AskPrepare p (r ∷ rest)) (sym is) (inr (r, rest, refl, step, stamps.0)),
+      subst (λ (p : Phase). TellsDraw p (r ∷ rest) (Some t)) (sym is) (r, rest, refl, told ∙ ap note_of_draw at),
+    ))

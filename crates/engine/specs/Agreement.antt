@@ -6,6 +6,7 @@ use Rattle.base.specs.declared.step.Note.{Note}
 use Rattle.audited.specs.declared.receipt.Receipt.{Receipt}
 use Rattle.pmem.specs.declared.device.Pmem.{Ghosts}
 use Rattle.board.specs.declared.history.Naming.{Ghosts as Names}
+use Rattle.engine.specs.declared.origin.Origin.{Ghosts as Origins}
 use Rattle.engine.specs.declared.session.Session.{Session}
 
 -- whether a session makes such a step; the workers make the others
@@ -38,5 +39,5 @@ pub record Agrees (entries : List (Step × Note)) (first : ℕ) (receipts : List
   pub once : AreOnce entries first (length entries) receipts
 
 -- the receipts of all the sessions
-abbrev pub receipts_in : {D J B : Type 0} → {G : Ghosts D} → {N : Names J} → List (Session D J B G N) → List Receipt
+abbrev pub receipts_in : {D J B : Type 0} → {G : Ghosts D} → {N : Origins J} → {M : Names J} → List (Session D J B G N M) → List Receipt
 receipts_in sessions = flat_map (λ s. s.receipts.items) sessions

@@ -4,3 +4,4 @@ pub mod Calls
 pub mod Agreement
 pub mod Posting
 pub mod Started
+pub mod Origins

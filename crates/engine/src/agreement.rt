@@ -2,14 +2,14 @@ ghost use Rattle.std.specs.Prelude.{◌≡◌, ◌↔◌, ◌<◌, IsTrue, All, 
 ghost use Rattle.engine.specs.Receipts.{rises};
 ghost use Rattle.engine.specs.Agreement.{is_of_session, IsEntry, count_at, receipts_in, IsOnceAt, Agrees};
 
+use crate::origin::Origin;
 use crate::session::Session;
 use audited::Receipt;
 use base::step::{Note, Step};
-use board::Naming;
 use pmem::Pmem;
 
 /// Whether the receipts of these sessions are the list's session steps from the first place on.
-pub fn agrees<D: Pmem + Drop, J: Naming, B: Drop>(
+pub fn agrees<D: Pmem + Drop, J: Origin, B: Drop>(
     entries: &[(Step, Note)],
     first: u64,
     sessions: &[Session<D, J, B>],
@@ -64,7 +64,7 @@ fn is_of_session(step: &Step) -> bool
 }
 
 // Whether the entry at this place, where a session made it, has just one receipt.
-fn is_once_at<D: Pmem + Drop, J: Naming, B: Drop>(
+fn is_once_at<D: Pmem + Drop, J: Origin, B: Drop>(
     entries: &[(Step, Note)],
     sessions: &[Session<D, J, B>],
     place: u64,
@@ -81,7 +81,7 @@ fn is_once_at<D: Pmem + Drop, J: Naming, B: Drop>(
 }
 
 // Whether just one of all the receipts has this place.
-fn is_once<D: Pmem + Drop, J: Naming, B: Drop>(sessions: &[Session<D, J, B>], place: u64) -> bool
+fn is_once<D: Pmem + Drop, J: Origin, B: Drop>(sessions: &[Session<D, J, B>], place: u64) -> bool
     ensures { IsTrue result ↔ (count_at place (receipts_in sessions.now) ≡ 1) }
 {
     let mut found = false;

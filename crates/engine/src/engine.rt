@@ -3,13 +3,14 @@ ghost use Rattle.std.specs.Prelude.{◌≡◌, ◌↔◌, IsTrue};
 use crate::agreement::agrees;
 use crate::gate::Gate;
 use crate::opening::board_of;
+use crate::origin::Origin;
 use crate::session::Session;
 use crate::shared::{Desk, Shared};
 use crate::worker::spawn_worker;
 use audited::Audited;
 use base::fault::Fault;
 use base::step::{Note, Step};
-use board::{Board, History, Naming, Reader, Token};
+use board::{Board, History, Reader, Token};
 use pmem::Pmem;
 use room::Status;
 use std::alloc::Global;
@@ -18,9 +19,9 @@ use std::thread::{JoinHandle, Threads};
 
 /// A room under a lock, with a worker for its committer and one for its collector, and a board of what is covered.
 #[derive(Drop)]
-pub struct Engine<D: Pmem, J: Naming, B: Drop> {
+pub struct Engine<D: Pmem, J: Origin, B: Drop> {
     alloc: Global,
-    shared: Arc<Shared<D, B>, Global>,
+    shared: Arc<Shared<D, J, B>, Global>,
     readers: Mutex<Vec<Reader<J>>>,
     // What was published at the start.
     told: Token<J>,
@@ -38,7 +39,7 @@ struct Workers {
 
 impl<
     D: Pmem + Drop + Send + Sync + 'static,
-    J: Naming + Send + Sync + 'static,
+    J: Origin + Send + Sync + 'static,
     R: Threads + Wait + Copy + Drop + Send + 'static,
 > Engine<D, J, Board<J, R>> {
     ghost use Rattle.std.specs.Prelude.{◌≡◌, ◌⊎◌, IfOk, IfErr, length};
@@ -46,6 +47,7 @@ impl<
     ghost use Rattle.base.specs.Machine.{State};
     ghost use Rattle.room.specs.Room.{Shows};
     ghost use Rattle.engine.specs.Started.{IsStartedOn};
+    ghost use Rattle.engine.specs.Origins.{IsFrom};
 
     /// Publishes the room's tables, and starts the committer and the collector, each with its gate.
     pub fn start<G: Gate + Send + Drop + 'static, H: Gate + Send + Drop + 'static>(
@@ -57,6 +59,7 @@ impl<
         collector: H,
     ) -> Result<Engine<D, J, Board<J, R>>, (Fault, Audited<D>)>
         requires name { history ≡ J.book }
+        requires from { IsFrom D.state J.image audited }
         ensures opening { IfOk result (λ engine. engine.opening ≡ audited.opening) }
         ensures first { IfOk result (λ engine. engine.first ≡ length audited.entries.items) }
         ensures told { IfOk result (λ engine. (q : State) → Shows D.state audited.room q → IsStartedOn q engine.told) }
@@ -105,10 +108,10 @@ impl<
     }
 }
 
-impl<D: Pmem + Drop, J: Naming, B: Drop> Engine<D, J, B> {
+impl<D: Pmem + Drop, J: Origin, B: Drop> Engine<D, J, B> {
     ghost use Rattle.std.specs.Prelude.{[], IfOk, IfErr, IfSome};
     ghost use Rattle.base.specs.declared.fault.Fault.TheVariants.{OutOfMemory, WrongState, ReadersOut};
-    ghost use Rattle.audited.specs.Audit.{HasHistory};
+    ghost use Rattle.engine.specs.Origins.{IsFrom};
     ghost use Rattle.board.specs.Lists.{Begins};
     ghost use Rattle.engine.specs.declared.phase.Phase.TheVariants.{Idle};
     ghost use Rattle.engine.specs.Agreement.{Agrees, receipts_in};
@@ -155,7 +158,7 @@ impl<D: Pmem + Drop, J: Naming, B: Drop> Engine<D, J, B> {
     ) -> Result<Audited<D>, (Fault, Engine<D, J, B>, Vec<Session<D, J, B>>)>
         ensures opening { IfOk result (λ audited. audited.opening ≡ self.opening) }
         ensures agrees { IfOk result (λ audited. Agrees audited.entries.items self.first (receipts_in sessions.items)) }
-        ensures run { IfOk result (λ audited. ∥ HasHistory D.state audited.room audited.opening audited.entries.items ∥₁) }
+        ensures from { IfOk result (IsFrom D.state J.image) }
         ensures fault { IfErr result (λ e. e.0 ≡ WrongState) }
         ensures back { IfErr result (λ e. (e.1.opening ≡ self.opening) × (e.1.first ≡ self.first) × (e.2.items ≡ sessions.items)) }
     {
@@ -185,6 +188,7 @@ impl<D: Pmem + Drop, J: Naming, B: Drop> Engine<D, J, B> {
     // Takes the room out, where it is the one that was opened so and the receipts are its steps.
     fn take_back<R: Wait>(&self, rt: &R, sessions: &[Session<D, J, B>]) -> Option<Audited<D>>
         ensures opening { IfSome result (λ audited. audited.opening ≡ self.now.opening) }
+        ensures from { IfSome result (IsFrom D.state J.image) }
         ensures agrees { IfSome result (λ audited. Agrees audited.entries.items self.now.first (receipts_in sessions.now)) }
     {
         let mut desk = self.shared.desk.lock(rt);

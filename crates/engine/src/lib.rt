@@ -7,6 +7,7 @@ mod agreement;
 mod engine;
 mod gate;
 mod opening;
+mod origin;
 mod phase;
 mod posting;
 mod session;
@@ -17,5 +18,6 @@ mod worker;
 
 pub use engine::Engine;
 pub use gate::{Gate, Go};
+pub use origin::Origin;
 pub use phase::{Phase, PollReply};
 pub use session::Session;

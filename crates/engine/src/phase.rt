@@ -1,4 +1,7 @@
+use crate::origin::Origin;
+use crate::session::Session;
 use base::Ts;
+use pmem::Pmem;
 
 /// Where a session's transaction stands, by its number in the room and its timestamp.
 #[derive(Clone, Copy, Debug)]
@@ -29,6 +32,17 @@ impl Phase {
             Phase::Stamped(number, _) => Some(*number),
             Phase::Covered(number) => Some(*number),
         }
+    }
+}
+
+impl<D: Pmem + Drop, J: Origin, B: Drop> Session<D, J, B> {
+    ghost use Rattle.std.specs.Prelude.{◌≡◌};
+
+    /// Where its transaction stands.
+    pub fn phase(&self) -> Phase
+        ensures { result ≡ self.now.phase }
+    {
+        self.phase
     }
 }
 

@@ -1,3 +1,4 @@
+use crate::origin::Origin;
 use crate::shared::Shared;
 use base::Ts;
 use base::batch::{Batch, Commit};
@@ -29,9 +30,9 @@ ghost use Rattle.engine.specs.Posting.{Tries};
 
 /// Publishes the batch, and keeps sixteen stamps readable. For want of memory it tries again, until the engine is being closed.
 /// `None` then, and where the batch doesn't go on from what was published.
-pub fn post<R: Wait + Drop, D: Pmem + Drop, J: Naming>(
+pub fn post<R: Wait + Drop, D: Pmem + Drop, J: Origin>(
     rt: &R,
-    shared: &Arc<Shared<D, Board<J, R>>, Global>,
+    shared: &Arc<Shared<D, J, Board<J, R>>, Global>,
     batch: Batch,
 ) -> Option<Token<J>>
     ensures { IfSome result (λ list. last_stamp list ≡ batch.stamp) }

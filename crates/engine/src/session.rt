@@ -1,6 +1,7 @@
 ghost use Rattle.std.specs.Prelude.{◌≡◌, IsTrue};
 ghost use Rattle.engine.specs.Receipts.{rises, floor_of};
 
+use crate::origin::Origin;
 use crate::phase::{Phase, PollReply};
 use crate::shared::Shared;
 use audited::Receipt;
@@ -8,15 +9,15 @@ use base::fault::Fault;
 use base::key::Key;
 use base::row::Row;
 use base::step::{Reply, Step};
-use board::{Naming, Token};
+use board::Token;
 use pmem::Pmem;
 use std::alloc::Global;
 use std::sync::{Arc, Wait};
 
 /// One transaction after another, with a receipt for each step that was kept. Room for a receipt is made before its step.
 #[derive(Drop)]
-pub struct Session<D: Pmem, J: Naming, B: Drop> {
-    pub(crate) shared: Arc<Shared<D, B>, Global>,
+pub struct Session<D: Pmem, J: Origin, B: Drop> {
+    pub(crate) shared: Arc<Shared<D, J, B>, Global>,
     // What had been published when the engine was started.
     pub(crate) told: Token<J>,
     pub(crate) phase: Phase,
@@ -26,7 +27,7 @@ pub struct Session<D: Pmem, J: Naming, B: Drop> {
     ghost floor_is: { floor ≡ floor_of 0 receipts.items },
 }
 
-impl<D: Pmem + Drop, J: Naming, B: Drop> Session<D, J, B> {
+impl<D: Pmem + Drop, J: Origin, B: Drop> Session<D, J, B> {
     ghost use Rattle.std.specs.Prelude.{◌≢◌, ◌⊎◌, [], ℕ, length, IfOk, IfErr};
     ghost use Rattle.base.specs.declared.fault.Fault.TheVariants.{NoSession, WrongState};
     ghost use Rattle.base.specs.declared.step.Step.TheVariants.{Begin, Get, Scan, Put, Delete, Poll, Abort};
@@ -176,7 +177,7 @@ impl<D: Pmem + Drop, J: Naming, B: Drop> Session<D, J, B> {
 
     pub(crate) fn new(
         alloc: Global,
-        shared: Arc<Shared<D, B>, Global>,
+        shared: Arc<Shared<D, J, B>, Global>,
         told: Token<J>,
     ) -> Session<D, J, B>
         ensures receipts { result.receipts.items ≡ [] }

@@ -1,9 +1,10 @@
+use crate::origin::Origin;
 use crate::session::Session;
 use board::{Board, Naming, Token};
 use pmem::Pmem;
 use std::sync::Wait;
 
-impl<D: Pmem + Drop, J: Naming, R: Wait + Drop> Session<D, J, Board<J, R>> {
+impl<D: Pmem + Drop, J: Origin, R: Wait + Drop> Session<D, J, Board<J, R>> {
     ghost use Rattle.board.specs.Lists.{Begins};
 
     /// What is published now, which may not cover the session's last commit yet. Each call has a token of its own.

@@ -1,14 +1,14 @@
+use crate::origin::Origin;
 use crate::phase::Phase;
 use crate::session::Session;
 use base::Ts;
 use base::fault::Fault;
 use base::step::{Reply, Step};
-use board::Naming;
 use pmem::Pmem;
 use std::sync::Wait;
 use std::thread;
 
-impl<D: Pmem + Drop, J: Naming, B: Drop> Session<D, J, B> {
+impl<D: Pmem + Drop, J: Origin, B: Drop> Session<D, J, B> {
     ghost use Rattle.std.specs.Prelude.{◌≡◌, IfOk, IfErr, OnOk, OnErr, MatchResult, All};
     ghost use Rattle.base.specs.declared.step.Step.TheVariants.{Draw, Stamp, End};
     ghost use Rattle.base.specs.declared.step.Note.TheVariants.{Done};

@@ -1,4 +1,5 @@
 use crate::gate::{Gate, Go};
+use crate::origin::Origin;
 use crate::posting::post;
 use crate::shared::Shared;
 use audited::Receipt;
@@ -38,11 +39,11 @@ ghost use Rattle.engine.specs.Posting.{IsPosted};
 pub fn spawn_worker<
     R: Threads + Wait + Copy + Drop + Send + 'static,
     D: Pmem + Drop + Send + Sync + 'static,
-    J: Naming + Send + Sync + 'static,
+    J: Origin + Send + Sync + 'static,
     G: Gate + Send + Drop + 'static,
 >(
     rt: &R,
-    shared: &Arc<Shared<D, Board<J, R>>, Global>,
+    shared: &Arc<Shared<D, J, Board<J, R>>, Global>,
     step: Step,
     before: Note,
     gate: G,
@@ -63,9 +64,9 @@ pub fn spawn_worker<
 
 // Makes the step again and again, until the gate says so, the device fails or the engine is being closed. What a tick covers
 // is published before the next one. `before` is what the gate is shown before the first.
-fn work<R: Wait + Drop, D: Pmem + Drop, J: Naming, G: Gate>(
+fn work<R: Wait + Drop, D: Pmem + Drop, J: Origin, G: Gate>(
     rt: &R,
-    shared: &Arc<Shared<D, Board<J, R>>, Global>,
+    shared: &Arc<Shared<D, J, Board<J, R>>, Global>,
     step: &Step,
     before: Note,
     mut gate: G,
@@ -91,9 +92,9 @@ fn work<R: Wait + Drop, D: Pmem + Drop, J: Naming, G: Gate>(
 }
 
 // A tick. What it covered is published then.
-fn take_turn<R: Wait + Drop, D: Pmem + Drop, J: Naming>(
+fn take_turn<R: Wait + Drop, D: Pmem + Drop, J: Origin>(
     rt: &R,
-    shared: &Arc<Shared<D, Board<J, R>>, Global>,
+    shared: &Arc<Shared<D, J, Board<J, R>>, Global>,
     step: &Step,
 ) -> Result<Turn<J>, Missed>
     ensures { IfOk result (λ made. IsPosted made.note made.told) }
@@ -120,9 +121,9 @@ fn take_turn<R: Wait + Drop, D: Pmem + Drop, J: Naming>(
 }
 
 // One tick, unless the engine is being closed. Without memory it has no receipt.
-fn tick<R: Wait, D: Pmem + Drop, B: Drop>(
+fn tick<R: Wait, D: Pmem + Drop, J: Origin, B: Drop>(
     rt: &R,
-    shared: &Arc<Shared<D, B>, Global>,
+    shared: &Arc<Shared<D, J, B>, Global>,
     step: &Step,
 ) -> Option<(Reply, Option<Receipt>)>
     ensures { IfSome result (λ made. IfSome made.1 (λ receipt. (receipt.step ≡ step.now) × (receipt.note ≡ note_of made.0))) }

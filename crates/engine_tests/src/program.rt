@@ -8,6 +8,7 @@ use std::alloc::Global;
 use std::io;
 use std::io::{ErrorKind, Read, Write};
 use std::process::Abort;
+use std::sync::Wait;
 use std::test::Fail;
 use std::thread::Threads;
 
@@ -57,7 +58,10 @@ impl Write for Short {
     }
 }
 
-fn fresh<H: Threads + Sync>(rt: &H, alloc: Global) -> Result<Vec<u8>, Fail> {
+fn fresh<H: Threads + Wait + Copy + Drop + Send + Sync + 'static>(
+    rt: &H,
+    alloc: Global,
+) -> Result<Vec<u8>, Fail> {
     let mut output = Vec::new(alloc);
     let ended = execute(rt, alloc, &FORMAT, &[], &mut io::empty(), &mut output);
     Ok(ended.file.ok_or("no file")?)
@@ -98,7 +102,7 @@ fn nothing_is_read_after_a_crash(rt: HostRuntime) -> Result<(), Fail> {
 }
 
 // How an order ends whose output takes so many bytes.
-fn cut<H: Threads + Sync>(
+fn cut<H: Threads + Wait + Copy + Drop + Send + Sync + 'static>(
     rt: &H,
     alloc: Global,
     order: &Order,

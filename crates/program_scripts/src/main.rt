@@ -11,6 +11,7 @@ use console::ended::Ended;
 use console::execute::execute;
 use image::{print_words, set_words};
 use std::alloc::Global;
+use std::sync::Wait;
 use std::thread::Threads;
 use std::{env, fs, io};
 
@@ -30,7 +31,7 @@ fn main(rt: HostRuntime) -> Result<(), Error> {
 }
 
 // Obeys a command with its input.
-fn obey<H: Print + Threads + Sync>(
+fn obey<H: Print + Threads + Wait + Copy + Drop + Send + Sync + 'static>(
     rt: &H,
     alloc: Global,
     part: &str,
@@ -54,7 +55,7 @@ fn obey<H: Print + Threads + Sync>(
 }
 
 // Does the work of a subcommand, and tells how it ended where it didn't end well.
-fn execute_order<H: Print + Threads + Sync>(
+fn execute_order<H: Print + Threads + Wait + Copy + Drop + Send + Sync + 'static>(
     rt: &H,
     alloc: Global,
     order: &Order,

@@ -1,5 +1,6 @@
 ghost use Rattle.std.specs.Prelude.{◌≡◌, IfOk};
-ghost use Rattle.pmem.specs.Words.{IsAtRest};
+ghost use Rattle.pmem.specs.Words.{IsAtRest, image_of};
+ghost use Rattle.engine.specs.Origins.{IsFrom};
 ghost use Rattle.pmem_model.specs.Sim.{device_of};
 
 use audited::Audited;
@@ -8,14 +9,14 @@ use base::geometry::Geometry;
 use base::key::Key;
 use base::row::Row;
 use base::step::Note;
-use board::{Board, History, Naming};
-use engine::{Engine, Gate, Go, Session};
+use board::{Board, History};
+use engine::{Engine, Gate, Go, Origin, Session};
 use pmem::Pmem;
 use pmem_model::SimPmem;
 use recovery::format;
 use std::alloc::Global;
 use std::sync::Wait;
-use std::thread::Threads;
+use std::thread::{Threads, yield_now};
 
 /// What took memory, or the fault that there was none.
 pub fn granted<T, E: Drop>(made: Result<T, E>) -> Result<T, Fault> {
@@ -32,6 +33,19 @@ pub struct Never;
 impl Gate for Never {
     fn pass(&mut self, _after: &Note) -> Go {
         Go::Stop
+    }
+}
+
+/// Never stops its worker, which gives up its turn where it found nothing to do.
+#[derive(Drop)]
+pub struct Always;
+
+impl Gate for Always {
+    fn pass(&mut self, after: &Note) -> Go {
+        if matches!(after, Note::Idle | Note::SweepEnd) {
+            yield_now();
+        }
+        Go::Tick
     }
 }
 
@@ -69,6 +83,13 @@ pub fn fresh(alloc: Global, slots: u64, window: u64) -> Result<SimPmem, Fault>
     };
     let mut device = SimPmem::from_words(alloc, &zeros)?;
     format(&mut device, geometry)?;
+    restarted(alloc, &device)
+}
+
+/// A device at rest with the words of this one.
+pub fn restarted(alloc: Global, device: &SimPmem) -> Result<SimPmem, Fault>
+    ensures { IfOk result (λ device. IsAtRest (device_of device)) }
+{
     at_rest(SimPmem::from_words(alloc, &device.image()?)?)
 }
 
@@ -79,6 +100,7 @@ pub fn opened<D: Pmem + Drop + Send + Sync, R: Threads + Sync>(
     device: D,
 ) -> Result<Audited<D>, Fault>
     requires { IsAtRest (D.state device) }
+    ensures { IfOk result (IsFrom D.state (image_of (D.state device))) }
 {
     match Audited::open(rt, alloc, device) {
         Ok(audited) => Ok(audited),
@@ -89,7 +111,7 @@ pub fn opened<D: Pmem + Drop + Send + Sync, R: Threads + Sync>(
 /// The room, lent to an engine.
 pub fn started<
     D: Pmem + Drop + Send + Sync + 'static,
-    J: Naming + Send + Sync + 'static,
+    J: Origin + Send + Sync + 'static,
     R: Threads + Wait + Copy + Drop + Send + Sync + 'static,
     G: Gate + Send + Drop + 'static,
     H: Gate + Send + Drop + 'static,
@@ -101,7 +123,8 @@ pub fn started<
     committer: G,
     collector: H,
 ) -> Result<Engine<D, J, Board<J, R>>, Fault>
-    requires { history ≡ J.book }
+    requires name { history ≡ J.book }
+    requires from { IsFrom D.state J.image audited }
 {
     match Engine::<D, J, Board<J, R>>::start(rt, alloc, history, audited, committer, collector) {
         Ok(engine) => Ok(engine),
@@ -110,7 +133,7 @@ pub fn started<
 }
 
 /// The room, given back by an engine whose sessions these are.
-pub fn closed<D: Pmem + Drop, J: Naming, B: Drop, R: Threads + Wait>(
+pub fn closed<D: Pmem + Drop, J: Origin, B: Drop, R: Threads + Wait>(
     rt: &R,
     engine: Engine<D, J, B>,
     sessions: Vec<Session<D, J, B>>,
@@ -122,7 +145,7 @@ pub fn closed<D: Pmem + Drop, J: Naming, B: Drop, R: Threads + Wait>(
 }
 
 /// Begins a transaction that puts a row.
-pub fn put<D: Pmem + Drop, J: Naming, B: Drop, R: Wait>(
+pub fn put<D: Pmem + Drop, J: Origin, B: Drop, R: Wait>(
     rt: &R,
     session: &mut Session<D, J, B>,
     number: u64,

@@ -1,14 +1,16 @@
 //! While the committer is held within a cycle, another session works, and so does a reader. An engine that makes whole cycles
 //! under one lock, or one that answers from another device than it was lent, fails this.
-ghost use Rattle.std.specs.Prelude.{◌≡◌};
+ghost use Rattle.std.specs.Prelude.{◌≡◌, IfOk};
+ghost use Rattle.pmem.specs.Words.{IsAtRest, image_of};
+ghost use Rattle.pmem_model.specs.Sim.{device_of};
 
 use crate::counting::Counting;
 use crate::fixture::{Never, closed, fresh, granted, key, opened, put, row, started};
 use base::fault::Fault;
 use base::row::Row;
 use base::step::{Note, Stage};
-use board::{Board, History, Naming, Reader};
-use engine::{Gate, Go, Session};
+use board::{Board, History, Reader};
+use engine::{Gate, Go, Origin, Session};
 use pmem::Pmem;
 use pmem_model::SimPmem;
 use std::alloc::Global;
@@ -24,7 +26,7 @@ const TURNS: u64 = 1_000_000;
 /// What the threads tell one another.
 #[derive(Drop)]
 struct Signals {
-    /// The committer is held.
+    /// The committer is held, or the commit is over.
     held: AtomicBool,
     /// It may go on.
     free: AtomicBool,
@@ -83,20 +85,22 @@ fn make_signals(alloc: Global) -> Result<SharedSignals, Fault> {
 }
 
 // Puts a row and commits it.
-fn commit<D: Pmem + Drop, J: Naming, B: Drop>(
+fn commit<D: Pmem + Drop, J: Origin, B: Drop>(
     rt: &impl Wait,
     session: Session<D, J, B>,
+    signals: &Signals,
 ) -> (Session<D, J, B>, Result<Option<u64>, Fault>) {
     let mut session = session;
     let committed = match put(rt, &mut session, 7, 1) {
         Ok(()) => session.commit(rt),
         Err(fault) => Err(fault),
     };
+    signals.held.store(true, Ordering::SeqCst);
     (session, committed)
 }
 
 // Works in a second transaction and reads, once the committer is held. Lets it go on then.
-fn work_meanwhile<D: Pmem + Drop, J: Naming, B: Drop>(
+fn work_meanwhile<D: Pmem + Drop, J: Origin, B: Drop>(
     rt: &impl Wait,
     session: Session<D, J, B>,
     reader: Reader<J>,
@@ -115,7 +119,7 @@ fn work_meanwhile<D: Pmem + Drop, J: Naming, B: Drop>(
     (session, meanwhile)
 }
 
-fn answers<D: Pmem + Drop, J: Naming, B: Drop>(
+fn answers<D: Pmem + Drop, J: Origin, B: Drop>(
     rt: &impl Wait,
     session: &mut Session<D, J, B>,
     reader: &mut Reader<J>,
@@ -130,29 +134,36 @@ fn answers<D: Pmem + Drop, J: Naming, B: Drop>(
     })
 }
 
-fn hold<J: Naming + Send + Sync + 'static, R: Threads + Wait + Copy + Drop + Send + Sync + 'static>(
-    rt: &R,
-    alloc: Global,
-    history: History,
-) -> Result<Seen, Fault>
-    requires { history ≡ J.book }
+// A fresh device that counts its operations there.
+fn counted(alloc: Global, signals: &Signals) -> Result<Counting<SimPmem>, Fault>
+    ensures { IfOk result (λ counting. IsAtRest (device_of counting.device)) }
 {
-    let signals = make_signals(alloc)?;
-    let device = Counting::new(fresh(alloc, 4, 8)?, granted(Arc::try_clone(&signals.made))?);
+    let made = granted(Arc::try_clone(&signals.made))?;
+    Ok(Counting::new(fresh(alloc, 4, 8)?, made))
+}
+
+// Opens the device and commits a row, within a cycle of which a second session and a reader are asked.
+fn hold<
+    D: Pmem + Drop + Send + Sync + 'static,
+    J: Origin + Send + Sync + 'static,
+    R: Threads + Wait + Copy + Drop + Send + Sync + 'static,
+>(rt: &R, alloc: Global, history: History, device: D, signals: SharedSignals) -> Result<Seen, Fault>
+    requires name { history ≡ J.book }
+    requires image { image_of (D.state device) ≡ J.image }
+    requires at_rest { IsAtRest (D.state device) }
+{
     let audited = opened(rt, alloc, device)?;
     let opened = signals.made.load(Ordering::SeqCst);
     let holding = Holding {
         signals: granted(Arc::try_clone(&signals))?,
     };
-    let engine = started::<Counting<SimPmem>, J, R, Holding, Never>(
-        rt, alloc, history, audited, holding, Never,
-    )?;
+    let engine = started::<D, J, R, Holding, Never>(rt, alloc, history, audited, holding, Never)?;
     let first = engine.session(rt)?;
     let second = engine.session(rt)?;
     let reader = engine.reader(rt)?;
     let ((first, committed), (second, meanwhile)) = join(
         rt,
-        || commit(rt, first),
+        || commit(rt, first, &signals),
         || work_meanwhile(rt, second, reader, &signals),
     );
     let seen = Seen {
@@ -168,7 +179,9 @@ fn hold<J: Naming + Send + Sync + 'static, R: Threads + Wait + Copy + Drop + Sen
 
 #[test]
 fn readers_and_writers_inside_a_cycle(rt: HostRuntime) -> Result<(), Fail> {
-    let seen = hold::<Brand, _>(&rt, rt.alloc(), History::new())?;
+    let signals = make_signals(rt.alloc())?;
+    let device = counted(rt.alloc(), &signals)?;
+    let seen = hold::<_, Brand, _>(&rt, rt.alloc(), History::new(), device, signals)?;
     assert_eq!(rt; seen.opened, 39);
     assert_eq!(rt; seen.meanwhile.own, Some(row(2)?));
     assert_eq!(rt; seen.meanwhile.read, Ok(None));

@@ -1,4 +1,5 @@
-//! A cycle that is held within, while another session works and a reader reads.
+//! The engine's threads at work: a cycle that is held within while another session works and a reader reads, many sessions
+//! that conflict, and a commit that a token tells to another thread.
 #![tactic(auto)]
 
 #[cfg(test)]
@@ -7,3 +8,7 @@ mod counting;
 mod fixture;
 #[cfg(test)]
 mod held;
+#[cfg(test)]
+mod stress;
+#[cfg(test)]
+mod told;

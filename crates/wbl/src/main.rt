@@ -18,6 +18,7 @@ use std::fs::File;
 use std::io::Read;
 use std::process::ExitCode;
 use std::rt::Files;
+use std::sync::Wait;
 use std::thread::Threads;
 use std::{env, io};
 
@@ -42,7 +43,10 @@ fn main(rt: HostRuntime) -> Result<ExitCode, Error> {
 }
 
 // With no words: obeys standard input over a fresh image, and keeps nothing.
-fn run_fresh<H: Input + Print + Threads + Sync>(rt: &H, alloc: Global) -> Result<u8, Error> {
+fn run_fresh<H: Input + Print + Threads + Wait + Copy + Drop + Send + Sync + 'static>(
+    rt: &H,
+    alloc: Global,
+) -> Result<u8, Error> {
     let file = match fresh_file(alloc, Geometry::new(4, 2, 8)?) {
         Ok(file) => file,
         Err(fault) => return refuse(rt, alloc, &Printed::Refused(fault)),
@@ -60,7 +64,7 @@ fn run_fresh<H: Input + Print + Threads + Sync>(rt: &H, alloc: Global) -> Result
 }
 
 // Reads FILE, does the work, and writes FILE.
-fn obey<H: Files + Input + Print + Threads + Sync>(
+fn obey<H: Files + Input + Print + Threads + Wait + Copy + Drop + Send + Sync + 'static>(
     rt: &H,
     alloc: Global,
     order: &Order,
@@ -91,6 +95,7 @@ fn name_of<'a>(order: &Order<'a>) -> &'a str {
         Order::Format { file, .. } => file,
         Order::Run { file } => file,
         Order::Check { file } => file,
+        Order::Threads { file, .. } => file,
         Order::Lives { file } => file,
     }
 }
@@ -100,7 +105,10 @@ fn read_file(rt: &impl Files, alloc: Global, order: &Order) -> io::Result<Vec<u8
     let mut bytes = Vec::new(alloc);
     match *order {
         Order::Format { .. } => {}
-        Order::Run { file } | Order::Check { file } | Order::Lives { file } => {
+        Order::Run { file }
+        | Order::Check { file }
+        | Order::Threads { file, .. }
+        | Order::Lives { file } => {
             let most = MOST_FILE_BYTES as u64 + 1;
             File::open(rt, file)?.take(most).read_to_end(&mut bytes)?;
         }

@@ -1,4 +1,4 @@
-use Rattle.std.proofs.Common.{◌≡◌, sym, ◌∙◌, ap, subst, true, refl}
+use Rattle.std.proofs.Common.{◌≡◌, ◌∙◌, ap, subst, true, refl}
 use Rattle.clap.specs.Words.{App, fault_of, HasKind, is_simple_and_free, kind_of}
 use Rattle.command_line.specs.Help.{wbl}
 use Rattle.command_line.specs.Lines.{texts}

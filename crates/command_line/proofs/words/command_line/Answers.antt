@@ -1,7 +1,7 @@
-use Rattle.std.proofs.Common.{◌≡◌, List, [], ◌∷◌, true, ◌∙◌, ap, codes, refl}
+use Rattle.std.proofs.Common.{◌≡◌, [], true, ◌∙◌, ap, codes, refl}
 use Rattle.clap.specs.Simple.{app_of_fields, new_shape, on_top}
 use Rattle.clap.specs.Words.{App, Shape, app_of, with_subcommand}
-use Rattle.command_line.specs.Help.{check_shape, format_shape, lives_shape, run_shape}
+use Rattle.command_line.specs.Help.{check_shape, format_shape, lives_shape, run_shape, threads_shape}
 use Rattle.command_line.proofs.Help.{with-sub}
 use Rattle.command_line.proofs.words.command_line.Goals as goal
 
@@ -20,6 +20,9 @@ returns c =
     c.in_ok-subcommand-2.ensures c.in_ok-run.ensures refl one in
     let three = with-sub c.in_ok-subcommand-2.field-0 c.in_ok-check.check c.in_ok-subcommand-3.field-0
     (with_subcommand (with_subcommand start format_shape) run_shape) check_shape c.in_ok-subcommand-3.ensures c.in_ok-check.ensures refl two in
-    with-sub c.in_ok-subcommand-3.field-0 c.in_ok-lives.lives c.in_ok-command.command
-    (with_subcommand (with_subcommand (with_subcommand start format_shape) run_shape) check_shape) lives_shape c.in_ok-command.ensures
-    c.in_ok-lives.ensures refl three
+    let four = with-sub c.in_ok-subcommand-3.field-0 c.in_ok-lives.lives c.in_ok-subcommand-4.field-0
+    (with_subcommand (with_subcommand (with_subcommand start format_shape) run_shape) check_shape) lives_shape c.in_ok-subcommand-4.ensures
+    c.in_ok-lives.ensures refl three in
+    with-sub c.in_ok-subcommand-4.field-0 c.in_ok-threads.threads c.in_ok-command.command
+    (with_subcommand (with_subcommand (with_subcommand (with_subcommand start format_shape) run_shape) check_shape) lives_shape) threads_shape
+    c.in_ok-command.ensures c.in_ok-threads.ensures refl four

@@ -1,5 +1,11 @@
+use Rattle.pmem.specs.Words.{image_of}
+use Rattle.pmem_model.specs.Sim.{device_of}
 use Rattle.thread_tests.proofs.held.readers_and_writers_inside_a_cycle.Given as goal
 
 -- the book of the new history
-abbrev pub ghosts-hold : goal.ghosts-hold
-ghosts-hold g a = record { book = a.history }
+abbrev pub ghosts-hold-J-Naming : goal.ghosts-hold-J-Naming
+ghosts-hold-J-Naming g a = record { book = a.history }
+
+-- the image of the device that is opened
+abbrev pub ghosts-hold-J-Origin : goal.ghosts-hold-J-Origin
+ghosts-hold-J-Origin g a = record { image = image_of (device_of a.device.device) }

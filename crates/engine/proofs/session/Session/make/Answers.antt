@@ -3,6 +3,7 @@ use Rattle.engine.proofs.Fitting.{fits-last}
 use Rattle.std.proofs.Common.{◌≡◌, sym, ap, ◌∙◌, ◌≤◌, arith, length, List, ◌++◌, ◌∷◌, []}
 use Rattle.audited.specs.declared.receipt.Receipt.{Receipt}
 use Rattle.engine.specs.Receipts.{floor_of}
+use Rattle.engine.proofs.Staying.{from-stepped}
 use Rattle.engine.proofs.Rising.{floor_of-append, rises-append, some_is}
 use Rattle.engine.proofs.session.Session.make.Goals as goal
 
@@ -30,3 +31,8 @@ returns-clause-fits g c =
     let note : r.note ≡ note_of c.step-reply.result.0 = kept.note in
     let h = fits-last r (some_is _ _ r c.step-reply.ensures.run c.in-Some-receipt.is) in
     rw (← asked, ← note) h
+
+-- src/session.rt:225:32
+pub invariant_of-deref_mut-2 : goal.invariant_of-deref_mut-2
+invariant_of-deref_mut-2 g c =
+    record { from = from-stepped g.D.Pmem.state g.J.Origin.image c.deref_mut.result.now.audited c.in-Some.audited c.step-reply.new.self c.deref_mut.result.now.from c.in-Some.is c.step-reply.ensures.audited }

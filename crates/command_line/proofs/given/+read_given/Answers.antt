@@ -1,71 +1,70 @@
-use Rattle.std.proofs.Common.{refl}
 use Rattle.std.proofs.lemmas.Option.{IfSome_then}
 use Rattle.command_line.proofs.Parts.{spaced_words, joined_words, file_words}
 use Rattle.command_line.proofs.Complete.{agrees_name, agrees_option, file_rest, joined_rest, no_value, nothing_given, spaced_rest, without, without_file}
-use Rattle.command_line.proofs.given.+read_format.Goals as goal
+use Rattle.command_line.proofs.given.+read_given.Goals as goal
 
 pub returns-in_default-clause-all : goal.returns-in_default-clause-all
-returns-in_default-clause-all t c = λ given read. nothing_given c.args.words.now given _ c.in_default.ensures.cases read refl refl refl refl
+returns-in_default-clause-all t c = λ given read. nothing_given c.args.words.now given c.in_default.ensures.cases read
 
 pub returns-in_err-value-clause-all : goal.returns-in_err-value-clause-all
 returns-in_err-value-clause-all t c = λ given read.
     absurd (no_value c.args.words.now c.in-Some.rest.now c.in-Some.first.now c.in-Some-spaced_choice.choice given c.in-Some.ensures.cases.0 c.in_err-value.ensures.cases c.in-Some-spaced_choice.ensures.is read)
 
-pub returns-in_err-read_format-clause-all : goal.returns-in_err-read_format-clause-all
-returns-in_err-read_format-clause-all t c = λ given read.
+pub returns-in_err-read_given-clause-all : goal.returns-in_err-read_given-clause-all
+returns-in_err-read_given-clause-all t c = λ given read.
     let j = spaced_rest c.args.words.now c.in-Some.rest.now c.in_ok-value.rest.now c.in-Some.first.now c.in_ok-value.value.now c.in-Some-spaced_choice.choice given
     c.in-Some.ensures.cases.0 c.in_ok-value.ensures.cases.0 c.in-Some-spaced_choice.ensures.is read in
-    absurd (c.in_err-read_format.ensures.all (without c.in-Some-spaced_choice.choice given) j.rest)
+    absurd (c.in_err-read_given.ensures.all (without c.in-Some-spaced_choice.choice given) j.rest)
 
 pub returns-in-Some-spaced_choice-clause-given : goal.returns-in-Some-spaced_choice-clause-given
 returns-in-Some-spaced_choice-clause-given t c =
     IfSome_then c.with_number.result c.with_number.ensures.sets (λ new set.
     spaced_words c.args.words.now c.in-Some.rest.now c.in_ok-value.rest.now c.in-Some.first.now c.in_ok-value.value.now
-    c.in-Some-spaced_choice.choice c.in_ok-read_format.field-0 new
-    c.in-Some.ensures.cases.0 c.in_ok-value.ensures.cases.0 c.in-Some-spaced_choice.ensures.is c.in_ok-read_format.ensures.given set)
+    c.in-Some-spaced_choice.choice c.in_ok-read_given.field-0 new
+    c.in-Some.ensures.cases.0 c.in_ok-value.ensures.cases.0 c.in-Some-spaced_choice.ensures.is c.in_ok-read_given.ensures.given set)
 
 pub returns-in-Some-spaced_choice-clause-all : goal.returns-in-Some-spaced_choice-clause-all
 returns-in-Some-spaced_choice-clause-all t c = λ given read.
     let choice = c.in-Some-spaced_choice.choice in
     let j = spaced_rest c.args.words.now c.in-Some.rest.now c.in_ok-value.rest.now c.in-Some.first.now c.in_ok-value.value.now choice given
     c.in-Some.ensures.cases.0 c.in_ok-value.ensures.cases.0 c.in-Some-spaced_choice.ensures.is read in
-    agrees_option choice c.in_ok-value.value.now.now _ c.in_ok-read_format.field-0 given c.with_number.result j
-    (c.in_ok-read_format.ensures.all (without choice given) j.rest) c.with_number.ensures.may c.with_number.ensures.sets
+    agrees_option choice c.in_ok-value.value.now.now _ c.in_ok-read_given.field-0 given c.with_number.result j
+    (c.in_ok-read_given.ensures.all (without choice given) j.rest) c.with_number.ensures.may c.with_number.ensures.sets
 
-pub returns-in_err-read_format-2-clause-all : goal.returns-in_err-read_format-2-clause-all
-returns-in_err-read_format-2-clause-all t c = λ given read.
+pub returns-in_err-read_given-2-clause-all : goal.returns-in_err-read_given-2-clause-all
+returns-in_err-read_given-2-clause-all t c = λ given read.
     let j = joined_rest c.args.words.now c.in-Some.rest.now c.in-Some.first.now c.in-Some-joined_choice.value.now c.in-Some-joined_choice.choice given
     c.in-Some.ensures.cases.0 c.in-Some-joined_choice.ensures.is read in
-    absurd (c.in_err-read_format-2.ensures.all (without c.in-Some-joined_choice.choice given) j.rest)
+    absurd (c.in_err-read_given-2.ensures.all (without c.in-Some-joined_choice.choice given) j.rest)
 
 pub returns-in-Some-joined_choice-clause-given : goal.returns-in-Some-joined_choice-clause-given
 returns-in-Some-joined_choice-clause-given t c =
     IfSome_then c.with_number-in-Some-joined_choice.result c.with_number-in-Some-joined_choice.ensures.sets (λ new set.
     joined_words c.args.words.now c.in-Some.rest.now c.in-Some.first.now c.in-Some-joined_choice.value.now
-    c.in-Some-joined_choice.choice c.in_ok-read_format-2.field-0 new
-    c.in-Some.ensures.cases.0 c.in-Some-joined_choice.ensures.is c.in_ok-read_format-2.ensures.given set)
+    c.in-Some-joined_choice.choice c.in_ok-read_given-2.field-0 new
+    c.in-Some.ensures.cases.0 c.in-Some-joined_choice.ensures.is c.in_ok-read_given-2.ensures.given set)
 
 pub returns-in-Some-joined_choice-clause-all : goal.returns-in-Some-joined_choice-clause-all
 returns-in-Some-joined_choice-clause-all t c = λ given read.
     let choice = c.in-Some-joined_choice.choice in
     let j = joined_rest c.args.words.now c.in-Some.rest.now c.in-Some.first.now c.in-Some-joined_choice.value.now choice given
     c.in-Some.ensures.cases.0 c.in-Some-joined_choice.ensures.is read in
-    agrees_option choice c.in-Some-joined_choice.value.now _ c.in_ok-read_format-2.field-0 given c.with_number-in-Some-joined_choice.result j
-    (c.in_ok-read_format-2.ensures.all (without choice given) j.rest) c.with_number-in-Some-joined_choice.ensures.may c.with_number-in-Some-joined_choice.ensures.sets
+    agrees_option choice c.in-Some-joined_choice.value.now _ c.in_ok-read_given-2.field-0 given c.with_number-in-Some-joined_choice.result j
+    (c.in_ok-read_given-2.ensures.all (without choice given) j.rest) c.with_number-in-Some-joined_choice.ensures.may c.with_number-in-Some-joined_choice.ensures.sets
 
-pub returns-in_err-read_format-3-clause-all : goal.returns-in_err-read_format-3-clause-all
-returns-in_err-read_format-3-clause-all t c = λ given read.
+pub returns-in_err-read_given-3-clause-all : goal.returns-in_err-read_given-3-clause-all
+returns-in_err-read_given-3-clause-all t c = λ given read.
     let f = file_rest c.args.words.now c.in-Some.rest.now c.in-Some.first.now given c.in-Some.ensures.cases.0 c.in_default-spaced_choice.ensures.none c.in_default-joined_choice.ensures.none read in
-    absurd (c.in_err-read_format-3.ensures.all (without_file given) f.rest)
+    absurd (c.in_err-read_given-3.ensures.all (without_file given) f.rest)
 
 pub returns-clause-given : goal.returns-clause-given
 returns-clause-given t c =
     IfSome_then c.with_file.result c.with_file.ensures.sets (λ new set.
-    file_words c.args.words.now c.in-Some.rest.now c.in-Some.first.now c.in_ok-read_format-3.field-0 new
-    c.in-Some.ensures.cases.0 c.in_ok-read_format-3.ensures.given set)
+    file_words c.args.words.now c.in-Some.rest.now c.in-Some.first.now c.in_ok-read_given-3.field-0 new
+    c.in-Some.ensures.cases.0 c.in_ok-read_given-3.ensures.given set)
 
 pub returns-clause-all : goal.returns-clause-all
 returns-clause-all t c = λ given read.
     let f = file_rest c.args.words.now c.in-Some.rest.now c.in-Some.first.now given c.in-Some.ensures.cases.0 c.in_default-spaced_choice.ensures.none c.in_default-joined_choice.ensures.none read in
-    agrees_name c.in-Some.first.now.now _ c.in_ok-read_format-3.field-0 given c.with_file.result f
-    (c.in_ok-read_format-3.ensures.all (without_file given) f.rest) c.with_file.ensures.may c.with_file.ensures.sets
+    agrees_name c.in-Some.first.now.now _ c.in_ok-read_given-3.field-0 given c.with_file.result f
+    (c.in_ok-read_given-3.ensures.all (without_file given) f.rest) c.with_file.ensures.may c.with_file.ensures.sets

@@ -1,0 +1,125 @@
+-- What the steps that threads made of an image keep of it.
+use Rattle.std.proofs.Common.{◌≡◌, ◌≢◌, ◌⊎◌, ℕ, ◌*◌, Bool, true, false, List, [], ◌∷◌, ◌++◌, length, inl, inr, sym, ◌∙◌, ap, subst}
+use Rattle.std.proofs.Math.Logic.{∥∥₁_elim, ∥∥₁_map}
+use Rattle.std.specs.Prelude.{None, Option, Some}
+use Rattle.std.specs.Io.KnownBytes.{Appends}
+use Rattle.base.specs.declared.fault.Fault.{Fault}
+use Rattle.base.specs.declared.fault.Fault.TheVariants.{Failed, OutOfMemory, SlotsOut, TimestampsOut, Device as DeviceFault}
+use Rattle.base.specs.declared.step.Note.{Note}
+use Rattle.base.specs.declared.step.Step.{Step}
+use Rattle.base.specs.Commits.{Commit}
+use Rattle.base.specs.Images.{Image, damage, opening_fault, layout_of}
+use Rattle.base.specs.Layout.{Layout, opened_layout}
+use Rattle.base.specs.Machine.{State, Noted, StandsClosed, closing_fault, closing_gate}
+use Rattle.base.specs.Search.{first_of, some_if}
+use Rattle.base.specs.Stands.{Stands}
+use Rattle.pmem.specs.Device.{Device}
+use Rattle.pmem.specs.declared.device.Pmem.{Ghosts}
+use Rattle.audited.specs.Audit.{RunsFrom}
+use Rattle.recovery.specs.Read.{IsReadRefusal}
+use Rattle.room.specs.Room.{Shows}
+use Rattle.room.specs.declared.room.Room.{Room}
+use Rattle.room.specs.declared.status.Status.{Status}
+use Rattle.workload.specs.Load.{HasFree, HasRunFrom, IsLoadFault, OpensTo}
+use Rattle.command_line.specs.ImageFile.{HoldsWords, IsFileOf, is_image_length}
+use Rattle.command_line.specs.Numbers.{Text}
+use Rattle.console.specs.Kept.{Extends, IsFileWith, KeepsHistories}
+use Rattle.console.specs.Refusals.{IsClosingFault, IsFileFault}
+use Rattle.console.specs.Threads.{IsThreadsFault}
+use Rattle.console.proofs.Files.{one_image}
+use Rattle.console.proofs.Grown.{Grows, grows-same, grows-stepped, grows-trans}
+use Rattle.console.proofs.Kept.{keeps-closed}
+use Rattle.console.proofs.Lives.{opens-history, opens-layout}
+use Rattle.console.proofs.Obeyed.{appends-none}
+
+grows-noted : (q : State) (entries : List (Step × Note)) (q' : State) → Noted q entries q' → Grows q q'
+grows-noted q [] q' same = grows-same q q' same
+grows-noted q (entry ∷ entries) q' (reply, mid, stepped, told, rest) =
+    grows-trans q mid q' (grows-stepped q entry.0 reply mid stepped) (grows-noted mid entries q' rest)
+
+-- ---- what is kept
+
+file-of-run : {D : Type 0} {G : Ghosts D} (state : D → Device) (room : Room D G) (words image : Image) (history : List Commit) (opening : Status) (entries : List (Step × Note)) (file : List ℕ)
+    → RunsFrom state room words history [] opening entries → ((q : State) → Shows state room q → StandsClosed q image) → IsFileOf image file
+    → IsFileWith (opened_layout (layout_of words)) history file
+file-of-run state room words image history opening entries file run closed bytes =
+    let grown = grows-noted run.start entries run.now run.run in
+    subst (λ (a : Layout). IsFileWith a history file) (grown.1 ∙ opens-layout words history run.start run.opens)
+    (record {
+      image = image;
+      of_image = bytes;
+      keeps = keeps-closed history run.now image (subst (λ (h : List Commit). Extends h run.now.history) (opens-history words history run.start run.opens) grown.0)
+          (closed run.now run.shows);
+    })
+
+pub keeps-run : {D : Type 0} {G : Ghosts D} (state : D → Device) (room : Room D G) (before words image after : List ℕ) → HoldsWords before words → ∥ HasRunFrom state words room ∥₁
+    → ((q : State) → Shows state room q → StandsClosed q image) → IsFileOf image after → ∥ KeepsHistories before after ∥₁
+keeps-run state room before words image after holds run closed bytes = ∥∥₁_map run (λ h. record {
+  each = λ i held history drawn next stands.
+      let same : i ≡ words = one_image before i words held holds in
+      subst (λ (w : Image). IsFileWith (opened_layout (layout_of w)) history after) (sym same)
+      (file-of-run state room words image history h.0 h.1 after (h.2.runs history drawn next [] (subst (λ (w : Image). Stands w history drawn next) same stands)) closed bytes);
+})
+
+-- ---- why it is refused
+
+pub load-fault : (file words slice : List ℕ) (sessions : ℕ) (old : Option Text) (fault : Fault) → is_image_length (length file) ≡ true → HoldsWords file words → slice ≡ words
+    → (fault ≡ OutOfMemory) ⊎ IsLoadFault slice sessions fault
+    → (fault ≡ OutOfMemory) ⊎ (IsFileFault file (IsThreadsFault sessions) fault × Appends old old [])
+load-fault file words slice sessions old fault size holds same (inl memory) = inl memory
+load-fault file words slice sessions old fault size holds same (inr is) =
+    inr (inr (record { size = size; image = words; holds = holds; is = inl (subst (λ (i : Image). IsLoadFault i sessions fault) same is) }), appends-none old)
+
+no-fact : (a b : ⊥) → a ≡ b
+no-fact a b = absurd a
+
+-- where no state that the room shows admits it, no slots ran out
+not-slots : {D : Type 0} {G : Ghosts D} (state : D → Device) (room : Room D G) (words : Image) (sessions : ℕ) (fault : Fault) → OpensTo words (HasFree (2 * sessions)) → ∥ HasRunFrom state words room ∥₁
+    → ((q : State) → Shows state room q → fault ≢ SlotsOut) → OpensTo words (λ q. HasFree (2 * sessions) q × (fault ≢ SlotsOut))
+not-slots state room words sessions fault free run other = record {
+  may_open = free.may_open;
+  each = λ history drawn next stands.
+      let made = free.each history drawn next stands in (
+        made.0,
+        made.1,
+        (made.2, λ e. ∥∥₁_elim run no-fact (λ h. let r = h.2.runs history drawn next [] stands in other r.now r.shows e)),
+      );
+}
+
+pub late-fault : {D : Type 0} {G : Ghosts D} (state : D → Device) (room : Room D G) (file words slice : List ℕ) (sessions : ℕ) (old : Option Text) (fault : Fault)
+    → is_image_length (length file) ≡ true → HoldsWords file words → slice ≡ words → OpensTo slice (HasFree (2 * sessions)) → ∥ HasRunFrom state slice room ∥₁
+    → (fault ≡ OutOfMemory) ⊎ ((q : State) → Shows state room q → fault ≢ SlotsOut)
+    → (fault ≡ OutOfMemory) ⊎ (IsFileFault file (IsThreadsFault sessions) fault × Appends old old [])
+late-fault state room file words slice sessions old fault size holds same free run (inl memory) = inl memory
+late-fault state room file words slice sessions old fault size holds same free run (inr other) =
+    inr (
+      inr (record {
+        size = size;
+        image = words;
+        holds = holds;
+        is = inr (subst (λ (i : Image). OpensTo i (λ q. HasFree (2 * sessions) q × (fault ≢ SlotsOut))) same (not-slots state room slice sessions fault free run other));
+      }),
+      appends-none old,
+    )
+
+closing-other : (q : State) (fault : Fault) → IsClosingFault q fault → fault ≢ SlotsOut
+closing-other q fault (inr (none, device)) e = let clash : DeviceFault ≡ SlotsOut = sym device ∙ e in cc clash
+closing-other q fault (inl is) e = by q.failed _ (is ∙ ap (λ (f : Fault). Some f) e)
+  where
+    by : (failed past : Bool) → first_of (some_if failed Failed ∷ some_if past TimestampsOut ∷ []) ≡ Some SlotsOut → ⊥
+    by true past h = cc h
+    by false true h = cc h
+    by false false h = cc h
+
+pub closing-fault-so : {D : Type 0} {G : Ghosts D} (state : D → Device) (room : Room D G) (fault : Fault) → (fault ≡ OutOfMemory) ⊎ ((q : State) → Shows state room q → IsClosingFault q fault)
+    → (fault ≡ OutOfMemory) ⊎ ((q : State) → Shows state room q → fault ≢ SlotsOut)
+closing-fault-so state room fault (inl memory) = inl memory
+closing-fault-so state room fault (inr is) = inr (λ q shows. closing-other q fault (is q shows))
+
+-- what a close leaves is sound
+pub reading-fault-so : {D : Type 0} {G : Ghosts D} (state : D → Device) (room : Room D G) (image slice : Image) (fault : Fault) → slice ≡ image → ((q : State) → Shows state room q → StandsClosed q image)
+    → IsReadRefusal slice fault → (fault ≡ OutOfMemory) ⊎ ((q : State) → Shows state room q → fault ≢ SlotsOut)
+reading-fault-so state room image slice fault same closed (inr h) = inl h.1
+reading-fault-so state room image slice fault same closed (inl is) = inr (λ q shows e.
+    let none : damage image ≡ None = (closed q shows).stands.sound in
+    let clash : None ≡ Some fault = sym none ∙ (ap damage (sym same) ∙ is) in cc clash)

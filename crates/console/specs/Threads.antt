@@ -1,0 +1,44 @@
+-- What threads that make commits print and leave, and why they are refused.
+use Rattle.std.specs.Prelude.{◌≡◌, ◌≢◌, ◌⊎◌, ℕ, ◌*◌, ◌^◌, ◌-◌, min, Bool, ◌&&◌, nat_eq, nat_lt, List, [], ◌∷◌, ◌++◌, filter, codes, decimal, Option}
+use Rattle.std.specs.Io.KnownBytes.{Appends}
+use Rattle.base.specs.declared.fault.Fault.{Fault}
+use Rattle.base.specs.declared.fault.Fault.TheVariants.{SlotsOut}
+use Rattle.base.specs.declared.key.Key.{Key}
+use Rattle.base.specs.Images.{Image}
+use Rattle.image_check.specs.Checked.{ListsTables}
+use Rattle.workload.specs.Load.{HasFree, IsLoadFault, OpensTo}
+use Rattle.command_line.specs.ImageFile.{IsFileOf}
+use Rattle.command_line.specs.Numbers.{Text}
+use Rattle.command_line.specs.Texts.{end_line, entries_text}
+use Rattle.console.specs.Lives.{IsOpenable}
+
+-- the row is one that a thread of so many puts: under its number, in table 1
+abbrev pub is_of_thread : ℕ → Key × List ℕ → Bool
+is_of_thread sessions row = nat_eq row.0.table 1 && nat_lt row.0.key sessions
+
+-- how many commits all threads make; a number past the greatest that can be printed is printed as that one
+abbrev pub commits_of_all : ℕ → ℕ → ℕ
+commits_of_all sessions commits = min (sessions * commits) (2 ^ 64 - 1)
+
+-- how many commits they made, the rows that they put, how many threads they were, and that the room is closed
+abbrev pub threads_text : ℕ → ℕ → List (Key × List ℕ) → Text
+threads_text sessions commits rows =
+    (((codes "committed " ++ decimal (commits_of_all sessions commits)) ++ 10 ∷ []) ++ entries_text (filter (is_of_thread sessions) rows))
+    ++ ((end_line sessions ++ 10 ∷ []) ++ (codes "closed" ++ 10 ∷ []))
+
+-- the file may be opened, and then two slots are free for each thread; the rows that are printed are those of the image that it
+-- has in the end
+pub record PrintsThreads (sessions commits : ℕ) (before : List ℕ) (old new : Option Text) (after : List ℕ) : Type 0 where
+  pub opens : IsOpenable before
+  pub has_slots : OpensTo opens.image (HasFree (2 * sessions))
+  pub image : Image
+  pub of_image : IsFileOf image after
+  pub rows : List (Key × List ℕ)
+  pub lists : ListsTables image rows
+  pub prints : Appends old new (threads_text sessions commits rows)
+
+-- The threads don't make their commits; or they did, and the room can't be closed or what it leaves not be read: not because
+-- slots ran out
+abbrev pub IsThreadsFault : ℕ → Image → Fault → Type 0
+IsThreadsFault sessions image fault =
+    IsLoadFault image sessions fault ⊎ OpensTo image (λ q. HasFree (2 * sessions) q × (fault ≢ SlotsOut))

@@ -1,0 +1,18 @@
+-- A step's history is a run from the same image.
+use Rattle.std.proofs.Common.{◌≡◌, ap, subst}
+use Rattle.std.proofs.Math.Logic.{∥∥₁_map}
+use Rattle.std.specs.Option.{ForSome}
+use Rattle.std.specs.Prelude.{Option, Some, unwrap_or}
+use Rattle.base.specs.Images.{Image}
+use Rattle.pmem.specs.Device.{Device}
+use Rattle.pmem.specs.declared.device.Pmem.{Ghosts}
+use Rattle.audited.specs.Audit.{IsAudited}
+use Rattle.audited.specs.declared.audited.Audited.{Audited}
+use Rattle.engine.specs.Origins.{IsFrom}
+
+pub from-stepped : {D : Type 0} {G : Ghosts D} (state : D → Device) (image : Image) (lent : Option (Audited D G)) (old new : Audited D G)
+    → ForSome lent (IsFrom state image) → lent ≡ Some old
+    → ((from : Image) → IsAudited state old.room from old.opening old.entries.items → IsAudited state new.room from new.opening new.entries.items)
+    → ForSome (Some new) (IsFrom state image)
+from-stepped {D = D} {G = G} state image lent old new from is steps x same =
+    subst (IsFrom state image) (ap (λ (o : Option (Audited D G)). unwrap_or o new) same) (∥∥₁_map (from old is) (steps image))

@@ -1,0 +1,257 @@
+//! Sessions on as many threads as there are cores add to three numbers, so that they conflict, and a second life goes on with
+//! that. The rows hold just what was acknowledged.
+ghost use Rattle.std.specs.Prelude.{◌≡◌};
+ghost use Rattle.pmem.specs.Words.{IsAtRest, image_of};
+
+use crate::fixture::{Always, closed, fresh, granted, key, opened, restarted, row, started};
+use base::fault::Fault;
+use base::key::Key;
+use base::row::Row;
+use board::{Board, History};
+use engine::{Engine, Origin, Session};
+use pmem::Pmem;
+use std::alloc::Global;
+use std::marker::Brand;
+use std::sync::Wait;
+use std::test::*;
+use std::thread::{Threads, available_parallelism, map_vec, yield_now};
+
+/// How many commits each thread makes at most for each number.
+const COMMITS: u64 = 20;
+
+/// How often it tries one at most.
+const TRIES: u64 = 100_000;
+
+/// How often each transaction reads its number again.
+const READS: u64 = 16;
+
+/// Of three numbers, which stand at the keys 0 to 2.
+type Counts = [u64; 3];
+
+/// What a thread knows of a number.
+#[derive(Clone, Copy)]
+struct Known {
+    /// How many of its commits were acknowledged.
+    acknowledged: u64,
+    /// The last that it read or wrote. No later read is lower.
+    last: u64,
+}
+
+/// A session, and how many of its commits were acknowledged for each number.
+#[derive(Drop)]
+struct Worked<D: Pmem, J: Origin, B: Drop> {
+    session: Session<D, J, B>,
+    counts: Result<Counts, Fault>,
+}
+
+/// What a life came to.
+#[derive(Drop)]
+struct Life<D: Pmem> {
+    device: D,
+    acknowledged: Counts,
+    /// What the rows hold at its end.
+    held: Counts,
+}
+
+// The number that the row holds: 0 where there is none.
+fn number_in(row: Option<Row>) -> Result<u64, Fault> {
+    let Some(row) = row else {
+        return Ok(0);
+    };
+    match <[u8; 8]>::try_from(row.as_bytes()) {
+        Ok(bytes) => Ok(u64::from_be_bytes(bytes)),
+        Err(_) => Err(Fault::TooLong),
+    }
+}
+
+// The number at the key, which is the same at each read of the transaction.
+fn read_number<D: Pmem + Drop, J: Origin, B: Drop>(
+    rt: &impl Wait,
+    session: &mut Session<D, J, B>,
+    key: Key,
+) -> Result<u64, Fault> {
+    let number = number_in(session.get(rt, key)?)?;
+    for _ in 0..READS {
+        if number_in(session.get(rt, key)?)? != number {
+            return Err(Fault::Failed);
+        }
+    }
+    Ok(number)
+}
+
+// Adds one to the number at the key, in a transaction.
+fn add_one<D: Pmem + Drop, J: Origin, B: Drop>(
+    rt: &impl Wait,
+    session: &mut Session<D, J, B>,
+    key: Key,
+    known: &mut Known,
+) -> Result<(), Fault> {
+    session.begin(rt)?;
+    let number = read_number(rt, session, key)?;
+    if number < known.last {
+        return Err(Fault::Failed);
+    }
+    known.last = number;
+    let more = number.saturating_add(1);
+    session.put(rt, key, row(more)?)?;
+    if session.commit(rt)?.is_none() {
+        return Err(Fault::Failed);
+    }
+    known.last = more;
+    known.acknowledged = known.acknowledged.saturating_add(1);
+    Ok(())
+}
+
+// Gives up what is open, if this fault may be over at the next try.
+fn give_up<D: Pmem + Drop, J: Origin, B: Drop>(
+    rt: &impl Wait,
+    session: &mut Session<D, J, B>,
+    fault: Fault,
+) -> Result<(), Fault> {
+    match fault {
+        Fault::Conflict(_) | Fault::SlotsOut | Fault::WindowFull | Fault::OutOfMemory => {}
+        _ => return Err(fault),
+    }
+    match session.abort(rt) {
+        Err(Fault::NoSession) => Ok(()),
+        aborted => aborted,
+    }
+}
+
+// Tries to add one, until that is acknowledged.
+fn add<D: Pmem + Drop, J: Origin, B: Drop>(
+    rt: &impl Wait,
+    session: &mut Session<D, J, B>,
+    key: Key,
+    known: &mut Known,
+) -> Result<(), Fault> {
+    for _ in 0..TRIES {
+        match add_one(rt, session, key, known) {
+            Ok(()) => return Ok(()),
+            Err(fault) => give_up(rt, session, fault)?,
+        }
+        yield_now();
+    }
+    Ok(())
+}
+
+// Adds to one number after the other.
+fn add_all<D: Pmem + Drop, J: Origin, B: Drop>(
+    rt: &impl Wait,
+    session: &mut Session<D, J, B>,
+) -> Result<Counts, Fault> {
+    let none = Known {
+        acknowledged: 0,
+        last: 0,
+    };
+    let (mut first, mut second, mut third) = (none, none, none);
+    for _ in 0..COMMITS {
+        add(rt, session, key(0), &mut first)?;
+        add(rt, session, key(1), &mut second)?;
+        add(rt, session, key(2), &mut third)?;
+    }
+    Ok([first.acknowledged, second.acknowledged, third.acknowledged])
+}
+
+// What both count.
+fn sums(one: Counts, other: Counts) -> Counts {
+    [
+        one[0].saturating_add(other[0]),
+        one[1].saturating_add(other[1]),
+        one[2].saturating_add(other[2]),
+    ]
+}
+
+// The work of one thread.
+fn work<D: Pmem + Drop, J: Origin, B: Drop>(
+    rt: &impl Wait,
+    session: Session<D, J, B>,
+) -> Worked<D, J, B> {
+    let mut session = session;
+    let counts = add_all(rt, &mut session);
+    Worked { session, counts }
+}
+
+// A session for each core.
+fn sessions<D: Pmem + Drop, J: Origin, B: Drop, R: Threads + Wait>(
+    rt: &R,
+    alloc: Global,
+    engine: &Engine<D, J, B>,
+) -> Result<Vec<Session<D, J, B>>, Fault> {
+    let cores = match available_parallelism(rt) {
+        Ok(cores) => cores.get().clamp(2, 8),
+        Err(_) => 4,
+    };
+    let mut sessions = Vec::new(alloc);
+    for _ in 0..cores {
+        granted(sessions.push(engine.session(rt)?))?;
+    }
+    Ok(sessions)
+}
+
+// The sessions, and what they count together.
+fn together<D: Pmem + Drop, J: Origin, B: Drop>(
+    alloc: Global,
+    worked: Vec<Worked<D, J, B>>,
+) -> Result<(Vec<Session<D, J, B>>, Counts), Fault> {
+    let mut sessions = Vec::new(alloc);
+    let mut all = [0; 3];
+    for one in worked {
+        all = sums(all, one.counts?);
+        granted(sessions.push(one.session))?;
+    }
+    Ok((sessions, all))
+}
+
+// The numbers that the rows hold.
+fn numbers_in(rows: &[(Key, Row)]) -> Result<Counts, Fault> {
+    let mut held = [0; 3];
+    for (key, row) in rows {
+        let number = number_in(Some(*row))?;
+        held = match key.key {
+            0 => [number, held[1], held[2]],
+            1 => [held[0], number, held[2]],
+            2 => [held[0], held[1], number],
+            _ => return Err(Fault::Failed),
+        };
+    }
+    Ok(held)
+}
+
+// Opens the device, adds in all threads, and closes it.
+fn live<
+    D: Pmem + Drop + Send + Sync + 'static,
+    J: Origin + Send + Sync + 'static,
+    R: Threads + Wait + Copy + Drop + Send + Sync + 'static,
+>(rt: &R, alloc: Global, history: History, device: D) -> Result<Life<D>, Fault>
+    requires name { history ≡ J.book }
+    requires image { image_of (D.state device) ≡ J.image }
+    requires at_rest { IsAtRest (D.state device) }
+{
+    let audited = opened(rt, alloc, device)?;
+    let engine = started::<D, J, R, Always, Always>(rt, alloc, history, audited, Always, Always)?;
+    let sessions = sessions(rt, alloc, &engine)?;
+    let worked = granted(map_vec(rt, sessions, &|session| work(rt, session)))?;
+    let (sessions, acknowledged) = together(alloc, worked)?;
+    let audited = closed(rt, engine, sessions)?;
+    let held = numbers_in(&audited.tables()?)?;
+    match audited.into_room().close() {
+        Ok(device) => Ok(Life {
+            device,
+            acknowledged,
+            held,
+        }),
+        Err((fault, _device)) => Err(fault),
+    }
+}
+
+#[test]
+fn counts_are_those_acknowledged(rt: HostRuntime) -> Result<(), Fail> {
+    let alloc = rt.alloc();
+    let first = live::<_, Brand, _>(&rt, alloc, History::new(), fresh(alloc, 16, 8)?)?;
+    assert_eq!(rt; first.held, first.acknowledged);
+    let again = restarted(alloc, &first.device)?;
+    let second = live::<_, Brand, _>(&rt, alloc, History::new(), again)?;
+    assert_eq!(rt; second.held, sums(first.acknowledged, second.acknowledged));
+    Ok(())
+}

@@ -1,0 +1,41 @@
+use crate::lending::lent;
+use base::fault::Fault;
+use board::History;
+use pmem::Pmem;
+use room::Room;
+use std::alloc::Global;
+use std::marker::Brand;
+use std::sync::Wait;
+use std::thread::Threads;
+
+/// How much threads are to do.
+#[derive(Clone, Copy, Debug)]
+pub struct Load {
+    /// How many threads, each with a session of its own.
+    pub sessions: u64,
+    /// How many commits each of them makes.
+    pub commits: u64,
+}
+
+ghost use Rattle.std.specs.Prelude.{◌*◌, IfErr, IfOk, OnOk};
+ghost use Rattle.pmem.specs.Words.{IsAtRest, image_of};
+ghost use Rattle.workload.specs.Load.{HasFree, HasRunFrom, IsLoadFault, OpensTo};
+
+/// Opens the device, and lets the threads make their commits beside a committer and a collector. Thread `i`, from 0, puts the
+/// numbers from 1 to `commits` under key `i` of table 1, each as a row of 8 bytes with the least first, in a commit of its
+/// own, which it tries again where slots, the window or memory ran out. The room then, which no thread uses any more.
+pub fn run_load<
+    T: Threads + Wait + Copy + Drop + Send + Sync + 'static,
+    D: Pmem + Drop + Send + Sync + 'static,
+>(rt: &T, alloc: Global, device: D, load: Load) -> Result<Room<D>, Fault>
+    requires at_rest { IsAtRest (D.state device) }
+
+    // The history is a run from the image of this very device.
+    ensures from { IfOk result (λ room. ∥ HasRunFrom D.state (image_of (D.state device)) room ∥₁) }
+
+    // It is done only where two slots for each session are free, and `SlotsOut` says that they aren't.
+    ensures has_slots { OnOk result (OpensTo (image_of (D.state device)) (HasFree (2 * load.sessions))) }
+    ensures fault { IfErr result (IsLoadFault (image_of (D.state device)) load.sessions) }
+{
+    lent::<Brand, D, T>(rt, alloc, History::new(), device, load)
+}
