@@ -14,11 +14,16 @@ use txn::Write;
 use version_slot::{Version, fill};
 
 impl Sessions {
-    ghost use Rattle.std.specs.Prelude.{◌≤◌, ◌<◌, false, length};
+    ghost use Rattle.std.specs.Prelude.{◌≤◌, ◌<◌, ℕ, false, length};
+    ghost use Rattle.base.specs.declared.step.SessionReply.TheVariants.{Done};
     ghost use Rattle.base.specs.declared.step.SessionStep.TheVariants.{Put};
+    ghost use Rattle.index.specs.Entries.{entry_at, head_of};
+    ghost use Rattle.pmem.specs.Words.{value_of};
+    ghost use Rattle.slot_alloc.specs.Free.{lowest_free};
     ghost use Rattle.txn.specs.Transactions.{transaction_at};
     ghost use Rattle.txn.specs.WriteSets.{HasRoomFor};
     ghost use Rattle.txn.specs.declared.transaction.Transaction.TheVariants.{Active as IsActiveWith};
+    ghost use Rattle.version_slot.specs.Words.{IsVersion, slot_at};
     ghost use Rattle.session_steps.specs.Giving.{is_full_of, own_of};
     ghost use Rattle.session_steps.specs.Steps.{HoldsSomeOn, TakesOn};
 
@@ -65,6 +70,8 @@ impl Sessions {
         requires row { length row ≤ 32 }
         requires own { own_of key active.writes ≡ Some slot }
         ensures step { TakesOn self.old self.new (D.state device.old) (D.state device.new) (Put session key row) result }
+        ensures link { result ≡ Done → IsVersion self.old.numbers.geometry (slot_at self.old.numbers.geometry slot (value_of (D.state device.new)))
+            (record { key = key; row = row; previous = head_of (entry_at self.old.index key) }) }
     {
         let version = Version {
             key,
@@ -97,6 +104,9 @@ impl Sessions {
         requires row { length row ≤ 32 }
         requires unheld { own_of key active.writes ≡ None }
         ensures step { TakesOn self.old self.new (D.state device.old) (D.state device.new) (Put session key row) result }
+        ensures link { result ≡ Done → (slot : ℕ) × (lowest_free self.old.slots ≡ Some slot)
+            × IsVersion self.old.numbers.geometry (slot_at self.old.numbers.geometry slot (value_of (D.state device.new)))
+            (record { key = key; row = row; previous = head_of (entry_at self.old.index key) }) }
     {
         let geometry = self.numbers.geometry;
         let version = Version {

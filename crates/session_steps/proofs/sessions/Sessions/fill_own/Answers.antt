@@ -26,18 +26,14 @@ fill-requires-clause-device g c = ∥∥₁_elim c.requires.shown (ℕ_set _ _) 
 pub write-requires : goal.write-requires
 write-requires g c = (_, _, c.requires.active, subst (λ (w : Write). HasRoomFor w.key c.args.active.writes) (sym c.row_write.ensures) c.requires.room)
 
-pub returns-in-Ok : goal.returns-in-Ok
-returns-in-Ok g c = record {
-  step = λ h holds.
-      puts-own c.args.self.now h c.args.session c.args.active.snapshot c.args.active.writes (record { key = c.args.key; row = c.args.row; previous = c.link.result }) c.args.slot (g.D.Pmem.state c.args.device.now) (g.D.Pmem.state c.fill.new.device) holds
-      c.requires.active c.requires.fits c.requires.row c.requires.own c.write.new.self
-      (subst (λ (w : Write). Sets c.args.self.now.transactions c.write.new.self c.args.session (Some (Active c.args.active.snapshot (with_write_at w c.args.active.writes)))) c.row_write.ensures (c.write.ensures _ _ c.requires.active))
-      c.in-Ok.ensures.version.fits c.in-Ok.ensures.run;
-}
+pub returns-in-Ok-clause-step : goal.returns-in-Ok-clause-step
+returns-in-Ok-clause-step g c = λ h holds.
+    puts-own c.args.self.now h c.args.session c.args.active.snapshot c.args.active.writes (record { key = c.args.key; row = c.args.row; previous = c.link.result }) c.args.slot (g.D.Pmem.state c.args.device.now) (g.D.Pmem.state c.fill.new.device) holds
+    c.requires.active c.requires.fits c.requires.row c.requires.own c.write.new.self
+    (subst (λ (w : Write). Sets c.args.self.now.transactions c.write.new.self c.args.session (Some (Active c.args.active.snapshot (with_write_at w c.args.active.writes)))) c.row_write.ensures (c.write.ensures _ _ c.requires.active))
+    c.in-Ok.ensures.version.fits c.in-Ok.ensures.run
 
-pub returns-in-Err : goal.returns-in-Err
-returns-in-Err g c = record {
-  step = λ h holds.
-      puts-own-stopped c.args.self.now h c.args.session c.args.active.snapshot c.args.active.writes (record { key = c.args.key; row = c.args.row; previous = c.link.result }) c.args.slot (g.D.Pmem.state c.args.device.now) (g.D.Pmem.state c.fill.new.device) holds
-      c.requires.active c.requires.fits c.requires.row c.requires.own c.in-Err.fault c.in-Err.ensures.fault c.in-Err.ensures.stopped;
-}
+pub returns-in-Err-clause-step : goal.returns-in-Err-clause-step
+returns-in-Err-clause-step g c = λ h holds.
+    puts-own-stopped c.args.self.now h c.args.session c.args.active.snapshot c.args.active.writes (record { key = c.args.key; row = c.args.row; previous = c.link.result }) c.args.slot (g.D.Pmem.state c.args.device.now) (g.D.Pmem.state c.fill.new.device) holds
+    c.requires.active c.requires.fits c.requires.row c.requires.own c.in-Err.fault c.in-Err.ensures.fault c.in-Err.ensures.stopped

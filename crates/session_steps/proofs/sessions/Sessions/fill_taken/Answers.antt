@@ -1,4 +1,4 @@
-use Rattle.std.proofs.Common.{◌≡◌, sym, ◌∙◌, ap, subst, ℕ, Bool, true, List, ◌≤◌}
+use Rattle.std.proofs.Common.{◌≡◌, sym, ◌∙◌, ap, subst, ℕ, Bool, true, List, ◌≤◌, arith}
 use Rattle.std.proofs.Math.Bridge.{le_prop}
 use Rattle.std.proofs.Math.Nat.{ℕ_set}
 use Rattle.std.proofs.Math.Logic.{∥∥₁_elim}
@@ -27,7 +27,8 @@ fill-requires-clause-slot g c = ∥∥₁_elim c.requires.shown le_prop (λ show
 
 pub fill-requires-clause-previous : goal.fill-requires-clause-previous
 fill-requires-clause-previous g c =
-    subst (λ (o : Option ℕ). link_number o ≤ c.args.self.now.numbers.geometry.slots) (sym c.link.ensures) (∥∥₁_elim c.requires.shown le_prop (λ shown. link-fits c.args.self.now shown.0 c.args.key (held-on c.args.self.now shown.0 _ shown.1)))
+    let le : link_number c.link.result ≤ c.args.self.now.numbers.geometry.slots = subst (λ (o : Option ℕ). link_number o ≤ c.args.self.now.numbers.geometry.slots) (sym c.link.ensures) (∥∥₁_elim c.requires.shown le_prop (λ shown. link-fits c.args.self.now shown.0 c.args.key (held-on c.args.self.now shown.0 _ shown.1))) in
+    omega (arith, le)
 
 pub fill-requires-clause-device : goal.fill-requires-clause-device
 fill-requires-clause-device g c = c.take.ensures.size ∙ ∥∥₁_elim c.requires.shown (ℕ_set _ _) (λ shown. words-are _ _ (g.D.Pmem.state c.args.device.now) (g.met.D.Pmem.orderly _) shown.1.upholds)
@@ -35,30 +36,24 @@ fill-requires-clause-device g c = c.take.ensures.size ∙ ∥∥₁_elim c.requi
 pub write-requires : goal.write-requires
 write-requires g c = (_, _, c.requires.active, subst (λ (w : Write). HasRoomFor w.key c.args.active.writes) (sym c.row_write.ensures) c.requires.room)
 
-pub returns-in-Err : goal.returns-in-Err
-returns-in-Err g c = record {
-  step = λ h holds.
-      puts-untaken c.args.self.now h c.args.session c.args.active.snapshot c.args.active.writes (record { key = c.args.key; row = c.args.row; previous = c.link.result }) c.take.new.self (g.D.Pmem.state c.args.device.now) (g.D.Pmem.state c.take.new.device) c.in-Err.fault
-      (g.met.D.Pmem.orderly _) holds c.requires.active c.requires.fits c.requires.row c.requires.unheld c.in-Err.ensures.err c.in-Err.ensures.fault (λ is. c.take.ensures.out.0 (c.in-Err.is ∙ ap Err is)) (λ is. c.take.ensures.unmoved (c.in-Err.is ∙ ap Err is))
-      (λ is. subst (λ (k : ℕ). (slot : ℕ) × (lowest_free c.args.self.now.slots ≡ Some slot) × StopsWithin (clear_operations c.args.self.now.numbers.geometry k slot) (g.D.Pmem.state c.args.device.now) (g.D.Pmem.state c.take.new.device)) c.session.ensures (c.take.ensures.stopped (c.in-Err.is ∙ ap Err is)));
-}
+pub returns-in-Err-clause-step : goal.returns-in-Err-clause-step
+returns-in-Err-clause-step g c = λ h holds.
+    puts-untaken c.args.self.now h c.args.session c.args.active.snapshot c.args.active.writes (record { key = c.args.key; row = c.args.row; previous = c.link.result }) c.take.new.self (g.D.Pmem.state c.args.device.now) (g.D.Pmem.state c.take.new.device) c.in-Err.fault
+    (g.met.D.Pmem.orderly _) holds c.requires.active c.requires.fits c.requires.row c.requires.unheld c.in-Err.ensures.err c.in-Err.ensures.fault (λ is. c.take.ensures.out.0 (c.in-Err.is ∙ ap Err is)) (λ is. c.take.ensures.unmoved (c.in-Err.is ∙ ap Err is))
+    (λ is. subst (λ (k : ℕ). (slot : ℕ) × (lowest_free c.args.self.now.slots ≡ Some slot) × StopsWithin (clear_operations c.args.self.now.numbers.geometry k slot) (g.D.Pmem.state c.args.device.now) (g.D.Pmem.state c.take.new.device)) c.session.ensures (c.take.ensures.stopped (c.in-Err.is ∙ ap Err is)))
 
-pub returns-in-Ok-fill : goal.returns-in-Ok-fill
-returns-in-Ok-fill g c = record {
-  step = λ h holds.
-      puts-taken c.args.self.now h c.args.session c.args.active.snapshot c.args.active.writes (record { key = c.args.key; row = c.args.row; previous = c.link.result }) c.in-Ok.slot (g.D.Pmem.state c.args.device.now) (g.D.Pmem.state c.fill.new.device) holds
-      c.requires.active c.requires.fits c.requires.row c.requires.unheld c.in-Ok.ensures.lowest c.write.new.self c.take.new.self c.in-Ok.ensures.taken
-      (subst (λ (w : Write). Sets c.args.self.now.transactions c.write.new.self c.args.session (Some (Active c.args.active.snapshot (with_write_at w c.args.active.writes)))) c.row_write.ensures (c.write.ensures _ _ c.requires.active))
-      c.in-Ok-fill.ensures.version.fits (runs-then (subst (λ (k : ℕ). Runs (clear_operations c.args.self.now.numbers.geometry k c.in-Ok.slot) (g.D.Pmem.state c.args.device.now) (g.D.Pmem.state c.take.new.device)) c.session.ensures c.in-Ok.ensures.operations) c.in-Ok-fill.ensures.run);
-}
+pub returns-in-Ok-fill-clause-step : goal.returns-in-Ok-fill-clause-step
+returns-in-Ok-fill-clause-step g c = λ h holds.
+    puts-taken c.args.self.now h c.args.session c.args.active.snapshot c.args.active.writes (record { key = c.args.key; row = c.args.row; previous = _ }) c.in-Ok.slot (g.D.Pmem.state c.args.device.now) (g.D.Pmem.state c.fill.new.device) holds
+    c.requires.active c.requires.fits c.requires.row c.requires.unheld c.in-Ok.ensures.lowest c.write.new.self c.take.new.self c.in-Ok.ensures.taken
+    (subst (λ (w : Write). Sets c.args.self.now.transactions c.write.new.self c.args.session (Some (Active c.args.active.snapshot (with_write_at w c.args.active.writes)))) c.row_write.ensures (c.write.ensures _ _ c.requires.active))
+    c.in-Ok-fill.ensures.version.fits (runs-then (subst (λ (k : ℕ). Runs (clear_operations c.args.self.now.numbers.geometry k c.in-Ok.slot) (g.D.Pmem.state c.args.device.now) (g.D.Pmem.state c.take.new.device)) c.session.ensures c.in-Ok.ensures.operations) c.in-Ok-fill.ensures.run)
 
-pub returns-in-Err-fill : goal.returns-in-Err-fill
-returns-in-Err-fill g c = record {
-  step = λ h holds.
-      puts-returned c.args.self.now h c.args.session c.args.active.snapshot c.args.active.writes (record { key = c.args.key; row = c.args.row; previous = c.link.result }) c.in-Ok.slot c.give.new.self (g.D.Pmem.state c.args.device.now) (g.D.Pmem.state c.take.new.device)
-      (g.D.Pmem.state c.fill.new.device) c.in-Err-fill.fault holds c.requires.active c.requires.fits c.requires.row c.requires.unheld c.in-Ok.ensures.lowest
-      (c.give.ensures ∙ ap (λ (xs : List Bool). slice_set xs c.in-Ok.slot true) c.in-Ok.ensures.taken) c.in-Err-fill.ensures.fault (subst (λ (k : ℕ). Runs (clear_operations c.args.self.now.numbers.geometry k c.in-Ok.slot) (g.D.Pmem.state c.args.device.now) (g.D.Pmem.state c.take.new.device)) c.session.ensures c.in-Ok.ensures.operations) c.in-Err-fill.ensures.stopped;
-}
+pub returns-in-Err-fill-clause-step : goal.returns-in-Err-fill-clause-step
+returns-in-Err-fill-clause-step g c = λ h holds.
+    puts-returned c.args.self.now h c.args.session c.args.active.snapshot c.args.active.writes (record { key = c.args.key; row = c.args.row; previous = _ }) c.in-Ok.slot c.give.new.self (g.D.Pmem.state c.args.device.now) (g.D.Pmem.state c.take.new.device)
+    (g.D.Pmem.state c.fill.new.device) c.in-Err-fill.fault holds c.requires.active c.requires.fits c.requires.row c.requires.unheld c.in-Ok.ensures.lowest
+    (c.give.ensures ∙ ap (λ (xs : List Bool). slice_set xs c.in-Ok.slot true) c.in-Ok.ensures.taken) c.in-Err-fill.ensures.fault (subst (λ (k : ℕ). Runs (clear_operations c.args.self.now.numbers.geometry k c.in-Ok.slot) (g.D.Pmem.state c.args.device.now) (g.D.Pmem.state c.take.new.device)) c.session.ensures c.in-Ok.ensures.operations) c.in-Err-fill.ensures.stopped
 
 pub give-requires : goal.give-requires
 give-requires g c = taken-within c.args.self.now.slots c.take.new.self c.in-Ok.slot c.in-Ok.ensures.lowest c.in-Ok.ensures.taken
