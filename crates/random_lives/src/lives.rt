@@ -160,7 +160,7 @@ fn formatted(alloc: Global, geometry: Geometry) -> Result<SimPmem, Fault> {
     device.crash(&Choice::Oldest)
 }
 
-// One life, after which the device is opened again.
+// A life that ends in a close, or in a failure at some operation and a crash. What it leaves is at rest.
 fn next_life<R: Threads + Sync + Abort>(
     rt: &R,
     alloc: Global,
@@ -169,41 +169,91 @@ fn next_life<R: Threads + Sync + Abort>(
     chance: &mut Chance,
     seed: u64,
 ) -> Result<SimPmem, Fault> {
-    let closes = chance.below(4) == 0;
-    let mut device = device;
-    if !closes {
-        device.set_fuse(Some(MOST_IN_AN_OPENING + chance.below(400)));
+    if chance.below(4) == 0 {
+        closed_life(rt, alloc, device, model, chance, seed)
+    } else {
+        crashed_life(rt, alloc, device, model, chance, seed)
     }
+}
+
+fn closed_life<R: Threads + Sync + Abort>(
+    rt: &R,
+    alloc: Global,
+    device: SimPmem,
+    model: &mut Model,
+    chance: &mut Chance,
+    seed: u64,
+) -> Result<SimPmem, Fault> {
     let mut room = opened(rt, alloc, device)?;
     live(rt, &mut room, model, chance, seed)?;
-    if !closes {
-        let choice = any_choice(alloc, chance, room.geometry().words())?;
-        let left = room.into_device().crash(&choice)?;
-        let room = opened(rt, alloc, left.crash(&Choice::Oldest)?)?;
-        model.stop(room.status().gate)?;
-        return Ok(left);
-    }
+    model.close();
     match room.close() {
-        Ok(device) => {
-            model.close();
-            device.crash(&Choice::Oldest)
-        }
+        Ok(device) => device.crash(&Choice::Oldest),
         Err((fault, _device)) => Err(fault),
     }
+}
+
+fn crashed_life<R: Threads + Sync + Abort>(
+    rt: &R,
+    alloc: Global,
+    device: SimPmem,
+    model: &mut Model,
+    chance: &mut Chance,
+    seed: u64,
+) -> Result<SimPmem, Fault> {
+    let mut device = device;
+    device.set_fuse(Some(MOST_IN_AN_OPENING + chance.below(400)));
+    let mut room = opened(rt, alloc, device)?;
+    live(rt, &mut room, model, chance, seed)?;
+    let left = crashed(alloc, room, chance)?;
+    model.stop(gate_of(rt, alloc, &left)?)?;
+    Ok(left)
+}
+
+// The device of the room, of each word of which any value that may have survived is left.
+fn crashed(alloc: Global, room: Room<SimPmem>, chance: &mut Chance) -> Result<SimPmem, Fault> {
+    let choice = any_choice(alloc, chance, room.geometry().words())?;
+    room.into_device().crash(&choice)
+}
+
+// The gate that an opening of the device leaves.
+fn gate_of<R: Threads + Sync + Abort>(
+    rt: &R,
+    alloc: Global,
+    device: &SimPmem,
+) -> Result<u64, Fault> {
+    let room = opened(rt, alloc, device.crash(&Choice::Oldest)?)?;
+    Ok(room.status().gate)
+}
+
+// An opening of the device agrees with the model.
+fn assert_opening_agrees<R: Threads + Sync + Abort>(
+    rt: &R,
+    alloc: Global,
+    device: &SimPmem,
+    model: &Model,
+    seed: u64,
+) -> Result<(), Fault> {
+    let room = opened(rt, alloc, device.crash(&Choice::Oldest)?)?;
+    assert_agrees(rt, &room, model, seed)
+}
+
+// Lives of one device, whose numbers at random begin with the seed.
+fn live_all<R: Threads + Sync + Abort>(rt: &R, alloc: Global, seed: u64) -> Result<(), Fault> {
+    let mut chance = Chance::new(seed);
+    let mut model = Model::new(alloc);
+    let mut device = formatted(alloc, Geometry::new(SLOTS as u64, 2, WINDOW)?)?;
+    for _ in 0..LIVES {
+        device = next_life(rt, alloc, device, &mut model, &mut chance, seed)?;
+        assert_opening_agrees(rt, alloc, &device, &model, seed)?;
+    }
+    Ok(())
 }
 
 #[test]
 fn random_lives_agree_with_plain_tables(rt: HostRuntime) -> Result<(), Fault> {
     for seed in 0..SEEDS {
-        let mut chance = Chance::new(seed);
-        let mut model = Model::new(rt.alloc());
-        let mut device = formatted(rt.alloc(), Geometry::new(SLOTS as u64, 2, WINDOW)?)?;
-        for _ in 0..LIVES {
-            device = next_life(&rt, rt.alloc(), device, &mut model, &mut chance, seed)?;
-            let left = device.crash(&Choice::Oldest)?;
-            let room = opened(&rt, rt.alloc(), left)?;
-            assert_agrees(&rt, &room, &model, seed)?;
-        }
+        live_all(&rt, rt.alloc(), seed)?;
     }
     Ok(())
 }

@@ -94,7 +94,7 @@ pub fn restarted(alloc: Global, device: &SimPmem) -> Result<SimPmem, Fault>
 }
 
 /// The device, opened.
-pub fn opened<D: Pmem + Drop + Send + Sync, R: Threads + Sync>(
+fn opened<D: Pmem + Drop + Send + Sync, R: Threads + Sync>(
     rt: &R,
     alloc: Global,
     device: D,
@@ -109,7 +109,7 @@ pub fn opened<D: Pmem + Drop + Send + Sync, R: Threads + Sync>(
 }
 
 /// The room, lent to an engine.
-pub fn started<
+fn started<
     D: Pmem + Drop + Send + Sync + 'static,
     J: Origin + Send + Sync + 'static,
     R: Threads + Wait + Copy + Drop + Send + Sync + 'static,
@@ -130,6 +130,29 @@ pub fn started<
         Ok(engine) => Ok(engine),
         Err((fault, _audited)) => Err(fault),
     }
+}
+
+/// An engine over the device, which is opened first.
+pub fn running<
+    D: Pmem + Drop + Send + Sync + 'static,
+    J: Origin + Send + Sync + 'static,
+    R: Threads + Wait + Copy + Drop + Send + Sync + 'static,
+    G: Gate + Send + Drop + 'static,
+    H: Gate + Send + Drop + 'static,
+>(
+    rt: &R,
+    alloc: Global,
+    history: History,
+    device: D,
+    committer: G,
+    collector: H,
+) -> Result<Engine<D, J, Board<J, R>>, Fault>
+    requires name { history ≡ J.book }
+    requires image { image_of (D.state device) ≡ J.image }
+    requires at_rest { IsAtRest (D.state device) }
+{
+    let audited = opened(rt, alloc, device)?;
+    started::<D, J, R, G, H>(rt, alloc, history, audited, committer, collector)
 }
 
 /// The room, given back by an engine whose sessions these are.

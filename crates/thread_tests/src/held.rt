@@ -5,12 +5,12 @@ ghost use Rattle.pmem.specs.Words.{IsAtRest, image_of};
 ghost use Rattle.pmem_model.specs.Sim.{device_of};
 
 use crate::counting::Counting;
-use crate::fixture::{Never, closed, fresh, granted, key, opened, put, row, started};
+use crate::fixture::{Never, closed, fresh, granted, key, put, row, running};
 use base::fault::Fault;
 use base::row::Row;
 use base::step::{Note, Stage};
 use board::{Board, History, Reader};
-use engine::{Gate, Go, Origin, Session};
+use engine::{Engine, Gate, Go, Origin, Session};
 use pmem::Pmem;
 use pmem_model::SimPmem;
 use std::alloc::Global;
@@ -65,6 +65,11 @@ struct Meanwhile {
     bounds: Result<(u64, u64), Fault>,
     made: u64,
 }
+
+type Sessions<D, J, R> = Vec<Session<D, J, Board<J, R>>>;
+
+/// What the reader and the second session were answered, and the first.
+type Answers = (Result<Meanwhile, Fault>, Result<Option<u64>, Fault>);
 
 /// What is answered to both sessions.
 #[derive(Drop)]
@@ -142,7 +147,30 @@ fn counted(alloc: Global, signals: &Signals) -> Result<Counting<SimPmem>, Fault>
     Ok(Counting::new(fresh(alloc, 4, 8)?, made))
 }
 
-// Opens the device and commits a row, within a cycle of which a second session and a reader are asked.
+// Commits a row, within a cycle of which a second session and a reader are asked. The sessions, and what all were answered.
+fn work_together<
+    D: Pmem + Drop + Send + Sync + 'static,
+    J: Origin + Send + Sync + 'static,
+    R: Threads + Wait + Copy + Drop + Send + Sync + 'static,
+>(
+    rt: &R,
+    alloc: Global,
+    engine: &Engine<D, J, Board<J, R>>,
+    signals: &Signals,
+) -> Result<(Sessions<D, J, R>, Answers), Fault> {
+    let first = engine.session(rt)?;
+    let second = engine.session(rt)?;
+    let reader = engine.reader(rt)?;
+    let ((first, committed), (second, meanwhile)) = join(
+        rt,
+        || commit(rt, first, signals),
+        || work_meanwhile(rt, second, reader, signals),
+    );
+    let sessions = granted(Vec::from_array(alloc, [first, second]))?;
+    Ok((sessions, (meanwhile, committed)))
+}
+
+// A life of the device in which the committer is held.
 fn hold<
     D: Pmem + Drop + Send + Sync + 'static,
     J: Origin + Send + Sync + 'static,
@@ -152,29 +180,20 @@ fn hold<
     requires image { image_of (D.state device) ≡ J.image }
     requires at_rest { IsAtRest (D.state device) }
 {
-    let audited = opened(rt, alloc, device)?;
-    let opened = signals.made.load(Ordering::SeqCst);
     let holding = Holding {
         signals: granted(Arc::try_clone(&signals))?,
     };
-    let engine = started::<D, J, R, Holding, Never>(rt, alloc, history, audited, holding, Never)?;
-    let first = engine.session(rt)?;
-    let second = engine.session(rt)?;
-    let reader = engine.reader(rt)?;
-    let ((first, committed), (second, meanwhile)) = join(
-        rt,
-        || commit(rt, first, &signals),
-        || work_meanwhile(rt, second, reader, &signals),
-    );
-    let seen = Seen {
+    let engine = running::<D, J, R, Holding, Never>(rt, alloc, history, device, holding, Never)?;
+    let opened = signals.made.load(Ordering::SeqCst);
+    let (sessions, (meanwhile, committed)) = work_together(rt, alloc, &engine, &signals)?;
+    let made = signals.made.load(Ordering::SeqCst);
+    closed(rt, engine, sessions)?;
+    Ok(Seen {
         opened,
         meanwhile: meanwhile?,
         committed: committed?,
-        made: signals.made.load(Ordering::SeqCst),
-    };
-    let sessions = granted(Vec::from_array(alloc, [first, second]))?;
-    closed(rt, engine, sessions)?;
-    Ok(seen)
+        made,
+    })
 }
 
 #[test]

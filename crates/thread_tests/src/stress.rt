@@ -3,7 +3,8 @@
 ghost use Rattle.std.specs.Prelude.{◌≡◌};
 ghost use Rattle.pmem.specs.Words.{IsAtRest, image_of};
 
-use crate::fixture::{Always, closed, fresh, granted, key, opened, restarted, row, started};
+use crate::fixture::{Always, closed, fresh, granted, key, restarted, row, running};
+use audited::Audited;
 use base::fault::Fault;
 use base::key::Key;
 use base::row::Row;
@@ -218,6 +219,34 @@ fn numbers_in(rows: &[(Key, Row)]) -> Result<Counts, Fault> {
     Ok(held)
 }
 
+// Adds in all threads. The sessions, and how many of their commits were acknowledged.
+fn work_all<
+    D: Pmem + Drop + Send + Sync + 'static,
+    J: Origin + Send + Sync + 'static,
+    R: Threads + Wait + Copy + Drop + Send + Sync + 'static,
+>(
+    rt: &R,
+    alloc: Global,
+    engine: &Engine<D, J, Board<J, R>>,
+) -> Result<(Vec<Session<D, J, Board<J, R>>>, Counts), Fault> {
+    let sessions = sessions(rt, alloc, engine)?;
+    let worked = granted(map_vec(rt, sessions, &|session| work(rt, session)))?;
+    together(alloc, worked)
+}
+
+// What a room is left with that is closed.
+fn ended<D: Pmem + Drop>(audited: Audited<D>, acknowledged: Counts) -> Result<Life<D>, Fault> {
+    let held = numbers_in(&audited.tables()?)?;
+    match audited.into_room().close() {
+        Ok(device) => Ok(Life {
+            device,
+            acknowledged,
+            held,
+        }),
+        Err((fault, _device)) => Err(fault),
+    }
+}
+
 // Opens the device, adds in all threads, and closes it.
 fn live<
     D: Pmem + Drop + Send + Sync + 'static,
@@ -228,21 +257,9 @@ fn live<
     requires image { image_of (D.state device) ≡ J.image }
     requires at_rest { IsAtRest (D.state device) }
 {
-    let audited = opened(rt, alloc, device)?;
-    let engine = started::<D, J, R, Always, Always>(rt, alloc, history, audited, Always, Always)?;
-    let sessions = sessions(rt, alloc, &engine)?;
-    let worked = granted(map_vec(rt, sessions, &|session| work(rt, session)))?;
-    let (sessions, acknowledged) = together(alloc, worked)?;
-    let audited = closed(rt, engine, sessions)?;
-    let held = numbers_in(&audited.tables()?)?;
-    match audited.into_room().close() {
-        Ok(device) => Ok(Life {
-            device,
-            acknowledged,
-            held,
-        }),
-        Err((fault, _device)) => Err(fault),
-    }
+    let engine = running::<D, J, R, Always, Always>(rt, alloc, history, device, Always, Always)?;
+    let (sessions, acknowledged) = work_all(rt, alloc, &engine)?;
+    ended(closed(rt, engine, sessions)?, acknowledged)
 }
 
 #[test]

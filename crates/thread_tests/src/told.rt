@@ -2,11 +2,11 @@
 ghost use Rattle.std.specs.Prelude.{◌≡◌};
 ghost use Rattle.pmem.specs.Words.{IsAtRest, image_of};
 
-use crate::fixture::{Always, Never, closed, fresh, granted, key, opened, put, row, started};
+use crate::fixture::{Always, Never, closed, fresh, granted, key, put, row, running};
 use base::fault::Fault;
 use base::row::Row;
 use board::{Board, History, Reader, Token};
-use engine::{Origin, Session};
+use engine::{Engine, Origin, Session};
 use pmem::Pmem;
 use std::alloc::Global;
 use std::marker::Brand;
@@ -66,7 +66,22 @@ fn learn<J: Origin>(rt: &impl Wait, reader: Reader<J>, desk: &Desk<J>) -> Answer
     unreachable!()
 }
 
-// Opens the device, and has one thread tell another of a commit.
+// Has one session tell a reader in another thread of a commit.
+fn tell_and_learn<
+    D: Pmem + Drop + Send + Sync + 'static,
+    J: Origin + Send + Sync + 'static,
+    R: Threads + Wait + Copy + Drop + Send + Sync + 'static,
+>(
+    rt: &R,
+    engine: &Engine<D, J, Board<J, R>>,
+) -> Result<(Session<D, J, Board<J, R>>, Answer), Fault> {
+    let session = engine.session(rt)?;
+    let reader = engine.reader(rt)?;
+    let desk = Mutex::new(None);
+    Ok(join(rt, || tell(rt, session, &desk), || learn(rt, reader, &desk)))
+}
+
+// What the reader reads in a life of the device.
 fn tell_across<
     D: Pmem + Drop + Send + Sync + 'static,
     J: Origin + Send + Sync + 'static,
@@ -76,12 +91,8 @@ fn tell_across<
     requires image { image_of (D.state device) ≡ J.image }
     requires at_rest { IsAtRest (D.state device) }
 {
-    let audited = opened(rt, alloc, device)?;
-    let engine = started::<D, J, R, Always, Never>(rt, alloc, history, audited, Always, Never)?;
-    let session = engine.session(rt)?;
-    let reader = engine.reader(rt)?;
-    let desk = Mutex::new(None);
-    let (session, answer) = join(rt, || tell(rt, session, &desk), || learn(rt, reader, &desk));
+    let engine = running::<D, J, R, Always, Never>(rt, alloc, history, device, Always, Never)?;
+    let (session, answer) = tell_and_learn(rt, &engine)?;
     let sessions = granted(Vec::from_array(alloc, [session]))?;
     closed(rt, engine, sessions)?;
     Ok(answer)
