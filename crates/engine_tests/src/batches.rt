@@ -7,7 +7,7 @@ use base::fault::Fault;
 use base::geometry::Geometry;
 use base::key::Key;
 use base::row::Row;
-use base::step::{Note, Reply};
+use base::step::{Note, Reply, Step};
 use pmem_model::SimPmem;
 use room::Room;
 use std::alloc::Global;
@@ -51,6 +51,11 @@ fn assert_batch(rt: &impl Abort, batch: &Batch, numbers: (u64, u64, u64), timest
     }
 }
 
+// Stamps all that the session wrote, which is under one key.
+fn stamp(rt: &impl Abort, room: &mut Room<SimPmem>, session: u8) {
+    assert!(rt; step(room, Step::Stamp { session }) == Note::Stamped);
+}
+
 #[test]
 fn record_without_commits_keeps_the_window_open(rt: HostRuntime) -> Result<(), Fault> {
     let mut room = opened(&rt, rt.alloc(), fresh(rt.alloc(), 8, 4)?)?;
@@ -70,15 +75,21 @@ draw 4
 commit 41",
     )?;
     assert_batch(&rt, &none, (2, 3, 0), &[]);
-    let lines = "stamp 3\nstamp 4";
-    for made in &steps(&rt, rt.alloc(), lines)? {
-        assert!(rt; step(&mut room, *made) == Note::Stamped);
-    }
+    stamp(&rt, &mut room, 3);
+    stamp(&rt, &mut room, 4);
     let three = batch_after(&rt, rt.alloc(), &mut room, "commit 1\nstamp 2\ncommit 44")?;
     assert_batch(&rt, &three, (3, 4, 3), &[1, 2, 3]);
     let status = room.status();
     assert!(rt; (status.gate, status.persisted, status.dirty, status.next) == (4, 3, 8, 4));
     Ok(())
+}
+
+fn three_writes() -> Result<[(Key, Option<Row>); 3], Fault> {
+    Ok([
+        (Key { table: 1, key: 8 }, None),
+        (Key { table: 1, key: 9 }, Some(Row::new(&[2])?)),
+        (Key { table: 2, key: 0 }, Some(Row::new(&[1])?)),
+    ])
 }
 
 #[test]
@@ -99,11 +110,7 @@ stamp 2
 commit 43",
     )?;
     assert_batch(&rt, &batch, (2, 3, 1), &[1]);
-    let writes = [
-        (Key { table: 1, key: 8 }, None),
-        (Key { table: 1, key: 9 }, Some(Row::new(&[2])?)),
-        (Key { table: 2, key: 0 }, Some(Row::new(&[1])?)),
-    ];
+    let writes = three_writes()?;
     for commit in batch.commits() {
         assert!(rt; commit.writes() == writes.as_slice());
     }

@@ -1,5 +1,6 @@
 use crate::fixture::{opened, operations, step, steps};
 use base::fault::Fault;
+use base::gap::Gaps;
 use base::key::Key;
 use base::step::{Note, Step};
 use pmem::Pmem;
@@ -183,15 +184,19 @@ fn assert_left<R: Threads + Sync + Abort>(
     for opening in life.openings {
         if opening.numbers.0 == gate {
             assert_eq!(rt; numbers, opening.numbers);
-            assert_eq!(rt; status.gaps.as_slice().len(), opening.gaps.len());
-            for (gap, want) in status.gaps.as_slice().iter().zip(opening.gaps.iter()) {
-                assert_eq!(rt; (gap.first, gap.last), *want);
-            }
+            assert_gaps(rt, &status.gaps, opening.gaps);
             assert_rows(rt, &mut room, opening.rows);
             return Ok(());
         }
     }
     panic!(rt; "gate {gate}")
+}
+
+fn assert_gaps(rt: &impl Abort, gaps: &Gaps, want: &[(u64, u64)]) {
+    assert_eq!(rt; gaps.as_slice().len(), want.len());
+    for (gap, want) in gaps.as_slice().iter().zip(want.iter()) {
+        assert_eq!(rt; (gap.first, gap.last), *want);
+    }
 }
 
 // A new session reads these rows.

@@ -47,18 +47,28 @@ fn is_covered(rt: &impl Abort, room: &mut Room<SimPmem>, steps: &[Step]) -> bool
     true
 }
 
-// The next opening has both commits where they were covered, and else none.
-fn two_lives<R: Threads + Sync + Abort>(rt: &R, alloc: Global) -> Result<(), Fault> {
+// A life of both commits, and whether they were covered.
+fn first_life<R: Threads + Sync + Abort>(rt: &R, alloc: Global) -> Result<(SimPmem, bool), Fault> {
     let steps = steps(rt, alloc, TWO_COMMITS)?;
     let mut room = opened(rt, alloc, fresh(alloc, 4, 8)?)?;
     let covered = is_covered(rt, &mut room, steps.as_slice());
-    let device = room.into_device().crash(&Choice::Newest)?;
+    Ok((room.into_device().crash(&Choice::Newest)?, covered))
+}
+
+// The next opening has both commits where they were covered, and else none.
+fn two_lives<R: Threads + Sync + Abort>(rt: &R, alloc: Global) -> Result<(), Fault> {
+    let (device, covered) = first_life(rt, alloc)?;
     let mut room = opened(rt, alloc, device)?;
     let numbers = if covered { (4, 10) } else { (3, 8) };
     assert!(rt; (room.status().gate, room.status().persisted) == numbers);
     if step(&mut room, Step::Begin) != Note::Began(2) {
         return Err(Fault::OutOfMemory);
     }
+    assert_two_rows(rt, &mut room, covered)
+}
+
+// Session 2 reads both rows, or none.
+fn assert_two_rows(rt: &impl Abort, room: &mut Room<SimPmem>, covered: bool) -> Result<(), Fault> {
     for key in 1..3_u8 {
         let get = Step::Get {
             session: 2,
@@ -69,7 +79,7 @@ fn two_lives<R: Threads + Sync + Abort>(rt: &R, alloc: Global) -> Result<(), Fau
         };
         let row = Row::new(&[key])?;
         let want = if covered { Some(row) } else { None };
-        assert!(rt; step(&mut room, get) == Note::Row(want));
+        assert!(rt; step(room, get) == Note::Row(want));
     }
     Ok(())
 }

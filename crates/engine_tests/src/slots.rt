@@ -12,6 +12,8 @@ use pmem_model::{Choice, SimPmem};
 use recovery::{LiveSlot, open};
 use slot_alloc::SlotAlloc;
 use std::alloc::Global;
+use std::process::Abort;
+use std::thread::Threads;
 
 // Four slots and two places.
 fn geometry() -> Result<Geometry, Fault>
@@ -63,11 +65,21 @@ stamp 2
 stamp 2
 commit 44";
 
+// A device after a life of these lines.
+fn stopped_after<R: Threads + Sync + Abort>(
+    rt: &R,
+    alloc: Global,
+    lines: &str,
+) -> Result<SimPmem, Fault> {
+    let steps = steps(rt, alloc, lines)?;
+    let mut room = opened(rt, alloc, fresh(alloc, 4, 8)?)?;
+    room.drive(steps.as_slice())?;
+    room.into_device().crash(&Choice::Oldest)
+}
+
 #[test]
 fn opening_lists_the_live_slots(rt: HostRuntime) -> Result<(), Fault> {
-    let mut room = opened(&rt, rt.alloc(), fresh(rt.alloc(), 4, 8)?)?;
-    room.drive(steps(&rt, rt.alloc(), REPLACED)?.as_slice())?;
-    let stopped = room.into_device().crash(&Choice::Oldest)?;
+    let stopped = stopped_after(&rt, rt.alloc(), REPLACED)?;
     assert!(rt; stopped.at_rest());
     let opened = match open(&rt, rt.alloc(), stopped) {
         Ok(opened) => opened,
