@@ -47,12 +47,21 @@ abbrev pub threads_shape : Shape
 threads_shape = subcommand_shape (codes "threads") (name_rule (codes "FILE")
     ∷ number_rule (codes "sessions") (codes "4") 1 32 ∷ number_rule (codes "commits") (codes "8") 1 1000 ∷ [])
 
+-- the program with no subcommand
+abbrev pub wbl_alone : App
+wbl_alone = record { top = record (new_shape (codes "wbl")) { no_binary_name = true; subcommand_required = true }; subs = [] }
+
+-- with some
+abbrev pub wbl_with : List Shape → App
+wbl_with subs = record { top = record wbl_alone.top { is_leaf = false }; subs = subs }
+
+-- with format, run and check
+abbrev pub wbl_of_images : App
+wbl_of_images = wbl_with (format_shape ∷ run_shape ∷ check_shape ∷ [])
+
 -- all of it
 abbrev pub wbl : App
-wbl = record {
-  top = record (new_shape (codes "wbl")) { is_leaf = false; no_binary_name = true; subcommand_required = true };
-  subs = format_shape ∷ run_shape ∷ check_shape ∷ lives_shape ∷ threads_shape ∷ [];
-}
+wbl = wbl_with (format_shape ∷ run_shape ∷ check_shape ∷ lives_shape ∷ threads_shape ∷ [])
 
 -- ---- help
 

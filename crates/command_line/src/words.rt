@@ -1,6 +1,6 @@
 ghost use Rattle.std.specs.Prelude.{◌≡◌, codes, false, IfErr, IfOk, OnErr};
 ghost use Rattle.clap.specs.Words.{app_of, kind_of, rule_of, shape_of};
-ghost use Rattle.command_line.specs.Help.{AnswersHelp, TellsKind, check_shape, format_shape, lives_shape, name_rule, number_rule, run_shape, threads_shape, wbl};
+ghost use Rattle.command_line.specs.Help.{AnswersHelp, TellsKind, check_shape, format_shape, lives_shape, name_rule, number_rule, run_shape, threads_shape, wbl, wbl_alone, wbl_of_images};
 ghost use Rattle.command_line.specs.Lines.{texts};
 ghost use Rattle.command_line.specs.Words.{Gives, GivesNothing};
 
@@ -62,24 +62,34 @@ fn word_fault(alloc: Global, error: &clap::Error) -> WordFault
 fn command_line<'a>(alloc: Global) -> Result<Command<'a>, AllocError>
     ensures { IfOk result (λ command. app_of command ≡ wbl) }
 {
-    let format = format_command(alloc)?;
-    let run = run_command(alloc)?;
-    let check = check_command(alloc)?;
-    let lives = lives_command(alloc)?;
-    let threads = threads_command(alloc)?;
+    with_image_commands(alloc, program(alloc)?)?
+        .subcommand(lives_command(alloc)?)?
+        .subcommand(threads_command(alloc)?)
+}
+
+// The program, still without subcommands.
+fn program<'a>(alloc: Global) -> Result<Command<'a>, AllocError>
+    ensures { IfOk result (λ command. app_of command ≡ wbl_alone) }
+{
     let command = Command::new(alloc, "wbl")
         .no_binary_name(true)
         .bin_name("wbl")?
         .about(
             "A row engine with write-behind logging, over an image of persistent memory in a file.",
         )
-        .subcommand_required(true)
-        .subcommand(format)?
-        .subcommand(run)?
-        .subcommand(check)?
-        .subcommand(lives)?
-        .subcommand(threads)?;
+        .subcommand_required(true);
     Ok(command)
+}
+
+// Adds the subcommands format, run and check.
+fn with_image_commands<'a>(alloc: Global, command: Command<'a>) -> Result<Command<'a>, AllocError>
+    requires { app_of command ≡ wbl_alone }
+    ensures { IfOk result (λ command. app_of command ≡ wbl_of_images) }
+{
+    command
+        .subcommand(format_command(alloc)?)?
+        .subcommand(run_command(alloc)?)?
+        .subcommand(check_command(alloc)?)
 }
 
 fn format_command<'a>(alloc: Global) -> Result<Command<'a>, AllocError>
