@@ -39,10 +39,7 @@ pub fn load_keys<H: Threads + Sync>(
     alloc: Global,
     load: &Load,
 ) -> Result<Room<SimPmem>, Error> {
-    let geometry = Geometry::new(load.slots, Geometry::LEAST_PLACES, Geometry::MOST_WINDOW)?;
-    let mut device = SimPmem::from_words(alloc, &vec![in alloc; 0; geometry.words() as usize]?)?;
-    format(&mut device, geometry)?;
-    let mut room = open(rt, alloc, &device.image()?)?;
+    let mut room = open(rt, alloc, &formatted(alloc, load)?)?;
     let each = Load {
         commits: load.keys,
         batch: 32,
@@ -51,9 +48,25 @@ pub fn load_keys<H: Threads + Sync>(
     for cycle in 0..cycles(&each) {
         commit_batch(&mut room, &each, cycle)?;
     }
+    Ok(reopened(rt, alloc, room)?)
+}
+
+// The words of an empty image with so many slots.
+fn formatted(alloc: Global, load: &Load) -> Result<Vec<u64>, Error> {
+    let geometry = Geometry::new(load.slots, Geometry::LEAST_PLACES, Geometry::MOST_WINDOW)?;
+    let mut device = SimPmem::from_words(alloc, &vec![in alloc; 0; geometry.words() as usize]?)?;
+    format(&mut device, geometry)?;
+    Ok(device.image()?)
+}
+
+fn reopened<H: Threads + Sync>(
+    rt: &H,
+    alloc: Global,
+    room: Room<SimPmem>,
+) -> Result<Room<SimPmem>, Fault> {
     match room.close() {
-        Ok(device) => Ok(open(rt, alloc, &device.image()?)?),
-        Err((fault, _device)) => Err(Error::from(fault)),
+        Ok(device) => open(rt, alloc, &device.image()?),
+        Err((fault, _device)) => Err(fault),
     }
 }
 

@@ -4,13 +4,16 @@
 //! its own.
 #![tactic(auto)]
 
+ghost use Rattle.std.specs.Prelude.{◌≤◌, IfOk};
+ghost use Rattle.pmem_model.specs.Sim.{device_of};
+
 mod engine;
 mod readers;
 mod rounds;
 
 use anyhow::{Error, ensure};
 use base::geometry::Geometry;
-use engine::{Load, load_keys, run_load};
+use engine::{Load, Made, load_keys, run_load};
 use pmem::Pmem;
 use pmem_model::SimPmem;
 use readers::read_beside_a_writer;
@@ -74,19 +77,27 @@ fn measure_rounds<H: Print + Clock>(rt: &H, alloc: Global, timed: bool) -> Resul
         (4, Geometry::LEAST_PLACES),
         (Geometry::MOST_SLOTS, Geometry::MOST_PLACES),
     ] {
-        let words = Geometry::new(slots, places, 8)?.words() as usize;
-        let mut device = SimPmem::from_words(alloc, &vec![in alloc; 0; words]?)?;
-        device.reserve(STORES_IN_A_ROUND * ROUNDS)?;
+        let mut device = device_of_zeros(alloc, Geometry::new(slots, places, 8)?)?;
         let start = Instant::now(rt)?;
         make_rounds(&mut device, ROUNDS)?;
         let elapsed = start.elapsed(rt)?;
-        println!(rt; "words {words} rounds {ROUNDS}")?;
+        println!(rt; "words {} rounds {ROUNDS}", device.words())?;
         print_operations(rt, &device)?;
         if timed {
             print_rate(rt, "rounds", ROUNDS, elapsed)?;
         }
     }
     Ok(())
+}
+
+// A device with memory for all rounds.
+fn device_of_zeros(alloc: Global, geometry: Geometry) -> Result<SimPmem, Error>
+    ensures { IfOk result (λ device. 8 ≤ (device_of device).words) }
+{
+    let words = geometry.words() as usize;
+    let mut device = SimPmem::from_words(alloc, &vec![in alloc; 0; words]?)?;
+    device.reserve(STORES_IN_A_ROUND * ROUNDS)?;
+    Ok(device)
 }
 
 fn measure_engine<H: Print + Clock + Threads + Sync>(
@@ -97,6 +108,16 @@ fn measure_engine<H: Print + Clock + Threads + Sync>(
 ) -> Result<(), Error> {
     let mut room = load_keys(rt, alloc, load)?;
     let made = run_load(rt, &mut room, load)?;
+    print_run(rt, load, &made)?;
+    print_operations(rt, &room.into_device())?;
+    if timed {
+        print_rate(rt, "commits", load.commits, made.committing)?;
+        print_rate(rt, "reads", load.reads, made.reading)?;
+    }
+    Ok(())
+}
+
+fn print_run<H: Print>(rt: &H, load: &Load, made: &Made) -> Result<(), Error> {
     println!(rt;
         "slots {} keys {} commits {} batch {} reads {}",
         load.slots, load.keys, load.commits, load.batch, load.reads
@@ -105,11 +126,6 @@ fn measure_engine<H: Print + Clock + Threads + Sync>(
         "cycles {} ticks {} rows {}",
         made.cycles, made.ticks, made.rows
     )?;
-    print_operations(rt, &room.into_device())?;
-    if timed {
-        print_rate(rt, "commits", load.commits, made.committing)?;
-        print_rate(rt, "reads", load.reads, made.reading)?;
-    }
     Ok(())
 }
 
