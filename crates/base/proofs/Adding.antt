@@ -15,7 +15,8 @@ use Rattle.base.specs.declared.step.Reply.TheVariants.{Rows, Done, Drawn as Drew
 use Rattle.base.specs.Commits.{Commit, Writes}
 use Rattle.base.specs.Stands.{has_timestamp}
 use Rattle.base.specs.Machine.{State, Session, Active, Drew, WroteNothing, Drawn, Hand, Stepped, refused, answered, memory_refused, device_failed, Answers, Run, final, next_state, state_ticked, state_ticked_on, state_drawn, state_covered, next_stage, is_idle, is_nil, is_stamped, is_last_stamp, end_of_run, writes_of, counted, timestamp_of, polled, ticked, ticked_on, chosen, taken_in_hand, batch_of, drawn_of, in_hand, uncovered, Cover, present, of_hand, covers_at, covers_closing, closed}
-use Rattle.base.specs.Lives.{World, IsWorld, Opening, Opens, Fails, Numbers, Asked, Report, StopsAt, EndsAs, LifeAs, Lives}
+use Rattle.base.specs.Lives.{World, IsWorld, Opening, Opens, Fails, Numbers, Asked, Report, StopsAt, EndsAs, LifeAs, Lives, RunsUp}
+use Rattle.base.specs.Openings.{OpensAs}
 use Rattle.base.specs.Laws.{drawn_by, drawn_in, covered_by, covered_in, acknowledged_by, acknowledged_in, has_closed, AddsDrawn, LifeAdds, LivesAdd}
 use Rattle.base.specs.Collecting.{is_at_slot, visited}
 use Rattle.base.proofs.Growth.{any-append, extends-run}
@@ -324,9 +325,9 @@ leaves q covers lost after begins s =
 
 end-leaves : (q : State) (closes : Bool) (c : Option (Result Numbers Fault)) (lost : List ℕ) (after : World) → EndsAs q closes c lost after → Leaves q after
 end-leaves q closes None lost after (asked, s) = leaves q (covers_at q) lost after (begins-at q) s
-end-leaves q closes (Some (Err fault)) lost after (asked, inl (g, s)) = leaves q (covers_at q) lost after (begins-at q) s
-end-leaves q closes (Some (Err fault)) lost after (asked, inr (g, d, s)) = leaves q (covers_closing q) lost after (begins-closing q) s
-end-leaves q closes (Some (Ok numbers)) lost after (asked, g, n, s) = leaves q (closed q ∷ []) lost after (begins-closed q) s
+end-leaves q closes (Some (Err fault)) lost after (asked, works, inl (g, s)) = leaves q (covers_at q) lost after (begins-at q) s
+end-leaves q closes (Some (Err fault)) lost after (asked, works, inr (g, d, s)) = leaves q (covers_closing q) lost after (begins-closing q) s
+end-leaves q closes (Some (Ok numbers)) lost after (asked, works, g, n, s) = leaves q (closed q ∷ []) lost after (begins-closed q) s
 
 -- a close that succeeded leaves all
 closed-leaves : (q : State) (lost : List ℕ) (after : World) → StopsAt q (closed q ∷ []) lost after → after.history ≡ q.history ++ uncovered q
@@ -441,22 +442,26 @@ close-ack : (q : State) (closes : Bool) (c : Option (Result Numbers Fault)) (los
     → All (λ t. has_timestamp (covered ++ uncovered q) t ≡ true) ts → EndsAs q closes c lost after → All (λ t. has_timestamp after.history t ≡ true) (if has_closed c then ts else [])
 close-ack q closes None lost after covered before ts e each ends = All-nil (λ t. has_timestamp after.history t ≡ true)
 close-ack q closes (Some (Err fault)) lost after covered before ts e each ends = All-nil (λ t. has_timestamp after.history t ≡ true)
-close-ack q closes (Some (Ok numbers)) lost after covered before ts e each (asked, g, n, s) =
+close-ack q closes (Some (Ok numbers)) lost after covered before ts e each (asked, works, g, n, s) =
     let is : after.history ≡ before ++ (covered ++ uncovered q) = closed-leaves q lost after s ∙ ap (λ (l : List Commit). l ++ uncovered q) e ∙ append_assoc before covered (uncovered q) in
     subst (λ (l : List Commit). All (λ t. has_timestamp l t ≡ true) ts) (sym is)
     (All-weaker (λ t. has_timestamp (covered ++ uncovered q) t ≡ true) (λ t. has_timestamp (before ++ (covered ++ uncovered q)) t ≡ true) (λ t h. has-right before (covered ++ uncovered q) t h) ts each)
 
-told-life-opened : (before : World) (start : State) (done : List Step) (replies : List Reply) (states : List State) (closes : Bool) (opening : Opening) (c : Option (Result Numbers Fault)) (after : World)
+told-life-opened : (before : World) (start : State) (steps done : List Step) (replies : List Reply) (states : List State) (closes : Bool) (opening : Opening) (c : Option (Result Numbers Fault)) (after : World)
+    → OpensAs before.image before.history before.lost start → RunsUp start steps replies states
     → start.history ≡ before.history → start.drawn ≡ [] → start.hand ≡ None → Run start done replies states → EndsAs (final start states) closes c before.lost after
-    → AddsDrawn before replies after × All (λ t. has_timestamp after.history t ≡ true) (flat_map acknowledged_by replies ++ (if has_closed c then drawn_in replies else []))
-told-life-opened before start done replies states closes opening c after same drawn hand run ends =
+    → AddsDrawn before steps replies after × All (λ t. has_timestamp after.history t ≡ true) (flat_map acknowledged_by replies ++ (if has_closed c then drawn_in replies else []))
+told-life-opened before start steps done replies states closes opening c after opens runs same drawn hand run ends =
     let q : State = final start states in
     let told : Told before.history (covered_in replies) (drawn_in replies) q = told-run before.history [] [] start done replies states (told-opened start before.history same drawn hand) run in
     let left = end-leaves q closes c before.lost after ends in
     let each : All (λ t. has_timestamp (covered_in replies ++ uncovered q) t ≡ true) (drawn_in replies) =
     All-weaker (λ t. has_timestamp (covered_in replies ++ drawn_of q) t ≡ true) (λ t. has_timestamp (covered_in replies ++ uncovered q) t ≡ true) (λ t h. uncovered-has (covered_in replies) q t h) (drawn_in replies) told.each in (
       record {
-        q = q;
+        start = start;
+        states = states;
+        opens = opens;
+        runs = runs;
         covers = told.history;
         first = left.0;
         rest = left.1;
@@ -477,7 +482,7 @@ still before after replies c none unclosed =
 
 -- a life, by its opening
 life-told : (before : World) (asked : Asked) (opening : Opening) (replies : List Reply) (c : Option (Result Numbers Fault)) (after : World) → LifeAs before asked opening replies c after
-    → LifeAdds before opening replies after × ((more : List Commit) × (after.history ≡ before.history ++ more))
+    → LifeAdds before asked.steps opening replies after × ((more : List Commit) × (after.history ≡ before.history ++ more))
     × All (λ t. has_timestamp after.history t ≡ true) (flat_map acknowledged_by replies ++ (if has_closed c then drawn_in replies else []))
 life-told before asked (Fails fault) replies c after (inl f, r, n) =
     let same : after.history ≡ before.history = ap (λ (w : World). w.history) f.1 in (same, ([], same ∙ sym (append-nil before.history)), still before after replies c r n)
@@ -485,10 +490,10 @@ life-told before asked (Fails fault) replies c after (inr (inl f), r, n) =
     let same : after.history ≡ before.history = ap (λ (w : World). w.history) f.2 in (same, ([], same ∙ sym (append-nil before.history)), still before after replies c r n)
 life-told before asked (Fails fault) replies c after (inr (inr f), r, n) =
     (f.1.history, ([], f.1.history ∙ sym (append-nil before.history)), still before after replies c r n)
-life-told before asked (Opens numbers next gaps rows) replies c after (start, states, opens, told, at, gaps_told, rows_told, runs, ends) =
+life-told before asked (Opens numbers next gaps rows) replies c after (may, start, states, opens, told, at, gaps_told, rows_told, runs, ends) =
     let run = runs-up start asked.steps replies states runs in
     let is = opens.2 in
-    let both = told-life-opened before start run.0 replies states asked.closes (Opens numbers next gaps rows) c after
+    let both = told-life-opened before start asked.steps run.0 replies states asked.closes (Opens numbers next gaps rows) c after opens runs
     (ap (λ (q : State). q.history) is) (ap (λ (q : State). q.drawn) is) (ap (λ (q : State). q.hand) is) run.1 ends in
     let a = both.0 in
     (a, (covered_in replies ++ a.first, a.history ∙ ap (λ (l : List Commit). l ++ a.first) a.covers ∙ append_assoc before.history (covered_in replies) a.first), both.1)
@@ -502,7 +507,7 @@ lives-grow before (a ∷ asked) (r ∷ reports) after (mid, life, lives) =
 lives-grow before [] (r ∷ reports) after none = absurd none
 lives-grow before (a ∷ asked) [] after none = absurd none
 
-pub lives-add : (before : World) (asked : List Asked) (reports : List Report) (after : World) → IsWorld before → Lives before asked reports after → LivesAdd before reports after
+pub lives-add : (before : World) (asked : List Asked) (reports : List Report) (after : World) → IsWorld before → Lives before asked reports after → LivesAdd before asked reports after
 lives-add before [] [] after w e = ap (λ (w : World). w.history) e
 lives-add before (a ∷ asked) (r ∷ reports) after w (mid, life, lives) =
     (mid, (life-told before a r.opening r.replies r.closed mid life).0, lives-add mid asked reports after (life-stands before a r.opening r.replies r.closed mid w life) lives)

@@ -212,9 +212,9 @@ stopped from q covers lost after adds s =
 
 end-stopped : (from : ℕ) (q : State) (closes : Bool) (c : Option (Result Numbers Fault)) (lost : List ℕ) (after : World) → Fresh from q → EndsAs q closes c lost after → Stopped from q lost after
 end-stopped from q closes None lost after f (c, s) = stopped from q (covers_at q) lost after (adds-at from q f) s
-end-stopped from q closes (Some (Err fault)) lost after f (c, inl (g, s)) = stopped from q (covers_at q) lost after (adds-at from q f) s
-end-stopped from q closes (Some (Err fault)) lost after f (c, inr (g, d, s)) = stopped from q (covers_closing q) lost after (adds-closing from q f) s
-end-stopped from q closes (Some (Ok numbers)) lost after f (c, g, n, s) = stopped from q (closed q ∷ []) lost after (adds-closed from q f) s
+end-stopped from q closes (Some (Err fault)) lost after f (c, works, inl (g, s)) = stopped from q (covers_at q) lost after (adds-at from q f) s
+end-stopped from q closes (Some (Err fault)) lost after f (c, works, inr (g, d, s)) = stopped from q (covers_closing q) lost after (adds-closing from q f) s
+end-stopped from q closes (Some (Ok numbers)) lost after f (c, works, g, n, s) = stopped from q (closed q ∷ []) lost after (adds-closed from q f) s
 
 -- Lost timestamps
 
@@ -321,7 +321,7 @@ life-lived : (before : World) (asked : Asked) (opening : Opening) (replies : Lis
 life-lived before asked (Fails fault) replies c after w (inl f, r, n) = still before after replies (ap (λ (x : World). x.history) f.1) (ap (λ (x : World). x.next) f.1) (ap (λ (x : World). x.lost) f.1) r
 life-lived before asked (Fails fault) replies c after w (inr (inl f), r, n) = still before after replies (ap (λ (x : World). x.history) f.2) (ap (λ (x : World). x.next) f.2) (ap (λ (x : World). x.lost) f.2) r
 life-lived before asked (Fails fault) replies c after w (inr (inr f), r, n) = still before after replies f.1.history f.1.next f.1.lost r
-life-lived before asked (Opens numbers next gaps rows) replies c after w (start, states, opens, told, at, gaps_told, rows_told, runs, ends) =
+life-lived before asked (Opens numbers next gaps rows) replies c after w (may, start, states, opens, told, at, gaps_told, rows_told, runs, ends) =
     let run = runs-up start asked.steps replies states runs in
     let is = opens.2 in
     lived before start run.0 replies states asked.closes c after
