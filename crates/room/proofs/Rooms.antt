@@ -25,6 +25,13 @@ use Rattle.room.specs.Room.{Shows, StepsTo}
 pub shown-stands : (c : Committer) (device : Device) (q : State) → CommitterShows c device q → (image : Image) → MayLeave device image → StandsAt q image
 shown-stands c device q shows image left = every-image-stands shows.shown.hidden.origin q device image shows.shown.upholds left
 
+-- and once the gaps are swept it is clear of them
+pub shown-clear : (c : Committer) (device : Device) (q : State) → CommitterShows c device q → q.swept ≡ true → (image : Image) → MayLeave device image → IsClear q image
+shown-clear c device q shows swept image left slot w lt two =
+    let upholds = shows.shown.upholds in
+    let within : word_of q.layout slot w < device.words = subst (λ (n : ℕ). word_of q.layout slot w < n) (sym (words-of q device upholds)) (slot-within q.layout slot w lt two (limits-of shows.shown.hidden.origin q device upholds)) in
+    (upholds.holds.sweeping.over swept slot w lt two).each (slice_index image (word_of q.layout slot w)) (left-survives device image (word_of q.layout slot w) within left)
+
 module _ {D : Type 0} {G : Ghosts D} (state : D → Device) where
   -- a room whose device doesn't fail steps as its committer does
   pub step-on : (old new : Room D G) (step : Step) (reply : Reply) → old.failed ≡ false → new.failed ≡ is_failure reply
@@ -38,12 +45,14 @@ module _ {D : Type 0} {G : Ghosts D} (state : D → Device) where
           stepped = one.1.stepped;
           shows = record {
             stands = shown-stands new.committer (state new.device) one.0 one.1.shows;
+            swept = shown-clear new.committer (state new.device) one.0 one.1.shows;
             agrees = record { shown = one.1.shows; failed = failed-after q step reply one.0 one.1.stepped here ∙ sym tells };
           };
           images = one.1.images;
           failure = one.1.failure;
           operations = one.1.operations;
           actor = one.1.actor;
+          declined = one.1.declined;
         },
       )
 
@@ -58,6 +67,7 @@ module _ {D : Type 0} {G : Ghosts D} (state : D → Device) where
       failure = record { no_fewer = omega arith; cause = λ told. absurd (apart told); shown = λ more. absurd (omega (arith, more)) };
       operations = omega arith;
       actor = record { operations = []; made = refl; by_actor = refl };
+      declined = λ fault other told. refl;
     },
   )
     where
