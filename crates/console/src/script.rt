@@ -8,8 +8,9 @@ ghost use Rattle.console.specs.Refusals.{IfRefused, WantsMemory};
 ghost use Rattle.console.specs.Scripts.{PrintsLives, PrintsReports, answer_text, asked_by, asked_of, closed_text, has_failed, life_text, lived_text, lives_text, opened_text, replies_text, report_text, step_of, steps_of, stop_of};
 ghost use Rattle.console.specs.Crash.{choice_of};
 
+use crate::enough::all_enough;
 use crate::replies::show;
-use crate::rounds::visits_needed;
+use crate::rounds::{ticks_made, visits_needed};
 use crate::stop::Stop;
 use base::fault::Fault;
 use base::geometry::Geometry;
@@ -71,6 +72,9 @@ fn live<T: Threads + Sync, W: Write>(
     let geometry = script.geometry;
     let lives = asked_lives(alloc, geometry, script.lives.as_slice())?;
     let reports = run_lives(rt, alloc, script.geometry, lives.as_slice())?;
+    if !all_enough(geometry, script.lives.as_slice(), reports.as_slice()) {
+        return Err(Stop::Refused(Fault::OutOfMemory));
+    }
     print_lives(
         alloc,
         geometry,
@@ -125,7 +129,7 @@ fn add_steps(geometry: Geometry, command: &Command, steps: &mut Vec<Step>) -> Re
     ensures { OnOk result (steps.new.items ≡ steps.old.items ++ steps_of geometry command.now) }
 {
     if let Command::Commit { ticks } = command {
-        return add_each(&Step::Commit, *ticks, steps);
+        return add_each(&Step::Commit, ticks_made(*ticks), steps);
     }
     if let Command::Collect { visits } = command {
         return add_each(&Step::Collect, visits_needed(geometry, *visits), steps);
@@ -316,13 +320,13 @@ fn print_replies<W: Write>(
     Ok(())
 }
 
-// How many steps a command has.
-fn step_count(geometry: Geometry, command: &Command) -> usize
+/// How many steps a command has.
+pub fn step_count(geometry: Geometry, command: &Command) -> usize
     ensures { result ≡ length (steps_of geometry command.now) }
 {
     match command {
         Command::Put { row, .. } if row.as_slice().len() > Row::LIMIT => 0,
-        Command::Commit { ticks } => *ticks as usize,
+        Command::Commit { ticks } => ticks_made(*ticks) as usize,
         Command::Collect { visits } => visits_needed(geometry, *visits) as usize,
         Command::Cycle | Command::Crash { .. } => 0,
         _ => 1,

@@ -1,8 +1,10 @@
 //! A program that obeys scripts of what `wbl` is asked to do with one file, and prints what comes of it. A command
-//! begins with `$`, and the lines after it are its input.
+//! begins with `$`, and the lines after it are its input. The file of `$ wbl` is kept in memory, and that of `$ program`
+//! lies where this program runs.
 #![tactic(auto)]
 
 mod image;
+mod whole;
 
 use anyhow::Error;
 use command_line::orders::{Order, WordFault};
@@ -11,9 +13,11 @@ use console::ended::Ended;
 use console::execute::execute;
 use image::{print_words, set_words};
 use std::alloc::Global;
+use std::rt::Files;
 use std::sync::Wait;
 use std::thread::Threads;
 use std::{env, fs, io};
+use whole::{ask_program, run_program};
 
 fn main(rt: HostRuntime) -> Result<(), Error> {
     let alloc = rt.alloc();
@@ -31,7 +35,7 @@ fn main(rt: HostRuntime) -> Result<(), Error> {
 }
 
 // Obeys a command with its input.
-fn obey<H: Print + Threads + Wait + Copy + Drop + Send + Sync + 'static>(
+fn obey<H: Files + Print + Threads + Wait + Copy + Drop + Send + Sync + 'static>(
     rt: &H,
     alloc: Global,
     part: &str,
@@ -46,12 +50,25 @@ fn obey<H: Print + Threads + Wait + Copy + Drop + Send + Sync + 'static>(
         ["words", first, count] => print_words(rt, alloc, file.as_slice(), first, count),
         ["set", changes @ ..] => set_words(alloc, file, changes),
         ["length", bytes] => Ok(file.resize(bytes.parse::<usize>()?, 0)?),
+        ["text"] => Ok(*file = Vec::from_slice(alloc, input.as_bytes())?),
+        ["more", times] => add_text(file, input, times),
+        ["save", name] => Ok(fs::write(rt, *name, file.as_slice())?),
+        ["program", words @ ..] => run_program(rt, alloc, words, input),
+        ["ask", words @ ..] => ask_program(rt, alloc, words, input),
         ["wbl", words @ ..] => match order(alloc, words) {
             Ok(order) => execute_order(rt, alloc, &order, input, file),
             Err(fault) => tell(rt, fault),
         },
         _ => Ok(println!(rt; "not a command")?),
     }
+}
+
+// Adds the input to the file, so many times over.
+fn add_text(file: &mut Vec<u8>, input: &str, times: &str) -> Result<(), Error> {
+    for _ in 0..times.parse::<usize>()? {
+        file.extend_from_slice(input.as_bytes())?;
+    }
+    Ok(())
 }
 
 // Does the work of a subcommand, and tells how it ended where it didn't end well.
