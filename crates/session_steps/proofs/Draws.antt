@@ -146,6 +146,12 @@ agrees-grown s h spare index same kept agrees = record {
   lines = agrees.lines;
 }
 
+-- a session that has written something draws a timestamp
+some-drawn : (s : Sessions) (h : Hidden) (n : ℕ) (snapshot : Seen) (writes : List Write) → writes ≢ [] → transaction_at s.transactions n ≡ Some (Active snapshot writes)
+    → not (is_nil (writes_of ((plain_of s h).sessions n))) ≡ true
+some-drawn s h n snapshot [] some at = absurd (some refl)
+some-drawn s h n snapshot (write ∷ writes) some at = ap (λ (t : Option Transaction). not (is_nil (writes_of (option_map (plain_session (h.seen n)) t)))) at
+
 pub draws-not : (s : Sessions) (h : Hidden) (n : ℕ) (snapshot : Seen) (writes : List Write) (commits : InFlight) (index : List (Key × Entry)) (fault : Fault) → Holds s h → transaction_at s.transactions n ≡ Some (Active snapshot writes) → writes ≢ []
     → conflict_in s.index snapshot writes ≡ None → nat_eq s.numbers.next s.numbers.record.dirty ≡ false → nat_le (2 ^ 62) (s.numbers.next + 2 * s.numbers.geometry.window) ≡ false
     → commits.commits ≡ s.drawn.commits → ((key : Key) → entry_at index key ≡ entry_at s.index key) → ((key : Key) → has_room s.index key ≡ true → has_room index key ≡ true) → fault ≡ OutOfMemory
@@ -156,7 +162,7 @@ draws-not s h n snapshot writes commits index fault holds at some clear room ear
       origin = refl;
       drawers = same-drawers s.drawn.commits;
       agrees = agrees-grown s h commits.spare index same kept holds.agrees;
-      stepped = memory_refused (draw-asks s h n snapshot writes None false false some at holds (sym clear) room early) refl (ap (λ (f : Fault). reply.Refused f) is) refl;
+      stepped = memory_refused (draw-asks s h n snapshot writes None false false some at holds (sym clear) room early) (some-drawn s h n snapshot writes some at) (ap (λ (f : Fault). reply.Refused f) is) refl;
     })
   where
     commits-are : ◌≡◌ {A = InFlight} (record { commits = s.drawn.commits; spare = commits.spare }) commits
