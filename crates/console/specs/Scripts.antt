@@ -1,12 +1,13 @@
 -- What the lives of a script are asked, and what is printed of their reports.
-use Rattle.std.specs.Prelude.{◌≡◌, ℕ, ◌+◌, ◌-◌, ◌^◌, slice_get, Bool, true, false, not, ◌&&◌, ◌||◌, nat_le, List, [], ◌∷◌, ◌++◌, length, map, take, drop, flat_map, replicate, codes, decimal, Option, Some, None, Result, Ok, Err, if◌then◌else◌}
-use Rattle.std.specs.Option.{option_to_list}
+use Rattle.std.specs.Prelude.{◌≡◌, ℕ, ◌+◌, ◌-◌, ◌^◌, slice_get, Bool, true, false, not, ◌&&◌, ◌||◌, nat_le, List, [], ◌∷◌, ◌++◌, length, map, take, drop, find, flat_map, replicate, codes, decimal, Option, Some, None, Result, Ok, Err, if◌then◌else◌}
+use Rattle.std.specs.Option.{option_or, option_to_list}
 use Rattle.std.specs.Io.KnownBytes.{Appends}
 use Rattle.base.specs.declared.fault.Fault.{Fault}
 use Rattle.base.specs.declared.fault.Fault.TheVariants.{BadGeometry, OutOfMemory, TooLong}
 use Rattle.base.specs.declared.step.Step.{Step}
 use Rattle.base.specs.declared.step.Step.TheVariants as step
 use Rattle.base.specs.declared.step.Reply.{Reply}
+use Rattle.base.specs.declared.step.Reply.TheVariants as replied
 use Rattle.base.specs.Layout.{Layout}
 use Rattle.base.specs.Lives.{is_failure}
 use Rattle.pmem_model.specs.declared.choice.Choice.{Choice}
@@ -78,13 +79,22 @@ asked_of life = record { steps = life.steps.items; closes = life.close; fuse = l
 abbrev pub last_of : List Reply → Option Reply
 last_of replies = slice_get replies (length replies - 1)
 
--- the line of the last reply to a command's steps. What has no reply is a row that is too long
+-- a refusal
+abbrev pub is_refused : Reply → Bool
+is_refused (replied.Refused fault) = true
+is_refused _ = false
+
+-- the reply that a command prints: to the first of its steps that was refused, else to the last
+abbrev pub printed_of : List Reply → Option Reply
+printed_of replies = option_or (find is_refused replies) (last_of replies)
+
+-- the line of a command's reply. What has none is a row that is too long
 abbrev pub answer_of : Option Reply → Text
 answer_of None = refused_text TooLong
 answer_of (Some reply) = reply_text reply
 
 abbrev pub answer_text : List Reply → Text
-answer_text replies = answer_of (last_of replies)
+answer_text replies = answer_of (printed_of replies)
 
 -- the device failed in the last of these
 abbrev pub is_failed_by : Option Reply → Bool
