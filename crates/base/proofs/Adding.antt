@@ -14,7 +14,7 @@ use Rattle.base.specs.declared.step.Reply.{Reply}
 use Rattle.base.specs.declared.step.Reply.TheVariants.{Rows, Done, Drawn as DrewAs, More, Stamped, Waiting, Committed, Idle, Ticked, Covered, Visited, SweepEnd}
 use Rattle.base.specs.Commits.{Commit, Writes}
 use Rattle.base.specs.Stands.{has_timestamp}
-use Rattle.base.specs.Machine.{State, Session, Active, Drew, WroteNothing, Drawn, Hand, Stepped, refused, answered, memory_refused, device_failed, Answers, Run, final, next_state, state_ticked, state_ticked_on, state_drawn, state_covered, next_stage, is_idle, is_nil, is_stamped, is_last_stamp, end_of_run, writes_of, counted, timestamp_of, polled, ticked, ticked_on, chosen, taken_in_hand, batch_of, drawn_of, in_hand, uncovered, Cover, present, of_hand, covers_at, covers_closing, closed}
+use Rattle.base.specs.Machine.{State, Session, Active, Drew, WroteNothing, Drawn, Hand, Stepped, refused, answered, memory_refused, device_failed, Answers, Run, final, next_state, state_ticked, state_ticked_on, state_drawn, state_covered, next_stage, is_idle, is_nil, is_last_stamp, is_chosen, writes_of, counted, timestamp_of, polled, ticked, ticked_on, chosen, taken_in_hand, batch_of, drawn_of, in_hand, uncovered, Cover, present, of_hand, covers_at, covers_closing, closed}
 use Rattle.base.specs.Lives.{World, IsWorld, Opening, Opens, Fails, Numbers, Asked, Report, StopsAt, EndsAs, LifeAs, Lives, RunsUp}
 use Rattle.base.specs.Openings.{OpensAs}
 use Rattle.base.specs.Laws.{drawn_by, drawn_in, covered_by, covered_in, acknowledged_by, acknowledged_in, has_closed, AddsDrawn, LifeAdds, LivesAdd}
@@ -188,7 +188,7 @@ told-on before covered ts q hand (Some stage) among told =
 
 chosen-among : (ts : List ℕ) (q : State) → All (Among ts) (drawn_of q) → All (Among ts) (chosen q)
 chosen-among ts q all =
-    let test : Drawn → Bool = λ d. is_stamped d && nat_le d.commit.timestamp (end_of_run q) in
+    let test : Drawn → Bool = is_chosen q in
     All-map (Among ts) (λ d. d.commit) (filter test q.drawn) (All-filter test (λ d. Among ts d.commit) q.drawn (unmap q.drawn all))
   where
     unmap : (ds : List Drawn) → All (Among ts) (map (λ (d : Drawn). d.commit) ds) → All (λ (d : Drawn). Among ts d.commit) ds

@@ -11,7 +11,7 @@ use Rattle.base.specs.declared.step.Stage.{Stage}
 use Rattle.base.specs.declared.step.Reply.{Reply}
 use Rattle.base.specs.Commits.{Commit, Writes}
 use Rattle.base.specs.Stands.{has_timestamp}
-use Rattle.base.specs.Machine.{State, Drawn, Hand, Stepped, refused, answered, memory_refused, device_failed, Run, final, next_state, state_ticked, state_ticked_on, state_drawn, next_stage, is_idle, writes_of, counted, drawn_of, in_hand, uncovered, is_stamped, end_of_run, timestamp_of, chosen, taken_in_hand, Cover, covers_at, of_hand, present, covers_closing, closed}
+use Rattle.base.specs.Machine.{State, Drawn, Hand, Stepped, refused, answered, memory_refused, device_failed, Run, final, next_state, state_ticked, state_ticked_on, state_drawn, next_stage, is_idle, writes_of, counted, drawn_of, in_hand, uncovered, is_chosen, timestamp_of, chosen, taken_in_hand, Cover, covers_at, of_hand, present, covers_closing, closed}
 use Rattle.base.specs.Collecting.{is_at_slot, slot_visited, sweep_ended}
 use Rattle.base.specs.Lives.{World, IsWorld, Opening, Opens, Fails, Numbers, Asked, Report, StopsAt, EndsAs, LifeAs, Lives, RunsUp, left_out}
 use Rattle.base.specs.Laws.{RiseBetween, drawn_in, drawn_over, StayOut}
@@ -61,7 +61,7 @@ fresh-drawn from q n (write ∷ writes) f =
 
 chosen-within : (from : ℕ) (q : State) → Fresh from q → All (Within from q.next) (chosen q)
 chosen-within from q f =
-    let test : Drawn → Bool = λ d. is_stamped d && nat_le d.commit.timestamp (end_of_run q) in
+    let test : Drawn → Bool = is_chosen q in
     All-map (Within from q.next) (λ d. d.commit) (filter test q.drawn) (All-filter test (λ d. Within from q.next d.commit) q.drawn f.drawn)
 
 fresh-idle : (from : ℕ) (q : State) (b : Bool) → Fresh from q → Fresh from (cond b q (record q { hand = Some (taken_in_hand q) }))

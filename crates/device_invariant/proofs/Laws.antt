@@ -64,6 +64,7 @@ ticked-hand : (q : State) (hand : Hand) → KeepsHand q hand → KeepsHand q (re
 ticked-hand q hand k = record {
   gate = k.gate;
   formed = k.formed;
+  longs = k.longs;
   persisted = k.persisted;
   further = k.further;
   reserved = k.reserved;

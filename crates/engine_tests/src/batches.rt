@@ -1,39 +1,25 @@
-//! What a covering tick tells of its batch, and what only the device's words and counts show of a life.
-use crate::fixture::{
-    assert_words, formatted, fresh, fresh_words, opened, operations, step, steps,
-};
+//! What a covering tick tells of its batch.
+use crate::asks::Ask::{Begin, Commit, Delete, Draw, Put, Stamp};
+use crate::asks::{Ask, steps};
+use crate::fixture::{fresh, opened};
 use base::batch::Batch;
 use base::fault::Fault;
-use base::geometry::Geometry;
 use base::key::Key;
 use base::row::Row;
-use base::step::{Note, Reply, Step};
+use base::step::Reply;
 use pmem_model::SimPmem;
 use room::Room;
 use std::alloc::Global;
 use std::process::Abort;
-
-#[test]
-fn fresh_image_opens(rt: HostRuntime) -> Result<(), Fault> {
-    let device = formatted(rt.alloc(), Geometry::new(4, 2, 8)?)?;
-    assert_eq!(rt; operations(&device), 163);
-    assert_words(&rt, &device, 0, &fresh_words());
-    let device = opened(&rt, rt.alloc(), fresh(rt.alloc(), 4, 8)?)?.into_device();
-    let made = device.operations();
-    assert_eq!(rt; (made.stores, made.flushes, made.fences), (32, 5, 2));
-    assert_words(&rt, &device, 8, &[2, 0, 9]);
-    assert_words(&rt, &device, 40, &[1, 0, 1]);
-    Ok(())
-}
 
 // The batch of the last of these steps, all of which are driven at once.
 fn batch_after(
     rt: &impl Abort,
     alloc: Global,
     room: &mut Room<SimPmem>,
-    lines: &str,
+    asks: &[Ask],
 ) -> Result<Batch, Fault> {
-    let steps = steps(rt, alloc, lines)?;
+    let steps = steps(alloc, asks)?;
     let mut replies = room.drive(steps.as_slice())?;
     assert!(rt; replies.len() == steps.len());
     match replies.pop() {
@@ -51,34 +37,41 @@ fn assert_batch(rt: &impl Abort, batch: &Batch, numbers: (u64, u64, u64), timest
     }
 }
 
-// Stamps all that the session wrote, which is under one key.
-fn stamp(rt: &impl Abort, room: &mut Room<SimPmem>, session: u8) {
-    assert!(rt; step(room, Step::Stamp { session }) == Note::Stamped);
-}
+/// What is asked for a batch, its numbers, and its timestamps.
+type Told = (&'static [Ask], (u64, u64, u64), &'static [u64]);
+
+// Three sessions draw from a window of four. A record without commits keeps the window open, and the next one covers all.
+const WINDOW_OF_FOUR: &[Told] = &[
+    (
+        &[
+            Begin,
+            Begin,
+            Begin,
+            Put(2, 1, 1, 1),
+            Put(3, 1, 2, 2),
+            Put(4, 1, 3, 3),
+            Draw(2),
+            Draw(3),
+            Draw(4),
+            Commit(41),
+        ],
+        (2, 3, 0),
+        &[],
+    ),
+    (
+        &[Stamp(3), Stamp(4), Commit(1), Stamp(2), Commit(44)],
+        (3, 4, 3),
+        &[1, 2, 3],
+    ),
+];
 
 #[test]
 fn record_without_commits_keeps_the_window_open(rt: HostRuntime) -> Result<(), Fault> {
     let mut room = opened(&rt, rt.alloc(), fresh(rt.alloc(), 8, 4)?)?;
-    let none = batch_after(
-        &rt,
-        rt.alloc(),
-        &mut room,
-        "begin
-begin
-begin
-put 2 1 1 01
-put 3 1 2 02
-put 4 1 3 03
-draw 2
-draw 3
-draw 4
-commit 41",
-    )?;
-    assert_batch(&rt, &none, (2, 3, 0), &[]);
-    stamp(&rt, &mut room, 3);
-    stamp(&rt, &mut room, 4);
-    let three = batch_after(&rt, rt.alloc(), &mut room, "commit 1\nstamp 2\ncommit 44")?;
-    assert_batch(&rt, &three, (3, 4, 3), &[1, 2, 3]);
+    for (asks, numbers, timestamps) in WINDOW_OF_FOUR {
+        let batch = batch_after(&rt, rt.alloc(), &mut room, asks)?;
+        assert_batch(&rt, &batch, *numbers, timestamps);
+    }
     let status = room.status();
     assert!(rt; (status.gate, status.persisted, status.dirty, status.next) == (4, 3, 8, 4));
     Ok(())
@@ -92,23 +85,22 @@ fn three_writes() -> Result<[(Key, Option<Row>); 3], Fault> {
     ])
 }
 
+const THREE_WRITES: &[Ask] = &[
+    Begin,
+    Put(2, 2, 0, 1),
+    Put(2, 1, 9, 2),
+    Delete(2, 1, 8),
+    Draw(2),
+    Stamp(2),
+    Stamp(2),
+    Stamp(2),
+    Commit(43),
+];
+
 #[test]
 fn commits_of_a_batch_name_keys_in_rising_order(rt: HostRuntime) -> Result<(), Fault> {
     let mut room = opened(&rt, rt.alloc(), fresh(rt.alloc(), 4, 8)?)?;
-    let batch = batch_after(
-        &rt,
-        rt.alloc(),
-        &mut room,
-        "begin
-put 2 2 0 01
-put 2 1 9 02
-delete 2 1 8
-draw 2
-stamp 2
-stamp 2
-stamp 2
-commit 43",
-    )?;
+    let batch = batch_after(&rt, rt.alloc(), &mut room, THREE_WRITES)?;
     assert_batch(&rt, &batch, (2, 3, 1), &[1]);
     let writes = three_writes()?;
     for commit in batch.commits() {

@@ -1,7 +1,9 @@
-use crate::fixture::{opened, operations, step, steps};
+use crate::asks::steps;
+use crate::counts::operations;
+use crate::fixture::{opened, step};
+use crate::stories::{Opening, Story};
 use base::fault::Fault;
 use base::gap::Gaps;
-use base::key::Key;
 use base::step::{Note, Step};
 use pmem::Pmem;
 use pmem_model::{Choice, SimPmem};
@@ -10,92 +12,61 @@ use std::alloc::Global;
 use std::process::Abort;
 use std::thread::Threads;
 
-/// The bytes of the rows of keys 7, 8 and 9 of table 1.
-pub type Rows = (
-    Option<&'static [u8]>,
-    Option<&'static [u8]>,
-    Option<&'static [u8]>,
-);
-
-/// What an opening shows.
-#[derive(Clone, Copy)]
-pub struct Opening {
-    /// The gate, the persisted, the dirty and the next timestamp.
-    pub numbers: (u64, u64, u64, u64),
-    pub gaps: &'static [(u64, u64)],
-    pub rows: Rows,
-}
-
-/// A life from the opening of an image on, and what may come after it.
-#[derive(Clone, Copy)]
-pub struct Life<'a> {
-    pub words: &'a [u64],
-    /// Its steps, by their lines.
-    pub lines: &'static str,
-    /// Whether the room is closed then.
-    pub closes: bool,
-    pub openings: &'static [Opening],
-    /// Up to this number of operations, the gate that the next opening has after a crash that leaves the oldest
-    /// values, and after one that leaves the newest. The last is that of the whole life.
-    pub gates: &'static [(u64, u64, u64)],
-}
-
-/// Lets the life stop after each number of operations, and opens what a crash may leave: of each word the oldest value,
-/// of each the newest, and of each word in turn the one while all others have the other. A word with one value left is
-/// skipped, since that is one of the first two.
+/// Lets the story's life stop after each number of operations, and opens what a crash may leave.
 pub fn assert_each_stop<R: Threads + Sync + Abort>(
     rt: &R,
     alloc: Global,
-    life: &Life<'_>,
+    words: &[u64],
+    story: &Story,
 ) -> Result<(), Fault> {
-    let end = match life.gates.last() {
+    let steps = steps(alloc, story.asks)?;
+    let end = match story.gates.last() {
         Some((last, _, _)) => *last,
         None => panic!(rt; "no gates"),
     };
-    let steps = steps(rt, alloc, life.lines)?;
     for fuse in 0..end.saturating_add(1) {
-        let mut device = SimPmem::from_words(alloc, life.words)?;
-        device.set_fuse(Some(fuse));
-        let (device, covered) = live(rt, alloc, device, &steps, life.closes);
+        let device = SimPmem::from_words(alloc, words)?;
+        let (device, covered) = stopped(rt, alloc, device, fuse, &steps, story.closes);
         assert!(rt; operations(&device) == fuse as u128, "fuse {fuse}");
-        let gates = gates_after(rt, life, fuse);
+        let gates = gates_after(rt, story, fuse);
         assert!(rt; covered < gates.0, "fuse {fuse}");
-        assert_left(
-            rt,
-            alloc,
-            &device,
-            &Choice::Oldest,
-            life,
-            (gates.0, gates.0),
-        )?;
-        assert_left(
-            rt,
-            alloc,
-            &device,
-            &Choice::Newest,
-            life,
-            (gates.1, gates.1),
-        )?;
-        assert_each_apart(rt, alloc, &device, life, gates)?;
+        assert_each_choice(rt, alloc, &device, story.openings, gates)?;
     }
     Ok(())
 }
 
-// Opens what a crash may leave: of each word in turn the oldest value and of the others the newest, and the other way
-// round.
-fn assert_each_apart<R: Threads + Sync + Abort>(
+// Opens what a crash may leave: of each word the oldest value, of each the newest, and of each word in turn the one while
+// all others have the other. A word with one value left is skipped, since that is one of the first two.
+fn assert_each_choice<R: Threads + Sync + Abort>(
     rt: &R,
     alloc: Global,
     device: &SimPmem,
-    life: &Life<'_>,
+    openings: &[Opening],
     gates: (u64, u64),
 ) -> Result<(), Fault> {
+    let (oldest, newest) = gates;
+    assert_left(
+        rt,
+        alloc,
+        device,
+        &Choice::Oldest,
+        openings,
+        (oldest, oldest),
+    )?;
+    assert_left(
+        rt,
+        alloc,
+        device,
+        &Choice::Newest,
+        openings,
+        (newest, newest),
+    )?;
     for word in 0..device.words() {
         if device.survivors(word) > 1 {
-            let oldest = apart(alloc, device, word, false)?;
-            assert_left(rt, alloc, device, &oldest, life, gates)?;
-            let newest = apart(alloc, device, word, true)?;
-            assert_left(rt, alloc, device, &newest, life, gates)?;
+            for keeps in [false, true] {
+                let choice = apart(alloc, device, word, keeps)?;
+                assert_left(rt, alloc, device, &choice, openings, gates)?;
+            }
         }
     }
     Ok(())
@@ -114,15 +85,18 @@ fn apart(alloc: Global, device: &SimPmem, word: usize, newest: bool) -> Result<C
     Ok(Choice::Each(numbers))
 }
 
-// Opens the device and makes the steps, up to the first refusal, and closes the room where that is asked. What is left,
-// and the stamp of the last commit that was acknowledged.
-fn live<R: Threads + Sync + Abort>(
+/// Opens a device of which only so many operations succeed, makes the steps up to the one that is refused, and closes the
+/// room where that is asked. What is left, and the stamp of the last commit that was acknowledged.
+pub fn stopped<R: Threads + Sync + Abort>(
     rt: &R,
     alloc: Global,
     device: SimPmem,
+    fuse: u64,
     steps: &[Step],
     closes: bool,
 ) -> (SimPmem, u64) {
+    let mut device = device;
+    device.set_fuse(Some(fuse));
     assert!(rt; device.at_rest());
     let mut room = match Room::open(rt, alloc, device) {
         Ok(room) => room,
@@ -131,7 +105,7 @@ fn live<R: Threads + Sync + Abort>(
             return (device, 0);
         }
     };
-    let covered = run(&mut room, steps);
+    let covered = run(rt, &mut room, steps);
     if !closes {
         return (room.into_device(), covered);
     }
@@ -144,13 +118,18 @@ fn live<R: Threads + Sync + Abort>(
     }
 }
 
-// Makes the steps up to the first refusal, and gives the stamp of the last commit that was acknowledged.
-fn run(room: &mut Room<SimPmem>, steps: &[Step]) -> u64 {
+// Makes the steps up to the one in which the device fails, after which each is refused. The stamp of the last commit that
+// was acknowledged.
+fn run(rt: &impl Abort, room: &mut Room<SimPmem>, steps: &[Step]) -> u64 {
     let mut covered = 0;
     for made in steps {
         match step(room, *made) {
             Note::Covered(stamp) => covered = stamp,
-            Note::Refused(_) => return covered,
+            Note::Refused(fault) => {
+                assert!(rt; fault == Fault::Device);
+                assert!(rt; step(room, *made) == Note::Refused(Fault::Failed));
+                return covered;
+            }
             _ => {}
         }
     }
@@ -158,8 +137,8 @@ fn run(room: &mut Room<SimPmem>, steps: &[Step]) -> u64 {
 }
 
 // The gates of the openings after the oldest and after the newest values.
-fn gates_after(rt: &impl Abort, life: &Life<'_>, fuse: u64) -> (u64, u64) {
-    for (last, oldest, newest) in life.gates {
+fn gates_after(rt: &impl Abort, story: &Story, fuse: u64) -> (u64, u64) {
+    for (last, oldest, newest) in story.gates {
         if fuse <= *last {
             return (*oldest, *newest);
         }
@@ -167,13 +146,13 @@ fn gates_after(rt: &impl Abort, life: &Life<'_>, fuse: u64) -> (u64, u64) {
     panic!(rt; "fuse {fuse}")
 }
 
-// Opens what a crash of this choice leaves. It has one of two gates, and shows what belongs to that.
-fn assert_left<R: Threads + Sync + Abort>(
+/// Opens what a crash of this choice leaves. It has one of two gates, and shows what belongs to that.
+pub fn assert_left<R: Threads + Sync + Abort>(
     rt: &R,
     alloc: Global,
     device: &SimPmem,
     choice: &Choice,
-    life: &Life<'_>,
+    openings: &[Opening],
     gates: (u64, u64),
 ) -> Result<(), Fault> {
     let mut room = opened(rt, alloc, device.crash(choice)?)?;
@@ -181,7 +160,7 @@ fn assert_left<R: Threads + Sync + Abort>(
     let gate = status.gate;
     assert!(rt; gate == gates.0 || gate == gates.1, "gate {gate}");
     let numbers = (gate, status.persisted, status.dirty, status.next);
-    for opening in life.openings {
+    for opening in openings {
         if opening.numbers.0 == gate {
             assert_eq!(rt; numbers, opening.numbers);
             assert_gaps(rt, &status.gaps, opening.gaps);
@@ -199,21 +178,21 @@ fn assert_gaps(rt: &impl Abort, gaps: &Gaps, want: &[(u64, u64)]) {
     }
 }
 
-// A new session reads these rows.
-fn assert_rows(rt: &impl Abort, room: &mut Room<SimPmem>, rows: Rows) {
+// A new session sees these rows in table 1, and no others.
+fn assert_rows(rt: &impl Abort, room: &mut Room<SimPmem>, want: &[(u64, u8)]) {
     assert_eq!(rt; step(room, Step::Begin), Note::Began(2));
-    for (number, want) in [(7, rows.0), (8, rows.1), (9, rows.2)] {
-        let get = Step::Get {
-            session: 2,
-            key: Key {
-                table: 1,
-                key: number,
-            },
-        };
-        let Note::Row(found) = step(room, get) else {
-            panic!(rt; "no reply")
-        };
-        let found = found.as_ref().map(|row| row.as_bytes());
-        assert!(rt; found == want, "key {number}");
+    let whole = Step::Scan {
+        session: 2,
+        table: 1,
+        lo: 0,
+        hi: u64::MAX,
+    };
+    let Note::Rows(rows) = step(room, whole) else {
+        panic!(rt; "no rows")
+    };
+    assert_eq!(rt; rows.as_slice().len(), want.len());
+    for ((key, row), (number, byte)) in rows.as_slice().iter().zip(want.iter()) {
+        assert_eq!(rt; key.key, *number);
+        assert!(rt; row.as_bytes() == [*byte].as_slice(), "key {number}");
     }
 }

@@ -1,11 +1,15 @@
 //! The modelled device and on it free slots and whole lives of the room, stopped at each operation and
-//! with memory refused; images that are checked and opened; the program where its input or output fails.
+//! with memory refused; images that are checked and opened.
 #![tactic(auto)]
 
+#[cfg(test)]
+mod asks;
 #[cfg(test)]
 mod batches;
 #[cfg(test)]
 mod checks;
+#[cfg(test)]
+mod counts;
 #[cfg(test)]
 mod crashes;
 #[cfg(test)]
@@ -19,8 +23,6 @@ mod memory;
 #[cfg(test)]
 mod numbers;
 #[cfg(test)]
-mod program;
-#[cfg(test)]
-mod rows;
-#[cfg(test)]
 mod slots;
+#[cfg(test)]
+mod stories;

@@ -1,5 +1,8 @@
 //! Lives in which an allocation may be refused: each in turn, where the tests are run so.
-use crate::fixture::{fresh, opened, operations, step, steps};
+use crate::asks::Ask::{Begin, Commit, Draw, Put, Scan, Stamp};
+use crate::asks::{Ask, steps};
+use crate::counts::operations;
+use crate::fixture::{fresh, opened, step};
 use base::fault::Fault;
 use base::key::Key;
 use base::row::Row;
@@ -11,16 +14,18 @@ use std::process::Abort;
 use std::thread::Threads;
 
 // Two sessions insert keys 1 and 2, one of them scans, and one record covers both.
-const TWO_COMMITS: &str = "begin
-begin
-put 2 1 1 01
-put 3 1 2 02
-scan 3 1 0 9
-draw 2
-draw 3
-stamp 2
-stamp 3
-commit 43";
+const TWO_COMMITS: &[Ask] = &[
+    Begin,
+    Begin,
+    Put(2, 1, 1, 1),
+    Put(3, 1, 2, 2),
+    Scan(3, 1),
+    Draw(2),
+    Draw(3),
+    Stamp(2),
+    Stamp(3),
+    Commit(43),
+];
 
 // Makes a step. Where it is refused for want of memory it is made again.
 fn insist(room: &mut Room<SimPmem>, made: Step) -> Note {
@@ -49,7 +54,7 @@ fn is_covered(rt: &impl Abort, room: &mut Room<SimPmem>, steps: &[Step]) -> bool
 
 // A life of both commits, and whether they were covered.
 fn first_life<R: Threads + Sync + Abort>(rt: &R, alloc: Global) -> Result<(SimPmem, bool), Fault> {
-    let steps = steps(rt, alloc, TWO_COMMITS)?;
+    let steps = steps(alloc, TWO_COMMITS)?;
     let mut room = opened(rt, alloc, fresh(alloc, 4, 8)?)?;
     let covered = is_covered(rt, &mut room, steps.as_slice());
     Ok((room.into_device().crash(&Choice::Newest)?, covered))
@@ -121,7 +126,7 @@ fn opened_with_reserve<R: Threads + Sync + Abort>(
 // made again.
 #[test]
 fn refused_memory_changes_nothing(rt: HostRuntime) -> Result<(), Fault> {
-    let Ok(steps) = steps(&rt, rt.alloc(), TWO_COMMITS) else {
+    let Ok(steps) = steps(rt.alloc(), TWO_COMMITS) else {
         return Ok(());
     };
     match opened_with_reserve(&rt, rt.alloc()) {

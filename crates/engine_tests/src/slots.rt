@@ -2,18 +2,17 @@ ghost use Rattle.std.specs.Prelude.{◌≡◌, ◌<◌, ◌≤◌, IfOk, length}
 ghost use Rattle.base.specs.Layout.{layout_with, newest_version};
 ghost use Rattle.pmem_model.specs.Sim.{device_of};
 
-use crate::fixture::{fresh, opened, steps};
+use crate::asks::Ask::{Begin, Commit, Draw, End, Put, Stamp};
+use crate::fixture::{Past, device_after};
 use base::actor::Actor;
 use base::fault::Fault;
 use base::geometry::Geometry;
 use base::key::Key;
 use pmem::Pmem;
-use pmem_model::{Choice, SimPmem};
+use pmem_model::SimPmem;
 use recovery::{LiveSlot, open};
 use slot_alloc::SlotAlloc;
 use std::alloc::Global;
-use std::process::Abort;
-use std::thread::Threads;
 
 // Four slots and two places.
 fn geometry() -> Result<Geometry, Fault>
@@ -51,35 +50,28 @@ fn taken_slot_is_cleared(rt: HostRuntime) -> Result<(), Fault> {
 }
 
 // A version of key 7 in slot 0 that one in slot 1 replaces, with which slot 2 gets a version of key 8; slot 3 is free.
-const REPLACED: &str = "begin
-put 2 1 7 01
-draw 2
-stamp 2
-commit 42
-end 2
-begin
-put 2 1 7 02
-put 2 1 8 03
-draw 2
-stamp 2
-stamp 2
-commit 44";
-
-// A device after a life of these lines.
-fn stopped_after<R: Threads + Sync + Abort>(
-    rt: &R,
-    alloc: Global,
-    lines: &str,
-) -> Result<SimPmem, Fault> {
-    let steps = steps(rt, alloc, lines)?;
-    let mut room = opened(rt, alloc, fresh(alloc, 4, 8)?)?;
-    room.drive(steps.as_slice())?;
-    room.into_device().crash(&Choice::Oldest)
-}
+const REPLACED: Past = (
+    &[
+        Begin,
+        Put(2, 1, 7, 1),
+        Draw(2),
+        Stamp(2),
+        Commit(42),
+        End(2),
+        Begin,
+        Put(2, 1, 7, 2),
+        Put(2, 1, 8, 3),
+        Draw(2),
+        Stamp(2),
+        Stamp(2),
+        Commit(44),
+    ],
+    false,
+);
 
 #[test]
 fn opening_lists_the_live_slots(rt: HostRuntime) -> Result<(), Fault> {
-    let stopped = stopped_after(&rt, rt.alloc(), REPLACED)?;
+    let stopped = device_after(&rt, rt.alloc(), 4, &[REPLACED])?;
     assert!(rt; stopped.at_rest());
     let opened = match open(&rt, rt.alloc(), stopped) {
         Ok(opened) => opened,

@@ -1,5 +1,5 @@
 -- Lives one after another.
-use Rattle.std.proofs.Common.{◌≡◌, inl, inr, ℕ, Bool, not, ◌&&◌, List, [], ◌∷◌, ◌++◌, map, refl, sym, ◌∙◌, ap, subst}
+use Rattle.std.proofs.Common.{◌≡◌, inl, inr, ℕ, Bool, false, not, ◌&&◌, List, [], ◌∷◌, ◌++◌, map, refl, sym, ◌∙◌, ap, subst}
 use Rattle.std.specs.Prelude.{Option, Some, None}
 use Rattle.std.proofs.lemmas.List.Elements.{All-nil}
 use Rattle.base.specs.declared.fault.Fault.{Fault}
@@ -28,8 +28,8 @@ use Rattle.lives.specs.declared.life.LifeReport.{LifeReport}
 use Rattle.lives.specs.Plain.{asked_of, report_of}
 use Rattle.lives.specs.Chains.{fresh_world, AreLives}
 use Rattle.lives.specs.Stops.{AreStopped, IsStopped, WhereItStands}
-use Rattle.lives.specs.Parts.{HasLived, HasObeyed, HasEnded, HasPlayed}
-use Rattle.lives.proofs.Ends.{leaves-now, log-first, first-damage, ends-as_asked}
+use Rattle.lives.specs.Parts.{HasLived, HasObeyed, HasEnded, MayAsk, HasPlayed}
+use Rattle.lives.proofs.Ends.{leaves-now, log-first, first-damage, may-ask, ends-as_asked}
 
 -- ---- an opening that was refused
 
@@ -93,10 +93,10 @@ lists-after image rows history drawn next listed stands = record {
 }
 
 pub lived-played : (image image' : Image) (rows : List (Key × List ℕ)) (life : Life) (report : LifeReport)
-    → ListsTables image rows
+    → opening_fault image ≡ None → ListsTables image rows
     → ((history drawn : List Commit) (next : ℕ) (lost : List ℕ) → Stands image history drawn next → (q : State) × OpensAs image history lost q × HasPlayed q rows life report image')
     → HasLived image life report image'
-lived-played image image' rows life report listed plays before w same =
+lived-played image image' rows life report may listed plays before w same =
     let stands : Stands image before.history before.drawn before.next = subst (λ (i : Image). Stands i before.history before.drawn before.next) same w in
     let opened = plays before.history before.drawn before.next before.lost stands in
     let q = opened.0 in
@@ -107,7 +107,7 @@ lived-played image image' rows life report listed plays before w same =
       ended.0,
       ended.1,
       subst (λ (o : Opening). LifeAs before (asked_of life) o report.replies.items (report_of report).closed ended.0) (sym played.opening)
-          (q, played.states, opens, refl, refl, refl, lists, played.runs, ended.2),
+          (ap opening_fault same ∙ may, q, played.states, opens, refl, refl, refl, lists, played.runs, ended.2),
     )
 
 -- what the opened state's numbers say
@@ -118,17 +118,18 @@ opens-so q gate persisted dirty next gaps rows g p d n l = λ i. Opens (record {
 
 -- steps and an end make a life
 pub played-so : (q : State) (rows : List (Key × List ℕ)) (life : Life) (report : LifeReport) (image : Image) (failed : Bool) (P : State → Type 0)
-    → (report_of report).opening ≡ Opens (state_numbers q) q.next q.ruling.gaps rows
+    → q.failed ≡ false → (report_of report).opening ≡ Opens (state_numbers q) q.next q.ruling.gaps rows
     → HasObeyed q life.steps.items report.replies.items failed P
-    → ((q' : State) → P q' → HasEnded q' (life.close && not failed) (report_of report).closed image)
+    → ((q' : State) → P q' → MayAsk (life.close && not failed) q' → HasEnded q' (life.close && not failed) (report_of report).closed image)
     → HasPlayed q rows life report image
-played-so q rows life report image failed P opening obeyed ends =
+played-so q rows life report image failed P works opening obeyed ends =
     let last = final q obeyed.states in
+    let is : last.failed ≡ failed = obeyed.failure works in
     record {
       opening = opening;
       states = obeyed.states;
       runs = obeyed.runs;
-      ends = ends-as_asked last life.close failed (report_of report).closed image obeyed.failure (ends last obeyed.after_it);
+      ends = ends-as_asked last life.close failed (report_of report).closed image is (ends last obeyed.after_it (may-ask last life.close failed is));
     }
 
 -- ---- one life after another

@@ -19,7 +19,7 @@ use Rattle.recovery.proofs.Restarted.{image-restarted}
 use Rattle.room.specs.Closing.{IsClosingRefusal}
 use Rattle.lives.specs.declared.life.Numbers.{Numbers as ToldNumbers}
 use Rattle.lives.specs.Plain.{numbers_of, closed_of}
-use Rattle.lives.specs.Parts.{HasEnded, ruling_numbers}
+use Rattle.lives.specs.Parts.{HasEnded, MayAsk, ruling_numbers}
 
 -- ---- what a crash leaves now
 
@@ -71,28 +71,40 @@ none-some : (o : Option Fault) (fault : Fault) → o ≡ None → o ≡ Some fau
 none-some o fault n s = cc
 
 -- after a close that succeeded
-pub ends-closed : (q : State) (image : Image) (told : Result ToldNumbers Fault) → closing_fault q ≡ None → StandsClosed q image
+pub ends-closed : (q : State) (image : Image) (told : Result ToldNumbers Fault) → q.failed ≡ false → closing_fault q ≡ None → StandsClosed q image
     → IfOk told (λ numbers. numbers_of numbers ≡ ruling_numbers image) → IfErr told (λ fault. log_damage image ≡ Some fault)
     → HasEnded q true (closed_of (Some told)) image
-ends-closed q image (Ok numbers) may stands is found = λ lost.
+ends-closed q image (Ok numbers) works may stands is found = λ lost.
     let s = stopped q (closed q ∷ []) lost image (closed q, (0, omega arith, refl), stands) in
-    (s.0, s.1, (refl, may, is ∙ ap (λ (r : Record). record { gate = r.gate; persisted = r.persisted; dirty = r.dirty }) stands.ruled, s.2))
-ends-closed q image (Err fault) may stands is found = absurd (none-some (damage image) fault stands.stands.sound (log-first image fault found))
+    (s.0, s.1, (refl, works, may, is ∙ ap (λ (r : Record). record { gate = r.gate; persisted = r.persisted; dirty = r.dirty }) stands.ruled, s.2))
+ends-closed q image (Err fault) works may stands is found = absurd (none-some (damage image) fault stands.stands.sound (log-first image fault found))
 
 -- within a close that failed
-pub ends-refused : (q : State) (image : Image) (old new : Device) (fault : Fault) → IsClosingRefusal q old new fault
+pub ends-refused : (q : State) (image : Image) (old new : Device) (fault : Fault) → q.failed ≡ false → IsClosingRefusal q old new fault
     → (new ≡ old → StandsAt q image) → StandsClosing q image → HasEnded q true (Some (Err fault)) image
-ends-refused q image old new fault (inl (because, same)) at within = λ lost.
-    let s = stopped q (covers_at q) lost image (at same) in (s.0, s.1, (refl, inl (because, s.2)))
-ends-refused q image old new fault (inr (none, is, failed)) at within = λ lost.
-    let s = stopped q (covers_closing q) lost image within in (s.0, s.1, (refl, inr (none, is, s.2)))
+ends-refused q image old new fault works (inl (because, same)) at within = λ lost.
+    let s = stopped q (covers_at q) lost image (at same) in (s.0, s.1, (refl, works, inl (because, s.2)))
+ends-refused q image old new fault works (inr (none, is, failed)) at within = λ lost.
+    let s = stopped q (covers_closing q) lost image within in (s.0, s.1, (refl, works, inr (none, is, s.2)))
+
+-- so a close may be asked
+pub may-ask : (q : State) (close failed : Bool) → q.failed ≡ failed → MayAsk (close && not failed) q
+may-ask q close false is asked = is
+may-ask q false true is asked = absurd (false_asks asked)
+  where
+    false_asks : false ≡ true → ⊥
+    false_asks e = cc
+may-ask q true true is asked = absurd (false_asks asked)
+  where
+    false_asks : false ≡ true → ⊥
+    false_asks e = cc
 
 -- after a failing device no close is asked
-pub ends-as_asked : (q : State) (close failed : Bool) (told : Option (Result Numbers Fault)) (image : Image) → (failed ≡ true → q.failed ≡ true)
+pub ends-as_asked : (q : State) (close failed : Bool) (told : Option (Result Numbers Fault)) (image : Image) → q.failed ≡ failed
     → HasEnded q (close && not failed) told image → HasEnded q close told image
 ends-as_asked q false failed told image because ended = ended
 ends-as_asked q true false told image because ended = ended
-ends-as_asked q true true None image because ended = λ lost. let e = ended lost in (e.0, e.1, (because refl, e.2.1))
+ends-as_asked q true true None image because ended = λ lost. let e = ended lost in (e.0, e.1, (because, e.2.1))
 ends-as_asked q true true (Some (Ok numbers)) image because ended = λ lost. absurd (no_way (ended lost).2.0)
   where
     no_way : IsTrue false → ⊥

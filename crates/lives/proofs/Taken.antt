@@ -1,24 +1,12 @@
 -- Steps one after another, up to the first in which the device fails.
-use Rattle.std.proofs.Common.{◌≡◌, Bool, true, false, List, [], ◌∷◌, ◌++◌, refl, sym, ◌∙◌, ap, subst, append-nil, append_assoc, inl, inr}
+use Rattle.std.proofs.Common.{◌≡◌, true, false, List, [], ◌∷◌, ◌++◌, refl, sym, ◌∙◌, ap, subst, append-nil, append_assoc, inl, inr}
 use Rattle.base.specs.declared.step.Step.{Step}
 use Rattle.base.specs.declared.step.Reply.{Reply}
-use Rattle.base.specs.Machine.{State, Stepped, refused, answered, memory_refused, device_failed, final}
+use Rattle.base.specs.Machine.{State, Stepped, final}
 use Rattle.base.specs.Lives.{RunsUp, is_failure}
-use Rattle.base.proofs.Failures.{refusal-quiet, answer-quiet}
-use Rattle.base.proofs.Runs.{Answers-answer, final-append}
+use Rattle.base.proofs.Failures.{failed-after}
+use Rattle.base.proofs.Runs.{final-append}
 use Rattle.lives.specs.Parts.{HasObeyed}
-
--- ---- a reply that tells of a failing device
-
-no_both : (b : Bool) → b ≡ false → b ≡ true → ⊥
-no_both b n y = cc
-
--- after such a reply the device has failed
-pub failed-then : (q : State) (step : Step) (reply : Reply) (q' : State) → Stepped q step reply q' → is_failure reply ≡ true → q'.failed ≡ true
-failed-then q step reply q' (refused fault e r s) told = absurd (no_both _ (ap is_failure r ∙ refusal-quiet q step fault e) told)
-failed-then q step reply q' (answered e a s) told = absurd (no_both _ (answer-quiet reply (Answers-answer q step reply a)) told)
-failed-then q step reply q' (memory_refused e m r s) told = absurd (no_both _ (ap is_failure r) told)
-failed-then q step reply q' (device_failed e m r s) told = ap (λ (x : State). x.failed) s
 
 -- ---- some of the steps
 
@@ -27,9 +15,10 @@ pub record SoFar (q : State) (steps : List Step) (replies : List Reply) (P : Sta
   pub states : List State
   pub goes_on : (more : List Step) (later : List Reply) (on : List State) → RunsUp (final q states) more later on → RunsUp q (steps ++ more) (replies ++ later) (states ++ on)
   pub after_it : P (final q states)
+  pub works : q.failed ≡ false → (final q states).failed ≡ false
 
 pub so-far-none : (q : State) (P : State → Type 0) → P q → SoFar q [] [] P
-so-far-none q P p = record { states = []; goes_on = λ more later on runs. runs; after_it = p }
+so-far-none q P p = record { states = []; goes_on = λ more later on runs. runs; after_it = p; works = λ works. works }
 
 -- a step from any state of which the first holds
 abbrev pub Steps : (State → Type 0) → Step → Reply → (State → Type 0) → Type 0
@@ -50,6 +39,7 @@ so-far-more q steps replies P P' step reply works so_far one =
           (subst (λ (x : List Reply). RunsUp q ((steps ++ step ∷ []) ++ more) x (so_far.states ++ q' ∷ on)) (sym (append_assoc replies (reply ∷ []) later))
           (subst (λ (x : List Step). RunsUp q x (replies ++ reply ∷ later) (so_far.states ++ q' ∷ on)) (sym (append_assoc steps (step ∷ []) more)) whole));
       after_it = subst P' (sym ends) took.2;
+      works = λ began. ap (λ (x : State). x.failed) ends ∙ failed-after (final q so_far.states) step reply q' took.1 (so_far.works began) ∙ works;
     }
 
 -- all steps are taken
@@ -60,7 +50,7 @@ obeyed-all q steps replies P so_far = record {
       (subst (λ (x : List Reply). RunsUp q steps x (so_far.states ++ [])) (append-nil replies)
       (subst (λ (x : List Step). RunsUp q x (replies ++ []) (so_far.states ++ [])) (append-nil steps) (so_far.goes_on [] [] [] tt)));
   after_it = so_far.after_it;
-  failure = λ failed. absurd (no_both false refl failed);
+  failure = so_far.works;
 }
 
 -- the next one is the first in which the device fails
@@ -74,5 +64,5 @@ obeyed-failed q steps replies P P' step reply unread fails so_far one =
       states = so_far.states ++ q' ∷ [];
       runs = so_far.goes_on (step ∷ unread) (reply ∷ []) (q' ∷ []) (took.1, inl (fails, refl, refl));
       after_it = subst P' (sym ends) took.2;
-      failure = λ failed. ap (λ (x : State). x.failed) ends ∙ failed-then (final q so_far.states) step reply q' took.1 fails;
+      failure = λ began. ap (λ (x : State). x.failed) ends ∙ failed-after (final q so_far.states) step reply q' took.1 (so_far.works began) ∙ fails;
     }

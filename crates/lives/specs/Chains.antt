@@ -3,7 +3,7 @@ use Rattle.std.specs.Prelude.{List, [], map, flat_map, IsTrue, All}
 use Rattle.base.specs.Fresh.{fresh_image}
 use Rattle.base.specs.Layout.{Layout}
 use Rattle.base.specs.Stands.{has_timestamp}
-use Rattle.base.specs.Lives.{World, IsWorld, Report, Lives}
+use Rattle.base.specs.Lives.{World, IsWorld, Asked, Report, Lives}
 use Rattle.base.specs.Laws.{LivesAdd, RiseBetween, StayOut, acknowledged_in, drawn_over}
 use Rattle.lives.specs.declared.life.Life.{Life}
 use Rattle.lives.specs.declared.life.LifeReport.{LifeReport}
@@ -15,11 +15,11 @@ abbrev pub fresh_world : Layout → World
 fresh_world layout = record { image = fresh_image layout; history = []; drawn = []; next = 1; lost = [] }
 
 -- What holds of such lives from a fresh image on, wherever each was stopped: the image that the last one left stands for a
--- history, to which each life added a beginning of what it drew, in log order; it has every commit that was acknowledged,
--- none that a stop has left out, and no timestamp was drawn twice
-pub record Keeps (layout : Layout) (reports : List Report) (last : World) : Type 0 where
+-- history, to which each life added a beginning of what it drew, in log order and as it was written; it has every commit that
+-- was acknowledged, none that a stop has left out, and no timestamp was drawn twice
+pub record Keeps (layout : Layout) (asked : List Asked) (reports : List Report) (last : World) : Type 0 where
   pub stands : IsWorld last
-  pub adds : LivesAdd (fresh_world layout) reports last
+  pub adds : LivesAdd (fresh_world layout) asked reports last
   pub acknowledged : All (λ t. IsTrue (has_timestamp last.history t)) (flat_map acknowledged_in reports)
   pub left_out : StayOut last
   pub once : RiseBetween 1 (drawn_over reports) last.next
@@ -30,4 +30,4 @@ pub record AreLives (layout : Layout) (lives : List Life) (reports : List LifeRe
   pub last : World
   pub chain : Lives (fresh_world layout) (map asked_of lives) (map report_of reports) last
   pub stopped : AreStopped (fresh_world layout) lives reports last
-  pub keeps : Keeps layout (map report_of reports) last
+  pub keeps : Keeps layout (map asked_of lives) (map report_of reports) last

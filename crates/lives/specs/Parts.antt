@@ -1,5 +1,5 @@
 -- What the parts of a life come to.
-use Rattle.std.specs.Prelude.{◌≡◌, ℕ, Bool, true, List, Option, Result}
+use Rattle.std.specs.Prelude.{◌≡◌, ℕ, Bool, true, false, List, Option, Result}
 use Rattle.base.specs.declared.fault.Fault.{Fault}
 use Rattle.base.specs.declared.key.Key.{Key}
 use Rattle.base.specs.declared.step.Step.{Step}
@@ -15,16 +15,21 @@ use Rattle.lives.specs.declared.life.LifeReport.{LifeReport}
 abbrev pub ruling_numbers : Image → Numbers
 ruling_numbers image = record { gate = (ruling image).gate; persisted = (ruling image).persisted; dirty = (ruling image).dirty }
 
--- from the state the steps have these replies, up to the first in which the device fails, and this holds of the state after them
+-- from the state the steps have these replies, up to the first in which the device fails, and this holds of the state after
+-- them; the device has failed in that state just where one of them did so
 pub record HasObeyed (q : State) (steps : List Step) (replies : List Reply) (failed : Bool) (P : State → Type 0) : Type 0 where
   pub states : List State
   pub runs : RunsUp q steps replies states
   pub after_it : P (final q states)
-  pub failure : failed ≡ true → (final q states).failed ≡ true
+  pub failure : q.failed ≡ false → (final q states).failed ≡ failed
 
 -- a life ends in the state, and leaves this image: without a close, after one that succeeded, or within one that failed
 abbrev pub HasEnded : State → Bool → Option (Result Numbers Fault) → Image → Type 0
 HasEnded q closes closed image = (lost : List ℕ) → (after : World) × (after.image ≡ image) × EndsAs q closes closed lost after
+
+-- a close is asked in this state only where the device hasn't failed
+abbrev pub MayAsk : Bool → State → Type 0
+MayAsk closes q = closes ≡ true → q.failed ≡ false
 
 -- a life goes on from the opened state, and its opening had these rows
 pub record HasPlayed (q : State) (rows : List (Key × List ℕ)) (life : Life) (report : LifeReport) (image : Image) : Type 0 where

@@ -1,4 +1,4 @@
-ghost use Rattle.std.specs.Prelude.{◌≡◌, IfOk, IfErr};
+ghost use Rattle.std.specs.Prelude.{◌≡◌, false, IfOk, IfErr};
 ghost use Rattle.base.specs.declared.fault.Fault.TheVariants.{OutOfMemory};
 ghost use Rattle.base.specs.Machine.{State};
 ghost use Rattle.pmem.specs.Words.{IsAtRest, image_of};
@@ -80,7 +80,7 @@ fn play(
     rows: Vec<(Key, Row)>,
     life: &Life,
 ) -> Result<(LifeReport, SimPmem), Fault>
-    ensures ok { IfOk result (λ played. (q : State) → Shows device_of room q → HasPlayed q rows.items life.now played.0 (image_of (device_of played.1))) }
+    ensures ok { IfOk result (λ played. (q : State) → Shows device_of room q → q.failed ≡ false → HasPlayed q rows.items life.now played.0 (image_of (device_of played.1))) }
     ensures stopped { IfOk result (λ played. (q : State) → Shows device_of room q
         → StopsBy life.now.choice (device_in device_of room) (ReportsDevice played.0) (image_of (device_of played.1))) }
     ensures rests { IfOk result (λ played. IsRestarted (device_of played.1)) }

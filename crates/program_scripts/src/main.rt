@@ -1,23 +1,27 @@
 //! A program that obeys scripts of what `wbl` is asked to do with one file, and prints what comes of it. A command
-//! begins with `$`, and the lines after it are its input. The file of `$ wbl` is kept in memory, and that of `$ program`
-//! lies where this program runs.
+//! begins with `$`, and the lines after it are its input. Of `torn wbl` the input fails after these lines, and of
+//! `short N wbl` the output after so many bytes. The file of `wbl` is kept in memory, and those of `program` lie where
+//! this program runs.
 #![tactic(auto)]
 
+mod failing;
 mod image;
 mod whole;
 
+use crate::failing::{Short, Torn};
+use crate::image::{print_words, set_words};
+use crate::whole::{ask_program, run_program};
 use anyhow::Error;
-use command_line::orders::{Order, WordFault};
+use command_line::orders::WordFault;
 use command_line::words::order;
-use console::ended::Ended;
 use console::execute::execute;
-use image::{print_words, set_words};
+use console::stop::Stop;
 use std::alloc::Global;
+use std::io::{Read, Write};
 use std::rt::Files;
 use std::sync::Wait;
 use std::thread::Threads;
 use std::{env, fs, io};
-use whole::{ask_program, run_program};
 
 fn main(rt: HostRuntime) -> Result<(), Error> {
     let alloc = rt.alloc();
@@ -55,10 +59,20 @@ fn obey<H: Files + Print + Threads + Wait + Copy + Drop + Send + Sync + 'static>
         ["save", name] => Ok(fs::write(rt, *name, file.as_slice())?),
         ["program", words @ ..] => run_program(rt, alloc, words, input),
         ["ask", words @ ..] => ask_program(rt, alloc, words, input),
-        ["wbl", words @ ..] => match order(alloc, words) {
-            Ok(order) => execute_order(rt, alloc, &order, input, file),
-            Err(fault) => tell(rt, fault),
-        },
+        ["wbl", words @ ..] => {
+            let mut input = input.as_bytes();
+            execute_words(rt, alloc, words, &mut input, &mut io::writer(rt), file)
+        }
+        ["torn", "wbl", words @ ..] => {
+            let rest = input.as_bytes();
+            let mut input = Torn { rest };
+            execute_words(rt, alloc, words, &mut input, &mut io::writer(rt), file)
+        }
+        ["short", bytes, "wbl", words @ ..] => {
+            let left = bytes.parse::<usize>()?;
+            let mut output = Short { left };
+            execute_words(rt, alloc, words, &mut input.as_bytes(), &mut output, file)
+        }
         _ => Ok(println!(rt; "not a command")?),
     }
 }
@@ -71,31 +85,31 @@ fn add_text(file: &mut Vec<u8>, input: &str, times: &str) -> Result<(), Error> {
     Ok(())
 }
 
-// Does the work of a subcommand, and tells how it ended where it didn't end well.
-fn execute_order<H: Print + Threads + Wait + Copy + Drop + Send + Sync + 'static>(
+// Does what the words after the program's name ask for, and tells how it ended where it didn't end well.
+fn execute_words<
+    H: Print + Threads + Wait + Copy + Drop + Send + Sync + 'static,
+    R: Read,
+    W: Write,
+>(
     rt: &H,
     alloc: Global,
-    order: &Order,
-    input: &str,
+    words: &[&str],
+    input: &mut R,
+    output: &mut W,
     file: &mut Vec<u8>,
 ) -> Result<(), Error> {
-    let Ended {
-        status,
-        file: left,
-        ..
-    } = execute(
-        rt,
-        alloc,
-        order,
-        file.as_slice(),
-        &mut input.as_bytes(),
-        &mut io::writer(rt),
-    );
-    if let Some(left) = left {
+    let ended = match order(alloc, words) {
+        Ok(order) => execute(rt, alloc, &order, file.as_slice(), input, output),
+        Err(fault) => return tell(rt, fault),
+    };
+    if let Some(left) = ended.file {
         *file = left;
     }
-    if status != 0 {
-        println!(rt; "status {status}")?;
+    if ended.status != 0 {
+        println!(rt; "status {}", ended.status)?;
+    }
+    if let Some(Stop::Broken(reason)) = ended.stopped {
+        println!(rt; "broken: {reason}")?;
     }
     Ok(())
 }

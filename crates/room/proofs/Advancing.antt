@@ -319,6 +319,7 @@ module _ (s : Sessions) (cycle : Cycling) (before : Device) (orderly : IsOrderly
               failure = record { no_fewer = omega (arith, ticks.no_failure); cause = λ told. absurd (cc told); shown = λ more. absurd (omega (arith, more, ticks.no_failure)) };
               operations = ticks.operations;
               actor = runs;
+              declined = λ fault other told. absurd (cc told);
             },
           )
 
@@ -399,6 +400,7 @@ module _ (s : Sessions) (cycle : Cycling) (before : Device) (orderly : IsOrderly
             failure = record { no_fewer = omega (arith, covering.no_failure); cause = λ told. absurd (cc (is, told)); shown = λ more. absurd (omega (arith, more, covering.no_failure)) };
             operations = covering.operations;
             actor = runs;
+            declined = λ fault other told. absurd (cc (is, told));
           },
         )
 
@@ -424,5 +426,6 @@ module _ (s : Sessions) (cycle : Cycling) (before : Device) (orderly : IsOrderly
         failure = record { no_fewer = omega (arith, failing.failure); cause = λ told. omega (arith, failing.failure); shown = λ more. ap (λ (f : Fault). let r : Reply = Refused f in r) is };
         operations = failing.operations;
         actor = record { operations = failure ∷ []; made = fails; by_actor = refl };
+        declined = λ told other is_told. absurd (other (let same : fault ≡ told = cc is_told in sym same ∙ is));
       },
     )

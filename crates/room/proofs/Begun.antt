@@ -43,7 +43,7 @@ use Rattle.room.specs.Committing.{HoldsCycle, Shows as CommitterShows}
 use Rattle.room.specs.Steps.{ShowsAs}
 use Rattle.room.specs.Opening.{HasBegun}
 use Rattle.room.specs.Room.{Shows}
-use Rattle.room.proofs.Rooms.{shown-stands}
+use Rattle.room.proofs.Rooms.{shown-stands, shown-clear}
 
 above-log : (a : Layout) (slot w : ℕ) → 8 + 32 * a.places ≤ word_of a slot w
 above-log a slot w = at (slot_words a.version)
@@ -241,5 +241,5 @@ opened-shows state old room begun works history drawn before lost stands =
     let shown = begun-shows old (state room.device) room.committer begun history drawn before lost stands in (
       shown.0,
       shown.1,
-      record { stands = shown-stands room.committer (state room.device) shown.0 shown.2; agrees = record { shown = shown.2; failed = shown.3 ∙ sym works } },
+      record { stands = shown-stands room.committer (state room.device) shown.0 shown.2; swept = shown-clear room.committer (state room.device) shown.0 shown.2; agrees = record { shown = shown.2; failed = shown.3 ∙ sym works } },
     )

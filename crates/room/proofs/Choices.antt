@@ -66,6 +66,7 @@ quietly o q q' reply device sessions cycle ticks shows untold = record {
   failure = record { no_fewer = omega arith; cause = λ told. absurd (untold told); shown = λ more. absurd (omega (arith, more)) };
   operations = omega arith;
   actor = record { operations = []; made = refl; by_actor = refl };
+  declined = λ fault other told. refl;
 }
 
 module _ (s : Sessions) (device : Device) (orderly : IsOrderly device) (q : State) (shows : ShowsIn s None device q) (works : q.failed ≡ false) where

@@ -1,29 +1,47 @@
 -- What a step makes of a room, from what it makes of its committer.
-use Rattle.std.proofs.Common.{◌≡◌, Bool, true, false, [], refl, sym, ◌∙◌, subst, arith}
+use Rattle.std.proofs.Common.{◌≡◌, inl, inr, ℕ, Bool, true, false, [], refl, sym, ◌∙◌, subst, arith}
+use Rattle.std.specs.Prelude.{Option, Some, None, slice_index}
 use Rattle.std.proofs.Math.Logic.{∥∥₁_map}
 use Rattle.base.specs.declared.fault.Fault.TheVariants.{Failed, Device as DeviceFault}
 use Rattle.base.specs.declared.step.Step.{Step}
 use Rattle.base.specs.declared.step.Reply.{Reply}
 use Rattle.base.specs.declared.step.Reply.TheVariants.{Refused}
 use Rattle.base.specs.Images.{Image}
+use Rattle.base.specs.Layout.{total_words}
 use Rattle.base.specs.Lives.{is_failure}
-use Rattle.base.specs.Machine.{State, refused, StandsAt, StandsWithin}
+use Rattle.base.specs.Machine.{State, Hand, refused, StandsAt, StandsWithin}
 use Rattle.base.proofs.Failures.{failed-after, failed-refuses}
 use Rattle.base.proofs.Runs.{StandsAt-within}
 use Rattle.pmem.specs.Device.{Device, IsOrderly, MayLeave}
 use Rattle.pmem.specs.declared.device.Pmem.{Ghosts}
 use Rattle.pmem.proofs.Images.{leaves_refl}
+use Rattle.state_invariant.specs.Shown.{word_of}
+use Rattle.device_invariant.specs.Log.{HoldsHand as LogHoldsHand}
+use Rattle.device_invariant.proofs.Words.{slots-survive, within-slot}
 use Rattle.device_invariant.proofs.Upheld.{every-image-stands}
 use Rattle.session_steps.specs.Shows.{ShowsAny}
 use Rattle.room.specs.declared.committer.Committer.{Committer}
 use Rattle.room.specs.declared.room.Room.{Room}
 use Rattle.room.specs.Committing.{Shows as CommitterShows}
 use Rattle.room.specs.Steps.{Steps, ShowsSome, ShowsAs}
-use Rattle.room.specs.Room.{Shows, StepsTo}
+use Rattle.room.specs.Room.{Shows, StepsTo, IsClear}
 
 -- what a committer shows stands in each image that its device may leave
 pub shown-stands : (c : Committer) (device : Device) (q : State) → CommitterShows c device q → (image : Image) → MayLeave device image → StandsAt q image
 shown-stands c device q shows image left = every-image-stands shows.shown.hidden.origin q device image shows.shown.upholds left
+
+-- the device has the words of the layout
+words-of : (q : State) (device : Device) (hand : Option Hand) → LogHoldsHand q device hand → device.words ≡ total_words q.layout
+words-of q device None holds = holds.stands.size
+words-of q device (Some hand) (inl flushing) = flushing.follows.holds.stands.size
+words-of q device (Some hand) (inr recording) = recording.replaces.stands.size
+
+-- and once the gaps are swept it is clear of them
+pub shown-clear : (c : Committer) (device : Device) (q : State) → CommitterShows c device q → q.swept ≡ true → (image : Image) → MayLeave device image → IsClear q image
+shown-clear c device q shows swept image left slot w lt two =
+    let holds = shows.shown.upholds.holds in
+    let survives = (slots-survive {a = q.layout} {device = device} (words-of q device q.hand holds.log) left).each slot w lt (within-slot q.layout.version w (omega (arith, two))) in
+    (holds.sweeping.over swept slot w lt two).each (slice_index image (word_of q.layout slot w)) survives
 
 module _ {D : Type 0} {G : Ghosts D} (state : D → Device) where
   -- a room whose device doesn't fail steps as its committer does
@@ -38,12 +56,14 @@ module _ {D : Type 0} {G : Ghosts D} (state : D → Device) where
           stepped = one.1.stepped;
           shows = record {
             stands = shown-stands new.committer (state new.device) one.0 one.1.shows;
+            swept = shown-clear new.committer (state new.device) one.0 one.1.shows;
             agrees = record { shown = one.1.shows; failed = failed-after q step reply one.0 one.1.stepped here ∙ sym tells };
           };
           images = one.1.images;
           failure = one.1.failure;
           operations = one.1.operations;
           actor = one.1.actor;
+          declined = one.1.declined;
         },
       )
 
@@ -58,6 +78,7 @@ module _ {D : Type 0} {G : Ghosts D} (state : D → Device) where
       failure = record { no_fewer = omega arith; cause = λ told. absurd (apart told); shown = λ more. absurd (omega (arith, more)) };
       operations = omega arith;
       actor = record { operations = []; made = refl; by_actor = refl };
+      declined = λ fault other told. refl;
     },
   )
     where

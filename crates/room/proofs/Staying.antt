@@ -158,17 +158,17 @@ shows-after old new cycle before now step reply q q' no_tick shows stepped shown
 
 -- ---- a session's step
 
-told-back : (r : SessionReply) → as_reply r ≡ reply.Refused DeviceFault → r ≡ Refused DeviceFault
-told-back (Began n) is = absurd (cc is)
-told-back (Row row) is = absurd (cc is)
-told-back (Rows rows) is = absurd (cc is)
-told-back Done is = absurd (cc is)
-told-back (DrewAs t) is = absurd (cc is)
-told-back More is = absurd (cc is)
-told-back Stamped is = absurd (cc is)
-told-back Waiting is = absurd (cc is)
-told-back (Committed t) is = absurd (cc is)
-told-back (Refused fault) is = let same : fault ≡ DeviceFault = cc is in ap (λ (f : Fault). let r : SessionReply = Refused f in r) same
+told-back : (r : SessionReply) (told : Fault) → as_reply r ≡ reply.Refused told → r ≡ Refused told
+told-back (Began n) told is = absurd (cc is)
+told-back (Row row) told is = absurd (cc is)
+told-back (Rows rows) told is = absurd (cc is)
+told-back Done told is = absurd (cc is)
+told-back (DrewAs t) told is = absurd (cc is)
+told-back More told is = absurd (cc is)
+told-back Stamped told is = absurd (cc is)
+told-back Waiting told is = absurd (cc is)
+told-back (Committed t) told is = absurd (cc is)
+told-back (Refused fault) told is = let same : fault ≡ told = cc is in ap (λ (f : Fault). let r : SessionReply = Refused f in r) same
 
 no-tick : (s : SessionStep) → is_no_tick (as_step s) ≡ true
 no-tick session.Begin = refl
@@ -203,9 +203,10 @@ session-steps old new cycle before now s r steps q shows works =
         stepped = went.1.stepped;
         shows = shows-after old new cycle before now (as_step s) (as_reply r) q went.0 (no-tick s) shows went.1.stepped went.1.shows went.1.drawers;
         images = went.1.images;
-        failure = record { no_fewer = went.1.failure.no_fewer; cause = λ told. went.1.failure.cause (told-back r told); shown = λ more. ap as_reply (went.1.failure.shown more) };
+        failure = record { no_fewer = went.1.failure.no_fewer; cause = λ told. went.1.failure.cause (told-back r DeviceFault told); shown = λ more. ap as_reply (went.1.failure.shown more) };
         operations = went.1.operations;
         actor = subst (λ (a : Option ℕ). RunsBy a before now) (its-actor s) went.1.actor;
+        declined = λ fault other told. went.1.declined fault other (told-back r fault told);
       },
     )
 
@@ -218,10 +219,10 @@ steps-named old new before now s step r reply is told steps = λ q shows works.
 
 -- ---- a visit of the collector
 
-visit-told-back : (r : Result Visit Fault) → visit.as_reply r ≡ reply.Refused DeviceFault → r ≡ Err DeviceFault
-visit-told-back (Ok (Slot slot)) is = absurd (cc is)
-visit-told-back (Ok SweepEnd) is = absurd (cc is)
-visit-told-back (Err fault) is = let same : fault ≡ DeviceFault = cc is in ap (λ (f : Fault). let r : Result Visit Fault = Err f in r) same
+visit-told-back : (r : Result Visit Fault) (told : Fault) → visit.as_reply r ≡ reply.Refused told → r ≡ Err told
+visit-told-back (Ok (Slot slot)) told is = absurd (cc is)
+visit-told-back (Ok SweepEnd) told is = absurd (cc is)
+visit-told-back (Err fault) told is = let same : fault ≡ told = cc is in ap (λ (f : Fault). let r : Result Visit Fault = Err f in r) same
 
 visit-steps : (old new : Sessions) (cycle : Option Cycling) (before now : Device) (r : Result Visit Fault) → Collects old new before now r
     → (q : State) → ShowsIn old cycle before q → q.failed ≡ false → (q' : State) × StepsToIn new cycle before now Collect (visit.as_reply r) q q'
@@ -232,9 +233,10 @@ visit-steps old new cycle before now r steps q shows works =
         stepped = went.1.stepped;
         shows = shows-after old new cycle before now Collect (visit.as_reply r) q went.0 refl shows went.1.stepped went.1.shows went.1.drawers;
         images = went.1.images;
-        failure = record { no_fewer = went.1.failure.no_fewer; cause = λ told. went.1.failure.cause (visit-told-back r told); shown = λ more. ap visit.as_reply (went.1.failure.shown more) };
+        failure = record { no_fewer = went.1.failure.no_fewer; cause = λ told. went.1.failure.cause (visit-told-back r DeviceFault told); shown = λ more. ap visit.as_reply (went.1.failure.shown more) };
         operations = went.1.operations;
         actor = went.1.actor;
+        declined = λ fault other told. went.1.declined fault other (visit-told-back r fault told);
       },
     )
 

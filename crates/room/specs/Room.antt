@@ -1,15 +1,17 @@
 -- Which plain states a room shows.
-use Rattle.std.specs.Prelude.{◌≡◌, ◌+◌, ◌≤◌, List, Contains}
+use Rattle.std.specs.Prelude.{◌≡◌, ℕ, ◌+◌, ◌≤◌, ◌<◌, true, false, slice_index, List, Contains}
 use Rattle.base.specs.declared.fault.Fault.TheVariants.{Device as DeviceFault}
 use Rattle.base.specs.declared.step.Step.{Step}
 use Rattle.base.specs.declared.step.Reply.{Reply}
 use Rattle.base.specs.declared.step.Reply.TheVariants.{Refused}
+use Rattle.base.specs.Layout.{slot_start}
+use Rattle.base.specs.Records.{is_in}
 use Rattle.base.specs.Images.{Image}
 use Rattle.base.specs.Machine.{State, Stepped, most_operations, most_operations_along, Run, final, StandsAt, StandsWithin, StandsAlong}
 use Rattle.pmem.specs.Device.{Device, MayLeave}
 use Rattle.pmem.specs.Words.{LeavesOnly, operations_of}
 use Rattle.pmem.specs.declared.device.Pmem.{Ghosts}
-use Rattle.session_steps.specs.Steps.{TellsFailure, RunsBy}
+use Rattle.session_steps.specs.Steps.{TellsFailure, Declines, RunsBy}
 use Rattle.room.specs.Committing.{Shows as CommitterShows}
 use Rattle.room.specs.Steps.{actor_of}
 use Rattle.room.specs.declared.room.Room.{Room}
@@ -24,13 +26,20 @@ pub record Agrees {D : Type 0} {G : Ghosts D} (state : D → Device) (room : Roo
   pub shown : CommitterShows room.committer (device_of state room) q
   pub failed : q.failed ≡ room.failed
 
+-- no begin and no end of a slot lies in a gap of the state's record
+abbrev pub IsClear : State → Image → Type 0
+IsClear q image = (slot w : ℕ) → slot < q.layout.slots → w < 2 → is_in q.ruling.gaps (slice_index image (slot_start q.layout slot + w)) ≡ false
+
 -- The room shows the state: a crash now leaves only images that the state's record rules, or that
--- of the batch in hand, and that stand for what it covers; and the fields agree with it
+-- of the batch in hand, and that stand for what it covers, and once the gaps are swept only such as are clear of them; and
+-- the fields agree with it
 pub record Shows {D : Type 0} {G : Ghosts D} (state : D → Device) (room : Room D G) (q : State) : Type 0 where
   pub stands : (image : Image) → MayLeave (device_of state room) image → StandsAt q image
+  pub swept : q.swept ≡ true → (image : Image) → MayLeave (device_of state room) image → IsClear q image
   pub agrees : Agrees state room q
 
--- the step leads from q to q', which the room shows then
+-- The step leads from q to q', which the room shows then. Where it is refused for another reason than a failing device, want of
+-- memory among them, nothing was done to the device
 pub record StepsTo {D : Type 0} {G : Ghosts D} (state : D → Device) (old new : Room D G) (step : Step) (reply : Reply) (q q' : State) : Type 0 where
   pub stepped : Stepped q step reply q'
   pub shows : Shows state new q'
@@ -38,6 +47,7 @@ pub record StepsTo {D : Type 0} {G : Ghosts D} (state : D → Device) (old new :
   pub failure : TellsFailure (device_of state old) (device_of state new) (reply ≡ Refused DeviceFault)
   pub operations : operations_of (device_of state new) ≤ operations_of (device_of state old) + most_operations q step
   pub actor : RunsBy (actor_of step) (device_of state old) (device_of state new)
+  pub declined : Declines (device_of state old) (device_of state new) (λ fault. reply ≡ Refused fault)
 
 -- the steps lead from q through these states, of which the room shows the last
 pub record RunsTo {D : Type 0} {G : Ghosts D} (state : D → Device) (old new : Room D G) (steps : List Step) (replies : List Reply) (q : State) (states : List State) : Type 0 where

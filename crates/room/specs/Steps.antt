@@ -11,7 +11,7 @@ use Rattle.pmem.specs.Device.{Device}
 use Rattle.pmem.specs.Words.{LeavesOnly, operations_of}
 use Rattle.group_commit.specs.Cycles.{Cycling}
 use Rattle.session_steps.specs.declared.sessions.Sessions.{Sessions}
-use Rattle.session_steps.specs.Steps.{TellsFailure, RunsBy}
+use Rattle.session_steps.specs.Steps.{TellsFailure, Declines, RunsBy}
 use Rattle.room.specs.declared.committer.Committer.{Committer}
 use Rattle.room.specs.Committing.{ShowsIn}
 
@@ -29,6 +29,7 @@ pub record StepsToIn (sessions : Sessions) (cycle : Option Cycling) (before now 
   pub failure : TellsFailure before now (reply ≡ Refused DeviceFault)
   pub operations : operations_of now ≤ operations_of before + most_operations q step
   pub actor : RunsBy (actor_of step) before now
+  pub declined : Declines before now (λ fault. reply ≡ Refused fault)
 
 abbrev pub StepsTo : Committer → Device → Device → Step → Reply → State → State → Type 0
 StepsTo new before now step reply q q' = StepsToIn new.sessions new.cycle before now step reply q q'

@@ -202,6 +202,7 @@ module _ (s : Sessions) (h : Hidden) (n : ℕ) (snapshot : Seen) (writes : List 
           failure = let same = counts.failed in record { no_fewer = omega (arith, same); cause = λ told. absurd (cc told); shown = λ more. absurd (omega (arith, same, more)) };
           operations = counts.operations;
           actor = record { operations = put_operations q n n slot v; made = run.made; by_actor = by-actor };
+          declined = λ fault other told. absurd (cc told);
           drawers = same-drawers s.drawn.commits;
         }
 
@@ -221,6 +222,7 @@ module _ (s : Sessions) (h : Hidden) (n : ℕ) (snapshot : Seen) (writes : List 
         failure = let more = counts.failed in record { no_fewer = omega (arith, more); cause = λ told. omega (arith, more); shown = λ less. ap (λ (f : Fault). Refused f) is };
         operations = counts.operations;
         actor = record { operations = take stops.0 (put_operations q n n slot v) ++ failure ∷ []; made = stops.2.made; by_actor = take-only n (put_operations q n n slot v) stops.0 by-actor };
+        declined = λ told other is_told. absurd (other (let same : fault ≡ told = cc is_told in sym same ∙ is));
         drawers = same-drawers s.drawn.commits;
       }
 

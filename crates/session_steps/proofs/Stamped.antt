@@ -281,7 +281,7 @@ module _ (s : Sessions) (h : Hidden) (n : ℕ) (next : Unstamped) (before now : 
       (λ i. record q { drawn = counted-is next.timestamp s.drawn.commits holds.upholds.keeps.draws.counted (whole-at s h next.timestamp is_next.commit held is_next.at ∙ ap not left) i })
       ∙ ap (λ (u : ℕ). let q' : State = record q { drawn = map (counted u) q.drawn } in q') (sym stamp-time)
 
-  goes-stamped : (spare : ℕ) (r : SessionReply) → as_reply r ≡ cond next.is_last reply.Stamped reply.More → (r ≡ Refused DeviceFault → ⊥) → Runs (stamp_operations q next.write.slot ended next.timestamp) before now
+  goes-stamped : (spare : ℕ) (r : SessionReply) → as_reply r ≡ cond next.is_last reply.Stamped reply.More → ((fault : Fault) → r ≡ Refused fault → ⊥) → Runs (stamp_operations q next.write.slot ended next.timestamp) before now
       → GoesOn s (record s { drawn = record { commits = map (with_stamp next.timestamp) s.drawn.commits; spare = spare } }) before now (Stamp n) r h
   goes-stamped spare r replied untold run =
       let leads = stamps-lead.stored h.origin q n next.write.key next.write.row next.write.slot ended before now allowed deals own-by ended-slot (as-run (timestamp_of (q.sessions n)) run stamp-time) holds.upholds in
@@ -293,21 +293,22 @@ module _ (s : Sessions) (h : Hidden) (n : ℕ) (next : Unstamped) (before now : 
         upholds = subst (λ (p : State). Upholds h.origin p now) (sym (then-is spare)) leads.upholds;
         agrees = agrees-stamped s h next.timestamp spare holds.agrees;
         images = subst (λ (p : State). LeavesOnly before now (StandsWithin q p)) (sym (then-is spare)) leads.images;
-        failure = let same = counts.failed in record { no_fewer = omega (arith, same); cause = λ told. absurd (untold told); shown = λ more. absurd (omega (arith, same, more)) };
+        failure = let same = counts.failed in record { no_fewer = omega (arith, same); cause = λ told. absurd (untold DeviceFault told); shown = λ more. absurd (omega (arith, same, more)) };
         operations = counts.operations;
         actor = record { operations = stamp_operations q next.write.slot ended next.timestamp; made = run.made; by_actor = stores-only q.layout next.write.slot ended next.timestamp };
+        declined = λ fault other told. absurd (untold fault told);
         drawers = ([], sessions-stamped next.timestamp s.drawn.commits ∙ sym (append-nil (map (λ (d : DrawnCommit). d.session) s.drawn.commits)));
       }
 
   pub stamps-last : (commits : InFlight) → next.is_last ≡ true → commits.commits ≡ map (with_stamp next.timestamp) s.drawn.commits → Runs (stamp_operations q next.write.slot ended next.timestamp) before now → GoesOn s (record s { drawn = commits }) before now (Stamp n) Stamped h
   stamps-last commits last is run =
       subst (λ (x : InFlight). GoesOn s (record s { drawn = x }) before now (Stamp n) Stamped h) (λ i. record { commits = sym is i; spare = commits.spare })
-      (goes-stamped commits.spare Stamped (sym (ap (λ (b : Bool). cond b reply.Stamped reply.More) last)) (λ told. absurd (cc told)) run)
+      (goes-stamped commits.spare Stamped (sym (ap (λ (b : Bool). cond b reply.Stamped reply.More) last)) (λ fault told. absurd (cc told)) run)
 
   pub stamps-more : (commits : InFlight) → next.is_last ≡ false → commits.commits ≡ map (with_stamp next.timestamp) s.drawn.commits → Runs (stamp_operations q next.write.slot ended next.timestamp) before now → GoesOn s (record s { drawn = commits }) before now (Stamp n) More h
   stamps-more commits last is run =
       subst (λ (x : InFlight). GoesOn s (record s { drawn = x }) before now (Stamp n) More h) (λ i. record { commits = sym is i; spare = commits.spare })
-      (goes-stamped commits.spare More (sym (ap (λ (b : Bool). cond b reply.Stamped reply.More) last)) (λ told. absurd (cc told)) run)
+      (goes-stamped commits.spare More (sym (ap (λ (b : Bool). cond b reply.Stamped reply.More) last)) (λ fault told. absurd (cc told)) run)
 
   -- the device stopped it
   pub stamps-stopped : (fault : Fault) → fault ≡ DeviceFault → StopsWithin (stamp_operations q next.write.slot ended next.timestamp) before now → GoesOn s s before now (Stamp n) (Refused fault) h
@@ -326,5 +327,6 @@ module _ (s : Sessions) (h : Hidden) (n : ℕ) (next : Unstamped) (before now : 
         failure = let more = counts.failed in record { no_fewer = omega (arith, more); cause = λ told. omega (arith, more); shown = λ less. ap (λ (f : Fault). Refused f) is };
         operations = counts.operations;
         actor = record { operations = take stops.0 (stamp_operations q next.write.slot ended next.timestamp) ++ failure ∷ []; made = stops.2.made; by_actor = take-only n (stamp_operations q next.write.slot ended next.timestamp) stops.0 (stores-only q.layout next.write.slot ended next.timestamp) };
+        declined = λ told other is_told. absurd (other (let same : fault ≡ told = cc is_told in sym same ∙ is));
         drawers = same-drawers s.drawn.commits;
       }

@@ -102,6 +102,7 @@ module _ (old new : Sessions) (before now : Device) (s : SessionStep) (r : Sessi
       failure = goes.failure;
       operations = goes.operations;
       actor = goes.actor;
+      declined = goes.declined;
       drawers = goes.drawers;
     },
   ))
@@ -121,6 +122,7 @@ goes-quietly law old new device s r orderly quiet h holds goes =
       failure = record { no_fewer = omega arith; cause = λ told. absurd (never-told (plain_of old h) (plain_of new goes.next) s r quiet goes.stepped told); shown = λ more. absurd (omega (arith, more)) };
       operations = omega arith;
       actor = record { operations = []; made = refl; by_actor = refl };
+      declined = λ fault other told. refl;
       drawers = goes.drawers;
     }
 
@@ -138,6 +140,7 @@ refused-on s device step fault h orderly holds is =
       failure = record { no_fewer = omega arith; cause = λ told. absurd (untold told); shown = λ more. absurd (omega (arith, more)) };
       operations = omega arith;
       actor = record { operations = []; made = refl; by_actor = refl };
+      declined = λ fault other told. refl;
       drawers = same-drawers s.drawn.commits;
     }
   where

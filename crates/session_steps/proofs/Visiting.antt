@@ -170,6 +170,7 @@ module _ (s : Sessions) (h : Hidden) (before now : Device) (holds : HoldsOn s h 
           failure = let same = counts.failed in record { no_fewer = omega (arith, same); cause = λ told. absurd (cc told); shown = λ more. absurd (omega (arith, same, more)) };
           operations = counts.operations;
           actor = record { operations = ops; made = run.made; by_actor = own-ops };
+          declined = λ fault other told. absurd (cc told);
           drawers = same-drawers s.drawn.commits;
         },
       )
@@ -189,6 +190,7 @@ module _ (s : Sessions) (h : Hidden) (before now : Device) (holds : HoldsOn s h 
           failure = let more = counts.failed in record { no_fewer = omega (arith, more); cause = λ told. omega (arith, more); shown = λ less. ap (λ (f : Fault). Err f) is };
           operations = counts.operations;
           actor = record { operations = take stops.0 ops ++ failure ∷ []; made = stops.2.made; by_actor = take-only actor ops stops.0 own-ops };
+          declined = λ told other is_told. absurd (other (let same : fault ≡ told = cc is_told in sym same ∙ is));
           drawers = same-drawers s.drawn.commits;
         },
       )

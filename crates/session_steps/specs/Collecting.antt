@@ -25,7 +25,7 @@ use Rattle.collector.specs.declared.visit.Visit.{Visit}
 use Rattle.collector.specs.declared.visit.Visit.TheVariants.{Slot, SweepEnd}
 use Rattle.session_steps.specs.declared.sessions.Sessions.{Sessions}
 use Rattle.session_steps.specs.Shows.{Shows}
-use Rattle.session_steps.specs.Steps.{TellsFailure, RunsBy, Drawers}
+use Rattle.session_steps.specs.Steps.{TellsFailure, Declines, RunsBy, Drawers}
 
 -- ---- who may still read
 
@@ -60,6 +60,7 @@ pub record CollectsTo (old new : Sessions) (before now : Device) (result : Resul
   pub failure : TellsFailure before now (result ≡ Err DeviceFault)
   pub operations : operations_of now ≤ operations_of before + most_operations q Collect
   pub actor : RunsBy (Some collector) before now
+  pub declined : Declines before now (λ fault. result ≡ Err fault)
   pub drawers : Drawers old new
 
 -- so it does from every state that the sessions showed and that hadn't failed

@@ -1,5 +1,5 @@
 -- What a step of a session leads to.
-use Rattle.std.specs.Prelude.{◌≡◌, ℕ, ◌+◌, ◌<◌, ◌≤◌, Bool, true, false, nat_eq, List, map, ◌++◌, Option, Some, None, is_none, IsTrue}
+use Rattle.std.specs.Prelude.{◌≡◌, ◌≢◌, ℕ, ◌+◌, ◌<◌, ◌≤◌, Bool, true, false, nat_eq, List, map, ◌++◌, Option, Some, None, is_none, IsTrue}
 use Rattle.std.specs.List.{list_all}
 use Rattle.base.specs.declared.fault.Fault.{Fault}
 use Rattle.base.specs.declared.fault.Fault.TheVariants.{Device as DeviceFault, NoSession, WrongState}
@@ -28,6 +28,10 @@ pub record TellsFailure (old new : Device) (told : Type 0) : Type 0 where
   pub cause : told → old.failures < new.failures
   pub shown : old.failures < new.failures → told
 
+-- where it is refused for another reason than a failing device, the device is as it was
+abbrev pub Declines : Device → Device → (Fault → Type 0) → Type 0
+Declines old new Refuses = (fault : Fault) → fault ≢ DeviceFault → Refuses fault → new ≡ old
+
 -- the operation is a store, or a flush or a fence by this actor; or it failed
 abbrev pub is_by_actor : Option ℕ → Operation → Bool
 is_by_actor actor (store_op word value) = true
@@ -55,6 +59,7 @@ pub record StepsTo (old new : Sessions) (before now : Device) (step : SessionSte
   pub failure : TellsFailure before now (reply ≡ Refused DeviceFault)
   pub operations : operations_of now ≤ operations_of before + most_operations q (as_step step)
   pub actor : RunsBy (session_of (as_step step)) before now
+  pub declined : Declines before now (λ fault. reply ≡ Refused fault)
   pub drawers : Drawers old new
 
 -- so it does from every state that the sessions showed and that hadn't failed
@@ -109,6 +114,7 @@ pub record GoesOn (old new : Sessions) (before now : Device) (step : SessionStep
   pub failure : TellsFailure before now (reply ≡ Refused DeviceFault)
   pub operations : operations_of now ≤ operations_of before + most_operations (plain_of old h) (as_step step)
   pub actor : RunsBy (session_of (as_step step)) before now
+  pub declined : Declines before now (λ fault. reply ≡ Refused fault)
   pub drawers : Drawers old new
 
 -- so it does whatever is hidden

@@ -49,6 +49,7 @@ module _ (o : Origin) (q : State) (kept : Keeps o q) (held : ℕ → Option Vers
   hand-then hand k = record {
     gate = k.gate;
     formed = k.formed;
+    longs = k.longs;
     persisted = k.persisted;
     further = k.further;
     reserved = k.reserved;
@@ -64,6 +65,7 @@ module _ (o : Origin) (q : State) (kept : Keeps o q) (held : ℕ → Option Vers
   origin-then : KeepsOrigin o then
   origin-then = let k = kept.numbers.origin in record {
     formed = k.formed;
+    whole = k.whole;
     opened = k.opened;
     further = k.further;
     before = k.before;
@@ -123,6 +125,7 @@ module _ (o : Origin) (q : State) (kept : Keeps o q) (held : ℕ → Option Vers
       record {
         numbers = record {
           layout = n.layout;
+          longs = n.longs;
           formed = n.formed;
           persisted = n.persisted;
           reserved = n.reserved;

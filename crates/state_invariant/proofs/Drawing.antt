@@ -3,7 +3,7 @@ use Rattle.std.proofs.Common.{◌≡◌, ◌≢◌, ◌⊎◌, inl, inr, ℕ, �
 use Rattle.std.specs.Prelude.{nat_eq, nat_lt, nat_le}
 use Rattle.std.specs.List.{list_any}
 use Rattle.std.specs.Option.{option_or, option_map}
-use Rattle.std.proofs.lemmas.Bool.{cases_eq, eq-eqb, eqb-true, eqb-false, ne_eqb, and_parts, and_from, lt-ltb, ltb-true, leb-false, le-leb, not_from_false}
+use Rattle.std.proofs.lemmas.Bool.{cases_eq, eq-eqb, eqb-true, eqb-false, ne_eqb, and_parts, and_from, lt-ltb, ltb-true, leb-false, le-leb, not_from_false, or_left}
 use Rattle.std.proofs.lemmas.List.{map-append}
 use Rattle.std.proofs.lemmas.List.Folds.{find-append, list_all-map, list_any-append}
 use Rattle.base.specs.declared.key.Key.{Key}
@@ -154,10 +154,15 @@ module _ (o : Origin) (q : State) (n : ℕ) (write : Key × Option (List ℕ)) (
           let counts = timestamp-all (is_committed q.ruling) (covered_since o q) q.next (all-drop (λ c. is_committed q.ruling c.timestamp) o.opened q.history kept.numbers.covered) is in
           absurd (true≢false (sym counts ∙ uncommitted-above q.ruling q.next kept.numbers.persisted))
 
+  drawn-more : (t : ℕ) → has_timestamp (drawn_of q) t ≡ true → has_timestamp (drawn_of then) t ≡ true
+  drawn-more t has = ap (λ (cs : List Commit). has_timestamp cs t) (map-append (λ (d : Drawn). d.commit) q.drawn (newest ∷ [])) ∙ list_any-append (λ (c : Commit). nat_eq c.timestamp t) (drawn_of q) (newest.commit ∷ [])
+      ∙ or_left (has_timestamp (drawn_of q) t) (has_timestamp (newest.commit ∷ []) t) has
+
   hand-drawn : (hand : Hand) → KeepsHand q hand → KeepsHand then hand
   hand-drawn hand k = record {
     gate = k.gate;
     formed = k.formed;
+    longs = λ t any. let l = k.longs t any in (drawn-more t l.0, l.1);
     persisted = omega (arith, k.persisted);
     further = k.further;
     reserved = k.reserved;
@@ -173,6 +178,7 @@ module _ (o : Origin) (q : State) (n : ℕ) (write : Key × Option (List ℕ)) (
   origin-drawn : KeepsOrigin o then
   origin-drawn = let k = kept.numbers.origin in record {
     formed = k.formed;
+    whole = k.whole;
     opened = k.opened;
     further = k.further;
     before = k.before;
@@ -194,6 +200,7 @@ module _ (o : Origin) (q : State) (n : ℕ) (write : Key × Option (List ℕ)) (
   numbers-drawn = let k = kept.numbers in record {
     layout = k.layout;
     formed = k.formed;
+    longs = λ t any. drawn-more t (k.longs t any);
     persisted = omega (arith, k.persisted);
     reserved = omega (arith, below);
     window = omega (arith, k.window);

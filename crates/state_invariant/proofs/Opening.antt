@@ -189,6 +189,7 @@ module _ (a : Layout) (r : Record) (image : Image) (history : List Commit) (lost
     numbers = record {
       layout = opening.limits;
       formed = formed-over a.version a r gaps opening.formed opening.gaps_cover opening.few (has-window a opening.limits) (narrower r.dirty a.window (2 ^ 62) opening.room);
+      longs = λ t any. absurd (cc any);
       persisted = omega (arith, less);
       reserved = omega arith;
       window = omega arith;
@@ -198,6 +199,7 @@ module _ (a : Layout) (r : Record) (image : Image) (history : List Commit) (lost
       hand = λ hand is. absurd (none-some hand is);
       origin = record {
         formed = formed-over a.version a r gaps opening.formed opening.gaps_cover opening.few (has-window a opening.limits) (narrower r.dirty a.window (2 ^ 62) opening.room);
+        whole = refl;
         opened = omega arith;
         further = omega arith;
         before = ap (λ (cs : List Commit). list_all (λ commit. is_committed (opening_record a r gaps) commit.timestamp) cs) all-taken ∙ covered-over a r gaps history opening.gaps_cover less opening.covered;

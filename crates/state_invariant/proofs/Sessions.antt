@@ -42,6 +42,7 @@ module _ (o : Origin) (q : State) (sessions : ℕ → Option Session) (held : �
   hand-held hand k = record {
     gate = k.gate;
     formed = k.formed;
+    longs = k.longs;
     persisted = k.persisted;
     further = k.further;
     reserved = k.reserved;
@@ -57,6 +58,7 @@ module _ (o : Origin) (q : State) (sessions : ℕ → Option Session) (held : �
   origin-held : KeepsOrigin o then
   origin-held = let k = kept.numbers.origin in record {
     formed = k.formed;
+    whole = k.whole;
     opened = k.opened;
     further = k.further;
     before = k.before;
@@ -72,6 +74,7 @@ module _ (o : Origin) (q : State) (sessions : ℕ → Option Session) (held : �
   numbers-held = let k = kept.numbers in record {
     layout = k.layout;
     formed = k.formed;
+    longs = k.longs;
     persisted = k.persisted;
     reserved = k.reserved;
     window = k.window;

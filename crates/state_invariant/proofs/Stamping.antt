@@ -109,10 +109,14 @@ module _ (o : Origin) (q : State) (t : ℕ) (unfinished : list_any (λ d. nat_eq
           true≢false (sym both ∙ ap (λ (y : Drawn). nat_eq y.commit.timestamp t && is_stamped y) (sym same) ∙ this)
       by false false this none found rest = rest none found
 
+  life-stamped : drawn_of then ≡ drawn_of q
+  life-stamped = commits-counted t q.drawn
+
   hand-stamped : (hand : Hand) → KeepsHand q hand → KeepsHand then hand
   hand-stamped hand k = record {
     gate = k.gate;
     formed = k.formed;
+    longs = λ u any. let l = k.longs u any in (ap (λ (cs : List Commit). has_timestamp cs u) life-stamped ∙ l.0, l.1);
     persisted = k.persisted;
     further = k.further;
     reserved = k.reserved;
@@ -128,12 +132,10 @@ module _ (o : Origin) (q : State) (t : ℕ) (unfinished : list_any (λ d. nat_eq
       drawn : (u : ℕ) (commit : Commit) → (d : Drawn) × (drawn_at q u ≡ Some d) × (d.commit ≡ commit) × (is_stamped d ≡ true) → (d : Drawn) × (drawn_at then u ≡ Some d) × (d.commit ≡ commit) × (is_stamped d ≡ true)
       drawn u commit (d, found, is, stamped) = (d, found-after u d found ∙ ap (λ (x : Drawn). Some x) (counted-other t d (not-stamped q.drawn u d unfinished found stamped)), is, stamped)
 
-  life-stamped : drawn_of then ≡ drawn_of q
-  life-stamped = commits-counted t q.drawn
-
   origin-stamped : KeepsOrigin o then
   origin-stamped = let k = kept.numbers.origin in record {
     formed = k.formed;
+    whole = k.whole;
     opened = k.opened;
     further = k.further;
     before = k.before;
@@ -160,6 +162,7 @@ module _ (o : Origin) (q : State) (t : ℕ) (unfinished : list_any (λ d. nat_eq
   keeps-stamped = let n = kept.numbers in let k = kept.draws in record {
     numbers = record {
       layout = n.layout;
+      longs = λ u any. ap (λ (cs : List Commit). has_timestamp cs u) life-stamped ∙ n.longs u any;
       formed = n.formed;
       persisted = n.persisted;
       reserved = n.reserved;

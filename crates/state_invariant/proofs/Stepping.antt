@@ -22,6 +22,7 @@ hand-as : (q : State) (other : Option Hand) (failed : Bool) (hand : Hand) → Ke
 hand-as q other failed hand k = record {
   gate = k.gate;
   formed = k.formed;
+  longs = k.longs;
   persisted = k.persisted;
   further = k.further;
   reserved = k.reserved;
@@ -43,6 +44,7 @@ keeps-with_hand o q hand failed kept keeps =
     record {
       numbers = record {
         layout = n.layout;
+        longs = n.longs;
         formed = n.formed;
         persisted = n.persisted;
         reserved = n.reserved;
@@ -51,7 +53,7 @@ keeps-with_hand o q hand failed kept keeps =
         covered = n.covered;
         drawn = n.drawn;
         hand = λ h is. hand-as q hand failed h (keeps h is);
-        origin = record { formed = p.formed; opened = p.opened; further = p.further; before = p.before; since = p.since; drawn = p.drawn; distinct = p.distinct; each = p.each; still = p.still; gaps = p.gaps };
+        origin = record { formed = p.formed; whole = p.whole; opened = p.opened; further = p.further; before = p.before; since = p.since; drawn = p.drawn; distinct = p.distinct; each = p.each; still = p.still; gaps = p.gaps };
         snapshots = n.snapshots;
         numbered = n.numbered;
       };
@@ -64,6 +66,7 @@ hand-ticked : (q : State) (hand : Hand) → KeepsHand q hand → KeepsHand q (re
 hand-ticked q hand k = record {
   gate = k.gate;
   formed = k.formed;
+  longs = k.longs;
   persisted = k.persisted;
   further = k.further;
   reserved = k.reserved;

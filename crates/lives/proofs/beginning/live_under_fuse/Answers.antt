@@ -1,4 +1,4 @@
-use Rattle.std.proofs.Common.{◌≡◌, ◌∙◌, subst, refl}
+use Rattle.std.proofs.Common.{◌≡◌, ◌∙◌, false, ap, subst, refl}
 use Rattle.std.specs.Prelude.{None, Err}
 use Rattle.std.proofs.lemmas.Result.{IfOk-weaker}
 use Rattle.base.specs.Images.{Image}
@@ -22,10 +22,10 @@ returns-in-Ok-checked-clause-ok g c =
     let read : c.as_slice.result.now ≡ image = c.as_slice.ensures.value ∙ c.in_ok-image.ensures.image in
     let lists : ListsTables image c.in-Ok-checked.found.rows.items = subst (λ (i : Image). ListsTables i c.in-Ok-checked.found.rows.items) read c.in-Ok-checked.ensures.ok.lists in
     IfOk-weaker c.play.result
-    (λ played. (q : State) → Shows device_of c.in-Ok.room q → HasPlayed q c.in-Ok-checked.found.rows.items c.args.life.now played.0 (image_of (device_of played.1)))
+    (λ played. (q : State) → Shows device_of c.in-Ok.room q → q.failed ≡ false → HasPlayed q c.in-Ok-checked.found.rows.items c.args.life.now played.0 (image_of (device_of played.1)))
     (λ lived. HasLived image c.args.life.now lived.0 (image_of (device_of lived.1)))
-    (λ played plays. lived-played image (image_of (device_of played.1)) c.in-Ok-checked.found.rows.items c.args.life.now played.0 lists
-    (λ history drawn next lost stands. let opened = c.in-Ok.ensures.ok history drawn next lost stands in (opened.0, opened.1, plays opened.0 opened.2)))
+    (λ played plays. lived-played image (image_of (device_of played.1)) c.in-Ok-checked.found.rows.items c.args.life.now played.0 c.in-Ok.ensures.may_open lists
+    (λ history drawn next lost stands. let opened = c.in-Ok.ensures.ok history drawn next lost stands in (opened.0, opened.1, plays opened.0 opened.2 (ap (λ (q : State). q.failed) opened.1.2))))
     c.play.ensures.ok
 
 pub returns-clause-ok : goal.returns-clause-ok

@@ -6,7 +6,7 @@ use Rattle.pmem.specs.Words.{image_of}
 use Rattle.pmem_model.specs.Sim.{device_of}
 use Rattle.room.specs.Room.{Shows, device_of as device_in}
 use Rattle.lives.specs.Plain.{closed_of}
-use Rattle.lives.specs.Parts.{HasObeyed, HasEnded}
+use Rattle.lives.specs.Parts.{HasObeyed, HasEnded, MayAsk}
 use Rattle.lives.proofs.Chains.{opens-so, played-so}
 use Rattle.lives.specs.declared.life.Opened.{Opened}
 use Rattle.lives.proofs.Stops.{played-stops}
@@ -14,7 +14,7 @@ use Rattle.lives.proofs.beginning.play.Goals.{then-life, else-life}
 use Rattle.lives.proofs.beginning.play.Goals as goal
 
 pub returns-clause-ok : goal.returns-clause-ok
-returns-clause-ok c = λ q shows.
+returns-clause-ok c = λ q shows works.
     let s = c.status-status.result in
     let says = c.status-status.ensures q shows in
     let failed = c.in-Ok.obeyed.failed in
@@ -23,10 +23,11 @@ returns-clause-ok c = λ q shows.
       | then-life w ↦ w.end-is ∙ sym (ap (λ (b : Bool). b && not failed) w.if-life.true)
       | else-life w ↦ w.end-is ∙ w.if-life.false ∙ sym (ap (λ (b : Bool). b && not failed) w.if-life.false)
     ] in
-    played-so q c.args.rows.items c.args.life.now _ image failed (Shows device_of c.obey.new.room)
+    played-so q c.args.rows.items c.args.life.now _ image failed (Shows device_of c.obey.new.room) works
     (opens-so q s.gate s.persisted s.dirty s.next s.gaps c.args.rows.items says.gate says.persisted says.dirty says.next says.gaps)
     (subst (λ (steps : List Step). HasObeyed q steps c.in-Ok.obeyed.replies.items failed (Shows device_of c.obey.new.room)) c.as_slice.ensures.value (c.in-Ok.ensures.ok q shows))
-    (λ last here. subst (λ (b : Bool). HasEnded last b (closed_of c.in_ok-closed.closed) image) both (c.in_ok-closed.ensures.ok last here))
+    (λ last here may. subst (λ (b : Bool). HasEnded last b (closed_of c.in_ok-closed.closed) image) both
+    (c.in_ok-closed.ensures.ok last here (subst (λ (b : Bool). MayAsk b last) (sym both) may)))
 
 pub returns-clause-stopped : goal.returns-clause-stopped
 returns-clause-stopped c = λ q shows.

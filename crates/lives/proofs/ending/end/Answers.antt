@@ -12,26 +12,26 @@ use Rattle.lives.proofs.Stops.{open-stops, closed-stops, refused-stops}
 use Rattle.lives.proofs.ending.end.Goals as goal
 
 pub returns-then-not-closes-clause-ok : goal.returns-then-not-closes-clause-ok
-returns-then-not-closes-clause-ok c = λ q shows.
+returns-then-not-closes-clause-ok c = λ q shows may.
     let image = image_of (device_of c.in_ok-left.left) in
     let open_still : c.args.closes ≡ false = search rules in
     subst (λ (b : Bool). HasEnded q b None image) (sym open_still)
     (ends-open q image (shows.stands image (subst (λ (d : Device). MayLeave d image) c.into_device.ensures c.in_ok-left.ensures.possible)))
 
 pub returns-in_ok-left-in-Ok-clause-ok : goal.returns-in_ok-left-in-Ok-clause-ok
-returns-in_ok-left-in-Ok-clause-ok c = λ q shows.
+returns-in_ok-left-in-Ok-clause-ok c = λ q shows may.
     let image = image_of (device_of c.in_ok-left-in-Ok.left) in
     let asked : c.args.closes ≡ true = search rules in
     subst (λ (b : Bool). HasEnded q b (closed_of (Some c.numbers_on.result)) image) (sym asked)
-    (ends-closed q image c.numbers_on.result (c.in-Ok.ensures.may_close q shows) (c.in-Ok.ensures.ok q shows image c.in_ok-left-in-Ok.ensures.possible)
+    (ends-closed q image c.numbers_on.result (may asked) (c.in-Ok.ensures.may_close q shows) (c.in-Ok.ensures.ok q shows image c.in_ok-left-in-Ok.ensures.possible)
     c.numbers_on.ensures.ok c.numbers_on.ensures.fault)
 
 pub returns-in_ok-left-in-Err-clause-ok : goal.returns-in_ok-left-in-Err-clause-ok
-returns-in_ok-left-in-Err-clause-ok c = λ q shows.
+returns-in_ok-left-in-Err-clause-ok c = λ q shows may.
     let image = image_of (device_of c.in_ok-left-in-Err.left) in
     let asked : c.args.closes ≡ true = search rules in
     subst (λ (b : Bool). HasEnded q b (closed_of (Some (Err c.in-Err.fault))) image) (sym asked)
-    (ends-refused q image (device_in device_of c.args.room) (device_of c.in-Err.device) c.in-Err.fault (c.in-Err.ensures.fault q shows)
+    (ends-refused q image (device_in device_of c.args.room) (device_of c.in-Err.device) c.in-Err.fault (may asked) (c.in-Err.ensures.fault q shows)
     (λ same. shows.stands image (subst (λ (d : Device). MayLeave d image) same c.in_ok-left-in-Err.ensures.possible))
     (leaves-now (device_in device_of c.args.room) (device_of c.in-Err.device) (StandsClosing q) (orderly c.in-Err.device) (c.in-Err.ensures.images q shows) image c.in_ok-left-in-Err.ensures.possible))
 
