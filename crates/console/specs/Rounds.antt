@@ -20,8 +20,8 @@ visits_needed layout all =
 abbrev pub NeededAreEnough : Type 0
 NeededAreEnough = (q : State) (all : ℕ) → visits (visits_needed q.layout all - 1) q ≡ visits (all - 1) q
 
--- Ticks beyond this number aren't made in a life, since the last of so many finds nothing to do: two cycles cover all that
--- sessions can have drawn, and 62 sessions that write 32 keys each touch two lines a key
+-- Ticks beyond this number aren't made in a life: two cycles cover all that sessions can have drawn, and 62 sessions that write
+-- 32 keys each touch two lines a key. Of each life it is tested that the last of so many leaves nothing to do
 abbrev pub most_ticks : ℕ
 most_ticks = 8192
 

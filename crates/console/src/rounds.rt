@@ -3,7 +3,7 @@ ghost use Rattle.console.specs.Rounds.{ticks_made, visits_needed};
 
 use base::geometry::Geometry;
 
-/// How many ticks of the committer a line of a life makes at most: after them nothing is left to do.
+/// How many ticks of the committer a line of a life makes at most. It is tested that they leave nothing to do.
 pub const MOST_TICKS: u64 = 8_192;
 
 /// How many ticks are made in a life where so many are asked for.
