@@ -5,6 +5,7 @@ use Rattle.std.specs.Io.KnownBytes.{Appends}
 use Rattle.base.specs.declared.step.Step.{Step}
 use Rattle.base.specs.declared.step.Step.TheVariants as step
 use Rattle.base.specs.declared.step.Reply.{Reply}
+use Rattle.base.specs.Lives.{is_failure}
 use Rattle.base.specs.Machine.{State, Stepped}
 use Rattle.pmem.specs.Device.{Device}
 use Rattle.pmem.specs.declared.device.Pmem.{Ghosts}
@@ -46,11 +47,11 @@ comes-as state old new command actual answer is made =
     leads-by state old new (λ (q q' : State). Answers q actual answer q') (λ (q q' : State). ComesTo q command (Replied answer) q')
     (λ q q' a. subst (λ (k : Command). Answers q k answer q') (sym is) a) made
 
-pub obeys-reply : {D : Type 0} {G : Ghosts D} (state : D → Device) (old new : Room D G) (command : Command) (outcome : Outcome) (answer : Reply) → outcome ≡ Replied answer
+pub obeys-reply : {D : Type 0} {G : Ghosts D} (state : D → Device) (old new : Room D G) (command : Command) (outcome : Outcome) (answer : Reply) → is_failure answer ≡ false → outcome ≡ Replied answer
     → Leads state old new (λ q q'. ComesTo q command outcome q') → Leads state old new (λ q q'. Obeys q command (reply_text answer ++ 10 ∷ []) None q')
-obeys-reply state old new command outcome answer is made =
+obeys-reply state old new command outcome answer works is made =
     leads-by state old new (λ (q q' : State). ComesTo q command outcome q') (λ (q q' : State). Obeys q command (reply_text answer ++ 10 ∷ []) None q')
-    (λ q q' a. (Replied answer, subst (λ (o : Outcome). ComesTo q command o q') is a, (refl, refl))) made
+    (λ q q' a. (Replied answer, subst (λ (o : Outcome). ComesTo q command o q') is a, (works, refl, refl))) made
 
 pub obeys-crash : {D : Type 0} {G : Ghosts D} (state : D → Device) (old new : Room D G) (command : Command) (outcome : Outcome) (keeps : Survivor) → outcome ≡ Crashed keeps
     → Leads state old new (λ q q'. ComesTo q command outcome q') → Leads state old new (λ q q'. Obeys q command [] (Some keeps) q')

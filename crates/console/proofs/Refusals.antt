@@ -1,9 +1,9 @@
 -- Which refusal ends a subcommand.
-use Rattle.std.proofs.Common.{◌≡◌, ◌⊎◌, ℕ, List, [], ◌∷◌, ◌++◌, length, true, sym, ◌∙◌, subst, inl, inr, append-nil}
+use Rattle.std.proofs.Common.{◌≡◌, ◌⊎◌, ℕ, List, [], ◌∷◌, ◌++◌, length, true, sym, ◌∙◌, ap, subst, inl, inr, append-nil}
 use Rattle.std.specs.Prelude.{Option, Some, None, IfSome, Result, Ok, Err, IsErrAnd, IfErr}
 use Rattle.std.specs.Io.KnownBytes.{Appends}
 use Rattle.base.specs.declared.fault.Fault.{Fault}
-use Rattle.base.specs.declared.fault.Fault.TheVariants.{OutOfMemory}
+use Rattle.base.specs.declared.fault.Fault.TheVariants.{Device as DeviceFault, OutOfMemory}
 use Rattle.base.specs.Commits.{Commit}
 use Rattle.base.specs.Images.{Image, opening_fault}
 use Rattle.base.specs.Machine.{State}
@@ -110,14 +110,27 @@ refused-so order stop file input old mid new (Some after) met told =
 
 -- ---- the faults
 
-pub opening-fault : (image : Image) (old new : Device) (fault : Fault) → IsRefusal (opening_fault image) old new fault → (fault ≡ OutOfMemory) ⊎ IsOpeningFault image fault
-opening-fault image old new fault (inl (inl is, same)) = inr (inl is)
-opening-fault image old new fault (inl (inr memory, same)) = inl memory
-opening-fault image old new fault (inr (none, device, more)) = inr (inr (none, device))
+-- the fault that is told of a device without a fuse
+pub opening-fault : (image : Image) (old new : Device) (fault told : Fault) → (fault ≡ DeviceFault → told ≡ OutOfMemory) → (told ≡ OutOfMemory) ⊎ (told ≡ fault)
+    → IsRefusal (opening_fault image) old new fault → (told ≡ OutOfMemory) ⊎ IsOpeningFault image told
+opening-fault image old new fault told memory (inl is) refusal = inl is
+opening-fault image old new fault told memory (inr is) (inl (inl why, same)) = inr (why ∙ ap (λ (f : Fault). Some f) (sym is))
+opening-fault image old new fault told memory (inr is) (inl (inr wants, same)) = inl (is ∙ wants)
+opening-fault image old new fault told memory (inr is) (inr (none, device, more)) = inl (memory device)
 
-pub closing-fault : (q : State) (old new : Device) (fault : Fault) → IsClosingRefusal q old new fault → IsClosingFault q fault
-closing-fault q old new fault (inl h) = inl h.0
-closing-fault q old new fault (inr h) = inr (h.0, h.1)
+-- what is told is not that the device failed
+pub never-device : (fault told : Fault) → (fault ≡ DeviceFault → told ≡ OutOfMemory) → told ≡ fault → told ≡ DeviceFault → ⊥
+never-device fault told memory is device = let clash : OutOfMemory ≡ DeviceFault = sym (memory (sym is ∙ device)) ∙ device in cc clash
+
+pub closing-fault : {D : Type 0} {G : Ghosts D} (state : D → Device) (room : Room D G) (old new : Device) (fault told : Fault) → (fault ≡ DeviceFault → told ≡ OutOfMemory)
+    → (told ≡ OutOfMemory) ⊎ (told ≡ fault) → ((q : State) → Shows state room q → IsClosingRefusal q old new fault)
+    → (told ≡ OutOfMemory) ⊎ ((q : State) → Shows state room q → IsClosingFault q told)
+closing-fault state room old new fault told memory (inl is) refusal = inl is
+closing-fault state room old new fault told memory (inr is) refusal = inr (λ q shows. by q (refusal q shows))
+  where
+    by : (q : State) → IsClosingRefusal q old new fault → IsClosingFault q told
+    by q (inl (why, same)) = why ∙ ap (λ (f : Fault). Some f) (sym is)
+    by q (inr (none, device, more)) = absurd (never-device fault told memory is (is ∙ device))
 
 pub damage-of-file : (file words slice : List ℕ) (old : Option Text) (fault : Fault) → is_image_length (length file) ≡ true → HoldsWords file words → slice ≡ words → IsReadRefusal slice fault
     → (fault ≡ OutOfMemory) ⊎ (IsFileFault file IsDamage fault × Appends old old [])

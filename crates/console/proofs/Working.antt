@@ -25,12 +25,13 @@ use Rattle.command_line.specs.ImageFile.{HoldsWords, IsFileOf, is_image_length}
 use Rattle.command_line.specs.Numbers.{Text}
 use Rattle.console.specs.Kept.{Extends, IsFileWith, KeepsHistories}
 use Rattle.console.specs.Refusals.{IsClosingFault, IsFileFault}
-use Rattle.console.specs.Threads.{IsThreadsFault}
+use Rattle.console.specs.Threads.{IsOther, IsThreadsFault}
 use Rattle.console.proofs.Files.{one_image}
 use Rattle.console.proofs.Grown.{Grows, grows-same, grows-stepped, grows-trans}
 use Rattle.console.proofs.Kept.{keeps-closed}
 use Rattle.console.proofs.Lives.{opens-history, opens-layout}
 use Rattle.console.proofs.Obeyed.{appends-none}
+use Rattle.console.proofs.Refusals.{never-device}
 
 grows-noted : (q : State) (entries : List (Step × Note)) (q' : State) → Noted q entries q' → Grows q q'
 grows-noted q [] q' same = grows-same q q' same
@@ -64,31 +65,53 @@ keeps-run state room before words image after holds run closed bytes = ∥∥₁
 -- ---- why it is refused
 
 pub load-fault : (file words slice : List ℕ) (sessions : ℕ) (old : Option Text) (fault : Fault) → is_image_length (length file) ≡ true → HoldsWords file words → slice ≡ words
-    → (fault ≡ OutOfMemory) ⊎ IsLoadFault slice sessions fault
+    → (fault ≡ OutOfMemory) ⊎ IsThreadsFault sessions slice fault
     → (fault ≡ OutOfMemory) ⊎ (IsFileFault file (IsThreadsFault sessions) fault × Appends old old [])
 load-fault file words slice sessions old fault size holds same (inl memory) = inl memory
 load-fault file words slice sessions old fault size holds same (inr is) =
-    inr (inr (record { size = size; image = words; holds = holds; is = inl (subst (λ (i : Image). IsLoadFault i sessions fault) same is) }), appends-none old)
+    inr (inr (record { size = size; image = words; holds = holds; is = subst (λ (i : Image). IsThreadsFault sessions i fault) same is }), appends-none old)
 
 no-fact : (a b : ⊥) → a ≡ b
 no-fact a b = absurd a
 
--- where no state that the room shows admits it, no slots ran out
+-- what is told of a load on a device without a fuse
+pub load-told : (image : Image) (sessions : ℕ) (fault told : Fault) → (fault ≡ DeviceFault → told ≡ OutOfMemory) → (told ≡ OutOfMemory) ⊎ (told ≡ fault)
+    → IsLoadFault image sessions fault → (told ≡ OutOfMemory) ⊎ IsThreadsFault sessions image told
+load-told image sessions fault told memory (inl is) load = inl is
+load-told image sessions fault told memory (inr is) (inl why) = inr (inl (why ∙ ap (λ (f : Fault). Some f) (sym is)))
+load-told image sessions fault told memory (inr is) (inr (inl wants)) = inl (is ∙ wants)
+load-told image sessions fault told memory (inr is) (inr (inr (inl (none, device)))) = inl (memory device)
+load-told image sessions fault told memory (inr is) (inr (inr (inr (inl (lacks, slots))))) = inr (inr (inl (lacks, is ∙ slots)))
+load-told image sessions fault told memory (inr is) (inr (inr (inr (inr (free, other))))) =
+    inr (inr (inr (record {
+      may_open = free.may_open;
+      each = λ history drawn next stands.
+          let made = free.each history drawn next stands in
+          (made.0, made.1, (made.2, record { slots = λ e. other (sym is ∙ e); device = λ e. never-device fault told memory is e }));
+    })))
+
+-- where no state that the room shows admits it, no slots ran out, and no device failed
 not-slots : {D : Type 0} {G : Ghosts D} (state : D → Device) (room : Room D G) (words : Image) (sessions : ℕ) (fault : Fault) → OpensTo words (HasFree (2 * sessions)) → ∥ HasRunFrom state words room ∥₁
-    → ((q : State) → Shows state room q → fault ≢ SlotsOut) → OpensTo words (λ q. HasFree (2 * sessions) q × (fault ≢ SlotsOut))
+    → ((q : State) → Shows state room q → IsOther fault) → OpensTo words (λ q. HasFree (2 * sessions) q × IsOther fault)
 not-slots state room words sessions fault free run other = record {
   may_open = free.may_open;
   each = λ history drawn next stands.
       let made = free.each history drawn next stands in (
         made.0,
         made.1,
-        (made.2, λ e. ∥∥₁_elim run no-fact (λ h. let r = h.2.runs history drawn next [] stands in other r.now r.shows e)),
+        (
+          made.2,
+          record {
+            slots = λ e. ∥∥₁_elim run no-fact (λ h. let r = h.2.runs history drawn next [] stands in (other r.now r.shows).slots e);
+            device = λ e. ∥∥₁_elim run no-fact (λ h. let r = h.2.runs history drawn next [] stands in (other r.now r.shows).device e);
+          },
+        ),
       );
 }
 
 pub late-fault : {D : Type 0} {G : Ghosts D} (state : D → Device) (room : Room D G) (file words slice : List ℕ) (sessions : ℕ) (old : Option Text) (fault : Fault)
     → is_image_length (length file) ≡ true → HoldsWords file words → slice ≡ words → OpensTo slice (HasFree (2 * sessions)) → ∥ HasRunFrom state slice room ∥₁
-    → (fault ≡ OutOfMemory) ⊎ ((q : State) → Shows state room q → fault ≢ SlotsOut)
+    → (fault ≡ OutOfMemory) ⊎ ((q : State) → Shows state room q → IsOther fault)
     → (fault ≡ OutOfMemory) ⊎ (IsFileFault file (IsThreadsFault sessions) fault × Appends old old [])
 late-fault state room file words slice sessions old fault size holds same free run (inl memory) = inl memory
 late-fault state room file words slice sessions old fault size holds same free run (inr other) =
@@ -97,29 +120,33 @@ late-fault state room file words slice sessions old fault size holds same free r
         size = size;
         image = words;
         holds = holds;
-        is = inr (subst (λ (i : Image). OpensTo i (λ q. HasFree (2 * sessions) q × (fault ≢ SlotsOut))) same (not-slots state room slice sessions fault free run other));
+        is = inr (inr (subst (λ (i : Image). OpensTo i (λ q. HasFree (2 * sessions) q × IsOther fault)) same (not-slots state room slice sessions fault free run other)));
       }),
       appends-none old,
     )
 
-closing-other : (q : State) (fault : Fault) → IsClosingFault q fault → fault ≢ SlotsOut
-closing-other q fault (inr (none, device)) e = let clash : DeviceFault ≡ SlotsOut = sym device ∙ e in cc clash
-closing-other q fault (inl is) e = by q.failed _ (is ∙ ap (λ (f : Fault). Some f) e)
+closing-other : (q : State) (fault : Fault) → IsClosingFault q fault → IsOther fault
+closing-other q fault is = record { slots = λ e. slots q.failed _ (is ∙ ap (λ (f : Fault). Some f) e); device = λ e. device q.failed _ (is ∙ ap (λ (f : Fault). Some f) e) }
   where
-    by : (failed past : Bool) → first_of (some_if failed Failed ∷ some_if past TimestampsOut ∷ []) ≡ Some SlotsOut → ⊥
-    by true past h = cc h
-    by false true h = cc h
-    by false false h = cc h
+    slots : (failed past : Bool) → first_of (some_if failed Failed ∷ some_if past TimestampsOut ∷ []) ≡ Some SlotsOut → ⊥
+    slots true past h = cc h
+    slots false true h = cc h
+    slots false false h = cc h
+
+    device : (failed past : Bool) → first_of (some_if failed Failed ∷ some_if past TimestampsOut ∷ []) ≡ Some DeviceFault → ⊥
+    device true past h = cc h
+    device false true h = cc h
+    device false false h = cc h
 
 pub closing-fault-so : {D : Type 0} {G : Ghosts D} (state : D → Device) (room : Room D G) (fault : Fault) → (fault ≡ OutOfMemory) ⊎ ((q : State) → Shows state room q → IsClosingFault q fault)
-    → (fault ≡ OutOfMemory) ⊎ ((q : State) → Shows state room q → fault ≢ SlotsOut)
+    → (fault ≡ OutOfMemory) ⊎ ((q : State) → Shows state room q → IsOther fault)
 closing-fault-so state room fault (inl memory) = inl memory
 closing-fault-so state room fault (inr is) = inr (λ q shows. closing-other q fault (is q shows))
 
 -- what a close leaves is sound
 pub reading-fault-so : {D : Type 0} {G : Ghosts D} (state : D → Device) (room : Room D G) (image slice : Image) (fault : Fault) → slice ≡ image → ((q : State) → Shows state room q → StandsClosed q image)
-    → IsReadRefusal slice fault → (fault ≡ OutOfMemory) ⊎ ((q : State) → Shows state room q → fault ≢ SlotsOut)
+    → IsReadRefusal slice fault → (fault ≡ OutOfMemory) ⊎ ((q : State) → Shows state room q → IsOther fault)
 reading-fault-so state room image slice fault same closed (inr h) = inl h.1
-reading-fault-so state room image slice fault same closed (inl is) = inr (λ q shows e.
+reading-fault-so state room image slice fault same closed (inl is) = inr (λ q shows.
     let none : damage image ≡ None = (closed q shows).stands.sound in
-    let clash : None ≡ Some fault = sym none ∙ (ap damage (sym same) ∙ is) in cc clash)
+    let clash : None ≡ Some fault = sym none ∙ (ap damage (sym same) ∙ is) in absurd (cc clash))

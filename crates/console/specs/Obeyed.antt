@@ -6,6 +6,7 @@ use Rattle.base.specs.declared.step.Step.{Step}
 use Rattle.base.specs.declared.step.Step.TheVariants as step
 use Rattle.base.specs.declared.step.Reply.{Reply}
 use Rattle.base.specs.declared.step.Reply.TheVariants as reply
+use Rattle.base.specs.Lives.{is_failure}
 use Rattle.base.specs.Machine.{State, Stepped}
 use Rattle.command_line.specs.Lines.{line_of}
 use Rattle.command_line.specs.Numbers.{Text}
@@ -105,9 +106,9 @@ reply_text (reply.Visited slot) = codes "slot " ++ decimal slot
 reply_text reply.SweepEnd = codes "sweep end"
 reply_text (reply.Refused fault) = refused_text fault
 
--- the line of a command's reply, and what a crash keeps
+-- the line of a command's reply, which isn't that the device failed, and what a crash keeps
 abbrev pub SaysOf : Outcome → Text → Option Survivor → Type 0
-SaysOf (Replied answer) said keeps = (said ≡ reply_text answer ++ 10 ∷ []) × (keeps ≡ None)
+SaysOf (Replied answer) said keeps = (is_failure answer ≡ false) × (said ≡ reply_text answer ++ 10 ∷ []) × (keeps ≡ None)
 SaysOf (Crashed survivor) said keeps = (said ≡ []) × (keeps ≡ Some survivor)
 
 -- what is printed for a command, what a crash keeps, and the state then

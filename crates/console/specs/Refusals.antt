@@ -2,7 +2,7 @@
 use Rattle.std.specs.Prelude.{◌≡◌, ◌⊎◌, ℕ, List, [], ◌∷◌, ◌++◌, length, true, false, Option, Some, None, ⊤}
 use Rattle.std.specs.Io.KnownBytes.{Appends}
 use Rattle.base.specs.declared.fault.Fault.{Fault}
-use Rattle.base.specs.declared.fault.Fault.TheVariants.{BadGeometry, OutOfMemory, Device as DeviceFault}
+use Rattle.base.specs.declared.fault.Fault.TheVariants.{BadGeometry, OutOfMemory}
 use Rattle.base.specs.Commits.{Commit}
 use Rattle.base.specs.Images.{Image, damage, opening_fault}
 use Rattle.base.specs.Layout.{is_in_limits, layout_with, newest_version}
@@ -26,11 +26,12 @@ refusal_line fault = refused_text fault ++ 10 ∷ []
 
 -- ---- the faults
 
--- the numbers of a format are out of their limits; or an operation on its device failed
+-- No fault is that the device failed: the program's device has no fuse, so that an operation fails only where a store takes
+-- memory and there is none, and then that is the fault
+
+-- the numbers of a format are out of their limits
 abbrev pub IsFormatFault : ℕ → ℕ → ℕ → Fault → Type 0
-IsFormatFault slots places window fault =
-    ((is_in_limits (layout_with newest_version slots places window) ≡ false) × (fault ≡ BadGeometry))
-    ⊎ ((is_in_limits (layout_with newest_version slots places window) ≡ true) × (fault ≡ DeviceFault))
+IsFormatFault slots places window fault = (is_in_limits (layout_with newest_version slots places window) ≡ false) × (fault ≡ BadGeometry)
 
 -- the file has the words of an image with this fault
 pub record HasFault (file : List ℕ) (Is : Image → Fault → Type 0) (fault : Fault) : Type 0 where
@@ -47,13 +48,13 @@ IsFileFault file Is fault = ((is_image_length (length file) ≡ false) × (fault
 abbrev pub IsDamage : Image → Fault → Type 0
 IsDamage image fault = damage image ≡ Some fault
 
--- why the image doesn't open; or an operation failed, where it would have opened
+-- why the image doesn't open
 abbrev pub IsOpeningFault : Image → Fault → Type 0
-IsOpeningFault image fault = (opening_fault image ≡ Some fault) ⊎ ((opening_fault image ≡ None) × (fault ≡ DeviceFault))
+IsOpeningFault image fault = opening_fault image ≡ Some fault
 
--- why the state can't be closed; or an operation failed, where it could have been
+-- why the state can't be closed
 abbrev pub IsClosingFault : State → Fault → Type 0
-IsClosingFault q fault = (closing_fault q ≡ Some fault) ⊎ ((closing_fault q ≡ None) × (fault ≡ DeviceFault))
+IsClosingFault q fault = closing_fault q ≡ Some fault
 
 -- whatever history the image in the file stands for, it is opened, all lines of the input are obeyed, and the state then has this
 -- fault at its close; no more is printed, but this at the end

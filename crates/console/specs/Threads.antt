@@ -1,12 +1,12 @@
 -- What threads that make commits print and leave, and why they are refused.
-use Rattle.std.specs.Prelude.{◌≡◌, ◌≢◌, ◌⊎◌, ℕ, ◌*◌, ◌^◌, ◌-◌, min, Bool, ◌&&◌, nat_eq, nat_lt, List, [], ◌∷◌, ◌++◌, filter, codes, decimal, Option}
+use Rattle.std.specs.Prelude.{◌≡◌, ◌≢◌, ◌⊎◌, ℕ, ◌*◌, ◌^◌, ◌-◌, min, Bool, ◌&&◌, nat_eq, nat_lt, List, [], ◌∷◌, ◌++◌, filter, codes, decimal, Option, Some}
 use Rattle.std.specs.Io.KnownBytes.{Appends}
 use Rattle.base.specs.declared.fault.Fault.{Fault}
-use Rattle.base.specs.declared.fault.Fault.TheVariants.{SlotsOut}
+use Rattle.base.specs.declared.fault.Fault.TheVariants.{Device as DeviceFault, SlotsOut}
 use Rattle.base.specs.declared.key.Key.{Key}
-use Rattle.base.specs.Images.{Image}
+use Rattle.base.specs.Images.{Image, opening_fault}
 use Rattle.image_check.specs.Checked.{ListsTables}
-use Rattle.workload.specs.Load.{HasFree, IsLoadFault, OpensTo}
+use Rattle.workload.specs.Load.{HasFree, LacksFree, OpensTo}
 use Rattle.command_line.specs.ImageFile.{IsFileOf}
 use Rattle.command_line.specs.Numbers.{Text}
 use Rattle.command_line.specs.Texts.{end_line, entries_text}
@@ -37,8 +37,15 @@ pub record PrintsThreads (sessions commits : ℕ) (before : List ℕ) (old new :
   pub lists : ListsTables image rows
   pub prints : Appends old new (threads_text sessions commits rows)
 
--- The threads don't make their commits; or they did, and the room can't be closed or what it leaves not be read: not because
--- slots ran out
+-- the fault is neither that slots ran out nor that the device failed
+pub record IsOther (fault : Fault) : Type 0 where
+  pub slots : fault ≢ SlotsOut
+  pub device : fault ≢ DeviceFault
+
+-- The image doesn't open; or two slots for each thread aren't free then; or they are, and it is something else: a thread doesn't
+-- make its commits, or the room can't be closed after them
 abbrev pub IsThreadsFault : ℕ → Image → Fault → Type 0
 IsThreadsFault sessions image fault =
-    IsLoadFault image sessions fault ⊎ OpensTo image (λ q. HasFree (2 * sessions) q × (fault ≢ SlotsOut))
+    (opening_fault image ≡ Some fault)
+    ⊎ ((OpensTo image (LacksFree (2 * sessions)) × (fault ≡ SlotsOut))
+    ⊎ OpensTo image (λ q. HasFree (2 * sessions) q × IsOther fault))

@@ -8,8 +8,8 @@ ghost use Rattle.console.specs.Checked.{PrintsChecked};
 ghost use Rattle.console.specs.Kept.{IfCheck, IfLives, Leaves, writes_file};
 ghost use Rattle.console.specs.Printed.{Prints};
 ghost use Rattle.console.specs.Scripts.{PrintsLives};
-ghost use Rattle.console.specs.Refusals.{EndsRefused, IfRefused, IsFaultOf, Refuses, refusal_line, status_of};
-ghost use Rattle.base.specs.declared.fault.Fault.TheVariants.{Device as DeviceFault, OutOfMemory};
+ghost use Rattle.console.specs.Refusals.{EndsRefused, IfRefused, IsFaultOf, Refuses, WantsMemory, refusal_line, status_of};
+ghost use Rattle.base.specs.declared.fault.Fault.TheVariants.{OutOfMemory};
 
 use crate::checking::check_file;
 use crate::ended::Ended;
@@ -126,8 +126,7 @@ fn format<W: Write>(alloc: Global, geometry: Geometry, output: &mut W) -> Result
     ensures printed { OnOk result (Appends (W.contents output.old) (W.contents output.new)
         ((codes "formatted " ++ (decimal (total_words geometry) ++ codes " words")) ++ 10 ∷ [])) }
     ensures blames { IfErr result BlamesNoLine }
-    ensures refused { IfErr result (IfRefused (λ fault. (fault ≡ OutOfMemory)
-        ⊎ ((fault ≡ DeviceFault) × (W.contents output.new ≡ W.contents output.old)))) }
+    ensures memory { IfErr result WantsMemory }
 {
     let file = fresh_file(alloc, geometry)?;
     let words = geometry.words();

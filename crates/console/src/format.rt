@@ -1,5 +1,5 @@
-ghost use Rattle.std.specs.Prelude.{◌≡◌, ◌⊎◌, IfErr, IfOk};
-ghost use Rattle.base.specs.declared.fault.Fault.TheVariants.{Device as DeviceFault, OutOfMemory};
+ghost use Rattle.std.specs.Prelude.{◌≡◌, IfErr, IfOk};
+ghost use Rattle.base.specs.declared.fault.Fault.TheVariants.{OutOfMemory};
 ghost use Rattle.command_line.specs.ImageFile.{IsFileOf};
 ghost use Rattle.base.specs.Fresh.{fresh_image};
 
@@ -12,15 +12,16 @@ use std::alloc::Global;
 /// A file that holds a fresh image.
 pub fn fresh_file(alloc: Global, geometry: Geometry) -> Result<Vec<u8>, Fault>
     ensures file { IfOk result (λ file. IsFileOf (fresh_image geometry) file.items) }
-
-    // The model takes memory for each store, and fails it where there is none.
-    ensures fault { IfErr result (λ fault. (fault ≡ OutOfMemory) ⊎ (fault ≡ DeviceFault)) }
+    ensures fault { IfErr result (λ fault. fault ≡ OutOfMemory) }
 {
     let Ok(words) = Vec::from_elem(alloc, 0, geometry.words() as usize) else {
         return Err(Fault::OutOfMemory);
     };
     let mut device = SimPmem::from_words(alloc, words.as_slice())?;
-    recovery::format(&mut device, geometry)?;
+    // A device without a fuse fails only where a store takes memory and there is none.
+    let Ok(()) = recovery::format(&mut device, geometry) else {
+        return Err(Fault::OutOfMemory);
+    };
     let image = device.image()?;
     file_of_words(alloc, image.as_slice()).map_err(|_| Fault::OutOfMemory)
 }

@@ -96,7 +96,8 @@ fn step<D: Pmem + Drop>(room: &mut Room<D>, step: Step) -> Reply
     room.step(step)
 }
 
-// Obeys one command and prints the reply. A crash is left to the caller: then this is what it keeps.
+// Obeys one command and prints the reply. A crash is left to the caller: then this is what it keeps. A device without a fuse fails
+// only where a store takes memory and there is none.
 fn obey<D: Pmem + Drop, W: Write>(
     alloc: Global,
     room: &mut Room<D>,
@@ -111,6 +112,9 @@ fn obey<D: Pmem + Drop, W: Write>(
 {
     match perform(room, command) {
         Outcome::Replied(reply) => {
+            if reply.is_failure() {
+                return Err(Stop::Refused(Fault::OutOfMemory));
+            }
             show(alloc, &reply, output)?;
             Ok(None)
         }

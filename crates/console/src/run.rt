@@ -20,7 +20,7 @@ ghost use Rattle.console.specs.Refusals.{EndsAtClose, IfRefused, IsClosingFault,
 ghost use Rattle.base.specs.declared.fault.Fault.TheVariants.{OutOfMemory};
 
 use crate::lines::obey_lines;
-use crate::stop::Stop;
+use crate::stop::{Stop, without_fuse};
 use base::fault::Fault;
 use command_line::command::Survivor;
 use command_line::image_file::{file_of_words, words_of_file};
@@ -65,7 +65,7 @@ fn open<T: Threads + Sync>(rt: &T, alloc: Global, words: &[u64]) -> Result<Room<
     let device = SimPmem::from_words(alloc, words)?;
     match Room::open(rt, alloc, device) {
         Ok(room) => Ok(room),
-        Err((fault, _device)) => Err(fault),
+        Err((fault, _device)) => Err(without_fuse(fault)),
     }
 }
 
@@ -172,11 +172,11 @@ fn close<W: Write>(alloc: Global, room: Room<SimPmem>, output: &mut W) -> Result
 
 pub(crate) fn close_room(room: Room<SimPmem>) -> Result<SimPmem, Fault>
     ensures closed { IfOk result (λ device. HasClosed device_of room (device_of device)) }
-    ensures fault { IfErr result (λ fault. (q : State) → Shows device_of room q → IsClosingFault q fault) }
+    ensures fault { IfErr result (λ fault. (fault ≡ OutOfMemory) ⊎ ((q : State) → Shows device_of room q → IsClosingFault q fault)) }
 {
     match room.close() {
         Ok(device) => Ok(device),
-        Err((fault, _device)) => Err(fault),
+        Err((fault, _device)) => Err(without_fuse(fault)),
     }
 }
 

@@ -1,6 +1,6 @@
-ghost use Rattle.std.specs.Prelude.{◌≡◌};
+ghost use Rattle.std.specs.Prelude.{◌≡◌, ◌⊎◌};
 ghost use Rattle.std.specs.IoError.{error_kind};
-ghost use Rattle.base.specs.declared.fault.Fault.TheVariants.{OutOfMemory};
+ghost use Rattle.base.specs.declared.fault.Fault.TheVariants.{Device as DeviceFault, OutOfMemory};
 ghost use Rattle.console.specs.declared.stop.Stop.TheVariants.{Refused, Broken};
 
 use base::fault::Fault;
@@ -16,6 +16,17 @@ pub enum Stop {
     NotACommand(u64),
     /// The input couldn't be read, or the output not be written, for this reason.
     Broken(ErrorKind),
+}
+
+/// The fault, on a device without a fuse: an operation fails there only where a store takes memory and there is none.
+pub(crate) fn without_fuse(fault: Fault) -> Fault
+    ensures device { fault ≡ DeviceFault → result ≡ OutOfMemory }
+    ensures other { (result ≡ OutOfMemory) ⊎ (result ≡ fault) }
+{
+    match fault {
+        Fault::Device => Fault::OutOfMemory,
+        fault => fault,
+    }
 }
 
 impl From<Fault> for Stop {

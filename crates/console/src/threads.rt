@@ -4,7 +4,7 @@ ghost use Rattle.base.specs.Machine.{State, StandsClosed};
 ghost use Rattle.base.specs.declared.fault.Fault.TheVariants.{OutOfMemory};
 ghost use Rattle.pmem_model.specs.Sim.{device_of};
 ghost use Rattle.room.specs.Room.{Shows};
-ghost use Rattle.workload.specs.Load.{HasFree, HasRunFrom, IsLoadFault, OpensTo};
+ghost use Rattle.workload.specs.Load.{HasFree, HasRunFrom, OpensTo};
 ghost use Rattle.console.specs.BadLine.{BlamesNoLine};
 ghost use Rattle.console.specs.Kept.{KeepsHistories};
 ghost use Rattle.console.specs.Refusals.{IfRefused, IsClosingFault, IsFileFault};
@@ -12,7 +12,7 @@ ghost use Rattle.console.specs.Threads.{IsThreadsFault, PrintsThreads, is_of_thr
 
 use crate::checking::show_rows;
 use crate::run::close_room;
-use crate::stop::Stop;
+use crate::stop::{Stop, without_fuse};
 use base::fault::Fault;
 use base::key::Key;
 use base::row::Row;
@@ -62,10 +62,13 @@ fn worked_on<T: Threads + Wait + Copy + Drop + Send + Sync + 'static>(
 ) -> Result<Room<SimPmem>, Fault>
     ensures from { IfOk result (λ room. ∥ HasRunFrom device_of words.now room ∥₁) }
     ensures has_slots { OnOk result (OpensTo words.now (HasFree (2 * load.sessions))) }
-    ensures fault { IfErr result (λ fault. (fault ≡ OutOfMemory) ⊎ IsLoadFault words.now load.sessions fault) }
+    ensures fault { IfErr result (λ fault. (fault ≡ OutOfMemory) ⊎ IsThreadsFault load.sessions words.now fault) }
 {
     let device = SimPmem::from_words(alloc, words)?;
-    run_load(rt, alloc, device, load)
+    match run_load(rt, alloc, device, load) {
+        Ok(room) => Ok(room),
+        Err(fault) => Err(without_fuse(fault)),
+    }
 }
 
 // What the device holds after the close of the room.

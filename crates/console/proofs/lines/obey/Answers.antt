@@ -9,7 +9,7 @@ pub returns-in_ok-show-in-Replied-clause-obeys : goal.returns-in_ok-show-in-Repl
 returns-in_ok-show-in-Replied-clause-obeys g c = (
   reply_text c.in-Replied.reply ++ 10 ∷ [],
   c.in_ok-show-in-Replied.ensures,
-  obeys-reply g.D.Pmem.state c.args.room.now c.perform.new.room c.args.command.now c.perform.result c.in-Replied.reply c.in-Replied.is c.perform.ensures.comes,
+  obeys-reply g.D.Pmem.state c.args.room.now c.perform.new.room c.args.command.now c.perform.result c.in-Replied.reply (sym c.is_failure.ensures ∙ c.if-is_failure.false) c.in-Replied.is c.perform.ensures.comes,
 )
 
 pub returns-in_ok-show-in-Replied-clause-kept : goal.returns-in_ok-show-in-Replied-clause-kept

@@ -29,5 +29,5 @@ returns-in-Ok-clause-may_open g c =
 
 pub returns-in-Err-clause-fault : goal.returns-in-Err-clause-fault
 returns-in-Err-clause-fault g c =
-    subst (λ (i : Image). (c.in-Err.fault ≡ OutOfMemory) ⊎ IsOpeningFault i c.in-Err.fault) (ap image_of c.in_ok-device.ensures.device ∙ image-restarted c.args.words.now)
-    (opening-fault (image_of (device_of c.in_ok-device.device)) _ _ c.in-Err.fault c.in-Err.ensures.fault)
+    subst (λ (i : Image). (c.without_fuse.result ≡ OutOfMemory) ⊎ IsOpeningFault i c.without_fuse.result) (ap image_of c.in_ok-device.ensures.device ∙ image-restarted c.args.words.now)
+    (opening-fault (image_of (device_of c.in_ok-device.device)) _ _ c.in-Err.fault c.without_fuse.result c.without_fuse.ensures.device c.without_fuse.ensures.other c.in-Err.ensures.fault)

@@ -10,9 +10,9 @@ use Rattle.command_line.specs.ImageFile.{IsFileOf}
 use Rattle.pmem_model.specs.Sim.{device_of}
 use Rattle.recovery.specs.Read.{IsReadRefusal}
 use Rattle.room.specs.Room.{Shows}
-use Rattle.workload.specs.Load.{HasFree, HasRunFrom, IsLoadFault, OpensTo}
+use Rattle.workload.specs.Load.{HasFree, HasRunFrom, OpensTo}
 use Rattle.console.specs.Refusals.{IsClosingFault}
-use Rattle.console.specs.Threads.{threads_text}
+use Rattle.console.specs.Threads.{IsThreadsFault, threads_text}
 use Rattle.console.proofs.Refusals.{fault-on}
 use Rattle.console.proofs.Working.{closing-fault-so, keeps-run, late-fault, load-fault, reading-fault-so}
 use Rattle.console.proofs.threads.run_threads.Goals as goal
@@ -39,7 +39,7 @@ returns-clause-keeps g c =
 
 pub returns-in_err-room-clause-refused : goal.returns-in_err-room-clause-refused
 returns-in_err-room-clause-refused g c =
-    fault-on c.from_residual-in_err-room.result _ (λ fault. (fault ≡ OutOfMemory) ⊎ IsLoadFault c.as_slice.result.now c.args.load.sessions fault) _ c.from_residual-in_err-room.ensures.1
+    fault-on c.from_residual-in_err-room.result _ (λ fault. (fault ≡ OutOfMemory) ⊎ IsThreadsFault c.args.load.sessions c.as_slice.result.now fault) _ c.from_residual-in_err-room.ensures.1
     (λ fault is. load-fault c.args.file.now c.in_ok-words.words.items c.as_slice.result.now c.args.load.sessions (g.W.Write.contents c.args.output.now) fault
     c.in_ok-words.ensures.length c.in_ok-words.ensures.ok c.as_slice.ensures.value is)
     c.in_err-room.ensures.fault

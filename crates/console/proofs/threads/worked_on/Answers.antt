@@ -7,21 +7,22 @@ use Rattle.pmem.specs.Words.{IsAtRest, image_of}
 use Rattle.pmem_model.specs.Sim.{device_of}
 use Rattle.recovery.proofs.Restarted.{restarted-rests, image-restarted}
 use Rattle.workload.specs.Load.{HasFree, HasRunFrom, IsLoadFault, OpensTo}
+use Rattle.console.proofs.Working.{load-told}
 use Rattle.console.proofs.threads.worked_on.Goals as goal
 
 pub run_load-requires-clause-at_rest : goal.run_load-requires-clause-at_rest
 run_load-requires-clause-at_rest g c κs within = subst IsAtRest (sym c.in_ok-device.ensures.device) (restarted-rests c.args.words.now)
 
-pub returns-clause-from : goal.returns-clause-from
-returns-clause-from g c =
-    subst (λ (i : Image). IfOk c.run_load.result (λ room. ∥ HasRunFrom device_of i room ∥₁)) (ap image_of c.in_ok-device.ensures.device ∙ image-restarted c.args.words.now) c.run_load.ensures.from
+pub returns-in-Ok-clause-from : goal.returns-in-Ok-clause-from
+returns-in-Ok-clause-from g c =
+    subst (λ (i : Image). ∥ HasRunFrom device_of i c.in-Ok.room ∥₁) (ap image_of c.in_ok-device.ensures.device ∙ image-restarted c.args.words.now) c.in-Ok.ensures.from
 
-pub returns-clause-has_slots : goal.returns-clause-has_slots
-returns-clause-has_slots g c =
-    subst (λ (i : Image). OnOk c.run_load.result (OpensTo i (HasFree (2 * c.args.load.sessions)))) (ap image_of c.in_ok-device.ensures.device ∙ image-restarted c.args.words.now)
-    c.run_load.ensures.has_slots
+pub returns-in-Ok-clause-has_slots : goal.returns-in-Ok-clause-has_slots
+returns-in-Ok-clause-has_slots g c =
+    subst (λ (i : Image). OpensTo i (HasFree (2 * c.args.load.sessions))) (ap image_of c.in_ok-device.ensures.device ∙ image-restarted c.args.words.now)
+    c.in-Ok.ensures.has_slots
 
-pub returns-clause-fault : goal.returns-clause-fault
-returns-clause-fault g c =
-    IfErr-weaker c.run_load.result _ _ (λ fault is. inr (subst (λ (i : Image). IsLoadFault i c.args.load.sessions fault)
-    (ap image_of c.in_ok-device.ensures.device ∙ image-restarted c.args.words.now) is)) c.run_load.ensures.fault
+pub returns-in-Err-clause-fault : goal.returns-in-Err-clause-fault
+returns-in-Err-clause-fault g c =
+    load-told c.args.words.now c.args.load.sessions c.in-Err.fault c.without_fuse.result c.without_fuse.ensures.device c.without_fuse.ensures.other
+    (subst (λ (i : Image). IsLoadFault i c.args.load.sessions c.in-Err.fault) (ap image_of c.in_ok-device.ensures.device ∙ image-restarted c.args.words.now) c.in-Err.ensures.fault)
