@@ -57,17 +57,17 @@ impl<J: Naming> Reader<J> {
         shelf.read(stamp, &key)
     }
 
-    /// Takes in what was published when the token was made. From now on it sees no less.
+    /// Takes in what was published when the token was made, and uses the token up. From now on it sees no less.
     #[tactic(auto, using(crate::proofs::Rules::begins_self))]
-    pub fn learn(&mut self, token: &Token<J>)
+    pub fn learn(&mut self, token: Token<J>)
         ensures known { Begins self.old self.new }
-        ensures told { Begins token.now self.new }
-        ensures one { (self.new ≡ self.old) ⊎ (self.new ≡ token.now) }
+        ensures told { Begins token self.new }
+        ensures one { (self.new ≡ self.old) ⊎ (self.new ≡ token) }
     {
         self.front.is_published();
         token.front.is_published();
         if self.front.begins(&token.front) {
-            self.front = token.front.again();
+            self.front = token.front;
         }
     }
 }

@@ -71,10 +71,10 @@ fn one_commit<J: Naming, R: Wait>(
     let reader = &mut readers[0];
     add(alloc, &mut board, Row::new(&[1])?)?;
     let token = board.token();
-    reader.learn(&token);
+    reader.learn(board.token());
     let before = answers(reader);
     board.prune(token.stamp())?;
-    reader.learn(&board.token());
+    reader.learn(board.token());
     Ok(OneCommit {
         stamp: token.stamp(),
         covers: (token.covers(1), token.covers(2)),
@@ -143,7 +143,7 @@ fn twenty_commits<J: Naming, R: Wait>(
     let (mut board, mut readers) = Board::<J, &R>::open(rt, alloc, history, 2, 0, &[], 1)?;
     let reader = &mut readers[0];
     add_many(alloc, &mut board, 20)?;
-    reader.learn(&board.token());
+    reader.learn(board.token());
     let bounds = reader.at();
     let rows = [
         reader.read(6, KEY),
@@ -213,8 +213,9 @@ fn learn<J: Naming>(rt: &impl Wait, reader: Reader<J>, desk: &Desk<J>) -> (Reade
     for _ in rt.forever() {
         match desk.lock(rt).take() {
             Some(Ok(token)) => {
-                reader.learn(&token);
-                let answer = reader.read(token.stamp(), KEY);
+                let stamp = token.stamp();
+                reader.learn(token);
+                let answer = reader.read(stamp, KEY);
                 return (reader, answer);
             }
             Some(Err(fault)) => return (reader, Err(fault)),

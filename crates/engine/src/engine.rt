@@ -141,7 +141,7 @@ impl<D: Pmem + Drop, J: Origin, B: Drop> Engine<D, J, B> {
         match readers.pop() {
             Some(reader) => {
                 let mut reader = reader;
-                reader.learn(&self.told);
+                reader.learn(self.told.again());
                 Ok(reader)
             }
             None => Err(Fault::ReadersOut),

@@ -29,6 +29,7 @@ use Rattle.lives.specs.Plain.{asked_of, report_of}
 use Rattle.lives.specs.Chains.{fresh_world, AreLives}
 use Rattle.lives.specs.Stops.{AreStopped, IsStopped, WhereItStands}
 use Rattle.lives.specs.Parts.{HasLived, HasObeyed, HasEnded, MayAsk, HasPlayed}
+use Rattle.lives.proofs.Taken.{runs-up}
 use Rattle.lives.proofs.Ends.{leaves-now, log-first, first-damage, may-ask, ends-as_asked}
 
 -- ---- an opening that was refused
@@ -117,30 +118,31 @@ pub opens-so : (q : State) (gate persisted dirty next : ℕ) (gaps : List Gap) (
 opens-so q gate persisted dirty next gaps rows g p d n l = λ i. Opens (record { gate = g i; persisted = p i; dirty = d i }) (n i) (l i) rows
 
 -- steps and an end make a life
-pub played-so : (q : State) (rows : List (Key × List ℕ)) (life : Life) (report : LifeReport) (image : Image) (failed : Bool) (P : State → Type 0)
+pub played-so : (q : State) (device left : Device) (rows : List (Key × List ℕ)) (life : Life) (report : LifeReport) (image : Image) (failed : Bool) (P : State → Type 0)
     → q.failed ≡ false → (report_of report).opening ≡ Opens (state_numbers q) q.next q.ruling.gaps rows
-    → HasObeyed q life.steps.items report.replies.items failed P
+    → HasObeyed q device life.steps.items report.replies.items failed left P
     → ((q' : State) → P q' → MayAsk (life.close && not failed) q' → HasEnded q' (life.close && not failed) (report_of report).closed image)
     → HasPlayed q rows life report image
-played-so q rows life report image failed P works opening obeyed ends =
-    let last = final q obeyed.states in
+played-so q device left rows life report image failed P works opening obeyed ends =
+    let last = obeyed.last in
     let is : last.failed ≡ failed = obeyed.failure works in
+    let run = runs-up q device life.steps.items report.replies.items last left obeyed.runs in
     record {
       opening = opening;
-      states = obeyed.states;
-      runs = obeyed.runs;
-      ends = ends-as_asked last life.close failed (report_of report).closed image is (ends last obeyed.after_it (may-ask last life.close failed is));
+      states = run.0;
+      runs = run.1;
+      ends = subst (λ (s : State). HasEnded s life.close (report_of report).closed image) (sym run.2) (ends-as_asked last life.close failed (report_of report).closed image is (ends last obeyed.after_it (may-ask last life.close failed is)));
     }
 
 -- ---- one life after another
 
 stopped-more : (before : World) (lives : List Life) (reports : List LifeReport) (mid : World) (a : Life) (r : LifeReport) (last : World)
-    → AreStopped before lives reports mid → PlainLife mid (asked_of a) (report_of r) last → IsStopped a r mid.image last.image
+    → AreStopped before lives reports mid → PlainLife mid (asked_of a) (report_of r) last → IsStopped a r mid last.image
     → AreStopped before (lives ++ a ∷ []) (reports ++ r ∷ []) last
 stopped-more before [] [] mid a r last e life stop = (
   last,
   subst (λ (w : World). PlainLife w (asked_of a) (report_of r) last) e life,
-  subst (λ (w : World). IsStopped a r w.image last.image) e stop,
+  subst (λ (w : World). IsStopped a r w last.image) e stop,
   refl,
 )
 stopped-more before (b ∷ lives) (s ∷ reports) mid a r last (next, first, stop, rest) life stop' = (next, first, stop, stopped-more next lives reports mid a r last rest life stop')
@@ -164,14 +166,12 @@ pub chain-none : (layout : Layout) (image : Image) → image ≡ (fresh_world la
 chain-none layout image is = record { last = fresh_world layout; stopped = refl; left = sym is }
 
 pub chain-more : (layout : Layout) (lives : List Life) (reports : List LifeReport) (image image' : Image) (life : Life) (report : LifeReport)
-    → IsWorld (fresh_world layout) → Chain layout lives reports image → HasLived image life report image' → WhereItStands image (IsStopped life report image image')
+    → IsWorld (fresh_world layout) → Chain layout lives reports image → HasLived image life report image' → WhereItStands image (λ before. IsStopped life report before image')
     → Chain layout (lives ++ life ∷ []) (reports ++ report ∷ []) image'
 chain-more layout lives reports image image' life report w chain lived stops =
     let stands = lives-stand (fresh_world layout) (map asked_of lives) (map report_of reports) chain.last w (plain-lives (fresh_world layout) lives reports chain.last chain.stopped) in
     let one = lived chain.last stands chain.left in
-    let stop : IsStopped life report chain.last.image one.0.image =
-    subst (λ (i : Image). IsStopped life report i one.0.image) (sym chain.left)
-    (subst (λ (i : Image). IsStopped life report image i) (sym one.1) (stops chain.last stands chain.left)) in
+    let stop : IsStopped life report chain.last one.0.image = subst (λ (i : Image). IsStopped life report chain.last i) (sym one.1) (stops chain.last stands chain.left) in
     record {
       last = one.0;
       stopped = stopped-more (fresh_world layout) lives reports chain.last life report one.0 chain.stopped one.2 stop;

@@ -3,31 +3,33 @@ use Rattle.std.proofs.Common.{◌≡◌, ◌⊎◌, inl, inr, ℕ, ◌+◌, ◌<
 use Rattle.std.specs.Prelude.{Contains, Option, Some, None, Result, Ok, Err, IfErr}
 use Rattle.std.specs.Option.{option_map}
 use Rattle.std.proofs.lemmas.Bool.{cases_lt}
-use Rattle.std.proofs.lemmas.List.Elements.{Contains-append_left, Contains-push, Contains-push_cases}
+use Rattle.std.proofs.lemmas.List.Elements.{Contains-append_cases, Contains-append_left, Contains-append_right, Contains-push, Contains-push_cases}
 use Rattle.base.specs.declared.fault.Fault.{Fault}
 use Rattle.base.specs.declared.fault.Fault.TheVariants.{Device as DeviceFault, OutOfMemory, NotFormatted, Version, BadGeometry, Damaged, TimestampsOut, Failed}
 use Rattle.base.specs.declared.step.Step.{Step}
 use Rattle.base.specs.declared.step.Reply.{Reply}
 use Rattle.base.specs.declared.step.Reply.TheVariants.{Refused}
 use Rattle.base.specs.Search.{first_of, first_below, some_if}
-use Rattle.base.specs.Images.{Image, opening_fault, damage, faults_of, log_damage, layout_of, is_wrong_gate, ruling, ruling_place, is_bad_slot, is_near_limit}
-use Rattle.base.specs.Machine.{State, closing_fault, closing_gate}
-use Rattle.pmem.specs.Device.{Device, IsOrderly, limited, restarted}
-use Rattle.pmem.specs.Words.{Continues}
+use Rattle.base.specs.Images.{Image, opening_fault, damage, faults_of, log_damage, layout_of, is_wrong_gate, needs_sweep, ruling, ruling_place, is_bad_slot, is_near_limit}
+use Rattle.base.specs.Openings.{OpensAs, StandsOpening, lines_swept, words_swept}
+use Rattle.base.specs.Lives.{World}
+use Rattle.base.specs.Machine.{State, StandsClosed, StandsClosing, closing_fault, closing_gate}
+use Rattle.pmem.specs.Device.{Device, IsOrderly, MayLeave, limited, restarted}
+use Rattle.pmem.specs.Words.{Continues, LeavesOnly, Makes}
 use Rattle.pmem.proofs.Images.{continues_refl, continues_trans}
 use Rattle.pmem_model.specs.declared.choice.Choice.{Choice}
 use Rattle.pmem_model.specs.Chosen.{IsChosen}
 use Rattle.pmem_model.specs.Sim.{IsWithinLimit}
 use Rattle.recovery.specs.Opened.{IsRefusal}
-use Rattle.pmem.specs.declared.device.Pmem.{Ghosts}
 use Rattle.room.specs.Closing.{IsClosingRefusal}
-use Rattle.room.specs.Room.{StepsTo, device_of as device_in}
-use Rattle.room.specs.declared.room.Room.{Room}
+use Rattle.room.specs.Committing.{Shows}
+use Rattle.room.specs.Steps.{StepsTo}
+use Rattle.room.specs.declared.committer.Committer.{Committer}
 use Rattle.lives.specs.declared.life.Life.{Life}
 use Rattle.lives.specs.declared.life.LifeReport.{LifeReport}
 use Rattle.lives.specs.declared.life.Numbers.{Numbers}
 use Rattle.lives.specs.declared.life.Opened.{Opened}
-use Rattle.lives.specs.Stops.{ClosesWithDevice, ReportsDevice, GoesOn, StopsBy, IsStopped}
+use Rattle.lives.specs.Stops.{ClosesWithDevice, EndsOn, FailsOn, GoesOn, IsStopped, LivesOn, OpensOn, PlaysOn, ReportsDevice, StepsOn, StopsBy}
 use Rattle.lives.proofs.Ends.{log-first}
 
 -- ---- going on
@@ -65,23 +67,45 @@ goes-nowhere old new same none = goes-quietly (subst (λ (d : Device). Continues
 none-yet : (reply : Reply) → Contains [] reply → ⊥
 none-yet reply (k, lt, is) = omega (arith, lt)
 
--- no reply yet
-pub goes-nowhere-yet : (device : Device) (replies : List Reply) → replies ≡ [] → GoesOn device device (Contains replies (Refused DeviceFault))
-goes-nowhere-yet device replies empty = goes-nowhere device device refl (λ has. none-yet (Refused DeviceFault) (subst (λ (l : List Reply). Contains l (Refused DeviceFault)) empty has))
+-- without a reply
+goes-silent : (device end : Device) (replies : List Reply) → end ≡ device → replies ≡ [] → GoesOn device end (Contains replies (Refused DeviceFault))
+goes-silent device end replies is empty = goes-nowhere device end is (λ has. none-yet (Refused DeviceFault) (subst (λ (l : List Reply). Contains l (Refused DeviceFault)) empty has))
 
--- a reply more
-pub goes-on-replying : {old mid new : Device} (replies : List Reply) (reply : Reply) → GoesOn old mid (Contains replies (Refused DeviceFault)) → GoesOn mid new (reply ≡ Refused DeviceFault)
-    → GoesOn old new (Contains (replies ++ reply ∷ []) (Refused DeviceFault))
-goes-on-replying replies reply first then =
+has-first : (reply : Reply) (replies : List Reply) → Contains (reply ∷ replies) (Refused DeviceFault) → (reply ≡ Refused DeviceFault) ⊎ Contains replies (Refused DeviceFault)
+has-first reply replies has = by (Contains-append_cases (reply ∷ []) replies (Refused DeviceFault) has)
+  where
+    one : Contains [] (Refused DeviceFault) ⊎ (reply ≡ Refused DeviceFault) → (reply ≡ Refused DeviceFault) ⊎ Contains replies (Refused DeviceFault)
+    one (inl has) = absurd (none-yet (Refused DeviceFault) has)
+    one (inr is) = inl is
+
+    by : Contains (reply ∷ []) (Refused DeviceFault) ⊎ Contains replies (Refused DeviceFault) → (reply ≡ Refused DeviceFault) ⊎ Contains replies (Refused DeviceFault)
+    by (inl first) = one (Contains-push_cases [] reply (Refused DeviceFault) first)
+    by (inr later) = inr later
+
+-- a step before them
+goes-before : {old mid new : Device} (reply : Reply) (replies : List Reply) → GoesOn old mid (reply ≡ Refused DeviceFault) → GoesOn mid new (Contains replies (Refused DeviceFault))
+    → GoesOn old new (Contains (reply ∷ replies) (Refused DeviceFault))
+goes-before reply replies first then =
     goes-on first then
-    (λ has. Contains-append_left replies (reply ∷ []) (Refused DeviceFault) has)
-    (λ is. subst (λ (r : Reply). Contains (replies ++ reply ∷ []) r) is (Contains-push replies reply))
-    (λ has. Contains-push_cases replies reply (Refused DeviceFault) has)
+    (λ is. subst (λ (r : Reply). Contains (reply ∷ replies) r) is (Contains-append_left (reply ∷ []) replies reply (Contains-push [] reply)))
+    (λ has. Contains-append_right (reply ∷ []) replies (Refused DeviceFault) has)
+    (λ has. has-first reply replies has)
 
--- a step of the room
-pub step-goes : {D : Type 0} {G : Ghosts D} (state : D → Device) (old new : Room D G) (step : Step) (reply : Reply) (q : State) → (q' : State) × StepsTo state old new step reply q q'
-    → GoesOn (device_in state old) (device_in state new) (reply ≡ Refused DeviceFault)
-step-goes state old new step reply q (q', steps) = record { continues = steps.images.continues; cause = steps.failure.cause; shown = steps.failure.shown }
+-- a step
+step-goes : (committer : Committer) (device next : Device) (step : Step) (reply : Reply) (q q' : State) → StepsTo committer device next step reply q q'
+    → GoesOn device next (reply ≡ Refused DeviceFault)
+step-goes committer device next step reply q q' taken = record { continues = taken.images.continues; cause = taken.failure.cause; shown = taken.failure.shown }
+
+-- steps
+steps-go : (q : State) (device : Device) (steps : List Step) (replies : List Reply) (last : State) (end : Device) → StepsOn q device steps replies last end
+    → GoesOn device end (Contains replies (Refused DeviceFault))
+steps-go q device [] [] last end (same, is) = goes-silent device end [] is refl
+steps-go q device (step ∷ steps) (reply ∷ replies) last end (q', next, committer, taken, inl (fails, none, same, is)) =
+    goes-before reply replies (step-goes committer device next step reply q q' taken) (goes-silent next end replies is none)
+steps-go q device (step ∷ steps) (reply ∷ replies) last end (q', next, committer, taken, inr (works, rest)) =
+    goes-before reply replies (step-goes committer device next step reply q q' taken) (steps-go q' next steps replies last end rest)
+steps-go q device [] (reply ∷ replies) last end none = absurd none
+steps-go q device (step ∷ steps) [] last end none = absurd none
 
 -- ---- what no refusal is for
 
@@ -198,16 +222,39 @@ refused-goes old new image fault report opening replies closed refusal continues
     by (inl (why, same)) = goes-nowhere old new same (other why)
     by (inr (none, is, more)) = record { continues = continues; cause = λ told. more; shown = λ failed. inl (opening ∙ ap Err is) }
 
+-- what is known of the image before holds of what it stands for
+pub fails-on : (old new : Device) (image : Image) (before : World) (report : LifeReport) (fault : Fault) → report.opening ≡ Err fault → before.image ≡ image
+    → IsRefusal (opening_fault image) old new fault → LeavesOnly old new (StandsOpening image before.history before.next) → FailsOn old before report new
+fails-on old new image before report fault fails same refusal images = record {
+  fault = fault;
+  fails = fails;
+  refusal = subst (λ (i : Image). IsRefusal (opening_fault i) old new fault) (sym same) refusal;
+  images = subst (λ (i : Image). LeavesOnly old new (StandsOpening i before.history before.next)) (sym same) images;
+}
+
+pub opens-on : (old new : Device) (image : Image) (before : World) (q : State) (committer : Committer) → before.image ≡ image → OpensAs image before.history before.lost q
+    → (needs_sweep image ≡ false → Makes 32 5 2 0 old new) → (needs_sweep image ≡ true → Makes (32 + words_swept image) (5 + lines_swept image) 3 0 old new)
+    → LeavesOnly old new (StandsOpening image before.history before.next) → Shows committer new q → OpensOn old before q new
+opens-on old new image before q committer same opens made made_sweeping images shows = record {
+  opens = subst (λ (i : Image). OpensAs i before.history before.lost q) (sym same) opens;
+  made = subst (λ (i : Image). needs_sweep i ≡ false → Makes 32 5 2 0 old new) (sym same) made;
+  made_sweeping = subst (λ (i : Image). needs_sweep i ≡ true → Makes (32 + words_swept i) (5 + lines_swept i) 3 0 old new) (sym same) made_sweeping;
+  images = subst (λ (i : Image). LeavesOnly old new (StandsOpening i before.history before.next)) (sym same) images;
+  committer = committer;
+  shows = shows;
+}
+
 ok-not : (opened : Opened) → ◌≡◌ {A = Result Opened Fault} (Ok opened) (Err DeviceFault) → ⊥
 ok-not opened e = cc
 
 -- a life whose opening succeeded goes on by its steps, and up to its stop
-pub played-stops : (choice : Choice) (old mid : Device) (left : Image) (opened : Opened) (report : LifeReport) → report.opening ≡ Ok opened
-    → GoesOn old mid (Contains report.replies.items (Refused DeviceFault)) → StopsBy choice mid (ClosesWithDevice report.closed) left
-    → StopsBy choice old (ReportsDevice report) left
-played-stops choice old mid left opened report opening replied stops = record {
+pub played-stops : (life : Life) (q after : State) (old mid : Device) (left : Image) (opened : Opened) (report : LifeReport) → report.opening ≡ Ok opened
+    → StepsOn q old life.steps.items report.replies.items after mid → StopsBy life.choice mid (ClosesWithDevice report.closed) (EndsOn after report.closed mid) left
+    → StopsBy life.choice old (ReportsDevice report) (PlaysOn q old life report) left
+played-stops life q after old mid left opened report opening steps stops = record {
   last = stops.last;
-  goes_on = goes-on replied stops.goes_on (λ has. inr (inl has)) (λ told. inr (inr told)) cases;
+  leads = record { opening = opened; opens = opening; after = after; left = mid; steps = steps; ends = stops.leads };
+  goes_on = goes-on (steps-go q old life.steps.items report.replies.items after mid steps) stops.goes_on (λ has. inr (inl has)) (λ told. inr (inr told)) cases;
   orderly = stops.orderly;
   within = stops.within;
   chosen = stops.chosen;
@@ -218,10 +265,12 @@ played-stops choice old mid left opened report opening replied stops = record {
     cases (inr later) = later
 
 -- the opening came before
-pub opened-stops : {R : Type 0} (choice : Choice) (old mid : Device) (left : Image) → Continues old mid → mid.failures ≡ old.failures → StopsBy choice mid R left → StopsBy choice old R left
-opened-stops choice old mid left continues same stops = record {
+pub opened-stops : {R : Type 0} (life : Life) (report : LifeReport) (before : World) (q : State) (old mid : Device) (left : Image) → OpensOn old before q mid → mid.failures ≡ old.failures
+    → StopsBy life.choice mid R (PlaysOn q mid life report) left → StopsBy life.choice old R (LivesOn old before life report) left
+opened-stops life report before q old mid left opens same stops = record {
   last = stops.last;
-  goes_on = goes-on (goes-quietly {R = ⊥} continues same (λ e. e)) stops.goes_on (λ e. absurd e) (λ told. told) (λ told. inr told);
+  leads = inr (q, mid, opens, stops.leads);
+  goes_on = goes-on (goes-quietly {R = ⊥} opens.images.continues same (λ e. e)) stops.goes_on (λ e. absurd e) (λ told. told) (λ told. inr told);
   orderly = stops.orderly;
   within = stops.within;
   chosen = stops.chosen;
@@ -230,9 +279,9 @@ opened-stops choice old mid left continues same stops = record {
 -- ---- an end
 
 -- without a close
-pub open-stops : (choice : Choice) (old last : Device) (left : Image) → last ≡ old → IsOrderly last → IsWithinLimit last → IsChosen choice last left
-    → StopsBy choice old (ClosesWithDevice None) left
-open-stops choice old last left same tidy within chosen = record { last = last; goes_on = goes-nowhere old last same none-closed; orderly = tidy; within = within; chosen = chosen }
+pub open-stops : (choice : Choice) (q : State) (old last : Device) (left : Image) → last ≡ old → IsOrderly last → IsWithinLimit last → IsChosen choice last left
+    → StopsBy choice old (ClosesWithDevice None) (EndsOn q None old) left
+open-stops choice q old last left same tidy within chosen = record { last = last; leads = same; goes_on = goes-nowhere old last same none-closed; orderly = tidy; within = within; chosen = chosen }
 
 some-closed : (told : Result Numbers Fault) → ClosesWithDevice (Some told) → told ≡ Err DeviceFault
 some-closed told e = ap by e
@@ -252,32 +301,37 @@ read-not image (Ok numbers) sound is e = numbers-not numbers e
 read-not image (Err fault) sound is e = sound-not (damage image) fault sound (log-first image fault is)
 
 -- after a close that succeeded
-pub closed-stops : (choice : Choice) (old last : Device) (left : Image) (told : Result Numbers Fault) → Continues old last → last.failures ≡ old.failures
-    → damage left ≡ None → IfErr told (λ fault. log_damage left ≡ Some fault) → IsOrderly last → IsWithinLimit last → IsChosen choice last left
-    → StopsBy choice old (ClosesWithDevice (Some told)) left
-closed-stops choice old last left told continues same sound is tidy within chosen = record {
+pub closed-stops : (choice : Choice) (q : State) (old last : Device) (left : Image) (told : Result Numbers Fault) → LeavesOnly old last (StandsClosing q) → last.failures ≡ old.failures
+    → ((image : Image) → MayLeave last image → StandsClosed q image) → damage left ≡ None → IfErr told (λ fault. log_damage left ≡ Some fault)
+    → IsOrderly last → IsWithinLimit last → IsChosen choice last left → StopsBy choice old (ClosesWithDevice (Some told)) (EndsOn q (Some told) old) left
+closed-stops choice q old last left told images same closed sound is tidy within chosen = record {
   last = last;
+  leads = by told is;
   orderly = tidy;
-  goes_on = goes-quietly continues same (λ e. read-not left told sound is (some-closed told e));
+  goes_on = goes-quietly images.continues same (λ e. read-not left told sound is (some-closed told e));
   within = within;
   chosen = chosen;
 }
+  where
+    by : (told : Result Numbers Fault) → IfErr told (λ fault. log_damage left ≡ Some fault) → EndsOn q (Some told) old last
+    by (Ok numbers) is = (same, images, closed)
+    by (Err fault) is = absurd (sound-not (damage left) fault sound (log-first left fault is))
 
 abbrev close-fault : Result Numbers Fault → Fault
 close-fault (Ok numbers) = OutOfMemory
 close-fault (Err fault) = fault
 
 -- within a close that failed
-pub refused-stops : (choice : Choice) (q : State) (old last : Device) (left : Image) (fault : Fault) → Continues old last → IsClosingRefusal q old last fault
-    → IsOrderly last → IsWithinLimit last → IsChosen choice last left → StopsBy choice old (ClosesWithDevice (Some (Err fault))) left
-refused-stops choice q old last left fault continues refusal tidy within chosen = record { last = last; goes_on = by refusal; orderly = tidy; within = within; chosen = chosen }
+pub refused-stops : (choice : Choice) (q : State) (old last : Device) (left : Image) (fault : Fault) → LeavesOnly old last (StandsClosing q) → IsClosingRefusal q old last fault
+    → IsOrderly last → IsWithinLimit last → IsChosen choice last left → StopsBy choice old (ClosesWithDevice (Some (Err fault))) (EndsOn q (Some (Err fault)) old) left
+refused-stops choice q old last left fault images refusal tidy within chosen = record { last = last; leads = (refusal, images); goes_on = by refusal; orderly = tidy; within = within; chosen = chosen }
   where
     is_device : ClosesWithDevice (Some (Err fault)) → fault ≡ DeviceFault
     is_device told = ap close-fault (some-closed (Err fault) told)
 
     by : IsClosingRefusal q old last fault → GoesOn old last (ClosesWithDevice (Some (Err fault)))
     by (inl (because, same)) = goes-nowhere old last same (λ told. closing-not q (because ∙ ap Some (is_device told)))
-    by (inr (none, is, more)) = record { continues = continues; cause = λ told. more; shown = λ failed. ap (λ (f : Fault). Some (Err f)) is }
+    by (inr (none, is, more)) = record { continues = images.continues; cause = λ told. more; shown = λ failed. ap (λ (f : Fault). Some (Err f)) is }
 
 -- ---- a life
 
@@ -286,15 +340,16 @@ from-nothing None = refl
 from-nothing (Some n) = ap Some (omega arith)
 
 -- its device began with the image at rest, under its fuse
-pub is-stopped : (life : Life) (report : LifeReport) (image left : Image) (begun : Device) → begun ≡ limited life.fuse (restarted image)
-    → StopsBy life.choice begun (ReportsDevice report) left → IsStopped life report image left
-is-stopped life report image left begun is stops =
+pub is-stopped : (life : Life) (report : LifeReport) (before : World) (left : Image) (begun : Device) → begun ≡ limited life.fuse (restarted before.image)
+    → StopsBy life.choice begun (ReportsDevice report) (LivesOn begun before life report) left → IsStopped life report before left
+is-stopped life report before left begun is stops =
     let last = stops.last in
     let limit : last.limit ≡ life.fuse = stops.goes_on.continues.same_limit ∙ ap (λ (d : Device). d.limit) is ∙ from-nothing life.fuse in
     let none : begun.failures ≡ 0 = ap (λ (d : Device). d.failures) is in
     let within = stops.within in
     record {
       last = last;
+      lives = subst (λ (d : Device). LivesOn d before life report last) is stops.leads;
       goes_on = subst (λ (d : Device). Continues d last) is stops.goes_on.continues;
       orderly = stops.orderly;
       counted = within.counted;

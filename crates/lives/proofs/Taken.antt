@@ -1,68 +1,97 @@
 -- Steps one after another, up to the first in which the device fails.
-use Rattle.std.proofs.Common.{◌≡◌, true, false, List, [], ◌∷◌, ◌++◌, refl, sym, ◌∙◌, ap, subst, append-nil, append_assoc, inl, inr}
+use Rattle.std.proofs.Common.{◌≡◌, Bool, true, false, List, [], ◌∷◌, ◌++◌, refl, sym, ◌∙◌, ap, subst, append-nil, append_assoc, inl, inr}
 use Rattle.base.specs.declared.step.Step.{Step}
 use Rattle.base.specs.declared.step.Reply.{Reply}
-use Rattle.base.specs.Machine.{State, Stepped, final}
+use Rattle.base.specs.Machine.{State, final}
 use Rattle.base.specs.Lives.{RunsUp, is_failure}
 use Rattle.base.proofs.Failures.{failed-after}
-use Rattle.base.proofs.Runs.{final-append}
+use Rattle.pmem.specs.Device.{Device}
+use Rattle.pmem.specs.declared.device.Pmem.{Ghosts}
+use Rattle.room.specs.Room.{Shows, StepsTo as RoomStepsTo, device_of as device_in}
+use Rattle.room.specs.Steps.{StepsTo}
+use Rattle.room.specs.declared.committer.Committer.{Committer}
+use Rattle.room.specs.declared.room.Room.{Room}
 use Rattle.lives.specs.Parts.{HasObeyed}
+use Rattle.lives.specs.Stops.{StepsOn}
+
+-- ---- one step
+
+-- from any state of which the first holds the step leads to one of which the other does
+abbrev pub Takes : (State → Type 0) → Device → Step → Reply → Device → (State → Type 0) → Type 0
+Takes P device step reply next P' = (q : State) → P q → (q' : State) × (committer : Committer) × StepsTo committer device next step reply q q' × P' q'
+
+-- a step of the room does
+pub room-takes : {D : Type 0} {G : Ghosts D} (state : D → Device) (old new : Room D G) (step : Step) (reply : Reply)
+    → ((q : State) → Shows state old q → (q' : State) × RoomStepsTo state old new step reply q q')
+    → Takes (Shows state old) (device_in state old) step reply (device_in state new) (Shows state new)
+room-takes state old new step reply taken q shows =
+    let made = taken q shows in
+    let s = made.1 in (
+      made.0,
+      new.committer,
+      record { stepped = s.stepped; shows = s.shows.agrees.shown; images = s.images; failure = s.failure; operations = s.operations; actor = s.actor },
+      s.shows,
+    )
 
 -- ---- some of the steps
 
 -- these have their replies, the device has not failed, and whatever goes on from there goes on from the first state
-pub record SoFar (q : State) (steps : List Step) (replies : List Reply) (P : State → Type 0) : Type 0 where
-  pub states : List State
-  pub goes_on : (more : List Step) (later : List Reply) (on : List State) → RunsUp (final q states) more later on → RunsUp q (steps ++ more) (replies ++ later) (states ++ on)
-  pub after_it : P (final q states)
-  pub works : q.failed ≡ false → (final q states).failed ≡ false
+pub record SoFar (q : State) (device : Device) (steps : List Step) (replies : List Reply) (now : Device) (P : State → Type 0) : Type 0 where
+  pub at : State
+  pub goes_on : (more : List Step) (later : List Reply) (last : State) (end : Device) → StepsOn at now more later last end → StepsOn q device (steps ++ more) (replies ++ later) last end
+  pub after_it : P at
+  pub works : q.failed ≡ false → at.failed ≡ false
 
-pub so-far-none : (q : State) (P : State → Type 0) → P q → SoFar q [] [] P
-so-far-none q P p = record { states = []; goes_on = λ more later on runs. runs; after_it = p; works = λ works. works }
+pub so-far-none : (q : State) (device : Device) (P : State → Type 0) → P q → SoFar q device [] [] device P
+so-far-none q device P p = record { at = q; goes_on = λ more later last end runs. runs; after_it = p; works = λ works. works }
 
--- a step from any state of which the first holds
-abbrev pub Steps : (State → Type 0) → Step → Reply → (State → Type 0) → Type 0
-Steps P step reply P' = (q : State) → P q → (q' : State) × Stepped q step reply q' × P' q'
-
-pub so-far-more : (q : State) (steps : List Step) (replies : List Reply) (P P' : State → Type 0) (step : Step) (reply : Reply)
-    → is_failure reply ≡ false → SoFar q steps replies P → Steps P step reply P' → SoFar q (steps ++ step ∷ []) (replies ++ reply ∷ []) P'
-so-far-more q steps replies P P' step reply works so_far one =
-    let took = one (final q so_far.states) so_far.after_it in
-    let q' = took.0 in
-    let ends : final q (so_far.states ++ q' ∷ []) ≡ q' = final-append q so_far.states q' in
+pub so-far-more : (q : State) (device now next : Device) (steps : List Step) (replies : List Reply) (P P' : State → Type 0) (step : Step) (reply : Reply)
+    → is_failure reply ≡ false → SoFar q device steps replies now P → Takes P now step reply next P' → SoFar q device (steps ++ step ∷ []) (replies ++ reply ∷ []) next P'
+so-far-more q device now next steps replies P P' step reply works so_far one =
+    let took = one so_far.at so_far.after_it in
     record {
-      states = so_far.states ++ q' ∷ [];
-      goes_on = λ more later on runs.
-          let whole : RunsUp q (steps ++ step ∷ more) (replies ++ reply ∷ later) (so_far.states ++ q' ∷ on) =
-          so_far.goes_on (step ∷ more) (reply ∷ later) (q' ∷ on) (took.1, inr (works, subst (λ (x : State). RunsUp x more later on) ends runs)) in
-          subst (λ (x : List State). RunsUp q ((steps ++ step ∷ []) ++ more) ((replies ++ reply ∷ []) ++ later) x) (sym (append_assoc so_far.states (q' ∷ []) on))
-          (subst (λ (x : List Reply). RunsUp q ((steps ++ step ∷ []) ++ more) x (so_far.states ++ q' ∷ on)) (sym (append_assoc replies (reply ∷ []) later))
-          (subst (λ (x : List Step). RunsUp q x (replies ++ reply ∷ later) (so_far.states ++ q' ∷ on)) (sym (append_assoc steps (step ∷ []) more)) whole));
-      after_it = subst P' (sym ends) took.2;
-      works = λ began. ap (λ (x : State). x.failed) ends ∙ failed-after (final q so_far.states) step reply q' took.1 (so_far.works began) ∙ works;
+      at = took.0;
+      goes_on = λ more later last end runs.
+          subst (λ (x : List Reply). StepsOn q device ((steps ++ step ∷ []) ++ more) x last end) (sym (append_assoc replies (reply ∷ []) later))
+          (subst (λ (x : List Step). StepsOn q device x (replies ++ reply ∷ later) last end) (sym (append_assoc steps (step ∷ []) more))
+          (so_far.goes_on (step ∷ more) (reply ∷ later) last end (took.0, next, took.1, took.2, inr (works, runs))));
+      after_it = took.3;
+      works = λ began. failed-after so_far.at step reply took.0 took.2.stepped (so_far.works began) ∙ works;
     }
 
 -- all steps are taken
-pub obeyed-all : (q : State) (steps : List Step) (replies : List Reply) (P : State → Type 0) → SoFar q steps replies P → HasObeyed q steps replies false P
-obeyed-all q steps replies P so_far = record {
-  states = so_far.states;
-  runs = subst (λ (x : List State). RunsUp q steps replies x) (append-nil so_far.states)
-      (subst (λ (x : List Reply). RunsUp q steps x (so_far.states ++ [])) (append-nil replies)
-      (subst (λ (x : List Step). RunsUp q x (replies ++ []) (so_far.states ++ [])) (append-nil steps) (so_far.goes_on [] [] [] tt)));
+pub obeyed-all : (q : State) (device now : Device) (steps : List Step) (replies : List Reply) (P : State → Type 0) → SoFar q device steps replies now P
+    → HasObeyed q device steps replies false now P
+obeyed-all q device now steps replies P so_far = record {
+  last = so_far.at;
+  runs = subst (λ (x : List Reply). StepsOn q device steps x so_far.at now) (append-nil replies)
+      (subst (λ (x : List Step). StepsOn q device x (replies ++ []) so_far.at now) (append-nil steps) (so_far.goes_on [] [] so_far.at now (refl, refl)));
   after_it = so_far.after_it;
   failure = so_far.works;
 }
 
 -- the next one is the first in which the device fails
-pub obeyed-failed : (q : State) (steps : List Step) (replies : List Reply) (P P' : State → Type 0) (step : Step) (reply : Reply) (unread : List Step)
-    → is_failure reply ≡ true → SoFar q steps replies P → Steps P step reply P' → HasObeyed q (steps ++ step ∷ unread) (replies ++ reply ∷ []) true P'
-obeyed-failed q steps replies P P' step reply unread fails so_far one =
-    let took = one (final q so_far.states) so_far.after_it in
-    let q' = took.0 in
-    let ends : final q (so_far.states ++ q' ∷ []) ≡ q' = final-append q so_far.states q' in
+pub obeyed-failed : (q : State) (device now next : Device) (steps : List Step) (replies : List Reply) (P P' : State → Type 0) (step : Step) (reply : Reply) (unread : List Step)
+    → is_failure reply ≡ true → SoFar q device steps replies now P → Takes P now step reply next P'
+    → HasObeyed q device (steps ++ step ∷ unread) (replies ++ reply ∷ []) true next P'
+obeyed-failed q device now next steps replies P P' step reply unread fails so_far one =
+    let took = one so_far.at so_far.after_it in
     record {
-      states = so_far.states ++ q' ∷ [];
-      runs = so_far.goes_on (step ∷ unread) (reply ∷ []) (q' ∷ []) (took.1, inl (fails, refl, refl));
-      after_it = subst P' (sym ends) took.2;
-      failure = λ began. ap (λ (x : State). x.failed) ends ∙ failed-after (final q so_far.states) step reply q' took.1 (so_far.works began) ∙ fails;
+      last = took.0;
+      runs = so_far.goes_on (step ∷ unread) (reply ∷ []) took.0 next (took.0, next, took.1, took.2, inl (fails, refl, refl, refl));
+      after_it = took.3;
+      failure = λ began. failed-after so_far.at step reply took.0 took.2.stepped (so_far.works began) ∙ fails;
     }
+
+-- ---- their states
+
+-- the states that the steps lead through
+pub runs-up : (q : State) (device : Device) (steps : List Step) (replies : List Reply) (last : State) (end : Device) → StepsOn q device steps replies last end
+    → (states : List State) × RunsUp q steps replies states × (final q states ≡ last)
+runs-up q device [] [] last end (same, is) = ([], tt, sym same)
+runs-up q device (step ∷ steps) (reply ∷ replies) last end (q', next, committer, taken, inl (fails, none, same, is)) =
+    (q' ∷ [], (taken.stepped, inl (fails, none, refl)), sym same)
+runs-up q device (step ∷ steps) (reply ∷ replies) last end (q', next, committer, taken, inr (works, rest)) =
+    let later = runs-up q' next steps replies last end rest in (q' ∷ later.0, (taken.stepped, inr (works, later.1)), later.2)
+runs-up q device [] (reply ∷ replies) last end none = absurd none
+runs-up q device (step ∷ steps) [] last end none = absurd none

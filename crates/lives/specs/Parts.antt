@@ -7,7 +7,9 @@ use Rattle.base.specs.declared.step.Reply.{Reply}
 use Rattle.base.specs.Images.{Image, ruling}
 use Rattle.base.specs.Machine.{State, final}
 use Rattle.base.specs.Lives.{World, IsWorld, Numbers, Opens, RunsUp, EndsAs, Life as PlainLife, numbers_of as state_numbers}
+use Rattle.pmem.specs.Device.{Device}
 use Rattle.lives.specs.Plain.{asked_of, opening_of, report_of}
+use Rattle.lives.specs.Stops.{StepsOn}
 use Rattle.lives.specs.declared.life.Life.{Life}
 use Rattle.lives.specs.declared.life.LifeReport.{LifeReport}
 
@@ -15,13 +17,13 @@ use Rattle.lives.specs.declared.life.LifeReport.{LifeReport}
 abbrev pub ruling_numbers : Image → Numbers
 ruling_numbers image = record { gate = (ruling image).gate; persisted = (ruling image).persisted; dirty = (ruling image).dirty }
 
--- from the state the steps have these replies, up to the first in which the device fails, and this holds of the state after
--- them; the device has failed in that state just where one of them did so
-pub record HasObeyed (q : State) (steps : List Step) (replies : List Reply) (failed : Bool) (P : State → Type 0) : Type 0 where
-  pub states : List State
-  pub runs : RunsUp q steps replies states
-  pub after_it : P (final q states)
-  pub failure : q.failed ≡ false → (final q states).failed ≡ failed
+-- the steps lead from the state on the one device to a state on the other, with these replies, and this holds of that state;
+-- the device has failed in it just where it did so in one of them
+pub record HasObeyed (q : State) (device : Device) (steps : List Step) (replies : List Reply) (failed : Bool) (left : Device) (P : State → Type 0) : Type 0 where
+  pub last : State
+  pub runs : StepsOn q device steps replies last left
+  pub after_it : P last
+  pub failure : q.failed ≡ false → last.failed ≡ failed
 
 -- a life ends in the state, and leaves this image: without a close, after one that succeeded, or within one that failed
 abbrev pub HasEnded : State → Bool → Option (Result Numbers Fault) → Image → Type 0

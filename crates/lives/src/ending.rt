@@ -9,7 +9,7 @@ ghost use Rattle.pmem_model.specs.Sim.{device_of, IsWithinLimit};
 ghost use Rattle.room.specs.Room.{Shows, device_of as device_in};
 ghost use Rattle.lives.specs.Parts.{HasEnded, MayAsk, ruling_numbers};
 ghost use Rattle.lives.specs.Plain.{numbers_of, closed_of};
-ghost use Rattle.lives.specs.Stops.{ClosesWithDevice, IsRestarted, StopsBy};
+ghost use Rattle.lives.specs.Stops.{ClosesWithDevice, EndsOn, IsRestarted, StopsBy};
 
 use crate::life::Numbers;
 use base::fault::Fault;
@@ -26,7 +26,7 @@ pub fn end(
 ) -> Result<(Option<Result<Numbers, Fault>>, SimPmem), Fault>
     ensures ok { IfOk result (λ ended. (q : State) → Shows device_of room q → MayAsk closes q → HasEnded q closes (closed_of ended.0) (image_of (device_of ended.1))) }
     ensures stopped { IfOk result (λ ended. (q : State) → Shows device_of room q
-        → StopsBy choice.now (device_in device_of room) (ClosesWithDevice ended.0) (image_of (device_of ended.1))) }
+        → StopsBy choice.now (device_in device_of room) (ClosesWithDevice ended.0) (EndsOn q ended.0 (device_in device_of room)) (image_of (device_of ended.1))) }
     ensures rests { IfOk result (λ ended. IsRestarted (device_of ended.1)) }
     ensures fault { IfErr result (λ fault. fault ≡ OutOfMemory) }
 {

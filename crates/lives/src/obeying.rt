@@ -1,11 +1,8 @@
-ghost use Rattle.std.specs.Prelude.{◌≡◌, Contains, IfOk};
-ghost use Rattle.base.specs.declared.fault.Fault.TheVariants.{Device as DeviceFault};
-ghost use Rattle.base.specs.declared.step.Reply.TheVariants.{Refused};
+ghost use Rattle.std.specs.Prelude.{IfOk};
 ghost use Rattle.base.specs.Machine.{State};
 ghost use Rattle.pmem_model.specs.Sim.{device_of};
 ghost use Rattle.room.specs.Room.{Shows, device_of as device_in};
 ghost use Rattle.lives.specs.Parts.{HasObeyed};
-ghost use Rattle.lives.specs.Stops.{GoesOn};
 
 use base::step::{Reply, Step};
 use pmem_model::SimPmem;
@@ -22,9 +19,8 @@ pub struct Obeyed {
 
 /// Takes the steps, up to the first in which the device fails.
 pub fn obey(alloc: Global, room: &mut Room<SimPmem>, steps: &[Step]) -> Result<Obeyed, AllocError>
-    ensures ok { IfOk result (λ obeyed. (q : State) → Shows device_of room.old q → HasObeyed q steps.now obeyed.replies.items obeyed.failed (Shows device_of room.new)) }
-    ensures goes_on { IfOk result (λ obeyed. (q : State) → Shows device_of room.old q
-        → GoesOn (device_in device_of room.old) (device_in device_of room.new) (Contains obeyed.replies.items (Refused DeviceFault))) }
+    ensures { IfOk result (λ obeyed. (q : State) → Shows device_of room.old q
+        → HasObeyed q (device_in device_of room.old) steps.now obeyed.replies.items obeyed.failed (device_in device_of room.new) (Shows device_of room.new)) }
 {
     let mut replies = Vec::with_capacity(alloc, steps.len())?;
     for step in steps {

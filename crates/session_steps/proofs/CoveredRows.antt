@@ -13,12 +13,13 @@ use Rattle.gap_list.specs.GapLists.{is_gap_list}
 use Rattle.index.specs.declared.ranges.KeyRange.TheVariants.{All}
 use Rattle.index.specs.Reading.{CountsAs, ShowsTables, ranged}
 use Rattle.session_invariant.specs.Sees.{Sees, ReadsBy}
-use Rattle.session_invariant.proofs.Present.{present-sees, no-longs}
+use Rattle.session_invariant.proofs.Present.{present-sees}
 use Rattle.session_invariant.proofs.Reading.{reads}
 use Rattle.session_steps.specs.declared.sessions.Sessions.{Sessions}
 use Rattle.session_steps.specs.Shows.{Hidden, plain_of, Agrees, Shows, ShowsAny}
 use Rattle.session_steps.proofs.Limits.{formed-gaps}
 use Rattle.session_steps.proofs.Reading.{laid-out, words-are}
+use Rattle.session_steps.proofs.Snapshots.{no-longs}
 
 upheld : (s : Sessions) (device : Device) (q : State) (shown : Shows s device q) → Upholds shown.hidden.origin (plain_of s shown.hidden) device
 upheld s device q shown = subst (λ (p : State). Upholds shown.hidden.origin p device) shown.plain shown.upholds

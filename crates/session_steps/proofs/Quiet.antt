@@ -35,8 +35,9 @@ use Rattle.session_steps.specs.Steps.{Holds, Goes, IsBarred, is_active, is_over,
 use Rattle.session_steps.proofs.Changing.{agrees-changed}
 use Rattle.session_steps.proofs.OneSet.{replaced-same, replaced-other, sessions-kept, sessions-begun, free-at, free-none}
 use Rattle.session_steps.proofs.Refusals.{refused-absent, refused-misplaced, passes, refusal-begin, is_of_active, others-bar}
-use Rattle.session_invariant.proofs.Present.{present-sees, no-longs}
+use Rattle.session_invariant.proofs.Present.{present-sees}
 use Rattle.session_steps.proofs.Tests.{unfound, same-drawers}
+use Rattle.session_steps.proofs.Snapshots.{no-longs}
 
 -- ---- refusals
 

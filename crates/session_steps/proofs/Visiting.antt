@@ -51,7 +51,6 @@ use Rattle.state_invariant.proofs.Collecting.{visit-frees, stays}
 use Rattle.device_invariant.specs.Upholds.{Upholds}
 use Rattle.device_invariant.proofs.Words.{word-within}
 use Rattle.session_invariant.specs.Sees.{Sees}
-use Rattle.session_invariant.proofs.Present.{no-longs}
 use Rattle.collect_invariant.specs.Garbage.{is_covered_for}
 use Rattle.collect_invariant.specs.Visits.{visit_operations}
 use Rattle.collect_invariant.proofs.Visits.{visits-lead}
@@ -68,6 +67,7 @@ use Rattle.session_steps.proofs.OpenedSlots.{read-key}
 use Rattle.session_steps.proofs.Reading.{laid-out, words-are}
 use Rattle.session_steps.proofs.Stepping.{take-only}
 use Rattle.session_steps.proofs.Tests.{same-drawers}
+use Rattle.session_steps.proofs.Snapshots.{no-longs}
 
 -- ---- whose operations they are, and what they leave
 

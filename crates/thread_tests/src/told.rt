@@ -56,8 +56,9 @@ fn learn<J: Origin>(rt: &impl Wait, reader: Reader<J>, desk: &Desk<J>) -> Answer
     for _ in rt.forever() {
         match desk.lock(rt).take() {
             Some(Ok(token)) => {
-                reader.learn(&token);
-                return reader.read(token.stamp(), key(7));
+                let stamp = token.stamp();
+                reader.learn(token);
+                return reader.read(stamp, key(7));
             }
             Some(Err(fault)) => return Err(fault),
             None => yield_now(),

@@ -1,12 +1,12 @@
 use Rattle.std.proofs.Common.{◌∙◌, ap, sym, subst}
 use Rattle.std.proofs.lemmas.Result.{IfOk-weaker}
 use Rattle.base.specs.Images.{Image}
-use Rattle.pmem.specs.Device.{limited}
+use Rattle.pmem.specs.Device.{limited, restarted}
 use Rattle.pmem.specs.Words.{IsAtRest, image_of}
 use Rattle.pmem_model.specs.Sim.{device_of}
 use Rattle.recovery.proofs.Restarted.{restarted-rests}
 use Rattle.lives.specs.Parts.{HasLived}
-use Rattle.lives.specs.Stops.{IsStopped, ReportsDevice, StopsBy, WhereItStands}
+use Rattle.lives.specs.Stops.{IsStopped, LivesOn, ReportsDevice, StopsBy, WhereItStands}
 use Rattle.lives.proofs.Stops.{is-stopped}
 use Rattle.lives.proofs.beginning.live.Goals as goal
 
@@ -28,9 +28,10 @@ returns-clause-stopped g c =
     let device = device_of c.args.device in
     let begun = device_of c.set_fuse.new.self in
     IfOk-weaker c.live_under_fuse.result
-    (λ lived. WhereItStands (image_of begun) (StopsBy life.choice begun (ReportsDevice lived.0) (image_of (device_of lived.1))))
-    (λ lived. WhereItStands (image_of device) (IsStopped life lived.0 (image_of device) (image_of (device_of lived.1))))
+    (λ lived. WhereItStands (image_of begun) (λ before. StopsBy life.choice begun (ReportsDevice lived.0) (LivesOn begun before life lived.0) (image_of (device_of lived.1))))
+    (λ lived. WhereItStands (image_of device) (λ before. IsStopped life lived.0 before (image_of (device_of lived.1))))
     (λ lived stops before w same.
-    is-stopped life lived.0 (image_of device) (image_of (device_of lived.1)) begun (c.set_fuse.ensures.device ∙ ap (limited life.fuse) c.requires)
+    is-stopped life lived.0 before (image_of (device_of lived.1)) begun
+    (c.set_fuse.ensures.device ∙ ap (limited life.fuse) c.requires ∙ ap (λ (i : Image). limited life.fuse (restarted i)) (sym same))
     (stops before w (same ∙ sym (ap image_of c.set_fuse.ensures.device))))
     c.live_under_fuse.ensures.stopped

@@ -1,4 +1,4 @@
-use Rattle.std.proofs.Common.{◌≡◌, ◌∙◌, false, ap, subst, refl}
+use Rattle.std.proofs.Common.{◌≡◌, ◌∙◌, inl, false, ap, subst, refl}
 use Rattle.std.specs.Prelude.{None, Err}
 use Rattle.std.proofs.lemmas.Result.{IfOk-weaker}
 use Rattle.base.specs.Images.{Image}
@@ -12,8 +12,8 @@ use Rattle.lives.specs.Parts.{HasLived, HasPlayed}
 use Rattle.lives.proofs.Ends.{orderly}
 use Rattle.lives.proofs.Chains.{lived-refused, lived-played}
 use Rattle.lives.specs.declared.life.LifeReport.{LifeReport}
-use Rattle.lives.specs.Stops.{ReportsDevice, StopsBy, WhereItStands}
-use Rattle.lives.proofs.Stops.{opened-stops, refused-goes}
+use Rattle.lives.specs.Stops.{LivesOn, PlaysOn, ReportsDevice, StopsBy, WhereItStands}
+use Rattle.lives.proofs.Stops.{fails-on, opened-stops, opens-on, refused-goes}
 use Rattle.lives.proofs.beginning.live_under_fuse.Goals as goal
 
 pub returns-in-Ok-checked-clause-ok : goal.returns-in-Ok-checked-clause-ok
@@ -40,12 +40,15 @@ returns-in-Ok-checked-clause-stopped g c =
     let mid = device_in device_of c.in-Ok.room in
     let choice = c.args.life.now.choice in
     IfOk-weaker c.play.result
-    (λ played. (q : State) → Shows device_of c.in-Ok.room q → StopsBy choice mid (ReportsDevice played.0) (image_of (device_of played.1)))
-    (λ lived. WhereItStands (image_of old) (StopsBy choice old (ReportsDevice lived.0) (image_of (device_of lived.1))))
+    (λ played. (q : State) → Shows device_of c.in-Ok.room q → StopsBy choice mid (ReportsDevice played.0) (PlaysOn q mid c.args.life.now played.0) (image_of (device_of played.1)))
+    (λ lived. WhereItStands (image_of old) (λ before. StopsBy choice old (ReportsDevice lived.0) (LivesOn old before c.args.life.now lived.0) (image_of (device_of lived.1))))
     (λ played stops before w same.
     let stands : Stands (image_of old) before.history before.drawn before.next = subst (λ (i : Image). Stands i before.history before.drawn before.next) same w in
     let opened = c.in-Ok.ensures.ok before.history before.drawn before.next before.lost stands in
-    opened-stops choice old mid (image_of (device_of played.1)) (c.in-Ok.ensures.images before.history before.drawn before.next stands).continues c.in-Ok.ensures.no_failure (stops opened.0 opened.2))
+    opened-stops c.args.life.now played.0 before opened.0 old mid (image_of (device_of played.1))
+    (opens-on old mid (image_of old) before opened.0 c.in-Ok.room.committer same opened.1 c.in-Ok.ensures.made c.in-Ok.ensures.made_sweeping
+    (c.in-Ok.ensures.images before.history before.drawn before.next stands) opened.2.agrees.shown)
+    c.in-Ok.ensures.no_failure (stops opened.0 opened.2))
     c.play.ensures.stopped
 
 pub returns-clause-stopped : goal.returns-clause-stopped
@@ -57,6 +60,7 @@ returns-clause-stopped g c = λ before w same.
     let stands : Stands image before.history before.drawn before.next = subst (λ (i : Image). Stands i before.history before.drawn before.next) same w in
     record {
       last = last;
+      leads = inl (fails-on old last image before report c.in-Err.fault refl same c.in-Err.ensures.fault (c.in-Err.ensures.images before.history before.drawn before.next stands));
       goes_on = refused-goes old last image c.in-Err.fault report refl c.new.ensures.items refl c.in-Err.ensures.fault (c.in-Err.ensures.images before.history before.drawn before.next stands).continues;
       orderly = orderly c.in-Err.device;
       within = c.in_ok-left-in-Err.ensures.within;

@@ -1,7 +1,6 @@
 use Rattle.std.proofs.Common.{◌≡◌, refl, ◌∙◌, Bool, not, ◌&&◌, List, sym, ap, subst}
 use Rattle.std.specs.Prelude.{Ok}
 use Rattle.base.specs.declared.step.Step.{Step}
-use Rattle.base.specs.Machine.{final}
 use Rattle.pmem.specs.Words.{image_of}
 use Rattle.pmem_model.specs.Sim.{device_of}
 use Rattle.room.specs.Room.{Shows, device_of as device_in}
@@ -9,6 +8,7 @@ use Rattle.lives.specs.Plain.{closed_of}
 use Rattle.lives.specs.Parts.{HasObeyed, HasEnded, MayAsk}
 use Rattle.lives.proofs.Chains.{opens-so, played-so}
 use Rattle.lives.specs.declared.life.Opened.{Opened}
+use Rattle.lives.specs.Stops.{StepsOn}
 use Rattle.lives.proofs.Stops.{played-stops}
 use Rattle.lives.proofs.beginning.play.Goals.{then-life, else-life}
 use Rattle.lives.proofs.beginning.play.Goals as goal
@@ -23,17 +23,20 @@ returns-clause-ok c = λ q shows works.
       | then-life w ↦ w.end-is ∙ sym (ap (λ (b : Bool). b && not failed) w.if-life.true)
       | else-life w ↦ w.end-is ∙ w.if-life.false ∙ sym (ap (λ (b : Bool). b && not failed) w.if-life.false)
     ] in
-    played-so q c.args.rows.items c.args.life.now _ image failed (Shows device_of c.obey.new.room) works
+    played-so q (device_in device_of c.args.room) (device_in device_of c.obey.new.room) c.args.rows.items c.args.life.now _ image failed (Shows device_of c.obey.new.room) works
     (opens-so q s.gate s.persisted s.dirty s.next s.gaps c.args.rows.items says.gate says.persisted says.dirty says.next says.gaps)
-    (subst (λ (steps : List Step). HasObeyed q steps c.in-Ok.obeyed.replies.items failed (Shows device_of c.obey.new.room)) c.as_slice.ensures.value (c.in-Ok.ensures.ok q shows))
+    (subst (λ (steps : List Step). HasObeyed q (device_in device_of c.args.room) steps c.in-Ok.obeyed.replies.items failed (device_in device_of c.obey.new.room) (Shows device_of c.obey.new.room))
+    c.as_slice.ensures.value (c.in-Ok.ensures q shows))
     (λ last here may. subst (λ (b : Bool). HasEnded last b (closed_of c.in_ok-closed.closed) image) both
     (c.in_ok-closed.ensures.ok last here (subst (λ (b : Bool). MayAsk b last) (sym both) may)))
 
 pub returns-clause-stopped : goal.returns-clause-stopped
 returns-clause-stopped c = λ q shows.
-    let obeyed = c.in-Ok.ensures.ok q shows in
+    let obeyed = c.in-Ok.ensures q shows in
     let s = c.status-status.result in
     let opened : Opened = record { numbers = record { gate = s.gate; persisted = s.persisted; dirty = s.dirty }; next = s.next; gaps = s.gaps; rows = c.args.rows } in
-    played-stops c.args.life.now.choice (device_in device_of c.args.room) (device_in device_of c.obey.new.room) (image_of (device_of c.in_ok-closed.left))
+    let mid = device_in device_of c.obey.new.room in
+    played-stops c.args.life.now q obeyed.last (device_in device_of c.args.room) mid (image_of (device_of c.in_ok-closed.left))
     opened (record { opening = Ok opened; replies = c.in-Ok.obeyed.replies; closed = c.in_ok-closed.closed }) refl
-    (c.in-Ok.ensures.goes_on q shows) (c.in_ok-closed.ensures.stopped (final q obeyed.states) obeyed.after_it)
+    (subst (λ (steps : List Step). StepsOn q (device_in device_of c.args.room) steps c.in-Ok.obeyed.replies.items obeyed.last mid) c.as_slice.ensures.value obeyed.runs)
+    (c.in_ok-closed.ensures.stopped obeyed.last obeyed.after_it)

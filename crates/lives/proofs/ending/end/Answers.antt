@@ -37,17 +37,17 @@ returns-in_ok-left-in-Err-clause-ok c = λ q shows may.
 
 pub returns-then-not-closes-clause-stopped : goal.returns-then-not-closes-clause-stopped
 returns-then-not-closes-clause-stopped c = λ q shows.
-    open-stops c.args.choice.now (device_in device_of c.args.room) (device_of c.into_device.result) (image_of (device_of c.in_ok-left.left)) c.into_device.ensures
+    open-stops c.args.choice.now q (device_in device_of c.args.room) (device_of c.into_device.result) (image_of (device_of c.in_ok-left.left)) c.into_device.ensures
     (orderly c.into_device.result) c.in_ok-left.ensures.within c.in_ok-left.ensures.chosen
 
 pub returns-in_ok-left-in-Ok-clause-stopped : goal.returns-in_ok-left-in-Ok-clause-stopped
 returns-in_ok-left-in-Ok-clause-stopped c = λ q shows.
     let image = image_of (device_of c.in_ok-left-in-Ok.left) in
-    closed-stops c.args.choice.now (device_in device_of c.args.room) (device_of c.in-Ok.device) image c.numbers_on.result
-    (c.in-Ok.ensures.images q shows).continues c.in-Ok.ensures.no_failure (c.in-Ok.ensures.ok q shows image c.in_ok-left-in-Ok.ensures.possible).stands.sound
+    closed-stops c.args.choice.now q (device_in device_of c.args.room) (device_of c.in-Ok.device) image c.numbers_on.result
+    (c.in-Ok.ensures.images q shows) c.in-Ok.ensures.no_failure (c.in-Ok.ensures.ok q shows) (c.in-Ok.ensures.ok q shows image c.in_ok-left-in-Ok.ensures.possible).stands.sound
     c.numbers_on.ensures.fault (orderly c.in-Ok.device) c.in_ok-left-in-Ok.ensures.within c.in_ok-left-in-Ok.ensures.chosen
 
 pub returns-in_ok-left-in-Err-clause-stopped : goal.returns-in_ok-left-in-Err-clause-stopped
 returns-in_ok-left-in-Err-clause-stopped c = λ q shows.
     refused-stops c.args.choice.now q (device_in device_of c.args.room) (device_of c.in-Err.device) (image_of (device_of c.in_ok-left-in-Err.left)) c.in-Err.fault
-    (c.in-Err.ensures.images q shows).continues (c.in-Err.ensures.fault q shows) (orderly c.in-Err.device) c.in_ok-left-in-Err.ensures.within c.in_ok-left-in-Err.ensures.chosen
+    (c.in-Err.ensures.images q shows) (c.in-Err.ensures.fault q shows) (orderly c.in-Err.device) c.in_ok-left-in-Err.ensures.within c.in_ok-left-in-Err.ensures.chosen

@@ -1,0 +1,63 @@
+"""Kills kv at random instants, and opens its file again each time.
+
+One transaction after another is sent without waiting. One is acknowledged where its answer reached the pipe before the kill.
+What is found must be the rows after exactly the acknowledged ones, or after these and the one in hand, as a whole. The same
+file goes through all lives.
+"""
+import os
+import subprocess
+import threading
+import time
+
+from store import Lost, Transactions, acknowledged, after, rows_in
+
+KEYS = 40
+
+
+def live(kv, file, transactions, delay):
+    """A life that a kill ends after so many seconds: what it printed, and the writes of its transactions."""
+    sent = [transactions.next() for _ in range(400)]
+    text = "".join("\n".join(lines) + "\n" for _, lines in sent)
+    child = subprocess.Popen([kv, file], stdin=subprocess.PIPE, stdout=subprocess.PIPE, text=True)
+
+    def feed():
+        try:
+            child.stdin.write(text)
+            child.stdin.flush()
+        except (BrokenPipeError, ValueError):
+            pass
+
+    feeder = threading.Thread(target=feed)
+    feeder.start()
+    time.sleep(delay)
+    child.kill()
+    output = child.stdout.read()
+    child.wait()
+    feeder.join()
+    child.stdout.close()
+    return output, [writes for writes, _ in sent]
+
+
+def run(kv, folder, rng, kills, most_seconds=0.6):
+    file = os.path.join(folder, "kill.img")
+    transactions = Transactions(rng, KEYS, 4)
+    model, total, early, kept = {}, 0, 0, 0
+    for kill in range(kills):
+        delay = rng.uniform(0.0, most_seconds * rng.choice([0.05, 0.2, 1.0]))
+        output, sent = live(kv, file, transactions, delay)
+        if "refused" in output:
+            raise Lost(f"kill {kill}: {output[-200:]}")
+        done = acknowledged(output)
+        early += "ready" not in output
+        total += done
+        for writes in sent[:done]:
+            model = after(model, writes)
+        found = rows_in(kv, file)
+        if found == model:
+            continue
+        if done == len(sent) or found != after(model, sent[done]):
+            raise Lost(f"kill {kill}: expected {sorted(model.items())}, found {sorted(found.items())}")
+        model = found
+        kept += 1
+    return (f"{kills} kills, {early} of them before it was ready; {total} acknowledged transactions, none lost and none in part; "
+            f"{kept} times the one in hand was kept, as a whole")
