@@ -1,17 +1,18 @@
 -- How the lines of a script add up.
 use Rattle.std.proofs.Common.{◌≡◌, ◌≢◌, ℕ, ◌+◌, ◌-◌, ◌^◌, ◌<◌, suc, Bool, true, false, List, [], ◌∷◌, ◌++◌, length, map, take, drop, get_or, Option, Some, None, refl, sym, ◌∙◌, ap, subst, inl, inr, arith, append_assoc, append-nil, Bor}
-use Rattle.std.specs.Prelude.{min, Result, Ok, Err, IfErr, IfSome}
+use Rattle.std.specs.Prelude.{min, Result, Ok, Err, IfErr, IfOk}
 use Rattle.std.specs.List.{flat_map}
 use Rattle.std.specs.Option.{option_to_list}
 use Rattle.std.proofs.Math.Seq.{split_at}
 use Rattle.std.proofs.lemmas.Grind.{flat_map-append}
 use Rattle.std.proofs.lemmas.List.{map-append, length-map}
-use Rattle.base.specs.Layout.{Layout}
+use Rattle.base.specs.Layout.{is_in_limits, layout_with, newest_version}
 use Rattle.command_line.specs.Lines.{texts}
 use Rattle.command_line.specs.Numbers.{Text}
-use Rattle.command_line.specs.Scripts.{AreReadAs, HasLineAt, IfBadGeometry, IfWrongLine, IsNewest, IsNoLineOf, IsOutOfPlace, IsShut, IsWrongLine, SpellsScript, closing, leaves_life_open, lines_of, lines_of_life, lines_so_far, script_line_of, script_lines}
+use Rattle.command_line.specs.Scripts.{AreReadAs, BeginScript, HasBadGeometry, IfBadGeometry, IfWrongLine, IsFirstWrongLine, IsNoLineOf, IsOutOfPlace, IsShut, IsWrongAfter, IsWrongLine, SpellsScript, closing, leaves_life_open, lines_in, lines_of, lines_of_life, lines_so_far, lines_with, script_line_of, script_lines}
 use Rattle.command_line.specs.declared.command.Command.{Command}
 use Rattle.command_line.specs.declared.command.Survivor.{Survivor}
+use Rattle.command_line.specs.declared.script.Draft.{Draft}
 use Rattle.command_line.specs.declared.script.Script.{Script}
 use Rattle.command_line.specs.declared.script.ScriptFault.{ScriptFault}
 use Rattle.command_line.specs.declared.script.ScriptFault.TheVariants.{WrongLine, BadGeometry, OutOfMemory}
@@ -77,11 +78,11 @@ life-begins old now life first is begins =
 -- ---- lines that are out of place
 
 -- where no life is open, the last line leaves none open
-shut-last : (layout : Layout) (lives : List ScriptLife) → IsShut lives
-    → (earlier : List ScriptLine) × (last : ScriptLine) × (lines_of layout lives ≡ earlier ++ last ∷ []) × (leaves_life_open last ≡ false)
-shut-last layout lives (inl none) = ([], line.Geometry layout.slots layout.places layout.window, ap (lines_of layout) none, refl)
-shut-last layout lives (inr (earlier, life, are, closes)) =
-    let first = line.Geometry layout.slots layout.places layout.window in
+shut-last : (slots places window : ℕ) (lives : List ScriptLife) → IsShut lives
+    → (earlier : List ScriptLine) × (last : ScriptLine) × (lines_with slots places window lives ≡ earlier ++ last ∷ []) × (leaves_life_open last ≡ false)
+shut-last slots places window lives (inl none) = ([], line.Geometry slots places window, ap (lines_with slots places window) none, refl)
+shut-last slots places window lives (inr (earlier, life, are, closes)) =
+    let first = line.Geometry slots places window in
     let front = line.Life life.fuse life.keeps ∷ map (λ c. line.Command c) life.commands.items in
     let closed : lines_of_life life ≡ front ++ line.Close ∷ [] = ap (λ b. front ++ closing b) closes in (
       first ∷ (flat_map lines_of_life earlier ++ front),
@@ -96,9 +97,9 @@ shut-last layout lives (inr (earlier, life, are, closes)) =
 no-cons : {A : Type 0} (x : A) (xs : List A) → x ∷ xs ≢ []
 no-cons x xs e = let size : suc (length xs) ≡ 0 = ap length e in absurd (omega (arith, size))
 
-pub out-of-lives : (layout : Layout) (lives : List ScriptLife) (one : ScriptLine) → IsNoLineOf lives one → IsOutOfPlace (lines_of layout lives) one
-out-of-lives layout lives one (inl geometry) = inr (inl (no-cons _ _, geometry))
-out-of-lives layout lives one (inr (within, shut)) = let last = shut-last layout lives shut in inr (inr (within, last.0, last.1, last.2, last.3))
+pub out-of-lives : (slots places window : ℕ) (lives : List ScriptLife) (one : ScriptLine) → IsNoLineOf lives one → IsOutOfPlace (lines_with slots places window lives) one
+out-of-lives slots places window lives one (inl geometry) = inr (inl (no-cons _ _, geometry))
+out-of-lives slots places window lives one (inr (within, shut)) = let last = shut-last slots places window lives shut in inr (inr (within, last.0, last.1, last.2, last.3))
 
 -- ---- why a text is no script
 
@@ -112,41 +113,67 @@ geometry-by (WrongLine number) P Q says p = tt
 geometry-by BadGeometry P Q says p = says p
 geometry-by OutOfMemory P Q says p = tt
 
-pub wrong-in : {T : Type 0} (r : Result T ScriptFault) (P Q : ℕ → Type 0) → ((number : ℕ) → P number → Q number) → IfErr r (IfWrongLine P) → IfErr r (IfWrongLine Q)
-wrong-in (Ok x) P Q says p = tt
-wrong-in (Err fault) P Q says p = wrong-by fault P Q says p
-
-pub geometry-in : {T : Type 0} (r : Result T ScriptFault) (P Q : Type 0) → (P → Q) → IfErr r (IfBadGeometry P) → IfErr r (IfBadGeometry Q)
-geometry-in (Ok x) P Q says p = tt
-geometry-in (Err fault) P Q says p = geometry-by fault P Q says p
+-- the lines of a draft are a beginning of a script
+begin-so : (draft : Option Draft) → BeginScript (lines_so_far draft)
+begin-so None = inl refl
+begin-so (Some draft) = inr (draft.slots, draft.places, draft.window, draft.lives.items, refl)
 
 -- the line that follows those that were read
-pub line-at : (text : Text) (yielded : List (Bor Text)) (line : Bor Text) (script : Option Script) (number : ℕ) (Is : List ScriptLine → Text → Type 0)
+pub line-at : (text : Text) (yielded : List (Bor Text)) (line : Bor Text) (draft : Option Draft) (number : ℕ)
     → texts yielded ≡ take (length yielded) (script_lines text) → length yielded < length (script_lines text) → line.now ≡ get_or (script_lines text) (length yielded) line.now
-    → AreReadAs (texts yielded) (lines_so_far script) → number ≡ min (length yielded + 1) (2 ^ 64 - 1) → Is (lines_so_far script) line.now → HasLineAt text number Is
-line-at text yielded one script number Is so_far there here reads counted is = record {
+    → AreReadAs (texts yielded) (lines_so_far draft) → number ≡ min (length yielded + 1) (2 ^ 64 - 1) → IsWrongAfter (lines_so_far draft) line.now → IsFirstWrongLine text number
+line-at text yielded one draft number so_far there here reads counted wrong = record {
   before = texts yielded;
   line = one.now;
   later = drop (suc (length yielded)) (script_lines text);
   stands = split_at (script_lines text) (length yielded) one.now there
       ∙ (ap (λ l. l ++ get_or (script_lines text) (length yielded) one.now ∷ drop (suc (length yielded)) (script_lines text)) (sym so_far)
       ∙ ap (λ l. texts yielded ++ l ∷ drop (suc (length yielded)) (script_lines text)) (sym here));
-  read = lines_so_far script;
+  read = lines_so_far draft;
   reads = reads;
+  good = begin-so draft;
+  wrong = wrong;
   counted = rw (length-map yielded (λ s. s.now)) counted;
-  is = is;
 }
 
 -- ---- the end of the text
 
-pub spelled-so : (text : Text) (yielded : List (Bor Text)) (read : Option Script) (script : Script) → read ≡ Some script → texts yielded ≡ script_lines text
-    → AreReadAs (texts yielded) (lines_so_far read) → IfSome read IsNewest → SpellsScript text script.geometry script.lives.items
-spelled-so text yielded read script is all reads newest = record {
-  lines = subst (λ (o : Option Script). AreReadAs (script_lines text) (lines_so_far o)) is (subst (λ (written : List Text). AreReadAs written (lines_so_far read)) all reads);
-  newest = subst (λ (o : Option Script). IfSome o IsNewest) is newest;
-}
+-- all lines are those of the draft
+pub all-read : (text : Text) (yielded : List (Bor Text)) (read : Option Draft) (draft : Draft) → read ≡ Some draft → texts yielded ≡ script_lines text
+    → AreReadAs (texts yielded) (lines_so_far read) → AreReadAs (script_lines text) (lines_in draft)
+all-read text yielded read draft is all reads =
+    subst (λ (o : Option Draft). AreReadAs (script_lines text) (lines_so_far o)) is (subst (λ (written : List Text). AreReadAs written (lines_so_far read)) all reads)
 
-pub no-line : (text : Text) (yielded : List (Bor Text)) (read : Option Script) → read ≡ None → texts yielded ≡ script_lines text → AreReadAs (texts yielded) (lines_so_far read)
+pub no-line : (text : Text) (yielded : List (Bor Text)) (read : Option Draft) → read ≡ None → texts yielded ≡ script_lines text → AreReadAs (texts yielded) (lines_so_far read)
     → IsWrongLine text 1
 no-line text yielded read is all reads =
-    inr (subst (λ (o : Option Script). AreReadAs (script_lines text) (lines_so_far o)) is (subst (λ (written : List Text). AreReadAs written (lines_so_far read)) all reads), refl)
+    inr (subst (λ (o : Option Draft). AreReadAs (script_lines text) (lines_so_far o)) is (subst (λ (written : List Text). AreReadAs written (lines_so_far read)) all reads), refl)
+
+-- ---- a draft that is finished
+
+pub spelled-in : (text : Text) (draft : Draft) (r : Result Script ScriptFault) → AreReadAs (script_lines text) (lines_in draft)
+    → IfOk r (λ script. lines_of script.geometry script.lives.items ≡ lines_in draft) → IfOk r (λ script. script.geometry.version ≡ newest_version)
+    → IfOk r (λ script. SpellsScript text script.geometry script.lives.items)
+spelled-in text draft (Ok script) reads same newest = record {
+  lines = subst (AreReadAs (script_lines text)) (sym same) reads;
+  newest = newest;
+}
+spelled-in text draft (Err fault) reads same newest = tt
+
+-- the numbers of its image alone are wrong
+outside-is : (draft : Draft) (fault : ScriptFault) → (fault ≡ BadGeometry) × (is_in_limits (layout_with newest_version draft.slots draft.places draft.window) ≡ false)
+    → (P : ScriptFault → Type 0) → P BadGeometry → P fault
+outside-is draft fault is P p = subst P (sym is.0) p
+
+pub no-wrong-line : (draft : Draft) (Q : ℕ → Type 0) (r : Result Script ScriptFault)
+    → IfErr r (λ fault. (fault ≡ BadGeometry) × (is_in_limits (layout_with newest_version draft.slots draft.places draft.window) ≡ false)) → IfErr r (IfWrongLine Q)
+no-wrong-line draft Q (Ok script) is = tt
+no-wrong-line draft Q (Err fault) is = outside-is draft fault is (IfWrongLine Q) tt
+
+pub outside-in : (text : Text) (draft : Draft) (r : Result Script ScriptFault) → AreReadAs (script_lines text) (lines_in draft)
+    → IfErr r (λ fault. (fault ≡ BadGeometry) × (is_in_limits (layout_with newest_version draft.slots draft.places draft.window) ≡ false))
+    → IfErr r (IfBadGeometry (HasBadGeometry text))
+outside-in text draft (Ok script) reads is = tt
+outside-in text draft (Err fault) reads is =
+    outside-is draft fault is (IfBadGeometry (HasBadGeometry text))
+    (record { slots = draft.slots; places = draft.places; window = draft.window; lives = draft.lives.items; lines = reads; outside = is.1 })

@@ -10,7 +10,7 @@ use Rattle.command_line.specs.declared.command.Command.{Command}
 use Rattle.command_line.specs.declared.command.Command.TheVariants as command
 use Rattle.command_line.specs.declared.command.Survivor.{Survivor}
 use Rattle.command_line.specs.declared.command.Survivor.TheVariants.{Oldest, Newest}
-use Rattle.command_line.specs.declared.script.Script.{Script}
+use Rattle.command_line.specs.declared.script.Draft.{Draft}
 use Rattle.command_line.specs.declared.script.ScriptFault.{ScriptFault}
 use Rattle.command_line.specs.declared.script.ScriptFault.TheVariants.{WrongLine, BadGeometry, OutOfMemory}
 use Rattle.command_line.specs.declared.script.ScriptLife.{ScriptLife}
@@ -107,8 +107,12 @@ abbrev pub lines_of_life : ScriptLife → List ScriptLine
 lines_of_life life = line.Life life.fuse life.keeps ∷ (map (λ c. line.Command c) life.commands.items ++ closing life.closes)
 
 -- the lines of a script: the numbers of the image, and those of the lives
+abbrev pub lines_with : ℕ → ℕ → ℕ → List ScriptLife → List ScriptLine
+lines_with slots places window lives = line.Geometry slots places window ∷ flat_map lines_of_life lives
+
+-- the same on an image of this layout
 abbrev pub lines_of : Layout → List ScriptLife → List ScriptLine
-lines_of layout lives = line.Geometry layout.slots layout.places layout.window ∷ flat_map lines_of_life lives
+lines_of layout lives = lines_with layout.slots layout.places layout.window lives
 
 -- the text spells these lives from a fresh image of this layout on
 pub record SpellsScript (text : Text) (layout : Layout) (lives : List ScriptLife) : Type 0 where
@@ -145,34 +149,36 @@ IsOutOfPlace before one =
 abbrev pub IsWrongAfter : List ScriptLine → Text → Type 0
 IsWrongAfter before text = (script_line_of text ≡ None) ⊎ ((one : ScriptLine) × (script_line_of text ≡ Some (Some one)) × IsOutOfPlace before one)
 
--- the line is the first, and a geometry that is out of its limits
-abbrev pub IsBadGeometry : List ScriptLine → ScriptLine → Type 0
-IsBadGeometry before one = (before ≡ []) × (slots : ℕ) × (places : ℕ) × (window : ℕ)
-    × (one ≡ line.Geometry slots places window) × (is_in_limits (layout_with newest_version slots places window) ≡ false)
+-- the lines are a beginning of a script, whatever its numbers of the image are: none, or those numbers and the lines of lives
+abbrev pub BeginScript : List ScriptLine → Type 0
+BeginScript lines =
+    (lines ≡ []) ⊎ ((slots : ℕ) × (places : ℕ) × (window : ℕ) × (lives : List ScriptLife) × (lines ≡ lines_with slots places window lives))
 
--- after these lines the text spells such a geometry
-abbrev pub HasBadGeometryAfter : List ScriptLine → Text → Type 0
-HasBadGeometryAfter before text = (one : ScriptLine) × (script_line_of text ≡ Some (Some one)) × IsBadGeometry before one
-
--- the script has a line of this number, and this holds of it and of what the lines before it are read as. Numbers begin at 1, and
+-- The line of this number is wrong, and it is the first: the lines before it are a beginning of a script. Numbers begin at 1, and
 -- one past the greatest that can be printed is printed as that one
-pub record HasLineAt (text : Text) (number : ℕ) (Is : List ScriptLine → Text → Type 0) : Type 0 where
+pub record IsFirstWrongLine (text : Text) (number : ℕ) : Type 0 where
   pub before : List Text
   pub line : Text
   pub later : List Text
   pub stands : script_lines text ≡ before ++ line ∷ later
   pub read : List ScriptLine
   pub reads : AreReadAs before read
+  pub good : BeginScript read
+  pub wrong : IsWrongAfter read line
   pub counted : number ≡ min (length before + 1) (2 ^ 64 - 1)
-  pub is : Is read line
 
--- the line of this number is wrong; or there is none but skipped ones, and then it is the first
+-- the line of this number is the first wrong one; or there is none but skipped ones, and then it is the first
 abbrev pub IsWrongLine : Text → ℕ → Type 0
-IsWrongLine text number = HasLineAt text number IsWrongAfter ⊎ (AreReadAs (script_lines text) [] × (number ≡ 1))
+IsWrongLine text number = IsFirstWrongLine text number ⊎ (AreReadAs (script_lines text) [] × (number ≡ 1))
 
--- the script begins with a geometry that is out of its limits
-abbrev pub HasBadGeometry : Text → Type 0
-HasBadGeometry text = (number : ℕ) × HasLineAt text number HasBadGeometryAfter
+-- no line of the text is wrong, but the numbers of the image are out of their limits
+pub record HasBadGeometry (text : Text) : Type 0 where
+  pub slots : ℕ
+  pub places : ℕ
+  pub window : ℕ
+  pub lives : List ScriptLife
+  pub lines : AreReadAs (script_lines text) (lines_with slots places window lives)
+  pub outside : is_in_limits (layout_with newest_version slots places window) ≡ false
 
 -- ---- why a text is no script
 
@@ -190,17 +196,17 @@ IfBadGeometry P OutOfMemory = ⊤
 
 -- ---- a script that is being read
 
--- the layout is of the newest version
-abbrev pub IsNewest : Script → Type 0
-IsNewest script = script.geometry.version ≡ newest_version
+-- the lines of a draft
+abbrev pub lines_in : Draft → List ScriptLine
+lines_in draft = lines_with draft.slots draft.places draft.window draft.lives.items
 
 -- the lines that were read
-abbrev pub lines_so_far : Option Script → List ScriptLine
+abbrev pub lines_so_far : Option Draft → List ScriptLine
 lines_so_far None = []
-lines_so_far (Some script) = lines_of script.geometry script.lives.items
+lines_so_far (Some draft) = lines_in draft
 
 -- the text is read as one line more, or as none
-abbrev pub TakesLine : Option Script → Text → Option Script → Type 0
+abbrev pub TakesLine : Option Draft → Text → Option Draft → Type 0
 TakesLine old text now = (read : Option ScriptLine) × (script_line_of text ≡ Some read) × (lines_so_far now ≡ lines_so_far old ++ option_to_list read)
 
 -- no life is open: there is none, or the last one has its close

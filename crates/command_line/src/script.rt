@@ -1,6 +1,8 @@
-ghost use Rattle.std.specs.Prelude.{◌≡◌, ◌++◌, ◌∷◌, [], false, Some, IfOk, IfErr, IfSome, IfNone};
+ghost use Rattle.std.specs.Prelude.{◌≡◌, ◌++◌, ◌∷◌, [], false, IfOk, IfErr, IfSome, IfNone};
 ghost use Rattle.std.specs.List.{flat_map};
-ghost use Rattle.command_line.specs.Scripts.{HasBadGeometry, HasBadGeometryAfter, IfBadGeometry, IfWrongLine, IsBadGeometry, IsNewest, IsNoLineOf, IsOutOfPlace, IsShut, IsWrongAfter, IsWrongLine, SpellsScript, TakesLine, lines_of, lines_of_life, lines_so_far};
+ghost use Rattle.base.specs.Layout.{is_in_limits, layout_with, newest_version};
+ghost use Rattle.command_line.specs.Scripts.{HasBadGeometry, IfBadGeometry, IfWrongLine, IsNoLineOf, IsOutOfPlace, IsShut, IsWrongAfter, IsWrongLine, SpellsScript, TakesLine, lines_in, lines_of, lines_of_life, lines_so_far};
+ghost use Rattle.command_line.specs.declared.script.ScriptFault.TheVariants.{BadGeometry};
 ghost use Rattle.command_line.specs.declared.script_line.ScriptLine.TheVariants as line;
 
 use crate::command::{Command, Survivor};
@@ -47,43 +49,70 @@ impl From<AllocError> for ScriptFault {
     }
 }
 
-/// Reads a script whole.
+// A script as its lines spell it: the numbers of its image may be out of their limits.
+#[derive(Drop)]
+struct Draft {
+    slots: u64,
+    places: u64,
+    window: u64,
+    lives: Vec<ScriptLife>,
+}
+
+/// Reads a script whole. Of several wrong lines the first is reported, and the numbers of the image only where no line is
+/// wrong.
 pub fn read_script(alloc: Global, text: &[u8]) -> Result<Script, ScriptFault>
     ensures spelled { IfOk result (λ script. SpellsScript text.now script.geometry script.lives.items) }
     ensures wrong_line { IfErr result (IfWrongLine (IsWrongLine text.now)) }
     ensures geometry { IfErr result (IfBadGeometry (HasBadGeometry text.now)) }
 {
     let mut number: u64 = 0;
-    let mut script = None;
+    let mut draft = None;
     for line in text.split(|byte| *byte == b'\n') {
         number = number.saturating_add(1);
-        match take_line(alloc, script, number, line) {
-            Ok(now) => script = now,
+        match take_line(alloc, draft, number, line) {
+            Ok(now) => draft = now,
             Err(fault) => return Err(fault),
         }
     }
-    match script {
-        Some(script) => Ok(script),
+    match draft {
+        Some(draft) => finish(draft),
         None => Err(ScriptFault::WrongLine(1)),
     }
 }
 
-// The script with one more line, which may be one that is skipped.
+// The script of a draft, where the numbers of its image are within their limits.
+fn finish(draft: Draft) -> Result<Script, ScriptFault>
+    ensures ok { IfOk result (λ script. lines_of script.geometry script.lives.items ≡ lines_in draft) }
+    ensures newest { IfOk result (λ script. script.geometry.version ≡ newest_version) }
+    ensures fault { IfErr result (λ fault. (fault ≡ BadGeometry) × (is_in_limits (layout_with newest_version draft.slots draft.places draft.window) ≡ false)) }
+{
+    let Draft {
+        slots,
+        places,
+        window,
+        lives,
+    } = draft;
+    match Geometry::new(slots, places, window) {
+        Ok(geometry) => Ok(Script { geometry, lives }),
+        Err(_) => Err(ScriptFault::BadGeometry),
+    }
+}
+
+// The draft with one more line, which may be one that is skipped.
 fn take_line(
     alloc: Global,
-    script: Option<Script>,
+    draft: Option<Draft>,
     number: u64,
     line: &[u8],
-) -> Result<Option<Script>, ScriptFault>
-    ensures ok { IfOk result (λ now. TakesLine script line.now now) }
-    ensures newest { IfOk result (λ now. IfSome script IsNewest → IfSome now IsNewest) }
-    ensures wrong_line { IfErr result (IfWrongLine (λ at. (at ≡ number) × IsWrongAfter (lines_so_far script) line.now)) }
-    ensures geometry { IfErr result (IfBadGeometry (HasBadGeometryAfter (lines_so_far script) line.now)) }
+) -> Result<Option<Draft>, ScriptFault>
+    ensures ok { IfOk result (λ now. TakesLine draft line.now now) }
+    ensures wrong_line { IfErr result (IfWrongLine (λ at. (at ≡ number) × IsWrongAfter (lines_so_far draft) line.now)) }
+    ensures geometry { IfErr result (IfBadGeometry ⊥) }
 {
     match parse_script_line(alloc, line) {
-        Ok(None) => Ok(script),
-        Ok(Some(line)) => match add_line(alloc, script, number, line) {
-            Ok(script) => Ok(Some(script)),
+        Ok(None) => Ok(draft),
+        Ok(Some(line)) => match add_line(alloc, draft, number, line) {
+            Ok(draft) => Ok(Some(draft)),
             Err(fault) => Err(fault),
         },
         Err(LineFault::NotACommand) => Err(ScriptFault::WrongLine(number)),
@@ -93,58 +122,64 @@ fn take_line(
 
 fn add_line(
     alloc: Global,
-    script: Option<Script>,
+    draft: Option<Draft>,
     number: u64,
     line: ScriptLine,
-) -> Result<Script, ScriptFault>
-    ensures ok { IfOk result (λ now. lines_so_far (Some now) ≡ lines_so_far script ++ line ∷ []) }
-    ensures newest { IfOk result (λ now. IfSome script IsNewest → IsNewest now) }
-    ensures wrong_line { IfErr result (IfWrongLine (λ at. (at ≡ number) × IsOutOfPlace (lines_so_far script) line)) }
-    ensures geometry { IfErr result (IfBadGeometry (IsBadGeometry (lines_so_far script) line)) }
+) -> Result<Draft, ScriptFault>
+    ensures ok { IfOk result (λ now. lines_in now ≡ lines_so_far draft ++ line ∷ []) }
+    ensures wrong_line { IfErr result (IfWrongLine (λ at. (at ≡ number) × IsOutOfPlace (lines_so_far draft) line)) }
+    ensures geometry { IfErr result (IfBadGeometry ⊥) }
 {
-    match script {
+    match draft {
         None => first_line(alloc, number, line),
-        Some(script) => later_line(alloc, script, number, line),
+        Some(draft) => later_line(alloc, draft, number, line),
     }
 }
 
-// A script begins with its geometry.
-fn first_line(alloc: Global, number: u64, line: ScriptLine) -> Result<Script, ScriptFault>
-    ensures ok { IfOk result (λ script. lines_so_far (Some script) ≡ line ∷ []) }
-    ensures newest { IfOk result (λ script. IsNewest script) }
+// A script begins with the numbers of its image.
+fn first_line(alloc: Global, number: u64, line: ScriptLine) -> Result<Draft, ScriptFault>
+    ensures ok { IfOk result (λ draft. lines_in draft ≡ line ∷ []) }
     ensures wrong_line { IfErr result (IfWrongLine (λ at. (at ≡ number) × IsOutOfPlace [] line)) }
-    ensures geometry { IfErr result (IfBadGeometry (IsBadGeometry [] line)) }
+    ensures geometry { IfErr result (IfBadGeometry ⊥) }
 {
     match line {
         ScriptLine::Geometry {
             slots,
             places,
             window,
-        } => match Geometry::new(slots, places, window) {
-            Ok(geometry) => Ok(Script {
-                geometry,
-                lives: Vec::new(alloc),
-            }),
-            Err(_) => Err(ScriptFault::BadGeometry),
-        },
+        } => Ok(Draft {
+            slots,
+            places,
+            window,
+            lives: Vec::new(alloc),
+        }),
         _ => Err(ScriptFault::WrongLine(number)),
     }
 }
 
 fn later_line(
     alloc: Global,
-    script: Script,
+    draft: Draft,
     number: u64,
     line: ScriptLine,
-) -> Result<Script, ScriptFault>
-    ensures ok { IfOk result (λ now. lines_of now.geometry now.lives.items ≡ lines_of script.geometry script.lives.items ++ line ∷ []) }
-    ensures newest { IfOk result (λ now. now.geometry ≡ script.geometry) }
-    ensures wrong_line { IfErr result (IfWrongLine (λ at. (at ≡ number) × IsOutOfPlace (lines_of script.geometry script.lives.items) line)) }
+) -> Result<Draft, ScriptFault>
+    ensures ok { IfOk result (λ now. lines_in now ≡ lines_in draft ++ line ∷ []) }
+    ensures wrong_line { IfErr result (IfWrongLine (λ at. (at ≡ number) × IsOutOfPlace (lines_in draft) line)) }
     ensures geometry { IfErr result (IfBadGeometry ⊥) }
 {
-    let Script { geometry, lives } = script;
+    let Draft {
+        slots,
+        places,
+        window,
+        lives,
+    } = draft;
     match add_to_lives(alloc, lives, number, line) {
-        Ok(lives) => Ok(Script { geometry, lives }),
+        Ok(lives) => Ok(Draft {
+            slots,
+            places,
+            window,
+            lives,
+        }),
         Err(fault) => Err(fault),
     }
 }

@@ -4,6 +4,7 @@ mod Rows
 mod Grown
 mod Obeyed
 mod Repeating
+mod Quiet
 mod Lives
 mod Input
 mod Crash

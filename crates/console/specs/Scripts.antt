@@ -1,12 +1,13 @@
 -- What the lives of a script are asked, and what is printed of their reports.
-use Rattle.std.specs.Prelude.{◌≡◌, ℕ, ◌+◌, ◌-◌, ◌^◌, slice_get, Bool, true, false, nat_le, List, [], ◌∷◌, ◌++◌, length, map, take, drop, flat_map, replicate, codes, decimal, Option, Some, None, Result, Ok, Err, if◌then◌else◌}
-use Rattle.std.specs.Option.{option_to_list}
+use Rattle.std.specs.Prelude.{◌≡◌, ℕ, ◌+◌, ◌-◌, ◌^◌, slice_get, Bool, true, false, not, ◌&&◌, ◌||◌, nat_le, List, [], ◌∷◌, ◌++◌, length, map, take, drop, find, flat_map, replicate, codes, decimal, Option, Some, None, Result, Ok, Err, if◌then◌else◌}
+use Rattle.std.specs.Option.{option_or, option_to_list}
 use Rattle.std.specs.Io.KnownBytes.{Appends}
 use Rattle.base.specs.declared.fault.Fault.{Fault}
 use Rattle.base.specs.declared.fault.Fault.TheVariants.{BadGeometry, OutOfMemory, TooLong}
 use Rattle.base.specs.declared.step.Step.{Step}
 use Rattle.base.specs.declared.step.Step.TheVariants as step
 use Rattle.base.specs.declared.step.Reply.{Reply}
+use Rattle.base.specs.declared.step.Reply.TheVariants as replied
 use Rattle.base.specs.Layout.{Layout}
 use Rattle.base.specs.Lives.{is_failure}
 use Rattle.pmem_model.specs.declared.choice.Choice.{Choice}
@@ -24,8 +25,8 @@ use Rattle.lives.specs.declared.life.LifeReport.{LifeReport}
 use Rattle.lives.specs.declared.life.Numbers.{Numbers}
 use Rattle.lives.specs.declared.life.Opened.{Opened}
 use Rattle.console.specs.Crash.{choice_of}
-use Rattle.console.specs.Obeyed.{reply_text}
-use Rattle.console.specs.Rounds.{visits_needed}
+use Rattle.console.specs.Obeyed.{is_busy, reply_text}
+use Rattle.console.specs.Rounds.{most_ticks, ticks_made, visits_needed}
 use Rattle.console.specs.declared.stop.Stop.{Stop}
 use Rattle.console.specs.declared.stop.Stop.TheVariants.{Refused, NotACommand}
 
@@ -51,10 +52,10 @@ step_of (Abort n) = Some (step.Abort n)
 step_of (End n) = Some (step.End n)
 step_of _ = None
 
--- the steps of a command in a life on an image of this layout: of `commit` as many ticks as it asks for, and of `collect` as many visits
--- as its visits come to
+-- the steps of a command in a life on an image of this layout: of `commit` as many ticks as it asks for, but no more than are made in
+-- a life, and of `collect` as many visits as its visits come to
 abbrev pub steps_of : Layout → Command → List Step
-steps_of layout (Commit ticks) = replicate ticks step.Commit
+steps_of layout (Commit ticks) = replicate (ticks_made ticks) step.Commit
 steps_of layout (Collect visits) = replicate (visits_needed layout visits) step.Collect
 steps_of layout command = option_to_list (step_of command)
 
@@ -78,13 +79,22 @@ asked_of life = record { steps = life.steps.items; closes = life.close; fuse = l
 abbrev pub last_of : List Reply → Option Reply
 last_of replies = slice_get replies (length replies - 1)
 
--- the line of the last reply to a command's steps. What has no reply is a row that is too long
+-- a refusal
+abbrev pub is_refused : Reply → Bool
+is_refused (replied.Refused fault) = true
+is_refused _ = false
+
+-- the reply that a command prints: to the first of its steps that was refused, else to the last
+abbrev pub printed_of : List Reply → Option Reply
+printed_of replies = option_or (find is_refused replies) (last_of replies)
+
+-- the line of a command's reply. What has none is a row that is too long
 abbrev pub answer_of : Option Reply → Text
 answer_of None = refused_text TooLong
 answer_of (Some reply) = reply_text reply
 
 abbrev pub answer_text : List Reply → Text
-answer_text replies = answer_of (last_of replies)
+answer_text replies = answer_of (printed_of replies)
 
 -- the device failed in the last of these
 abbrev pub is_failed_by : Option Reply → Bool
@@ -100,6 +110,29 @@ replies_text layout [] replies = []
 replies_text layout (command ∷ commands) replies =
     let own = take (length (steps_of layout command)) replies in
     (answer_text own ++ 10 ∷ []) ++ (if has_failed own then [] else replies_text layout commands (drop (length (steps_of layout command)) replies))
+
+-- the reply doesn't leave more for a tick to do; nor does a reply that isn't there, since the device failed before
+abbrev pub is_quiet : Option Reply → Bool
+is_quiet None = true
+is_quiet (Some reply) = not (is_busy reply)
+
+-- the command has made all ticks that it asks for, or the last that was made leaves nothing to do
+abbrev pub is_enough : Command → List Reply → Bool
+is_enough (Commit ticks) replies = nat_le ticks most_ticks || is_quiet (last_of replies)
+is_enough _ replies = true
+
+-- so each of these commands has
+abbrev pub are_enough : Layout → List Command → List Reply → Bool
+are_enough layout [] replies = true
+are_enough layout (command ∷ commands) replies =
+    is_enough command (take (length (steps_of layout command)) replies)
+    && are_enough layout commands (drop (length (steps_of layout command)) replies)
+
+-- and each command of these lives
+abbrev pub all_enough : Layout → List ScriptLife → List LifeReport → Bool
+all_enough layout [] reports = true
+all_enough layout (life ∷ lives) [] = true
+all_enough layout (life ∷ lives) (report ∷ reports) = are_enough layout life.commands.items report.replies.items && all_enough layout lives reports
 
 -- the line of an opening
 abbrev pub opened_text : Opened → Text
@@ -135,13 +168,14 @@ lives_text layout number [] reports = []
 lives_text layout number (life ∷ lives) [] = []
 lives_text layout number (life ∷ lives) (report ∷ reports) = life_text layout number life report ++ lives_text layout (number + 1) lives reports
 
--- the lives are lived one over another from a fresh image on, asked as the script asks, and exactly the lines of their reports are
--- printed
+-- the lives are lived one over another from a fresh image on, asked as the script asks, with ticks enough, and exactly the lines of
+-- their reports are printed
 pub record PrintsReports (layout : Layout) (script : List ScriptLife) (old new : Option Text) : Type 0 where
   pub lives : List Life
   pub asked : map asked_of lives ≡ map (asked_by layout) script
   pub reports : List LifeReport
   pub lived : AreLives layout lives reports
+  pub enough : all_enough layout script reports ≡ true
   pub prints : Appends old new (lives_text layout 1 script reports)
 
 -- the text spells lives, and so they are lived and printed

@@ -4,6 +4,7 @@
 
 mod checking;
 pub mod ended;
+mod enough;
 pub mod execute;
 pub mod format;
 pub mod law;

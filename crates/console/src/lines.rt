@@ -234,8 +234,8 @@ fn cycle<D: Pmem + Drop>(room: &mut Room<D>) -> Reply
     reply
 }
 
-// Is there, after this reply, more that a tick may find to do?
-fn is_busy(reply: &Reply) -> bool
+/// Is there, after this reply, more that a tick may find to do?
+pub fn is_busy(reply: &Reply) -> bool
     ensures { result ≡ is_busy reply.now }
 {
     match reply {

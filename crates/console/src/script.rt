@@ -1,15 +1,16 @@
-ghost use Rattle.std.specs.Prelude.{◌≡◌, ◌⊎◌, ◌++◌, ◌∷◌, [], IfErr, IfOk, OnOk, length, map, replicate};
+ghost use Rattle.std.specs.Prelude.{◌≡◌, ◌⊎◌, ◌++◌, ◌∷◌, [], IfErr, IfOk, OnOk, find, length, map, option_copied, replicate};
 ghost use Rattle.std.specs.Io.KnownBytes.{Appends};
 ghost use Rattle.base.specs.declared.fault.Fault.TheVariants.{BadGeometry, OutOfMemory};
 ghost use Rattle.base.specs.Lives.{is_failure};
 ghost use Rattle.command_line.specs.Scripts.{HasBadGeometry, IsWrongLine};
 ghost use Rattle.console.specs.BadLine.{BlamesNoLine, IfBadLine};
 ghost use Rattle.console.specs.Refusals.{IfRefused, WantsMemory};
-ghost use Rattle.console.specs.Scripts.{PrintsLives, PrintsReports, answer_text, asked_by, asked_of, closed_text, has_failed, life_text, lived_text, lives_text, opened_text, replies_text, report_text, step_of, steps_of, stop_of};
+ghost use Rattle.console.specs.Scripts.{PrintsLives, PrintsReports, answer_text, asked_by, asked_of, closed_text, has_failed, is_refused, life_text, lived_text, lives_text, opened_text, printed_of, replies_text, report_text, step_of, steps_of, stop_of};
 ghost use Rattle.console.specs.Crash.{choice_of};
 
+use crate::enough::all_enough;
 use crate::replies::show;
-use crate::rounds::visits_needed;
+use crate::rounds::{ticks_made, visits_needed};
 use crate::stop::Stop;
 use base::fault::Fault;
 use base::geometry::Geometry;
@@ -71,6 +72,9 @@ fn live<T: Threads + Sync, W: Write>(
     let geometry = script.geometry;
     let lives = asked_lives(alloc, geometry, script.lives.as_slice())?;
     let reports = run_lives(rt, alloc, script.geometry, lives.as_slice())?;
+    if !all_enough(geometry, script.lives.as_slice(), reports.as_slice()) {
+        return Err(Stop::Refused(Fault::OutOfMemory));
+    }
     print_lives(
         alloc,
         geometry,
@@ -125,7 +129,7 @@ fn add_steps(geometry: Geometry, command: &Command, steps: &mut Vec<Step>) -> Re
     ensures { OnOk result (steps.new.items ≡ steps.old.items ++ steps_of geometry command.now) }
 {
     if let Command::Commit { ticks } = command {
-        return add_each(&Step::Commit, *ticks, steps);
+        return add_each(&Step::Commit, ticks_made(*ticks), steps);
     }
     if let Command::Collect { visits } = command {
         return add_each(&Step::Collect, visits_needed(geometry, *visits), steps);
@@ -294,7 +298,7 @@ fn print_closed<W: Write>(
     }
 }
 
-// Prints for each command the reply to the last of its steps, up to the first in which the device failed.
+// Prints the reply of each command, up to the first in which the device failed.
 fn print_replies<W: Write>(
     alloc: Global,
     geometry: Geometry,
@@ -316,27 +320,45 @@ fn print_replies<W: Write>(
     Ok(())
 }
 
-// How many steps a command has.
-fn step_count(geometry: Geometry, command: &Command) -> usize
+/// How many steps a command has.
+pub fn step_count(geometry: Geometry, command: &Command) -> usize
     ensures { result ≡ length (steps_of geometry command.now) }
 {
     match command {
         Command::Put { row, .. } if row.as_slice().len() > Row::LIMIT => 0,
-        Command::Commit { ticks } => *ticks as usize,
+        Command::Commit { ticks } => ticks_made(*ticks) as usize,
         Command::Collect { visits } => visits_needed(geometry, *visits) as usize,
         Command::Cycle | Command::Crash { .. } => 0,
         _ => 1,
     }
 }
 
-// Prints the last reply to a command's steps. What has none is a row that is too long.
+// Prints the reply of a command with these to its steps. What has none is a row that is too long.
 fn print_answer<W: Write>(alloc: Global, replies: &[Reply], output: &mut W) -> io::Result<()>
     ensures { OnOk result (Appends (W.contents output.old) (W.contents output.new) (answer_text replies.now ++ 10 ∷ [])) }
 {
-    match replies.last() {
+    match printed_of(replies) {
         Some(reply) => show(alloc, reply, output),
         None => print(alloc, output, &Printed::Refused(Fault::TooLong)),
     }
+}
+
+// The reply to the first step that was refused, else to the last.
+fn printed_of(replies: &[Reply]) -> Option<&Reply>
+    ensures { option_copied result ≡ printed_of replies.now }
+{
+    match first_refused(replies) {
+        Some(refusal) => Some(refusal),
+        None => replies.last(),
+    }
+}
+
+fn first_refused(replies: &[Reply]) -> Option<&Reply>
+    ensures { option_copied result ≡ find is_refused replies.now }
+{
+    replies
+        .iter()
+        .find(|reply| matches!(reply, Reply::Refused(_)))
 }
 
 fn has_failed(replies: &[Reply]) -> bool

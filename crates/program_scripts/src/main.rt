@@ -1,20 +1,24 @@
 //! A program that obeys scripts of what `wbl` is asked to do with one file, and prints what comes of it. A command
 //! begins with `$`, and the lines after it are its input. Of `torn wbl` the input fails after these lines, and of
-//! `short N wbl` the output after so many bytes.
+//! `short N wbl` the output after so many bytes. The file of `wbl` is kept in memory, and those of `program` lie where
+//! this program runs.
 #![tactic(auto)]
 
 mod failing;
 mod image;
+mod whole;
 
 use crate::failing::{Short, Torn};
+use crate::image::{print_words, set_words};
+use crate::whole::{ask_program, run_program};
 use anyhow::Error;
 use command_line::orders::WordFault;
 use command_line::words::order;
 use console::execute::execute;
 use console::stop::Stop;
-use image::{print_words, set_words};
 use std::alloc::Global;
 use std::io::{Read, Write};
+use std::rt::Files;
 use std::sync::Wait;
 use std::thread::Threads;
 use std::{env, fs, io};
@@ -35,7 +39,7 @@ fn main(rt: HostRuntime) -> Result<(), Error> {
 }
 
 // Obeys a command with its input.
-fn obey<H: Print + Threads + Wait + Copy + Drop + Send + Sync + 'static>(
+fn obey<H: Files + Print + Threads + Wait + Copy + Drop + Send + Sync + 'static>(
     rt: &H,
     alloc: Global,
     part: &str,
@@ -50,6 +54,11 @@ fn obey<H: Print + Threads + Wait + Copy + Drop + Send + Sync + 'static>(
         ["words", first, count] => print_words(rt, alloc, file.as_slice(), first, count),
         ["set", changes @ ..] => set_words(alloc, file, changes),
         ["length", bytes] => Ok(file.resize(bytes.parse::<usize>()?, 0)?),
+        ["text"] => Ok(*file = Vec::from_slice(alloc, input.as_bytes())?),
+        ["more", times] => add_text(file, input, times),
+        ["save", name] => Ok(fs::write(rt, *name, file.as_slice())?),
+        ["program", words @ ..] => run_program(rt, alloc, words, input),
+        ["ask", words @ ..] => ask_program(rt, alloc, words, input),
         ["wbl", words @ ..] => {
             let mut input = input.as_bytes();
             execute_words(rt, alloc, words, &mut input, &mut io::writer(rt), file)
@@ -66,6 +75,14 @@ fn obey<H: Print + Threads + Wait + Copy + Drop + Send + Sync + 'static>(
         }
         _ => Ok(println!(rt; "not a command")?),
     }
+}
+
+// Adds the input to the file, so many times over.
+fn add_text(file: &mut Vec<u8>, input: &str, times: &str) -> Result<(), Error> {
+    for _ in 0..times.parse::<usize>()? {
+        file.extend_from_slice(input.as_bytes())?;
+    }
+    Ok(())
 }
 
 // Does what the words after the program's name ask for, and tells how it ended where it didn't end well.

@@ -1,6 +1,8 @@
+use command_line::image_file::MOST_FILE_BYTES;
+use command_line::orders::Order;
 use std::alloc::Global;
 use std::fs::{File, OpenFile};
-use std::io::Write;
+use std::io::{Read, Write};
 use std::rt::Files;
 use std::{fs, io};
 
@@ -34,4 +36,39 @@ fn write_synced(rt: &impl Files, name: &str, bytes: &[u8]) -> io::Result<()> {
     let mut file = File::create(rt, name)?;
     file.write_all(bytes)?;
     file.sync_all()
+}
+
+/// The file that an order names.
+pub fn name_of<'a>(order: &Order<'a>) -> &'a str {
+    match *order {
+        Order::Format { file, .. } => file,
+        Order::Run { file } => file,
+        Order::Check { file } => file,
+        Order::Threads { file, .. } => file,
+        Order::Lives { file } => file,
+    }
+}
+
+/// What the order's file holds: of a format nothing, of an image no more than shows that it is too long, and a script whole.
+pub fn read_file(rt: &impl Files, alloc: Global, order: &Order) -> io::Result<Vec<u8>> {
+    match *order {
+        Order::Format { .. } => Ok(Vec::new(alloc)),
+        Order::Run { file } | Order::Check { file } | Order::Threads { file, .. } => {
+            read_image(rt, alloc, file)
+        }
+        Order::Lives { file } => read_whole(rt, alloc, file),
+    }
+}
+
+fn read_image(rt: &impl Files, alloc: Global, name: &str) -> io::Result<Vec<u8>> {
+    let mut bytes = Vec::new(alloc);
+    let most = MOST_FILE_BYTES as u64 + 1;
+    File::open(rt, name)?.take(most).read_to_end(&mut bytes)?;
+    Ok(bytes)
+}
+
+fn read_whole(rt: &impl Files, alloc: Global, name: &str) -> io::Result<Vec<u8>> {
+    let mut bytes = Vec::new(alloc);
+    File::open(rt, name)?.read_to_end(&mut bytes)?;
+    Ok(bytes)
 }

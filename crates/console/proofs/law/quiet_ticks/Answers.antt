@@ -1,0 +1,5 @@
+use Rattle.console.proofs.Quiet.{quiet}
+use Rattle.console.proofs.law.quiet_ticks.Goals as goal
+
+pub returns : goal.returns
+returns c = quiet

@@ -1,0 +1,7 @@
+//! The program wbl without its process: does what its words ask for, on the files that they name, an input and an output.
+#![tactic(auto)]
+
+mod files;
+mod running;
+
+pub use running::{Exit, Told, run_words};
