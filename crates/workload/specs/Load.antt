@@ -28,7 +28,8 @@ HasFree count q = (rows : List (Key × List ℕ)) × Lists rows (after q.history
 abbrev pub LacksFree : ℕ → State → Type 0
 LacksFree count q = (rows : List (Key × List ℕ)) × Lists rows (after q.history) × (q.layout.slots < count + length rows)
 
--- Why a load ended before its work was done. The image doesn't open; memory is wanting, or an operation failed in the opening;
+-- Why a load ended before its work was done. The image doesn't open; memory is wanting; the fault of the opening is that the device
+-- failed, though no clause shows the failed operation, since the device is gone then;
 -- two slots for each session aren't free; or they are, and it is something else
 abbrev pub IsLoadFault : Image → ℕ → Fault → Type 0
 IsLoadFault image sessions fault =
