@@ -14,8 +14,9 @@ from store import Lost, Transactions, acknowledged, after, rows_in
 KEYS = 40
 
 
-def live(kv, file, transactions, delay):
-    """A life that a kill ends after so many seconds: what it printed, and the writes of its transactions."""
+def live(kv, file, transactions, delay, from_ready):
+    """A life that a kill ends so many seconds after its start, or after it was ready: what it printed, and the writes of its
+    transactions."""
     sent = [transactions.next() for _ in range(400)]
     text = "".join("\n".join(lines) + "\n" for _, lines in sent)
     child = subprocess.Popen([kv, file], stdin=subprocess.PIPE, stdout=subprocess.PIPE, text=True)
@@ -29,9 +30,10 @@ def live(kv, file, transactions, delay):
 
     feeder = threading.Thread(target=feed)
     feeder.start()
+    ready = child.stdout.readline() if from_ready else ""
     time.sleep(delay)
     child.kill()
-    output = child.stdout.read()
+    output = ready + child.stdout.read()
     child.wait()
     feeder.join()
     child.stdout.close()
@@ -44,7 +46,7 @@ def run(kv, folder, rng, kills, most_seconds=0.6):
     model, total, early, kept = {}, 0, 0, 0
     for kill in range(kills):
         delay = rng.uniform(0.0, most_seconds * rng.choice([0.05, 0.2, 1.0]))
-        output, sent = live(kv, file, transactions, delay)
+        output, sent = live(kv, file, transactions, delay, rng.random() < 0.6)
         if "refused" in output:
             raise Lost(f"kill {kill}: {output[-200:]}")
         done = acknowledged(output)

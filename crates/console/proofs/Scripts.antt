@@ -1,5 +1,5 @@
 -- How a script ends that is none, and how the lines of lives add up.
-use Rattle.std.proofs.Common.{◌≡◌, ◌≤◌, ◌<◌, ◌+◌, ◌⊎◌, ℕ, Bool, true, false, List, [], ◌∷◌, ◌++◌, length, take, drop, get_or, inl, inr, refl, sym, ap, subst, ◌∙◌, arith, append_assoc, append-nil, ◌&&◌, if◌then◌else◌}
+use Rattle.std.proofs.Common.{◌≡◌, ◌≤◌, ◌<◌, ◌+◌, ◌⊎◌, ℕ, Bool, true, false, List, [], ◌∷◌, ◌++◌, length, take, drop, get_or, inl, inr, refl, sym, ap, subst, ◌∙◌, arith, append_assoc, append-nil, if◌then◌else◌}
 use Rattle.std.specs.Prelude.{min, Option, Result, Ok, Err, OnOk}
 use Rattle.std.specs.Io.KnownBytes.{Appends}
 use Rattle.std.proofs.lemmas.List.{drop_more, length-drop}
@@ -16,7 +16,7 @@ use Rattle.command_line.specs.declared.script.ScriptFault.{ScriptFault}
 use Rattle.command_line.specs.declared.script.ScriptFault.TheVariants as script
 use Rattle.console.specs.BadLine.{IfBadLine}
 use Rattle.console.specs.Refusals.{IfRefused}
-use Rattle.console.specs.Scripts.{all_enough, answer_text, are_enough, has_failed, is_enough, life_text, lives_text, replies_text, steps_of, stop_of}
+use Rattle.console.specs.Scripts.{all_enough, answer_text, has_failed, life_text, lives_text, replies_text, steps_of, stop_of}
 use Rattle.console.specs.declared.stop.Stop.{Stop}
 use Rattle.console.proofs.Obeyed.{appends-more}
 
@@ -100,58 +100,6 @@ replies-fail layout said command commands left replies own all old new is mine f
     (ap (λ o. said ++ (answer_text o ++ 10 ∷ [])) mine ∙ (ap (λ l. said ++ l) (sym line ∙ ap (λ c. replies_text layout c replies) (sym is)) ∙ whole)) says
 
 -- ---- ticks enough
-
--- what the lists begin with
-left-lives : (i : ℕ) (lives : List ScriptLife) (life : ScriptLife) → i < length lives → life ≡ get_or lives i life → drop i lives ≡ life ∷ drop (i + 1) lives
-left-lives i lives life more is = drop_more lives i life more ∙ ap (λ l. l ∷ drop (i + 1) lives) (sym is)
-
-left-reports : (i : ℕ) (reports : List LifeReport) (report : LifeReport) → i < length reports → report ≡ get_or reports i report → drop i reports ≡ report ∷ drop (i + 1) reports
-left-reports i reports report more is = drop_more reports i report more ∙ ap (λ r. r ∷ drop (i + 1) reports) (sym is)
-
--- one more command has made enough
-pub enough-goes-on : (layout : Layout) (command : Command) (commands left : List Command) (replies own later : List Reply) (all : Bool)
-    → left ≡ command ∷ commands → own ≡ take (length (steps_of layout command)) replies → later ≡ drop (length (steps_of layout command)) replies → is_enough command own ≡ true
-    → are_enough layout left replies ≡ all → are_enough layout commands later ≡ all
-enough-goes-on layout command commands left replies own later all is mine rest fine whole =
-    let others = drop (length (steps_of layout command)) replies in
-    ap (λ r. are_enough layout commands r) rest
-    ∙ (sym (ap (λ (b : Bool). b && are_enough layout commands others) (ap (λ o. is_enough command o) (sym mine) ∙ fine))
-    ∙ (ap (λ c. are_enough layout c replies) (sym is) ∙ whole))
-
--- one hasn't
-pub enough-fails : (layout : Layout) (command : Command) (commands left : List Command) (replies own : List Reply) (all : Bool)
-    → left ≡ command ∷ commands → own ≡ take (length (steps_of layout command)) replies → is_enough command own ≡ false
-    → are_enough layout left replies ≡ all → false ≡ all
-enough-fails layout command commands left replies own all is mine lacks whole =
-    let others = drop (length (steps_of layout command)) replies in
-    sym (ap (λ (b : Bool). b && are_enough layout commands others) (ap (λ o. is_enough command o) (sym mine) ∙ lacks))
-    ∙ (ap (λ c. are_enough layout c replies) (sym is) ∙ whole)
-
--- the first of the lives that are left, and the others
-whole-enough : (layout : Layout) (i : ℕ) (lives : List ScriptLife) (reports : List LifeReport) (life : ScriptLife) (report : LifeReport) (all : Bool)
-    → i < length lives → i < length reports → life ≡ get_or lives i life → report ≡ get_or reports i report → all_enough layout (drop i lives) (drop i reports) ≡ all
-    → (are_enough layout life.commands.items report.replies.items && all_enough layout (drop (i + 1) lives) (drop (i + 1) reports)) ≡ all
-whole-enough layout i lives reports life report all more more' is is' whole =
-    sym (ap (λ l. all_enough layout l (drop i reports)) (left-lives i lives life more is)
-    ∙ ap (λ r. all_enough layout (life ∷ drop (i + 1) lives) r) (left-reports i reports report more' is')) ∙ whole
-
--- one more life has made enough
-pub lives-enough : (layout : Layout) (i : ℕ) (lives : List ScriptLife) (reports : List LifeReport) (life : ScriptLife) (report : LifeReport) (all : Bool)
-    → i < length lives → i < length reports → life ≡ get_or lives i life → report ≡ get_or reports i report
-    → are_enough layout life.commands.items report.replies.items ≡ true
-    → all_enough layout (drop i lives) (drop i reports) ≡ all → all_enough layout (drop (i + 1) lives) (drop (i + 1) reports) ≡ all
-lives-enough layout i lives reports life report all more more' is is' fine whole =
-    sym (ap (λ (b : Bool). b && all_enough layout (drop (i + 1) lives) (drop (i + 1) reports)) fine)
-    ∙ whole-enough layout i lives reports life report all more more' is is' whole
-
--- one hasn't
-pub lives-lack : (layout : Layout) (i : ℕ) (lives : List ScriptLife) (reports : List LifeReport) (life : ScriptLife) (report : LifeReport) (all : Bool)
-    → i < length lives → i < length reports → life ≡ get_or lives i life → report ≡ get_or reports i report
-    → are_enough layout life.commands.items report.replies.items ≡ false
-    → all_enough layout (drop i lives) (drop i reports) ≡ all → false ≡ all
-lives-lack layout i lives reports life report all more more' is is' lacks whole =
-    sym (ap (λ (b : Bool). b && all_enough layout (drop (i + 1) lives) (drop (i + 1) reports)) lacks)
-    ∙ whole-enough layout i lives reports life report all more more' is is' whole
 
 enough-none : (layout : Layout) (lives : List ScriptLife) (reports : List LifeReport) → min (length lives) (length reports) ≤ 0 → all_enough layout lives reports ≡ true
 enough-none layout [] reports h = refl

@@ -1,15 +1,17 @@
 -- A draw and its stamps.
 use Rattle.std.proofs.Common.{◌≡◌, ℕ, List, [], ◌∷◌, ◌++◌, refl, sym, ◌∙◌, ap, subst, inl, inr}
-use Rattle.std.specs.Prelude.{⊤, All, Option, Some}
+use Rattle.std.specs.Prelude.{All, Option, Some}
 use Rattle.base.specs.declared.fault.Fault.{Fault}
 use Rattle.base.specs.declared.step.Step.TheVariants.{Draw, Stamp}
 use Rattle.base.specs.declared.step.Note.{Note}
+use Rattle.base.specs.declared.step.Note.TheVariants.{Stamped as AllStamped, Refused}
 use Rattle.audited.specs.declared.receipt.Receipt.{Receipt}
 use Rattle.engine.specs.declared.phase.Phase.{Phase}
 use Rattle.engine.specs.declared.phase.Phase.TheVariants.{Active}
-use Rattle.engine.specs.Receipts.{Asks}
-use Rattle.engine.specs.Calls.{Called, AskPrepare, TellsDraw, TellsFault, DeclinesCall, note_of_draw}
-use Rattle.engine.proofs.Calls.{Called-one, Called-append}
+use Rattle.engine.specs.Receipts.{Asks, Refuses}
+use Rattle.engine.specs.Calls.{Called, AskPrepare, TellsPrepare, TellsLast, TellsFault, DeclinesCall, note_of_draw}
+use Rattle.std.proofs.lemmas.List.Elements.{All-nil}
+use Rattle.engine.proofs.Calls.{Called-none, Called-one, Called-append}
 
 drawn_first : (old mid new : List Receipt) (n : ℕ) (note : Note) (F G : List Receipt → Type 0)
     → Asks old mid (Draw n) note → Called mid new F
@@ -20,6 +22,20 @@ drawn_first old mid new n note F G a c both =
   where
     join : (one two : List Receipt) → (r : Receipt) × (one ≡ r ∷ []) × (r.step ≡ Draw n) × (r.note ≡ note) → F two → G (one ++ two)
     join one two (r, same, step, told) rest = subst (λ (rs : List Receipt). G (rs ++ two)) (sym same) (both r two step told rest)
+
+-- the draw is refused, or there is no memory for it
+pub draw_refused : (old new : List Receipt) (phase : Phase) (n : ℕ) (fault : Fault) → phase ≡ Active n → Refuses old new (Draw n) fault
+    → Called old new (λ added. AskPrepare phase added × DeclinesCall phase added fault)
+draw_refused old new phase n fault is (inl (same, none)) =
+    subst (λ (rs : List Receipt). Called old rs (λ added. AskPrepare phase added × DeclinesCall phase added fault)) (sym same)
+    (Called-none old _ (subst (λ (p : Phase). AskPrepare p [] × DeclinesCall p [] fault) (sym is) (inl refl, inl none)))
+draw_refused old new phase n fault is (inr a) =
+    Called-one old new (Draw n) (Refused fault) _ a (λ r step told.
+    subst (λ (p : Phase). AskPrepare p (r ∷ []) × DeclinesCall p (r ∷ []) fault) (sym is)
+    (inr (r, [], refl, step, All-nil (λ (s : Receipt). s.step ≡ Stamp n)), inr ([], r, refl, told)))
+
+one_before : (note : Note) (r : Receipt) (rest : List Receipt) → TellsLast rest note → TellsLast (r ∷ rest) note
+one_before note r rest (before, last, same, told) = (r ∷ before, last, ap (λ (rs : List Receipt). r ∷ rs) same, told)
 
 pub broken_off : (old mid new : List Receipt) (phase : Phase) (n : ℕ) (note : Note) (fault : Fault) → phase ≡ Active n
     → Asks old mid (Draw n) note → Called mid new (λ added. All (λ r. r.step ≡ Stamp n) added × TellsFault added fault)
@@ -32,13 +48,13 @@ broken_off old mid new phase n note fault is a c =
   where
     longer : (r : Receipt) (rest : List Receipt) → TellsFault rest fault → TellsFault (r ∷ rest) fault
     longer r rest (inl none) = inl none
-    longer r rest (inr (before, last, same, told)) = inr (r ∷ before, last, ap (λ (rs : List Receipt). r ∷ rs) same, told)
+    longer r rest (inr last) = inr (one_before (Refused fault) r rest last)
 
 pub drawn_told : (old mid new : List Receipt) (phase : Phase) (n t : ℕ) (answer : Option ℕ) → phase ≡ Active n → answer ≡ Some t
-    → Asks old mid (Draw n) (note_of_draw answer) → Called mid new (λ added. All (λ r. r.step ≡ Stamp n) added × ⊤)
-    → Called old new (λ added. AskPrepare phase added × TellsDraw phase added (Some t))
+    → Asks old mid (Draw n) (note_of_draw answer) → Called mid new (λ added. All (λ r. r.step ≡ Stamp n) added × TellsLast added AllStamped)
+    → Called old new (λ added. AskPrepare phase added × TellsPrepare phase added (Some t))
 drawn_told old mid new phase n t answer is at a c =
     drawn_first old mid new n (note_of_draw answer) _ _ a c (λ r rest step told stamps. (
       subst (λ (p : Phase). AskPrepare p (r ∷ rest)) (sym is) (inr (r, rest, refl, step, stamps.0)),
-      subst (λ (p : Phase). TellsDraw p (r ∷ rest) (Some t)) (sym is) (r, rest, refl, told ∙ ap note_of_draw at),
+      subst (λ (p : Phase). TellsPrepare p (r ∷ rest) (Some t)) (sym is) ((r, rest, refl, told ∙ ap note_of_draw at), one_before AllStamped r rest stamps.1),
     ))

@@ -3,6 +3,8 @@ use Rattle.std.specs.Prelude.{◌≡◌, ℕ, ◌<◌, ◌≤◌, nat_eq, Bool, 
 use Rattle.base.specs.declared.step.Step.{Step}
 use Rattle.base.specs.declared.step.Step.TheVariants.{Commit as CommitTick, Collect}
 use Rattle.base.specs.declared.step.Note.{Note}
+use Rattle.room.specs.declared.status.Status.{Status}
+use Rattle.audited.specs.declared.audited.Audited.{Audited}
 use Rattle.audited.specs.declared.receipt.Receipt.{Receipt}
 use Rattle.pmem.specs.declared.device.Pmem.{Ghosts}
 use Rattle.board.specs.declared.history.Naming.{Ghosts as Names}
@@ -37,6 +39,11 @@ AreOnce entries first end receipts = (place : ℕ) → first ≤ place → place
 pub record Agrees (entries : List (Step × Note)) (first : ℕ) (receipts : List Receipt) : Type 0 where
   pub each : All (IsEntry entries first) receipts
   pub once : AreOnce entries first (length entries) receipts
+
+-- it is the room that was opened with these numbers, and the receipts are its session steps from the first place on
+pub record IsReturned {D : Type 0} {G : Ghosts D} (opening : Status) (first : ℕ) (receipts : List Receipt) (audited : Audited D G) : Type 0 where
+  pub opened : audited.opening ≡ opening
+  pub agrees : Agrees audited.entries.items first receipts
 
 -- the receipts of all the sessions
 abbrev pub receipts_in : {D J B : Type 0} → {G : Ghosts D} → {N : Origins J} → {M : Names J} → List (Session D J B G N M) → List Receipt

@@ -1,10 +1,10 @@
 -- Calls of several steps.
 use Rattle.std.specs.Prelude.{◌≡◌, ◌≢◌, ◌⊎◌, ℕ, ◌≤◌, List, [], ◌∷◌, ◌++◌, length, Option, Some, None, All}
 use Rattle.base.specs.declared.fault.Fault.{Fault}
-use Rattle.base.specs.declared.fault.Fault.TheVariants.{NoSession}
+use Rattle.base.specs.declared.fault.Fault.TheVariants.{NoSession, OutOfMemory}
 use Rattle.base.specs.declared.step.Step.TheVariants.{Draw, Stamp, Poll, End}
 use Rattle.base.specs.declared.step.Note.{Note}
-use Rattle.base.specs.declared.step.Note.TheVariants.{Refused, Done, Drawn as DrewAs, Waiting, Committed}
+use Rattle.base.specs.declared.step.Note.TheVariants.{Refused, Done, Drawn as DrewAs, Stamped as AllStamped, Waiting, Committed}
 use Rattle.audited.specs.declared.receipt.Receipt.{Receipt}
 use Rattle.audited.specs.Audit.{EndsRun}
 use Rattle.engine.specs.declared.phase.Phase.{Phase}
@@ -12,7 +12,6 @@ use Rattle.engine.specs.declared.phase.Phase.TheVariants.{Idle, Active, Drawn, S
 use Rattle.engine.specs.declared.phase.PollReply.{PollReply}
 use Rattle.engine.specs.declared.phase.PollReply.TheVariants.{Waiting as PollWaiting, Committed as PollCommitted, Done as PollDone}
 use Rattle.engine.specs.Phases.{number_of}
-use Rattle.engine.specs.Receipts.{IsUnmade}
 
 -- these receipts were added, each ends a run, and this holds of them
 pub record Called (old new : List Receipt) (fact : List Receipt → Type 0) : Type 0 where
@@ -25,9 +24,9 @@ pub record Called (old new : List Receipt) (fact : List Receipt → Type 0) : Ty
 abbrev pub TellsLast : List Receipt → Note → Type 0
 TellsLast added note = (before : List Receipt) × (r : Receipt) × (added ≡ before ++ r ∷ []) × (r.note ≡ note)
 
--- the last note refuses with this fault, or a step wasn't made
+-- the last note refuses with this fault, or for want of memory a step wasn't made
 abbrev pub TellsFault : List Receipt → Fault → Type 0
-TellsFault added fault = IsUnmade fault ⊎ TellsLast added (Refused fault)
+TellsFault added fault = (fault ≡ OutOfMemory) ⊎ TellsLast added (Refused fault)
 
 -- so it is where a transaction is open, and else the fault is NoSession
 abbrev pub DeclinesCall : Phase → List Receipt → Fault → Type 0
@@ -47,13 +46,22 @@ abbrev pub note_of_draw : Option ℕ → Note
 note_of_draw (Some t) = DrewAs t
 note_of_draw None = Done
 
--- the answer is the draw's: the first note's, or that of an earlier call
-abbrev pub TellsDraw : Phase → List Receipt → Option ℕ → Type 0
-TellsDraw (Active n) added answer = (r : Receipt) × (rest : List Receipt) × (added ≡ r ∷ rest) × (r.note ≡ note_of_draw answer)
-TellsDraw (Drawn n t) added answer = answer ≡ Some t
-TellsDraw (Stamped n t) added answer = answer ≡ Some t
-TellsDraw (Covered n) added answer = answer ≡ None
-TellsDraw Idle added answer = ⊥
+-- the first note is this
+abbrev pub TellsFirst : List Receipt → Note → Type 0
+TellsFirst added note = (r : Receipt) × (rest : List Receipt) × (added ≡ r ∷ rest) × (r.note ≡ note)
+
+-- where there is a timestamp, the last note says that all keys are stamped
+abbrev pub TellsStamped : List Receipt → Option ℕ → Type 0
+TellsStamped added (Some t) = TellsLast added AllStamped
+TellsStamped added None = Unit {0}
+
+-- the answer is the draw's, by the first note or by an earlier call; and all keys are stamped, by the last note or by an earlier call
+abbrev pub TellsPrepare : Phase → List Receipt → Option ℕ → Type 0
+TellsPrepare (Active n) added answer = TellsFirst added (note_of_draw answer) × TellsStamped added answer
+TellsPrepare (Drawn n t) added answer = (answer ≡ Some t) × TellsStamped added answer
+TellsPrepare (Stamped n t) added answer = answer ≡ Some t
+TellsPrepare (Covered n) added answer = answer ≡ None
+TellsPrepare Idle added answer = ⊥
 
 -- ---- a commit
 

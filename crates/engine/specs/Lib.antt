@@ -5,3 +5,4 @@ pub mod Agreement
 pub mod Posting
 pub mod Started
 pub mod Origins
+pub mod Lending

@@ -1,7 +1,7 @@
 -- The receipts of a session.
 use Rattle.std.specs.Prelude.{◌≡◌, ◌≢◌, ◌⊎◌, ℕ, ◌+◌, nat_le, Bool, true, ◌&&◌, List, [], ◌∷◌, ◌++◌}
 use Rattle.base.specs.declared.fault.Fault.{Fault}
-use Rattle.base.specs.declared.fault.Fault.TheVariants.{OutOfMemory, NoSession, Failed}
+use Rattle.base.specs.declared.fault.Fault.TheVariants.{OutOfMemory, NoSession}
 use Rattle.base.specs.declared.step.Step.{Step}
 use Rattle.base.specs.declared.step.Note.{Note}
 use Rattle.base.specs.declared.step.Note.TheVariants.{Refused}
@@ -28,14 +28,9 @@ pub record Asks (old new : List Receipt) (step : Step) (note : Note) : Type 0 wh
   pub told : receipt.note ≡ note
   pub run : ∥ EndsRun receipt ∥₁
 
--- the faults where no step is made, or none that is kept, although a transaction allows it: memory is wanting, or the engine
--- was closed without this session
-abbrev pub IsUnmade : Fault → Type 0
-IsUnmade fault = (fault ≡ OutOfMemory) ⊎ (fault ≡ Failed)
-
--- the step was asked and refused with this fault, or it wasn't made
+-- the step was asked and refused with this fault; or for want of memory none was made, or none that is kept
 abbrev pub Refuses : List Receipt → List Receipt → Step → Fault → Type 0
-Refuses old new step fault = ((new ≡ old) × IsUnmade fault) ⊎ Asks old new step (Refused fault)
+Refuses old new step fault = ((new ≡ old) × (fault ≡ OutOfMemory)) ⊎ Asks old new step (Refused fault)
 
 -- a transaction is open, and its step was answered with this note
 abbrev pub Answers : Phase → List Receipt → List Receipt → Step → Note → Type 0

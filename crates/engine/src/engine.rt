@@ -1,6 +1,4 @@
-ghost use Rattle.std.specs.Prelude.{◌≡◌, ◌↔◌, IsTrue};
-
-use crate::agreement::agrees;
+use crate::closing::{may_close, take_room};
 use crate::gate::Gate;
 use crate::opening::board_of;
 use crate::origin::Origin;
@@ -109,12 +107,12 @@ impl<
 }
 
 impl<D: Pmem + Drop, J: Origin, B: Drop> Engine<D, J, B> {
-    ghost use Rattle.std.specs.Prelude.{[], IfOk, IfErr, IfSome};
+    ghost use Rattle.std.specs.Prelude.{◌≡◌, [], IfOk, IfErr, IfSome};
     ghost use Rattle.base.specs.declared.fault.Fault.TheVariants.{OutOfMemory, WrongState, ReadersOut};
     ghost use Rattle.engine.specs.Origins.{IsFrom};
     ghost use Rattle.board.specs.Lists.{Begins};
     ghost use Rattle.engine.specs.declared.phase.Phase.TheVariants.{Idle};
-    ghost use Rattle.engine.specs.Agreement.{Agrees, receipts_in};
+    ghost use Rattle.engine.specs.Agreement.{Agrees, IsReturned, receipts_in};
 
     /// A session, for one thread.
     pub fn session<R: Wait>(&self, rt: &R) -> Result<Session<D, J, B>, Fault>
@@ -162,7 +160,8 @@ impl<D: Pmem + Drop, J: Origin, B: Drop> Engine<D, J, B> {
         ensures fault { IfErr result (λ e. e.0 ≡ WrongState) }
         ensures back { IfErr result (λ e. (e.1.opening ≡ self.opening) × (e.1.first ≡ self.first) × (e.2.items ≡ sessions.items)) }
     {
-        if !self.may_close(rt, sessions.len() as u64) {
+        let count = sessions.len() as u64;
+        if !may_close(&mut self.shared.desk.lock(rt), count) {
             return Err((Fault::WrongState, self, sessions));
         }
         if let Some(workers) = self.workers.take() {
@@ -175,32 +174,13 @@ impl<D: Pmem + Drop, J: Origin, B: Drop> Engine<D, J, B> {
         }
     }
 
-    // Tells the workers to end, unless fewer sessions came back than were handed out.
-    fn may_close<R: Wait>(&self, rt: &R, count: u64) -> bool {
-        let mut desk = self.shared.desk.lock(rt);
-        if count < desk.handed {
-            return false;
-        }
-        desk.closing = true;
-        true
-    }
-
     // Takes the room out, where it is the one that was opened so and the receipts are its steps.
     fn take_back<R: Wait>(&self, rt: &R, sessions: &[Session<D, J, B>]) -> Option<Audited<D>>
-        ensures opening { IfSome result (λ audited. audited.opening ≡ self.now.opening) }
+        ensures returned { IfSome result (IsReturned self.now.opening self.now.first (receipts_in sessions.now)) }
         ensures from { IfSome result (IsFrom D.state J.image) }
-        ensures agrees { IfSome result (λ audited. Agrees audited.entries.items self.now.first (receipts_in sessions.now)) }
     {
         let mut desk = self.shared.desk.lock(rt);
-        let audited = desk.audited.take()?;
-        if is_same(&audited.opening(), &self.opening)
-            && agrees(audited.history(), self.first, sessions)
-        {
-            Some(audited)
-        } else {
-            desk.audited = Some(audited);
-            None
-        }
+        take_room(&mut desk, &self.opening, self.first, sessions)
     }
 
     /// The numbers that the lent room was opened with.
@@ -216,15 +196,4 @@ impl<D: Pmem + Drop, J: Origin, B: Drop> Engine<D, J, B> {
     {
         self.first
     }
-}
-
-// Whether these are the same numbers.
-fn is_same(one: &Status, other: &Status) -> bool
-    ensures { IsTrue result ↔ (one.now ≡ other.now) }
-{
-    one.gate == other.gate
-        && one.persisted == other.persisted
-        && one.dirty == other.dirty
-        && one.next == other.next
-        && one.gaps.is(&other.gaps)
 }

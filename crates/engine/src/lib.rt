@@ -4,6 +4,7 @@
 #![tactic(auto)]
 
 mod agreement;
+mod closing;
 mod engine;
 mod gate;
 mod opening;

@@ -1,6 +1,7 @@
 use crate::origin::Origin;
 use crate::session::Session;
 use base::Ts;
+use base::step::{Note, Step};
 use pmem::Pmem;
 
 /// Where a session's transaction stands, by its number in the room and its timestamp.
@@ -18,7 +19,7 @@ pub enum Phase {
 impl Phase {
     ghost use Rattle.std.specs.Prelude.{◌≡◌, IfSome, IfNone};
     ghost use Rattle.engine.specs.declared.phase.Phase.TheVariants.{Idle};
-    ghost use Rattle.engine.specs.Phases.{number_of, IsOpenAs};
+    ghost use Rattle.engine.specs.Phases.{number_of, timestamp_of, phase_after_step, IsOpenAs};
 
     /// The number of the transaction that is open.
     pub fn number(&self) -> Option<u8>
@@ -33,14 +34,43 @@ impl Phase {
             Phase::Covered(number) => Some(*number),
         }
     }
+
+    /// Where a step with this note leaves the transaction.
+    pub(crate) fn after(self, step: &Step, note: &Note) -> Phase
+        ensures { result ≡ phase_after_step self step.now note.now }
+    {
+        match (step, note) {
+            (Step::Begin, Note::Began(number)) => Phase::Active(*number),
+            (Step::Draw { session }, Note::Drawn(timestamp)) => Phase::Drawn(*session, *timestamp),
+            (Step::Draw { session }, Note::Done) => Phase::Covered(*session),
+            (Step::Stamp { session }, Note::Stamped) => Phase::Stamped(*session, self.timestamp()),
+            (Step::Abort { session: _ }, Note::Done) => Phase::Idle,
+            (Step::End { session: _ }, Note::Done) => Phase::Idle,
+            _ => self,
+        }
+    }
+
+    // The timestamp that it has drawn, or 0.
+    fn timestamp(self) -> Ts
+        ensures { result ≡ timestamp_of self }
+    {
+        match self {
+            Phase::Drawn(_, timestamp) => timestamp,
+            Phase::Stamped(_, timestamp) => timestamp,
+            _ => 0,
+        }
+    }
 }
 
 impl<D: Pmem + Drop, J: Origin, B: Drop> Session<D, J, B> {
     ghost use Rattle.std.specs.Prelude.{◌≡◌};
+    ghost use Rattle.engine.specs.declared.phase.Phase.TheVariants.{Idle};
+    ghost use Rattle.engine.specs.Phases.{phase_after};
 
-    /// Where its transaction stands.
+    /// Where its transaction stands: where its receipts leave it.
     pub fn phase(&self) -> Phase
-        ensures { result ≡ self.now.phase }
+        ensures phase { result ≡ self.now.phase }
+        ensures told { result ≡ phase_after Idle self.now.receipts.items }
     {
         self.phase
     }

@@ -1,4 +1,6 @@
 ghost use Rattle.std.specs.Prelude.{◌≡◌, IsTrue};
+ghost use Rattle.engine.specs.declared.phase.Phase.TheVariants.{Idle};
+ghost use Rattle.engine.specs.Phases.{phase_after};
 ghost use Rattle.engine.specs.Receipts.{rises, floor_of};
 
 use crate::origin::Origin;
@@ -25,18 +27,19 @@ pub struct Session<D: Pmem, J: Origin, B: Drop> {
     floor: u64,
     ghost rising: { IsTrue (rises 0 receipts.items) },
     ghost floor_is: { floor ≡ floor_of 0 receipts.items },
+    pub ghost phase_is: { phase ≡ phase_after Idle receipts.items },
 }
 
 impl<D: Pmem + Drop, J: Origin, B: Drop> Session<D, J, B> {
-    ghost use Rattle.std.specs.Prelude.{◌≢◌, ◌⊎◌, [], ℕ, length, IfOk, IfErr};
-    ghost use Rattle.base.specs.declared.fault.Fault.TheVariants.{NoSession, WrongState};
+    ghost use Rattle.std.specs.Prelude.{◌≢◌, ◌⊎◌, [], ℕ, length, IfOk, IfErr, OnErr};
+    ghost use Rattle.base.specs.declared.fault.Fault.TheVariants.{NoSession, WrongState, OutOfMemory};
     ghost use Rattle.base.specs.declared.step.Step.TheVariants.{Begin, Get, Scan, Put, Delete, Poll, Abort};
     ghost use Rattle.base.specs.declared.step.Note.TheVariants.{Began, Row as RowNote, Rows, Done};
     ghost use Rattle.base.specs.Machine.{note_of};
     ghost use Rattle.base.specs.Notes.{fits};
-    ghost use Rattle.engine.specs.declared.phase.Phase.TheVariants.{Idle, Active};
-    ghost use Rattle.engine.specs.Phases.{number_of, IsOpenAs};
-    ghost use Rattle.engine.specs.Receipts.{Asks, Refuses, IsUnmade, Answers, Declines};
+    ghost use Rattle.engine.specs.declared.phase.Phase.TheVariants.{Active};
+    ghost use Rattle.engine.specs.Phases.{number_of, phase_after_step, IsOpenAs};
+    ghost use Rattle.engine.specs.Receipts.{Asks, Refuses, Answers, Declines};
     ghost use Rattle.engine.specs.Calls.{note_of_poll};
 
     /// Begins a transaction. Fails with `WrongState`, without a step, exactly while one is open.
@@ -50,10 +53,7 @@ impl<D: Pmem + Drop, J: Origin, B: Drop> Session<D, J, B> {
             return Err(Fault::WrongState);
         }
         match self.make(rt, Step::Begin)? {
-            Reply::Began(number) => {
-                self.phase = Phase::Active(number);
-                Ok(())
-            }
+            Reply::Began(_) => Ok(()),
             Reply::Refused(fault) => Err(fault),
             _ => unreachable!(),
         }
@@ -135,10 +135,7 @@ impl<D: Pmem + Drop, J: Origin, B: Drop> Session<D, J, B> {
     {
         let session = self.number()?;
         match self.make(rt, Step::Abort { session })? {
-            Reply::Done => {
-                self.phase = Phase::Idle;
-                Ok(())
-            }
+            Reply::Done => Ok(()),
             Reply::Refused(fault) => Err(fault),
             _ => unreachable!(),
         }
@@ -201,31 +198,26 @@ impl<D: Pmem + Drop, J: Origin, B: Drop> Session<D, J, B> {
         self.phase.number().ok_or(Fault::NoSession)
     }
 
-    /// Makes the step under the lock. Where it fails there was no step, or none that was kept.
+    /// Makes the step under the lock. For want of memory there was no step, or none that was kept.
     pub(crate) fn make<R: Wait>(&mut self, rt: &R, step: Step) -> Result<Reply, Fault>
         ensures ok { IfOk result (λ reply. Asks self.old.receipts.items self.new.receipts.items step (note_of reply)) }
-        ensures err { IfErr result (λ fault. (self.new.receipts.items ≡ self.old.receipts.items) × IsUnmade fault) }
+        ensures moved { IfOk result (λ reply. self.new.phase ≡ phase_after_step self.old.phase step (note_of reply)) }
         ensures fits { IfOk result (λ reply. IsTrue (fits step (note_of reply))) }
-        ensures phase { self.new.phase ≡ self.old.phase }
+        ensures err { IfErr result (λ fault. (self.new.receipts.items ≡ self.old.receipts.items) × (fault ≡ OutOfMemory)) }
+        ensures same { OnErr result (self.new.phase ≡ self.old.phase) }
     {
         if self.receipts.reserve(1).is_err() {
             return Err(Fault::OutOfMemory);
         }
-        let mut desk = self.shared.desk.lock(rt);
-
-        // The engine was closed without this session, which its caller doesn't do.
+        let mut desk = self.shared.room(rt, self.floor);
         let Some(audited) = &mut desk.audited else {
-            return Err(Fault::Failed);
+            unreachable!()
         };
-
-        // A history never gets shorter; that it doesn't is not known of what another thread left under a lock.
-        if (audited.history().len() as u64) < self.floor {
-            return Err(Fault::Failed);
-        }
         let (reply, receipt) = audited.step(step);
         let Some(receipt) = receipt else {
             return Err(Fault::OutOfMemory);
         };
+        self.phase = self.phase.after(&receipt.step, &receipt.note);
         self.floor = receipt.place + 1;
         self.receipts.push_reserved(receipt);
         Ok(reply)

@@ -11,28 +11,31 @@ use std::thread;
 impl<D: Pmem + Drop, J: Origin, B: Drop> Session<D, J, B> {
     ghost use Rattle.std.specs.Prelude.{◌≡◌, IfOk, IfErr, OnOk, OnErr, MatchResult, All};
     ghost use Rattle.base.specs.declared.step.Step.TheVariants.{Draw, Stamp, End};
-    ghost use Rattle.base.specs.declared.step.Note.TheVariants.{Done};
+    ghost use Rattle.base.specs.declared.step.Note.TheVariants.{Done, Stamped as AllStamped};
     ghost use Rattle.engine.specs.declared.phase.Phase.TheVariants.{Idle, Stamped};
-    ghost use Rattle.engine.specs.Phases.{number_of, drawn, prepared, IsBrokenOff};
+    ghost use Rattle.engine.specs.Phases.{number_of, timestamp_of, phase_after, phase_after_step, added_since, prepared};
     ghost use Rattle.engine.specs.Receipts.{Asks, Refuses};
-    ghost use Rattle.engine.specs.Calls.{Called, TellsLast, TellsFault, DeclinesCall, AskPrepare, TellsDraw, note_of_draw, AskCommit, TellsCommit, ArePolls, note_of_commit};
+    ghost use Rattle.engine.specs.Calls.{Called, TellsLast, TellsFault, DeclinesCall, AskPrepare, TellsPrepare, note_of_draw, AskCommit, TellsCommit, ArePolls, note_of_commit};
 
     /// Draws a timestamp and stamps all keys, or goes on from where an earlier call left that. `None` if nothing was written.
     pub fn prepare<R: Wait>(&mut self, rt: &R) -> Result<Option<Ts>, Fault>
-        ensures steps { Called self.old.receipts.items self.new.receipts.items (λ added. AskPrepare self.old.phase added × MatchResult result (TellsDraw self.old.phase added) (DeclinesCall self.old.phase added)) }
+        ensures steps { Called self.old.receipts.items self.new.receipts.items (λ added. AskPrepare self.old.phase added × MatchResult result (TellsPrepare self.old.phase added) (DeclinesCall self.old.phase added)) }
         ensures ok { IfOk result (λ answer. self.new.phase ≡ prepared (number_of self.old.phase) answer) }
-        ensures err { OnErr result (IsBrokenOff self.old.phase self.new.phase) }
+        ensures phase { self.new.phase ≡ phase_after self.old.phase (added_since self.old.receipts.items self.new.receipts.items) }
     {
         match self.phase {
             Phase::Idle => Err(Fault::NoSession),
-            Phase::Active(number) => match self.draw(rt, number)? {
-                Some(timestamp) => match self.stamp_all(rt, number, timestamp) {
-                    Ok(()) => Ok(Some(timestamp)),
-                    Err(fault) => Err(fault),
+            Phase::Active(number) => match self.draw(rt, number) {
+                Ok(answer) => match answer {
+                    Some(timestamp) => match self.stamp_all(rt, number) {
+                        Ok(()) => Ok(Some(timestamp)),
+                        Err(fault) => Err(fault),
+                    },
+                    None => Ok(None),
                 },
-                None => Ok(None),
+                Err(fault) => Err(fault),
             },
-            Phase::Drawn(number, timestamp) => match self.stamp_all(rt, number, timestamp) {
+            Phase::Drawn(number, timestamp) => match self.stamp_all(rt, number) {
                 Ok(()) => Ok(Some(timestamp)),
                 Err(fault) => Err(fault),
             },
@@ -45,17 +48,17 @@ impl<D: Pmem + Drop, J: Origin, B: Drop> Session<D, J, B> {
     pub fn commit<R: Wait>(&mut self, rt: &R) -> Result<Option<Ts>, Fault>
         ensures steps { Called self.old.receipts.items self.new.receipts.items (λ added. AskCommit self.old.phase added × MatchResult result (TellsCommit self.old.phase added) (DeclinesCall self.old.phase added)) }
         ensures ok { OnOk result (self.new.phase ≡ Idle) }
-        ensures err { OnErr result (number_of self.new.phase ≡ number_of self.old.phase) }
+        ensures phase { self.new.phase ≡ phase_after self.old.phase (added_since self.old.receipts.items self.new.receipts.items) }
     {
         let number = match self.phase.number() {
             Some(number) => number,
             None => return Err(Fault::NoSession),
         };
-        match self.prepare(rt) {
-            Ok(_) => {}
+        let timestamp = match self.prepare(rt) {
+            Ok(timestamp) => timestamp,
             Err(fault) => return Err(fault),
-        }
-        match self.wait(rt, number) {
+        };
+        match self.wait(rt, number, timestamp) {
             Ok(answer) => match self.end(rt, number) {
                 Ok(()) => Ok(answer),
                 Err(fault) => Err(fault),
@@ -67,37 +70,26 @@ impl<D: Pmem + Drop, J: Origin, B: Drop> Session<D, J, B> {
     // Draws a timestamp, if something was written.
     fn draw<R: Wait>(&mut self, rt: &R, number: u8) -> Result<Option<Ts>, Fault>
         ensures ok { IfOk result (λ answer. Asks self.old.receipts.items self.new.receipts.items (Draw number) (note_of_draw answer)) }
-        ensures phase { IfOk result (λ answer. self.new.phase ≡ drawn number answer) }
+        ensures phase { IfOk result (λ answer. self.new.phase ≡ phase_after_step self.old.phase (Draw number) (note_of_draw answer)) }
         ensures err { IfErr result (λ fault. Refuses self.old.receipts.items self.new.receipts.items (Draw number) fault) }
-        ensures same { OnErr result (self.new.phase ≡ self.old.phase) }
     {
         match self.make(rt, Step::Draw { session: number })? {
-            Reply::Drawn(timestamp) => {
-                self.phase = Phase::Drawn(number, timestamp);
-                Ok(Some(timestamp))
-            }
-            Reply::Done => {
-                self.phase = Phase::Covered(number);
-                Ok(None)
-            }
+            Reply::Drawn(timestamp) => Ok(Some(timestamp)),
+            Reply::Done => Ok(None),
             Reply::Refused(fault) => Err(fault),
             _ => unreachable!(),
         }
     }
 
     // Stamps the keys that aren't yet.
-    fn stamp_all<R: Wait>(&mut self, rt: &R, number: u8, timestamp: Ts) -> Result<(), Fault>
-        ensures steps { Called self.old.receipts.items self.new.receipts.items (λ added. All (λ r. r.step ≡ Stamp number) added × IfErr result (TellsFault added)) }
-        ensures stamped { OnOk result (self.new.phase ≡ Stamped number timestamp) }
-        ensures same { OnErr result (self.new.phase ≡ self.old.phase) }
+    fn stamp_all<R: Wait>(&mut self, rt: &R, number: u8) -> Result<(), Fault>
+        ensures steps { Called self.old.receipts.items self.new.receipts.items (λ added. All (λ r. r.step ≡ Stamp number) added × MatchResult result (λ _. TellsLast added AllStamped) (TellsFault added)) }
+        ensures stamped { OnOk result (self.new.phase ≡ Stamped number (timestamp_of self.old.phase)) }
     {
         for _ in rt.forever() {
             match self.make(rt, Step::Stamp { session: number })? {
                 Reply::More => {}
-                Reply::Stamped => {
-                    self.phase = Phase::Stamped(number, timestamp);
-                    return Ok(());
-                }
+                Reply::Stamped => return Ok(()),
                 Reply::Refused(fault) => return Err(fault),
                 _ => unreachable!(),
             }
@@ -105,11 +97,18 @@ impl<D: Pmem + Drop, J: Origin, B: Drop> Session<D, J, B> {
         unreachable!()
     }
 
-    // Polls until the commit is covered.
-    fn wait<R: Wait>(&mut self, rt: &R, number: u8) -> Result<Option<Ts>, Fault>
+    // Polls until the commit is covered. It waits for that first, so that it polls once.
+    fn wait<R: Wait>(
+        &mut self,
+        rt: &R,
+        number: u8,
+        timestamp: Option<Ts>,
+    ) -> Result<Option<Ts>, Fault>
         ensures steps { Called self.old.receipts.items self.new.receipts.items (λ added. ArePolls number added × MatchResult result (λ answer. TellsLast added (note_of_commit answer)) (TellsFault added)) }
-        ensures same { self.new.phase ≡ self.old.phase }
     {
+        if let Some(timestamp) = timestamp {
+            self.shared.wait_for(rt, timestamp);
+        }
         for _ in rt.forever() {
             match self.make(rt, Step::Poll { session: number })? {
                 Reply::Waiting => thread::yield_now(),
@@ -126,13 +125,9 @@ impl<D: Pmem + Drop, J: Origin, B: Drop> Session<D, J, B> {
     fn end<R: Wait>(&mut self, rt: &R, number: u8) -> Result<(), Fault>
         ensures ok { IfOk result (λ _. Asks self.old.receipts.items self.new.receipts.items (End number) Done × (self.new.phase ≡ Idle)) }
         ensures err { IfErr result (λ fault. Refuses self.old.receipts.items self.new.receipts.items (End number) fault) }
-        ensures same { OnErr result (self.new.phase ≡ self.old.phase) }
     {
         match self.make(rt, Step::End { session: number })? {
-            Reply::Done => {
-                self.phase = Phase::Idle;
-                Ok(())
-            }
+            Reply::Done => Ok(()),
             Reply::Refused(fault) => Err(fault),
             _ => unreachable!(),
         }

@@ -1,7 +1,7 @@
 use crate::gate::{Gate, Go};
 use crate::origin::Origin;
 use crate::posting::post;
-use crate::shared::Shared;
+use crate::shared::{Shared, is_failure};
 use audited::Receipt;
 use base::fault::Fault;
 use base::step::{Note, Reply, Step};
@@ -84,7 +84,7 @@ fn work<R: Wait + Drop, D: Pmem + Drop, J: Origin, G: Gate>(
             Err(Missed::Memory) => {}
             Err(Missed::Over) => break,
         }
-        if ends(&last) {
+        if is_failure(&last) {
             break;
         }
     }
@@ -136,9 +136,4 @@ fn tick<R: Wait, D: Pmem + Drop, J: Origin, B: Drop>(
         Some(audited) => Some(audited.step(*step)),
         None => None,
     }
-}
-
-// After these a worker ends.
-fn ends(note: &Note) -> bool {
-    matches!(note, Note::Refused(Fault::Device | Fault::Failed))
 }

@@ -37,41 +37,30 @@ fn assert_batch(rt: &impl Abort, batch: &Batch, numbers: (u64, u64, u64), timest
     }
 }
 
-/// What is asked for a batch, its numbers, and its timestamps.
-type Told = (&'static [Ask], (u64, u64, u64), &'static [u64]);
-
-// Three sessions draw from a window of four. A record without commits keeps the window open, and the next one covers all.
-const WINDOW_OF_FOUR: &[Told] = &[
-    (
-        &[
-            Begin,
-            Begin,
-            Begin,
-            Put(2, 1, 1, 1),
-            Put(3, 1, 2, 2),
-            Put(4, 1, 3, 3),
-            Draw(2),
-            Draw(3),
-            Draw(4),
-            Commit(41),
-        ],
-        (2, 3, 0),
-        &[],
-    ),
-    (
-        &[Stamp(3), Stamp(4), Commit(1), Stamp(2), Commit(44)],
-        (3, 4, 3),
-        &[1, 2, 3],
-    ),
+// Three sessions draw from a window of four, and the next record has no commits.
+const DRAWN: &[Ask] = &[
+    Begin,
+    Begin,
+    Begin,
+    Put(2, 1, 1, 1),
+    Put(3, 1, 2, 2),
+    Put(4, 1, 3, 3),
+    Draw(2),
+    Draw(3),
+    Draw(4),
+    Commit(41),
 ];
+
+// The first commit is stamped after a tick that has nothing to do.
+const STAMPED: &[Ask] = &[Stamp(3), Stamp(4), Commit(1), Stamp(2), Commit(44)];
 
 #[test]
 fn record_without_commits_keeps_the_window_open(rt: HostRuntime) -> Result<(), Fault> {
     let mut room = opened(&rt, rt.alloc(), fresh(rt.alloc(), 8, 4)?)?;
-    for (asks, numbers, timestamps) in WINDOW_OF_FOUR {
-        let batch = batch_after(&rt, rt.alloc(), &mut room, asks)?;
-        assert_batch(&rt, &batch, *numbers, timestamps);
-    }
+    let none = batch_after(&rt, rt.alloc(), &mut room, DRAWN)?;
+    assert_batch(&rt, &none, (2, 3, 0), &[]);
+    let three = batch_after(&rt, rt.alloc(), &mut room, STAMPED)?;
+    assert_batch(&rt, &three, (3, 4, 3), &[1, 2, 3]);
     let status = room.status();
     assert!(rt; (status.gate, status.persisted, status.dirty, status.next) == (4, 3, 8, 4));
     Ok(())

@@ -162,7 +162,7 @@ pub fn assert_left<R: Threads + Sync + Abort>(
     let numbers = (gate, status.persisted, status.dirty, status.next);
     for opening in openings {
         if opening.numbers.0 == gate {
-            assert_eq!(rt; numbers, opening.numbers);
+            assert!(rt; numbers == opening.numbers, "gate {gate}");
             assert_gaps(rt, &status.gaps, opening.gaps);
             assert_rows(rt, &mut room, opening.rows);
             return Ok(());
@@ -174,13 +174,13 @@ pub fn assert_left<R: Threads + Sync + Abort>(
 fn assert_gaps(rt: &impl Abort, gaps: &Gaps, want: &[(u64, u64)]) {
     assert_eq!(rt; gaps.as_slice().len(), want.len());
     for (gap, want) in gaps.as_slice().iter().zip(want.iter()) {
-        assert_eq!(rt; (gap.first, gap.last), *want);
+        assert!(rt; gap.first == want.0 && gap.last == want.1);
     }
 }
 
 // A new session sees these rows in table 1, and no others.
 fn assert_rows(rt: &impl Abort, room: &mut Room<SimPmem>, want: &[(u64, u8)]) {
-    assert_eq!(rt; step(room, Step::Begin), Note::Began(2));
+    assert!(rt; step(room, Step::Begin) == Note::Began(2));
     let whole = Step::Scan {
         session: 2,
         table: 1,
@@ -192,7 +192,6 @@ fn assert_rows(rt: &impl Abort, room: &mut Room<SimPmem>, want: &[(u64, u8)]) {
     };
     assert_eq!(rt; rows.as_slice().len(), want.len());
     for ((key, row), (number, byte)) in rows.as_slice().iter().zip(want.iter()) {
-        assert_eq!(rt; key.key, *number);
-        assert!(rt; row.as_bytes() == [*byte].as_slice(), "key {number}");
+        assert!(rt; key.key == *number && row.as_bytes() == [*byte].as_slice());
     }
 }

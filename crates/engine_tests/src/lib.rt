@@ -19,6 +19,8 @@ mod every_stop;
 #[cfg(test)]
 mod fixture;
 #[cfg(test)]
+mod formats;
+#[cfg(test)]
 mod memory;
 #[cfg(test)]
 mod numbers;

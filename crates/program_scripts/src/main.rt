@@ -12,7 +12,7 @@ use crate::failing::{Short, Torn};
 use crate::image::{print_words, set_words};
 use crate::whole::{ask_program, run_program};
 use anyhow::Error;
-use command_line::orders::WordFault;
+use command_line::orders::{Order, WordFault};
 use command_line::words::order;
 use console::execute::execute;
 use console::stop::Stop;
@@ -85,7 +85,7 @@ fn add_text(file: &mut Vec<u8>, input: &str, times: &str) -> Result<(), Error> {
     Ok(())
 }
 
-// Does what the words after the program's name ask for, and tells how it ended where it didn't end well.
+// Does what the words after the program's name ask for.
 fn execute_words<
     H: Print + Threads + Wait + Copy + Drop + Send + Sync + 'static,
     R: Read,
@@ -98,10 +98,26 @@ fn execute_words<
     output: &mut W,
     file: &mut Vec<u8>,
 ) -> Result<(), Error> {
-    let ended = match order(alloc, words) {
-        Ok(order) => execute(rt, alloc, &order, file.as_slice(), input, output),
-        Err(fault) => return tell(rt, fault),
-    };
+    match order(alloc, words) {
+        Ok(order) => execute_order(rt, alloc, &order, input, output, file),
+        Err(fault) => tell(rt, fault),
+    }
+}
+
+// Does the work of a subcommand, and tells how it ended where it didn't end well.
+fn execute_order<
+    H: Print + Threads + Wait + Copy + Drop + Send + Sync + 'static,
+    R: Read,
+    W: Write,
+>(
+    rt: &H,
+    alloc: Global,
+    order: &Order,
+    input: &mut R,
+    output: &mut W,
+    file: &mut Vec<u8>,
+) -> Result<(), Error> {
+    let ended = execute(rt, alloc, order, file.as_slice(), input, output);
     if let Some(left) = ended.file {
         *file = left;
     }

@@ -1,5 +1,5 @@
 -- What an opening makes of a device.
-use Rattle.std.proofs.Common.{◌≡◌, ◌⊎◌, inl, inr, ℕ, ◌+◌, ◌-◌, ◌*◌, ◌^◌, ◌<◌, ◌≤◌, Bool, true, false, cond, not, ◌||◌, List, [], length, get_or, map, refl, sym, ◌∙◌, ap, subst, arith, nat_le}
+use Rattle.std.proofs.Common.{◌≡◌, ◌⊎◌, inl, inr, ℕ, ◌+◌, ◌-◌, ◌*◌, ◌^◌, ◌<◌, ◌≤◌, Bool, true, false, cond, not, ◌||◌, ◌&&◌, List, [], length, get_or, map, refl, sym, ◌∙◌, ap, subst, arith, nat_le, nat_lt}
 use Rattle.std.specs.Prelude.{Option, Some, None}
 use Rattle.std.specs.List.{range_with_len}
 use Rattle.std.proofs.lemmas.Bool.{and_parts, leb-true, leb-false, cases_lt}
@@ -23,6 +23,7 @@ use Rattle.pmem.specs.Device.{Device, IsOrderly}
 use Rattle.pmem.specs.Words.{value_of, IsAtRest, LeavesOnly, image_of, Keeps, OldOr, Spares, Makes, HasOldWords}
 use Rattle.pmem.proofs.Images.{leaves_refl, leaves_trans, leaves_weaken, leaves_both}
 use Rattle.pmem.proofs.Rest.{left_at_rest}
+use Rattle.pmem.proofs.Spares.{spares_fewer, spares_trans}
 use Rattle.pmem.proofs.Steps.{only-settled}
 use Rattle.pmem.proofs.Changes.{settled_at-shrinks}
 use Rattle.log_area.specs.Rulings.{IsRecordFor, HoldsRecord}
@@ -33,7 +34,7 @@ use Rattle.log_area.proofs.Heads.{laid_size, laid_limits}
 use Rattle.recovery.specs.Gaps.{few_gaps}
 use Rattle.recovery.specs.Slots.{IsUnder, IsSlotsFault, free_below, bad_below}
 use Rattle.recovery.specs.Live.{live_below}
-use Rattle.recovery.specs.Sweeping.{IsSwept}
+use Rattle.recovery.specs.Sweeping.{IsSwept, is_hit}
 use Rattle.recovery.specs.Opened.{HasSlotsOf, Refuses, IsExamined, Examined, HasOpened, IsRefusal}
 use Rattle.recovery.specs.declared.rows.LiveSlot.{LiveSlot}
 use Rattle.recovery.proofs.Formed.{IsFormed, formed}
@@ -53,6 +54,22 @@ or-false false b e = (refl, e)
 
 opening-near : (image : Image) → opening_fault image ≡ None → is_near_limit image ≡ false
 opening-near image none = some_if-false (is_near_limit image) TimestampsOut (or-none (some_if (is_near_limit image) TimestampsOut) _ (or-none (damage image) _ none).1).0
+
+-- ---- what isn't swept
+
+needs-many : (r : Record) (gaps : Option (List Gap)) → gaps ≡ few_gaps r → gaps ≡ None → nat_lt 8 (length (opened_gaps r)) ≡ true
+needs-many r gaps few none = by (nat_lt 8 (length (opened_gaps r))) (sym few ∙ none)
+  where
+    by : (b : Bool) → cond b None (Some (opened_gaps r)) ≡ None → b ≡ true
+    by true e = refl
+    by false e = absurd (cc e)
+
+-- where too many gaps are swept, a word that isn't hit is spared
+pub unswept-spared : (old new : Device) (layout : Layout) (r : Record) (gaps : Option (List Gap)) → IsRuledBy layout r (image_of old) → gaps ≡ few_gaps r → gaps ≡ None → Spares (λ word. is_hit layout r old word ≡ false) old new
+    → Spares (λ word. (needs_sweep (image_of old) && is_hit layout r old word) ≡ false) old new
+unswept-spared old new layout r gaps rules few none spares =
+    let many : needs_sweep (image_of old) ≡ true = ap (λ (x : Record). nat_lt 8 (length (opened_gaps x))) rules.by_record ∙ needs-many r gaps few none in
+    spares_fewer (λ word alone. sym (ap (λ (b : Bool). b && is_hit layout r old word) many) ∙ alone) spares
 
 -- ---- a refused examination
 
@@ -259,10 +276,11 @@ module _ (old mid new : Device) (orderly : IsOrderly mid) (rest : IsAtRest old) 
         by false = refl
 
     pub has-opened : (target : Record) → target ≡ after → HoldsRecord layout target new → Spares (IsOutside (begun layout target)) mid new
+        → Spares (λ word. (needs_sweep (image_of old) && is_hit layout r old word) ≡ false) old mid
         → (needs_sweep (image_of old) ≡ false → Makes 0 0 0 0 old mid) → (needs_sweep (image_of old) ≡ true → Makes (words_swept (image_of old)) (lines_swept (image_of old)) 1 0 old mid) → Makes 32 5 2 0 mid new
         → (next : ℕ) → next ≡ r.dirty → HasOpened old new layout target next free live
     unfolding free_below
-    has-opened target made holds spares none some makes next next-is =
+    has-opened target made holds spares unswept none some makes next next-is =
         let e = is (image_of old) layout r gaps free live ex in
         record {
           opens = e.opens;
@@ -272,6 +290,9 @@ module _ (old mid new : Device) (orderly : IsOrderly mid) (rest : IsAtRest old) 
           free_is = e.free_are ∙ ap (λ (n : ℕ). map (λ slot. not (is_shown (ruling (image_of old)) (image_of old) slot)) (range_with_len 0 n)) (ap (λ (l : Layout). l.slots) (sym rules.laid_out));
           live_is = e.live_are ∙ ap (λ (l : Layout). live_below (image_of old) l.slots) (sym rules.laid_out);
           holds = holds;
+          left_alone = spares_trans
+              (spares_fewer (λ word alone. sym (λ i. needs_sweep (image_of old) && is_hit (rules.laid_out i) (rules.by_record i) old word) ∙ alone.1) unswept)
+              (spares_fewer (λ word alone. alone.0) spares);
           superblock = λ word lt.
               settled_at-shrinks (spares.kept word (before_it target word lt)) (record { settled = rested word (omega (arith, lt, device-words, log_within layout)); holds = low-word word lt });
           slots = λ word le lt.

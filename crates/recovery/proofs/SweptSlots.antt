@@ -10,7 +10,7 @@ use Rattle.base.specs.Images.{IsRuledBy}
 use Rattle.base.specs.Openings.{is_mark, swept, lies_in_gap, words_swept, lines_swept}
 use Rattle.base.proofs.Sweeps.{mark-of, unmarked-low, swept-at, swept-size}
 use Rattle.pmem.specs.Device.{Device, Entry, IsOrderly, IsAmong, survivors_in, IsReadyIn, stored, flushed, fenced, failed}
-use Rattle.pmem.specs.Words.{value_of, image_of, Survives, IsReady, IsSettled, IsAtRest, Keeps, OldOr, IsWithin, Makes, OnlyShrinks}
+use Rattle.pmem.specs.Words.{value_of, image_of, Survives, IsReady, IsSettled, IsAtRest, Keeps, OldOr, IsWithin, Makes, OnlyShrinks, Spares, HasOldWords}
 use Rattle.pmem.proofs.Images.{leaves_trans, leaves_weaken}
 use Rattle.pmem.proofs.Runs.{keeps_none, keeps-stored, keeps-failed, keeps_weaken}
 use Rattle.pmem.proofs.Changes.{shrinks_refl, shrinks_trans, stored-shrinks, flushed-shrinks, fenced-shrinks, stored-value, fenced-settles}
@@ -347,6 +347,18 @@ module _ (a : Layout) (r : Record) (start : Device) (wide : slot_words a.version
         by : (b : Bool) → is_hit a r start word ≡ b → IsSettled new word
         by true hit = fenced-settles now new 0 word is (inv.done word (omega (arith, within, size)) hit).1
         by false none = (fenced-shrinks {old = now} 0 word is).settled ((inv.others word (inr none)).settled (rest word within))
+
+    -- no other word is stored
+    pub swept-spares : Keeps start new (OldOr start (IsSwept a r start)) → Spares (λ word. is_hit a r start word ≡ false) start new
+    swept-spares kept = record {
+      kept = λ word none. shrinks_trans (inv.others word (inr none)) (fenced-shrinks {old = now} 0 word is);
+      left = leaves_weaken {P = IsWithin start.words (OldOr start (IsSwept a r start))} {Q = HasOldWords (λ word. is_hit a r start word ≡ false) start}
+          (λ image within word lt none. old-one word (get_or image word 0) none (within word lt)) kept.images;
+    }
+      where
+        old-one : (word x : ℕ) → is_hit a r start word ≡ false → OldOr start (IsSwept a r start) word x → Survives start word x
+        old-one word x none (inl there) = there
+        old-one word x none (inr one) = absurd (true≢false (sym one.hit ∙ none))
 
     pub swept-image : image_of new ≡ swept (image_of start)
     swept-image =

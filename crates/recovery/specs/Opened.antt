@@ -1,5 +1,5 @@
 -- The record that an opening writes, what it leaves alone, and what an opening gives.
-use Rattle.std.specs.Prelude.{◌≡◌, ◌⊎◌, ℕ, ◌+◌, ◌*◌, ◌<◌, ◌≤◌, Bool, true, false, not, List, length, map, slice_index, Option, Some, None}
+use Rattle.std.specs.Prelude.{◌≡◌, ◌⊎◌, ℕ, ◌+◌, ◌*◌, ◌<◌, ◌≤◌, Bool, true, false, not, ◌&&◌, List, length, map, slice_index, Option, Some, None}
 use Rattle.std.specs.List.{range_with_len}
 use Rattle.base.specs.declared.gap.Gap.{Gap}
 use Rattle.base.specs.declared.fault.Fault.{Fault}
@@ -9,11 +9,13 @@ use Rattle.base.specs.Records.{Record, opened_gaps}
 use Rattle.base.specs.Images.{Image, layout_of, ruling, is_shown, opening_fault, needs_sweep, IsRuledBy}
 use Rattle.base.specs.Openings.{opening_record, gaps_kept, opened_slots, words_swept, lines_swept}
 use Rattle.pmem.specs.Device.{Device}
-use Rattle.pmem.specs.Words.{value_of, image_of, IsSettledAt, Makes}
+use Rattle.pmem.specs.Words.{value_of, image_of, IsSettledAt, Makes, Spares}
 use Rattle.log_area.specs.Rulings.{HoldsRecord}
+use Rattle.log_area.specs.Writings.{IsOutside, begun}
 use Rattle.recovery.specs.Gaps.{few_gaps}
 use Rattle.recovery.specs.Slots.{free_below}
 use Rattle.recovery.specs.Live.{live_below}
+use Rattle.recovery.specs.Sweeping.{is_hit}
 use Rattle.recovery.specs.declared.rows.LiveSlot.{LiveSlot}
 
 -- the words after the log area are the same
@@ -41,9 +43,18 @@ Examined image layout r gaps free live = IsExamined image layout r gaps free liv
 abbrev pub free_in : Image → List Bool
 free_in image = map (λ slot. not (is_shown (ruling image) image slot)) (range_with_len 0 (layout_of image).slots)
 
+-- the word is a begin or an end that lies in a gap, where there are more than eight, so that an opening sweeps it
+abbrev pub is_swept : Device → ℕ → Bool
+is_swept device word = needs_sweep (image_of device) && is_hit (layout_of (image_of device)) (ruling (image_of device)) device word
+
+-- the word is none of the record's place, and an opening doesn't sweep it
+abbrev pub IsLeftAlone : Device → Layout → Record → ℕ → Type 0
+IsLeftAlone device layout r word = IsOutside (begun layout r) word × (is_swept device word ≡ false)
+
 -- The old device, at rest, was opened, and the new one is what that made of it: this record rules it, the superblock is as
--- it was, and so are the slots, but for what a sweep of more than eight gaps stores; the next timestamp is the dirty one of
--- the record that ruled before, these slots are free, and these live
+-- it was, and so are the slots, but for what a sweep of more than eight gaps stores; no crash meanwhile leaves anything else
+-- in a word that is left alone; the next timestamp is the dirty one of the record that ruled before, these slots are free,
+-- and these live
 pub record HasOpened (old new : Device) (layout : Layout) (r : Record) (next : ℕ) (free : List Bool) (live : List LiveSlot) : Type 0 where
   pub opens : opening_fault (image_of old) ≡ None
   pub layout_is : layout ≡ layout_of (image_of old)
@@ -52,6 +63,7 @@ pub record HasOpened (old new : Device) (layout : Layout) (r : Record) (next : �
   pub free_is : free ≡ free_in (image_of old)
   pub live_is : live ≡ live_below (image_of old) (layout_of (image_of old)).slots
   pub holds : HoldsRecord layout r new
+  pub left_alone : Spares (IsLeftAlone old layout r) old new
   pub superblock : (word : ℕ) → word < 8 → IsSettledAt new word (value_of old word)
   pub slots : (word : ℕ) → 8 + 32 * layout.places ≤ word → word < old.words → IsSettledAt new word (slice_index (opened_slots (image_of old)) word)
   pub made : needs_sweep (image_of old) ≡ false → Makes 32 5 2 0 old new

@@ -1,12 +1,12 @@
-ghost use Rattle.std.specs.Prelude.{◌≡◌, ◌+◌, ◌-◌, ◌*◌, ◌^◌, ◌<◌, ◌≤◌, ℕ, true, false, List, [], IfOk, IfErr, OnOk, OnErr, MatchResult};
+ghost use Rattle.std.specs.Prelude.{◌≡◌, ◌+◌, ◌-◌, ◌*◌, ◌^◌, ◌<◌, ◌≤◌, ◌&&◌, ℕ, true, false, List, [], IfOk, IfErr, OnOk, OnErr, MatchResult};
 ghost use Rattle.base.specs.Commits.{Commit};
 ghost use Rattle.base.specs.Records.{opened_gaps};
 ghost use Rattle.base.specs.Images.{opening_fault, needs_sweep, IsRuledBy};
 ghost use Rattle.base.specs.Stands.{Stands};
 ghost use Rattle.base.specs.Openings.{StandsOpening, gaps_kept, opened_slots, words_swept, lines_swept};
-ghost use Rattle.pmem.specs.Words.{LeavesOnly, IsAtRest, image_of, Keeps, OldOr, Makes};
+ghost use Rattle.pmem.specs.Words.{LeavesOnly, IsAtRest, image_of, Keeps, OldOr, Makes, Spares};
 ghost use Rattle.recovery.specs.Gaps.{few_gaps};
-ghost use Rattle.recovery.specs.Sweeping.{IsSwept};
+ghost use Rattle.recovery.specs.Sweeping.{is_hit, IsSwept};
 ghost use Rattle.recovery.specs.Opened.{Examined as IsExaminedAs, HasOpened, IsRefusal};
 ghost use Rattle.recovery.specs.Read.{TellsLogFault};
 
@@ -143,6 +143,7 @@ fn keep_gaps<D: Pmem>(
     ensures fault { IfErr result (λ fault. fault ≡ Fault.Device) }
     ensures failed { OnErr result ((D.state device.new).failures ≡ (D.state device.old).failures + 1) }
     ensures kept { Keeps (D.state device.old) (D.state device.new) (OldOr (D.state device.old) (IsSwept geometry ruling (D.state device.old))) }
+    ensures others { OnOk result (Spares (λ word. (needs_sweep (image_of (D.state device.old)) && is_hit geometry ruling (D.state device.old) word) ≡ false) (D.state device.old) (D.state device.new)) }
     ensures ok { IfOk result (λ left. left ≡ gaps_kept (opened_gaps ruling)) }
     ensures rest { OnOk result (IsAtRest (D.state device.new)) }
     ensures image { OnOk result (image_of (D.state device.new) ≡ opened_slots (image_of (D.state device.old))) }

@@ -1,10 +1,10 @@
-ghost use Rattle.std.specs.Prelude.{◌≡◌, ◌+◌, ◌<◌, IsTrue, IfOk, IfErr, OnOk, OnErr, ◌||◌, if◌then◌else◌};
+ghost use Rattle.std.specs.Prelude.{◌≡◌, ◌+◌, ◌<◌, false, IsTrue, IfOk, IfErr, OnOk, OnErr, ◌||◌, if◌then◌else◌};
 ghost use Rattle.base.specs.Layout.{newest_version, slot_start, total_words};
 ghost use Rattle.base.specs.Records.{is_well_formed};
 ghost use Rattle.base.specs.Images.{IsRuledBy};
 ghost use Rattle.base.specs.Openings.{swept, words_swept, lines_swept};
-ghost use Rattle.pmem.specs.Words.{value_of, image_of, IsAtRest, Keeps, OldOr, Makes};
-ghost use Rattle.recovery.specs.Sweeping.{lies, IsZeroed, IsSwept, zeroed, cleaned};
+ghost use Rattle.pmem.specs.Words.{value_of, image_of, IsAtRest, Keeps, OldOr, Makes, Spares};
+ghost use Rattle.recovery.specs.Sweeping.{lies, is_hit, IsZeroed, IsSwept, zeroed, cleaned};
 
 use crate::gaps::lies_in_gap;
 use base::actor::Actor;
@@ -21,6 +21,7 @@ pub fn sweep<D: Pmem>(device: &mut D, geometry: Geometry, ruling: Record) -> Res
     ensures fault { IfErr result (λ fault. fault ≡ Fault.Device) }
     ensures failed { OnErr result ((D.state device.new).failures ≡ (D.state device.old).failures + 1) }
     ensures kept { Keeps (D.state device.old) (D.state device.new) (OldOr (D.state device.old) (IsSwept geometry ruling (D.state device.old))) }
+    ensures others { OnOk result (Spares (λ word. is_hit geometry ruling (D.state device.old) word ≡ false) (D.state device.old) (D.state device.new)) }
     ensures rest { OnOk result (IsAtRest (D.state device.new)) }
     ensures image { OnOk result (image_of (D.state device.new) ≡ swept (image_of (D.state device.old))) }
     ensures made { OnOk result (Makes (words_swept (image_of (D.state device.old))) (lines_swept (image_of (D.state device.old))) 1 0 (D.state device.old) (D.state device.new)) }

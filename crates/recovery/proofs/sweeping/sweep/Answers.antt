@@ -2,7 +2,7 @@ use Rattle.std.proofs.Common.{◌≡◌, ℕ, ◌∙◌, subst, arith}
 use Rattle.pmem.specs.Words.{image_of}
 use Rattle.pmem.proofs.Runs.{keeps-fenced, keeps-failed}
 use Rattle.recovery.proofs.Lives.{formed-new, wide-new, ruled-size}
-use Rattle.recovery.proofs.SweptSlots.{IsSweptUpTo, swept-none, swept-more, swept-error, swept-rests, swept-image, swept-made}
+use Rattle.recovery.proofs.SweptSlots.{IsSweptUpTo, swept-none, swept-more, swept-error, swept-rests, swept-spares, swept-image, swept-made}
 use Rattle.recovery.proofs.sweeping.sweep.Goals as goal
 
 pub sweep_slot-requires-clause-formed : goal.sweep_slot-requires-clause-formed
@@ -40,6 +40,17 @@ pub returns-clause-kept : goal.returns-clause-kept
 returns-clause-kept g c =
     let orderly = g.met.D.Pmem.orderly in
     keeps-fenced 0 (orderly c.loop-slot.device) (orderly c.fence.new.self) c.loop-slot.invariant.kept c.in_ok-fence.ensures.ok
+
+pub returns-clause-others : goal.returns-clause-others
+returns-clause-others g c =
+    let start = g.D.Pmem.state c.args.device.now in
+    let orderly = g.met.D.Pmem.orderly in
+    let rules = c.requires.rules in
+    let done : c.loop-slot.slot ≡ c.args.geometry.slots = omega (arith, c.loop-slot-test.false, c.loop-slot.auto.slot-end, c.slots-slot-end.ensures.value) in
+    let inv = subst (λ (n : ℕ). IsSweptUpTo c.args.geometry c.args.ruling start n (g.D.Pmem.state c.loop-slot.device)) done c.loop-slot.invariant in
+    swept-spares c.args.geometry c.args.ruling start (wide-new c.args.geometry c.args.ruling (image_of start) rules) rules (ruled-size start c.args.geometry c.args.ruling rules) c.requires.at_rest
+    (g.D.Pmem.state c.loop-slot.device) (g.D.Pmem.state c.fence.new.self) inv c.in_ok-fence.ensures.ok
+    (keeps-fenced 0 (orderly c.loop-slot.device) (orderly c.fence.new.self) c.loop-slot.invariant.kept c.in_ok-fence.ensures.ok)
 
 pub returns-clause-rest : goal.returns-clause-rest
 returns-clause-rest g c =

@@ -1,4 +1,5 @@
 use Rattle.engine.proofs.Committing.{commit_idle, commit_only_prepared, commit_polled, commit_ended, commit_end_failed}
+use Rattle.engine.proofs.Phasing.{phase_after-called}
 use Rattle.engine.proofs.session.Session.commit.Goals as goal
 
 pub returns-in-None-clause-steps : goal.returns-in-None-clause-steps
@@ -18,3 +19,12 @@ returns-in-Err-end-clause-steps g c =
 pub returns-in-Err-wait-clause-steps : goal.returns-in-Err-wait-clause-steps
 returns-in-Err-wait-clause-steps g c =
     commit_polled _ _ _ _ c.in-Some.number c.in-Err-wait.fault _ c.in-Some.ensures.some c.in-Ok.ensures.steps c.in-Err-wait.ensures.steps
+
+pub returns-in-Ok-end-clause-phase : goal.returns-in-Ok-end-clause-phase
+returns-in-Ok-end-clause-phase g c = phase_after-called _ _ _ _ _ c.args.self.now.phase_is c.end.new.self.phase_is (returns-in-Ok-end-clause-steps g c)
+
+pub returns-in-Err-end-clause-phase : goal.returns-in-Err-end-clause-phase
+returns-in-Err-end-clause-phase g c = phase_after-called _ _ _ _ _ c.args.self.now.phase_is c.end.new.self.phase_is (returns-in-Err-end-clause-steps g c)
+
+pub returns-in-Err-wait-clause-phase : goal.returns-in-Err-wait-clause-phase
+returns-in-Err-wait-clause-phase g c = phase_after-called _ _ _ _ _ c.args.self.now.phase_is c.wait.new.self.phase_is (returns-in-Err-wait-clause-steps g c)

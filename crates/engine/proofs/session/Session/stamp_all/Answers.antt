@@ -1,20 +1,23 @@
 use Rattle.std.proofs.Common.{◌≡◌, ◌∙◌, ap, inr, refl}
 use Rattle.std.proofs.lemmas.List.Elements.{All-push}
 use Rattle.base.specs.declared.step.Step.TheVariants.{Stamp}
+use Rattle.base.specs.declared.step.Reply.{Reply}
 use Rattle.base.specs.Machine.{note_of}
 use Rattle.audited.specs.declared.receipt.Receipt.{Receipt}
+use Rattle.engine.specs.Phases.{phase_after_step}
 use Rattle.engine.proofs.Calls.{Called-more}
 use Rattle.engine.proofs.session.Session.stamp_all.Goals as goal
 
 pub loop-preserved : goal.loop-preserved
 loop-preserved g c = record {
   steps = Called-more _ _ _ _ _ _ _ c.loop.invariant.steps c.in_ok-make.ensures.ok (λ added r all step note. All-push (λ (s : Receipt). s.step ≡ Stamp c.args.number) added r all step);
-  phase = c.make.ensures.phase ∙ c.loop.invariant.phase;
+  phase = c.in_ok-make.ensures.moved ∙ (ap (λ (reply : Reply). phase_after_step c.loop.self.phase (Stamp c.args.number) (note_of reply)) c.in-More.is ∙ c.loop.invariant.phase);
 }
 
 pub returns-in-Stamped-clause-steps : goal.returns-in-Stamped-clause-steps
 returns-in-Stamped-clause-steps g c =
-    Called-more _ _ _ _ _ _ _ c.loop.invariant.steps c.in_ok-make.ensures.ok (λ added r all step note. (All-push (λ (s : Receipt). s.step ≡ Stamp c.args.number) added r all step, tt))
+    Called-more _ _ _ _ _ _ _ c.loop.invariant.steps c.in_ok-make.ensures.ok (λ added r all step note.
+    (All-push (λ (s : Receipt). s.step ≡ Stamp c.args.number) added r all step, (added, r, refl, note ∙ ap note_of c.in-Stamped.is)))
 
 pub returns-in-Refused-clause-steps : goal.returns-in-Refused-clause-steps
 returns-in-Refused-clause-steps g c =

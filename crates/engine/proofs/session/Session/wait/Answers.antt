@@ -7,22 +7,26 @@ use Rattle.engine.proofs.Calls.{Called-more}
 use Rattle.engine.proofs.session.Session.wait.Goals as goal
 
 pub loop-preserved : goal.loop-preserved
-loop-preserved g c = record {
-  steps = Called-more _ _ _ _ _ _ _ c.loop.invariant.steps c.in_ok-make.ensures.ok (λ added r all step note. All-push (λ (s : Receipt). s.step ≡ Poll c.args.number) added r all step);
-  phase = c.make.ensures.phase ∙ c.loop.invariant.phase;
-}
+loop-preserved g c =
+    Called-more _ _ _ _ _ _ _ c.loop.invariant c.in_ok-make.ensures.ok (λ added r all step note. All-push (λ (s : Receipt). s.step ≡ Poll c.args.number) added r all step)
 
-pub returns-in-Committed-clause-steps : goal.returns-in-Committed-clause-steps
-returns-in-Committed-clause-steps g c =
-    Called-more _ _ _ _ _ _ _ c.loop.invariant.steps c.in_ok-make.ensures.ok (λ added r all step note.
-    (All-push (λ (s : Receipt). s.step ≡ Poll c.args.number) added r all step, (added, r, refl, note ∙ ap note_of c.in-Committed.is)))
+pub returns-in-Committed : goal.returns-in-Committed
+returns-in-Committed g c =
+    record {
+      steps = Called-more _ _ _ _ _ _ _ c.loop.invariant c.in_ok-make.ensures.ok (λ added r all step note.
+          (All-push (λ (s : Receipt). s.step ≡ Poll c.args.number) added r all step, (added, r, refl, note ∙ ap note_of c.in-Committed.is)));
+    }
 
-pub returns-in-Done-clause-steps : goal.returns-in-Done-clause-steps
-returns-in-Done-clause-steps g c =
-    Called-more _ _ _ _ _ _ _ c.loop.invariant.steps c.in_ok-make.ensures.ok (λ added r all step note.
-    (All-push (λ (s : Receipt). s.step ≡ Poll c.args.number) added r all step, (added, r, refl, note ∙ ap note_of c.in-Done.is)))
+pub returns-in-Done : goal.returns-in-Done
+returns-in-Done g c =
+    record {
+      steps = Called-more _ _ _ _ _ _ _ c.loop.invariant c.in_ok-make.ensures.ok (λ added r all step note.
+          (All-push (λ (s : Receipt). s.step ≡ Poll c.args.number) added r all step, (added, r, refl, note ∙ ap note_of c.in-Done.is)));
+    }
 
-pub returns-in-Refused-clause-steps : goal.returns-in-Refused-clause-steps
-returns-in-Refused-clause-steps g c =
-    Called-more _ _ _ _ _ _ _ c.loop.invariant.steps c.in_ok-make.ensures.ok (λ added r all step note.
-    (All-push (λ (s : Receipt). s.step ≡ Poll c.args.number) added r all step, inr (added, r, refl, note ∙ ap note_of c.in-Refused.is)))
+pub returns-in-Refused : goal.returns-in-Refused
+returns-in-Refused g c =
+    record {
+      steps = Called-more _ _ _ _ _ _ _ c.loop.invariant c.in_ok-make.ensures.ok (λ added r all step note.
+          (All-push (λ (s : Receipt). s.step ≡ Poll c.args.number) added r all step, inr (added, r, refl, note ∙ ap note_of c.in-Refused.is)));
+    }

@@ -72,5 +72,5 @@ returns-in-Ok-write_record-clause-ok g c =
     let same = target-is (image_of old) c.args.self.geometry c.args.self.ruling c.args.self.gaps c.args.self.free.items c.args.self.live.items c.requires.examined target c.in-Ok.gaps kept.ok c.next_record-target.ensures in
     let follows = next-target old mid new orderly c.requires.at_rest c.args.self.geometry c.args.self.ruling c.args.self.gaps c.args.self.free.items c.args.self.live.items c.requires.examined kept.kept kept.rest kept.image target same in
     let has = has-opened old mid new orderly c.requires.at_rest c.args.self.geometry c.args.self.ruling c.args.self.gaps c.args.self.free.items c.args.self.live.items c.requires.examined kept.kept kept.rest kept.image target same
-    (c.in-Ok-write_record.ensures.holds c.args.self.ruling follows) c.in-Ok-write_record.ensures.outside kept.none kept.made c.in-Ok-write_record.ensures.made c.args.self.ruling.dirty refl in
+    (c.in-Ok-write_record.ensures.holds c.args.self.ruling follows) c.in-Ok-write_record.ensures.outside kept.others kept.none kept.made c.in-Ok-write_record.ensures.made c.args.self.ruling.dirty refl in
     subst (λ (life : Life). HasOpened old new life.geometry life.ruling life.next life.free.items life.live.items) (sym c.begun.ensures) has

@@ -1,0 +1,67 @@
+ghost use Rattle.std.specs.Prelude.{◌≡◌, ◌↔◌, ◌≤◌, IsTrue, true, IfSome, IfNone};
+ghost use Rattle.engine.specs.Agreement.{IsReturned, receipts_in};
+
+use crate::agreement::agrees;
+use crate::origin::Origin;
+use crate::session::Session;
+use crate::shared::Desk;
+use audited::Audited;
+use pmem::Pmem;
+use room::Status;
+
+/// Tells the workers to end, exactly where no fewer sessions came back than were handed out.
+pub fn may_close<D: Pmem + Drop, J: Origin>(desk: &mut Desk<D, J>, count: u64) -> bool
+    ensures may { IsTrue result ↔ (desk.old.handed ≤ count) }
+    ensures closing { IsTrue result → desk.new.closing ≡ true }
+    ensures room { desk.new.audited ≡ desk.old.audited }
+{
+    if count < desk.handed {
+        return false;
+    }
+    desk.closing = true;
+    true
+}
+
+/// Takes the room out exactly where it is the one that was opened so and the receipts are its steps. Else it stays there.
+pub fn take_room<D: Pmem + Drop, J: Origin, B: Drop>(
+    desk: &mut Desk<D, J>,
+    opening: &Status,
+    first: u64,
+    sessions: &[Session<D, J, B>],
+) -> Option<Audited<D>>
+    ensures some { IfSome result (λ audited. (desk.old.audited ≡ Some audited) × IsReturned opening.now first (receipts_in sessions.now) audited) }
+    ensures none { IfNone result (IfSome desk.old.audited (λ audited. IsReturned opening.now first (receipts_in sessions.now) audited → ⊥)) }
+    ensures kept { IfNone result (desk.new.audited ≡ desk.old.audited) }
+{
+    let Some(audited) = &desk.audited else {
+        return None;
+    };
+    if is_returned(audited, opening, first, sessions) {
+        desk.audited.take()
+    } else {
+        None
+    }
+}
+
+// Whether it is the room that was opened so, and the receipts are its steps.
+fn is_returned<D: Pmem + Drop, J: Origin, B: Drop>(
+    audited: &Audited<D>,
+    opening: &Status,
+    first: u64,
+    sessions: &[Session<D, J, B>],
+) -> bool
+    ensures { IsTrue result ↔ IsReturned opening.now first (receipts_in sessions.now) audited.now }
+{
+    is_same(&audited.opening(), opening) && agrees(audited.history(), first, sessions)
+}
+
+// Whether these are the same numbers.
+fn is_same(one: &Status, other: &Status) -> bool
+    ensures { IsTrue result ↔ (one.now ≡ other.now) }
+{
+    one.gate == other.gate
+        && one.persisted == other.persisted
+        && one.dirty == other.dirty
+        && one.next == other.next
+        && one.gaps.is(&other.gaps)
+}

@@ -1,0 +1,18 @@
+use Rattle.std.proofs.Common.{◌≡◌, false}
+use Rattle.std.specs.Prelude.{◌&&◌}
+use Rattle.base.specs.Images.{needs_sweep}
+use Rattle.pmem.specs.Words.{image_of}
+use Rattle.pmem.proofs.Spares.{spares_none}
+use Rattle.recovery.specs.Sweeping.{is_hit}
+use Rattle.recovery.proofs.Lives.{unswept-spared}
+use Rattle.recovery.proofs.opening.keep_gaps.Goals as goal
+
+-- nothing is swept
+pub returns-in-Some-clause-others : goal.returns-in-Some-clause-others
+returns-in-Some-clause-others g c =
+    let old = g.D.Pmem.state c.args.device.now in
+    spares_none (λ word. (needs_sweep (image_of old) && is_hit c.args.geometry c.args.ruling old word) ≡ false) old (g.met.D.Pmem.orderly c.args.device.now)
+
+pub returns-in-Ok-clause-others : goal.returns-in-Ok-clause-others
+returns-in-Ok-clause-others g c =
+    unswept-spared (g.D.Pmem.state c.args.device.now) (g.D.Pmem.state c.sweep.new.device) c.args.geometry c.args.ruling c.args.gaps c.requires.rules c.requires.gaps c.in-None.is c.in-Ok.ensures.others
