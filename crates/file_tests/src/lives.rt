@@ -65,9 +65,9 @@ fn live<R: Threads + Sync>(
         formatted: false,
         acknowledged: 0,
     };
-    if format(&mut device, Geometry::new(4, 2, 8)?).is_err() {
+    let Ok(()) = format(&mut device, Geometry::new(4, 2, 8)?) else {
         return Ok((life, device.into_lines().into_words()));
-    }
+    };
     life.formatted = true;
     let mut room = match Room::open(rt, alloc, device) {
         Ok(room) => room,
@@ -101,7 +101,7 @@ fn assert_opens<R: Threads + Sync + Abort>(
     match Room::open(rt, alloc, device) {
         Ok(room) => {
             let found = number_in(&room)?;
-            assert!(rt; found == life.acknowledged || found == life.acknowledged + 1);
+            assert!(rt; found >= life.acknowledged && found - life.acknowledged <= 1);
         }
         Err((fault, _device)) => assert!(rt; !life.formatted && fault == Fault::NotFormatted),
     }
