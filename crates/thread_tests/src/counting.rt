@@ -1,29 +1,68 @@
+use crate::hold::Hold;
 use base::actor::Actor;
 use base::fault::Fault;
 use pmem::Pmem;
 use std::alloc::Global;
 use std::sync::Arc;
-use std::sync::atomic::{AtomicU64, Ordering};
+use std::sync::atomic::{AtomicBool, AtomicU64, Ordering};
 
-/// A device that counts its operations where every thread can read how many they are.
+/// What the threads tell one another.
 #[derive(Drop)]
-pub struct Counting<D: Pmem> {
-    device: D,
-    made: Arc<AtomicU64, Global>,
+pub struct Signals {
+    /// How many operations the device made.
+    made: AtomicU64,
+    /// The next operation is to be held.
+    armed: AtomicBool,
+    /// Where the device is held within an operation, and so the thread that has the room's lock.
+    pub operation: Hold,
+    /// Where the committer is held within a cycle.
+    pub cycle: Hold,
 }
 
-impl<D: Pmem> Counting<D> {
-    ghost use Rattle.std.specs.Prelude.{◌≡◌};
+pub type SharedSignals = Arc<Signals, Global>;
 
-    pub fn new(device: D, made: Arc<AtomicU64, Global>) -> Counting<D>
-        ensures { result.device ≡ device }
-    {
-        Counting { device, made }
+impl Signals {
+    pub fn new() -> Signals {
+        Signals {
+            made: AtomicU64::new(0),
+            armed: AtomicBool::new(false),
+            operation: Hold::new(),
+            cycle: Hold::new(),
+        }
+    }
+
+    pub fn made(&self) -> u64 {
+        self.made.load(Ordering::SeqCst)
+    }
+
+    /// Has the device held within its next operation.
+    pub fn arm(&self) {
+        self.armed.store(true, Ordering::SeqCst);
     }
 
     // One more operation was made.
     fn count(&self) {
         self.made.fetch_add(1, Ordering::SeqCst);
+        if self.armed.swap(false, Ordering::SeqCst) {
+            self.operation.pass();
+        }
+    }
+}
+
+/// A device that counts its operations where every thread can read how many they are, and can be held within one.
+#[derive(Drop)]
+pub struct Counting<D: Pmem> {
+    device: D,
+    signals: SharedSignals,
+}
+
+impl<D: Pmem> Counting<D> {
+    ghost use Rattle.std.specs.Prelude.{◌≡◌};
+
+    pub fn new(device: D, signals: SharedSignals) -> Counting<D>
+        ensures { result.device ≡ device }
+    {
+        Counting { device, signals }
     }
 }
 
@@ -42,19 +81,19 @@ impl<D: Pmem> Pmem for Counting<D> {
 
     fn store(&mut self, word: usize, value: u64) -> Result<(), Fault> {
         let made = self.device.store(word, value);
-        self.count();
+        self.signals.count();
         made
     }
 
     fn flush(&mut self, actor: Actor, line: usize) -> Result<(), Fault> {
         let made = self.device.flush(actor, line);
-        self.count();
+        self.signals.count();
         made
     }
 
     fn fence(&mut self, actor: Actor) -> Result<(), Fault> {
         let made = self.device.fence(actor);
-        self.count();
+        self.signals.count();
         made
     }
 }

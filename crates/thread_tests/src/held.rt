@@ -1,10 +1,11 @@
-//! While the committer is held within a cycle, another session works, and so does a reader. An engine that makes whole cycles
-//! under one lock, or one that answers from another device than it was lent, fails this.
+//! While the committer is held within a cycle, another session works; and while that one is held within an operation of the
+//! device, and so has the room's lock, a reader reads. An engine that makes whole cycles under one lock, one that has its readers
+//! wait for a lock, or one that answers from another device than it was lent, fails this.
 ghost use Rattle.std.specs.Prelude.{◌≡◌, IfOk};
 ghost use Rattle.pmem.specs.Words.{IsAtRest, image_of};
 ghost use Rattle.pmem_model.specs.Sim.{device_of};
 
-use crate::counting::Counting;
+use crate::counting::{Counting, SharedSignals, Signals};
 use crate::fixture::{Never, closed, fresh, granted, key, put, row, running};
 use base::fault::Fault;
 use base::row::Row;
@@ -15,26 +16,9 @@ use pmem::Pmem;
 use pmem_model::SimPmem;
 use std::alloc::Global;
 use std::marker::Brand;
-use std::sync::atomic::{AtomicBool, AtomicU64, Ordering};
 use std::sync::{Arc, Wait};
 use std::test::*;
-use std::thread::{Threads, join, yield_now};
-
-/// For how many turns the committer is held at most.
-const TURNS: u64 = 1_000_000;
-
-/// What the threads tell one another.
-#[derive(Drop)]
-struct Signals {
-    /// The committer is held, or the commit is over.
-    held: AtomicBool,
-    /// It may go on.
-    free: AtomicBool,
-    /// How many operations the device made.
-    made: Arc<AtomicU64, Global>,
-}
-
-type SharedSignals = Arc<Signals, Global>;
+use std::thread::{Threads, join};
 
 /// Holds the committer once the record's body is fenced.
 #[derive(Drop)]
@@ -45,31 +29,31 @@ struct Holding {
 impl Gate for Holding {
     fn pass(&mut self, after: &Note) -> Go {
         if matches!(after, Note::Ticked(Stage::BodyFenced)) {
-            self.signals.held.store(true, Ordering::SeqCst);
-            for _ in 0..TURNS {
-                if self.signals.free.load(Ordering::SeqCst) {
-                    break;
-                }
-                yield_now();
-            }
+            self.signals.cycle.pass();
         }
         Go::Tick
     }
 }
 
+/// What the reader is answered while the room's lock is held.
+#[derive(Clone, Copy, Debug)]
+struct Reading {
+    row: Result<Option<Row>, Fault>,
+    bounds: Result<(u64, u64), Fault>,
+}
+
 /// What is answered while the committer is held.
 #[derive(Clone, Copy, Debug)]
 struct Meanwhile {
-    own: Option<Row>,
-    read: Result<Option<Row>, Fault>,
-    bounds: Result<(u64, u64), Fault>,
+    own: Result<Option<Row>, Fault>,
+    read: Reading,
     made: u64,
 }
 
 type Sessions<D, J, R> = Vec<Session<D, J, Board<J, R>>>;
 
-/// What the reader and the second session were answered, and the first.
-type Answers = (Result<Meanwhile, Fault>, Result<Option<u64>, Fault>);
+/// What the second session and the reader were answered, and the first session.
+type Answers = (Meanwhile, Result<Option<u64>, Fault>);
 
 /// What is answered to both sessions.
 #[derive(Drop)]
@@ -78,15 +62,12 @@ struct Seen {
     meanwhile: Meanwhile,
     committed: Option<u64>,
     made: u64,
+    /// A thread was held until its turns were over.
+    late: bool,
 }
 
 fn make_signals(alloc: Global) -> Result<SharedSignals, Fault> {
-    let signals = Signals {
-        held: AtomicBool::new(false),
-        free: AtomicBool::new(false),
-        made: granted(Arc::new(alloc, AtomicU64::new(0)))?,
-    };
-    granted(Arc::new(alloc, signals))
+    granted(Arc::new(alloc, Signals::new()))
 }
 
 // Puts a row and commits it.
@@ -100,51 +81,65 @@ fn commit<D: Pmem + Drop, J: Origin, B: Drop>(
         Ok(()) => session.commit(rt),
         Err(fault) => Err(fault),
     };
-    signals.held.store(true, Ordering::SeqCst);
+    signals.cycle.reach();
     (session, committed)
 }
 
-// Works in a second transaction and reads, once the committer is held. Lets it go on then.
-fn work_meanwhile<D: Pmem + Drop, J: Origin, B: Drop>(
+// Puts another row, with which the device is held, and reads it.
+fn put_held<D: Pmem + Drop, J: Origin, B: Drop>(
     rt: &impl Wait,
+    session: Session<D, J, B>,
+    signals: &Signals,
+) -> (Session<D, J, B>, Result<Option<Row>, Fault>) {
+    let mut session = session;
+    let own = match put(rt, &mut session, 8, 2) {
+        Ok(()) => session.get(rt, key(8)),
+        Err(fault) => Err(fault),
+    };
+    signals.operation.reach();
+    (session, own)
+}
+
+// Reads while the device is held within an operation. Lets it go on then.
+fn read_beside<J: Origin>(rt: &impl Wait, reader: Reader<J>, signals: &Signals) -> Reading {
+    let mut reader = reader;
+    signals.operation.wait(rt);
+    let row = reader.read(2, key(7));
+    let bounds = reader.at();
+    signals.operation.free();
+    Reading { row, bounds }
+}
+
+// Works in a second transaction and reads, once the committer is held. Lets it go on then.
+fn work_meanwhile<
+    D: Pmem + Drop + Send + Sync,
+    J: Origin + Send + Sync,
+    B: Drop + Send,
+    R: Threads + Wait + Sync,
+>(
+    rt: &R,
     session: Session<D, J, B>,
     reader: Reader<J>,
     signals: &Signals,
-) -> (Session<D, J, B>, Result<Meanwhile, Fault>) {
-    let mut session = session;
-    let mut reader = reader;
-    for _ in rt.forever() {
-        if signals.held.load(Ordering::SeqCst) {
-            break;
-        }
-        yield_now();
-    }
-    let meanwhile = answers(rt, &mut session, &mut reader, signals);
-    signals.free.store(true, Ordering::SeqCst);
-    (session, meanwhile)
-}
-
-fn answers<D: Pmem + Drop, J: Origin, B: Drop>(
-    rt: &impl Wait,
-    session: &mut Session<D, J, B>,
-    reader: &mut Reader<J>,
-    signals: &Signals,
-) -> Result<Meanwhile, Fault> {
-    put(rt, session, 8, 2)?;
-    Ok(Meanwhile {
-        own: session.get(rt, key(8))?,
-        read: reader.read(2, key(7)),
-        bounds: reader.at(),
-        made: signals.made.load(Ordering::SeqCst),
-    })
+) -> (Session<D, J, B>, Meanwhile) {
+    signals.cycle.wait(rt);
+    signals.arm();
+    let ((session, own), read) = join(
+        rt,
+        || put_held(rt, session, signals),
+        || read_beside(rt, reader, signals),
+    );
+    let made = signals.made();
+    signals.cycle.free();
+    (session, Meanwhile { own, read, made })
 }
 
 // A fresh device that counts its operations there.
-fn counted(alloc: Global, signals: &Signals) -> Result<Counting<SimPmem>, Fault>
+fn counted(alloc: Global, signals: &SharedSignals) -> Result<Counting<SimPmem>, Fault>
     ensures { IfOk result (λ counting. IsAtRest (device_of counting.device)) }
 {
-    let made = granted(Arc::try_clone(&signals.made))?;
-    Ok(Counting::new(fresh(alloc, 4, 8)?, made))
+    let signals = granted(Arc::try_clone(signals))?;
+    Ok(Counting::new(fresh(alloc, 4, 8)?, signals))
 }
 
 // Commits a row, within a cycle of which a second session and a reader are asked. The sessions, and what all were answered.
@@ -184,15 +179,16 @@ fn hold<
         signals: granted(Arc::try_clone(&signals))?,
     };
     let engine = running::<D, J, R, Holding, Never>(rt, alloc, history, device, holding, Never)?;
-    let opened = signals.made.load(Ordering::SeqCst);
+    let opened = signals.made();
     let (sessions, (meanwhile, committed)) = work_together(rt, alloc, &engine, &signals)?;
-    let made = signals.made.load(Ordering::SeqCst);
+    let made = signals.made();
     closed(rt, engine, sessions)?;
     Ok(Seen {
         opened,
-        meanwhile: meanwhile?,
+        meanwhile,
         committed: committed?,
         made,
+        late: signals.operation.was_late() || signals.cycle.was_late(),
     })
 }
 
@@ -202,11 +198,12 @@ fn readers_and_writers_inside_a_cycle(rt: HostRuntime) -> Result<(), Fail> {
     let device = counted(rt.alloc(), &signals)?;
     let seen = hold::<_, Brand, _>(&rt, rt.alloc(), History::new(), device, signals)?;
     assert_eq!(rt; seen.opened, 39);
-    assert_eq!(rt; seen.meanwhile.own, Some(row(2)?));
-    assert_eq!(rt; seen.meanwhile.read, Ok(None));
-    assert_eq!(rt; seen.meanwhile.bounds, Ok((2, 2)));
+    assert_eq!(rt; seen.meanwhile.own, Ok(Some(row(2)?)));
+    assert_eq!(rt; seen.meanwhile.read.row, Ok(None));
+    assert_eq!(rt; seen.meanwhile.read.bounds, Ok((2, 2)));
     assert_eq!(rt; seen.meanwhile.made, 98);
     assert_eq!(rt; seen.committed, Some(1));
     assert_eq!(rt; seen.made, 101);
+    assert!(rt; !seen.late);
     Ok(())
 }

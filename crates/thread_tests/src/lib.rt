@@ -3,11 +3,15 @@
 #![tactic(auto)]
 
 #[cfg(test)]
+mod calls;
+#[cfg(test)]
 mod counting;
 #[cfg(test)]
 mod fixture;
 #[cfg(test)]
 mod held;
+#[cfg(test)]
+mod hold;
 #[cfg(test)]
 mod stress;
 #[cfg(test)]
