@@ -14,6 +14,7 @@ use crate::whole::{ask_program, run_program};
 use anyhow::Error;
 use command_line::orders::{Order, WordFault};
 use command_line::words::order;
+use console::ended::Ended;
 use console::execute::execute;
 use console::stop::Stop;
 use std::alloc::Global;
@@ -117,17 +118,21 @@ fn execute_order<
     output: &mut W,
     file: &mut Vec<u8>,
 ) -> Result<(), Error> {
-    let ended = execute(rt, alloc, order, file.as_slice(), input, output);
-    if let Some(left) = ended.file {
+    let Ended {
+        status,
+        file: left,
+        stopped,
+    } = execute(rt, alloc, order, file.as_slice(), input, output);
+    if let Some(left) = left {
         *file = left;
     }
-    if ended.status != 0 {
-        println!(rt; "status {}", ended.status)?;
+    if status != 0 {
+        println!(rt; "status {status}")?;
     }
-    if let Some(Stop::Broken(reason)) = ended.stopped {
-        println!(rt; "broken: {reason}")?;
+    match stopped {
+        Some(Stop::Broken(reason)) => Ok(println!(rt; "broken: {reason}")?),
+        _ => Ok(()),
     }
-    Ok(())
 }
 
 fn tell<H: Print>(rt: &H, fault: WordFault) -> Result<(), Error> {
