@@ -7,7 +7,7 @@ use Rattle.std.proofs.lemmas.Bool.{and_parts, and_from, le-leb, leb-true, leb-fa
 use Rattle.std.proofs.lemmas.Bool.Decides.{nat_tests}
 use Rattle.base.specs.Records.{are_rising}
 use Rattle.dirty_table.specs.declared.touches.Touch.{Touch}
-use Rattle.dirty_table.specs.Touches.{has, is_touched, lines_touched, are_from, are_in_order, put_in, with_touch, with_touches, Touches, Leaves, Forgets}
+use Rattle.dirty_table.specs.Touches.{has, is_touched, lines_touched, are_from, are_in_order, put_in, with_touch, with_touches, Touches, Forgets}
 
 abbrev is_it : Touch → ℕ → ℕ → Bool
 is_it touch n line = nat_eq touch.session n && nat_eq touch.line line
@@ -201,26 +201,6 @@ filter-others p q (touch ∷ touches) keeps = by (p touch) refl (filter-others p
     by : (b : Bool) → p touch ≡ b → filter q (filter p touches) ≡ filter q touches → filter q (cond b (touch ∷ filter p touches) (filter p touches)) ≡ filter q (touch ∷ touches)
     by true stays rest = ap (λ (ts : List Touch). cond (q touch) (touch ∷ ts) ts) rest
     by false goes rest = apart (q touch) refl goes rest
-
-abbrev pub is_left : ℕ → ℕ → Touch → Bool
-is_left session line touch = not (nat_eq touch.session session) || not (nat_eq touch.line line)
-
-pub leaves_from : (session line : ℕ) (old new : List Touch) → new ≡ filter (is_left session line) old → Leaves session line old new
-leaves_from session line old new e = subst (λ (ts : List Touch). Leaves session line old ts) (sym e) (record {
-  touched = λ n l. filter-touched (λ s k. not (nat_eq s session) || not (nat_eq k line)) old n l ∙ ap (λ (x : Bool). is_touched old n l && x) (not_both (nat_eq n session) (nat_eq l line));
-  others = λ which other. ap lines_of (filter-others (is_left session line) (of which) old (stays which other));
-})
-  where
-    not_both : (x y : Bool) → (not x || not y) ≡ not (x && y)
-    not_both true y = refl
-    not_both false y = refl
-
-    stays : (which : ℕ → Bool) → which session ≡ false → (touch : Touch) → which touch.session ≡ true → is_left session line touch ≡ true
-    stays which other touch is = by (nat_eq touch.session session) refl
-      where
-        by : (b : Bool) → nat_eq touch.session session ≡ b → (not b || not (nat_eq touch.line line)) ≡ true
-        by true e = absurd (cc (ap which (eqb-true touch.session session e)))
-        by false e = refl
 
 abbrev pub is_kept : List Bool → Touch → Bool
 is_kept sessions touch = not (has sessions touch.session)

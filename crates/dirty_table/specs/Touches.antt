@@ -43,11 +43,6 @@ pub record Touches (session : ℕ) (lines : List ℕ) (old new : List Touch) : T
   pub touched : (n line : ℕ) → is_touched new n line ≡ (is_touched old n line || (nat_eq session n && list_any (λ l. nat_eq l line) lines))
   pub others : (which : ℕ → Bool) → which session ≡ false → lines_touched which new ≡ lines_touched which old
 
--- the session touches the line no more, and what others touch stays
-pub record Leaves (session line : ℕ) (old new : List Touch) : Type 0 where
-  pub touched : (n l : ℕ) → is_touched new n l ≡ (is_touched old n l && not (nat_eq n session && nat_eq l line))
-  pub others : (which : ℕ → Bool) → which session ≡ false → lines_touched which new ≡ lines_touched which old
-
 -- these sessions touch no line any more, and what others touch stays
 pub record Forgets (sessions : List Bool) (old new : List Touch) : Type 0 where
   pub touched : (n line : ℕ) → is_touched new n line ≡ (is_touched old n line && not (has sessions n))

@@ -27,7 +27,7 @@ impl DirtyTable {
     ghost use Rattle.std.specs.Prelude.{◌≡◌, nat_le, find, [], IsTrue, IfErr, OnOk, OnErr};
     ghost use Rattle.base.specs.Records.{are_rising};
     ghost use Rattle.base.specs.declared.fault.Fault.TheVariants.{OutOfMemory};
-    ghost use Rattle.dirty_table.specs.Touches.{has, is_touched, lines_touched, Touches, Leaves, Forgets};
+    ghost use Rattle.dirty_table.specs.Touches.{has, is_touched, lines_touched, Touches, Forgets};
 
     /// No session touches a line.
     pub fn new(alloc: Global) -> DirtyTable
@@ -56,14 +56,6 @@ impl DirtyTable {
         }
         add_all(&mut self.touches, session, lines);
         Ok(())
-    }
-
-    /// The session touches the line no more.
-    pub fn leave(&mut self, session: u8, line: u64)
-        ensures { Leaves session line self.old self.new }
-    {
-        self.touches
-            .retain(|touch| touch.session != session || touch.line != line);
     }
 
     /// These sessions touch no line any more.
@@ -105,10 +97,6 @@ mod tests {
         assert_eq!(rt; table.next(&batch, 10), Some(10));
         assert_eq!(rt; table.next(&batch, 11), Some(12));
         assert_eq!(rt; table.next(&batch, 13), None);
-        table.leave(3, 10);
-        assert!(rt; !table.is_touched(3, 10));
-        assert!(rt; table.is_touched(3, 9));
-        assert_eq!(rt; table.next(&batch, 10), Some(12));
         table.forget(&batch);
         assert_eq!(rt; table.next(&batch, 0), None);
         assert!(rt; table.is_touched(4, 11));

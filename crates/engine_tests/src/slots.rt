@@ -40,8 +40,8 @@ fn take(device: &mut SimPmem, slots: &mut SlotAlloc) -> Result<u64, Fault>
 #[test]
 fn taken_slot_is_cleared(rt: HostRuntime) -> Result<(), Fault> {
     let mut device = zeroed(rt.alloc())?;
-    let free = vec![in rt.alloc(); false, true, false, true].or(Err(Fault::OutOfMemory))?;
-    let mut slots = SlotAlloc::new(free);
+    let free = [false, true, false, true];
+    let mut slots = SlotAlloc::new(rt.alloc(), &free).or(Err(Fault::OutOfMemory))?;
     device.store(80, 9)?;
     assert!(rt; device.survivors(80) == 2);
     assert!(rt; take(&mut device, &mut slots) == Ok(1));

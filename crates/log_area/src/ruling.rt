@@ -1,6 +1,3 @@
-ghost use Rattle.std.specs.Prelude.{◌≡◌};
-ghost use Rattle.base.specs.Images.{place_of};
-
 use crate::Record;
 use base::geometry::Geometry;
 
@@ -9,13 +6,4 @@ use base::geometry::Geometry;
 pub struct Ruling {
     pub geometry: Geometry,
     pub target: Record,
-}
-
-impl Ruling {
-    /// The record's place.
-    pub fn place(&self) -> u64
-        ensures { result ≡ place_of self.now.geometry self.now.target }
-    {
-        self.target.gate() % self.geometry.places()
-    }
 }

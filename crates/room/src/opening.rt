@@ -14,6 +14,7 @@ use base::fault::Fault;
 use pmem::Pmem;
 use recovery::examine;
 use session_steps::{Sessions, index_slots};
+use slot_alloc::SlotAlloc;
 use std::alloc::Global;
 use std::thread::Threads;
 
@@ -90,17 +91,14 @@ fn begin<D: Pmem>(alloc: Global, device: &mut D) -> Result<Committer, Fault>
         Ok(index) => index,
         Err(fault) => return Err(fault),
     };
+    let slots = match SlotAlloc::new(alloc, found.free.as_slice()) {
+        Ok(slots) => slots,
+        Err(_) => return Err(Fault::OutOfMemory),
+    };
     let life = match found.open(device) {
         Ok(life) => life,
         Err(fault) => return Err(fault),
     };
-    let sessions = Sessions::open(
-        alloc,
-        index,
-        life.geometry,
-        life.ruling,
-        life.next,
-        life.free,
-    );
+    let sessions = Sessions::open(alloc, index, slots, life.geometry, life.ruling, life.next);
     Ok(Committer::new(sessions))
 }

@@ -67,17 +67,18 @@ impl Sessions {
     ghost use Rattle.pmem.specs.Device.{Device, IsOrderly};
     ghost use Rattle.session_steps.specs.Opening.{ShowsOpened};
 
-    /// The sessions of a life that begins on an opened device, with the index of its slots: none is open. It takes no memory.
+    /// The sessions of a life that begins on an opened device, with the index of its slots and those that are free: none is open. It
+    /// takes no memory.
     pub fn open(
         alloc: Global,
         index: Index,
+        slots: SlotAlloc,
         geometry: Geometry,
         ruling: Record,
         next: Ts,
-        free: Vec<bool>,
     ) -> Sessions
-        requires slots { length free.items ≡ geometry.slots }
-        ensures { (device : Device) → IsOrderly device → HasFound (image_of device) free.items geometry.slots index → ShowsOpened result device geometry ruling next free.items }
+        requires slots { length slots ≡ geometry.slots }
+        ensures { (device : Device) → IsOrderly device → HasFound (image_of device) slots geometry.slots index → ShowsOpened result device geometry ruling next slots }
     {
         Sessions {
             numbers: Numbers {
@@ -89,7 +90,7 @@ impl Sessions {
             drawn: DrawnCommits::new(alloc),
             index,
             dirty: DirtyTable::new(alloc),
-            slots: SlotAlloc::new(free),
+            slots,
             collector: Collector::new(),
             alloc,
         }

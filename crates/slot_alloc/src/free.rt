@@ -2,64 +2,58 @@ ghost use Rattle.std.specs.Prelude.{◌≡◌, ◌<◌, IfErr, OnErr, OnOk};
 ghost use Rattle.base.specs.Layout.{total_words};
 ghost use Rattle.version_slot.specs.Operations.{Runs, StopsWithin, clear_operations};
 
+use crate::bits::FreeBits;
 use base::actor::Actor;
 use base::fault::Fault;
 use base::geometry::Geometry;
 use pmem::Pmem;
+use std::alloc::{AllocError, Global};
 use std::marker::Model;
 
 /// Which slots are free. Contracts see a truth value for each slot.
 #[derive(Drop)]
 pub struct SlotAlloc {
-    free: Vec<bool>,
-    // No slot below it is free.
-    first: usize,
+    free: FreeBits,
 }
 
 impl Model for SlotAlloc {
-    ghost use Rattle.std.specs.Prelude.{Bool, List, length, ◌≤◌};
-    ghost use Rattle.slot_alloc.specs.Free.{AreTakenBelow};
+    ghost use Rattle.std.specs.Prelude.{Bool, List};
 
     ghost Value = { List Bool };
 
-    ghost view = { λ s. s.free.items };
-
-    ghost invariant = { λ s. (s.first ≤ length s.free.items) × AreTakenBelow s.first s.free.items };
+    ghost view = { λ s. s.free };
 }
 
 impl SlotAlloc {
-    ghost use Rattle.std.specs.Prelude.{◌≡◌, ◌≢◌, ◌⊎◌, ◌↔◌, ◌+◌, ◌/◌, ◌<◌, ◌≤◌, true, false, ℕ, length, slice_set, Err, None, Some, IfErr, IfOk, IsErrOf, OnErr, OnOk};
+    ghost use Rattle.std.specs.Prelude.{◌≡◌, ◌≢◌, ◌⊎◌, ◌↔◌, ◌+◌, ◌/◌, ◌<◌, ◌≤◌, ◌^◌, true, false, ℕ, length, slice_set, Err, None, Some, IfErr, IfOk, IsErrOf, OnErr, OnOk};
     ghost use Rattle.base.specs.Layout.{slot_start, total_words};
     ghost use Rattle.pmem.specs.Device.{fenced, flushed, stored};
     ghost use Rattle.pmem.specs.Words.{IsSettledAt, Keeps, Makes, OldOr, OnlyShrinks};
-    ghost use Rattle.slot_alloc.specs.Free.{is_free, lowest_free, IsBeginOfLowest, IsClear};
+    ghost use Rattle.slot_alloc.specs.Free.{free_count, is_free, lowest_free, IsBeginOfLowest, IsClear};
     ghost use Rattle.version_slot.specs.Operations.{Runs, StopsWithin, clear_operations};
     ghost use Rattle.base.specs.declared.fault.Fault.TheVariants.{Device, SlotsOut};
 
     /// The slots that are free, by their numbers.
-    pub fn new(free: Vec<bool>) -> SlotAlloc
-        ensures { result ≡ free.items }
+    pub fn new(alloc: Global, free: &[bool]) -> Result<SlotAlloc, AllocError>
+        requires { length free.now < 2 ^ 32 }
+        ensures { IfOk result (λ s. s ≡ free.now) }
     {
-        SlotAlloc { free, first: 0 }
+        let free = FreeBits::new(alloc, free)?;
+        Ok(SlotAlloc { free })
     }
 
     /// Whether the slot is free. None past the last is.
     pub fn is_free(&self, slot: u64) -> bool
         ensures { result ≡ is_free self.now slot }
     {
-        self.free.get(slot as usize).copied().unwrap_or(false)
+        self.free.is_free(slot)
     }
 
-    // The slot that `take` would take.
-    fn lowest(&self) -> Option<u64>
-        ensures { result ≡ lowest_free self.now }
+    /// How many slots are free.
+    pub fn free_count(&self) -> u64
+        ensures { result ≡ free_count self.now }
     {
-        for slot in self.first..self.free.len() {
-            if self.free[slot] {
-                return Some(slot as u64);
-            }
-        }
-        None
+        self.free.count()
     }
 
     /// Makes a slot free.
@@ -67,8 +61,7 @@ impl SlotAlloc {
         requires { slot < length self.old }
         ensures { self.new ≡ slice_set self.old slot true }
     {
-        self.free[slot as usize] = true;
-        self.first = self.first.min(slot as usize);
+        self.free.set(slot);
     }
 
     /// Takes the lowest free slot, once 0 in its begin is sure to outlive a crash.
@@ -103,7 +96,7 @@ impl SlotAlloc {
         ensures operations { IfOk result (λ slot. Runs (clear_operations geometry actor.number slot) (D.state device.old) (D.state device.new)) }
         ensures stopped { result ≡ Err Device → (slot : ℕ) × (lowest_free self.old ≡ Some slot) × StopsWithin (clear_operations geometry actor.number slot) (D.state device.old) (D.state device.new) }
     {
-        let slot = match self.lowest() {
+        let slot = match self.free.lowest() {
             Some(slot) => slot,
             None => return Err(Fault::SlotsOut),
         };
@@ -111,8 +104,7 @@ impl SlotAlloc {
             Ok(()) => {}
             Err(fault) => return Err(fault),
         }
-        self.free[slot as usize] = false;
-        self.first = slot as usize + 1;
+        self.free.clear(slot);
         Ok(slot)
     }
 }
@@ -139,11 +131,13 @@ mod tests {
 
     #[test]
     fn a_slot_that_is_given_is_free(rt: HostRuntime) -> Result<(), Fail> {
-        let mut slots = SlotAlloc::new(vec![in rt.alloc(); false, true, false]?);
+        let mut slots = SlotAlloc::new(rt.alloc(), &[false, true, false])?;
+        assert!(rt; slots.free_count() == 1);
         assert!(rt; !slots.is_free(0));
         assert!(rt; slots.is_free(1));
         assert!(rt; !slots.is_free(3));
         slots.give(0);
+        assert!(rt; slots.free_count() == 2);
         assert!(rt; slots.is_free(0));
         assert!(rt; slots.is_free(1));
         assert!(rt; !slots.is_free(2));
