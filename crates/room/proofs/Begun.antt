@@ -1,14 +1,14 @@
 -- What an opening gives is shown.
-use Rattle.std.proofs.Common.{◌≡◌, ℕ, ◌+◌, ◌*◌, ◌<◌, ◌≤◌, Bool, true, false, cond, not, ◌&&◌, List, [], length, get_or, map, refl, sym, ◌∙◌, ap, subst, nat_lt, arith}
+use Rattle.std.proofs.Common.{◌≡◌, ℕ, ◌+◌, ◌*◌, ◌<◌, ◌≤◌, Bool, true, false, cond, not, ◌&&◌, List, [], length, get_or, map, refl, sym, ◌∙◌, ap, subst, nat_lt, nat_le, ◌^◌, arith}
 use Rattle.std.specs.Prelude.{slice_get, Option, Some, None, is_none, is_some}
 use Rattle.std.specs.List.{range_with_len}
-use Rattle.std.proofs.lemmas.Bool.{lt-ltb, false≢true}
+use Rattle.std.proofs.lemmas.Bool.{and_parts, leb-true, lt-ltb, false≢true}
 use Rattle.std.proofs.lemmas.Option.{slice_get-get_or}
 use Rattle.std.proofs.lemmas.List.FromFn.{length-map-range_with_len, get_or-map-range_with_len}
 use Rattle.base.specs.declared.key.Key.{Key}
 use Rattle.base.specs.declared.gap.Gap.{Gap}
 use Rattle.base.specs.Commits.{Commit}
-use Rattle.base.specs.Layout.{Layout, slot_start, slot_words, total_words}
+use Rattle.base.specs.Layout.{Layout, slot_start, slot_words, total_words, is_between, is_known_version}
 use Rattle.base.specs.Records.{Record, opened_gaps}
 use Rattle.base.specs.Images.{Image, IsSound, layout_of, ruling, is_shown, needs_sweep, IsRuledBy}
 use Rattle.base.specs.Stands.{Stands}
@@ -205,6 +205,18 @@ module _ (old : Device) (layout : Layout) (r : Record) (gaps : Option (List Gap)
   examined-counted =
       ap (λ (l : List Bool). length l) examined-free
       ∙ length-map-range_with_len (λ slot. not (is_shown (ruling (image_of old)) (image_of old) slot)) 0 (layout_of (image_of old)).slots ∙ ap (λ (l : Layout). l.slots) rules.laid_out
+
+  -- there are few
+  pub examined-few : length free < 2 ^ 32
+  examined-few =
+      let a : Layout = layout_of (image_of old) in
+      let one = and_parts (is_known_version a.version) (is_between 1 65536 a.slots && (is_between 2 64 a.places && is_between 4 1024 a.window)) (size-of (image_of old) rules.geometry).0 in
+      let two = and_parts (is_between 1 65536 a.slots) (is_between 2 64 a.places && is_between 4 1024 a.window) one.1 in
+      omega (arith, leb-true a.slots 65536 (and_parts (nat_le 1 a.slots) (nat_le a.slots 65536) two.0).1, examined-counted, ap (λ (l : Layout). l.slots) rules.laid_out)
+
+  -- the slots that were found free are free in the opened device
+  pub examined-free-now : (new : Device) (layout' : Layout) (r' : Record) (next : ℕ) (free' : List Bool) (live' : List LiveSlot) → HasOpened old new layout' r' next free' live' → free' ≡ free
+  examined-free-now new layout' r' next free' live' opened = opened.free_is ∙ sym examined-free
 
   -- the index of what was examined is that of the opened device
   pub examined-found : (new : Device) (layout' : Layout) (r' : Record) (next : ℕ) (free' : List Bool) (live' : List LiveSlot) → HasOpened old new layout' r' next free' live' → (was : List Bool) (index : List (Key × Entry)) → was ≡ free
