@@ -220,7 +220,7 @@ refused-goes old new image fault report opening replies closed refusal continues
 
     by : IsRefusal (opening_fault image) old new fault → GoesOn old new (ReportsDevice report)
     by (inl (why, same)) = goes-nowhere old new same (other why)
-    by (inr (none, is, more)) = record { continues = continues; cause = λ told. more; shown = λ failed. inl (opening ∙ ap Err is) }
+    by (inr (none, is, cut)) = record { continues = continues; cause = λ told. cut.failed; shown = λ failed. inl (opening ∙ ap Err is) }
 
 -- what is known of the image before holds of what it stands for
 pub fails-on : (old new : Device) (image : Image) (before : World) (report : LifeReport) (fault : Fault) → report.opening ≡ Err fault → before.image ≡ image

@@ -1,7 +1,7 @@
-ghost use Rattle.std.specs.Prelude.{◌≡◌, ◌+◌, ℕ, IfErr, OnOk, OnErr};
+ghost use Rattle.std.specs.Prelude.{◌≡◌, ◌+◌, ◌<◌, ℕ, IfErr, OnOk, OnErr};
 ghost use Rattle.base.specs.Layout.{total_words};
 ghost use Rattle.base.specs.Records.{Record as Value};
-ghost use Rattle.pmem.specs.Words.{HasOneFailure, LeavesOnly, Makes, Spares};
+ghost use Rattle.pmem.specs.Words.{HasOneFailure, LeavesOnly, Makes, Spares, operations_of};
 ghost use Rattle.log_area.specs.Rulings.{HoldsRecord};
 ghost use Rattle.log_area.specs.Writings.{begun, finished, IsWriting, IsNextRecord, IsRuledByEither, IsOutside};
 
@@ -21,6 +21,7 @@ pub fn write_record<D: Pmem>(
     ensures fault { IfErr result (λ fault. fault ≡ Fault.Device) }
     ensures made { OnOk result (Makes 32 5 2 0 (D.state device.old) (D.state device.new)) }
     ensures failed { OnErr result (HasOneFailure (D.state device.old) (D.state device.new)) }
+    ensures few { OnErr result (operations_of (D.state device.new) < operations_of (D.state device.old) + 39) }
 
     // What it makes of the place's words, and of the others.
     ensures place { OnOk result ((before : ℕ) → IsWriting before (begun geometry target) (D.state device.old)

@@ -20,7 +20,7 @@ use Rattle.base.proofs.OpenedRecords.{formed-kept}
 use Rattle.base.proofs.Opened.{covers-of}
 use Rattle.base.proofs.Sweeps.{unmarked-low, swept-unmarked}
 use Rattle.pmem.specs.Device.{Device, IsOrderly}
-use Rattle.pmem.specs.Words.{value_of, IsAtRest, LeavesOnly, image_of, Keeps, OldOr, Spares, Makes, HasOldWords}
+use Rattle.pmem.specs.Words.{value_of, IsAtRest, LeavesOnly, image_of, Keeps, OldOr, Spares, Makes, HasOldWords, operations_of}
 use Rattle.pmem.proofs.Images.{leaves_refl, leaves_trans, leaves_weaken, leaves_both}
 use Rattle.pmem.proofs.Rest.{left_at_rest}
 use Rattle.pmem.proofs.Spares.{spares_fewer, spares_trans}
@@ -35,7 +35,7 @@ use Rattle.recovery.specs.Gaps.{few_gaps}
 use Rattle.recovery.specs.Slots.{IsUnder, IsSlotsFault, free_below, bad_below}
 use Rattle.recovery.specs.Live.{live_below}
 use Rattle.recovery.specs.Sweeping.{IsSwept, is_hit}
-use Rattle.recovery.specs.Opened.{HasSlotsOf, Refuses, IsExamined, Examined, HasOpened, IsRefusal}
+use Rattle.recovery.specs.Opened.{HasSlotsOf, Refuses, IsExamined, Examined, HasOpened, IsCutShort, IsRefusal, sweep_operations}
 use Rattle.recovery.specs.declared.rows.LiveSlot.{LiveSlot}
 use Rattle.recovery.proofs.Formed.{IsFormed, formed}
 use Rattle.recovery.proofs.Opens.{stands-opening, version-one, or-none, record_after}
@@ -64,11 +64,15 @@ needs-many r gaps few none = by (nat_lt 8 (length (opened_gaps r))) (sym few ∙
     by true e = refl
     by false e = absurd (cc e)
 
+-- more gaps than a record holds need a sweep
+pub many-gaps : (image : Image) (layout : Layout) (r : Record) (gaps : Option (List Gap)) → IsRuledBy layout r image → gaps ≡ few_gaps r → gaps ≡ None → needs_sweep image ≡ true
+many-gaps image layout r gaps rules few none = ap (λ (x : Record). nat_lt 8 (length (opened_gaps x))) rules.by_record ∙ needs-many r gaps few none
+
 -- where too many gaps are swept, a word that isn't hit is spared
 pub unswept-spared : (old new : Device) (layout : Layout) (r : Record) (gaps : Option (List Gap)) → IsRuledBy layout r (image_of old) → gaps ≡ few_gaps r → gaps ≡ None → Spares (λ word. is_hit layout r old word ≡ false) old new
     → Spares (λ word. (needs_sweep (image_of old) && is_hit layout r old word) ≡ false) old new
 unswept-spared old new layout r gaps rules few none spares =
-    let many : needs_sweep (image_of old) ≡ true = ap (λ (x : Record). nat_lt 8 (length (opened_gaps x))) rules.by_record ∙ needs-many r gaps few none in
+    let many : needs_sweep (image_of old) ≡ true = many-gaps (image_of old) layout r gaps rules few none in
     spares_fewer (λ word alone. sym (ap (λ (b : Bool). b && is_hit layout r old word) many) ∙ alone) spares
 
 -- ---- a refused examination
@@ -329,7 +333,22 @@ pub refusal-examined : (device : Device) (fault : Fault) → Refuses (image_of d
 unfolding Refuses
 refusal-examined device fault refused = inl (refused, refl)
 
-pub refusal-device : (old new : Device) (fault : Fault) (layout : Layout) (r : Record) (gaps : Option (List Gap)) (free : List Bool) (live : List LiveSlot) → Examined (image_of old) layout r gaps free live → fault ≡ DeviceFault → old.failures < new.failures
+-- it is cut short within its sweep, or within its record
+pub cut-early : (old new : Device) → old.failures < new.failures → needs_sweep (image_of old) ≡ true → operations_of new < operations_of old + sweep_operations (image_of old) → IsCutShort old new
+cut-early old new failed many few = record {
+  failed = failed;
+  few = subst (λ (b : Bool). operations_of new < operations_of old + cond b (sweep_operations (image_of old) + 39) 39) (sym many) (omega (arith, few));
+}
+
+pub cut-late : (old mid new : Device) → old.failures < new.failures → (needs_sweep (image_of old) ≡ false → Makes 0 0 0 0 old mid)
+    → (needs_sweep (image_of old) ≡ true → Makes (words_swept (image_of old)) (lines_swept (image_of old)) 1 0 old mid) → operations_of new < operations_of mid + 39 → IsCutShort old new
+cut-late old mid new failed none made few = record { failed = failed; few = by (needs_sweep (image_of old)) refl }
+  where
+    by : (b : Bool) → needs_sweep (image_of old) ≡ b → operations_of new < operations_of old + cond b (sweep_operations (image_of old) + 39) 39
+    by true is = let m = made is in omega (arith, few, m.stores_made, m.flushes_made, m.fences_made)
+    by false is = let m = none is in omega (arith, few, m.stores_made, m.flushes_made, m.fences_made)
+
+pub refusal-device : (old new : Device) (fault : Fault) (layout : Layout) (r : Record) (gaps : Option (List Gap)) (free : List Bool) (live : List LiveSlot) → Examined (image_of old) layout r gaps free live → fault ≡ DeviceFault → IsCutShort old new
     → IsRefusal (opening_fault (image_of old)) old new fault
 refusal-device old new fault layout r gaps free live ex is-device more = inr ((is (image_of old) layout r gaps free live ex).opens, is-device, more)
 

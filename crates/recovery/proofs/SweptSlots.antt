@@ -1,5 +1,5 @@
 -- What a sweep makes of a device, slot by slot.
-use Rattle.std.proofs.Common.{◌≡◌, ◌≢◌, ◌⊎◌, inl, inr, ℕ, ◌+◌, ◌-◌, ◌*◌, ◌/◌, ◌<◌, ◌≤◌, Bool, true, false, cond, ◌&&◌, ◌||◌, List, length, get_or, refl, sym, ◌∙◌, ap, subst, arith, add-one, true≢false}
+use Rattle.std.proofs.Common.{◌≡◌, ◌≢◌, ◌⊎◌, inl, inr, ℕ, zero, suc, ◌+◌, ◌-◌, ◌*◌, ◌/◌, ◌<◌, ◌≤◌, Bool, true, false, cond, ◌&&◌, ◌||◌, List, length, get_or, refl, sym, ◌∙◌, ap, subst, arith, add-one, true≢false}
 use Rattle.std.proofs.lemmas.Bool.{false≢true, and_parts, and_from, cases_lt, cases_eq, ltb-true}
 use Rattle.std.proofs.lemmas.List.{ext_get_or}
 use Rattle.std.proofs.lemmas.List.FromFn.{length-map-range_with_len, get_or-map-range_with_len}
@@ -10,7 +10,7 @@ use Rattle.base.specs.Images.{IsRuledBy}
 use Rattle.base.specs.Openings.{is_mark, swept, lies_in_gap, words_swept, lines_swept}
 use Rattle.base.proofs.Sweeps.{mark-of, unmarked-low, swept-at, swept-size}
 use Rattle.pmem.specs.Device.{Device, Entry, IsOrderly, IsAmong, survivors_in, IsReadyIn, stored, flushed, fenced, failed}
-use Rattle.pmem.specs.Words.{value_of, image_of, Survives, IsReady, IsSettled, IsAtRest, Keeps, OldOr, IsWithin, Makes, OnlyShrinks, Spares, HasOldWords}
+use Rattle.pmem.specs.Words.{value_of, image_of, Survives, IsReady, IsSettled, IsAtRest, Keeps, OldOr, IsWithin, Makes, OnlyShrinks, Spares, HasOldWords, operations_of}
 use Rattle.pmem.proofs.Images.{leaves_trans, leaves_weaken}
 use Rattle.pmem.proofs.Runs.{keeps_none, keeps-stored, keeps-failed, keeps_weaken}
 use Rattle.pmem.proofs.Changes.{shrinks_refl, shrinks_trans, stored-shrinks, flushed-shrinks, fenced-shrinks, stored-value, fenced-settles}
@@ -18,6 +18,7 @@ use Rattle.pmem.proofs.Counts.{makes_none, makes-fenced}
 use Rattle.pmem.proofs.Steps.{history-flushed_same, history-stored_other, survivors-stored_same}
 use Rattle.pmem.proofs.Words.{ready-marked}
 use Rattle.recovery.proofs.Opens.{version-one}
+use Rattle.recovery.specs.Opened.{sweep_operations}
 use Rattle.recovery.specs.Sweeping.{lies, IsZeroed, is_hit, IsSwept, zeroed, cleaned}
 
 -- ---- runs after one another
@@ -57,6 +58,36 @@ zeroed-shrinks r at old word apart = by (lies r (value_of old at)) refl
     by : (b : Bool) → lies r (value_of old at) ≡ b → OnlyShrinks old (cond b (stored at 0 old) old) word
     by false is = shrinks_refl old word
     by true is = elim apart [ inl other ↦ stored-shrinks {old = old} at 0 word refl other | inr none ↦ absurd (true≢false (sym is ∙ none)) ]
+
+-- ---- how many operations
+
+zeroed-more : (r : Record) (at : ℕ) (old : Device) → operations_of old ≤ operations_of (zeroed r at old)
+zeroed-more r at old = by (lies r (value_of old at))
+  where
+    by : (b : Bool) → operations_of old ≤ operations_of (cond b (stored at 0 old) old)
+    by true = omega arith
+    by false = omega arith
+
+-- no more than of a whole slot: with both words swept, with one, with none
+pub cleaned-late : (r : Record) (at : ℕ) (old : Device) → operations_of (zeroed r (at + 1) (zeroed r at old)) ≤ operations_of (cleaned r at old)
+cleaned-late r at old = by (lies r (value_of old at) || lies r (value_of (zeroed r at old) (at + 1))) (zeroed r (at + 1) (zeroed r at old))
+  where
+    by : (b : Bool) (late : Device) → operations_of late ≤ operations_of (cond b (flushed 0 (at / 8) late) late)
+    by true late = omega arith
+    by false late = omega arith
+
+pub cleaned-mid : (r : Record) (at : ℕ) (old : Device) → operations_of (zeroed r at old) ≤ operations_of (cleaned r at old)
+cleaned-mid r at old = omega (arith, zeroed-more r (at + 1) (zeroed r at old), cleaned-late r at old)
+
+pub cleaned-none : (r : Record) (at : ℕ) (old : Device) → operations_of old ≤ operations_of (cleaned r at old)
+cleaned-none r at old = omega (arith, zeroed-more r at old, cleaned-mid r at old)
+
+count-upto : (test : ℕ → Bool) (n m : ℕ) → n ≤ m → count_below n test ≤ count_below m test
+count-upto test n zero le = let none : n ≡ 0 = omega (arith, le) in subst (λ (k : ℕ). count_below k test ≤ 0) (sym none) (omega arith)
+count-upto test n (suc m) le = elim (cases_eq n (suc m)) [
+  | inl same ↦ subst (λ (k : ℕ). count_below k test ≤ count_below (suc m) test) (sym same) (omega arith)
+  | inr apart ↦ omega (arith, count-upto test n m (omega (arith, le, apart)))
+]
 
 -- ---- one slot
 
@@ -265,6 +296,51 @@ module _ (a : Layout) (r : Record) (start : Device) (wide : slot_words a.version
           by true hit = hit
           by false none = ap (λ (v : ℕ). is_mark a word && lies r v) (sym (inv.others word (inr none)).value) ∙ one.hit
 
+      counted : (b : Bool) (test : ℕ → Bool) → test slot ≡ b → count_below (slot + 1) test ≡ count_below slot test + cond b 1 0
+      counted b test e = ap (λ (n : ℕ). count_below n test) (add-one slot) ∙ ap (λ (b : Bool). count_below slot test + cond b 1 0) e
+
+      gap-first : lies_in_gap (image_of start) 0 slot ≡ begun
+      gap-first = gap-is 0 (omega arith) ∙ ap (λ (k : ℕ). lies r (value_of start k)) (zero_more first) ∙ sym begun-is
+        where
+          zero_more : (k : ℕ) → k + 0 ≡ k
+          zero_more k = omega arith
+
+      gap-second : lies_in_gap (image_of start) 1 slot ≡ ended
+      gap-second = gap-is 1 (omega arith) ∙ sym ended-is
+
+      counts-by : (b e : Bool) → begun ≡ b → ended ≡ e
+          → Makes (count_below slot (lies_in_gap (image_of start) 0) + cond b 1 0 + (count_below slot (lies_in_gap (image_of start) 1) + cond e 1 0)) (count_below slot (λ s. lies_in_gap (image_of start) 0 s || lies_in_gap (image_of start) 1 s) + cond (b || e) 1 0) 0 0 start
+          (cond (b || e) (flushed 0 (first / 8) (cond e (stored (first + 1) 0 (cond b (stored first 0 now) now)) (cond b (stored first 0 now) now))) (cond e (stored (first + 1) 0 (cond b (stored first 0 now) now)) (cond b (stored first 0 now) now)))
+      counts-by b e is is' = by b e
+        where
+          by : (b e : Bool) → Makes (count_below slot (lies_in_gap (image_of start) 0) + cond b 1 0 + (count_below slot (lies_in_gap (image_of start) 1) + cond e 1 0)) (count_below slot (λ s. lies_in_gap (image_of start) 0 s || lies_in_gap (image_of start) 1 s) + cond (b || e) 1 0) 0 0 start
+              (cond (b || e) (flushed 0 (first / 8) (cond e (stored (first + 1) 0 (cond b (stored first 0 now) now)) (cond b (stored first 0 now) now))) (cond e (stored (first + 1) 0 (cond b (stored first 0 now) now)) (cond b (stored first 0 now) now)))
+          by false false = record { stores_made = omega (arith, inv.made.stores_made); flushes_made = omega (arith, inv.made.flushes_made); fences_made = inv.made.fences_made; failures_made = inv.made.failures_made }
+          by true false = record { stores_made = omega (arith, inv.made.stores_made); flushes_made = omega (arith, inv.made.flushes_made); fences_made = inv.made.fences_made; failures_made = inv.made.failures_made }
+          by false true = record { stores_made = omega (arith, inv.made.stores_made); flushes_made = omega (arith, inv.made.flushes_made); fences_made = inv.made.fences_made; failures_made = inv.made.failures_made }
+          by true true = record { stores_made = omega (arith, inv.made.stores_made); flushes_made = omega (arith, inv.made.flushes_made); fences_made = inv.made.fences_made; failures_made = inv.made.failures_made }
+
+      made-cleaned : Makes (count_below (slot + 1) (lies_in_gap (image_of start) 0) + count_below (slot + 1) (lies_in_gap (image_of start) 1)) (count_below (slot + 1) (λ s. lies_in_gap (image_of start) 0 s || lies_in_gap (image_of start) 1 s)) 0 0 start new
+      made-cleaned =
+          let x = counted begun (lies_in_gap (image_of start) 0) gap-first in
+          let y = counted ended (lies_in_gap (image_of start) 1) gap-second in
+          let z = counted (begun || ended) (λ s. lies_in_gap (image_of start) 0 s || lies_in_gap (image_of start) 1 s) (λ i. gap-first i || gap-second i) in
+          subst (λ (n : ℕ). Makes n (count_below (slot + 1) (λ s. lies_in_gap (image_of start) 0 s || lies_in_gap (image_of start) 1 s)) 0 0 start new) (sym (λ i. x i + y i))
+          (subst (λ (n : ℕ). Makes (count_below slot (lies_in_gap (image_of start) 0) + cond begun 1 0 + (count_below slot (lies_in_gap (image_of start) 1) + cond ended 1 0)) n 0 0 start new) (sym z)
+          (counts-by begun ended refl refl))
+
+      -- where the device fails within the slot, no more was made than by a sweep of all
+      pub swept-few : (after : Device) → operations_of after ≤ operations_of new → operations_of after < operations_of start + sweep_operations (image_of start)
+      swept-few after few =
+          let up : slot + 1 ≤ a.slots = omega (arith, h) in
+          let x = count-upto (lies_in_gap (image_of start) 0) (slot + 1) a.slots up in
+          let y = count-upto (lies_in_gap (image_of start) 1) (slot + 1) a.slots up in
+          let z = count-upto (λ s. lies_in_gap (image_of start) 0 s || lies_in_gap (image_of start) 1 s) (slot + 1) a.slots up in
+          let made = made-cleaned in
+          subst (λ (n : ℕ). operations_of after < operations_of start + (count_below n (lies_in_gap (image_of start) 0) + count_below n (lies_in_gap (image_of start) 1) + count_below n (λ s. lies_in_gap (image_of start) 0 s || lies_in_gap (image_of start) 1 s) + 1))
+          (ap (λ (l : Layout). l.slots) (sym rules.laid_out))
+          (omega (arith, few, x, y, z, made.stores_made, made.flushes_made, made.fences_made))
+
       -- also where the device fails within the slot
       pub swept-error : (after : Device) → Keeps now after (OldOr now (IsSwept a r now)) → Keeps start after (OldOr start (IsSwept a r start))
       swept-error after kept = keeps_trans inv.kept kept (λ word x one. inr (same-hit word x one))
@@ -274,7 +350,7 @@ module _ (a : Layout) (r : Record) (start : Device) (wide : slot_words a.version
         kept = swept-error after kept;
         done = λ word lt hit. subst (λ (d : Device). (value_of d word ≡ 0) × IsReady d 0 word) (sym is) (done' word (omega (arith, lt, next)) hit (cases_lt word first));
         others = λ word apart. subst (λ (d : Device). OnlyShrinks start d word) (sym is) (others' word apart);
-        made = subst (λ (d : Device). Makes (count_below (slot + 1) (lies_in_gap (image_of start) 0) + count_below (slot + 1) (lies_in_gap (image_of start) 1)) (count_below (slot + 1) (λ s. lies_in_gap (image_of start) 0 s || lies_in_gap (image_of start) 1 s)) 0 0 start d) (sym is) made';
+        made = subst (λ (d : Device). Makes (count_below (slot + 1) (lies_in_gap (image_of start) 0) + count_below (slot + 1) (lies_in_gap (image_of start) 1)) (count_below (slot + 1) (λ s. lies_in_gap (image_of start) 0 s || lies_in_gap (image_of start) 1 s)) 0 0 start d) (sym is) made-cleaned;
       }
         where
           done' : (word : ℕ) → word < first + 8 → is_hit a r start word ≡ true → (word < first) ⊎ (first ≤ word) → (value_of new word ≡ 0) × IsReady new 0 word
@@ -299,38 +375,12 @@ module _ (a : Layout) (r : Record) (start : Device) (wide : slot_words a.version
               two (inl same) = inr (sym hit-second ∙ ap (is_hit a r start) (sym same) ∙ none)
               two (inr other) = inl other
 
-          counted : (b : Bool) (test : ℕ → Bool) → test slot ≡ b → count_below (slot + 1) test ≡ count_below slot test + cond b 1 0
-          counted b test e = ap (λ (n : ℕ). count_below n test) (add-one slot) ∙ ap (λ (b : Bool). count_below slot test + cond b 1 0) e
-
-          gap-first : lies_in_gap (image_of start) 0 slot ≡ begun
-          gap-first = gap-is 0 (omega arith) ∙ ap (λ (k : ℕ). lies r (value_of start k)) (zero_more first) ∙ sym begun-is
-            where
-              zero_more : (k : ℕ) → k + 0 ≡ k
-              zero_more k = omega arith
-
-          gap-second : lies_in_gap (image_of start) 1 slot ≡ ended
-          gap-second = gap-is 1 (omega arith) ∙ sym ended-is
-
-          abbrev-made : (b e : Bool) → begun ≡ b → ended ≡ e
-              → Makes (count_below slot (lies_in_gap (image_of start) 0) + cond b 1 0 + (count_below slot (lies_in_gap (image_of start) 1) + cond e 1 0)) (count_below slot (λ s. lies_in_gap (image_of start) 0 s || lies_in_gap (image_of start) 1 s) + cond (b || e) 1 0) 0 0 start
-              (cond (b || e) (flushed 0 (first / 8) (cond e (stored (first + 1) 0 (cond b (stored first 0 now) now)) (cond b (stored first 0 now) now))) (cond e (stored (first + 1) 0 (cond b (stored first 0 now) now)) (cond b (stored first 0 now) now)))
-          abbrev-made b e is is' = by b e
-            where
-              by : (b e : Bool) → Makes (count_below slot (lies_in_gap (image_of start) 0) + cond b 1 0 + (count_below slot (lies_in_gap (image_of start) 1) + cond e 1 0)) (count_below slot (λ s. lies_in_gap (image_of start) 0 s || lies_in_gap (image_of start) 1 s) + cond (b || e) 1 0) 0 0 start
-                  (cond (b || e) (flushed 0 (first / 8) (cond e (stored (first + 1) 0 (cond b (stored first 0 now) now)) (cond b (stored first 0 now) now))) (cond e (stored (first + 1) 0 (cond b (stored first 0 now) now)) (cond b (stored first 0 now) now)))
-              by false false = record { stores_made = omega (arith, inv.made.stores_made); flushes_made = omega (arith, inv.made.flushes_made); fences_made = inv.made.fences_made; failures_made = inv.made.failures_made }
-              by true false = record { stores_made = omega (arith, inv.made.stores_made); flushes_made = omega (arith, inv.made.flushes_made); fences_made = inv.made.fences_made; failures_made = inv.made.failures_made }
-              by false true = record { stores_made = omega (arith, inv.made.stores_made); flushes_made = omega (arith, inv.made.flushes_made); fences_made = inv.made.fences_made; failures_made = inv.made.failures_made }
-              by true true = record { stores_made = omega (arith, inv.made.stores_made); flushes_made = omega (arith, inv.made.flushes_made); fences_made = inv.made.fences_made; failures_made = inv.made.failures_made }
-
-          made' : Makes (count_below (slot + 1) (lies_in_gap (image_of start) 0) + count_below (slot + 1) (lies_in_gap (image_of start) 1)) (count_below (slot + 1) (λ s. lies_in_gap (image_of start) 0 s || lies_in_gap (image_of start) 1 s)) 0 0 start new
-          made' =
-              let x = counted begun (lies_in_gap (image_of start) 0) gap-first in
-              let y = counted ended (lies_in_gap (image_of start) 1) gap-second in
-              let z = counted (begun || ended) (λ s. lies_in_gap (image_of start) 0 s || lies_in_gap (image_of start) 1 s) (λ i. gap-first i || gap-second i) in
-              subst (λ (n : ℕ). Makes n (count_below (slot + 1) (λ s. lies_in_gap (image_of start) 0 s || lies_in_gap (image_of start) 1 s)) 0 0 start new) (sym (λ i. x i + y i))
-              (subst (λ (n : ℕ). Makes (count_below slot (lies_in_gap (image_of start) 0) + cond begun 1 0 + (count_below slot (lies_in_gap (image_of start) 1) + cond ended 1 0)) n 0 0 start new) (sym z)
-              (abbrev-made begun ended refl refl))
+  -- where the fence fails
+  pub fence-few : IsRuledBy a r (image_of start) → (now new : Device) → IsSweptUpTo a r start a.slots now → new ≡ failed now → operations_of new < operations_of start + sweep_operations (image_of start)
+  fence-few rules now new inv is =
+      subst (λ (n : ℕ). operations_of new < operations_of start + (count_below n (lies_in_gap (image_of start) 0) + count_below n (lies_in_gap (image_of start) 1) + count_below n (λ s. lies_in_gap (image_of start) 0 s || lies_in_gap (image_of start) 1 s) + 1))
+      (ap (λ (l : Layout). l.slots) (sym rules.laid_out))
+      (omega (arith, ap operations_of is, inv.made.stores_made, inv.made.flushes_made, inv.made.fences_made))
 
   -- ---- after the fence
 

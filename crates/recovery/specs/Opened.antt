@@ -1,5 +1,5 @@
 -- The record that an opening writes, what it leaves alone, and what an opening gives.
-use Rattle.std.specs.Prelude.{◌≡◌, ◌⊎◌, ℕ, ◌+◌, ◌*◌, ◌<◌, ◌≤◌, Bool, true, false, not, ◌&&◌, List, length, map, slice_index, Option, Some, None}
+use Rattle.std.specs.Prelude.{◌≡◌, ◌⊎◌, ℕ, ◌+◌, ◌*◌, ◌<◌, ◌≤◌, Bool, true, false, not, ◌&&◌, if◌then◌else◌, List, length, map, slice_index, Option, Some, None}
 use Rattle.std.specs.List.{range_with_len}
 use Rattle.base.specs.declared.gap.Gap.{Gap}
 use Rattle.base.specs.declared.fault.Fault.{Fault}
@@ -9,7 +9,7 @@ use Rattle.base.specs.Records.{Record, opened_gaps}
 use Rattle.base.specs.Images.{Image, layout_of, ruling, is_shown, opening_fault, needs_sweep, IsRuledBy}
 use Rattle.base.specs.Openings.{opening_record, gaps_kept, opened_slots, words_swept, lines_swept}
 use Rattle.pmem.specs.Device.{Device}
-use Rattle.pmem.specs.Words.{value_of, image_of, IsSettledAt, Makes, Spares}
+use Rattle.pmem.specs.Words.{value_of, image_of, IsSettledAt, Makes, Spares, operations_of}
 use Rattle.log_area.specs.Rulings.{HoldsRecord}
 use Rattle.log_area.specs.Writings.{IsOutside, begun}
 use Rattle.recovery.specs.Gaps.{few_gaps}
@@ -69,9 +69,22 @@ pub record HasOpened (old new : Device) (layout : Layout) (r : Record) (next : �
   pub made : needs_sweep (image_of old) ≡ false → Makes 32 5 2 0 old new
   pub made_sweeping : needs_sweep (image_of old) ≡ true → Makes (32 + words_swept (image_of old)) (5 + lines_swept (image_of old)) 3 0 old new
 
+-- how many operations a sweep makes
+abbrev pub sweep_operations : Image → ℕ
+sweep_operations image = words_swept image + lines_swept image + 1
+
+-- and an opening: those of a record, after those of a sweep where there are more than eight gaps
+abbrev pub opening_operations : Image → ℕ
+opening_operations image = if needs_sweep image then sweep_operations image + 39 else 39
+
+-- an operation of an opening failed, before as many were made as the opening makes
+pub record IsCutShort (old new : Device) : Type 0 where
+  pub failed : old.failures < new.failures
+  pub few : operations_of new < operations_of old + opening_operations (image_of old)
+
 -- Why an opening is refused: for its own reason or for want of memory, and then nothing was done to the device; or
--- because an operation failed, where nothing spoke against it
+-- because one of its operations failed, where the image has no fault
 abbrev pub IsRefusal : Option Fault → Device → Device → Fault → Type 0
 IsRefusal reason old new fault =
     (((reason ≡ Some fault) ⊎ (fault ≡ OutOfMemory)) × (new ≡ old))
-    ⊎ ((reason ≡ None) × (fault ≡ DeviceFault) × (old.failures < new.failures))
+    ⊎ ((reason ≡ None) × (fault ≡ DeviceFault) × IsCutShort old new)

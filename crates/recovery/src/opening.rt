@@ -4,10 +4,10 @@ ghost use Rattle.base.specs.Records.{opened_gaps};
 ghost use Rattle.base.specs.Images.{opening_fault, needs_sweep, IsRuledBy};
 ghost use Rattle.base.specs.Stands.{Stands};
 ghost use Rattle.base.specs.Openings.{StandsOpening, gaps_kept, opened_slots, words_swept, lines_swept};
-ghost use Rattle.pmem.specs.Words.{LeavesOnly, IsAtRest, image_of, Keeps, OldOr, Makes, Spares};
+ghost use Rattle.pmem.specs.Words.{LeavesOnly, IsAtRest, image_of, Keeps, OldOr, Makes, Spares, operations_of};
 ghost use Rattle.recovery.specs.Gaps.{few_gaps};
 ghost use Rattle.recovery.specs.Sweeping.{is_hit, IsSwept};
-ghost use Rattle.recovery.specs.Opened.{Examined as IsExaminedAs, HasOpened, IsRefusal};
+ghost use Rattle.recovery.specs.Opened.{Examined as IsExaminedAs, HasOpened, IsCutShort, IsRefusal, sweep_operations};
 ghost use Rattle.recovery.specs.Read.{TellsLogFault};
 
 use crate::examining::{Examined, examine};
@@ -112,7 +112,7 @@ impl Examined {
         requires examined { IsExaminedAs (image_of (D.state device.old)) self.geometry self.ruling self.gaps self.free.items self.live.items }
         ensures ok { IfOk result (λ life. HasOpened (D.state device.old) (D.state device.new) life.geometry life.ruling life.next life.free.items life.live.items) }
         ensures fault { IfErr result (λ fault. fault ≡ Fault.Device) }
-        ensures failed { OnErr result ((D.state device.old).failures < (D.state device.new).failures) }
+        ensures failed { OnErr result (IsCutShort (D.state device.old) (D.state device.new)) }
 
         // A crash meanwhile leaves what a crash within `open` leaves.
         ensures images { (history drawn : List Commit) (next : ℕ) → Stands (image_of (D.state device.old)) history drawn next
@@ -142,6 +142,7 @@ fn keep_gaps<D: Pmem>(
     requires gaps { gaps ≡ few_gaps ruling }
     ensures fault { IfErr result (λ fault. fault ≡ Fault.Device) }
     ensures failed { OnErr result ((D.state device.new).failures ≡ (D.state device.old).failures + 1) }
+    ensures few { OnErr result ((needs_sweep (image_of (D.state device.old)) ≡ true) × (operations_of (D.state device.new) < operations_of (D.state device.old) + sweep_operations (image_of (D.state device.old)))) }
     ensures kept { Keeps (D.state device.old) (D.state device.new) (OldOr (D.state device.old) (IsSwept geometry ruling (D.state device.old))) }
     ensures others { OnOk result (Spares (λ word. (needs_sweep (image_of (D.state device.old)) && is_hit geometry ruling (D.state device.old) word) ≡ false) (D.state device.old) (D.state device.new)) }
     ensures ok { IfOk result (λ left. left ≡ gaps_kept (opened_gaps ruling)) }

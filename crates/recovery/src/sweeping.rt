@@ -1,9 +1,10 @@
-ghost use Rattle.std.specs.Prelude.{◌≡◌, ◌+◌, ◌<◌, false, IsTrue, IfOk, IfErr, OnOk, OnErr, ◌||◌, if◌then◌else◌};
+ghost use Rattle.std.specs.Prelude.{◌≡◌, ◌+◌, ◌<◌, ◌≤◌, false, IsTrue, IfOk, IfErr, OnOk, OnErr, ◌||◌, if◌then◌else◌};
 ghost use Rattle.base.specs.Layout.{newest_version, slot_start, total_words};
 ghost use Rattle.base.specs.Records.{is_well_formed};
 ghost use Rattle.base.specs.Images.{IsRuledBy};
 ghost use Rattle.base.specs.Openings.{swept, words_swept, lines_swept};
-ghost use Rattle.pmem.specs.Words.{value_of, image_of, IsAtRest, Keeps, OldOr, Makes, Spares};
+ghost use Rattle.pmem.specs.Words.{value_of, image_of, IsAtRest, Keeps, OldOr, Makes, Spares, operations_of};
+ghost use Rattle.recovery.specs.Opened.{sweep_operations};
 ghost use Rattle.recovery.specs.Sweeping.{lies, is_hit, IsZeroed, IsSwept, zeroed, cleaned};
 
 use crate::gaps::lies_in_gap;
@@ -22,6 +23,7 @@ pub fn sweep<D: Pmem>(device: &mut D, geometry: Geometry, ruling: Record) -> Res
     ensures failed { OnErr result ((D.state device.new).failures ≡ (D.state device.old).failures + 1) }
     ensures kept { Keeps (D.state device.old) (D.state device.new) (OldOr (D.state device.old) (IsSwept geometry ruling (D.state device.old))) }
     ensures others { OnOk result (Spares (λ word. is_hit geometry ruling (D.state device.old) word ≡ false) (D.state device.old) (D.state device.new)) }
+    ensures few { OnErr result (operations_of (D.state device.new) < operations_of (D.state device.old) + sweep_operations (image_of (D.state device.old))) }
     ensures rest { OnOk result (IsAtRest (D.state device.new)) }
     ensures image { OnOk result (image_of (D.state device.new) ≡ swept (image_of (D.state device.old))) }
     ensures made { OnOk result (Makes (words_swept (image_of (D.state device.old))) (lines_swept (image_of (D.state device.old))) 1 0 (D.state device.old) (D.state device.new)) }
@@ -47,6 +49,7 @@ fn sweep_slot<D: Pmem>(
     ensures failed { OnErr result ((D.state device.new).failures ≡ (D.state device.old).failures + 1) }
     ensures kept { Keeps (D.state device.old) (D.state device.new) (OldOr (D.state device.old) (IsSwept geometry ruling (D.state device.old))) }
     ensures ok { OnOk result (D.state device.new ≡ cleaned ruling (slot_start geometry slot) (D.state device.old)) }
+    ensures few { OnErr result (operations_of (D.state device.new) ≤ operations_of (cleaned ruling (slot_start geometry slot) (D.state device.old))) }
 {
     let start = geometry.slot_start(slot);
     let begun = sweep_word(device, ruling, start)?;
@@ -65,6 +68,7 @@ fn sweep_word<D: Pmem>(device: &mut D, ruling: Record, word: usize) -> Result<bo
     ensures failed { OnErr result ((D.state device.new).failures ≡ (D.state device.old).failures + 1) }
     ensures kept { Keeps (D.state device.old) (D.state device.new) (OldOr (D.state device.old) (IsZeroed ruling word (D.state device.old))) }
     ensures ok { OnOk result (D.state device.new ≡ zeroed ruling word (D.state device.old)) }
+    ensures none { OnErr result (operations_of (D.state device.new) ≡ operations_of (D.state device.old)) }
     ensures tells { IfOk result (λ did. did ≡ lies ruling (value_of (D.state device.old) word)) }
 {
     let swept = lies_in_gap(ruling, device.load(word));

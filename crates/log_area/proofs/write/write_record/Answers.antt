@@ -1,6 +1,6 @@
 use Rattle.std.proofs.lemmas.Bool.{iff_false}
 use Rattle.log_area.proofs.Replacing.{replacing_begun}
-use Rattle.log_area.proofs.Whole.{run_none, run_next, spares_on, images_on, run_place, run_holds}
+use Rattle.log_area.proofs.Whole.{on_err, run_none, run_next, spares_on, images_on, run_few, run_place, run_holds}
 use Rattle.log_area.proofs.write.write_record.Goals as goal
 
 pub loop-writing-init : goal.loop-writing-init
@@ -16,6 +16,11 @@ pub returns-in_err-tick-clause-outside : goal.returns-in_err-tick-clause-outside
 returns-in_err-tick-clause-outside g c =
     spares_on c.args.geometry c.args.target c.loop-writing.writing (g.D.Pmem.state c.args.device.now) (g.D.Pmem.state c.loop-writing.device) (g.D.Pmem.state c.tick.new.device) c.loop-writing.invariant
     c.tick.ensures.outside
+
+pub returns-in_err-tick-clause-few : goal.returns-in_err-tick-clause-few
+returns-in_err-tick-clause-few g c =
+    on_err c.from_residual.result (run_few c.args.geometry c.args.target c.loop-writing.writing (g.D.Pmem.state c.args.device.now) (g.D.Pmem.state c.loop-writing.device) (g.D.Pmem.state c.tick.new.device) c.loop-writing.invariant
+    c.is_done.ensures.staged (iff_false c.is_done.ensures.done c.loop-writing-test.true) c.in_err-tick.ensures.failure)
 
 pub returns-in_err-tick-clause-images : goal.returns-in_err-tick-clause-images
 returns-in_err-tick-clause-images g c old next =

@@ -4,7 +4,7 @@ use Rattle.base.specs.Images.{needs_sweep}
 use Rattle.pmem.specs.Words.{image_of}
 use Rattle.pmem.proofs.Spares.{spares_none}
 use Rattle.recovery.specs.Sweeping.{is_hit}
-use Rattle.recovery.proofs.Lives.{unswept-spared}
+use Rattle.recovery.proofs.Lives.{many-gaps, unswept-spared}
 use Rattle.recovery.proofs.opening.keep_gaps.Goals as goal
 
 -- nothing is swept
@@ -12,6 +12,9 @@ pub returns-in-Some-clause-others : goal.returns-in-Some-clause-others
 returns-in-Some-clause-others g c =
     let old = g.D.Pmem.state c.args.device.now in
     spares_none (λ word. (needs_sweep (image_of old) && is_hit c.args.geometry c.args.ruling old word) ≡ false) old (g.met.D.Pmem.orderly c.args.device.now)
+
+pub returns-in-Err-clause-few : goal.returns-in-Err-clause-few
+returns-in-Err-clause-few g c = (many-gaps (image_of (g.D.Pmem.state c.args.device.now)) c.args.geometry c.args.ruling c.args.gaps c.requires.rules c.requires.gaps c.in-None.is, c.in-Err.ensures.few)
 
 pub returns-in-Ok-clause-others : goal.returns-in-Ok-clause-others
 returns-in-Ok-clause-others g c =

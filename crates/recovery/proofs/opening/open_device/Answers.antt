@@ -10,7 +10,7 @@ use Rattle.pmem.specs.Words.{image_of}
 use Rattle.recovery.specs.Read.{TellsLogFault}
 use Rattle.recovery.specs.declared.rows.LiveSlot.{LiveSlot}
 use Rattle.recovery.specs.declared.opening.Life.{Life}
-use Rattle.recovery.specs.Opened.{Examined, IsRefusal}
+use Rattle.recovery.specs.Opened.{Examined, IsCutShort, IsRefusal}
 use Rattle.recovery.proofs.Lives.{images-refused, refusal-examined, refusal-device}
 use Rattle.recovery.proofs.WhatIsRead.{tells-examined}
 use Rattle.recovery.proofs.opening.open_device.Goals as goal
@@ -25,7 +25,7 @@ pub returns-in-Err-clause-log : goal.returns-in-Err-clause-log
 returns-in-Err-clause-log g c = c.in-Err.ensures.log
 
 refused-later : (old new : Device) (result : Result Life Fault) (layout : Layout) (r : Record) (gaps : Option (List Gap)) (free : List Bool) (live : List LiveSlot) → Examined (image_of old) layout r gaps free live
-    → IfErr result (λ fault. fault ≡ DeviceFault) → OnErr result (old.failures < new.failures) → IfErr result (IsRefusal (opening_fault (image_of old)) old new)
+    → IfErr result (λ fault. fault ≡ DeviceFault) → OnErr result (IsCutShort old new) → IfErr result (IsRefusal (opening_fault (image_of old)) old new)
 refused-later old new (Ok life) layout r gaps free live ex is more = tt
 refused-later old new (Err fault) layout r gaps free live ex is more = refusal-device old new fault layout r gaps free live ex is more
 

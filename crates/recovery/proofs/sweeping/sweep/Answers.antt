@@ -2,7 +2,8 @@ use Rattle.std.proofs.Common.{◌≡◌, ℕ, ◌∙◌, subst, arith}
 use Rattle.pmem.specs.Words.{image_of}
 use Rattle.pmem.proofs.Runs.{keeps-fenced, keeps-failed}
 use Rattle.recovery.proofs.Lives.{formed-new, wide-new, ruled-size}
-use Rattle.recovery.proofs.SweptSlots.{IsSweptUpTo, swept-none, swept-more, swept-error, swept-rests, swept-spares, swept-image, swept-made}
+use Rattle.recovery.proofs.SweptSlots.{IsSweptUpTo, swept-none, swept-more, swept-error, swept-few, fence-few, swept-rests, swept-spares, swept-image, swept-made}
+use Rattle.log_area.proofs.Whole.{on_err}
 use Rattle.recovery.proofs.sweeping.sweep.Goals as goal
 
 pub sweep_slot-requires-clause-formed : goal.sweep_slot-requires-clause-formed
@@ -23,6 +24,21 @@ returns-in_err-sweep_slot-clause-kept g c =
     let rules = c.requires.rules in
     swept-error c.args.geometry c.args.ruling start (wide-new c.args.geometry c.args.ruling (image_of start) rules) rules (ruled-size start c.args.geometry c.args.ruling rules)
     c.loop-slot.slot (omega (arith, c.loop-slot-test.true, c.slots-slot-end.ensures.value)) (g.D.Pmem.state c.loop-slot.device) c.loop-slot.invariant (g.D.Pmem.state c.sweep_slot.new.device) c.in_err-sweep_slot.ensures.kept
+
+pub returns-in_err-sweep_slot-clause-few : goal.returns-in_err-sweep_slot-clause-few
+returns-in_err-sweep_slot-clause-few g c =
+    let start = g.D.Pmem.state c.args.device.now in
+    let rules = c.requires.rules in
+    on_err c.from_residual.result (swept-few c.args.geometry c.args.ruling start (wide-new c.args.geometry c.args.ruling (image_of start) rules) rules (ruled-size start c.args.geometry c.args.ruling rules)
+    c.loop-slot.slot (omega (arith, c.loop-slot-test.true, c.slots-slot-end.ensures.value)) (g.D.Pmem.state c.loop-slot.device) c.loop-slot.invariant (g.D.Pmem.state c.sweep_slot.new.device) c.in_err-sweep_slot.ensures.few)
+
+pub returns-in_err-fence-clause-few : goal.returns-in_err-fence-clause-few
+returns-in_err-fence-clause-few g c =
+    let start = g.D.Pmem.state c.args.device.now in
+    let rules = c.requires.rules in
+    let done : c.loop-slot.slot ≡ c.args.geometry.slots = omega (arith, c.loop-slot-test.false, c.loop-slot.auto.slot-end, c.slots-slot-end.ensures.value) in
+    let inv = subst (λ (n : ℕ). IsSweptUpTo c.args.geometry c.args.ruling start n (g.D.Pmem.state c.loop-slot.device)) done c.loop-slot.invariant in
+    on_err c.from_residual-in_err-fence.result (fence-few c.args.geometry c.args.ruling start (wide-new c.args.geometry c.args.ruling (image_of start) rules) rules (g.D.Pmem.state c.loop-slot.device) (g.D.Pmem.state c.fence.new.self) inv c.in_err-fence.ensures.err)
 
 pub loop-slot-preserved : goal.loop-slot-preserved
 loop-slot-preserved g c =

@@ -2,7 +2,7 @@ use Rattle.std.proofs.Common.{sym, refl, subst, arith}
 use Rattle.pmem.specs.Words.{image_of}
 use Rattle.recovery.specs.declared.opening.Life.{Life}
 use Rattle.recovery.specs.Opened.{HasOpened}
-use Rattle.recovery.proofs.Lives.{is, some-dirty, limit, gate-limit, target-is, device-words, next-target, images-swept, images-meanwhile, has-opened}
+use Rattle.recovery.proofs.Lives.{is, some-dirty, limit, gate-limit, target-is, device-words, next-target, images-swept, images-meanwhile, has-opened, cut-early, cut-late}
 use Rattle.recovery.proofs.examining.Examined.open.Goals as goal
 
 -- ---- the gaps
@@ -12,6 +12,10 @@ keep_gaps-requires-clause-rules g c = (is (image_of (g.D.Pmem.state c.args.devic
 
 pub keep_gaps-requires-clause-gaps : goal.keep_gaps-requires-clause-gaps
 keep_gaps-requires-clause-gaps g c = (is (image_of (g.D.Pmem.state c.args.device.now)) c.args.self.geometry c.args.self.ruling c.args.self.gaps c.args.self.free.items c.args.self.live.items c.requires.examined).gaps_are
+
+pub returns-in-Err-clause-failed : goal.returns-in-Err-clause-failed
+returns-in-Err-clause-failed g c =
+    cut-early (g.D.Pmem.state c.args.device.now) (g.D.Pmem.state c.keep_gaps.new.device) (omega (arith, c.in-Err.ensures.failed)) c.in-Err.ensures.few.0 c.in-Err.ensures.few.1
 
 pub returns-in-Err-clause-images : goal.returns-in-Err-clause-images
 returns-in-Err-clause-images g c =
@@ -35,7 +39,9 @@ write_record-requires g c =
     device-words (g.D.Pmem.state c.args.device.now) mid mid (g.met.D.Pmem.orderly c.keep_gaps.new.device) c.requires.at_rest c.args.self.geometry c.args.self.ruling c.args.self.gaps c.args.self.free.items c.args.self.live.items c.requires.examined c.in-Ok.ensures.kept
 
 pub returns-in-Err-write_record-clause-failed : goal.returns-in-Err-write_record-clause-failed
-returns-in-Err-write_record-clause-failed g c = omega (arith, c.in-Err-write_record.ensures.failed, c.in-Ok.ensures.kept.images.continues.failures)
+returns-in-Err-write_record-clause-failed g c =
+    cut-late (g.D.Pmem.state c.args.device.now) (g.D.Pmem.state c.keep_gaps.new.device) (g.D.Pmem.state c.write_record.new.device)
+    (omega (arith, c.in-Err-write_record.ensures.failed, c.in-Ok.ensures.kept.images.continues.failures)) c.in-Ok.ensures.none c.in-Ok.ensures.made c.in-Err-write_record.ensures.few
 
 pub returns-in-Err-write_record-clause-images : goal.returns-in-Err-write_record-clause-images
 returns-in-Err-write_record-clause-images g c =
