@@ -1,5 +1,6 @@
 ghost use Rattle.std.specs.Prelude.{◌≡◌, ◌+◌, ◌-◌, ◌*◌, ◌^◌, ◌<◌, ◌≤◌, ◌&&◌, ◌||◌, not, nat_eq, nat_lt, take, map, IsTrue, IfOk, ℕ, length};
 ghost use Rattle.std.specs.List.{list_any};
+ghost use Rattle.base.specs.Records.{is_committed};
 ghost use Rattle.dirty_table.specs.Touches.{has};
 ghost use Rattle.txn.specs.DrawnCommits.{are_numbered};
 ghost use Rattle.group_commit.specs.Choosing.{run, commit_of, last_timestamp, standing_gaps, record_of_run, closing_record, batch_of_run, is_idle};
@@ -123,6 +124,20 @@ pub fn sessions_of(run: &[DrawnCommit]) -> SessionSet
     let mut sessions = SessionSet::none();
     for commit in run {
         sessions.insert(commit.session);
+    }
+    sessions
+}
+
+// The sessions that drew those of the commits that the record commits.
+pub(crate) fn sessions_committed_by(ruling: Record, commits: &[DrawnCommit]) -> SessionSet
+    requires { IsTrue (are_numbered commits.now) }
+    ensures { (n : ℕ) → has result n ≡ list_any (λ d. nat_eq d.session n && is_committed ruling d.timestamp) commits.now }
+{
+    let mut sessions = SessionSet::none();
+    for commit in commits {
+        if ruling.commits(commit.timestamp) {
+            sessions.insert(commit.session);
+        }
     }
     sessions
 }

@@ -1,4 +1,4 @@
-use crate::batch::{batch_of_run, is_numbered, record_of_run, sessions_of};
+use crate::batch::{batch_of_run, is_numbered, record_of_run, sessions_committed_by};
 use crate::stage::CycleStage;
 use base::Ts;
 use base::actor::Actor;
@@ -42,10 +42,10 @@ pub struct Covered {
 }
 
 impl Cycle {
-    ghost use Rattle.std.specs.Prelude.{◌≡◌, ◌≢◌, ◌↔◌, ◌+◌, ◌*◌, ◌^◌, ◌<◌, ◌≤◌, ℕ, nat_eq, Some, None, IsTrue, IfOk, IfErr, OnOk, OnErr};
+    ghost use Rattle.std.specs.Prelude.{◌≡◌, ◌≢◌, ◌↔◌, ◌+◌, ◌*◌, ◌^◌, ◌<◌, ◌≤◌, ◌&&◌, ℕ, nat_eq, Some, None, IsTrue, IfOk, IfErr, OnOk, OnErr};
     ghost use Rattle.std.specs.List.{list_any};
     ghost use Rattle.base.specs.Layout.{total_words};
-    ghost use Rattle.base.specs.Records.{are_rising};
+    ghost use Rattle.base.specs.Records.{are_rising, is_committed};
     ghost use Rattle.log_area.specs.declared.stage.WritingStage.TheVariants.{Done};
     ghost use Rattle.log_area.specs.Writings.{begun};
     ghost use Rattle.pmem.specs.Device.{failed};
@@ -68,7 +68,7 @@ impl Cycle {
         requires numbered { ruling.gate < 2 ^ 62 }
         requires countable { next ≤ 2 ^ 62 }
         ensures batch { IfOk result (λ cycle. cycle.batch ≡ batch_of_run ruling (record_of_run geometry ruling next swept (run drawn.now.commits)) (run drawn.now.commits)) }
-        ensures sessions { IfOk result (λ cycle. (n : ℕ) → has cycle.sessions n ≡ list_any (λ d. nat_eq d.session n) (run drawn.now.commits)) }
+        ensures sessions { IfOk result (λ cycle. (n : ℕ) → has cycle.sessions n ≡ list_any (λ d. nat_eq d.session n && is_committed cycle.writing.target d.timestamp) drawn.now.commits) }
         ensures writing { IfOk result (λ cycle. cycle.writing ≡ begun geometry (record_of_run geometry ruling next swept (run drawn.now.commits))) }
         ensures stage { IfOk result (λ cycle. cycle.stage ≡ FlushLines 0 0) }
         ensures numbered { OnOk result (ruling.gate + 1 < 2 ^ 62) }
@@ -77,14 +77,15 @@ impl Cycle {
         if !is_numbered(ruling) {
             return Err(Fault::TimestampsOut);
         }
-        let run = &drawn.as_slice()[..drawn.run()];
+        let commits = drawn.as_slice();
+        let run = &commits[..drawn.run()];
         let target = record_of_run(geometry, ruling, next, swept, run);
         let Ok(batch) = batch_of_run(alloc, ruling, target, run) else {
             return Err(Fault::OutOfMemory);
         };
         Ok(Cycle {
             batch,
-            sessions: sessions_of(run),
+            sessions: sessions_committed_by(target, commits),
             writing: Writing::new(geometry, target),
             stage: CycleStage::FlushLines {
                 flushed: 0,

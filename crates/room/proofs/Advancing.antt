@@ -1,10 +1,10 @@
 -- A tick of the batch in hand, by the stage that its cycle is in.
-use Rattle.std.proofs.Common.{◌≡◌, ◌≢◌, inl, inr, ℕ, ◌+◌, ◌-◌, ◌*◌, ◌/◌, ◌<◌, ◌≤◌, Bool, true, false, cond, ◌&&◌, ◌||◌, List, [], ◌∷◌, length, map, take, get_or, refl, sym, ◌∙◌, ap, subst, arith, nat_eq, nat_lt, nat_le, true≢false}
+use Rattle.std.proofs.Common.{◌≡◌, ◌≢◌, inl, inr, ℕ, ◌+◌, ◌-◌, ◌*◌, ◌/◌, ◌<◌, ◌≤◌, Bool, true, false, cond, ◌&&◌, ◌||◌, List, [], ◌∷◌, length, map, filter, get_or, refl, sym, ◌∙◌, ap, subst, arith, nat_eq, nat_lt, nat_le, true≢false}
 use Rattle.std.specs.Prelude.{Option, Some, None, slice_get, find}
 use Rattle.std.specs.List.{list_any, list_all}
 use Rattle.std.specs.Option.{option_map}
 use Rattle.std.proofs.lemmas.Bool.{and_parts, cases_lt, eqb-true, eq-eqb, or_left, or_right, ltb-true}
-use Rattle.std.proofs.lemmas.List.{length-map, length-take-le}
+use Rattle.std.proofs.lemmas.List.{length-map}
 use Rattle.std.proofs.lemmas.Option.{slice_get-map, slice_get-get_or}
 use Rattle.base.specs.declared.fault.Fault.{Fault}
 use Rattle.base.specs.declared.fault.Fault.TheVariants.{Device as DeviceFault}
@@ -17,7 +17,7 @@ use Rattle.base.specs.Actors.{committer}
 use Rattle.base.specs.Batches.{Batch}
 use Rattle.base.specs.Commits.{Commit}
 use Rattle.base.specs.Layout.{total_words}
-use Rattle.base.specs.Records.{Record, are_rising}
+use Rattle.base.specs.Records.{Record, is_committed, are_rising}
 use Rattle.base.specs.Machine.{State, Hand, Drawn, Stepped, drawn_of, batch_of, state_covered}
 use Rattle.pmem.specs.Device.{Device, IsOrderly, failed}
 use Rattle.pmem.specs.Trace.{Operation, flush_op, fence_op, failure, applied}
@@ -41,10 +41,12 @@ use Rattle.cycle_invariant.specs.Laws.{HasInHand}
 use Rattle.cycle_invariant.proofs.Rising.{lines-are_in_order, lines-within}
 use Rattle.cycle_invariant.proofs.Stages.{more_left}
 use Rattle.cycle_invariant.proofs.Ticks.{line-ticks, fence-ticks, operation-ticks, covering-ticks, failing-ticks}
+use Rattle.session_invariant.proofs.Batches.{covers-batch}
 use Rattle.session_steps.specs.declared.sessions.Sessions.{Sessions}
 use Rattle.session_steps.specs.Shows.{plain_drawn, line_numbers, Agrees}
 use Rattle.session_steps.specs.Steps.{is_by_actor, RunsBy}
-use Rattle.session_steps.specs.Covering.{IsOfFirst, MayCoverSome, ShowsCovered}
+use Rattle.session_steps.specs.Covering.{IsOf, MayCoverSome, ShowsCovered}
+use Rattle.session_steps.proofs.Filters.{filter-map}
 use Rattle.session_steps.proofs.BatchLines.{member, table-lines}
 use Rattle.session_steps.proofs.Hands.{shows-hand, shows-failed}
 use Rattle.session_steps.proofs.Reading.{words-are}
@@ -182,6 +184,12 @@ module _ (s : Sessions) (cycle : Cycling) (before : Device) (orderly : IsOrderly
   abbrev numbers : List ℕ
   numbers = line_numbers q in-hand.hand.commits
 
+  -- the batch has those of the drawn commits that its record commits
+  commits-are : in-hand.hand.commits ≡ filter (λ (c : Commit). is_committed in-hand.hand.target c.timestamp) (drawn_of q)
+  commits-are =
+      (covers-batch o q in-hand.hand upholds.keeps (upholds.keeps.numbers.hand in-hand.hand in-hand.in_hand)).batch
+      ∙ sym (filter-map (λ (d : Drawn). d.commit) (λ (c : Commit). is_committed in-hand.hand.target c.timestamp) q.drawn)
+
   counted : length numbers ≡ length lines
   counted = length-map lines (line_number q.layout)
 
@@ -199,7 +207,7 @@ module _ (s : Sessions) (cycle : Cycling) (before : Device) (orderly : IsOrderly
       by : (stage : CycleStage) → line_from table stage ≡ Some line → 8 * line < before.words
       by WriteRecord is = absurd (cc is)
       by (FlushLines done from) is =
-          let any = sym (member q ds s.dirty cycle.sessions h.count drawn shows.shown.agrees.lines h.sessions line) ∙ found-any (nat_le from) line table is in
+          let any = sym (member q ds s.dirty cycle.sessions (is_committed in-hand.hand.target) drawn shows.shown.agrees.lines h.sessions line) ∙ found-any (nat_le from) line table is in
           let low : line < total_words q.layout / 8 = ltb-true line (total_words q.layout / 8) (any-has (λ x. nat_lt x (total_words q.layout / 8)) line _ any (lines-within q _)) in
           let size = words-are o q before orderly upholds in
           omega (arith, low, size)
@@ -207,7 +215,7 @@ module _ (s : Sessions) (cycle : Cycling) (before : Device) (orderly : IsOrderly
   -- ---- the lines of the table
 
   table-is : are_rising table ≡ true → table ≡ numbers
-  table-is rising = table-lines q ds s.dirty cycle.sessions h.count drawn shows.shown.agrees.lines h.sessions rising ∙ ap (line_numbers q) (sym h.commits)
+  table-is rising = table-lines q ds s.dirty cycle.sessions (is_committed in-hand.hand.target) drawn shows.shown.agrees.lines h.sessions rising ∙ ap (line_numbers q) (sym commits-are)
 
   -- the tick is the same on the numbers of the batch's lines
   record IsSame : Type 0 where
@@ -298,9 +306,6 @@ module _ (s : Sessions) (cycle : Cycling) (before : Device) (orderly : IsOrderly
 
           holds-on : HoldsHand (one_tick_on q hand) ds (record hand { ticks = hand.ticks + 1 }) new
           holds-on = record {
-            count = h.count;
-            within = h.within;
-            commits = h.commits;
             sessions = λ n. ap (λ (xs : List Bool). has xs n) kept.sessions ∙ h.sessions n;
             batch = kept.batch ∙ h.batch;
             layout = kept.layout ∙ h.layout;
@@ -353,26 +358,17 @@ module _ (s : Sessions) (cycle : Cycling) (before : Device) (orderly : IsOrderly
         whole : batch ≡ batch_of q hand
         whole = batch-is ∙ left-cycle.batch ∙ h.batch
 
-        as-many : length batch.commits ≡ h.count
-        as-many =
-            let of-all : length (drawn_of q) ≡ length q.drawn = length-map q.drawn (λ (d : Drawn). d.commit) in
-            let of-drawn : length q.drawn ≡ length ds = ap (λ (es : List Drawn). length es) drawn ∙ length-map ds plain_drawn in
-            ap (λ (b : Batch). length b.commits) whole ∙ ap (λ (cs : List Commit). length cs) h.commits ∙ length-take-le h.count (drawn_of q) (omega (arith, h.within, of-all, of-drawn))
+        of-batch : IsOf q hand ruling
+        of-batch = record { in_hand = in-hand.in_hand; target = sym (ruling-is ∙ left-cycle.target ∙ h.target) }
 
-        first : IsOfFirst q hand (length batch.commits) ruling
-        first = record { in_hand = in-hand.in_hand; first = h.commits ∙ ap (λ (n : ℕ). take n (drawn_of q)) (sym as-many); target = sym (ruling-is ∙ left-cycle.target ∙ h.target) }
-
-        pub all-drawn : length batch.commits ≤ length ds
-        all-drawn = omega (arith, as-many, h.within)
-
-        pub may-cover : MayCoverSome s (length batch.commits) ruling
+        pub may-cover : MayCoverSome s ruling
         may-cover = (
           shows.shown.hidden,
           hand,
           record {
             keeps = subst (Keeps o) shows.shown.plain upholds.keeps;
             agrees = subst (λ (p : State). Agrees s o shows.shown.hidden.seen p) shows.shown.plain shows.shown.agrees;
-            batch = subst (λ (p : State). IsOfFirst p hand (length batch.commits) ruling) shows.shown.plain first;
+            batch = subst (λ (p : State). IsOf p hand ruling) shows.shown.plain of-batch;
           },
         )
 
@@ -390,12 +386,12 @@ module _ (s : Sessions) (cycle : Cycling) (before : Device) (orderly : IsOrderly
             (has-hand _ (at.0 ∙ λ i. 2 + counted i + operations_before (ends.1 i)))
             (made-on (fence_op committer) (ap (operation_at numbers cycle.writing) ends.0 ∙ λ i. operation_of (record { layout = cycle.writing.layout; target = cycle.writing.target; stage = ends.1 i })))
 
-        pub covers : (after : Sessions) (left : Option Cycling) (reply : Reply) → ShowsCovered s after (length batch.commits) ruling → left ≡ None → reply ≡ Covered batch → (q' : State) × StepsToIn after left before now CommitTick reply q q'
+        pub covers : (after : Sessions) (left : Option Cycling) (reply : Reply) → ShowsCovered s after ruling → left ≡ None → reply ≡ Covered batch → (q' : State) × StepsToIn after left before now CommitTick reply q q'
         covers after left reply shown none is = (
           state_covered q hand,
           record {
             stepped = subst (λ (r : Reply). Stepped q CommitTick r (state_covered q hand)) (sym (is ∙ ap (λ (b : Batch). Covered b) whole)) covering.stepped;
-            shows = record { shown = shown before now q hand shows.shown first covering.leads.upholds; cycle_is = subst (λ (o : Option Cycling). HoldsCycle (state_covered q hand) after.drawn.commits None o) (sym none) tt };
+            shows = record { shown = shown before now q hand shows.shown of-batch covering.leads.upholds; cycle_is = subst (λ (o : Option Cycling). HoldsCycle (state_covered q hand) after.drawn.commits None o) (sym none) tt };
             images = covering.leads.images;
             failure = record { no_fewer = omega (arith, covering.no_failure); cause = λ told. absurd (cc (is, told)); shown = λ more. absurd (omega (arith, more, covering.no_failure)) };
             operations = covering.operations;
@@ -411,7 +407,7 @@ module _ (s : Sessions) (cycle : Cycling) (before : Device) (orderly : IsOrderly
     failing = failing-ticks o q hand before now orderly orderly' record { works = works; in_hand = in-hand.in_hand; ticks = refl; upholds = upholds } fails
 
     holds-failed : HoldsHand (record q { failed = true }) ds hand cycle
-    holds-failed = record { count = h.count; within = h.within; commits = h.commits; sessions = h.sessions; batch = h.batch; layout = h.layout; target = h.target; unfinished = h.unfinished; ticks = h.ticks }
+    holds-failed = record { sessions = h.sessions; batch = h.batch; layout = h.layout; target = h.target; unfinished = h.unfinished; ticks = h.ticks }
 
     pub fails-on : (q' : State) × StepsToIn s (Some new) before now CommitTick (Refused fault) q q'
     fails-on = (

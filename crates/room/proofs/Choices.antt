@@ -1,5 +1,5 @@
 -- The ticks that make no operation: nothing is due, or a batch is chosen, or the tick is refused.
-use Rattle.std.proofs.Common.{◌≡◌, inl, inr, ℕ, ◌+◌, ◌^◌, ◌<◌, ◌≤◌, true, false, List, [], map, refl, sym, ◌∙◌, ap, subst, arith, nat_eq, nat_le}
+use Rattle.std.proofs.Common.{◌≡◌, inl, inr, ℕ, ◌+◌, ◌^◌, ◌<◌, ◌≤◌, ◌&&◌, true, false, List, [], map, refl, sym, ◌∙◌, ap, subst, arith, nat_eq, nat_le}
 use Rattle.std.specs.Prelude.{Option, Some, None}
 use Rattle.std.specs.List.{list_any}
 use Rattle.std.proofs.lemmas.Bool.{le-leb, lt-leb}
@@ -10,14 +10,13 @@ use Rattle.base.specs.declared.step.Stage.TheVariants.{Chosen}
 use Rattle.base.specs.declared.step.Reply.{Reply}
 use Rattle.base.specs.declared.step.Reply.TheVariants.{Idle, Ticked, Refused}
 use Rattle.base.specs.Batches.{Batch}
-use Rattle.base.specs.Records.{Record}
+use Rattle.base.specs.Records.{Record, is_committed}
 use Rattle.base.specs.Machine.{State, Hand, is_idle, refusal, taken_in_hand, chosen, target_of, batch_of}
 use Rattle.pmem.specs.Device.{Device, IsOrderly}
 use Rattle.log_area.specs.declared.stage.WritingStage.TheVariants.{StoreBody, Done}
 use Rattle.log_area.specs.Rulings.{HoldsRecord}
 use Rattle.log_area.specs.Writings.{Progress, begun}
 use Rattle.txn.specs.declared.drawn.DrawnCommit.{DrawnCommit}
-use Rattle.txn.specs.DrawnCommits.{stamped_run}
 use Rattle.dirty_table.specs.Touches.{has}
 use Rattle.group_commit.specs.declared.stage.CycleStage.TheVariants.{FlushLines}
 use Rattle.group_commit.specs.Choosing.{run, commit_of, batch_of_run, IsBeginFault}
@@ -36,7 +35,7 @@ use Rattle.session_steps.specs.Shows.{plain_drawn, line_numbers}
 use Rattle.session_steps.proofs.Hands.{shows-hand}
 use Rattle.room.specs.Committing.{HoldsHand, HoldsCycle, ShowsIn}
 use Rattle.room.specs.Steps.{StepsToIn}
-use Rattle.room.proofs.Chosen.{commits-same, run-first, run-within, record-same, idle-same}
+use Rattle.room.proofs.Chosen.{commits-same, record-same, idle-same}
 
 -- without a cycle nothing is in hand
 pub rests-of : (q : State) (drawn : List DrawnCommit) → HoldsCycle q drawn q.hand None → q.hand ≡ None
@@ -149,12 +148,15 @@ module _ (s : Sessions) (device : Device) (orderly : IsOrderly device) (q : Stat
     )
 
     module _ (cycle : Cycling) (numbered : s.numbers.record.gate + 1 < 2 ^ 62) (batch : cycle.batch ≡ batch_of_run s.numbers.record record_is (run ds))
-        (sessions : (n : ℕ) → has cycle.sessions n ≡ list_any (λ (d : DrawnCommit). nat_eq d.session n) (run ds)) (writing : cycle.writing ≡ begun s.numbers.geometry record_is) (stage : cycle.stage ≡ FlushLines 0 0) where
+        (sessions : (n : ℕ) → has cycle.sessions n ≡ list_any (λ (d : DrawnCommit). nat_eq d.session n && is_committed cycle.writing.target d.timestamp) ds) (writing : cycle.writing ≡ begun s.numbers.geometry record_is) (stage : cycle.stage ≡ FlushLines 0 0) where
       abbrev taken : State
       taken = record q { hand = Some (taken_in_hand q) }
 
       writing-stage : cycle.writing.stage ≡ StoreBody 1
       writing-stage = ap (λ (p : Progress). p.stage) writing
+
+      target-is : cycle.writing.target ≡ target_of q
+      target-is = ap (λ (p : Progress). p.target) writing ∙ sym target-same
 
       commits-are : chosen q ≡ map commit_of (run ds)
       commits-are = law.commits ∙ commits-same q ds drawn
@@ -164,13 +166,10 @@ module _ (s : Sessions) (device : Device) (orderly : IsOrderly device) (q : Stat
 
       holds : HoldsHand taken ds (taken_in_hand q) cycle
       holds = record {
-        count = stamped_run ds;
-        within = run-within ds;
-        commits = law.commits ∙ run-first q ds drawn;
-        sessions = sessions;
+        sessions = λ n. sessions n ∙ ap (λ (r : Record). list_any (λ (d : DrawnCommit). nat_eq d.session n && is_committed r d.timestamp) ds) target-is;
         batch = batch ∙ sym batch-same;
         layout = ap (λ (p : Progress). p.layout) writing ∙ sym layout;
-        target = ap (λ (p : Progress). p.target) writing ∙ sym target-same;
+        target = target-is;
         unfinished = λ done. let both : StoreBody 1 ≡ Done = sym writing-stage ∙ done in absurd (cc both);
         ticks = ticks-are_counted.begins (line_numbers taken (chosen q)) cycle stage writing-stage;
       }

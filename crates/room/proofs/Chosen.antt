@@ -1,12 +1,12 @@
 -- The run of drawn commits that a cycle takes is the batch that the machine chooses.
 use Rattle.std.proofs.Common.{◌≡◌, ℕ, suc, ◌+◌, ◌-◌, ◌*◌, ◌≤◌, Bool, true, false, cond, not, ◌&&◌, ◌||◌, List, [], ◌∷◌, length, map, take, fold, refl, sym, ◌∙◌, ap, arith, nat_eq, nat_lt}
 use Rattle.std.specs.Prelude.{take_while}
-use Rattle.std.proofs.lemmas.List.{take-map, length-map}
+use Rattle.std.proofs.lemmas.List.{length-map}
 use Rattle.std.proofs.lemmas.List.Folds.{fold-map}
-use Rattle.std.proofs.lemmas.List.Sums.{take_while-cons, prefix_len-le-length}
+use Rattle.std.proofs.lemmas.List.Sums.{take_while-cons}
 use Rattle.std.proofs.lemmas.Simd.{map-map}
 use Rattle.base.specs.Commits.{Commit}
-use Rattle.base.specs.Machine.{State, Drawn, is_stamped, drawn_of, is_nil, is_idle, has_other_reason_to_write}
+use Rattle.base.specs.Machine.{State, Drawn, is_stamped, is_nil, is_idle, has_other_reason_to_write}
 use Rattle.txn.specs.declared.drawn.DrawnCommit.{DrawnCommit}
 use Rattle.txn.specs.DrawnCommits.{stamped_run}
 use Rattle.txn.specs.DrawnCommits as drawn
@@ -41,23 +41,12 @@ run-same (d ∷ ds) =
         none-more : drawn.is_stamped d ≡ false → stamped_run (d ∷ ds) ≡ 0
         none-more e = ap (λ (b : Bool). cond (not (not b)) (1 + stamped_run ds) 0) e
 
-pub run-within : (ds : List DrawnCommit) → stamped_run ds ≤ length ds
-run-within ds = prefix_len-le-length _ ds
-
 -- its commits are those of the machine's run
 pub commits-same : (q : State) (ds : List DrawnCommit) → q.drawn ≡ map plain_drawn ds → run_of q ≡ map commit_of (run ds)
 commits-same q ds is =
     ap (λ (es : List Drawn). map (λ (d : Drawn). d.commit) (take_while is_stamped es)) is
     ∙ ap (map (λ (d : Drawn). d.commit)) (run-same ds)
     ∙ map-map (λ (d : Drawn). d.commit) plain_drawn (run ds)
-
--- and the first of the drawn ones
-pub run-first : (q : State) (ds : List DrawnCommit) → q.drawn ≡ map plain_drawn ds → run_of q ≡ take (stamped_run ds) (drawn_of q)
-run-first q ds is =
-    commits-same q ds is
-    ∙ sym (take-map commit_of (stamped_run ds) ds)
-    ∙ ap (take (stamped_run ds)) (sym (map-map (λ (d : Drawn). d.commit) plain_drawn ds))
-    ∙ ap (λ (es : List Drawn). take (stamped_run ds) (map (λ (d : Drawn). d.commit) es)) (sym is)
 
 -- ---- its record
 

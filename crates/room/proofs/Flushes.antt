@@ -3,7 +3,7 @@ use Rattle.std.proofs.Common.{◌≡◌, ℕ, ◌+◌, ◌-◌, ◌*◌, ◌/◌
 use Rattle.std.proofs.Math.Bridge.{le_prop}
 use Rattle.std.proofs.Math.Logic.{∥∥₁_elim}
 use Rattle.std.proofs.lemmas.Bool.{and_parts, leb-true, ltb-true}
-use Rattle.std.proofs.lemmas.List.{take_all, length-map}
+use Rattle.std.proofs.lemmas.List.{length-map}
 use Rattle.std.proofs.lemmas.Option.{slice_get-map}
 use Rattle.std.specs.Prelude.{Option, Some, None, Result, Ok, Err, IfErr, OnErr, nat_eq, nat_le, nat_lt, find, slice_get}
 use Rattle.std.specs.List.{list_all, list_any}
@@ -13,7 +13,7 @@ use Rattle.base.specs.declared.fault.Fault.{Fault}
 use Rattle.base.specs.declared.fault.Fault.TheVariants.{Device as DeviceFault}
 use Rattle.base.specs.Actors.{committer}
 use Rattle.base.specs.Layout.{Layout, total_words, is_in_limits, is_known_version, is_between}
-use Rattle.base.specs.Machine.{State, Hand, Drawn as PlainDrawn, is_stamped, drawn_of, StandsClosing}
+use Rattle.base.specs.Machine.{State, Hand, is_stamped, drawn_of, StandsClosing}
 use Rattle.base.specs.Records.{are_rising}
 use Rattle.pmem.specs.Device.{Device, IsOrderly, flushed, fenced, failed}
 use Rattle.pmem.specs.Words.{LeavesOnly, HasNoFailure}
@@ -33,6 +33,7 @@ use Rattle.cycle_invariant.specs.Closing.{IsClosing, AreFlushed}
 use Rattle.cycle_invariant.proofs.Lasts.{closing-flushes}
 use Rattle.cycle_invariant.proofs.Rising.{lines-within}
 use Rattle.session_steps.specs.Shows.{plain_drawn}
+use Rattle.session_steps.proofs.Filters.{any-filter, filter-whole}
 use Rattle.session_steps.proofs.BatchLines.{table-lines}
 use Rattle.session_steps.proofs.Reading.{words-are}
 use Rattle.room.specs.declared.committer.Committer.{Committer}
@@ -66,19 +67,16 @@ is-closing c device q shown works rests stamped = record {
 
 -- ---- the lines
 
+any-whole : (p : DrawnCommit → Bool) (ds : List DrawnCommit) → list_any p ds ≡ list_any (λ d. p d && true) ds
+any-whole p ds = sym (any-filter p (λ d. true) ds ∙ ap (list_any p) (filter-whole ds))
+
 -- the table's lines of all sessions that drew are those that all drawn commits touch
 lines-are : (c : Committer) (device : Device) (q : State) (sessions : List Bool) → Shows c device q → are_rising (lines_touched (has sessions) c.sessions.dirty) ≡ true → ((n : ℕ) → has sessions n ≡ list_any (λ d. nat_eq d.session n) c.sessions.drawn.commits)
     → lines_touched (has sessions) c.sessions.dirty ≡ line_numbers q (drawn_of q)
 lines-are c device q sessions shown rising of =
-    table-lines q c.sessions.drawn.commits c.sessions.dirty sessions (length c.sessions.drawn.commits) drawn shown.shown.agrees.lines
-    (λ n. of n ∙ ap (list_any (λ d. nat_eq d.session n)) (sym (take_all (length c.sessions.drawn.commits) c.sessions.drawn.commits (omega arith)))) rising
-    ∙ ap (line_numbers q) (take_all (length c.sessions.drawn.commits) (drawn_of q) (omega (arith, counted)))
-  where
-    drawn : q.drawn ≡ map plain_drawn c.sessions.drawn.commits
-    drawn = ap (λ (p : State). p.drawn) shown.shown.plain
-
-    counted : length (drawn_of q) ≡ length c.sessions.drawn.commits
-    counted = length-map q.drawn (λ (d : PlainDrawn). d.commit) ∙ ap length drawn ∙ length-map c.sessions.drawn.commits plain_drawn
+    table-lines q c.sessions.drawn.commits c.sessions.dirty sessions (λ t. true) (ap (λ (p : State). p.drawn) shown.shown.plain) shown.shown.agrees.lines
+    (λ n. of n ∙ any-whole (λ d. nat_eq d.session n) c.sessions.drawn.commits) rising
+    ∙ ap (line_numbers q) (filter-whole (drawn_of q))
 
 -- there are few words
 few-words : (a : Layout) → is_in_limits a ≡ true → total_words a < 2 ^ 62

@@ -1,9 +1,10 @@
 -- A step that is no tick of the committer leaves the batch in hand as it is, and its cycle with it: one of a session, and
 -- a visit of the collector, also where a sweep ends with it.
-use Rattle.std.proofs.Common.{◌≡◌, ℕ, ◌+◌, ◌≤◌, Bool, true, false, List, [], ◌∷◌, ◌++◌, length, map, take, refl, sym, ◌∙◌, ap, subst, arith, nat_eq, cond}
+use Rattle.std.proofs.Common.{◌≡◌, ℕ, suc, ◌+◌, ◌<◌, Bool, true, false, ◌&&◌, ◌||◌, not, List, [], ◌∷◌, ◌++◌, length, map, refl, sym, ◌∙◌, ap, subst, arith, nat_eq, nat_le, cond}
 use Rattle.std.specs.Prelude.{Option, Some, None, Result, Ok, Err}
-use Rattle.std.specs.List.{list_any}
-use Rattle.std.proofs.lemmas.List.{take-map, take-append-le, append-nil, map-append, length-map, length-append}
+use Rattle.std.specs.List.{list_any, list_all}
+use Rattle.std.proofs.lemmas.Bool.{and_parts, and_from, le-leb, leb-true}
+use Rattle.std.proofs.lemmas.List.{append-nil, map-append, length-map}
 use Rattle.base.specs.declared.fault.Fault.{Fault}
 use Rattle.base.specs.declared.fault.Fault.TheVariants.{Device as DeviceFault}
 use Rattle.base.specs.declared.step.Step.{Step}
@@ -19,7 +20,7 @@ use Rattle.base.specs.Batches.{Batch}
 use Rattle.base.specs.Commits.{Commit, Writes}
 use Rattle.base.specs.Layout.{Layout}
 use Rattle.base.specs.Laws.{is_no_tick}
-use Rattle.base.specs.Records.{Record}
+use Rattle.base.specs.Records.{Record, is_committed}
 use Rattle.base.proofs.Visiting.{visit-changes}
 use Rattle.base.specs.Machine.{State, Hand, Drawn, Stepped, refused, answered, memory_refused, device_failed, next_state, state_drawn, counted, drawn_of, writes_of, timestamp_of, session_of}
 use Rattle.pmem.specs.Device.{Device}
@@ -30,13 +31,13 @@ use Rattle.group_commit.specs.Cycles.{Cycling}
 use Rattle.group_commit.specs.Laws.{IsAfter}
 use Rattle.device_invariant.specs.Log.{Line, line_number, lines_in}
 use Rattle.state_invariant.specs.Kept.{Origin, Keeps}
+use Rattle.state_invariant.proofs.Commits.{uncommitted-above}
 use Rattle.cycle_invariant.proofs.Staying.{lines-stay}
 use Rattle.session_steps.specs.declared.sessions.Sessions.{Sessions}
 use Rattle.session_steps.specs.Shows.{plain_drawn, line_numbers, Shows as SessionsShow}
 use Rattle.session_steps.specs.Steps.{RunsBy, Drawers, Steps as SessionSteps}
 use Rattle.session_steps.specs.Collecting.{Collects}
 use Rattle.session_steps.specs.Collecting as visit
-use Rattle.session_steps.proofs.Lines.{any-map}
 use Rattle.room.specs.declared.committer.Committer.{Committer}
 use Rattle.room.specs.Committing.{HoldsHand, HoldsCycle, ShowsIn}
 use Rattle.room.specs.Steps.{actor_of, StepsToIn, StepsIn}
@@ -48,9 +49,10 @@ record LeavesHand (q q' : State) : Type 0 where
   pub layout : q'.layout ≡ q.layout
   pub more : List Commit
   pub drawn : drawn_of q' ≡ drawn_of q ++ more
+  pub later : list_all (λ c. nat_le q.next c.timestamp) more ≡ true
 
 same-leaves : (q : State) → LeavesHand q q
-same-leaves q = record { hand = refl; ruling = refl; layout = refl; more = []; drawn = sym (append-nil (drawn_of q)) }
+same-leaves q = record { hand = refl; ruling = refl; layout = refl; more = []; drawn = sym (append-nil (drawn_of q)); later = refl }
 
 counted-same : (t : ℕ) (ds : List Drawn) → map (λ (d : Drawn). d.commit) (map (counted t) ds) ≡ map (λ (d : Drawn). d.commit) ds
 counted-same t [] = refl
@@ -61,65 +63,94 @@ counted-same t (d ∷ ds) = λ i. by (nat_eq d.commit.timestamp t) i ∷ counted
     by _ = refl
 
 next-leaves : (q : State) (step : Step) → is_no_tick step ≡ true → LeavesHand q (next_state q step)
-next-leaves q Begin is = record { hand = refl; ruling = refl; layout = refl; more = []; drawn = sym (append-nil (drawn_of q)) }
+next-leaves q Begin is = record { hand = refl; ruling = refl; layout = refl; more = []; drawn = sym (append-nil (drawn_of q)); later = refl }
 next-leaves q (Get n key) is = same-leaves q
 next-leaves q (Scan n table lo hi) is = same-leaves q
-next-leaves q (Put n key row) is = record { hand = refl; ruling = refl; layout = refl; more = []; drawn = sym (append-nil (drawn_of q)) }
-next-leaves q (Delete n key) is = record { hand = refl; ruling = refl; layout = refl; more = []; drawn = sym (append-nil (drawn_of q)) }
+next-leaves q (Put n key row) is = record { hand = refl; ruling = refl; layout = refl; more = []; drawn = sym (append-nil (drawn_of q)); later = refl }
+next-leaves q (Delete n key) is = record { hand = refl; ruling = refl; layout = refl; more = []; drawn = sym (append-nil (drawn_of q)); later = refl }
 next-leaves q (Draw n) is = by (writes_of (q.sessions n))
   where
     by : (writes : Writes) → LeavesHand q (state_drawn q n writes)
-    by [] = record { hand = refl; ruling = refl; layout = refl; more = []; drawn = sym (append-nil (drawn_of q)) }
-    by (write ∷ writes) = record { hand = refl; ruling = refl; layout = refl; more = record { timestamp = q.next; writes = write ∷ writes } ∷ []; drawn = map-append (λ (d : Drawn). d.commit) q.drawn _ }
-next-leaves q (Stamp n) is = record { hand = refl; ruling = refl; layout = refl; more = []; drawn = counted-same (timestamp_of (q.sessions n)) q.drawn ∙ sym (append-nil (drawn_of q)) }
+    by [] = record { hand = refl; ruling = refl; layout = refl; more = []; drawn = sym (append-nil (drawn_of q)); later = refl }
+    by (write ∷ writes) = record { hand = refl; ruling = refl; layout = refl; more = record { timestamp = q.next; writes = write ∷ writes } ∷ []; drawn = map-append (λ (d : Drawn). d.commit) q.drawn _; later = ap (λ (b : Bool). b && true) (le-leb q.next q.next (omega arith)) }
+next-leaves q (Stamp n) is = record { hand = refl; ruling = refl; layout = refl; more = []; drawn = counted-same (timestamp_of (q.sessions n)) q.drawn ∙ sym (append-nil (drawn_of q)); later = refl }
 next-leaves q (Poll n) is = same-leaves q
-next-leaves q (Abort n) is = record { hand = refl; ruling = refl; layout = refl; more = []; drawn = sym (append-nil (drawn_of q)) }
-next-leaves q (End n) is = record { hand = refl; ruling = refl; layout = refl; more = []; drawn = sym (append-nil (drawn_of q)) }
+next-leaves q (Abort n) is = record { hand = refl; ruling = refl; layout = refl; more = []; drawn = sym (append-nil (drawn_of q)); later = refl }
+next-leaves q (End n) is = record { hand = refl; ruling = refl; layout = refl; more = []; drawn = sym (append-nil (drawn_of q)); later = refl }
 next-leaves q CommitTick is = absurd (cc is)
 next-leaves q Collect is =
     let changes = visit-changes q in
-    record { hand = changes.hand; ruling = changes.ruling; layout = changes.layout; more = []; drawn = ap (λ (ds : List Drawn). map (λ (d : Drawn). d.commit) ds) changes.drawn ∙ sym (append-nil (drawn_of q)) }
+    record { hand = changes.hand; ruling = changes.ruling; layout = changes.layout; more = []; drawn = ap (λ (ds : List Drawn). map (λ (d : Drawn). d.commit) ds) changes.drawn ∙ sym (append-nil (drawn_of q)); later = refl }
 
 leaves : (q q' : State) (step : Step) (reply : Reply) → is_no_tick step ≡ true → Stepped q step reply q' → LeavesHand q q'
 leaves q q' step reply is (refused fault why told same) = subst (LeavesHand q) (sym same) (same-leaves q)
 leaves q q' step reply is (answered none told same) = subst (LeavesHand q) (sym same) (next-leaves q step is)
 leaves q q' step reply is (memory_refused none takes told same) = subst (LeavesHand q) (sym same) (same-leaves q)
 leaves q q' step reply is (device_failed none makes told same) =
-    subst (LeavesHand q) (sym same) record { hand = refl; ruling = refl; layout = refl; more = []; drawn = sym (append-nil (drawn_of q)) }
+    subst (LeavesHand q) (sym same) record { hand = refl; ruling = refl; layout = refl; more = []; drawn = sym (append-nil (drawn_of q)); later = refl }
 
--- the sessions of the first so many
+-- ---- the sessions of those that a record commits
+
 abbrev sessions-in : List DrawnCommit → List ℕ
 sessions-in ds = map (λ (d : DrawnCommit). d.session) ds
 
-any-first : (n count : ℕ) (ds : List DrawnCommit) → list_any (λ (d : DrawnCommit). nat_eq d.session n) (take count ds) ≡ list_any (λ m. nat_eq m n) (take count (sessions-in ds))
-any-first n count ds = sym (any-map (λ m. nat_eq m n) (λ (d : DrawnCommit). d.session) (take count ds)) ∙ ap (list_any (λ m. nat_eq m n)) (sym (take-map (λ (d : DrawnCommit). d.session) count ds))
+abbrev times-in : List DrawnCommit → List ℕ
+times-in ds = map (λ (d : DrawnCommit). d.timestamp) ds
 
-module _ (old new : List DrawnCommit) (more : List ℕ) (is : sessions-in new ≡ sessions-in old ++ more) (count : ℕ) (within : count ≤ length old) where
-  first-within : count ≤ length new
-  first-within =
-      let of-new : length (sessions-in new) ≡ length new = length-map new (λ (d : DrawnCommit). d.session) in
-      let of-old : length (sessions-in old) ≡ length old = length-map old (λ (d : DrawnCommit). d.session) in
-      let both : length (sessions-in new) ≡ length (sessions-in old) + length more = ap (λ (ns : List ℕ). length ns) is ∙ length-append (sessions-in old) more in
-      omega (arith, of-new, of-old, both)
+abbrev times-of : List Commit → List ℕ
+times-of cs = map (λ (c : Commit). c.timestamp) cs
 
-  first-same : (n : ℕ) → list_any (λ (d : DrawnCommit). nat_eq d.session n) (take count old) ≡ list_any (λ (d : DrawnCommit). nat_eq d.session n) (take count new)
-  first-same n =
-      let le : count ≤ length (sessions-in old) = omega (arith, length-map old (λ (d : DrawnCommit). d.session)) in
-      let same : take count (sessions-in new) ≡ take count (sessions-in old) = ap (take count) is ∙ take-append-le count (sessions-in old) more le in
-      any-first n count old ∙ ap (list_any (λ m. nat_eq m n)) (sym same) ∙ sym (any-first n count new)
+-- one of the timestamps that pass stands beside this session
+abbrev any-beside : ℕ → (ℕ → Bool) → List ℕ → List ℕ → Bool
+any-beside n test [] ts = false
+any-beside n test (m ∷ ms) [] = false
+any-beside n test (m ∷ ms) (t ∷ ts) = nat_eq m n && test t || any-beside n test ms ts
+
+beside-is : (n : ℕ) (test : ℕ → Bool) (ds : List DrawnCommit) → list_any (λ d. nat_eq d.session n && test d.timestamp) ds ≡ any-beside n test (sessions-in ds) (times-in ds)
+beside-is n test [] = refl
+beside-is n test (d ∷ ds) = ap (λ (b : Bool). nat_eq d.session n && test d.timestamp || b) (beside-is n test ds)
+
+none-beside : (n : ℕ) (test : ℕ → Bool) (ms ts : List ℕ) → list_all (λ t. not (test t)) ts ≡ true → any-beside n test ms ts ≡ false
+none-beside n test [] ts none = refl
+none-beside n test (m ∷ ms) [] none = refl
+none-beside n test (m ∷ ms) (t ∷ ts) none =
+    let both = and_parts (not (test t)) (list_all (λ t. not (test t)) ts) none in
+    ap (λ (b : Bool). b || any-beside n test ms ts) (fails (nat_eq m n) (test t) both.0) ∙ none-beside n test ms ts both.1
+  where
+    fails : (a b : Bool) → not b ≡ true → (a && b) ≡ false
+    fails a true un = cc un
+    fails true false un = refl
+    fails false false un = refl
+
+more-beside : (n : ℕ) (test : ℕ → Bool) (ms more ts further : List ℕ) → length ms ≡ length ts → list_all (λ t. not (test t)) further ≡ true → any-beside n test (ms ++ more) (ts ++ further) ≡ any-beside n test ms ts
+more-beside n test [] more [] further same none = none-beside n test more further none
+more-beside n test [] more (t ∷ ts) further same none = absurd (omega (arith, same))
+more-beside n test (m ∷ ms) more [] further same none = absurd (omega (arith, same))
+more-beside n test (m ∷ ms) more (t ∷ ts) further same none = ap (λ (b : Bool). nat_eq m n && test t || b) (more-beside n test ms more ts further (omega (arith, same)) none)
+
+times-plain : (ds : List DrawnCommit) → times-in ds ≡ times-of (map (λ (d : Drawn). d.commit) (map plain_drawn ds))
+times-plain [] = refl
+times-plain (d ∷ ds) = ap (λ (ts : List ℕ). d.timestamp ∷ ts) (times-plain ds)
+
+times-same : (q : State) (ds : List DrawnCommit) → q.drawn ≡ map plain_drawn ds → times-in ds ≡ times-of (drawn_of q)
+times-same q ds is = times-plain ds ∙ ap (λ (es : List Drawn). times-of (map (λ (d : Drawn). d.commit) es)) (sym is)
+
+-- what was drawn from a timestamp on is in no record that persists less
+later-none : (r : Record) (next : ℕ) (cs : List Commit) → r.persisted < next → list_all (λ c. nat_le next c.timestamp) cs ≡ true → list_all (λ t. not (is_committed r t)) (times-of cs) ≡ true
+later-none r next [] low all = refl
+later-none r next (c ∷ cs) low all =
+    let both = and_parts (nat_le next c.timestamp) (list_all (λ c. nat_le next c.timestamp) cs) all in
+    and_from (not (is_committed r c.timestamp)) (list_all (λ t. not (is_committed r t)) (times-of cs)) (ap not (uncommitted-above r c.timestamp (omega (arith, low, leb-true next c.timestamp both.0)))) (later-none r next cs low both.1)
 
 -- the cycle is that of the batch in hand after the step too
 module _ (o : Origin) (q q' : State) (step : Step) (reply : Reply) (old new : List DrawnCommit) (kept : Keeps o q) (session : is_no_tick step ≡ true) (stepped : Stepped q step reply q')
-    (drawn : q.drawn ≡ map plain_drawn old) (drawers : (more : List ℕ) × (sessions-in new ≡ sessions-in old ++ more)) where
+    (drawn : q.drawn ≡ map plain_drawn old) (drawn-after : q'.drawn ≡ map plain_drawn new) (drawers : (more : List ℕ) × (sessions-in new ≡ sessions-in old ++ more)) where
   l : LeavesHand q q'
   l = leaves q q' step reply session stepped
 
   hand-stays : (hand : Hand) (cycle : Cycling) → q.hand ≡ Some hand → HoldsHand q old hand cycle → HoldsHand q' new hand cycle
   hand-stays hand cycle in_hand h = record {
-    count = h.count;
-    within = first-within old new drawers.0 drawers.1 h.count h.within;
-    commits = h.commits ∙ sym (ap (take h.count) l.drawn ∙ take-append-le h.count (drawn_of q) l.more le);
-    sessions = λ n. h.sessions n ∙ first-same old new drawers.0 drawers.1 h.count h.within n;
+    sessions = λ n. h.sessions n ∙ sessions-stay n;
     batch = h.batch ∙ ap (λ (r : Record). let b : Batch = record { from = r.gate; stamp = hand.target.gate; persisted = hand.target.persisted; commits = hand.commits } in b) (sym l.ruling);
     layout = h.layout ∙ sym l.layout;
     target = h.target;
@@ -127,8 +158,20 @@ module _ (o : Origin) (q q' : State) (step : Step) (reply : Reply) (old new : Li
     ticks = subst (λ (lines : List ℕ). IsAfter lines hand.ticks cycle) (sym numbers) h.ticks;
   }
     where
-      le : h.count ≤ length (drawn_of q)
-      le = omega (arith, h.within, length-map q.drawn (λ (d : Drawn). d.commit), ap (λ (ds : List Drawn). length ds) drawn, length-map old plain_drawn)
+      none : list_all (λ t. not (is_committed hand.target t)) (times-of l.more) ≡ true
+      none = later-none hand.target q.next l.more (kept.numbers.hand hand in_hand).persisted l.later
+
+      sized : length (sessions-in old) ≡ length (times-of (drawn_of q))
+      sized = length-map old (λ (d : DrawnCommit). d.session) ∙ sym (length-map old (λ (d : DrawnCommit). d.timestamp)) ∙ ap (λ (ts : List ℕ). length ts) (times-same q old drawn)
+
+      sessions-stay : (n : ℕ) → list_any (λ (d : DrawnCommit). nat_eq d.session n && is_committed hand.target d.timestamp) old ≡ list_any (λ (d : DrawnCommit). nat_eq d.session n && is_committed hand.target d.timestamp) new
+      sessions-stay n =
+          beside-is n (is_committed hand.target) old
+          ∙ ap (any-beside n (is_committed hand.target) (sessions-in old)) (times-same q old drawn)
+          ∙ sym (more-beside n (is_committed hand.target) (sessions-in old) drawers.0 (times-of (drawn_of q)) (times-of l.more) sized none)
+          ∙ ap (any-beside n (is_committed hand.target) (sessions-in old ++ drawers.0)) (sym (times-same q' new drawn-after ∙ ap (λ (cs : List Commit). times-of cs) l.drawn ∙ map-append (λ (c : Commit). c.timestamp) (drawn_of q) l.more))
+          ∙ ap (λ (ms : List ℕ). any-beside n (is_committed hand.target) ms (times-in new)) (sym drawers.1)
+          ∙ sym (beside-is n (is_committed hand.target) new)
 
       numbers : line_numbers q' hand.commits ≡ line_numbers q hand.commits
       numbers =
@@ -153,7 +196,7 @@ pub shows-after : (old new : Sessions) (cycle : Option Cycling) (before now : De
     → ShowsIn new cycle now q'
 shows-after old new cycle before now step reply q q' no_tick shows stepped shown drawers = record {
   shown = shown;
-  cycle_is = cycle-stays shows.shown.hidden.origin q q' step reply old.drawn.commits new.drawn.commits shows.shown.upholds.keeps no_tick stepped (shown-drawn old before q shows.shown) drawers cycle shows.cycle_is;
+  cycle_is = cycle-stays shows.shown.hidden.origin q q' step reply old.drawn.commits new.drawn.commits shows.shown.upholds.keeps no_tick stepped (shown-drawn old before q shows.shown) (shown-drawn new now q' shown) drawers cycle shows.cycle_is;
 }
 
 -- ---- a session's step

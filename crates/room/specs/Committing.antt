@@ -1,7 +1,8 @@
 -- Which plain states a committer shows on a device.
-use Rattle.std.specs.Prelude.{◌≡◌, ◌≢◌, ℕ, ◌≤◌, nat_eq, List, length, take, Option, Some, None}
+use Rattle.std.specs.Prelude.{◌≡◌, ◌≢◌, ℕ, ◌&&◌, nat_eq, List, Option, Some, None}
 use Rattle.std.specs.List.{list_any}
-use Rattle.base.specs.Machine.{State, Hand, drawn_of, batch_of}
+use Rattle.base.specs.Machine.{State, Hand, batch_of}
+use Rattle.base.specs.Records.{is_committed}
 use Rattle.pmem.specs.Device.{Device}
 use Rattle.log_area.specs.declared.stage.WritingStage.TheVariants.{Done}
 use Rattle.txn.specs.declared.drawn.DrawnCommit.{DrawnCommit}
@@ -12,13 +13,10 @@ use Rattle.session_steps.specs.Shows.{line_numbers, Shows as SessionsShow}
 use Rattle.session_steps.specs.declared.sessions.Sessions.{Sessions}
 use Rattle.room.specs.declared.committer.Committer.{Committer}
 
--- The cycle is that of the batch in hand, after the ticks that were made for it: the batch is of the first so many drawn
--- commits, the cycle's sessions drew these, and its last operation isn't made
+-- The cycle is that of the batch in hand, after the ticks that were made for it: the cycle's sessions drew the commits that its
+-- record commits, and its last operation isn't made
 pub record HoldsHand (q : State) (drawn : List DrawnCommit) (hand : Hand) (cycle : Cycling) : Type 0 where
-  pub count : ℕ
-  pub within : count ≤ length drawn
-  pub commits : hand.commits ≡ take count (drawn_of q)
-  pub sessions : (n : ℕ) → has cycle.sessions n ≡ list_any (λ d. nat_eq d.session n) (take count drawn)
+  pub sessions : (n : ℕ) → has cycle.sessions n ≡ list_any (λ d. nat_eq d.session n && is_committed hand.target d.timestamp) drawn
   pub batch : cycle.batch ≡ batch_of q hand
   pub layout : cycle.writing.layout ≡ q.layout
   pub target : cycle.writing.target ≡ hand.target

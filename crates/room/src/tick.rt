@@ -6,7 +6,7 @@ use pmem::Pmem;
 use std::alloc::Global;
 
 impl Committer {
-    ghost use Rattle.std.specs.Prelude.{◌≡◌, ◌≢◌, ◌<◌, ◌≤◌, length, Some, None};
+    ghost use Rattle.std.specs.Prelude.{◌≡◌, ◌≢◌, ◌<◌, Some, None};
     ghost use Rattle.base.specs.declared.step.Step.TheVariants.{Commit};
     ghost use Rattle.log_area.specs.declared.stage.WritingStage.TheVariants.{Done};
     ghost use Rattle.base.specs.declared.fault.Fault.{Fault};
@@ -78,14 +78,12 @@ impl Committer {
 
     // The batch is covered: its record rules.
     fn cover(&mut self, covered: Covered) -> Reply
-        requires within { length covered.batch.commits ≤ length self.old.sessions.drawn.commits }
-        requires shown { ∥ MayCoverSome self.old.sessions (length covered.batch.commits) covered.record ∥₁ }
+        requires { ∥ MayCoverSome self.old.sessions covered.record ∥₁ }
         ensures reply { result ≡ Reply.Covered covered.batch }
         ensures cycle { self.new.cycle ≡ self.old.cycle }
-        ensures shows { ShowsCovered self.old.sessions self.new.sessions (length covered.batch.commits) covered.record }
+        ensures shows { ShowsCovered self.old.sessions self.new.sessions covered.record }
     {
-        let count = covered.batch.commits().len();
-        self.sessions.cover(count, covered.record);
+        self.sessions.cover(covered.record);
         Reply::Covered(covered.batch)
     }
 }

@@ -1,9 +1,10 @@
 -- The lines that the dirty table has for the sessions of a batch are those that the batch touches.
-use Rattle.std.proofs.Common.{◌≡◌, ℕ, zero, suc, Bool, true, false, ◌&&◌, ◌||◌, List, [], ◌∷◌, take, map, refl, sym, ◌∙◌, ap, arith}
+use Rattle.std.proofs.Common.{◌≡◌, ℕ, suc, Bool, true, false, ◌&&◌, ◌||◌, List, [], ◌∷◌, map, filter, refl, sym, ◌∙◌, ap, arith}
 use Rattle.std.specs.Prelude.{nat_eq, All}
 use Rattle.std.specs.List.{list_any}
 use Rattle.std.specs.Cmp.{both_ways}
 use Rattle.std.proofs.lemmas.Bool.{eq-eqb, eqb-true}
+use Rattle.std.proofs.lemmas.List.Elements.{All-filter}
 use Rattle.base.specs.Commits.{Commit}
 use Rattle.base.specs.Machine.{State, Drawn as PlainDrawn, drawn_of}
 use Rattle.base.specs.Records.{are_rising}
@@ -14,20 +15,19 @@ use Rattle.cycle_invariant.specs.Batches.{line_numbers, is_line_of}
 use Rattle.txn.specs.declared.drawn.DrawnCommit.{DrawnCommit}
 use Rattle.session_steps.specs.Shows.{plain_drawn, HoldsLines}
 use Rattle.cycle_invariant.proofs.Rising.{lines-are_in_order}
-
-take-map : {X Y : Type 0} (f : X → Y) (n : ℕ) (xs : List X) → take n (map f xs) ≡ map f (take n xs)
-take-map f zero xs = refl
-take-map f (suc n) [] = refl
-take-map f (suc n) (x ∷ xs) = ap (λ ys. f x ∷ ys) (take-map f n xs)
+use Rattle.session_steps.proofs.Filters.{filter-map, any-filter}
 
 map-map : {X Y Z : Type 0} (f : X → Y) (g : Y → Z) (xs : List X) → map g (map f xs) ≡ map (λ x. g (f x)) xs
 map-map f g [] = refl
 map-map f g (x ∷ xs) = ap (λ ys. g (f x) ∷ ys) (map-map f g xs)
 
--- the commits of the first so many of the drawn ones
-pub first-commits : (count : ℕ) (drawn : List DrawnCommit) (q : State) → q.drawn ≡ map plain_drawn drawn → take count (drawn_of q) ≡ map (λ (d : DrawnCommit). (plain_drawn d).commit) (take count drawn)
-first-commits count drawn q is =
-    ap (λ ds. take count (map (λ (d : PlainDrawn). d.commit) ds)) is ∙ ap (take count) (map-map plain_drawn (λ (d : PlainDrawn). d.commit) drawn) ∙ take-map (λ (d : DrawnCommit). (plain_drawn d).commit) count drawn
+-- the commits whose timestamps pass, of the drawn ones
+pub passing-commits : (test : ℕ → Bool) (drawn : List DrawnCommit) (q : State) → q.drawn ≡ map plain_drawn drawn
+    → filter (λ (c : Commit). test c.timestamp) (drawn_of q) ≡ map (λ (d : DrawnCommit). (plain_drawn d).commit) (filter (λ (d : DrawnCommit). test d.timestamp) drawn)
+passing-commits test drawn q is =
+    ap (λ ds. filter (λ (c : Commit). test c.timestamp) (map (λ (d : PlainDrawn). d.commit) ds)) is
+    ∙ ap (filter (λ (c : Commit). test c.timestamp)) (map-map plain_drawn (λ (d : PlainDrawn). d.commit) drawn)
+    ∙ filter-map (λ (d : DrawnCommit). (plain_drawn d).commit) (λ (c : Commit). test c.timestamp) drawn
 
 any-same : {X : Type 0} (p r : X → Bool) (xs : List X) → ((x : X) → p x ≡ r x) → list_any p xs ≡ list_any r xs
 any-same p r [] same = refl
@@ -69,33 +69,37 @@ any-map : {X Y : Type 0} (p : Y → Bool) (f : X → Y) (xs : List X) → list_a
 any-map p f [] = refl
 any-map p f (x ∷ xs) = ap (λ b. p (f x) || b) (any-map p f xs)
 
-any-take : {X : Type 0} (p r : X → Bool) (n : ℕ) (xs : List X) → All (λ x. p x ≡ r x) xs → list_any p (take n xs) ≡ list_any r (take n xs)
-any-take p r zero xs all = refl
-any-take p r (suc n) [] all = refl
-any-take p r (suc n) (x ∷ xs) all =
-    ap (λ b. b || list_any p (take n xs)) (all 0 x (omega arith))
-    ∙ ap (λ b. r x || b) (any-take p r n xs (λ k d lt. all (suc k) d (omega (arith, lt))))
+any-agree : {X : Type 0} (p r : X → Bool) (xs : List X) → All (λ x. p x ≡ r x) xs → list_any p xs ≡ list_any r xs
+any-agree p r [] all = refl
+any-agree p r (x ∷ xs) all =
+    ap (λ b. b || list_any p xs) (all 0 x (omega arith))
+    ∙ ap (λ b. r x || b) (any-agree p r xs (λ k d lt. all (suc k) d (omega (arith, lt))))
 
 nat_eq-swap : (a b : ℕ) → nat_eq a b ≡ nat_eq b a
 nat_eq-swap a b = both_ways (nat_eq a b) (nat_eq b a) (λ e. eq-eqb b a (sym (eqb-true a b e))) (λ e. eq-eqb a b (sym (eqb-true b a e)))
 
-module _ (q : State) (drawn : List DrawnCommit) (dirty : List Touch) (sessions : List Bool) (count : ℕ) (is : q.drawn ≡ map plain_drawn drawn) (holds : HoldsLines q drawn dirty)
-    (of : (n : ℕ) → has sessions n ≡ list_any (λ d. nat_eq d.session n) (take count drawn)) where
+module _ (q : State) (drawn : List DrawnCommit) (dirty : List Touch) (sessions : List Bool) (test : ℕ → Bool) (is : q.drawn ≡ map plain_drawn drawn) (holds : HoldsLines q drawn dirty)
+    (of : (n : ℕ) → has sessions n ≡ list_any (λ d. nat_eq d.session n && test d.timestamp) drawn) where
+  abbrev passing : List DrawnCommit
+  passing = filter (λ (d : DrawnCommit). test d.timestamp) drawn
+
   abbrev commits : List Commit
-  commits = map (λ (d : DrawnCommit). (plain_drawn d).commit) (take count drawn)
+  commits = map (λ (d : DrawnCommit). (plain_drawn d).commit) passing
 
   pub member : (l : ℕ) → list_any (λ x. nat_eq x l) (lines_touched (has sessions) dirty) ≡ list_any (λ x. nat_eq x l) (line_numbers q commits)
   member l =
       lines_touched-any (λ x. nat_eq x l) (has sessions) dirty
-      ∙ any-same (λ (t : Touch). has sessions t.session && nat_eq t.line l) (λ (t : Touch). list_any (λ (d : DrawnCommit). nat_eq t.session d.session) (take count drawn) && nat_eq t.line l) dirty
-      (λ t. ap (λ b. b && nat_eq t.line l) (of t.session ∙ any-same (λ (d : DrawnCommit). nat_eq d.session t.session) (λ (d : DrawnCommit). nat_eq t.session d.session) (take count drawn) (λ d. nat_eq-swap d.session t.session)))
-      ∙ any-swap (λ (d : DrawnCommit) (t : Touch). nat_eq t.session d.session) (λ (t : Touch). nat_eq t.line l) (take count drawn) dirty
-      ∙ any-take (λ (d : DrawnCommit). is_touched dirty d.session l) (λ (d : DrawnCommit). is_line_of l (line_numbers q ((plain_drawn d).commit ∷ []))) count drawn
-      (λ k d lt. holds.own k d lt l)
-      ∙ sym (any-map (λ (c : Commit). is_line_of l (line_numbers q (c ∷ []))) (λ (d : DrawnCommit). (plain_drawn d).commit) (take count drawn))
+      ∙ any-same (λ (t : Touch). has sessions t.session && nat_eq t.line l) (λ (t : Touch). list_any (λ (d : DrawnCommit). nat_eq t.session d.session) passing && nat_eq t.line l) dirty
+      (λ t. ap (λ b. b && nat_eq t.line l)
+      (of t.session ∙ any-filter (λ (d : DrawnCommit). nat_eq d.session t.session) (λ (d : DrawnCommit). test d.timestamp) drawn
+      ∙ any-same (λ (d : DrawnCommit). nat_eq d.session t.session) (λ (d : DrawnCommit). nat_eq t.session d.session) passing (λ d. nat_eq-swap d.session t.session)))
+      ∙ any-swap (λ (d : DrawnCommit) (t : Touch). nat_eq t.session d.session) (λ (t : Touch). nat_eq t.line l) passing dirty
+      ∙ any-agree (λ (d : DrawnCommit). is_touched dirty d.session l) (λ (d : DrawnCommit). is_line_of l (line_numbers q ((plain_drawn d).commit ∷ []))) passing
+      (λ k d lt. All-filter (λ (d : DrawnCommit). test d.timestamp) (λ (d : DrawnCommit). (line : ℕ) → is_touched dirty d.session line ≡ list_any (λ l. nat_eq l line) (line_numbers q ((plain_drawn d).commit ∷ []))) drawn holds.own k d lt l)
+      ∙ sym (any-map (λ (c : Commit). is_line_of l (line_numbers q (c ∷ []))) (λ (d : DrawnCommit). (plain_drawn d).commit) passing)
       ∙ sym (lines-are_in_order.each q commits l)
 
-  pub table-lines : are_rising (lines_touched (has sessions) dirty) ≡ true → lines_touched (has sessions) dirty ≡ line_numbers q (take count (drawn_of q))
+  pub table-lines : are_rising (lines_touched (has sessions) dirty) ≡ true → lines_touched (has sessions) dirty ≡ line_numbers q (filter (λ (c : Commit). test c.timestamp) (drawn_of q))
   table-lines rising =
       lines-are_in_order.one (lines_touched (has sessions) dirty) (line_numbers q commits) rising (lines-are_in_order.rising q commits) member
-      ∙ ap (line_numbers q) (sym (first-commits count drawn q is))
+      ∙ ap (line_numbers q) (sym (passing-commits test drawn q is))

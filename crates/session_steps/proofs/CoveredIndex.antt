@@ -1,5 +1,5 @@
 -- What the index has of a key once commits are covered.
-use Rattle.std.proofs.Common.{◌≡◌, ◌⊎◌, inl, inr, ℕ, zero, suc, ◌<◌, Bool, true, false, ◌||◌, cond, List, [], ◌∷◌, length, map, take, refl, ◌∙◌, ap, subst, arith}
+use Rattle.std.proofs.Common.{◌≡◌, ◌⊎◌, inl, inr, ℕ, zero, suc, ◌<◌, Bool, true, false, ◌||◌, cond, List, [], ◌∷◌, length, map, refl, ◌∙◌, ap, subst, arith}
 use Rattle.std.specs.Prelude.{Option, Some, None, is_some, slice_index_or, All}
 use Rattle.std.specs.List.{list_any}
 use Rattle.base.specs.declared.key.Key.{Key}
@@ -47,11 +47,10 @@ written-plain key (w ∷ writes) = by (key_eq w.key key) (written-plain key writ
     by true rest = refl
     by false rest = rest
 
--- one of the first so many commits writes the key
-pub written-first : (key : Key) (n : ℕ) (ds : List DrawnCommit) → list_any (writes_key key) (take n (map (λ (d : PlainDrawn). d.commit) (map plain_drawn ds))) ≡ list_any (λ (d : DrawnCommit). has_key key d.writes) (take n ds)
-written-first key zero ds = refl
-written-first key (suc n) [] = refl
-written-first key (suc n) (d ∷ ds) = λ i. written-plain key d.writes i || written-first key n ds i
+-- one of the commits writes the key
+pub written-commits : (key : Key) (ds : List DrawnCommit) → list_any (writes_key key) (map (λ (d : PlainDrawn). d.commit) (map plain_drawn ds)) ≡ list_any (λ (d : DrawnCommit). has_key key d.writes) ds
+written-commits key [] = refl
+written-commits key (d ∷ ds) = λ i. written-plain key d.writes i || written-commits key ds i
 
 -- ---- the entry
 

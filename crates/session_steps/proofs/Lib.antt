@@ -14,6 +14,7 @@ pub mod Lines
 pub mod Drawing
 pub mod Draws
 pub mod Freeing
+pub mod Filters
 pub mod CoveredIndex
 pub mod CoveredBatch
 pub mod OpenedIndex

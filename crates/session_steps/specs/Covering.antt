@@ -1,9 +1,9 @@
--- What covers the first drawn commits.
-use Rattle.std.specs.Prelude.{◌≡◌, ℕ, true, List, take, ◌++◌, fold, if◌then◌else◌, None, Some, All}
+-- What covers the drawn commits that a record commits.
+use Rattle.std.specs.Prelude.{◌≡◌, true, not, List, filter, ◌++◌, fold, if◌then◌else◌, None, Some, All}
 use Rattle.base.specs.declared.key.Key.{Key}
 use Rattle.base.specs.Keys.{key_eq}
-use Rattle.base.specs.Records.{Record}
-use Rattle.base.specs.Machine.{State, Hand, drawn_of, state_covered}
+use Rattle.base.specs.Records.{Record, is_committed}
+use Rattle.base.specs.Machine.{State, Hand, state_covered}
 use Rattle.pmem.specs.Device.{Device}
 use Rattle.txn.specs.declared.drawn.DrawnCommit.{DrawnCommit}
 use Rattle.txn.specs.declared.write.Write.{Write}
@@ -44,21 +44,28 @@ pub record CoversCommits (commits : List DrawnCommit) (old new : List (Key × En
 
 -- ---- a batch
 
--- the batch in hand is of the first so many drawn commits, and this record is to cover it
-pub record IsOfFirst (q : State) (hand : Hand) (count : ℕ) (ruling : Record) : Type 0 where
+-- those of the drawn commits that the record commits
+abbrev pub committed_by : Record → List DrawnCommit → List DrawnCommit
+committed_by ruling drawn = filter (λ d. is_committed ruling d.timestamp) drawn
+
+-- and the others
+abbrev pub left_by : Record → List DrawnCommit → List DrawnCommit
+left_by ruling drawn = filter (λ d. not (is_committed ruling d.timestamp)) drawn
+
+-- the batch is in hand, and this record is to cover it
+pub record IsOf (q : State) (hand : Hand) (ruling : Record) : Type 0 where
   pub in_hand : q.hand ≡ Some hand
-  pub first : hand.commits ≡ take count (drawn_of q)
   pub target : hand.target ≡ ruling
 
 -- what holds before it is covered, whatever is hidden
-pub record MayCover (s : Sessions) (count : ℕ) (ruling : Record) (h : Hidden) (hand : Hand) : Type 0 where
+pub record MayCover (s : Sessions) (ruling : Record) (h : Hidden) (hand : Hand) : Type 0 where
   pub keeps : Keeps h.origin (plain_of s h)
   pub agrees : Agrees s h.origin h.seen (plain_of s h)
-  pub batch : IsOfFirst (plain_of s h) hand count ruling
+  pub batch : IsOf (plain_of s h) hand ruling
 
 -- something is hidden of which that holds
-abbrev pub MayCoverSome : Sessions → ℕ → Record → Type 0
-MayCoverSome s count ruling = (h : Hidden) × (hand : Hand) × MayCover s count ruling h hand
+abbrev pub MayCoverSome : Sessions → Record → Type 0
+MayCoverSome s ruling = (h : Hidden) × (hand : Hand) × MayCover s ruling h hand
 
 -- what is hidden once the batch is covered
 abbrev pub hidden_covered : Hidden → Hand → Hidden
@@ -70,11 +77,11 @@ pub record HasCovered (old new : Sessions) (h : Hidden) (hand : Hand) : Type 0 w
   pub agrees : Agrees new h.origin h.seen (plain_of new (hidden_covered h hand))
 
 -- so they do whatever is hidden
-abbrev pub Covers : Sessions → Sessions → ℕ → Record → Type 0
-Covers old new count ruling = (h : Hidden) (hand : Hand) → MayCover old count ruling h hand → HasCovered old new h hand
+abbrev pub Covers : Sessions → Sessions → Record → Type 0
+Covers old new ruling = (h : Hidden) (hand : Hand) → MayCover old ruling h hand → HasCovered old new h hand
 
 -- whatever state they showed, they show the one in which the batch is covered, on a device that upholds it
-abbrev pub ShowsCovered : Sessions → Sessions → ℕ → Record → Type 0
-ShowsCovered old new count ruling =
-    (before now : Device) (q : State) (hand : Hand) (shown : Shows old before q) → IsOfFirst q hand count ruling → Upholds shown.hidden.origin (state_covered q hand) now
+abbrev pub ShowsCovered : Sessions → Sessions → Record → Type 0
+ShowsCovered old new ruling =
+    (before now : Device) (q : State) (hand : Hand) (shown : Shows old before q) → IsOf q hand ruling → Upholds shown.hidden.origin (state_covered q hand) now
     → Shows new now (state_covered q hand)

@@ -1,6 +1,6 @@
 -- What follows for whoever lends the sessions to a committer. Each law stands here in words that need no proof, and a public
 -- function promises it.
-use Rattle.std.specs.Prelude.{◌≡◌, ℕ, Bool, nat_eq, List, map, take, Option, IsTrue}
+use Rattle.std.specs.Prelude.{◌≡◌, ℕ, Bool, ◌&&◌, nat_eq, List, map, filter, Option, IsTrue}
 use Rattle.std.specs.List.{list_any}
 use Rattle.base.specs.Machine.{State, Hand, drawn_of}
 use Rattle.base.specs.Records.{are_rising}
@@ -17,8 +17,9 @@ pub record ShowsAnyHand : Type 0 where
   pub hand : (s : Sessions) (before now : Device) (q : State) (hand : Option Hand) (shown : Shows s before q) → Upholds shown.hidden.origin (record q { hand = hand }) now → Shows s now (record q { hand = hand })
   pub failed : (s : Sessions) (before now : Device) (q : State) (failed : Bool) (shown : Shows s before q) → Upholds shown.hidden.origin (record q { failed = failed }) now → Shows s now (record q { failed = failed })
 
--- the lines that the dirty table has for the sessions of the first so many drawn commits are those that these touch
+-- the lines that the dirty table has for the sessions of those drawn commits whose timestamps pass a test are those that these
+-- touch
 abbrev pub TableHasLines : Type 0
 TableHasLines =
-    (q : State) (drawn : List DrawnCommit) (dirty : List Touch) (sessions : List Bool) (count : ℕ) → q.drawn ≡ map plain_drawn drawn → HoldsLines q drawn dirty → IsTrue (are_rising (lines_touched (has sessions) dirty))
-    → ((n : ℕ) → has sessions n ≡ list_any (λ d. nat_eq d.session n) (take count drawn)) → lines_touched (has sessions) dirty ≡ line_numbers q (take count (drawn_of q))
+    (q : State) (drawn : List DrawnCommit) (dirty : List Touch) (sessions : List Bool) (test : ℕ → Bool) → q.drawn ≡ map plain_drawn drawn → HoldsLines q drawn dirty → IsTrue (are_rising (lines_touched (has sessions) dirty))
+    → ((n : ℕ) → has sessions n ≡ list_any (λ d. nat_eq d.session n && test d.timestamp) drawn) → lines_touched (has sessions) dirty ≡ line_numbers q (filter (λ commit. test commit.timestamp) (drawn_of q))

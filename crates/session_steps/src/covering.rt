@@ -1,8 +1,8 @@
-ghost use Rattle.std.specs.Prelude.{◌≡◌, ◌≤◌, ◌<◌, ℕ, IsTrue, All, length};
+ghost use Rattle.std.specs.Prelude.{◌≡◌, ◌<◌, ℕ, IsTrue, All};
 ghost use Rattle.txn.specs.DrawnCommits.{are_numbered};
 ghost use Rattle.dirty_table.specs.Touches.{has};
 ghost use Rattle.session_steps.specs.Shows.{has_drawn_by};
-ghost use Rattle.session_steps.specs.Covering.{HasRoom, CoversWrites, CoversCommits};
+ghost use Rattle.session_steps.specs.Covering.{HasRoom, CoversWrites, CoversCommits, committed_by};
 
 use crate::sessions::Sessions;
 use dirty_table::SessionSet;
@@ -20,45 +20,47 @@ fn cover_writes(index: &mut Index, writes: &WriteSet)
     }
 }
 
-// Covers the versions that these commits write.
-fn cover_commits(index: &mut Index, commits: &[DrawnCommit])
+// Covers the versions of those of the commits that the record commits.
+fn cover_commits(index: &mut Index, commits: &[DrawnCommit], ruling: Record)
     requires { All (λ d. HasRoom index.old d.writes) commits.now }
-    ensures { CoversCommits commits.now index.old index.new }
+    ensures { CoversCommits (committed_by ruling commits.now) index.old index.new }
 {
     for commit in commits {
-        cover_writes(index, &commit.writes);
+        if ruling.commits(commit.timestamp) {
+            cover_writes(index, &commit.writes);
+        }
     }
 }
 
-// The numbers of the sessions that drew these commits.
-fn sessions_of(commits: &[DrawnCommit]) -> SessionSet
+// The numbers of the sessions that drew those of the commits that the record commits.
+fn sessions_of(commits: &[DrawnCommit], ruling: Record) -> SessionSet
     requires { IsTrue (are_numbered commits.now) }
-    ensures { (n : ℕ) → has result n ≡ has_drawn_by commits.now n }
+    ensures { (n : ℕ) → has result n ≡ has_drawn_by (committed_by ruling commits.now) n }
 {
     let mut sessions = SessionSet::none();
     for commit in commits {
-        sessions.insert(commit.session);
+        if ruling.commits(commit.timestamp) {
+            sessions.insert(commit.session);
+        }
     }
     sessions
 }
 
 impl Sessions {
-    ghost use Rattle.std.specs.Prelude.{drop};
-    ghost use Rattle.session_steps.specs.Covering.{MayCoverSome, Covers, ShowsCovered};
+    ghost use Rattle.session_steps.specs.Covering.{left_by, MayCoverSome, Covers, ShowsCovered};
 
-    /// Covers the first so many drawn commits under the record that rules from now on. It takes no memory.
-    pub fn cover(&mut self, count: usize, ruling: Record)
-        requires within { count ≤ length self.old.drawn.commits }
-        requires batch { ∥ MayCoverSome self.old count ruling ∥₁ }
-        ensures drawn { self.new.drawn.commits ≡ drop count self.old.drawn.commits }
-        ensures covers { Covers self.old self.new count ruling }
-        ensures shows { ShowsCovered self.old self.new count ruling }
+    /// Covers the drawn commits that the record commits, which rules from now on. It takes no memory.
+    pub fn cover(&mut self, ruling: Record)
+        requires { ∥ MayCoverSome self.old ruling ∥₁ }
+        ensures drawn { self.new.drawn.commits ≡ left_by ruling self.old.drawn.commits }
+        ensures covers { Covers self.old self.new ruling }
+        ensures shows { ShowsCovered self.old self.new ruling }
     {
-        let commits = &self.drawn.as_slice()[..count];
-        let sessions = sessions_of(commits);
-        cover_commits(&mut self.index, commits);
+        let commits = self.drawn.as_slice();
+        let sessions = sessions_of(commits, ruling);
+        cover_commits(&mut self.index, commits, ruling);
         self.dirty.forget(&sessions);
-        self.drawn.cover(count);
         self.numbers.record = ruling;
+        self.drawn.cover(&self.numbers.snapshot());
     }
 }

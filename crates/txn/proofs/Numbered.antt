@@ -1,5 +1,5 @@
 -- The numbers of the sessions whose commits are drawn stay below 64.
-use Rattle.std.proofs.Common.{◌≡◌, ℕ, zero, suc, ◌+◌, Bool, true, false, cond, ◌&&◌, List, [], ◌∷◌, take, drop, map, refl, nat_eq, nat_lt, length}
+use Rattle.std.proofs.Common.{◌≡◌, ℕ, zero, suc, ◌+◌, Bool, true, false, cond, ◌&&◌, List, [], ◌∷◌, take, drop, map, filter, refl, nat_eq, nat_lt, length}
 use Rattle.std.specs.List.{list_all}
 use Rattle.std.proofs.lemmas.Bool.{and_parts, and_from}
 use Rattle.txn.specs.declared.drawn.DrawnCommit.{DrawnCommit}
@@ -27,3 +27,15 @@ numbered-stamped t (d ∷ ds) all =
     by : (b : Bool) → nat_lt d.session 64 ≡ true → nat_lt (let e : DrawnCommit = cond b (record d { stamped = d.stamped + 1 }) d in e.session) 64 ≡ true
     by true is = is
     by false is = is
+
+-- what all have, those that pass a test have
+pub all-filter : {X : Type 0} (p r : X → Bool) (xs : List X) → list_all p xs ≡ true → list_all p (filter r xs) ≡ true
+all-filter p r [] all = refl
+all-filter p r (x ∷ xs) all = by (r x) (all-filter p r xs both.1)
+  where
+    both : (p x ≡ true) × (list_all p xs ≡ true)
+    both = and_parts (p x) (list_all p xs) all
+
+    by : (b : Bool) → list_all p (filter r xs) ≡ true → list_all p (cond b (x ∷ filter r xs) (filter r xs)) ≡ true
+    by true rest = and_from (p x) (list_all p (filter r xs)) both.0 rest
+    by false rest = rest

@@ -4,6 +4,7 @@ ghost use Rattle.txn.specs.DrawnCommits.{with_stamp};
 use crate::write_set::WriteSet;
 use base::Ts;
 use base::fault::Fault;
+use snapshot::Snapshot;
 use std::alloc::Global;
 use std::marker::Model;
 
@@ -57,8 +58,9 @@ impl Model for DrawnCommits {
 }
 
 impl DrawnCommits {
-    ghost use Rattle.std.specs.Prelude.{◌≤◌, ◌<◌, ◌++◌, [], ◌∷◌, length, drop, option_copied, IfErr, IsTrue, OnOk, OnErr};
+    ghost use Rattle.std.specs.Prelude.{◌≤◌, ◌<◌, ◌++◌, [], ◌∷◌, not, filter, length, option_copied, IfErr, IsTrue, OnOk, OnErr};
     ghost use Rattle.base.specs.declared.fault.Fault.TheVariants.{OutOfMemory};
+    ghost use Rattle.snapshot.specs.Snapshots.{covers};
     ghost use Rattle.txn.specs.DrawnCommits.{are_numbered, drawn_at, stamped_run};
 
     /// None is drawn.
@@ -117,12 +119,12 @@ impl DrawnCommits {
         stamp_each(self.commits.as_mut_slice(), timestamp);
     }
 
-    /// The first so many are covered: they are drawn no more.
-    pub fn cover(&mut self, count: usize)
-        requires { count ≤ length self.old.commits }
-        ensures { self.new.commits ≡ drop count self.old.commits }
+    /// The commits that the snapshot covers are drawn no more. The others keep their order.
+    pub fn cover(&mut self, snapshot: &Snapshot)
+        ensures { self.new.commits ≡ filter (λ d. not (covers snapshot.now d.timestamp)) self.old.commits }
     {
-        drop(self.commits.drain(..count));
+        self.commits
+            .retain(|commit| !snapshot.covers(commit.timestamp));
     }
 
     /// How many commits, from the first on, have all their writes stamped.
@@ -152,6 +154,7 @@ mod tests {
     use super::*;
     use crate::write::Write;
     use base::key::Key;
+    use gap_list::GapList;
     use std::test::Fail;
 
     #[test]
@@ -178,7 +181,7 @@ mod tests {
         drawn.stamp(8);
         assert_eq!(rt; drawn.run(), 2);
         assert!(rt; drawn.as_slice()[0].is_stamped());
-        drawn.cover(1);
+        drawn.cover(&Snapshot::new(8, GapList::none()));
         assert!(rt; drawn.get(8).is_none());
         assert!(rt; drawn.get(9).is_some());
         assert_eq!(rt; drawn.run(), 1);

@@ -2,4 +2,4 @@ use Rattle.session_steps.proofs.BatchLines.{table-lines}
 use Rattle.session_steps.proofs.law.table_has_the_lines_of_a_batch.Goals as goal
 
 pub returns : goal.returns
-returns c = λ q drawn dirty sessions count is holds rising of. table-lines q drawn dirty sessions count is holds of rising
+returns c = λ q drawn dirty sessions test is holds rising of. table-lines q drawn dirty sessions test is holds of rising

@@ -7,7 +7,7 @@ use Rattle.pmem.specs.Trace.{applied}
 use Rattle.dirty_table.specs.declared.touches.Touch.{Touch}
 use Rattle.dirty_table.specs.Touches.{has, lines_touched}
 use Rattle.group_commit.specs.Cycles.{line_from, operation_in, reached_in, ticked_in}
-use Rattle.room.proofs.Advancing.{unfinished, sized, line-fits, goes-on, comes-closer, all-drawn, may-cover, covers, fails-on}
+use Rattle.room.proofs.Advancing.{unfinished, sized, line-fits, goes-on, comes-closer, may-cover, covers, fails-on}
 use Rattle.room.proofs.committer.Committer.advance.Goals as goal
 
 pub tick-requires-clause-unfinished : goal.tick-requires-clause-unfinished
@@ -33,15 +33,8 @@ returns-in-Ok-Some-clause-closer g c = λ un. ∥∥₁_elim c.requires.shown le
     (g.D.Pmem.state c.tick.new.device) (g.met.D.Pmem.orderly _) some.2 (c.in-Ok-Some.ensures.operation ∙ λ i. applied (operation_in (lines_touched (has c.args.cycle.sessions) (c.dirty.ensures i)) c.args.cycle) (g.D.Pmem.state c.args.device.now))
     c.in-Ok-Some.stage (sym c.in-Ok-Some.field-0-is ∙ c.in-Ok-Some.ensures.reached ∙ λ i. reached_in (lines_touched (has c.args.cycle.sessions) (c.dirty.ensures i)) c.args.cycle) c.tick.new.self (c.in-Ok-Some.ensures.ok ∙ λ i. ticked_in (lines_touched (has c.args.cycle.sessions) (c.dirty.ensures i)) c.args.cycle))
 
-pub cover-requires-clause-within : goal.cover-requires-clause-within
-cover-requires-clause-within g c = ∥∥₁_elim c.requires.shown le_prop (λ some.
-    all-drawn c.args.self.now.sessions c.args.cycle (g.D.Pmem.state c.args.device.now) (g.met.D.Pmem.orderly _) some.0 some.1
-    (λ done from is. subst (λ (t : List Touch). are_rising (lines_touched (has c.args.cycle.sessions) t) ≡ true) c.dirty.ensures (c.tick.ensures.rising done from is))
-    (g.D.Pmem.state c.tick.new.device) (g.met.D.Pmem.orderly _) some.2 (c.in-Ok-None.ensures.operation ∙ λ i. applied (operation_in (lines_touched (has c.args.cycle.sessions) (c.dirty.ensures i)) c.args.cycle) (g.D.Pmem.state c.args.device.now))
-    (sym c.in-Ok-None.field-0-is ∙ c.in-Ok-None.ensures.reached ∙ λ i. reached_in (lines_touched (has c.args.cycle.sessions) (c.dirty.ensures i)) c.args.cycle) c.tick.new.self (c.in-Ok-None.ensures.ok ∙ λ i. ticked_in (lines_touched (has c.args.cycle.sessions) (c.dirty.ensures i)) c.args.cycle) c.finish.result.batch c.finish.result.record c.finish.ensures.batch c.finish.ensures.record)
-
-pub cover-requires-clause-shown : goal.cover-requires-clause-shown
-cover-requires-clause-shown g c = ∥∥₁_map c.requires.shown (λ some.
+pub cover-requires : goal.cover-requires
+cover-requires g c = ∥∥₁_map c.requires.shown (λ some.
     may-cover c.args.self.now.sessions c.args.cycle (g.D.Pmem.state c.args.device.now) (g.met.D.Pmem.orderly _) some.0 some.1
     (λ done from is. subst (λ (t : List Touch). are_rising (lines_touched (has c.args.cycle.sessions) t) ≡ true) c.dirty.ensures (c.tick.ensures.rising done from is))
     (g.D.Pmem.state c.tick.new.device) (g.met.D.Pmem.orderly _) some.2 (c.in-Ok-None.ensures.operation ∙ λ i. applied (operation_in (lines_touched (has c.args.cycle.sessions) (c.dirty.ensures i)) c.args.cycle) (g.D.Pmem.state c.args.device.now))
