@@ -2,7 +2,7 @@ pub mod Stages
 pub mod Counting
 pub mod Lines
 pub mod Ticks
-pub mod Runs
+pub mod Passes
 pub mod Covers
 pub mod Lasts
 pub mod Closings

@@ -1,33 +1,11 @@
--- Which commits a batch takes, and which lines they touch.
-use Rattle.std.specs.Prelude.{◌≡◌, ℕ, ◌+◌, Bool, nat_eq, List, [], map, take_while, fold, IsTrue, Some}
+-- Which lines the commits of a batch touch, and how far its record reaches.
+use Rattle.std.specs.Prelude.{◌≡◌, ℕ, ◌+◌, max, Bool, nat_eq, nat_le, if◌then◌else◌, List, [], ◌∷◌, map, IsTrue, Some}
 use Rattle.std.specs.List.{list_any}
 use Rattle.base.specs.Commits.{Commit}
-use Rattle.base.specs.Records.{Record, are_rising}
-use Rattle.base.specs.Machine.{State, Drawn, drawn_at, is_stamped, standing_gaps}
+use Rattle.base.specs.Records.{are_rising}
+use Rattle.base.specs.Machine.{State, Drawn, drawn_at, is_stamped}
 use Rattle.state_invariant.specs.Kept.{commit_at}
 use Rattle.device_invariant.specs.Log.{lines_in, line_number}
-
--- the drawn commits from the first on that are stamped whole
-abbrev pub stamped_run : State → List Drawn
-stamped_run q = take_while is_stamped q.drawn
-
--- their commits
-abbrev pub run_of : State → List Commit
-run_of q = map (λ d. d.commit) (stamped_run q)
-
--- the timestamp of the last of the commits, or this one where there is none
-abbrev pub last_timestamp : ℕ → List Commit → ℕ
-last_timestamp before commits = fold (λ last commit. commit.timestamp) before commits
-
--- the record that covers the run: it persists up to the last commit of it, and reserves a window
-abbrev pub record_of_run : State → Record
-record_of_run q = record {
-  gate = q.ruling.gate + 1;
-  persisted = last_timestamp q.ruling.persisted (run_of q);
-  dirty = q.next + q.layout.window;
-  gaps = standing_gaps q;
-  longs = [];
-}
 
 -- the commits are drawn, and rise
 pub record AreDrawn (q : State) (commits : List Commit) : Type 0 where
@@ -41,3 +19,10 @@ line_numbers q commits = map (line_number q.layout) (lines_in q commits)
 -- the line is one of these
 abbrev pub is_line_of : ℕ → List ℕ → Bool
 is_line_of line lines = list_any (λ l. nat_eq l line) lines
+
+-- one pass over drawn commits by rising timestamp: so far this is reached, and so many aren't stamped
+abbrev pub reach_from : ℕ → ℕ → ℕ → List Drawn → ℕ
+reach_from most reached unstamped [] = reached
+reach_from most reached unstamped (d ∷ drawn) =
+    if is_stamped d then reach_from most (if nat_le unstamped most then max reached d.commit.timestamp else reached) unstamped drawn
+    else reach_from most reached (unstamped + 1) drawn

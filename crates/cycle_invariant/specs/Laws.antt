@@ -12,9 +12,10 @@ use Rattle.base.specs.declared.step.Reply.TheVariants.{Idle, Ticked, Covered, Re
 use Rattle.base.specs.Commits.{Commit}
 use Rattle.base.specs.Images.{Image}
 use Rattle.base.specs.Laws.{is_no_tick}
+use Rattle.base.specs.Layout.{most_longs}
 use Rattle.base.specs.Records.{are_rising}
 use Rattle.base.specs.Actors.{committer}
-use Rattle.base.specs.Machine.{State, Hand, Stepped, refusal, chosen, is_nil, drawn_of, has_other_reason_to_write, is_idle, target_of, taken_in_hand, batch_of, lines_of, state_covered, closing_gate, next_state, StandsWithin, StandsClosing, StandsClosed}
+use Rattle.base.specs.Machine.{State, Hand, Stepped, refusal, reach, drawn_of, is_idle, taken_in_hand, batch_of, lines_of, state_covered, closing_gate, next_state, StandsWithin, StandsClosing, StandsClosed}
 use Rattle.pmem.specs.Device.{Device, IsOrderly, MayLeave, flushed, fenced, failed}
 use Rattle.pmem.specs.Words.{LeavesOnly, Spares}
 use Rattle.pmem.specs.Trace.{applied}
@@ -28,22 +29,16 @@ use Rattle.device_invariant.specs.Log.{Line, lines_in, line_number, writing_at}
 use Rattle.device_invariant.specs.Laws.{one_tick_on}
 use Rattle.device_invariant.specs.Upholds.{Upholds}
 use Rattle.cycle_invariant.specs.Leads.{Ticks, FailsTick}
-use Rattle.cycle_invariant.specs.Batches.{run_of, record_of_run, AreDrawn, line_numbers, is_line_of}
+use Rattle.cycle_invariant.specs.Batches.{reach_from, AreDrawn, line_numbers, is_line_of}
 use Rattle.cycle_invariant.specs.Closing.{closing_record, IsClosing, AreFlushed, HasPersisted, IsClosingOn, ClosesAs}
 
 -- ---- the batch
 
--- With no limit of the first stages the batch is the longest run, from the first drawn commit on, of commits that are
--- stamped whole; no long commit is passed over
-pub record ChoosesRun (q : State) : Type 0 where
-  pub commits : chosen q ≡ run_of q
-  pub record_is : target_of q ≡ record_of_run q
-  pub idle : is_idle q ≡ (is_nil (run_of q) && not (has_other_reason_to_write q))
-
--- it keeps what a batch in hand is to keep
-pub record RunsAreChosen : Type 0 where
-  pub run : (o : Origin) (q : State) → Keeps o q → ChoosesRun q
+-- The batch that is chosen keeps what a batch in hand is to keep, and one pass over what is drawn finds how far its record
+-- reaches
+pub record BatchesAreChosen : Type 0 where
   pub keeps : (o : Origin) (q : State) → Keeps o q → KeepsHand q (taken_in_hand q)
+  pub reaches : (o : Origin) (q : State) → Keeps o q → reach q ≡ reach_from (most_longs q.layout.version) q.ruling.persisted 0 q.drawn
 
 -- commits that are drawn touch as many lines as the machine counts
 pub record LinesAreCounted : Type 0 where

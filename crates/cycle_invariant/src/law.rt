@@ -1,9 +1,8 @@
-ghost use Rattle.cycle_invariant.specs.Laws.{RunsAreChosen, LinesAreCounted, LinesRise, LinesStay, IdleTicks, ChoosingTicks, RefusedTicks, LineTicks, FenceTicks, OperationTicks, CoveringTicks, FailingTicks, ClosingFlushes, ClosingWrites, ClosesOn};
+ghost use Rattle.cycle_invariant.specs.Laws.{BatchesAreChosen, LinesAreCounted, LinesRise, LinesStay, IdleTicks, ChoosingTicks, RefusedTicks, LineTicks, FenceTicks, OperationTicks, CoveringTicks, FailingTicks, ClosingFlushes, ClosingWrites, ClosesOn};
 
-/// The batch that is chosen is the longest run of drawn commits, from the first on, that are stamped whole, and it keeps
-/// what a batch in hand is to keep.
-pub fn runs_are_chosen()
-    ensures { RunsAreChosen }
+/// The batch that is chosen keeps what a batch in hand is to keep, and one pass finds how far its record reaches.
+pub fn batches_are_chosen()
+    ensures { BatchesAreChosen }
 {}
 
 /// Drawn commits touch as many lines as the machine counts for them.

@@ -1,9 +1,9 @@
-ghost use Rattle.std.specs.Prelude.{◌≡◌, ◌+◌, ◌-◌, ◌*◌, ◌^◌, ◌<◌, ◌≤◌, ◌&&◌, ◌||◌, not, nat_eq, nat_lt, take, map, IsTrue, IfOk, ℕ, length};
+ghost use Rattle.std.specs.Prelude.{◌≡◌, ◌+◌, ◌-◌, ◌*◌, ◌^◌, ◌<◌, ◌≤◌, ◌&&◌, ◌||◌, not, nat_eq, nat_lt, map, IsTrue, IfOk, ℕ, length};
 ghost use Rattle.std.specs.List.{list_any};
 ghost use Rattle.base.specs.Records.{is_committed};
 ghost use Rattle.dirty_table.specs.Touches.{has};
 ghost use Rattle.txn.specs.DrawnCommits.{are_numbered};
-ghost use Rattle.group_commit.specs.Choosing.{run, commit_of, last_timestamp, standing_gaps, record_of_run, closing_record, batch_of_run, is_idle};
+ghost use Rattle.group_commit.specs.Choosing.{commit_of, reach_of, is_chosen, chosen, standing_gaps, record_of, closing_record, batch_of, is_idle};
 
 use base::batch::{Batch, Commit};
 use base::gap::Gaps;
@@ -14,8 +14,11 @@ use log_area::Record;
 use std::alloc::{AllocError, Global};
 use txn::{DrawnCommit, DrawnCommits};
 
-/// Whether the committer has nothing to do: no run of stamped commits is drawn, half a window of timestamps is reserved, and
-/// no swept gap stands.
+// How many commits a record may pass over: it names no long commit.
+const MOST_PASSED: usize = 0;
+
+/// Whether the committer has nothing to do: no commit is chosen, half a window of timestamps is reserved, and no swept gap
+/// stands.
 pub fn is_idle(
     geometry: Geometry,
     ruling: Record,
@@ -29,7 +32,29 @@ pub fn is_idle(
     let reserved = ruling.dirty().saturating_sub(next);
     let window_is_short = reserved < (geometry.window() + 1) / 2;
     let has_swept_gaps = swept && !ruling.gaps().as_slice().is_empty();
-    drawn.run() == 0 && !(window_is_short || has_swept_gaps)
+    let reach = reach_of(ruling, drawn);
+    !has_chosen(reach, drawn.as_slice()) && !(window_is_short || has_swept_gaps)
+}
+
+/// Up to which timestamp the next record reaches.
+pub(crate) fn reach_of(ruling: Record, drawn: &DrawnCommits) -> Ts
+    ensures { result ≡ reach_of ruling drawn.now.commits }
+{
+    drawn.reach(ruling.persisted(), MOST_PASSED)
+}
+
+// Whether a record that reaches up to there covers the commit.
+fn is_chosen(reach: Ts, commit: &DrawnCommit) -> bool
+    ensures { result ≡ is_chosen reach commit.now }
+{
+    commit.is_stamped() && commit.timestamp <= reach
+}
+
+// Whether it covers one of these.
+fn has_chosen(reach: Ts, drawn: &[DrawnCommit]) -> bool
+    ensures { result ≡ list_any (is_chosen reach) drawn.now }
+{
+    drawn.iter().any(|commit| is_chosen(reach, commit))
 }
 
 /// Whether a record may follow this one: its number is in range.
@@ -40,22 +65,21 @@ pub(crate) fn is_numbered(ruling: Record) -> bool
     ruling.gate() + 1 < NUMBER_LIMIT
 }
 
-/// The record that covers these commits.
-pub(crate) fn record_of_run(
+/// The record that reaches up to this timestamp.
+pub(crate) fn record_of(
     geometry: Geometry,
     ruling: Record,
     next: Ts,
     swept: bool,
-    run: &[DrawnCommit],
+    reach: Ts,
 ) -> Record
     requires numbered { ruling.gate < 2 ^ 62 }
     requires countable { next ≤ 2 ^ 62 }
-    ensures { result ≡ record_of_run geometry ruling next swept run.now }
+    ensures { result ≡ record_of geometry ruling next swept reach }
 {
-    let persisted = last_timestamp(ruling.persisted(), run);
     let dirty = next + geometry.window();
     let gaps = standing_gaps(ruling, swept);
-    Record::new(ruling.gate() + 1, persisted, dirty, gaps)
+    Record::new(ruling.gate() + 1, reach, dirty, gaps)
 }
 
 /// The record that a close writes last: it persists all that is drawn, and reserves no timestamp.
@@ -74,33 +98,29 @@ fn standing_gaps(ruling: Record, swept: bool) -> Gaps
     if swept { Gaps::none() } else { ruling.gaps() }
 }
 
-// The timestamp of the last of the commits, or the one before where there is none.
-fn last_timestamp(before: Ts, run: &[DrawnCommit]) -> Ts
-    ensures { result ≡ last_timestamp before run.now }
-{
-    run.iter().fold(before, |_, commit| commit.timestamp)
-}
-
-/// The batch of these commits, under the record after the one that rules. Its memory is taken here.
-pub(crate) fn batch_of_run(
+/// The batch of those of the drawn commits that the record covers, under the one after which it comes. Its memory is taken
+/// here.
+pub(crate) fn batch_of(
     alloc: Global,
     ruling: Record,
     target: Record,
-    run: &[DrawnCommit],
+    drawn: &[DrawnCommit],
 ) -> Result<Batch, AllocError>
-    ensures { IfOk result (λ batch. batch ≡ batch_of_run ruling target run.now) }
+    ensures { IfOk result (λ batch. batch ≡ batch_of ruling target drawn.now) }
 {
-    let commits = commits_of(alloc, run)?;
+    let commits = commits_of(alloc, target.persisted(), drawn)?;
     Ok(Batch::new(ruling.gate(), target.gate(), target.persisted(), commits))
 }
 
-// What each of them wrote.
-fn commits_of(alloc: Global, run: &[DrawnCommit]) -> Result<Vec<Commit>, AllocError>
-    ensures { IfOk result (λ commits. commits.items ≡ map commit_of run.now) }
+// What each of the chosen ones wrote.
+fn commits_of(alloc: Global, reach: Ts, drawn: &[DrawnCommit]) -> Result<Vec<Commit>, AllocError>
+    ensures { IfOk result (λ commits. commits.items ≡ map commit_of (chosen reach drawn.now)) }
 {
-    let mut commits = Vec::with_capacity(alloc, run.len())?;
-    for commit in run {
-        commits.push(commit_of(alloc, *commit)?)?;
+    let mut commits = Vec::with_capacity(alloc, drawn.len())?;
+    for commit in drawn {
+        if is_chosen(reach, commit) {
+            commits.push(commit_of(alloc, *commit)?)?;
+        }
     }
     Ok(commits)
 }

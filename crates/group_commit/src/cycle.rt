@@ -1,4 +1,4 @@
-use crate::batch::{batch_of_run, is_numbered, record_of_run, sessions_committed_by};
+use crate::batch::{batch_of, is_numbered, reach_of, record_of, sessions_committed_by};
 use crate::stage::CycleStage;
 use base::Ts;
 use base::actor::Actor;
@@ -52,11 +52,10 @@ impl Cycle {
     ghost use Rattle.pmem.specs.Trace.{applied};
     ghost use Rattle.dirty_table.specs.Touches.{has, lines_touched};
     ghost use Rattle.group_commit.specs.declared.stage.CycleStage.TheVariants.{FlushLines, WriteRecord};
-    ghost use Rattle.group_commit.specs.Choosing.{run, record_of_run, batch_of_run, IsBeginFault};
+    ghost use Rattle.group_commit.specs.Choosing.{reach_of, record_of, batch_of, IsBeginFault};
     ghost use Rattle.group_commit.specs.Cycles.{line_from, operation_in, reached_in, ticked_in};
 
-    /// Takes the longest run of drawn commits, from the first on, that are stamped whole, and the memory of its batch: no
-    /// tick takes any. Fails with `TimestampsOut` where no record number is left, and else with `OutOfMemory`.
+    /// Takes the drawn commits that the next record may cover, and the memory of their batch: no tick takes any. Fails with `TimestampsOut` where no record number is left, and else with `OutOfMemory`.
     pub fn begin(
         alloc: Global,
         geometry: Geometry,
@@ -67,9 +66,9 @@ impl Cycle {
     ) -> Result<Cycle, Fault>
         requires numbered { ruling.gate < 2 ^ 62 }
         requires countable { next ≤ 2 ^ 62 }
-        ensures batch { IfOk result (λ cycle. cycle.batch ≡ batch_of_run ruling (record_of_run geometry ruling next swept (run drawn.now.commits)) (run drawn.now.commits)) }
+        ensures batch { IfOk result (λ cycle. cycle.batch ≡ batch_of ruling (record_of geometry ruling next swept (reach_of ruling drawn.now.commits)) drawn.now.commits) }
         ensures sessions { IfOk result (λ cycle. (n : ℕ) → has cycle.sessions n ≡ list_any (λ d. nat_eq d.session n && is_committed cycle.writing.target d.timestamp) drawn.now.commits) }
-        ensures writing { IfOk result (λ cycle. cycle.writing ≡ begun geometry (record_of_run geometry ruling next swept (run drawn.now.commits))) }
+        ensures writing { IfOk result (λ cycle. cycle.writing ≡ begun geometry (record_of geometry ruling next swept (reach_of ruling drawn.now.commits))) }
         ensures stage { IfOk result (λ cycle. cycle.stage ≡ FlushLines 0 0) }
         ensures numbered { OnOk result (ruling.gate + 1 < 2 ^ 62) }
         ensures fault { IfErr result (IsBeginFault ruling) }
@@ -78,9 +77,8 @@ impl Cycle {
             return Err(Fault::TimestampsOut);
         }
         let commits = drawn.as_slice();
-        let run = &commits[..drawn.run()];
-        let target = record_of_run(geometry, ruling, next, swept, run);
-        let Ok(batch) = batch_of_run(alloc, ruling, target, run) else {
+        let target = record_of(geometry, ruling, next, swept, reach_of(ruling, drawn));
+        let Ok(batch) = batch_of(alloc, ruling, target, commits) else {
             return Err(Fault::OutOfMemory);
         };
         Ok(Cycle {

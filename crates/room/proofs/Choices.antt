@@ -1,5 +1,5 @@
 -- The ticks that make no operation: nothing is due, or a batch is chosen, or the tick is refused.
-use Rattle.std.proofs.Common.{◌≡◌, inl, inr, ℕ, ◌+◌, ◌^◌, ◌<◌, ◌≤◌, ◌&&◌, true, false, List, [], map, refl, sym, ◌∙◌, ap, subst, arith, nat_eq, nat_le}
+use Rattle.std.proofs.Common.{◌≡◌, inl, inr, ℕ, ◌+◌, ◌^◌, ◌<◌, ◌≤◌, ◌&&◌, true, false, cond, List, [], map, refl, sym, ◌∙◌, ap, subst, arith, nat_eq, nat_le}
 use Rattle.std.specs.Prelude.{Option, Some, None}
 use Rattle.std.specs.List.{list_any}
 use Rattle.std.proofs.lemmas.Bool.{le-leb, lt-leb}
@@ -11,7 +11,7 @@ use Rattle.base.specs.declared.step.Reply.{Reply}
 use Rattle.base.specs.declared.step.Reply.TheVariants.{Idle, Ticked, Refused}
 use Rattle.base.specs.Batches.{Batch}
 use Rattle.base.specs.Records.{Record, is_committed}
-use Rattle.base.specs.Machine.{State, Hand, is_idle, refusal, taken_in_hand, chosen, target_of, batch_of}
+use Rattle.base.specs.Machine.{State, Hand, is_idle, refusal, taken_in_hand, chosen, passed_over, target_of, batch_of}
 use Rattle.pmem.specs.Device.{Device, IsOrderly}
 use Rattle.log_area.specs.declared.stage.WritingStage.TheVariants.{StoreBody, Done}
 use Rattle.log_area.specs.Rulings.{HoldsRecord}
@@ -19,23 +19,23 @@ use Rattle.log_area.specs.Writings.{Progress, begun}
 use Rattle.txn.specs.declared.drawn.DrawnCommit.{DrawnCommit}
 use Rattle.dirty_table.specs.Touches.{has}
 use Rattle.group_commit.specs.declared.stage.CycleStage.TheVariants.{FlushLines}
-use Rattle.group_commit.specs.Choosing.{run, commit_of, batch_of_run, IsBeginFault}
+use Rattle.group_commit.specs.Choosing.{reach_of, commit_of, IsBeginFault}
 use Rattle.group_commit.specs.Choosing as group
 use Rattle.group_commit.specs.Cycles.{Cycling}
 use Rattle.group_commit.proofs.Counting.{ticks-are_counted}
 use Rattle.state_invariant.specs.Kept.{Origin}
+use Rattle.state_invariant.proofs.Choosing.{keeps-chosen}
 use Rattle.device_invariant.specs.Log.{HoldsHand as LogHoldsHand}
 use Rattle.device_invariant.specs.Upholds.{Upholds}
 use Rattle.cycle_invariant.specs.Leads.{Ticks}
-use Rattle.cycle_invariant.specs.Laws.{ChoosesRun}
-use Rattle.cycle_invariant.proofs.Runs.{runs-are_chosen}
 use Rattle.cycle_invariant.proofs.Ticks.{idle-ticks, choosing-ticks, refused-ticks}
 use Rattle.session_steps.specs.declared.sessions.Sessions.{Sessions}
 use Rattle.session_steps.specs.Shows.{plain_drawn, line_numbers}
+use Rattle.session_steps.proofs.Snapshots.{no-longs}
 use Rattle.session_steps.proofs.Hands.{shows-hand}
 use Rattle.room.specs.Committing.{HoldsHand, HoldsCycle, ShowsIn}
 use Rattle.room.specs.Steps.{StepsToIn}
-use Rattle.room.proofs.Chosen.{commits-same, record-same, idle-same}
+use Rattle.room.proofs.Chosen.{reach-same, commits-same, idle-same}
 
 -- without a cycle nothing is in hand
 pub rests-of : (q : State) (drawn : List DrawnCommit) → HoldsCycle q drawn q.hand None → q.hand ≡ None
@@ -96,17 +96,25 @@ module _ (s : Sessions) (device : Device) (orderly : IsOrderly device) (q : Stat
   drawn : q.drawn ≡ map plain_drawn ds
   drawn = ap (λ (p : State). p.drawn) shows.shown.plain
 
-  law : ChoosesRun q
-  law = runs-are_chosen.run o q upholds.keeps
+  longs-none : passed_over q ≡ []
+  longs-none = no-longs q.layout (target_of q) upholds.keeps.numbers.layout (keeps-chosen o q upholds.keeps).formed
 
   due-same : is_idle q ≡ group.is_idle s.numbers.geometry s.numbers.record s.numbers.next s.collector.swept ds
-  due-same = idle-same q ds s.collector.swept drawn swept law ∙ λ i. group.is_idle (layout i) (ruling i) (next i) s.collector.swept ds
+  due-same = idle-same o q ds upholds.keeps drawn s.collector.swept swept ∙ λ i. group.is_idle (layout i) (ruling i) (next i) s.collector.swept ds
 
   abbrev record_is : Record
-  record_is = group.record_of_run s.numbers.geometry s.numbers.record s.numbers.next s.collector.swept (run ds)
+  record_is = group.record_of s.numbers.geometry s.numbers.record s.numbers.next s.collector.swept (reach_of s.numbers.record ds)
 
   target-same : target_of q ≡ record_is
-  target-same = law.record_is ∙ record-same q ds s.collector.swept drawn swept ∙ λ i. group.record_of_run (layout i) (ruling i) (next i) s.collector.swept (run ds)
+  target-same =
+      (λ i. record {
+        gate = q.ruling.gate + 1;
+        persisted = reach-same o q ds upholds.keeps drawn i;
+        dirty = q.next + q.layout.window;
+        gaps = cond (swept i) [] q.ruling.gaps;
+        longs = longs-none i;
+      })
+      ∙ λ i. group.record_of (layout i) (ruling i) (next i) s.collector.swept (reach_of (ruling i) ds)
 
   -- ---- nothing is due
 
@@ -147,7 +155,7 @@ module _ (s : Sessions) (device : Device) (orderly : IsOrderly device) (q : Stat
           (λ told. let same : fault ≡ DeviceFault = cc told in absurd (cc (same, wanting.1))),
     )
 
-    module _ (cycle : Cycling) (numbered : s.numbers.record.gate + 1 < 2 ^ 62) (batch : cycle.batch ≡ batch_of_run s.numbers.record record_is (run ds))
+    module _ (cycle : Cycling) (numbered : s.numbers.record.gate + 1 < 2 ^ 62) (batch : cycle.batch ≡ group.batch_of s.numbers.record record_is ds)
         (sessions : (n : ℕ) → has cycle.sessions n ≡ list_any (λ (d : DrawnCommit). nat_eq d.session n && is_committed cycle.writing.target d.timestamp) ds) (writing : cycle.writing ≡ begun s.numbers.geometry record_is) (stage : cycle.stage ≡ FlushLines 0 0) where
       abbrev taken : State
       taken = record q { hand = Some (taken_in_hand q) }
@@ -158,10 +166,10 @@ module _ (s : Sessions) (device : Device) (orderly : IsOrderly device) (q : Stat
       target-is : cycle.writing.target ≡ target_of q
       target-is = ap (λ (p : Progress). p.target) writing ∙ sym target-same
 
-      commits-are : chosen q ≡ map commit_of (run ds)
-      commits-are = law.commits ∙ commits-same q ds drawn
+      commits-are : chosen q ≡ map commit_of (group.chosen record_is.persisted ds)
+      commits-are = commits-same o q ds upholds.keeps drawn ∙ λ i. map commit_of (group.chosen (reach_of (ruling i) ds) ds)
 
-      batch-same : batch_of q (taken_in_hand q) ≡ batch_of_run s.numbers.record record_is (run ds)
+      batch-same : batch_of q (taken_in_hand q) ≡ group.batch_of s.numbers.record record_is ds
       batch-same = λ i. let b : Batch = record { from = (ruling i).gate; stamp = (target-same i).gate; persisted = (target-same i).persisted; commits = commits-are i } in b
 
       holds : HoldsHand taken ds (taken_in_hand q) cycle

@@ -1,75 +1,83 @@
--- The run of drawn commits that a cycle takes is the batch that the machine chooses.
-use Rattle.std.proofs.Common.{◌≡◌, ℕ, suc, ◌+◌, ◌-◌, ◌*◌, ◌≤◌, Bool, true, false, cond, not, ◌&&◌, ◌||◌, List, [], ◌∷◌, length, map, take, fold, refl, sym, ◌∙◌, ap, arith, nat_eq, nat_lt}
-use Rattle.std.specs.Prelude.{take_while}
+-- The drawn commits that a cycle takes are the batch that the machine chooses.
+use Rattle.std.proofs.Common.{◌≡◌, ℕ, ◌+◌, ◌-◌, ◌*◌, Bool, true, false, cond, not, ◌&&◌, ◌||◌, List, [], ◌∷◌, map, filter, fold, refl, sym, ◌∙◌, ap, nat_eq, nat_lt, nat_le}
+use Rattle.std.specs.Prelude.{max}
+use Rattle.std.specs.List.{list_any}
 use Rattle.std.proofs.lemmas.List.{length-map}
-use Rattle.std.proofs.lemmas.List.Folds.{fold-map}
-use Rattle.std.proofs.lemmas.List.Sums.{take_while-cons}
 use Rattle.std.proofs.lemmas.Simd.{map-map}
+use Rattle.base.specs.Layout.{most_longs}
 use Rattle.base.specs.Commits.{Commit}
-use Rattle.base.specs.Machine.{State, Drawn, is_stamped, is_nil, is_idle, has_other_reason_to_write}
+use Rattle.base.specs.Machine.{State, Drawn, is_stamped, is_nil, is_idle, is_chosen, chosen, reach, has_other_reason_to_write}
 use Rattle.txn.specs.declared.drawn.DrawnCommit.{DrawnCommit}
-use Rattle.txn.specs.DrawnCommits.{stamped_run}
+use Rattle.txn.specs.DrawnCommits.{Walk, walk_on}
 use Rattle.txn.specs.DrawnCommits as drawn
 use Rattle.txn.specs.WriteSets.{plain_write}
-use Rattle.group_commit.specs.Choosing.{run, commit_of}
+use Rattle.group_commit.specs.Choosing.{reach_of, commit_of}
 use Rattle.group_commit.specs.Choosing as group
-use Rattle.cycle_invariant.specs.Batches.{run_of, record_of_run}
-use Rattle.cycle_invariant.specs.Laws.{ChoosesRun}
+use Rattle.state_invariant.specs.Kept.{Origin, Keeps}
+use Rattle.cycle_invariant.specs.Batches.{reach_from}
+use Rattle.cycle_invariant.proofs.Passes.{pass-finds}
 use Rattle.session_steps.specs.Shows.{plain_drawn}
+use Rattle.session_steps.proofs.Filters.{filter-map}
+use Rattle.session_steps.proofs.Snapshots.{version-known}
 
--- ---- the run
+-- ---- how far its record reaches
 
 stamped-same : (d : DrawnCommit) → is_stamped (plain_drawn d) ≡ drawn.is_stamped d
 stamped-same d = ap (nat_eq d.stamped) (length-map d.writes plain_write)
 
-run-same : (ds : List DrawnCommit) → take_while is_stamped (map plain_drawn ds) ≡ map plain_drawn (run ds)
-run-same [] = refl
-run-same (d ∷ ds) =
-    take_while-cons is_stamped (plain_drawn d) (map plain_drawn ds)
-    ∙ ap (λ (b : Bool). cond b (plain_drawn d ∷ take_while is_stamped (map plain_drawn ds)) []) (stamped-same d)
-    ∙ by (drawn.is_stamped d) refl (run-same ds)
+abbrev walk-at : ℕ → ℕ → Walk
+walk-at reached unstamped = record { reached = reached; unstamped = unstamped }
+
+walk-same : (most reached unstamped : ℕ) (ds : List DrawnCommit)
+    → reach_from most reached unstamped (map plain_drawn ds) ≡ (fold (walk_on most) (walk-at reached unstamped) ds).reached
+walk-same most reached unstamped [] = refl
+walk-same most reached unstamped (d ∷ ds) =
+    ap (λ (b : Bool). cond b (reach_from most (cond (nat_le unstamped most) (max reached d.timestamp) reached) unstamped (map plain_drawn ds)) (reach_from most reached (unstamped + 1) (map plain_drawn ds))) (stamped-same d)
+    ∙ by (λ r n. walk-same most r n ds) (drawn.is_stamped d) (nat_le unstamped most)
   where
-    by : (b : Bool) → drawn.is_stamped d ≡ b → take_while is_stamped (map plain_drawn ds) ≡ map plain_drawn (run ds) → cond b (plain_drawn d ∷ take_while is_stamped (map plain_drawn ds)) [] ≡ map plain_drawn (run (d ∷ ds))
-    by true is rest = ap (λ (xs : List Drawn). plain_drawn d ∷ xs) rest ∙ ap (λ (n : ℕ). map plain_drawn (take n (d ∷ ds))) (sym (one-more is))
-      where
-        one-more : drawn.is_stamped d ≡ true → stamped_run (d ∷ ds) ≡ suc (stamped_run ds)
-        one-more e =
-            let first : stamped_run (d ∷ ds) ≡ 1 + stamped_run ds = ap (λ (b : Bool). cond (not (not b)) (1 + stamped_run ds) 0) e in
-            omega (arith, first)
-    by false is rest = ap (λ (n : ℕ). map plain_drawn (take n (d ∷ ds))) (sym (none-more is))
-      where
-        none-more : drawn.is_stamped d ≡ false → stamped_run (d ∷ ds) ≡ 0
-        none-more e = ap (λ (b : Bool). cond (not (not b)) (1 + stamped_run ds) 0) e
+    by : ((r n : ℕ) → reach_from most r n (map plain_drawn ds) ≡ (fold (walk_on most) (walk-at r n) ds).reached) → (s l : Bool) → cond s (reach_from most (cond l (max reached d.timestamp) reached) unstamped (map plain_drawn ds)) (reach_from most reached (unstamped + 1) (map plain_drawn ds))
+        ≡ (fold (walk_on most) (cond s (cond l (walk-at (max reached d.timestamp) unstamped) (walk-at reached unstamped)) (walk-at reached (unstamped + 1))) ds).reached
+    by rest true true = rest (max reached d.timestamp) unstamped
+    by rest true false = rest reached unstamped
+    by rest false l = rest reached (unstamped + 1)
 
--- its commits are those of the machine's run
-pub commits-same : (q : State) (ds : List DrawnCommit) → q.drawn ≡ map plain_drawn ds → run_of q ≡ map commit_of (run ds)
-commits-same q ds is =
-    ap (λ (es : List Drawn). map (λ (d : Drawn). d.commit) (take_while is_stamped es)) is
-    ∙ ap (map (λ (d : Drawn). d.commit)) (run-same ds)
-    ∙ map-map (λ (d : Drawn). d.commit) plain_drawn (run ds)
-
--- ---- its record
-
-last-same : (before : ℕ) (ds : List DrawnCommit) → fold (λ (last : ℕ) (c : Commit). c.timestamp) before (map commit_of ds) ≡ group.last_timestamp before ds
-last-same before ds = fold-map (λ (last : ℕ) (c : Commit). c.timestamp) commit_of before ds
-
-pub record-same : (q : State) (ds : List DrawnCommit) (swept : Bool) → q.drawn ≡ map plain_drawn ds → q.swept ≡ swept → record_of_run q ≡ group.record_of_run q.layout q.ruling q.next swept (run ds)
-record-same q ds swept is has = λ i. record {
-  gate = q.ruling.gate + 1;
-  persisted = (ap (λ (cs : List Commit). fold (λ (last : ℕ) (c : Commit). c.timestamp) q.ruling.persisted cs) (commits-same q ds is) ∙ last-same q.ruling.persisted (run ds)) i;
-  dirty = q.next + q.layout.window;
-  gaps = cond (has i) [] q.ruling.gaps;
-  longs = [];
-}
-
--- ---- what is due
+-- ---- lists
 
 nil-map : {X Y : Type 0} (f : X → Y) (xs : List X) → is_nil (map f xs) ≡ is_nil xs
 nil-map f [] = refl
 nil-map f (x ∷ xs) = refl
 
-pub idle-same : (q : State) (ds : List DrawnCommit) (swept : Bool) → q.drawn ≡ map plain_drawn ds → q.swept ≡ swept → ChoosesRun q → is_idle q ≡ group.is_idle q.layout q.ruling q.next swept ds
-idle-same q ds swept is has law =
-    law.idle
-    ∙ ap (λ (b : Bool). b && not (has_other_reason_to_write q)) (ap is_nil (commits-same q ds is) ∙ nil-map commit_of (run ds))
-    ∙ λ i. is_nil (run ds) && not (nat_lt (2 * (q.ruling.dirty - q.next)) q.layout.window || has i && not (is_nil q.ruling.gaps))
+nil-filter : {X : Type 0} (p : X → Bool) (xs : List X) → is_nil (filter p xs) ≡ not (list_any p xs)
+nil-filter p [] = refl
+nil-filter p (x ∷ xs) = by (p x) (nil-filter p xs)
+  where
+    by : (b : Bool) → is_nil (filter p xs) ≡ not (list_any p xs) → is_nil (cond b (x ∷ filter p xs) (filter p xs)) ≡ not (b || list_any p xs)
+    by true rest = refl
+    by false rest = rest
+
+module _ (o : Origin) (q : State) (ds : List DrawnCommit) (kept : Keeps o q) (is : q.drawn ≡ map plain_drawn ds) where
+  pub reach-same : reach q ≡ reach_of q.ruling ds
+  reach-same =
+      pass-finds o q kept
+      ∙ ap (λ (v : ℕ). reach_from (most_longs v) q.ruling.persisted 0 q.drawn) (version-known q.layout kept.numbers.layout)
+      ∙ ap (reach_from 0 q.ruling.persisted 0) is
+      ∙ walk-same 0 q.ruling.persisted 0 ds
+
+  -- ---- the batch
+
+  chosen-same : filter (is_chosen q) q.drawn ≡ map plain_drawn (group.chosen (reach_of q.ruling ds) ds)
+  chosen-same =
+      ap (filter (is_chosen q)) is
+      ∙ filter-map plain_drawn (is_chosen q) ds
+      ∙ λ i. map plain_drawn (filter (λ (d : DrawnCommit). stamped-same d i && nat_le d.timestamp (reach-same i)) ds)
+
+  pub commits-same : chosen q ≡ map commit_of (group.chosen (reach_of q.ruling ds) ds)
+  commits-same = ap (map (λ (d : Drawn). d.commit)) chosen-same ∙ map-map (λ (d : Drawn). d.commit) plain_drawn (group.chosen (reach_of q.ruling ds) ds)
+
+  -- ---- what is due
+
+  pub idle-same : (swept : Bool) → q.swept ≡ swept → is_idle q ≡ group.is_idle q.layout q.ruling q.next swept ds
+  idle-same swept has =
+      ap (λ (cs : List Commit). is_nil cs && not (has_other_reason_to_write q)) commits-same
+      ∙ ap (λ (b : Bool). b && not (has_other_reason_to_write q)) (nil-map commit_of (group.chosen (reach_of q.ruling ds) ds) ∙ nil-filter (group.is_chosen (reach_of q.ruling ds)) ds)
+      ∙ λ i. not (list_any (group.is_chosen (reach_of q.ruling ds)) ds) && not (nat_lt (2 * (q.ruling.dirty - q.next)) q.layout.window || has i && not (is_nil q.ruling.gaps))

@@ -1,6 +1,6 @@
 -- Commits that are drawn and not covered.
-use Rattle.std.specs.Prelude.{ℕ, Bool, not, ◌+◌, ◌&&◌, nat_eq, nat_lt, length, find, if◌then◌else◌, List, Option}
-use Rattle.std.specs.List.{position_or_len, list_all}
+use Rattle.std.specs.Prelude.{ℕ, Bool, ◌+◌, ◌&&◌, max, fold, nat_eq, nat_le, nat_lt, length, find, if◌then◌else◌, List, Option}
+use Rattle.std.specs.List.{list_all}
 use Rattle.txn.specs.declared.drawn.DrawnCommit.{DrawnCommit}
 
 -- all its writes are stamped
@@ -19,6 +19,20 @@ drawn_at t commits = find (λ d. nat_eq d.timestamp t) commits
 abbrev pub with_stamp : ℕ → DrawnCommit → DrawnCommit
 with_stamp t d = if nat_eq d.timestamp t && nat_lt d.stamped (length d.writes) then record d { stamped = d.stamped + 1 } else d
 
--- how many commits, from the first on, are stamped whole
-abbrev pub stamped_run : List DrawnCommit → ℕ
-stamped_run commits = position_or_len (λ d. not (is_stamped d)) commits
+-- what a walk over commits has come to: the last timestamp that a record may reach, and how many it would pass over
+pub record Walk : Type 0 where
+  pub reached : ℕ
+  pub unstamped : ℕ
+
+-- one more commit: a record may reach it if it is stamped, and no more before it aren't than may be passed over
+abbrev pub walk_on : ℕ → Walk → DrawnCommit → Walk
+walk_on most w d =
+    if is_stamped d then (if nat_le w.unstamped most then record w { reached = max w.reached d.timestamp } else w)
+    else record w { unstamped = w.unstamped + 1 }
+
+abbrev pub walk_over : ℕ → ℕ → List DrawnCommit → Walk
+walk_over most persisted commits = fold (walk_on most) (record { reached = persisted; unstamped = 0 }) commits
+
+-- up to which timestamp a record reaches that may pass over so many commits: at least up to this one
+abbrev pub reach : ℕ → ℕ → List DrawnCommit → ℕ
+reach most persisted commits = (walk_over most persisted commits).reached

@@ -61,7 +61,7 @@ impl DrawnCommits {
     ghost use Rattle.std.specs.Prelude.{◌≤◌, ◌<◌, ◌++◌, [], ◌∷◌, not, filter, length, option_copied, IfErr, IsTrue, OnOk, OnErr};
     ghost use Rattle.base.specs.declared.fault.Fault.TheVariants.{OutOfMemory};
     ghost use Rattle.snapshot.specs.Snapshots.{covers};
-    ghost use Rattle.txn.specs.DrawnCommits.{are_numbered, drawn_at, stamped_run};
+    ghost use Rattle.txn.specs.DrawnCommits.{are_numbered, drawn_at, reach};
 
     /// None is drawn.
     pub fn new(alloc: Global) -> DrawnCommits
@@ -127,16 +127,21 @@ impl DrawnCommits {
             .retain(|commit| !snapshot.covers(commit.timestamp));
     }
 
-    /// How many commits, from the first on, have all their writes stamped.
-    pub fn run(&self) -> usize
-        ensures run { result ≡ stamped_run self.now.commits }
-        ensures within { result ≤ length self.now.commits }
+    /// Up to which timestamp a record reaches that may pass over so many commits that aren't stamped: that of the last
+    /// commit that it may cover, and at least this one.
+    pub fn reach(&self, persisted: Ts, most: usize) -> Ts
+        ensures { result ≡ reach most persisted self.now.commits }
     {
-        let commits = self.commits.as_slice();
-        commits
-            .iter()
-            .position(|commit| !commit.is_stamped())
-            .unwrap_or(commits.len())
+        let mut reached = persisted;
+        let mut unstamped = 0;
+        for commit in self.commits.as_slice() {
+            if !commit.is_stamped() {
+                unstamped += 1;
+            } else if unstamped <= most && commit.timestamp > reached {
+                reached = commit.timestamp;
+            }
+        }
+        reached
     }
 }
 
@@ -175,16 +180,17 @@ mod tests {
                 stamped: 0,
             });
         }
-        assert_eq!(rt; drawn.run(), 0);
+        assert_eq!(rt; drawn.reach(7, 0), 7);
         drawn.stamp(9);
-        assert_eq!(rt; drawn.run(), 0);
+        assert_eq!(rt; drawn.reach(7, 0), 7);
+        assert_eq!(rt; drawn.reach(7, 1), 9);
         drawn.stamp(8);
-        assert_eq!(rt; drawn.run(), 2);
+        assert_eq!(rt; drawn.reach(7, 0), 9);
         assert!(rt; drawn.as_slice()[0].is_stamped());
         drawn.cover(&Snapshot::new(8, GapList::none()));
         assert!(rt; drawn.get(8).is_none());
         assert!(rt; drawn.get(9).is_some());
-        assert_eq!(rt; drawn.run(), 1);
+        assert_eq!(rt; drawn.reach(8, 0), 9);
         Ok(())
     }
 }

@@ -7,7 +7,7 @@ use Rattle.base.specs.declared.step.Step.TheVariants.{Commit as CommitTick}
 use Rattle.base.specs.declared.step.Reply.TheVariants.{Idle, Refused}
 use Rattle.base.specs.Machine.{State}
 use Rattle.base.specs.Records.{is_committed}
-use Rattle.group_commit.specs.Choosing.{run, is_idle, batch_of_run, record_of_run, IsBeginFault}
+use Rattle.group_commit.specs.Choosing.{reach_of, is_idle, batch_of, record_of, IsBeginFault}
 use Rattle.group_commit.specs.Cycles.{Cycling}
 use Rattle.log_area.specs.Writings.{begun}
 use Rattle.txn.specs.declared.drawn.DrawnCommit.{DrawnCommit}
@@ -39,9 +39,9 @@ returns-in-Ok c = record {
       takes c.args.self.now.sessions device orderly q shows works
       (sym (λ i. let n = c.numbers-numbers.ensures i in is_idle n.geometry n.record n.next (c.has_swept-swept.ensures i) (c.drawn-drawn.ensures i).commits) ∙ sym c.is_idle.ensures ∙ c.if-is_idle.false) c.in-Ok.cycle
       (let is = ap (λ (n : Numbers). n.record.gate) c.numbers-numbers.ensures in let below = c.in-Ok.ensures.numbered in omega (arith, is, below))
-      (c.in-Ok.ensures.batch ∙ λ i. let n = c.numbers-numbers.ensures i in batch_of_run n.record (record_of_run n.geometry n.record n.next (c.has_swept-swept.ensures i) (run (c.drawn-drawn.ensures i).commits)) (run (c.drawn-drawn.ensures i).commits))
+      (c.in-Ok.ensures.batch ∙ λ i. let n = c.numbers-numbers.ensures i in batch_of n.record (record_of n.geometry n.record n.next (c.has_swept-swept.ensures i) (reach_of n.record (c.drawn-drawn.ensures i).commits)) (c.drawn-drawn.ensures i).commits)
       (λ n. c.in-Ok.ensures.sessions n ∙ λ i. list_any (λ (d : DrawnCommit). nat_eq d.session n && is_committed c.in-Ok.cycle.writing.target d.timestamp) (c.drawn-drawn.ensures i).commits)
-      (c.in-Ok.ensures.writing ∙ λ i. let n = c.numbers-numbers.ensures i in begun n.geometry (record_of_run n.geometry n.record n.next (c.has_swept-swept.ensures i) (run (c.drawn-drawn.ensures i).commits))) c.in-Ok.ensures.stage;
+      (c.in-Ok.ensures.writing ∙ λ i. let n = c.numbers-numbers.ensures i in begun n.geometry (record_of n.geometry n.record n.next (c.has_swept-swept.ensures i) (reach_of n.record (c.drawn-drawn.ensures i).commits))) c.in-Ok.ensures.stage;
 }
 
 pub returns-in-Err : goal.returns-in-Err
