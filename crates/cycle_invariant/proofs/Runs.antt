@@ -13,7 +13,7 @@ use Rattle.base.specs.Layout.{Layout, most_longs, is_in_limits, is_known_version
 use Rattle.base.specs.Machine.{State, Drawn, is_stamped, is_chosen, may_be_covered, unstamped_below, chosen, reach, passed_over, is_nil, has_other_reason_to_write, standing_gaps, target_of}
 use Rattle.state_invariant.specs.Kept.{Origin, Keeps}
 use Rattle.state_invariant.proofs.Lists.{rising-above, rising-rest}
-use Rattle.state_invariant.proofs.Records.{well_formed-longs}
+use Rattle.base.proofs.WellFormed.{well_formed-parts}
 use Rattle.state_invariant.proofs.Choosing.{keeps-chosen, bounds, all-by_found, max-has, max-least, max-below, passed-few, reached-passed, reached-chosen, reach-is, drawn-long, chosen-found}
 use Rattle.cycle_invariant.specs.Batches.{run_of, last_timestamp, record_of_run}
 use Rattle.cycle_invariant.specs.Laws.{ChoosesRun, RunsAreChosen}
@@ -83,7 +83,7 @@ module _ (o : Origin) (q : State) (kept : Keeps o q) where
   none-passed = empty (passed_over q) (omega (arith, passed-few o q kept, no_longs q.layout kept.numbers.layout))
 
   no-ruling_longs : q.ruling.longs ≡ []
-  no-ruling_longs = empty q.ruling.longs (omega (arith, well_formed-longs q.layout.version q.ruling kept.numbers.formed, no_longs q.layout kept.numbers.layout))
+  no-ruling_longs = empty q.ruling.longs (omega (arith, (well_formed-parts q.layout.version q.ruling kept.numbers.formed).fewer, no_longs q.layout kept.numbers.layout))
 
   -- what is reached is stamped
   run-stamped : (t : ℕ) (d : Drawn) → find (λ (e : Drawn). nat_eq e.commit.timestamp t) q.drawn ≡ Some d → t ≤ reach q → is_stamped d ≡ true
