@@ -8,12 +8,12 @@ use std::thread::Threads;
 impl<D: Pmem + Drop + Send + Sync> Audited<D> {
     ghost use Rattle.std.specs.Prelude.{◌≡◌, List, [], ℕ, ◌+◌, ◌*◌, ◌<◌, ◌≤◌, true, false, None, slice_index, IfOk, IfErr, MatchResult};
     ghost use Rattle.base.specs.Commits.{Commit};
-    ghost use Rattle.base.specs.Images.{layout_of, opening_fault, needs_sweep};
+    ghost use Rattle.base.specs.Images.{layout_of, opening_fault};
     ghost use Rattle.base.specs.Stands.{Stands};
     ghost use Rattle.base.specs.Machine.{State};
-    ghost use Rattle.base.specs.Openings.{OpensAs, StandsOpening, opened_slots, words_swept, lines_swept};
-    ghost use Rattle.pmem.specs.Words.{LeavesOnly, IsAtRest, value_of, image_of, IsSettledAt, Makes, HasNoFailure};
-    ghost use Rattle.recovery.specs.Opened.{IsRefusal};
+    ghost use Rattle.base.specs.Openings.{OpensAs, StandsOpening, opened_slots};
+    ghost use Rattle.pmem.specs.Words.{LeavesOnly, IsAtRest, value_of, image_of, IsSettledAt, HasNoFailure};
+    ghost use Rattle.recovery.specs.Opened.{IsRefusal, MakesOpening};
     ghost use Rattle.recovery.specs.Read.{TellsLogFault};
     ghost use Rattle.room.specs.Room.{Shows, ShowsStatus, device_of};
     ghost use Rattle.audited.specs.Audit.{IsAudited};
@@ -45,9 +45,7 @@ impl<D: Pmem + Drop + Send + Sync> Audited<D> {
         ensures log { IfErr result (λ e. TellsLogFault (image_of (D.state device)) e.0) }
 
         // The operations, and the words of superblock and slots, are those of the room's opening.
-        ensures made { IfOk result (λ audited. needs_sweep (image_of (D.state device)) ≡ false → Makes 32 5 2 0 (D.state device) (device_of D.state audited.room)) }
-        ensures made_sweeping { IfOk result (λ audited. needs_sweep (image_of (D.state device)) ≡ true
-            → Makes (32 + words_swept (image_of (D.state device))) (5 + lines_swept (image_of (D.state device))) 3 0 (D.state device) (device_of D.state audited.room)) }
+        ensures made { IfOk result (λ audited. MakesOpening (image_of (D.state device)) (D.state device) (device_of D.state audited.room)) }
         ensures superblock { IfOk result (λ audited. (word : ℕ) → word < 8 → IsSettledAt (device_of D.state audited.room) word (value_of (D.state device) word)) }
         ensures slots { IfOk result (λ audited. (word : ℕ) → 8 + 32 * (layout_of (image_of (D.state device))).places ≤ word → word < (D.state device).words
             → IsSettledAt (device_of D.state audited.room) word (slice_index (opened_slots (image_of (D.state device))) word)) }

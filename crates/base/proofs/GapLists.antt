@@ -6,6 +6,7 @@ use Rattle.std.proofs.lemmas.Bool.{ltb-true, ltb-false, leb-true, lt-ltb, le-leb
 use Rattle.base.specs.declared.gap.Gap.{Gap}
 use Rattle.base.specs.Records.{Record, is_in, are_apart, is_well_formed, with_gap, with_skipped, opened_gaps}
 use Rattle.base.specs.Openings.{IsOpenedGaps}
+use Rattle.base.proofs.WellFormed.{well_formed-parts}
 
 abbrev Within : Gap → ℕ → Type 0
 Within gap t = (gap.first ≤ t) × (t ≤ gap.last)
@@ -222,11 +223,9 @@ skipped-in r gaps t is = by (nat_lt (r.persisted + 1) r.dirty) refl is
 
 formed-tidy : (version : ℕ) (r : Record) → is_well_formed version r ≡ true → Tidy 0 r.gaps
 formed-tidy version r formed =
-    let a = and_parts _ _ formed in
-    let b = and_parts _ _ a.0 in
-    let c = and_parts _ _ b.0 in
+    let parts = well_formed-parts version r formed in
     tidy-all (λ gap. nat_le 1 gap.first && nat_le gap.first gap.last && nat_le gap.last r.persisted)
-    (λ gap e. leb-true gap.first gap.last (and_parts (nat_le 1 gap.first) (nat_le gap.first gap.last) (and_parts _ _ e).0).1) r.gaps (and_parts _ _ c.0).1 c.1
+    (λ gap e. leb-true gap.first gap.last (and_parts (nat_le 1 gap.first) (nat_le gap.first gap.last) (and_parts _ _ e).0).1) r.gaps parts.each parts.apart
 
 pub opened-gaps : (version : ℕ) (r : Record) → is_well_formed version r ≡ true → IsOpenedGaps r (opened_gaps r)
 opened-gaps version r formed =

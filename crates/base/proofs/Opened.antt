@@ -19,6 +19,8 @@ use Rattle.base.specs.Stands.{Stands}
 use Rattle.base.specs.Machine.{State, Version, ByCommit}
 use Rattle.base.specs.Openings.{IsOpenedGaps, opening_record, opened, opened_under, held_under, gaps_kept, swept, opened_slots}
 use Rattle.base.proofs.Histories.{no_bad_slot}
+use Rattle.base.proofs.Layouts.{line-words}
+use Rattle.base.proofs.WellFormed.{well_formed-parts}
 use Rattle.base.proofs.GapLists.{opened-gaps, one_gap_list}
 use Rattle.base.proofs.Alike.{HasRowsOf, CountsAlike, key-same, shown-same, good-same, tables-same}
 use Rattle.base.proofs.OpenedRecords.{same-committed, swept-committed, uncommitted-in}
@@ -75,9 +77,6 @@ size-of image good =
     let two = and_parts limits total three.0 in
     (two.0, eqb-true (length image) (slice_index image 5) three.1 ∙ eqb-true (slice_index image 5) (total_words (layout_of image)) two.1)
 
-known-one : (version : ℕ) → is_known_version version ≡ true → version ≡ 1
-known-one version e = grind (arith, nat_tests)
-
 pub formed-of : (image : Image) → IsSound image → is_well_formed (layout_of image).version (ruling image) ≡ true
 formed-of image sound =
     let words = place_words image (ruling_place image) in
@@ -87,31 +86,17 @@ formed-of image sound =
 pub covers-of : (image : Image) → IsSound image → IsOpenedGaps (ruling image) (opened_gaps (ruling image))
 covers-of image sound = opened-gaps (layout_of image).version (ruling image) (formed-of image sound)
 
-pub wide-of : (image : Image) → IsSound image → slot_words (layout_of image).version ≡ 8
-wide-of image sound = ap slot_words (known-one (layout_of image).version (whole-of image sound).known)
-
 pub below-of : (image : Image) → IsSound image → (slot : ℕ) → slot < (layout_of image).slots → (begin_of image slot < (ruling image).dirty) × (end_of image slot < (ruling image).dirty)
 below-of image sound slot h =
     let both = or_parts (is_ahead (ruling image) image slot) (is_shown (ruling image) image slot && (is_misfit image slot || is_second (ruling image) image slot)) (no_bad_slot image sound slot h) in
     let marks = or_parts (nat_le (ruling image).dirty (begin_of image slot)) (nat_le (ruling image).dirty (end_of image slot)) both.0 in
     (leb-false (ruling image).dirty (begin_of image slot) marks.0, leb-false (ruling image).dirty (end_of image slot) marks.1)
 
-formed-head : (version : ℕ) (r : Record) → is_well_formed version r ≡ true → (r.persisted < r.dirty) × (r.dirty < 2 ^ 62)
-formed-head version r is =
-    let a = and_parts _ _ is in
-    let b = and_parts _ _ a.0 in
-    let c = and_parts _ _ b.0 in
-    let d = and_parts _ _ c.0 in
-    let e = and_parts _ _ d.0 in
-    let f = and_parts _ _ e.0 in
-    let g = and_parts _ _ f.0 in
-    (ltb-true r.persisted r.dirty g.0, ltb-true r.dirty (2 ^ 62) g.1)
-
 pub rising-of : (image : Image) → IsSound image → (ruling image).persisted < (ruling image).dirty
-rising-of image sound = (formed-head (layout_of image).version (ruling image) (formed-of image sound)).0
+rising-of image sound = (well_formed-parts (layout_of image).version (ruling image) (formed-of image sound)).below
 
 pub limit-of : (image : Image) → IsSound image → (ruling image).dirty < 2 ^ 62
-limit-of image sound = (formed-head (layout_of image).version (ruling image) (formed-of image sound)).1
+limit-of image sound = (well_formed-parts (layout_of image).version (ruling image) (formed-of image sound)).limit
 
 pub room-of : (image : Image) → opening_fault image ≡ None → ((ruling image).dirty + 2 * (layout_of image).window < 2 ^ 62) × ((ruling image).gate + 1 < 2 ^ 62)
 room-of image opens =
@@ -129,7 +114,7 @@ ruled_before image = cond (needs_sweep image) (swept_record (ruling image)) (rul
 sweep-counts-by : (image : Image) → IsSound image → (r' : Record) → ((t : ℕ) → t < (ruling image).dirty → is_committed r' (cond (is_in (opened_gaps (ruling image)) t) 0 t) ≡ is_committed (ruling image) t) → (ruling image).dirty ≤ r'.dirty
     → CountsAlike (ruling image) image r' (swept image)
 sweep-counts-by image sound r' same further =
-    swept-counts image r' same further (omega (arith, wide-of image sound)) (λ slot h. (below-of image sound slot h).0) (λ slot h. (below-of image sound slot h).1)
+    swept-counts image r' same further (omega (arith, line-words (layout_of image).version)) (λ slot h. (below-of image sound slot h).0) (λ slot h. (below-of image sound slot h).1)
 
 sweep-counts : (image : Image) → IsSound image → CountsAlike (ruling image) image (swept_record (ruling image)) (swept image)
 sweep-counts image sound =
@@ -198,7 +183,7 @@ opening-by image history drawn next opens stands false is =
 opening-by image history drawn next opens stands true is =
     let sound = stands.sound in
     let size = size-of image (whole-of image sound).geometry in
-    let wide : 8 ≤ slot_words (layout_of image).version = omega (arith, wide-of image sound) in
+    let wide : 8 ≤ slot_words (layout_of image).version = line-words (layout_of image).version in
     let alike = sweep-counts image sound in
     let rising = rising-of image sound in
     record {
@@ -241,8 +226,9 @@ opened-below image sound slot h = let still = opened-still image sound in (still
 
 -- ---- what it gives
 
+-- an image that opens is up to date
 same-version : (version : ℕ) → is_known_version version ≡ true → opened_version version ≡ version
-same-version version known = let one = known-one version known in ap opened_version one ∙ sym one
+same-version version known = grind (arith, nat_tests)
 
 abbrev opened_by : Bool → Image → List Commit → List ℕ → List Gap → State
 opened_by b image history lost gaps = opened_under (layout_of image) (cond b (swept_record (ruling image)) (ruling image)) (cond b (swept image) image) history lost (cond b [] gaps)
@@ -259,7 +245,7 @@ same-held image history sound slot = by (nat_lt slot (layout_of image).slots) re
     by false is = refl
     by true is =
         let h : slot < (layout_of image).slots = ltb-true slot (layout_of image).slots is in
-        let wide : 8 ≤ slot_words (layout_of image).version = omega (arith, wide-of image sound) in
+        let wide : 8 ≤ slot_words (layout_of image).version = line-words (layout_of image).version in
         let shown = shown-same image (swept image) (swept-rows image) (ruling image) (swept_record (ruling image)) (sweep-counts image sound) wide slot h in
         let key = key-same image (swept image) (swept-rows image) slot h wide in
         λ i. cond (shown i) (Some (let v : Version = record { key = key i; writer = ByCommit (last_writer history (key i)) } in v)) None

@@ -2,7 +2,7 @@
 use Rattle.std.proofs.Common.{◌≡◌, ◌≢◌, ◌≤◌, ℕ, List, [], ◌∷◌, true, false, Option, Some, None, refl, sym, ◌∙◌, ap, subst, inl, inr, unwrap_or, codes, length, is_some, slice_index, arith, Bor}
 use Rattle.std.specs.Prelude.{IfNone, IfSome, IsOk, Result, Ok, Err, is_err, ◌↔◌}
 use Rattle.std.specs.List.{flat_map}
-use Rattle.base.specs.Layout.{is_in_limits, layout_with, newest_version}
+use Rattle.base.specs.Layout.{is_in_limits, layout_with, plain_version}
 use Rattle.command_line.specs.Lines.{texts}
 use Rattle.command_line.specs.Numbers.{Text}
 use Rattle.command_line.specs.Words.{Gives, GivesAfter, GivesNothing, GivesNothingAfter, GivesRest, HasNumber, IsLeftOut, IsOneFile, Part, Spells, SpellsFormat, SpellsThreads, WritesAtMostOne, subcommand_of, value_of}
@@ -92,7 +92,7 @@ pub record FormatFound (found : Given) (name : Text) (slots places window : ℕ)
   pub window_is : unwrap_or found.window 64 ≡ window
   pub no_sessions : found.sessions ≡ None
   pub no_commits : found.commits ≡ None
-  pub limits : is_in_limits (layout_with newest_version slots places window) ≡ true
+  pub limits : is_in_limits (layout_with plain_version slots places window) ≡ true
 
 pub no_format_given : (words : List Text) → ((given : Given) → AreGiven words given → ⊥) → GivesNothingAfter (codes "format") words
 no_format_given words never (Format name slots places window) (is, (parts, s)) = let f = format_given words parts name slots places window s in never f.given f.read
@@ -115,7 +115,7 @@ no_format_found words found agrees never (Format name slots places window) (is, 
 no_format_found words found agrees never order (is, rest) = let first : initial order ≡ 102 = begins order (codes "format") is in absurd (omega (arith, first))
 
 pub out_of_limits : (found : Given) (a b c : ℕ) → a ≡ unwrap_or found.slots 1024 → b ≡ unwrap_or found.places 4 → c ≡ unwrap_or found.window 64
-    → (is_in_limits (layout_with newest_version a b c) ≡ true → ⊥)
+    → (is_in_limits (layout_with plain_version a b c) ≡ true → ⊥)
     → (name : Text) (slots places window : ℕ) → FormatFound found name slots places window → ⊥
 out_of_limits found a b c ea eb ec never name slots places window f =
     let sa : a ≡ slots = ea ∙ f.slots_are in

@@ -6,7 +6,7 @@ use Rattle.std.specs.Option.{option_to_list}
 use Rattle.std.proofs.Math.Seq.{split_at}
 use Rattle.std.proofs.lemmas.Grind.{flat_map-append}
 use Rattle.std.proofs.lemmas.List.{map-append, length-map}
-use Rattle.base.specs.Layout.{is_in_limits, layout_with, newest_version}
+use Rattle.base.specs.Layout.{is_in_limits, layout_with, plain_version}
 use Rattle.command_line.specs.Lines.{texts}
 use Rattle.command_line.specs.Numbers.{Text}
 use Rattle.command_line.specs.Scripts.{AreReadAs, BeginScript, HasBadGeometry, IfBadGeometry, IfWrongLine, IsFirstWrongLine, IsNoLineOf, IsOutOfPlace, IsShut, IsWrongAfter, IsWrongLine, SpellsScript, closing, leaves_life_open, lines_in, lines_of, lines_of_life, lines_so_far, lines_with, script_line_of, script_lines}
@@ -152,7 +152,7 @@ no-line text yielded read is all reads =
 -- ---- a draft that is finished
 
 pub spelled-in : (text : Text) (draft : Draft) (r : Result Script ScriptFault) → AreReadAs (script_lines text) (lines_in draft)
-    → IfOk r (λ script. lines_of script.geometry script.lives.items ≡ lines_in draft) → IfOk r (λ script. script.geometry.version ≡ newest_version)
+    → IfOk r (λ script. lines_of script.geometry script.lives.items ≡ lines_in draft) → IfOk r (λ script. script.geometry.version ≡ plain_version)
     → IfOk r (λ script. SpellsScript text script.geometry script.lives.items)
 spelled-in text draft (Ok script) reads same newest = record {
   lines = subst (AreReadAs (script_lines text)) (sym same) reads;
@@ -161,17 +161,17 @@ spelled-in text draft (Ok script) reads same newest = record {
 spelled-in text draft (Err fault) reads same newest = tt
 
 -- the numbers of its image alone are wrong
-outside-is : (draft : Draft) (fault : ScriptFault) → (fault ≡ BadGeometry) × (is_in_limits (layout_with newest_version draft.slots draft.places draft.window) ≡ false)
+outside-is : (draft : Draft) (fault : ScriptFault) → (fault ≡ BadGeometry) × (is_in_limits (layout_with plain_version draft.slots draft.places draft.window) ≡ false)
     → (P : ScriptFault → Type 0) → P BadGeometry → P fault
 outside-is draft fault is P p = subst P (sym is.0) p
 
 pub no-wrong-line : (draft : Draft) (Q : ℕ → Type 0) (r : Result Script ScriptFault)
-    → IfErr r (λ fault. (fault ≡ BadGeometry) × (is_in_limits (layout_with newest_version draft.slots draft.places draft.window) ≡ false)) → IfErr r (IfWrongLine Q)
+    → IfErr r (λ fault. (fault ≡ BadGeometry) × (is_in_limits (layout_with plain_version draft.slots draft.places draft.window) ≡ false)) → IfErr r (IfWrongLine Q)
 no-wrong-line draft Q (Ok script) is = tt
 no-wrong-line draft Q (Err fault) is = outside-is draft fault is (IfWrongLine Q) tt
 
 pub outside-in : (text : Text) (draft : Draft) (r : Result Script ScriptFault) → AreReadAs (script_lines text) (lines_in draft)
-    → IfErr r (λ fault. (fault ≡ BadGeometry) × (is_in_limits (layout_with newest_version draft.slots draft.places draft.window) ≡ false))
+    → IfErr r (λ fault. (fault ≡ BadGeometry) × (is_in_limits (layout_with plain_version draft.slots draft.places draft.window) ≡ false))
     → IfErr r (IfBadGeometry (HasBadGeometry text))
 outside-in text draft (Ok script) reads is = tt
 outside-in text draft (Err fault) reads is =

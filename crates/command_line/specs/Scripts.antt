@@ -2,7 +2,7 @@
 use Rattle.std.specs.Prelude.{◌≡◌, ◌≢◌, ◌⊎◌, ℕ, ◌+◌, ◌-◌, ◌^◌, min, Bool, true, false, List, [], ◌∷◌, ◌++◌, length, map, codes, ◌==◌, Option, Some, None, option_map, option_and_then, unwrap_or, if◌then◌else◌, ⊤}
 use Rattle.std.specs.List.{flat_map, slice_split}
 use Rattle.std.specs.Option.{option_to_list}
-use Rattle.base.specs.Layout.{Layout, is_in_limits, layout_with, newest_version}
+use Rattle.base.specs.Layout.{Layout, is_in_limits, layout_with, plain_version}
 use Rattle.base.specs.declared.key.Key.{Key}
 use Rattle.command_line.specs.Lines.{command_of, has_outer_space, is_skipped, is_word, words_of}
 use Rattle.command_line.specs.Numbers.{Text, number_below}
@@ -117,7 +117,7 @@ lines_of layout lives = lines_with layout.slots layout.places layout.window live
 -- the text spells these lives from a fresh image of this layout on
 pub record SpellsScript (text : Text) (layout : Layout) (lives : List ScriptLife) : Type 0 where
   pub lines : AreReadAs (script_lines text) (lines_of layout lives)
-  pub newest : layout.version ≡ newest_version
+  pub newest : layout.version ≡ plain_version
 
 -- ---- a line that is wrong
 
@@ -178,7 +178,7 @@ pub record HasBadGeometry (text : Text) : Type 0 where
   pub window : ℕ
   pub lives : List ScriptLife
   pub lines : AreReadAs (script_lines text) (lines_with slots places window lives)
-  pub outside : is_in_limits (layout_with newest_version slots places window) ≡ false
+  pub outside : is_in_limits (layout_with plain_version slots places window) ≡ false
 
 -- ---- why a text is no script
 

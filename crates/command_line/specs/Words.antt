@@ -2,7 +2,7 @@
 use Rattle.std.specs.Prelude.{◌≡◌, ℕ, ◌^◌, ◌≤◌, List, [], ◌∷◌, ◌++◌, ◌⊎◌, Bool, true, not, Option, Some, None, codes}
 use Rattle.std.specs.List.{flat_map}
 use Rattle.std.specs.Str.Parse.{starts_with_minus}
-use Rattle.base.specs.Layout.{is_in_limits, layout_with, newest_version}
+use Rattle.base.specs.Layout.{is_in_limits, layout_with, plain_version}
 use Rattle.command_line.specs.Numbers.{Text, number_below}
 use Rattle.command_line.specs.declared.orders.Choice.{Choice}
 use Rattle.command_line.specs.declared.orders.Choice.TheVariants.{Slots, Places, Window, Sessions, Commits}
@@ -84,7 +84,7 @@ pub record SpellsFormat (words : List Text) (parts : List Part) (name : Text) (s
   pub window_given : HasNumber parts Window 64 window
   pub no_sessions : IsLeftOut parts Sessions
   pub no_commits : IsLeftOut parts Commits
-  pub limits : is_in_limits (layout_with newest_version slots places window) ≡ true
+  pub limits : is_in_limits (layout_with plain_version slots places window) ≡ true
 
 -- these parts are spelled, with each option of `threads` at most once, and no other
 pub record SpellsThreads (words : List Text) (parts : List Part) (name : Text) (sessions commits : ℕ) : Type 0 where

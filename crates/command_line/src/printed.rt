@@ -222,5 +222,6 @@ fn refused_line(alloc: Global, fault: Fault) -> Result<String, AllocError>
     ensures { IfOk result (λ text. string_bytes text ≡ refused_text fault) }
 {
     let number = fault.number();
-    format!(in alloc; "refused {number} {fault}")
+    let text = fault.text();
+    format!(in alloc; "refused {number} {text}")
 }

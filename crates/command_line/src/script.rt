@@ -1,6 +1,6 @@
 ghost use Rattle.std.specs.Prelude.{◌≡◌, ◌++◌, ◌∷◌, [], false, IfOk, IfErr, IfSome, IfNone};
 ghost use Rattle.std.specs.List.{flat_map};
-ghost use Rattle.base.specs.Layout.{is_in_limits, layout_with, newest_version};
+ghost use Rattle.base.specs.Layout.{is_in_limits, layout_with, plain_version};
 ghost use Rattle.command_line.specs.Scripts.{HasBadGeometry, IfBadGeometry, IfWrongLine, IsNoLineOf, IsOutOfPlace, IsShut, IsWrongAfter, IsWrongLine, SpellsScript, TakesLine, lines_in, lines_of, lines_of_life, lines_so_far};
 ghost use Rattle.command_line.specs.declared.script.ScriptFault.TheVariants.{BadGeometry};
 ghost use Rattle.command_line.specs.declared.script_line.ScriptLine.TheVariants as line;
@@ -83,8 +83,8 @@ pub fn read_script(alloc: Global, text: &[u8]) -> Result<Script, ScriptFault>
 // The script of a draft, where the numbers of its image are within their limits.
 fn finish(draft: Draft) -> Result<Script, ScriptFault>
     ensures ok { IfOk result (λ script. lines_of script.geometry script.lives.items ≡ lines_in draft) }
-    ensures newest { IfOk result (λ script. script.geometry.version ≡ newest_version) }
-    ensures fault { IfErr result (λ fault. (fault ≡ BadGeometry) × (is_in_limits (layout_with newest_version draft.slots draft.places draft.window) ≡ false)) }
+    ensures newest { IfOk result (λ script. script.geometry.version ≡ plain_version) }
+    ensures fault { IfErr result (λ fault. (fault ≡ BadGeometry) × (is_in_limits (layout_with plain_version draft.slots draft.places draft.window) ≡ false)) }
 {
     let Draft {
         slots,

@@ -1,7 +1,7 @@
 -- What FILE keeps of the history that its image stands for.
 use Rattle.std.specs.Prelude.{◌≡◌, ℕ, ◌++◌, List, None, Bool, true, false, ⊤}
 use Rattle.base.specs.Commits.{Commit}
-use Rattle.base.specs.Layout.{Layout, layout_with, newest_version, opened_layout}
+use Rattle.base.specs.Layout.{Layout, layout_with, plain_version, opened_layout}
 use Rattle.base.specs.Images.{Image, layout_of}
 use Rattle.base.specs.Stands.{Stands}
 use Rattle.base.specs.Machine.{State, StandsClosed, closing_fault}
@@ -49,7 +49,7 @@ pub record KeepsHistories (before after : List ℕ) : Type 0 where
 
 -- what a subcommand leaves in FILE: of a format the fresh image, of a run and of threads what keeps the histories
 abbrev pub Leaves : Order → List ℕ → List ℕ → Type 0
-Leaves (Format name slots places window) before after = IsFileOf (fresh_image (layout_with newest_version slots places window)) after
+Leaves (Format name slots places window) before after = IsFileOf (fresh_image (layout_with plain_version slots places window)) after
 Leaves (Run name) before after = KeepsHistories before after
 Leaves (Check name) before after = ⊥
 Leaves (Threads name sessions commits) before after = ∥ KeepsHistories before after ∥₁

@@ -3,7 +3,7 @@ use Rattle.std.specs.Prelude.{◌≡◌, ℕ, ◌-◌, List, [], ◌∷◌, ◌+
 use Rattle.std.specs.Io.KnownBytes.{Appends}
 use Rattle.base.specs.Commits.{Commit}
 use Rattle.base.specs.Images.{Image, opening_fault}
-use Rattle.base.specs.Layout.{layout_with, newest_version, total_words}
+use Rattle.base.specs.Layout.{layout_with, plain_version, total_words}
 use Rattle.base.specs.Machine.{State, StandsAt, StandsClosed, closing_fault, closing_gate}
 use Rattle.base.specs.Openings.{OpensAs}
 use Rattle.base.specs.Stands.{Stands}

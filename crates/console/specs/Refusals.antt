@@ -5,7 +5,7 @@ use Rattle.base.specs.declared.fault.Fault.{Fault}
 use Rattle.base.specs.declared.fault.Fault.TheVariants.{BadGeometry, OutOfMemory}
 use Rattle.base.specs.Commits.{Commit}
 use Rattle.base.specs.Images.{Image, damage, opening_fault}
-use Rattle.base.specs.Layout.{is_in_limits, layout_with, newest_version}
+use Rattle.base.specs.Layout.{is_in_limits, layout_with, plain_version}
 use Rattle.base.specs.Machine.{State, closing_fault}
 use Rattle.base.specs.Stands.{Stands}
 use Rattle.command_line.specs.ImageFile.{HoldsWords, is_image_length}
@@ -31,7 +31,7 @@ refusal_line fault = refused_text fault ++ 10 ∷ []
 
 -- the numbers of a format are out of their limits
 abbrev pub IsFormatFault : ℕ → ℕ → ℕ → Fault → Type 0
-IsFormatFault slots places window fault = (is_in_limits (layout_with newest_version slots places window) ≡ false) × (fault ≡ BadGeometry)
+IsFormatFault slots places window fault = (is_in_limits (layout_with plain_version slots places window) ≡ false) × (fault ≡ BadGeometry)
 
 -- the file has the words of an image with this fault
 pub record HasFault (file : List ℕ) (Is : Image → Fault → Type 0) (fault : Fault) : Type 0 where

@@ -28,3 +28,5 @@ mod numbers;
 mod slots;
 #[cfg(test)]
 mod stories;
+#[cfg(test)]
+mod texts;

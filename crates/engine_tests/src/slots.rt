@@ -1,5 +1,5 @@
 ghost use Rattle.std.specs.Prelude.{◌≡◌, ◌<◌, ◌≤◌, IfOk, length};
-ghost use Rattle.base.specs.Layout.{layout_with, newest_version};
+ghost use Rattle.base.specs.Layout.{layout_with, plain_version};
 ghost use Rattle.pmem_model.specs.Sim.{device_of};
 
 use crate::asks::Ask::{Begin, Commit, Draw, End, Put, Stamp};
@@ -16,7 +16,7 @@ use std::alloc::Global;
 
 // Four slots and two places.
 fn geometry() -> Result<Geometry, Fault>
-    ensures { IfOk result (λ geometry. geometry ≡ layout_with newest_version 4 2 8) }
+    ensures { IfOk result (λ geometry. geometry ≡ layout_with plain_version 4 2 8) }
 {
     Geometry::new(4, 2, 8)
 }

@@ -5,6 +5,7 @@ use Rattle.std.proofs.lemmas.Bool.{and_parts, and_from, le-leb}
 use Rattle.std.proofs.lemmas.Bool.Decides.{nat_tests}
 use Rattle.base.specs.declared.gap.Gap.{Gap}
 use Rattle.base.specs.Records.{Record, with_gap, is_well_formed}
+use Rattle.base.proofs.WellFormed.{well_formed-parts}
 use Rattle.gap_list.specs.GapLists.{is_gap_list}
 use Rattle.gap_list.proofs.WithGap.{are_up, both, with_gap-all, with_gap-are_apart}
 
@@ -33,10 +34,8 @@ with_gap-tidy added gaps from goes tidy few =
 -- the gaps of a record that may rule are such a list
 pub well_formed-tidy : (version : ℕ) (r : Record) → is_well_formed version r ≡ true → is_gap_list r.gaps ≡ true
 well_formed-tidy version r h =
-    let apart = and_parts _ _ (and_parts _ _ (and_parts _ _ h).0).0 in
-    let within = and_parts _ _ apart.0 in
-    let few = and_parts _ _ (and_parts _ _ within.0).0 in
-    and_from _ _ (and_from _ _ (from_one r.gaps within.1) apart.1) few.1
+    let parts = well_formed-parts version r h in
+    and_from _ _ (and_from _ _ (from_one r.gaps parts.each) parts.apart) (le-leb (length r.gaps) 8 parts.few)
   where
     from_one : (gaps : List Gap) → list_all (λ gap. nat_le 1 gap.first && nat_le gap.first gap.last && nat_le gap.last r.persisted) gaps ≡ true → list_all is_from_one gaps ≡ true
     from_one [] all = refl

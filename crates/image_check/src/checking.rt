@@ -13,7 +13,7 @@ use std::alloc::Global;
 use std::thread::Threads;
 
 /// What a sound image holds.
-#[derive(Drop)]
+#[derive(Debug, Drop)]
 pub struct Report {
     /// The number of the record that rules it.
     pub gate: u64,

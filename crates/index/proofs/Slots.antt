@@ -6,7 +6,7 @@ use Rattle.std.proofs.lemmas.Bool.{cases_lt}
 use Rattle.std.proofs.lemmas.List.{get_or_past}
 use Rattle.std.proofs.lemmas.List.FromFn.{length-map-range_with_len, get_or-map-range_with_len}
 use Rattle.base.specs.declared.key.Key.{Key}
-use Rattle.base.specs.Layout.{Layout, is_in_limits, slot_start, slot_words, total_words}
+use Rattle.base.specs.Layout.{Layout, IsOneLine, is_in_limits, slot_start, slot_words, total_words}
 use Rattle.base.specs.Images.{layout_of, slot_word, begin_of, end_of, is_live, is_misfit}
 use Rattle.pmem.specs.Device.{Device, IsOrderly}
 use Rattle.pmem.specs.Words.{value_of, image_of}
@@ -31,11 +31,11 @@ not_true false e = refl
 -- ---- the words of a slot, on a device and in its image
 
 module _ (device : Device) (a : Layout) (slot : ℕ) (size : device.words ≡ total_words a) (limited : is_in_limits a ≡ true) (h : slot < a.slots) (laid : layout_of (image_of device) ≡ a) where
-  one : a.version ≡ 1
+  one : IsOneLine a.version
   one = (limits a limited).0
 
   eight : slot_words a.version ≡ 8
-  eight = ap slot_words one
+  eight = one.words
 
   eight-image : slot_words (layout_of (image_of device)).version ≡ 8
   eight-image = ap (λ (l : Layout). slot_words l.version) laid ∙ eight
@@ -79,7 +79,7 @@ module _ (device : Device) (a : Layout) (slot : ℕ) (size : device.words ≡ to
   pub no-slot : IsOrderly device → ((s : Slot) → IsSlot a (slot_at a slot (value_of device)) s → ⊥) → is_misfit (image_of device) slot ≡ false → ⊥
   no-slot orderly none fits =
       let image = image_of device in
-      let version = holds_version image slot within whole (ap (λ (l : Layout). l.version) laid ∙ one) (fits-words orderly) fits in
+      let version = holds_version image slot within whole (subst (λ (l : Layout). IsOneLine l.version) (sym laid) one) (fits-words orderly) fits in
       none (record { begin = slot_at a slot (value_of device) 0; end = slot_at a slot (value_of device) 1; version = version_of image slot })
       (record {
         begin = refl;

@@ -38,7 +38,7 @@ fn answer_within<R: Print + Wait>(
             *open = None;
         }
         ["abort"] => {
-            step(room, Step::Abort { session })?;
+            named(step(room, Step::Abort { session }))?;
             *open = None;
             println!(rt; "aborted")?;
         }
@@ -69,11 +69,11 @@ fn answer_alone<R: Print + Wait>(
             if wrote {
                 return answer_commit(rt, room, session);
             }
-            step(room, Step::Abort { session })?;
+            named(step(room, Step::Abort { session }))?;
             Ok(())
         }
         Err(error) => {
-            step(room, Step::Abort { session })?;
+            named(step(room, Step::Abort { session }))?;
             Err(error)
         }
     }
@@ -81,7 +81,7 @@ fn answer_alone<R: Print + Wait>(
 
 // Commits, and answers once that persists.
 fn answer_commit<R: Print + Wait>(rt: &R, room: &mut Store, session: u8) -> Result<(), Error> {
-    match commit(rt, room, session)? {
+    match named(commit(rt, room, session))? {
         Some(timestamp) => println!(rt; "committed {timestamp}")?,
         None => println!(rt; "done")?,
     }
@@ -99,18 +99,18 @@ fn obey<R: Print + Wait>(
     match words {
         ["put", table, key, row] => {
             let bytes = hex::decode(alloc, *row)?;
-            let row = Row::new(bytes.as_slice())?;
-            put(rt, room, session, key_of(table, key)?, row)?;
+            let row = named(Row::new(bytes.as_slice()))?;
+            named(put(rt, room, session, key_of(table, key)?, row))?;
             Ok(true)
         }
         ["del", table, key] => {
             let key = key_of(table, key)?;
-            step(room, Step::Delete { session, key })?;
+            named(step(room, Step::Delete { session, key }))?;
             Ok(true)
         }
         ["get", table, key] => {
             let key = key_of(table, key)?;
-            show(rt, alloc, step(room, Step::Get { session, key })?)
+            show(rt, alloc, named(step(room, Step::Get { session, key }))?)
         }
         ["scan", table, lo, hi] => {
             let scan = Step::Scan {
@@ -119,9 +119,17 @@ fn obey<R: Print + Wait>(
                 lo: lo.parse()?,
                 hi: hi.parse()?,
             };
-            show(rt, alloc, step(room, scan)?)
+            show(rt, alloc, named(step(room, scan))?)
         }
-        _ => bail!("{}", Fault::WrongState),
+        _ => bail!("{}", Fault::WrongState.text()),
+    }
+}
+
+// A fault is told by its name.
+fn named<T>(result: Result<T, Fault>) -> Result<T, Error> {
+    match result {
+        Ok(value) => Ok(value),
+        Err(fault) => bail!("{}", fault.text()),
     }
 }
 
@@ -141,9 +149,9 @@ fn show<R: Print>(rt: &R, alloc: Global, reply: Reply) -> Result<bool, Error> {
 }
 
 fn begin(room: &mut Store) -> Result<u8, Error> {
-    match step(room, Step::Begin)? {
+    match named(step(room, Step::Begin))? {
         Reply::Began(session) => Ok(session),
-        _ => bail!("{}", Fault::WrongState),
+        _ => bail!("{}", Fault::WrongState.text()),
     }
 }
 

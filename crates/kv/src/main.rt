@@ -8,7 +8,7 @@ mod transaction;
 
 use crate::answers::answer;
 use crate::opening::open;
-use anyhow::Error;
+use anyhow::{Error, bail};
 use std::alloc::Global;
 use std::env;
 use std::fs::File;
@@ -55,6 +55,6 @@ fn serve<R: Input + Print + Files<File = File> + Threads + Wait + Sync>(
     }
     match room.close() {
         Ok(_device) => Ok(println!(rt; "closed")?),
-        Err((fault, _device)) => Err(Error::from(fault)),
+        Err((fault, _device)) => bail!("{}", fault.text()),
     }
 }

@@ -11,16 +11,16 @@ use Rattle.base.specs.declared.step.Reply.{Reply}
 use Rattle.base.specs.declared.step.Reply.TheVariants.{Refused}
 use Rattle.base.specs.Search.{first_of, first_below, some_if}
 use Rattle.base.specs.Images.{Image, opening_fault, damage, faults_of, log_damage, layout_of, is_wrong_gate, needs_sweep, ruling, ruling_place, is_bad_slot, is_near_limit}
-use Rattle.base.specs.Openings.{OpensAs, StandsOpening, lines_swept, words_swept}
+use Rattle.base.specs.Openings.{OpensAs, StandsOpening}
 use Rattle.base.specs.Lives.{World}
 use Rattle.base.specs.Machine.{State, StandsClosed, StandsClosing, closing_fault, closing_gate}
 use Rattle.pmem.specs.Device.{Device, IsOrderly, MayLeave, limited, restarted}
-use Rattle.pmem.specs.Words.{Continues, LeavesOnly, Makes}
+use Rattle.pmem.specs.Words.{Continues, LeavesOnly}
 use Rattle.pmem.proofs.Images.{continues_refl, continues_trans}
 use Rattle.pmem_model.specs.declared.choice.Choice.{Choice}
 use Rattle.pmem_model.specs.Chosen.{IsChosen}
 use Rattle.pmem_model.specs.Sim.{IsWithinLimit}
-use Rattle.recovery.specs.Opened.{IsRefusal}
+use Rattle.recovery.specs.Opened.{IsRefusal, MakesOpening}
 use Rattle.room.specs.Closing.{IsClosingRefusal}
 use Rattle.room.specs.Committing.{Shows}
 use Rattle.room.specs.Steps.{StepsTo}
@@ -233,12 +233,10 @@ fails-on old new image before report fault fails same refusal images = record {
 }
 
 pub opens-on : (old new : Device) (image : Image) (before : World) (q : State) (committer : Committer) → before.image ≡ image → OpensAs image before.history before.lost q
-    → (needs_sweep image ≡ false → Makes 32 5 2 0 old new) → (needs_sweep image ≡ true → Makes (32 + words_swept image) (5 + lines_swept image) 3 0 old new)
-    → LeavesOnly old new (StandsOpening image before.history before.next) → Shows committer new q → OpensOn old before q new
-opens-on old new image before q committer same opens made made_sweeping images shows = record {
+    → MakesOpening image old new → LeavesOnly old new (StandsOpening image before.history before.next) → Shows committer new q → OpensOn old before q new
+opens-on old new image before q committer same opens made images shows = record {
   opens = subst (λ (i : Image). OpensAs i before.history before.lost q) (sym same) opens;
-  made = subst (λ (i : Image). needs_sweep i ≡ false → Makes 32 5 2 0 old new) (sym same) made;
-  made_sweeping = subst (λ (i : Image). needs_sweep i ≡ true → Makes (32 + words_swept i) (5 + lines_swept i) 3 0 old new) (sym same) made_sweeping;
+  made = subst (λ (i : Image). MakesOpening i old new) (sym same) made;
   images = subst (λ (i : Image). LeavesOnly old new (StandsOpening i before.history before.next)) (sym same) images;
   committer = committer;
   shows = shows;

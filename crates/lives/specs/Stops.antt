@@ -5,16 +5,16 @@ use Rattle.base.specs.declared.fault.Fault.TheVariants.{Device as DeviceFault}
 use Rattle.base.specs.declared.step.Step.{Step}
 use Rattle.base.specs.declared.step.Reply.{Reply}
 use Rattle.base.specs.declared.step.Reply.TheVariants.{Refused}
-use Rattle.base.specs.Images.{Image, needs_sweep, opening_fault}
+use Rattle.base.specs.Images.{Image, opening_fault}
 use Rattle.base.specs.Lives.{World, IsWorld, Life as PlainLife, is_failure}
 use Rattle.base.specs.Machine.{State, StandsClosed, StandsClosing}
-use Rattle.base.specs.Openings.{OpensAs, StandsOpening, lines_swept, words_swept}
+use Rattle.base.specs.Openings.{OpensAs, StandsOpening}
 use Rattle.pmem.specs.Device.{Device, IsOrderly, MayLeave, limited, restarted}
-use Rattle.pmem.specs.Words.{Continues, HasNoFailure, LeavesOnly, Makes, image_of, operations_of}
+use Rattle.pmem.specs.Words.{Continues, HasNoFailure, LeavesOnly, image_of, operations_of}
 use Rattle.pmem_model.specs.declared.choice.Choice.{Choice}
 use Rattle.pmem_model.specs.Chosen.{IsChosen}
 use Rattle.pmem_model.specs.Sim.{IsWithinLimit}
-use Rattle.recovery.specs.Opened.{IsRefusal}
+use Rattle.recovery.specs.Opened.{IsRefusal, MakesOpening}
 use Rattle.room.specs.Closing.{IsClosingRefusal}
 use Rattle.room.specs.Committing.{Shows}
 use Rattle.room.specs.Steps.{StepsTo}
@@ -31,8 +31,7 @@ use Rattle.lives.specs.Plain.{asked_of, report_of}
 -- device shows the opened state
 pub record OpensOn (begun : Device) (before : World) (q : State) (opened : Device) : Type 0 where
   pub opens : OpensAs before.image before.history before.lost q
-  pub made : needs_sweep before.image ≡ false → Makes 32 5 2 0 begun opened
-  pub made_sweeping : needs_sweep before.image ≡ true → Makes (32 + words_swept before.image) (5 + lines_swept before.image) 3 0 begun opened
+  pub made : MakesOpening before.image begun opened
   pub images : LeavesOnly begun opened (StandsOpening before.image before.history before.next)
   pub committer : Committer
   pub shows : Shows committer opened q

@@ -28,7 +28,7 @@ pub struct Numbers {
 }
 
 /// What an opening gave.
-#[derive(Drop)]
+#[derive(Debug, Drop)]
 pub struct Opened {
     pub numbers: Numbers,
     /// The timestamp that is drawn next.
@@ -39,7 +39,7 @@ pub struct Opened {
 }
 
 /// The report of a life.
-#[derive(Drop)]
+#[derive(Debug, Drop)]
 pub struct LifeReport {
     pub opening: Result<Opened, Fault>,
     pub replies: Vec<Reply>,

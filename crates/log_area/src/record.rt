@@ -7,7 +7,7 @@ use base::{NUMBER_LIMIT, Ts};
 use std::marker::Model;
 
 /// A group commit record: its number (the gate), the persisted and the dirty timestamp, and the gaps.
-#[derive(Clone, Copy, PartialEq, Eq)]
+#[derive(Clone, Copy, Debug, PartialEq, Eq)]
 pub struct Record {
     gate: u64,
     persisted: u64,

@@ -18,7 +18,7 @@ use Rattle.pmem.proofs.Changes.{settled_at-shrinks}
 use Rattle.base.specs.Fresh.{superblock_words, first_record, fresh_word, fresh_image}
 use Rattle.base.proofs.Fresh.{low-word, inside-word, outside-word}
 use Rattle.recovery.specs.Fresh.{IsFormatting}
-use Rattle.recovery.proofs.Opens.{version-one}
+use Rattle.base.proofs.Layouts.{one-line}
 
 -- ---- images
 
@@ -116,7 +116,7 @@ module _ (layout : Layout) (limits : is_in_limits layout ≡ true) where
 
       pub enough1 : (8 ≤ d1.words) × (d1.words ≡ 8 * (d1.words / 8))
       enough1 =
-          let wide : slot_words layout.version ≡ 8 = ap slot_words (version-one layout.version (and_parts (is_known_version layout.version) _ limits).0) in
+          let wide : slot_words layout.version ≡ 8 = (one-line layout.version (and_parts (is_known_version layout.version) _ limits).0).words in
           let total : total_words layout ≡ 8 * (1 + 4 * layout.places + layout.slots) = ap (λ (n : ℕ). 8 + 32 * layout.places + n * layout.slots) wide ∙ omega arith in
           (omega (arith, size1, log_within layout), omega (arith, size1, total))
 

@@ -9,14 +9,14 @@ use Rattle.base.specs.Images.{Image, needs_sweep, IsRuledBy}
 use Rattle.base.specs.Openings.{gaps_kept, swept, opened_slots}
 use Rattle.base.proofs.GapLists.{opened-gaps}
 use Rattle.recovery.specs.Gaps.{few_gaps}
-use Rattle.recovery.proofs.Formed.{formed}
+use Rattle.recovery.proofs.Formed.{none-long}
 
 -- ---- one timestamp
 
 in-opened : (r : Record) (t : ℕ) → is_well_formed newest_version r ≡ true → is_in (opened_gaps r) t ≡ (is_in r.gaps t || false || (nat_lt r.persisted t && nat_lt t r.dirty))
 in-opened r t well =
     (opened-gaps newest_version r well).same t
-    ∙ ap (λ (longs : List ℕ). is_in r.gaps t || list_any (nat_eq t) longs || (nat_lt r.persisted t && nat_lt t r.dirty)) (formed r well).none_long
+    ∙ ap (λ (longs : List ℕ). is_in r.gaps t || list_any (nat_eq t) longs || (nat_lt r.persisted t && nat_lt t r.dirty)) (none-long r well)
 
 pub in-skipped : (r : Record) (t : ℕ) → is_well_formed newest_version r ≡ true → (nat_lt r.persisted t && nat_lt t r.dirty) ≡ true → true ≡ is_in (opened_gaps r) t
 in-skipped r t well is = sym (in-opened r t well ∙ ap (λ (b : Bool). is_in r.gaps t || false || b) is ∙ last (is_in r.gaps t))

@@ -14,7 +14,7 @@ use Rattle.base.specs.Layout.{Layout, newest_version, slot_words, total_words, i
 use Rattle.base.specs.Records.{Record, opened_gaps, is_well_formed}
 use Rattle.base.specs.Images.{Image, IsSound, damage, layout_of, ruling, is_shown, opening_fault, is_near_limit, needs_sweep, IsRuledBy, log_damage}
 use Rattle.base.specs.Stands.{Stands}
-use Rattle.base.specs.Openings.{IsOpenedGaps, opening_record, gaps_kept, swept, opened_slots, words_swept, lines_swept, StandsOpening}
+use Rattle.base.specs.Openings.{IsOpenedGaps, Counts, opening_record, gaps_kept, swept, opened_slots, words_swept, lines_swept, StandsOpening}
 use Rattle.base.proofs.Histories.{opens-sound}
 use Rattle.base.proofs.OpenedRecords.{formed-kept}
 use Rattle.base.proofs.Opened.{covers-of}
@@ -37,7 +37,8 @@ use Rattle.recovery.specs.Live.{live_below}
 use Rattle.recovery.specs.Sweeping.{IsSwept, is_hit}
 use Rattle.recovery.specs.Opened.{HasSlotsOf, Refuses, IsExamined, Examined, HasOpened, IsCutShort, IsRefusal, sweep_operations}
 use Rattle.recovery.specs.declared.rows.LiveSlot.{LiveSlot}
-use Rattle.recovery.proofs.Formed.{IsFormed, formed}
+use Rattle.base.proofs.Layouts.{one-line}
+use Rattle.base.proofs.WellFormed.{WellFormed, well_formed-parts}
 use Rattle.recovery.proofs.Opens.{stands-opening, version-one, or-none, record_after}
 use Rattle.recovery.proofs.Ruled.{images-sweeping, ruled-swept}
 use Rattle.recovery.proofs.Beginning.{fault-log, fault-slots, fault-limit, no-damage, no-fault}
@@ -85,21 +86,21 @@ module _ (layout : Layout) (r : Record) (image : Image) (rules : IsRuledBy layou
   layout-good : is_in_limits layout ≡ true
   layout-good = laid_limits layout image (laid layout r image rules)
 
-  version-is : layout.version ≡ newest_version
-  version-is = version-one layout.version (and_parts (is_known_version layout.version) _ layout-good).0
+  known : is_known_version layout.version ≡ true
+  known = (and_parts (is_known_version layout.version) _ layout-good).0
 
   pub wide-new : slot_words layout.version ≡ 8
-  wide-new = ap slot_words version-is
+  wide-new = (one-line layout.version known).words
 
   pub formed-new : is_well_formed newest_version r ≡ true
-  formed-new = subst (λ (v : ℕ). is_well_formed v r ≡ true) version-is (fits_image layout r image rules).well_formed
+  formed-new = subst (λ (v : ℕ). is_well_formed v r ≡ true) (version-one layout.version known) (fits_image layout r image rules).well_formed
 
-  pub formed-parts : IsFormed r
-  formed-parts = formed r formed-new
+  pub formed-parts : WellFormed newest_version r
+  formed-parts = well_formed-parts newest_version r formed-new
 
   pub under : IsUnder layout r image
   unfolding IsUnder
-  under = (rules.laid_out, rules.by_record, version-is)
+  under = (rules.laid_out, rules.by_record, one-line layout.version known)
 
   pub window-small : layout.window ≤ 1024
   window-small =
@@ -147,7 +148,7 @@ module _ (image : Image) (layout : Layout) (r : Record) (gaps : Option (List Gap
   near = or-false _ _ ((λ i. nat_le (2 ^ 62) ((sym is.rules.by_record i).dirty + 2 * (sym is.rules.laid_out i).window) || nat_le (2 ^ 62) ((sym is.rules.by_record i).gate + 1)) ∙ opening-near image is.opens)
 
   pub some-dirty : 1 ≤ r.dirty
-  some-dirty = let rising : r.persisted < r.dirty = (formed-parts layout r image is.rules).rising in omega (arith, rising)
+  some-dirty = let rising : r.persisted < r.dirty = (formed-parts layout r image is.rules).below in omega (arith, rising)
 
   pub limit : r.dirty + 2 * layout.window < 2 ^ 62
   limit = leb-false (2 ^ 62) (r.dirty + 2 * layout.window) near.0
@@ -301,8 +302,7 @@ module _ (old mid new : Device) (orderly : IsOrderly mid) (rest : IsAtRest old) 
               settled_at-shrinks (spares.kept word (before_it target word lt)) (record { settled = rested word (omega (arith, lt, device-words, log_within layout)); holds = low-word word lt });
           slots = λ word le lt.
               settled_at-shrinks (spares.kept word (outside target word le)) (record { settled = rested word (omega (arith, lt, same-words)); holds = value-swept word lt });
-          made = λ few. makes_trans (none few) makes;
-          made_sweeping = λ many. made_both (words_swept (image_of old)) (lines_swept (image_of old)) (some many) makes;
+          made = counted (needs_sweep (image_of old)) refl;
         }
       where
         makes_trans : {a b c : Device} → Makes 0 0 0 0 a b → Makes 32 5 2 0 b c → Makes 32 5 2 0 a c
@@ -321,6 +321,13 @@ module _ (old mid new : Device) (orderly : IsOrderly mid) (rest : IsAtRest old) 
           failures_made = omega (arith, x.failures_made, y.failures_made);
         }
 
+        counts_by : Bool → Counts
+        counts_by b = cond b (record { stores = 32 + words_swept (image_of old); flushes = 5 + lines_swept (image_of old); fences = 3 }) (record { stores = 32; flushes = 5; fences = 2 })
+
+        counted : (b : Bool) → needs_sweep (image_of old) ≡ b → Makes (counts_by b).stores (counts_by b).flushes (counts_by b).fences 0 old new
+        counted true many = made_both (words_swept (image_of old)) (lines_swept (image_of old)) (some many) makes
+        counted false few = makes_trans (none few) makes
+
 -- a refusal leaves the device as it was
 pub images-refused : (device : Device) → IsOrderly device → IsAtRest device → (history drawn : List Commit) (next : ℕ) → Stands (image_of device) history drawn next
     → LeavesOnly device device (StandsOpening (image_of device) history next)
@@ -334,17 +341,23 @@ unfolding Refuses
 refusal-examined device fault refused = inl (refused, refl)
 
 -- it is cut short within its sweep, or within its record
+counts_at : Image → Bool → Counts
+counts_at image b = cond b (record { stores = 32 + words_swept image; flushes = 5 + lines_swept image; fences = 3 }) (record { stores = 32; flushes = 5; fences = 2 })
+
+all_at : Image → Bool → ℕ
+all_at image b = (counts_at image b).stores + (counts_at image b).flushes + (counts_at image b).fences
+
 pub cut-early : (old new : Device) → old.failures < new.failures → needs_sweep (image_of old) ≡ true → operations_of new < operations_of old + sweep_operations (image_of old) → IsCutShort old new
 cut-early old new failed many few = record {
   failed = failed;
-  few = subst (λ (b : Bool). operations_of new < operations_of old + cond b (sweep_operations (image_of old) + 39) 39) (sym many) (omega (arith, few));
+  few = subst (λ (b : Bool). operations_of new < operations_of old + all_at (image_of old) b) (sym many) (omega (arith, few));
 }
 
 pub cut-late : (old mid new : Device) → old.failures < new.failures → (needs_sweep (image_of old) ≡ false → Makes 0 0 0 0 old mid)
     → (needs_sweep (image_of old) ≡ true → Makes (words_swept (image_of old)) (lines_swept (image_of old)) 1 0 old mid) → operations_of new < operations_of mid + 39 → IsCutShort old new
 cut-late old mid new failed none made few = record { failed = failed; few = by (needs_sweep (image_of old)) refl }
   where
-    by : (b : Bool) → needs_sweep (image_of old) ≡ b → operations_of new < operations_of old + cond b (sweep_operations (image_of old) + 39) 39
+    by : (b : Bool) → needs_sweep (image_of old) ≡ b → operations_of new < operations_of old + all_at (image_of old) b
     by true is = let m = made is in omega (arith, few, m.stores_made, m.flushes_made, m.fences_made)
     by false is = let m = none is in omega (arith, few, m.stores_made, m.flushes_made, m.fences_made)
 

@@ -10,16 +10,16 @@ use Rattle.base.specs.declared.fault.Fault.TheVariants.{BadGeometry, NotFormatte
 use Rattle.base.specs.Search.{first_below, some_if}
 use Rattle.base.specs.Commits.{Commit}
 use Rattle.base.specs.Layout.{Layout, newest_version, opened_layout, slot_start, slot_words, is_known_version}
-use Rattle.base.specs.Records.{Record, is_committed, opened_gaps, is_well_formed}
+use Rattle.base.specs.Records.{Record, is_committed, opened_gaps}
 use Rattle.base.specs.Images.{Image, IsSound, layout_of, is_formatted, has_good_geometry, is_wrong_gate, is_ruled, ruling, ruling_place, slot_word, is_bad_slot, ShownUnder, IsRuledBy}
 use Rattle.base.proofs.Histories.{no_bad_slot}
 use Rattle.base.proofs.Alike.{HasRowsOf, CountsAlike, none_below, good-same, tables-same}
 use Rattle.base.proofs.OpenedRecords.{still-committed}
-use Rattle.base.proofs.Opened.{opened-rows, opened-still, opened-counts, covers-of, wide-of, rising-of}
+use Rattle.base.proofs.Opened.{opened-rows, opened-still, opened-counts, covers-of, rising-of}
+use Rattle.base.proofs.Layouts.{line-words}
 use Rattle.base.specs.Stands.{Stands}
 use Rattle.base.specs.Openings.{StandsOpening, opening_record, opened, gaps_kept, opened_slots}
 use Rattle.recovery.specs.Opened.{HasSlotsOf}
-use Rattle.recovery.proofs.Formed.{IsFormed, formed}
 
 -- ---- sound images
 
@@ -81,10 +81,6 @@ same-layout a known =
 pub known-good : (image : Image) → has_good_geometry image ≡ true → is_known_version (layout_of image).version ≡ true
 known-good image good = (and_parts _ _ (and_parts _ _ (and_parts _ _ (and_parts _ _ (and_parts _ _ good).0).0).0).0).0
 
-pub formed-ruling : (image : Image) → IsFaultless image → IsFormed (ruling image)
-formed-ruling image is =
-    formed (ruling image) (subst (λ (v : ℕ). is_well_formed v (ruling image) ≡ true) (version-one (layout_of image).version is.known) (and_parts _ _ (and_parts _ _ is.well_ruled).1).1)
-
 -- ---- openings
 
 committed-below : (r : Record) (t : ℕ) → is_committed r t ≡ true → t ≤ r.persisted
@@ -120,7 +116,7 @@ stands-same before image history drawn next r s like alike rules later still =
     let ruled = rules.by_record in
     let slots : (layout_of before).slots ≡ (layout_of image).slots = ap (λ (l : Layout). l.slots) (sym like.laid_out) in
     let places : (layout_of before).places ≡ (layout_of image).places = ap (λ (l : Layout). l.places) (sym like.laid_out) in
-    let wide : 8 ≤ slot_words (layout_of before).version = omega (arith, wide-of before s.sound) in
+    let wide : 8 ≤ slot_words (layout_of before).version = line-words (layout_of before).version in
     let good : (slot : ℕ) → slot < (layout_of before).slots → is_bad_slot (ruling image) image slot ≡ false =
     λ slot h. subst (λ (x : Record). is_bad_slot x image slot ≡ false) (sym ruled) (good-same before image like (ruling before) r alike wide slot h (no_bad_slot before s.sound slot h)) in
     record {

@@ -12,7 +12,8 @@ use Rattle.base.specs.Openings.{StandsOpening, is_mark}
 use Rattle.base.specs.Stands.{Stands}
 use Rattle.base.proofs.Alike.{HasRowsOf, CountsAlike}
 use Rattle.base.proofs.OpenedRecords.{uncommitted-in}
-use Rattle.base.proofs.Opened.{covers-of, wide-of, below-of}
+use Rattle.base.proofs.Opened.{covers-of, below-of}
+use Rattle.base.proofs.Layouts.{line-words}
 use Rattle.base.proofs.Sweeps.{mark-of, unmarked-low}
 use Rattle.pmem.specs.Device.{Device}
 use Rattle.pmem.specs.Words.{value_of, image_of, Survives, IsAtRest, IsSettledAt, IsWithin, OldOr, Keeps, LeavesOnly}
@@ -88,8 +89,8 @@ module _ (a : Layout) (r : Record) (old : Device) (rest : IsAtRest old) (rules :
       mark-sweeping : (slot w : ℕ) → slot < a.slots → w < 2 → (slot_word image slot w ≡ slot_word (image_of old) slot w) ⊎ ((slot_word image slot w ≡ 0) × (is_committed (ruling (image_of old)) (slot_word (image_of old) slot w) ≡ false))
       mark-sweeping slot w h two = by (within word lt)
         where
-          wide : slot_words a.version ≡ 8
-          wide = ap (λ (l : Layout). slot_words l.version) (sym rules.laid_out) ∙ wide-of (image_of old) sound
+          wide : 8 ≤ slot_words a.version
+          wide = line-words a.version
 
           word : ℕ
           word = slot_start a slot + w

@@ -17,7 +17,7 @@ use Rattle.pmem.proofs.Changes.{shrinks_refl, shrinks_trans, stored-shrinks, flu
 use Rattle.pmem.proofs.Counts.{makes_none, makes-fenced}
 use Rattle.pmem.proofs.Steps.{history-flushed_same, history-stored_other, survivors-stored_same}
 use Rattle.pmem.proofs.Words.{ready-marked}
-use Rattle.recovery.proofs.Opens.{version-one}
+use Rattle.base.proofs.Layouts.{one-line}
 use Rattle.recovery.specs.Opened.{sweep_operations}
 use Rattle.recovery.specs.Sweeping.{lies, IsZeroed, is_hit, IsSwept, zeroed, cleaned}
 
@@ -92,7 +92,7 @@ count-upto test n (suc m) le = elim (cases_eq n (suc m)) [
 -- ---- one slot
 
 pub wide-limits : (a : Layout) → is_in_limits a ≡ true → slot_words a.version ≡ 8
-wide-limits a limits = ap slot_words (version-one a.version (and_parts (is_known_version a.version) _ limits).0)
+wide-limits a limits = (one-line a.version (and_parts (is_known_version a.version) _ limits).0).words
 
 module _ (a : Layout) (r : Record) (slot : ℕ) (wide : slot_words a.version ≡ 8) where
   mark-first : is_mark a (slot_start a slot) ≡ true

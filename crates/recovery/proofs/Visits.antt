@@ -15,7 +15,7 @@ use Rattle.base.specs.declared.key.Key.{Key}
 use Rattle.base.specs.declared.fault.Fault.{Fault}
 use Rattle.base.specs.declared.fault.Fault.TheVariants.{Damaged, OutOfMemory}
 use Rattle.base.specs.Keys.{key_eq}
-use Rattle.base.specs.Layout.{Layout, slot_start, slot_words, total_words}
+use Rattle.base.specs.Layout.{Layout, IsOneLine, slot_start, slot_words, total_words}
 use Rattle.base.specs.Records.{Record, is_committed}
 use Rattle.base.specs.Search.{first_below}
 use Rattle.base.specs.Images.{Image, layout_of, ruling, slot_word, begin_of, end_of, key_of, row_of, is_ahead, is_shown, is_misfit, is_bad_slot, is_second}
@@ -174,7 +174,7 @@ module _ (device : Device) (layout : Layout) (r : Record) (slot : ℕ) (size : d
   unfolding IsUnder
   laid-out = under.0
 
-  one : layout.version ≡ 1
+  one : IsOneLine layout.version
   unfolding IsUnder
   one = under.2
 
@@ -190,7 +190,7 @@ module _ (device : Device) (layout : Layout) (r : Record) (slot : ℕ) (size : d
 
   in-slot : (w : ℕ) → w < 8 → slot_start layout slot + w < device.words
   in-slot w lt =
-      let wide : slot_words layout.version ≡ 8 = ap slot_words one in
+      let wide : slot_words layout.version ≡ 8 = one.words in
       let product : slot_words layout.version * (slot + 1) ≤ slot_words layout.version * layout.slots = mul-le-mul_left {m = slot + 1} {n = layout.slots} (slot_words layout.version) (omega arith) in
       omega (arith, size, product, wide, lt)
 
@@ -201,7 +201,7 @@ module _ (device : Device) (layout : Layout) (r : Record) (slot : ℕ) (size : d
   of_image = slot_word (image_of device) slot
 
   wide-image : slot_words (layout_of (image_of device)).version ≡ 8
-  wide-image = ap (λ (l : Layout). slot_words l.version) laid-out ∙ ap slot_words one
+  wide-image = ap (λ (l : Layout). slot_words l.version) laid-out ∙ one.words
 
   within : slot < (layout_of (image_of device)).slots
   within = omega (arith, h, ap (λ (l : Layout). l.slots) laid-out)
@@ -214,7 +214,7 @@ module _ (device : Device) (layout : Layout) (r : Record) (slot : ℕ) (size : d
   held s is = record {
     each = λ w low high.
         let lt : w < 8 = omega (arith, high, wide-image) in
-        word-same w lt ∙ is.version.each w low (omega (arith, lt, ap slot_words one));
+        word-same w lt ∙ is.version.each w low (omega (arith, lt, one.words));
     fits = subst (λ (l : Layout). Fits l s.version) (sym laid-out) is.version.fits;
   }
 
@@ -233,14 +233,14 @@ module _ (device : Device) (layout : Layout) (r : Record) (slot : ℕ) (size : d
       by true is = is
       by false is =
           let image = image_of device in
-          let version = holds_version image slot within whole (ap (λ (l : Layout). l.version) laid-out ∙ one) (fits-words orderly) is in
+          let version = holds_version image slot within whole (subst (λ (l : Layout). IsOneLine l.version) (sym laid-out) one) (fits-words orderly) is in
           absurd (none (record { begin = slot_at layout slot (value_of device) 0; end = slot_at layout slot (value_of device) 1; version = version_of image slot })
           (record {
             begin = refl;
             end = refl;
             version = record {
               each = λ w low high.
-                  let lt : w < 8 = omega (arith, high, ap slot_words one) in
+                  let lt : w < 8 = omega (arith, high, one.words) in
                   sym (word-same w lt) ∙ version.each w low (omega (arith, lt, wide-image));
               fits = subst (λ (l : Layout). Fits l (version_of image slot)) laid-out version.fits;
             };

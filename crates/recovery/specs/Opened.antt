@@ -1,5 +1,5 @@
 -- The record that an opening writes, what it leaves alone, and what an opening gives.
-use Rattle.std.specs.Prelude.{◌≡◌, ◌⊎◌, ℕ, ◌+◌, ◌*◌, ◌<◌, ◌≤◌, Bool, true, false, not, ◌&&◌, if◌then◌else◌, List, length, map, slice_index, Option, Some, None}
+use Rattle.std.specs.Prelude.{◌≡◌, ◌⊎◌, ℕ, ◌+◌, ◌*◌, ◌<◌, ◌≤◌, Bool, false, not, ◌&&◌, List, length, map, slice_index, Option, Some, None}
 use Rattle.std.specs.List.{range_with_len}
 use Rattle.base.specs.declared.gap.Gap.{Gap}
 use Rattle.base.specs.declared.fault.Fault.{Fault}
@@ -7,7 +7,7 @@ use Rattle.base.specs.declared.fault.Fault.TheVariants.{OutOfMemory, Device as D
 use Rattle.base.specs.Layout.{Layout}
 use Rattle.base.specs.Records.{Record, opened_gaps}
 use Rattle.base.specs.Images.{Image, layout_of, ruling, is_shown, opening_fault, needs_sweep, IsRuledBy}
-use Rattle.base.specs.Openings.{opening_record, gaps_kept, opened_slots, words_swept, lines_swept}
+use Rattle.base.specs.Openings.{opening_record, opening_counts, gaps_kept, opened_slots, words_swept, lines_swept}
 use Rattle.pmem.specs.Device.{Device}
 use Rattle.pmem.specs.Words.{value_of, image_of, IsSettledAt, Makes, Spares, operations_of}
 use Rattle.log_area.specs.Rulings.{HoldsRecord}
@@ -51,6 +51,10 @@ is_swept device word = needs_sweep (image_of device) && is_hit (layout_of (image
 abbrev pub IsLeftAlone : Device → Layout → Record → ℕ → Type 0
 IsLeftAlone device layout r word = IsOutside (begun layout r) word × (is_swept device word ≡ false)
 
+-- from one device to the other lead as many operations of each kind as an opening of the image makes, and none failed
+abbrev pub MakesOpening : Image → Device → Device → Type 0
+MakesOpening image old new = Makes (opening_counts image).stores (opening_counts image).flushes (opening_counts image).fences 0 old new
+
 -- The old device, at rest, was opened, and the new one is what that made of it: this record rules it, the superblock is as
 -- it was, and so are the slots, but for what a sweep of more than eight gaps stores; no crash meanwhile leaves anything else
 -- in a word that is left alone; the next timestamp is the dirty one of the record that ruled before, these slots are free,
@@ -66,16 +70,15 @@ pub record HasOpened (old new : Device) (layout : Layout) (r : Record) (next : �
   pub left_alone : Spares (IsLeftAlone old layout r) old new
   pub superblock : (word : ℕ) → word < 8 → IsSettledAt new word (value_of old word)
   pub slots : (word : ℕ) → 8 + 32 * layout.places ≤ word → word < old.words → IsSettledAt new word (slice_index (opened_slots (image_of old)) word)
-  pub made : needs_sweep (image_of old) ≡ false → Makes 32 5 2 0 old new
-  pub made_sweeping : needs_sweep (image_of old) ≡ true → Makes (32 + words_swept (image_of old)) (5 + lines_swept (image_of old)) 3 0 old new
+  pub made : MakesOpening (image_of old) old new
 
 -- how many operations a sweep makes
 abbrev pub sweep_operations : Image → ℕ
 sweep_operations image = words_swept image + lines_swept image + 1
 
--- and an opening: those of a record, after those of a sweep where there are more than eight gaps
+-- and an opening
 abbrev pub opening_operations : Image → ℕ
-opening_operations image = if needs_sweep image then sweep_operations image + 39 else 39
+opening_operations image = (opening_counts image).stores + (opening_counts image).flushes + (opening_counts image).fences
 
 -- an operation of an opening failed, before as many were made as the opening makes
 pub record IsCutShort (old new : Device) : Type 0 where

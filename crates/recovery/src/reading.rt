@@ -15,7 +15,7 @@ use std::alloc::Global;
 use std::thread::Threads;
 
 /// What a sound image holds.
-#[derive(Drop)]
+#[derive(Debug, Drop)]
 pub struct Found {
     pub geometry: Geometry,
     pub ruling: Record,

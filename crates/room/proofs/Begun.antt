@@ -16,7 +16,8 @@ use Rattle.base.specs.Openings.{OpensAs, IsOpenedGaps, opened as opened-state, o
 use Rattle.base.specs.Machine.{State}
 use Rattle.base.proofs.Alike.{HasRowsOf, key-same, misfit-same}
 use Rattle.base.proofs.Histories.{history_in, sound-stands, opens-sound}
-use Rattle.base.proofs.Opened.{opened-rows, same_opened, whole-of, size-of, covers-of, wide-of}
+use Rattle.base.proofs.Opened.{opened-rows, same_opened, whole-of, size-of, covers-of}
+use Rattle.base.proofs.Layouts.{line-words}
 use Rattle.pmem.specs.Device.{Device}
 use Rattle.pmem.specs.Words.{image_of, HasNoFailure}
 use Rattle.pmem.specs.declared.device.Pmem.{Ghosts}
@@ -111,7 +112,7 @@ module _ (old new : Device) (layout : Layout) (r : Record) (next : ℕ) (free : 
   }
 
   wide : 8 ≤ slot_words (layout_of image).version
-  wide = omega (arith, wide-of image sound)
+  wide = line-words (layout_of image).version
 
   -- so the index that was made before is that of the opened device
   pub found-now : (was : List Bool) (slots : ℕ) (index : List (Key × Entry)) → was ≡ free → slots ≡ layout.slots → HasFound image was slots index → HasFound (image_of new) free layout.slots index
@@ -129,11 +130,7 @@ module _ (old new : Device) (layout : Layout) (r : Record) (next : ℕ) (free : 
 
   -- no operation failed
   pub no-failure : HasNoFailure old new
-  no-failure = by (needs_sweep image) refl
-    where
-      by : (b : Bool) → needs_sweep image ≡ b → HasNoFailure old new
-      by true is = let made = (opened.made_sweeping is).failures_made in omega (arith, made)
-      by false is = let made = (opened.made is).failures_made in omega (arith, made)
+  no-failure = let made = opened.made.failures_made in omega (arith, made)
 
   -- ---- the state that it opens as
 

@@ -4,7 +4,7 @@ ghost use Rattle.base.specs.Images.{opening_fault};
 ghost use Rattle.base.specs.Stands.{Stands};
 ghost use Rattle.base.specs.Openings.{StandsOpening};
 ghost use Rattle.pmem.specs.Words.{LeavesOnly, IsAtRest, image_of};
-ghost use Rattle.recovery.specs.Opened.{IsRefusal};
+ghost use Rattle.recovery.specs.Opened.{IsRefusal, MakesOpening};
 ghost use Rattle.recovery.specs.Read.{TellsLogFault};
 ghost use Rattle.room.specs.Opening.{HasBegun};
 
@@ -20,10 +20,10 @@ use std::thread::Threads;
 
 impl<D: Pmem + Drop + Send + Sync> Room<D> {
     ghost use Rattle.std.specs.Prelude.{◌≡◌, ◌+◌, ◌*◌, ◌<◌, ◌≤◌, true, false, None, slice_index, MatchResult};
-    ghost use Rattle.base.specs.Images.{layout_of, needs_sweep};
+    ghost use Rattle.base.specs.Images.{layout_of};
     ghost use Rattle.base.specs.Machine.{State};
-    ghost use Rattle.base.specs.Openings.{OpensAs, opened_slots, words_swept, lines_swept};
-    ghost use Rattle.pmem.specs.Words.{value_of, IsSettledAt, Makes, HasNoFailure};
+    ghost use Rattle.base.specs.Openings.{OpensAs, opened_slots};
+    ghost use Rattle.pmem.specs.Words.{value_of, IsSettledAt, HasNoFailure};
     ghost use Rattle.room.specs.Room.{Shows, device_of};
 
     /// Opens a device at rest, and returns it where that is refused. More than eight gaps are swept first.
@@ -46,9 +46,7 @@ impl<D: Pmem + Drop + Send + Sync> Room<D> {
 
         // It makes the operations of one record, after those of a sweep where there are more than eight gaps, and the
         // words of superblock and slots are settled as they were, but for what a sweep stores.
-        ensures made { IfOk result (λ room. needs_sweep (image_of (D.state device)) ≡ false → Makes 32 5 2 0 (D.state device) (device_of D.state room)) }
-        ensures made_sweeping { IfOk result (λ room. needs_sweep (image_of (D.state device)) ≡ true
-            → Makes (32 + words_swept (image_of (D.state device))) (5 + lines_swept (image_of (D.state device))) 3 0 (D.state device) (device_of D.state room)) }
+        ensures made { IfOk result (λ room. MakesOpening (image_of (D.state device)) (D.state device) (device_of D.state room)) }
         ensures superblock { IfOk result (λ room. (word : ℕ) → word < 8 → IsSettledAt (device_of D.state room) word (value_of (D.state device) word)) }
         ensures slots { IfOk result (λ room. (word : ℕ) → 8 + 32 * (layout_of (image_of (D.state device))).places ≤ word → word < (D.state device).words
             → IsSettledAt (device_of D.state room) word (slice_index (opened_slots (image_of (D.state device))) word)) }

@@ -17,7 +17,7 @@ use Rattle.session_invariant.proofs.Present.{present-sees}
 use Rattle.session_invariant.proofs.Reading.{reads}
 use Rattle.session_steps.specs.declared.sessions.Sessions.{Sessions}
 use Rattle.session_steps.specs.Shows.{Hidden, plain_of, Agrees, Shows, ShowsAny}
-use Rattle.session_steps.proofs.Limits.{formed-gaps}
+use Rattle.gap_list.proofs.Tidy.{well_formed-tidy}
 use Rattle.session_steps.proofs.Reading.{laid-out, words-are}
 use Rattle.session_steps.proofs.Snapshots.{no-longs}
 
@@ -25,7 +25,7 @@ upheld : (s : Sessions) (device : Device) (q : State) (shown : Shows s device q)
 upheld s device q shown = subst (λ (p : State). Upholds shown.hidden.origin p device) shown.plain shown.upholds
 
 pub gaps-shown : (s : Sessions) (device : Device) → ShowsAny s device → is_gap_list s.numbers.record.gaps ≡ true
-gaps-shown s device (q, shown) = formed-gaps s.numbers.geometry.version s.numbers.record (upheld s device q shown).keeps.numbers.formed
+gaps-shown s device (q, shown) = well_formed-tidy s.numbers.geometry.version s.numbers.record (upheld s device q shown).keeps.numbers.formed
 
 pub words-shown : (s : Sessions) (device : Device) → IsOrderly device → ShowsAny s device → device.words ≡ total_words s.numbers.geometry
 words-shown s device orderly (q, shown) = words-are shown.hidden.origin (plain_of s shown.hidden) device orderly (upheld s device q shown)

@@ -12,6 +12,7 @@ use Rattle.base.specs.Commits.{Commit, writes_key, last_writer}
 use Rattle.base.specs.Layout.{slot_start}
 use Rattle.base.specs.Records.{is_committed}
 use Rattle.base.specs.Stands.{has_timestamp}
+use Rattle.base.proofs.Layouts.{one-line as line-of}
 use Rattle.base.specs.Machine.{State, Drawn as PlainDrawn, Version, Writer, BySession, ByCommit, is_by, by_commit, drawn_of, version_lines}
 use Rattle.snapshot.specs.Snapshots.{Seen, covers}
 use Rattle.txn.specs.declared.drawn.DrawnCommit.{DrawnCommit}
@@ -84,7 +85,7 @@ plus-none n = omega arith
 
 -- a version takes one line
 one-line : (s : Sessions) (h : Hidden) → Holds s h → version_lines s.numbers.geometry ≡ 1
-one-line s h holds = ap (λ (v : ℕ). version_lines (record { version = v; slots = s.numbers.geometry.slots; places = s.numbers.geometry.places; window = s.numbers.geometry.window })) (version-known s.numbers.geometry holds.keeps.numbers.layout)
+one-line s h holds = ap (λ (n : ℕ). cond (nat_eq n 16) 2 1) (line-of s.numbers.geometry.version (version-known s.numbers.geometry holds.keeps.numbers.layout)).words
 
 module _ (s : Sessions) (h : Hidden) (n : ℕ) (snapshot : Seen) (writes : List Write) (holds : Holds s h) (at : transaction_at s.transactions n ≡ Some (Active snapshot writes)) where
   -- the timestamp that is drawn

@@ -15,7 +15,8 @@ use Rattle.state_invariant.specs.Kept.{Origin, KeepsHand, KeepsNumbers, Keeps, c
 use Rattle.state_invariant.proofs.Lookups.{find-passes, find-all}
 use Rattle.state_invariant.proofs.Lists.{all-take, all-map, find-map, rising-above, rising-rest, rising-with, rising-filter, all-drop, all-filter_with}
 use Rattle.state_invariant.proofs.Commits.{commit_at-has, commit_at-some, commit_at-append, commit_at-drawn, drawn_at-timestamp, all-by_timestamp, timestamp-all, committed-bounds, uncommitted-gap}
-use Rattle.state_invariant.proofs.Records.{well_formed-further, well_formed-dropped, well_formed-longs}
+use Rattle.base.proofs.WellFormed.{well_formed-parts, well_formed-from}
+use Rattle.state_invariant.proofs.Records.{well_formed-further, well_formed-dropped}
 use Rattle.state_invariant.proofs.Covering.{no_gap-above}
 
 -- ---- the greatest of a list
@@ -416,13 +417,10 @@ module _ (o : Origin) (q : State) (kept : Keeps o q) where
   -- they are as few as a record may name
   pub passed-few : length (passed_over q) ≤ most_longs q.layout.version
   passed-few = elim reach-is [
-    | inl same ↦ omega (arith, rising-among (passed_over q) q.ruling.longs passed-rising (longs-rising q.layout.version q.ruling kept.numbers.formed) (among same), well_formed-longs q.layout.version q.ruling kept.numbers.formed)
+    | inl same ↦ omega (arith, rising-among (passed_over q) q.ruling.longs passed-rising (well_formed-parts q.layout.version q.ruling kept.numbers.formed).rising (among same), (well_formed-parts q.layout.version q.ruling kept.numbers.formed).fewer)
     | inr some ↦ below some.0 some.1 some.2
   ]
     where
-      longs-rising : (version : ℕ) (r : Record) → is_well_formed version r ≡ true → are_rising r.longs ≡ true
-      longs-rising version r e = (and_parts _ (are_rising r.longs) e).1
-
       among : reach q ≡ q.ruling.persisted → list_all (λ t. list_any (nat_eq t) q.ruling.longs) (passed_over q) ≡ true
       among same = all-map (λ t. list_any (nat_eq t) q.ruling.longs) time_of (filter (is_passed q) q.drawn) (each (filter (is_passed q) q.drawn) (λ t any. let f = passed-found t any in drawn-long t f.0 f.1 (omega (arith, f.3, same))) (λ t any. any-map (nat_eq t) time_of (filter (is_passed q) q.drawn) ∙ any))
         where
@@ -476,19 +474,17 @@ module _ (o : Origin) (q : State) (kept : Keeps o q) where
       → length longs ≤ most_longs version → list_all (λ t. nat_le 1 t && nat_le t persisted && not (is_in gaps t)) longs ≡ true → are_rising longs ≡ true
       → is_well_formed version (record { gate = gate; persisted = persisted; dirty = dirty; gaps = gaps; longs = longs }) ≡ true
   with-longs version gate persisted dirty gaps longs formed few each up =
-      let p = nat_lt persisted dirty && nat_lt dirty (2 ^ 62) && nat_le (length gaps) 8 in
-      let all = list_all (λ (gap : Gap). nat_le 1 gap.first && nat_le gap.first gap.last && nat_le gap.last persisted) gaps in
-      let a = and_parts (p && nat_le 0 (most_longs version) && all && are_apart gaps && true) true formed in
-      let b = and_parts (p && nat_le 0 (most_longs version) && all && are_apart gaps) true a.0 in
-      let c = and_parts (p && nat_le 0 (most_longs version) && all) (are_apart gaps) b.0 in
-      let d = and_parts (p && nat_le 0 (most_longs version)) all c.0 in
-      let e = and_parts p (nat_le 0 (most_longs version)) d.0 in
-      let one = list_all (λ t. nat_le 1 t && nat_le t persisted && not (is_in gaps t)) longs in
-      and_from (p && nat_le (length longs) (most_longs version) && all && are_apart gaps && one) (are_rising longs)
-      (and_from (p && nat_le (length longs) (most_longs version) && all && are_apart gaps) one
-      (and_from (p && nat_le (length longs) (most_longs version) && all) (are_apart gaps)
-      (and_from (p && nat_le (length longs) (most_longs version)) all
-      (and_from p (nat_le (length longs) (most_longs version)) e.0 (le-leb (length longs) (most_longs version) few)) d.1) c.1) each) up
+      let was = well_formed-parts version (record { gate = gate; persisted = persisted; dirty = dirty; gaps = gaps; longs = [] }) formed in
+      well_formed-from version (record { gate = gate; persisted = persisted; dirty = dirty; gaps = gaps; longs = longs }) (record {
+        below = was.below;
+        limit = was.limit;
+        few = was.few;
+        fewer = few;
+        each = was.each;
+        apart = was.apart;
+        within = each;
+        rising = up;
+      })
 
   formed-target : is_well_formed q.layout.version (target_of q) ≡ true
   formed-target = with-longs q.layout.version (q.ruling.gate + 1) (reach q) (q.next + q.layout.window) (standing_gaps q) (passed_over q) (by q.swept) passed-few (each passed-each) passed-rising

@@ -16,7 +16,8 @@ use Rattle.base.specs.Stands.{Stands}
 use Rattle.base.specs.Openings.{IsOpenedGaps, OpensAs, opening_record, opened_under, held_under, gaps_kept, opened_slots}
 use Rattle.base.specs.Machine.{State, Version, BySession, ByCommit}
 use Rattle.base.proofs.Histories.{first_below-none, key_eq-same}
-use Rattle.base.proofs.OpenedRecords.{same-committed, formed-over, formed-parts}
+use Rattle.base.proofs.WellFormed.{well_formed-parts}
+use Rattle.base.proofs.OpenedRecords.{same-committed, formed-over}
 use Rattle.base.proofs.Opened.{IsOpening, ruled_before, opening-of, same_opened}
 use Rattle.state_invariant.specs.Kept.{Origin, origin_of, Keeps, HasSlot, IsInUse, wanted, version_by, last_of, commit_at, row_by, are_distinct}
 use Rattle.state_invariant.specs.Shown.{word_of, IsNever, IsHidden, IsNewest, ShowsAs, SlotsShow, class_of_version, Newest, Replaced}
@@ -160,7 +161,7 @@ module _ (a : Layout) (r : Record) (image : Image) (history : List Commit) (lost
   begins = origin_of start
 
   less : r.persisted < r.dirty
-  less = (formed-parts a.version r opening.formed).persisted
+  less = (well_formed-parts a.version r opening.formed).below
 
   good : (slot : ℕ) → slot < a.slots → IsGood r image slot
   good slot h = good-slot r image slot (opening.good slot h)

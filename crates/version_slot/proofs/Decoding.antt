@@ -2,13 +2,14 @@
 use Rattle.std.proofs.Common.{◌≡◌, inl, inr, ℕ, zero, suc, ◌+◌, ◌-◌, ◌*◌, ◌/◌, ◌%◌, ◌^◌, ◌<◌, ◌≤◌, Bool, cond, eqb, IsTrue, List, length, get_or, set, take, drop, map, sym, ◌∙◌, ap, subst, arith, lit<}
 use Rattle.std.specs.Int.{byte_at, bytes_low_first, from_le_bytes, to_le_bytes, w64}
 use Rattle.std.specs.List.{range_with_len}
-use Rattle.std.proofs.lemmas.Bool.{cases_eq, cases_lt, ne_eqb}
+use Rattle.std.proofs.lemmas.Bool.{and_parts, cases_eq, cases_lt, ne_eqb}
 use Rattle.std.proofs.lemmas.Bool.Decides.{nat_tests}
 use Rattle.std.proofs.lemmas.List.{get_or-drop, get_or-take, get_or_past, length-drop, length-take-le}
 use Rattle.std.proofs.lemmas.List.Edits.{fill_by_more}
 use Rattle.std.proofs.lemmas.List.FromFn.{get_or-map-range_with_len, length-map-range_with_len}
 use Rattle.std.proofs.lemmas.Nat.{le_bytes_8, mod_below, from_le_bytes-to_le_bytes_8}
-use Rattle.base.specs.Layout.{Layout, slot_words, row_limit, is_in_limits}
+use Rattle.base.specs.Layout.{Layout, IsOneLine, slot_words, row_limit, is_in_limits, is_known_version}
+use Rattle.base.proofs.Layouts.{one-line}
 use Rattle.version_slot.specs.declared.words.Version.{Version}
 use Rattle.version_slot.specs.Words.{link_number, row_word, slot_byte, version_word, IsVersion}
 
@@ -46,9 +47,9 @@ row_byte row words last i each small lt =
     get_or-drop (8 * (i / 8)) row j 0 ∙ sym (get_or-map-range_with_len (λ (k : ℕ). get_or row (8 * (i / 8) + k) 0) 0 8 j j 0 j_lt (omega arith)))) (i % 8) (omega arith)
     ∙ ap (λ (k : ℕ). get_or row k 0) (let e : 8 * (i / 8) + i % 8 ≡ i = omega arith in e)
 
--- a known version of the layout
-pub limits : (a : Layout) → IsTrue (is_in_limits a) → (a.version ≡ 1) × (a.slots ≤ 65536)
-limits a h = grind (arith, nat_tests)
+-- what the limits of a layout say
+pub limits : (a : Layout) → IsTrue (is_in_limits a) → IsOneLine a.version × (a.slots ≤ 65536)
+limits a h = (one-line a.version (and_parts (is_known_version a.version) _ h).0, grind (arith, nat_tests))
 
 pub word_past : (v : Version) (k : ℕ) → version_word v (4 + k) ≡ row_word v.row k
 word_past v k =
@@ -112,7 +113,7 @@ module _ (words : ℕ → ℕ) (bytes : List ℕ) (n : ℕ) (size : length bytes
       let within : n + i < 32 = omega (arith, length-drop {A = ℕ}, lt, size) in
       get_or-drop n bytes i 0 ∙ read (n + i) within ∙ byte_is layout words v is wide (n + i) (omega arith) ∙ get_or_past v.row (n + i) 0 (omega arith)
 
-  module _ (layout : Layout) (one : layout.version ≡ 1) (v : Version) (fit : (w : ℕ) → words w < 2 ^ 64) (small : (i : ℕ) → get_or bytes i 0 < 2 ^ 8)
+  module _ (layout : Layout) (one : IsOneLine layout.version) (v : Version) (fit : (w : ℕ) → words w < 2 ^ 64) (small : (i : ℕ) → get_or bytes i 0 < 2 ^ 8)
       (n_is : n ≡ words 3 / 2 ^ 16 % 2 ^ 16) (short : n ≤ 32) (zeros : (i : ℕ) → i < length (drop n bytes) → get_or (drop n bytes) i 0 ≡ 0)
       (key : v.key.key ≡ words 2) (table : v.key.table ≡ words 3 % 2 ^ 16) (row : v.row ≡ take n bytes) (link : link_number v.previous ≡ words 3 / 2 ^ 32) (linked : words 3 / 2 ^ 32 ≤ layout.slots) where
     row_size : length v.row ≡ n
@@ -155,11 +156,11 @@ module _ (words : ℕ → ℕ) (bytes : List ℕ) (n : ℕ) (size : length bytes
     ]
 
     limit_is : row_limit layout.version ≡ 32
-    limit_is = ap row_limit one
+    limit_is = one.limit
 
     pub holds : IsVersion layout words v
     holds = record {
-      each = subst (λ (version : ℕ). (w : ℕ) → 2 ≤ w → w < slot_words version → words w ≡ version_word v w) (sym one) each;
+      each = λ w from to. each w from (omega (arith, to, one.words));
       fits = record {
         table = omega (arith, table);
         row = omega (arith, row_size, limit_is);

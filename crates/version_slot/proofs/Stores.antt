@@ -7,7 +7,7 @@ use Rattle.pmem.specs.Words.{value_of, Keeps, OldOr}
 use Rattle.pmem.proofs.Steps.{history-stored_other, value-stored_same, value-stored_other, survivors-stored_same}
 use Rattle.pmem.proofs.Counts.{makes_none, makes-stored, makes-failed}
 use Rattle.pmem.proofs.Runs.{keeps_none, keeps_weaken, keeps-stored, keeps-failed}
-use Rattle.base.specs.Layout.{Layout, slot_start, slot_words}
+use Rattle.base.specs.Layout.{Layout, IsOneLine, slot_start, slot_words}
 use Rattle.version_slot.specs.declared.words.Version.{Version}
 use Rattle.version_slot.specs.Words.{filled_word, version_word, slot_at, Fits, IsVersion}
 use Rattle.version_slot.specs.Filling.{IsOfRun, IsFill, StoresRun, Fills}
@@ -87,10 +87,10 @@ pub either : {T E A B C : Type 0} (r : Result T E) → OnOk r A → OnErr r B �
 either (Ok x) a b f g = f a
 either (Err e) a b f g = g b
 
-module _ (layout : Layout) (one : layout.version ≡ 1) (slot first : ℕ) (at : first ≡ slot_start layout slot) (words : List ℕ) (v : Version) (size : length words ≡ 8)
+module _ (layout : Layout) (one : IsOneLine layout.version) (slot first : ℕ) (at : first ≡ slot_start layout slot) (words : List ℕ) (v : Version) (size : length words ≡ 8)
     (each : (w : ℕ) → 1 ≤ w → w < 8 → get_or words w 0 ≡ filled_word v w) (old new : Device) where
   seven : slot_words layout.version - 1 ≡ 7
-  seven = ap (λ (version : ℕ). slot_words version - 1) one
+  seven = omega (arith, one.words)
 
   all : length (take 7 (drop 1 words)) ≡ 7
   all = omega (arith, length-take-le 7 (drop 1 words) (omega (arith, length-drop {A = ℕ} 1 words, size)))

@@ -1,7 +1,7 @@
 use Rattle.std.proofs.Common.{◌-◌, List, ap, subst, arith}
 use Rattle.std.proofs.lemmas.Result.{on_ok_weaker, on_err_weaker}
 use Rattle.pmem.specs.Trace.{Operation}
-use Rattle.base.specs.Layout.{row_limit, slot_words}
+use Rattle.base.specs.Layout.{slot_words}
 use Rattle.version_slot.specs.Operations.{Runs, StopsWithin}
 use Rattle.version_slot.specs.Words.{Fits}
 use Rattle.version_slot.proofs.Decoding.{limits}
@@ -17,7 +17,7 @@ returns-clause-ok g c =
 pub returns-clause-version : goal.returns-clause-version
 returns-clause-version g c =
     let words = c.words-words.ensures in
-    let fits : Fits c.args.geometry c.args.version.now = record { table = words.table; row = omega (arith, words.row, ap row_limit ((limits c.args.geometry c.slot_start.ensures.in_limits).0)); bytes = words.bytes; previous = c.requires.previous } in
+    let fits : Fits c.args.geometry c.args.version.now = record { table = words.table; row = omega (arith, words.row, (limits c.args.geometry c.slot_start.ensures.in_limits).0.limit); bytes = words.bytes; previous = c.requires.previous } in
     on_ok_weaker c.store_all.result
     (filled_version c.args.geometry c.args.slot c.args.version.now 0 (g.D.Pmem.state c.args.device.now) (g.D.Pmem.state c.store_all.new.device) fits)
     (returns-clause-ok g c)
