@@ -26,34 +26,42 @@ goes-more state old mid new step read result goes obeys q shows =
     let b = obeys a.0 a.1 in
     (b.1, b.2.shows)
 
-answers_committed : Option ℕ → Result (Option ℕ) Fault
-answers_committed t = Ok t
+-- whether a timestamp is told, and which
+is_told : Result (Option ℕ) Fault → Bool
+is_told (Ok (Some t)) = true
+is_told (Ok None) = false
+is_told (Err fault) = false
 
-polled_covered : (q : State) (session : Option Session) (t : ℕ) → answers_committed (Some t) ≡ committed_of (polled q session) → has_timestamp q.history t ≡ true
-polled_covered q None t is = cc
-polled_covered q (Some (Active begun writes)) t is = cc
-polled_covered q (Some WroteNothing) t is = cc
+told_time : Result (Option ℕ) Fault → ℕ
+told_time (Ok (Some t)) = t
+told_time (Ok None) = 0
+told_time (Err fault) = 0
+
+no_time : {A : Type 0} → true ≡ false → A
+no_time e = absurd (apart e)
+  where
+    apart : true ≡ false → ⊥
+    apart h = cc
+
+told : ℕ → Result (Option ℕ) Fault
+told t = Ok (Some t)
+
+polled_covered : (q : State) (session : Option Session) (t : ℕ) → told t ≡ committed_of (polled q session) → has_timestamp q.history t ≡ true
+polled_covered q None t is = no_time (ap is_told is)
+polled_covered q (Some (Active begun writes)) t is = no_time (ap is_told is)
+polled_covered q (Some WroteNothing) t is = no_time (ap is_told is)
 polled_covered q (Some (Drew t')) t is = by_test (has_timestamp q.history t') refl is
   where
-    by_test : (b : Bool) → has_timestamp q.history t' ≡ b → answers_committed (Some t) ≡ committed_of (cond b (Committed t') Waiting) → has_timestamp q.history t ≡ true
-    by_test true e is' = cc
-    by_test false e is' = cc
+    by_test : (b : Bool) → has_timestamp q.history t' ≡ b → told t ≡ committed_of (cond b (Committed t') Waiting) → has_timestamp q.history t ≡ true
+    by_test true e is' = ap (λ (n : ℕ). has_timestamp q.history n) (ap told_time is') ∙ e
+    by_test false e is' = no_time (ap is_told is')
 
 -- a poll that tells a timestamp finds it covered
-covered_by_poll : (q q' : State) (n t : ℕ) (reply : Reply) → Stepped q (Poll n) reply q' → answers_committed (Some t) ≡ committed_of reply → has_timestamp q'.history t ≡ true
-covered_by_poll q q' n t reply (refused fault why is same) told = refused_told (told ∙ ap committed_of is)
-  where
-    refused_told : answers_committed (Some t) ≡ committed_of (Refused fault) → has_timestamp q'.history t ≡ true
-    refused_told e = cc
-covered_by_poll q q' n t reply (answered none is same) told = subst (λ (s : State). has_timestamp s.history t ≡ true) (sym same) (polled_covered q (q.sessions n) t (told ∙ ap committed_of is))
-covered_by_poll q q' n t reply (memory_refused none takes is same) told = absurd (no_memory takes)
-  where
-    no_memory : false ≡ true → ⊥
-    no_memory e = cc
-covered_by_poll q q' n t reply (device_failed none operates is same) told = absurd (no_operation operates)
-  where
-    no_operation : false ≡ true → ⊥
-    no_operation e = cc
+covered_by_poll : (q q' : State) (n t : ℕ) (reply : Reply) → Stepped q (Poll n) reply q' → told t ≡ committed_of reply → has_timestamp q'.history t ≡ true
+covered_by_poll q q' n t reply (refused fault why is same) tells = no_time (ap is_told (tells ∙ ap committed_of is))
+covered_by_poll q q' n t reply (answered none is same) tells = subst (λ (s : State). has_timestamp s.history t ≡ true) (sym same) (polled_covered q (q.sessions n) t (tells ∙ ap committed_of is))
+covered_by_poll q q' n t reply (memory_refused none takes is same) tells = no_time (sym takes)
+covered_by_poll q q' n t reply (device_failed none operates is same) tells = no_time (sym operates)
 
 -- an end leaves the history as it is
 history_by_end : (q q' : State) (n : ℕ) (reply : Reply) → Stepped q (End n) reply q' → q'.history ≡ q.history

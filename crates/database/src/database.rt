@@ -81,7 +81,7 @@ impl<D: Pmem + Drop, R: Wait + Drop> Drop for Database<D, R> {
 }
 
 impl<D: Pmem + Drop, R: Wait + Drop> Database<D, R> {
-    /// Begins a transaction, of 256 at most. It reads the rows that are committed now, and what it writes.
+    /// Begins a transaction, which reads the rows that are committed now, and what it writes. 62 may be open.
     pub fn begin(&self) -> Result<Transaction<'_, D, R>, Fault> {
         let mut desk = self.shared.desk(&self.rt);
         let Some(room) = &mut desk.room else {

@@ -10,7 +10,5 @@ mod steps;
 mod transaction;
 mod workers;
 
-pub use committing::{finish, prepare, put_collecting, stamp_all};
 pub use database::{Database, Refused};
-pub use steps::{abort, begin, collect, delete, draw, end, get, poll, put, scan, stamp};
 pub use transaction::Transaction;
