@@ -27,12 +27,12 @@ goes-more state old mid new step read result goes obeys q shows =
     (b.1, b.2.shows)
 
 -- whether a timestamp is told, and which
-is_told : Result (Option ℕ) Fault → Bool
+abbrev is_told : Result (Option ℕ) Fault → Bool
 is_told (Ok (Some t)) = true
 is_told (Ok None) = false
 is_told (Err fault) = false
 
-told_time : Result (Option ℕ) Fault → ℕ
+abbrev told_time : Result (Option ℕ) Fault → ℕ
 told_time (Ok (Some t)) = t
 told_time (Ok None) = 0
 told_time (Err fault) = 0
@@ -43,7 +43,7 @@ no_time e = absurd (apart e)
     apart : true ≡ false → ⊥
     apart h = cc
 
-told : ℕ → Result (Option ℕ) Fault
+abbrev told : ℕ → Result (Option ℕ) Fault
 told t = Ok (Some t)
 
 polled_covered : (q : State) (session : Option Session) (t : ℕ) → told t ≡ committed_of (polled q session) → has_timestamp q.history t ≡ true
