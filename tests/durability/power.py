@@ -25,7 +25,7 @@ def calls_in(trace):
     for line in open(trace):
         process, rest = line.split(None, 1)
         if "<unfinished" in rest:
-            pending[process] = rest.split("<unfinished")[0]
+            pending[process] = rest.split("<unfinished")[0].rstrip()
         elif "resumed>" in rest:
             yield pending.pop(process) + rest.split("resumed>")[1]
         else:

@@ -1,157 +1,92 @@
-use crate::opening::Store;
-use crate::transaction::{commit, put, step};
 use anyhow::{Error, bail};
+use base::Ts;
 use base::fault::Fault;
 use base::key::Key;
 use base::row::Row;
-use base::step::{Reply, Step};
+use database::{Database, Transaction};
+use pmem_file::{FileLines, FilePmem};
 use std::alloc::Global;
 use std::sync::Wait;
 
+type Device = FilePmem<FileLines>;
+
+const HELP: &str = "put T K HEX | get T K | del T K | scan T LO HI | begin | commit | abort | help";
+
+/// Prints what it is told.
+#[derive(Drop)]
+pub struct Teller<'a, R> {
+    pub rt: &'a R,
+    pub alloc: Global,
+    /// A person types the lines: there is a prompt, and rows are a table.
+    pub is_prompted: bool,
+}
+
 /// Obeys a line, and prints the answer. Outside `begin` and `commit` each line is a transaction.
-pub fn answer<R: Print + Wait>(
-    rt: &R,
-    alloc: Global,
-    room: &mut Store,
-    open: &mut Option<u8>,
+pub fn answer<'a, R: Print + Wait + Drop>(
+    teller: &Teller<'_, R>,
+    database: &'a Database<Device, R>,
+    open: &mut Option<Transaction<'a, Device, R>>,
     line: &str,
 ) -> Result<(), Error> {
-    let words: Vec<&str> = line.split_whitespace().collect(alloc)?;
-    match *open {
-        Some(session) => answer_within(rt, alloc, room, open, session, words.as_slice()),
-        None => answer_alone(rt, alloc, room, open, words.as_slice()),
-    }
-}
-
-// A line within the transaction of this session.
-fn answer_within<R: Print + Wait>(
-    rt: &R,
-    alloc: Global,
-    room: &mut Store,
-    open: &mut Option<u8>,
-    session: u8,
-    words: &[&str],
-) -> Result<(), Error> {
-    match words {
-        ["commit"] => {
-            answer_commit(rt, room, session)?;
-            *open = None;
+    let words: Vec<&str> = line.split_whitespace().collect(teller.alloc)?;
+    match (words.as_slice(), open.take()) {
+        ([], transaction) => *open = transaction,
+        (["help"], transaction) => {
+            *open = transaction;
+            println!(teller.rt; "{HELP}")?;
         }
-        ["abort"] => {
-            named(step(room, Step::Abort { session }))?;
-            *open = None;
-            println!(rt; "aborted")?;
+        (["begin"], None) => {
+            *open = Some(database.begin()?);
+            println!(teller.rt; "begun")?;
         }
-        _ => {
-            if obey(rt, alloc, room, session, words)? {
-                println!(rt; "written")?;
+        (["commit"], Some(transaction)) => teller.committed(transaction.commit()?)?,
+        (["abort"], Some(transaction)) => {
+            transaction.abort()?;
+            println!(teller.rt; "aborted")?;
+        }
+        (words, Some(mut transaction)) => {
+            let obeyed = obey(teller, &mut transaction, words);
+            *open = Some(transaction);
+            if obeyed? {
+                println!(teller.rt; "written")?;
             }
         }
-    }
-    Ok(())
-}
-
-// A line that begins a transaction, or is one of its own.
-fn answer_alone<R: Print + Wait>(
-    rt: &R,
-    alloc: Global,
-    room: &mut Store,
-    open: &mut Option<u8>,
-    words: &[&str],
-) -> Result<(), Error> {
-    let session = begin(room)?;
-    if let ["begin"] = words {
-        *open = Some(session);
-        return Ok(println!(rt; "begun")?);
-    }
-    match obey(rt, alloc, room, session, words) {
-        Ok(wrote) => {
-            if wrote {
-                return answer_commit(rt, room, session);
+        (words, None) => {
+            let mut transaction = database.begin()?;
+            if obey(teller, &mut transaction, words)? {
+                teller.committed(transaction.commit()?)?;
             }
-            named(step(room, Step::Abort { session }))?;
-            Ok(())
         }
-        Err(error) => {
-            named(step(room, Step::Abort { session }))?;
-            Err(error)
-        }
-    }
-}
-
-// Commits, and answers once that persists.
-fn answer_commit<R: Print + Wait>(rt: &R, room: &mut Store, session: u8) -> Result<(), Error> {
-    match named(commit(rt, room, session))? {
-        Some(timestamp) => println!(rt; "committed {timestamp}")?,
-        None => println!(rt; "done")?,
     }
     Ok(())
 }
 
 // One line within a transaction. Whether it wrote.
-fn obey<R: Print + Wait>(
-    rt: &R,
-    alloc: Global,
-    room: &mut Store,
-    session: u8,
+fn obey<R: Print + Wait + Drop>(
+    teller: &Teller<'_, R>,
+    transaction: &mut Transaction<'_, Device, R>,
     words: &[&str],
 ) -> Result<bool, Error> {
     match words {
         ["put", table, key, row] => {
-            let bytes = hex::decode(alloc, *row)?;
-            let row = named(Row::new(bytes.as_slice()))?;
-            named(put(rt, room, session, key_of(table, key)?, row))?;
+            let bytes = hex::decode(teller.alloc, *row)?;
+            transaction.put(key_of(table, key)?, Row::new(bytes.as_slice())?)?;
             Ok(true)
         }
         ["del", table, key] => {
-            let key = key_of(table, key)?;
-            named(step(room, Step::Delete { session, key }))?;
+            transaction.delete(key_of(table, key)?)?;
             Ok(true)
         }
         ["get", table, key] => {
-            let key = key_of(table, key)?;
-            show(rt, alloc, named(step(room, Step::Get { session, key }))?)
+            teller.row(transaction.get(key_of(table, key)?)?)?;
+            Ok(false)
         }
         ["scan", table, lo, hi] => {
-            let scan = Step::Scan {
-                session,
-                table: table.parse()?,
-                lo: lo.parse()?,
-                hi: hi.parse()?,
-            };
-            show(rt, alloc, named(step(room, scan))?)
+            let rows = transaction.scan(table.parse()?, lo.parse()?, hi.parse()?)?;
+            teller.rows(rows.as_slice())?;
+            Ok(false)
         }
-        _ => bail!("{}", Fault::WrongState.text()),
-    }
-}
-
-// A fault is told by its name.
-fn named<T>(result: Result<T, Fault>) -> Result<T, Error> {
-    match result {
-        Ok(value) => Ok(value),
-        Err(fault) => bail!("{}", fault.text()),
-    }
-}
-
-// Prints the rows of a reply. Nothing was written.
-fn show<R: Print>(rt: &R, alloc: Global, reply: Reply) -> Result<bool, Error> {
-    match &reply {
-        Reply::Row(Some(row)) => println!(rt; "row {}", hex::encode(alloc, row.as_bytes())?)?,
-        Reply::Rows(rows) => {
-            for (key, row) in rows.as_slice() {
-                println!(rt; "row {} {}", key.key, hex::encode(alloc, row.as_bytes())?)?;
-            }
-            println!(rt; "end {}", rows.as_slice().len())?;
-        }
-        _ => println!(rt; "none")?,
-    }
-    Ok(false)
-}
-
-fn begin(room: &mut Store) -> Result<u8, Error> {
-    match named(step(room, Step::Begin))? {
-        Reply::Began(session) => Ok(session),
-        _ => bail!("{}", Fault::WrongState.text()),
+        _ => bail!("{}", Fault::WrongState),
     }
 }
 
@@ -160,4 +95,43 @@ fn key_of(table: &str, key: &str) -> Result<Key, Error> {
         table: table.parse()?,
         key: key.parse()?,
     })
+}
+
+impl<R: Print> Teller<'_, R> {
+    pub fn prompt(&self) -> Result<(), Error> {
+        if self.is_prompted {
+            print!(self.rt; "> ")?;
+        }
+        Ok(())
+    }
+
+    // What is durable now.
+    fn committed(&self, timestamp: Option<Ts>) -> Result<(), Error> {
+        match timestamp {
+            Some(timestamp) => println!(self.rt; "committed {timestamp}")?,
+            None => println!(self.rt; "done")?,
+        }
+        Ok(())
+    }
+
+    fn row(&self, row: Option<Row>) -> Result<(), Error> {
+        match row {
+            Some(row) => println!(self.rt; "row {}", hex::encode(self.alloc, row.as_bytes())?)?,
+            None => println!(self.rt; "none")?,
+        }
+        Ok(())
+    }
+
+    fn rows(&self, rows: &[(Key, Row)]) -> Result<(), Error> {
+        for (key, row) in rows {
+            let row = hex::encode(self.alloc, row.as_bytes())?;
+            if self.is_prompted {
+                println!(self.rt; "{:>20} | {row}", key.key)?;
+            } else {
+                println!(self.rt; "row {} {row}", key.key)?;
+            }
+        }
+        println!(self.rt; "end {}", rows.len())?;
+        Ok(())
+    }
 }

@@ -3,16 +3,15 @@
 
 mod answers;
 mod opening;
-mod told;
-mod transaction;
 
-use crate::answers::answer;
-use crate::opening::open;
+use crate::answers::{Teller, answer};
+use crate::opening::{open, sentence};
 use anyhow::{Error, bail};
+use database::Database;
 use std::alloc::Global;
 use std::env;
 use std::fs::File;
-use std::io::{BufRead, BufReader};
+use std::io::{BufRead, BufReader, IsTerminal};
 use std::process::ExitCode;
 use std::rt::Files;
 use std::sync::Wait;
@@ -29,7 +28,11 @@ fn main(rt: HostRuntime) -> Result<ExitCode, Error> {
         eprintln!(rt; "usage: kv FILE")?;
         return Ok(ExitCode::from(BAD_WORDS));
     }
-    match serve(&rt, alloc, words[0].as_str()) {
+    let is_prompted = rt.stdin().is_terminal();
+    if is_prompted {
+        eprintln!(rt; "opening {}; help says more", words[0])?;
+    }
+    match serve(&rt, alloc, words[0].as_str(), is_prompted) {
         Ok(()) => Ok(ExitCode::from(0)),
         Err(error) => {
             eprintln!(rt; "kv: {error}")?;
@@ -39,22 +42,31 @@ fn main(rt: HostRuntime) -> Result<ExitCode, Error> {
 }
 
 // Opens the file, answers each line of input, and closes the file.
-fn serve<R: Input + Print + Files<File = File> + Threads + Wait + Sync>(
-    rt: &R,
-    alloc: Global,
-    name: &str,
-) -> Result<(), Error> {
-    let mut room = open(rt, alloc, name)?;
+fn serve<
+    R: Input + Print + Files<File = File> + Threads + Wait + Copy + Drop + Send + Sync + 'static,
+>(rt: &R, alloc: Global, name: &str, is_prompted: bool) -> Result<(), Error> {
+    let database = match Database::open(*rt, alloc, open(rt, alloc, name)?) {
+        Ok(database) => database,
+        Err(refused) => bail!("{}", sentence(refused.fault)),
+    };
     println!(rt; "ready")?;
-    let mut session = None;
+    let teller = Teller {
+        rt,
+        alloc,
+        is_prompted,
+    };
+    let mut transaction = None;
+    teller.prompt()?;
     for line in BufReader::new(alloc, rt.reader())?.lines(alloc) {
-        let answered = answer(rt, alloc, &mut room, &mut session, line?.as_str());
+        let answered = answer(&teller, &database, &mut transaction, line?.as_str());
         if let Err(error) = answered {
             println!(rt; "refused: {error}")?;
         }
+        teller.prompt()?;
     }
-    match room.close() {
+    drop(transaction);
+    match database.close() {
         Ok(_device) => Ok(println!(rt; "closed")?),
-        Err((fault, _device)) => bail!("{}", fault.text()),
+        Err(refused) => bail!("{}", sentence(refused.fault)),
     }
 }

@@ -1,24 +1,25 @@
+ghost use Rattle.std.specs.Prelude.{IfOk};
+ghost use Rattle.pmem.specs.Words.{IsAtRest};
+ghost use Rattle.pmem_file.specs.Traces.{device_of};
+
 use anyhow::{Error, bail};
 use base::fault::Fault;
 use base::geometry::Geometry;
 use pmem::Pmem;
 use pmem_file::{FileLines, FilePmem};
 use recovery::format;
-use room::Room;
 use std::alloc::Global;
 use std::fs::File;
 use std::rt::Files;
-use std::thread::Threads;
-
-/// A room over a file.
-pub type Store = Room<FilePmem<FileLines>>;
 
 /// Opens the file, which is made and formatted where it is missing or empty.
-pub fn open<R: Files<File = File> + Threads + Sync>(
+pub fn open<R: Files<File = File>>(
     rt: &R,
     alloc: Global,
     name: &str,
-) -> Result<Store, Error> {
+) -> Result<FilePmem<FileLines>, Error>
+    ensures { IfOk result (λ device. IsAtRest (device_of device.trace)) }
+{
     let geometry = Geometry::new(1_024, 2, 1_024)?;
     let mut device = FilePmem::open(rt, alloc, name, geometry.words())?;
     if is_blank(&device, geometry) {
@@ -26,10 +27,7 @@ pub fn open<R: Files<File = File> + Threads + Sync>(
             bail!("{}", sentence(fault));
         }
     }
-    match Room::open(rt, alloc, device) {
-        Ok(room) => Ok(room),
-        Err((fault, _device)) => bail!("{}", sentence(fault)),
-    }
+    Ok(device)
 }
 
 // Whether nothing was ever kept in it: it has the length of a new file, and its first word, as those of the slots, is 0. So
@@ -48,14 +46,15 @@ fn is_blank(device: &FilePmem<FileLines>, geometry: Geometry) -> bool {
     true
 }
 
-// Why the file isn't opened.
-fn sentence(fault: Fault) -> &'static str {
+/// Why the file isn't opened, or not closed as it should be.
+pub fn sentence(fault: Fault) -> &'static str {
     match fault {
         Fault::NotFormatted | Fault::BadGeometry => "the file is no image",
         Fault::Damaged(_) => "the image is damaged",
         Fault::Version(_) => "the image is of another version",
-        Fault::Device => "the file can't be written",
+        Fault::Device | Fault::Failed => "the file can't be written",
         Fault::TimestampsOut => "the image has no timestamps left",
+        Fault::NoThread => "no thread can be made",
         _ => "there is no memory",
     }
 }

@@ -1,0 +1,93 @@
+use crate::desk::Shared;
+use crate::steps;
+use crate::transaction::Transaction;
+use crate::workers::start_workers;
+use base::fault::Fault;
+use pmem::Pmem;
+use room::Room;
+use std::alloc::Global;
+use std::sync::{Arc, Wait};
+use std::thread::Threads;
+
+/// Why a device isn't opened or closed, and the device.
+#[derive(Drop)]
+pub struct Refused<D> {
+    pub fault: Fault,
+    pub device: D,
+}
+
+/// A store of rows over a device, with a committer and a collector in threads of their own. Threads may share it. A drop ends
+/// these, and leaves the device as a crash would.
+pub struct Database<D: Pmem + Drop, R: Wait + Drop> {
+    pub(crate) rt: R,
+    pub(crate) shared: Arc<Shared<D>, Global>,
+}
+
+impl<
+    D: Pmem + Drop + Send + Sync + 'static,
+    R: Threads + Wait + Copy + Drop + Send + Sync + 'static,
+> Database<D, R> {
+    ghost use Rattle.std.specs.Prelude.{◌≡◌, List, ℕ, None, IfOk, IfErr};
+    ghost use Rattle.base.specs.Commits.{Commit};
+    ghost use Rattle.base.specs.Images.{opening_fault};
+    ghost use Rattle.base.specs.Stands.{Stands};
+    ghost use Rattle.pmem.specs.Words.{IsAtRest, image_of};
+    ghost use Rattle.database.specs.Opening.{IsOpeningRefusal, KeepsHistory};
+
+    /// Opens a device at rest. `NoThread` and want of memory for the threads come before anything is done to it.
+    pub fn open(rt: R, alloc: Global, device: D) -> Result<Database<D, R>, Refused<D>>
+        requires at_rest { IsAtRest (D.state device) }
+        ensures may_open { IfOk result (λ _. opening_fault (image_of (D.state device)) ≡ None) }
+        ensures fault { IfErr result (λ e. IsOpeningRefusal (D.state device) (D.state e.device) e.fault) }
+        ensures images { (history drawn : List Commit) (next : ℕ) → Stands (image_of (D.state device)) history drawn next
+            → IfErr result (λ e. KeepsHistory (D.state device) (D.state e.device) history next) }
+    {
+        let Ok(shared) = Arc::new(alloc, Shared::new()) else {
+            return Err(Refused {
+                fault: Fault::OutOfMemory,
+                device,
+            });
+        };
+        if let Err(fault) = start_workers(&rt, &shared) {
+            return Err(Refused { fault, device });
+        }
+        match Room::open(&rt, alloc, device) {
+            Ok(room) => {
+                shared.put_in(&rt, room);
+                Ok(Database { rt, shared })
+            }
+            Err((fault, device)) => {
+                shared.end_work(&rt);
+                Err(Refused { fault, device })
+            }
+        }
+    }
+
+    /// Ends the workers, covers all that was committed, and returns the device. No transaction is open: each borrows from it.
+    pub fn close(self) -> Result<D, Refused<D>> {
+        self.shared.end_work(&self.rt);
+        match self.shared.take_out(&self.rt).close() {
+            Ok(device) => Ok(device),
+            Err((fault, device)) => Err(Refused { fault, device }),
+        }
+    }
+}
+
+impl<D: Pmem + Drop, R: Wait + Drop> Drop for Database<D, R> {
+    fn drop(self) {
+        let Database { rt, shared } = self;
+        shared.end_work(&rt);
+    }
+}
+
+impl<D: Pmem + Drop, R: Wait + Drop> Database<D, R> {
+    /// Begins a transaction, which reads the rows that are committed now, and what it writes. 62 may be open.
+    pub fn begin(&self) -> Result<Transaction<'_, D, R>, Fault> {
+        let mut desk = self.shared.desk(&self.rt);
+        let Some(room) = &mut desk.room else {
+            unreachable!()
+        };
+        let session = steps::begin(room)?;
+        Ok(Transaction::new(&self.rt, &self.shared, session))
+    }
+}

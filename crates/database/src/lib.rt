@@ -1,0 +1,14 @@
+//! A store of rows over a device, for any number of threads: transactions, and two workers of its own, which sleep while there
+//! is nothing to do. It keeps no history.
+#![tactic(auto)]
+
+mod committing;
+mod database;
+mod desk;
+mod replies;
+mod steps;
+mod transaction;
+mod workers;
+
+pub use database::{Database, Refused};
+pub use transaction::Transaction;

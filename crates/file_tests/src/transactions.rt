@@ -1,0 +1,165 @@
+//! Each call of a database once, over lines in memory, and what the next opening finds.
+ghost use Rattle.std.specs.Prelude.{IfOk};
+ghost use Rattle.pmem.specs.Words.{IsAtRest};
+ghost use Rattle.pmem_file.specs.Traces.{device_of};
+
+use base::Ts;
+use base::fault::Fault;
+use base::geometry::Geometry;
+use base::key::Key;
+use base::row::Row;
+use database::{Database, Refused};
+use pmem_file::{FilePmem, MemoryLines};
+use recovery::format;
+use std::alloc::Global;
+use std::process::Abort;
+use std::sync::Wait;
+use std::thread;
+use std::thread::Threads;
+
+type Device = FilePmem<MemoryLines>;
+
+const KEY: Key = Key { table: 1, key: 7 };
+
+const OTHER: Key = Key { table: 1, key: 8 };
+
+const COMMITS: u8 = 20;
+
+fn row(number: u8) -> Result<Row, Fault> {
+    Row::new(&[number])
+}
+
+// A device at rest with what was found.
+fn found(alloc: Global, words: Vec<u64>) -> Result<Device, Fault>
+    ensures { IfOk result (λ device. IsAtRest (device_of device.trace)) }
+{
+    FilePmem::of_lines(alloc, MemoryLines::new(words))
+}
+
+// A new image, at rest.
+fn fresh(alloc: Global, slots: u64) -> Result<Device, Fault>
+    ensures { IfOk result (λ device. IsAtRest (device_of device.trace)) }
+{
+    let geometry = Geometry::new(slots, 2, 64)?;
+    let Ok(words) = vec![in alloc; 0; geometry.words() as usize] else {
+        return Err(Fault::OutOfMemory);
+    };
+    let mut device = found(alloc, words)?;
+    match format(&mut device, geometry) {
+        Ok(()) => found(alloc, device.into_lines().into_words()),
+        Err(fault) => Err(fault),
+    }
+}
+
+fn device_in(closed: Result<Device, Refused<Device>>) -> Result<Vec<u64>, Fault> {
+    match closed {
+        Ok(device) => Ok(device.into_lines().into_words()),
+        Err(refused) => Err(refused.fault),
+    }
+}
+
+fn opened<R: Threads + Wait + Copy + Drop + Send + Sync + 'static>(
+    rt: &R,
+    alloc: Global,
+    words: Vec<u64>,
+) -> Result<Database<Device, R>, Fault> {
+    match Database::open(*rt, alloc, found(alloc, words)?) {
+        Ok(database) => Ok(database),
+        Err(refused) => Err(refused.fault),
+    }
+}
+
+// Commits the row under the key.
+fn commit<R: Wait + Drop>(
+    database: &Database<Device, R>,
+    key: Key,
+    number: u8,
+) -> Result<Option<Ts>, Fault> {
+    let mut transaction = database.begin()?;
+    transaction.put(key, row(number)?)?;
+    transaction.commit()
+}
+
+fn get<R: Wait + Drop>(database: &Database<Device, R>, key: Key) -> Result<Option<Row>, Fault> {
+    let transaction = database.begin()?;
+    let row = transaction.get(key);
+    transaction.abort()?;
+    row
+}
+
+// Two keys, one of which is deleted then; a transaction that is dropped; one that writes nothing.
+fn make_commits<R: Wait + Drop + Abort>(
+    rt: &R,
+    database: &Database<Device, R>,
+) -> Result<(), Fault> {
+    let mut transaction = database.begin()?;
+    transaction.put(KEY, row(1)?)?;
+    transaction.put(OTHER, row(2)?)?;
+    let rows = transaction.scan(1, 0, 9)?;
+    let committed = transaction.commit()?;
+    assert!(rt; rows.as_slice() == [(KEY, row(1)?), (OTHER, row(2)?)].as_slice());
+    assert!(rt; committed == Some(1));
+
+    let mut dropped = database.begin()?;
+    dropped.put(KEY, row(9)?)?;
+    drop(dropped);
+    let mut deleting = database.begin()?;
+    deleting.delete(OTHER)?;
+    let committed = deleting.commit()?;
+    let nothing = database.begin()?.commit()?;
+    assert!(rt; committed == Some(2) && nothing.is_none());
+    Ok(())
+}
+
+#[test]
+fn a_reopened_database_has_what_was_committed(rt: HostRuntime) -> Result<(), Fault> {
+    let alloc = rt.alloc();
+    let database = opened(&rt, alloc, fresh(alloc, 8)?.into_lines().into_words())?;
+    make_commits(&rt, &database)?;
+    let words = device_in(database.close())?;
+    let database = opened(&rt, alloc, words)?;
+    let kept = get(&database, KEY)?;
+    let deleted = get(&database, OTHER)?;
+    assert!(rt; kept == Some(row(1)?) && deleted.is_none());
+    device_in(database.close())?;
+    Ok(())
+}
+
+#[test]
+fn the_second_of_two_that_write_a_key_conflicts(rt: HostRuntime) -> Result<(), Fault> {
+    let alloc = rt.alloc();
+    let database = opened(&rt, alloc, fresh(alloc, 8)?.into_lines().into_words())?;
+    let mut first = database.begin()?;
+    let mut second = database.begin()?;
+    first.put(KEY, row(1)?)?;
+    second.put(KEY, row(2)?)?;
+    let committed = first.commit()?;
+    let conflict = second.commit();
+    assert!(rt; committed == Some(1) && conflict == Err(Fault::Conflict(KEY)));
+    let kept = get(&database, KEY)?;
+    assert!(rt; kept == Some(row(1)?));
+    device_in(database.close())?;
+    Ok(())
+}
+
+// Commits one number after another under the key, in few slots, so that old ones are collected.
+fn count<R: Wait + Drop>(database: &Database<Device, R>, key: Key) -> Result<(), Fault> {
+    for number in 1..=COMMITS {
+        commit(database, key, number)?;
+    }
+    Ok(())
+}
+
+#[test]
+fn two_threads_commit_on_two_keys(rt: HostRuntime) -> Result<(), Fault> {
+    let alloc = rt.alloc();
+    let database = opened(&rt, alloc, fresh(alloc, 8)?.into_lines().into_words())?;
+    let (one, other) = thread::join(&rt, || count(&database, KEY), || count(&database, OTHER));
+    one?;
+    other?;
+    let last = get(&database, KEY)?;
+    let others = get(&database, OTHER)?;
+    assert!(rt; last == Some(row(COMMITS)?) && others == last);
+    device_in(database.close())?;
+    Ok(())
+}
