@@ -28,7 +28,7 @@ told free slot d b lt is = slice_get-get_or free slot d lt ∙ ap (λ (b : Bool)
 
 module _ (device : Device) (a : Layout) (slot : ℕ) (size : device.words ≡ total_words a) (limited : is_in_limits a ≡ true) (h : slot < a.slots) (laid : layout_of (image_of device) ≡ a) where
   eight : slot_words a.version ≡ 8
-  eight = ap slot_words (limits a limited).0
+  eight = (limits a limited).0.words
 
   in-slot : (w : ℕ) → w < 8 → slot_start a slot + w < device.words
   in-slot w lt =
