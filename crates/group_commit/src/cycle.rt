@@ -55,7 +55,8 @@ impl Cycle {
     ghost use Rattle.group_commit.specs.Choosing.{reach_of, record_of, batch_of, IsBeginFault};
     ghost use Rattle.group_commit.specs.Cycles.{line_from, operation_in, reached_in, ticked_in};
 
-    /// Takes the drawn commits that the next record may cover, and the memory of their batch: no tick takes any. Fails with `TimestampsOut` where no record number is left, and else with `OutOfMemory`.
+    /// Takes the drawn commits that the next record may cover, and the memory of their batch: no tick takes any. Fails with
+    /// `TimestampsOut` where no record number is left, and else with `OutOfMemory`.
     pub fn begin(
         alloc: Global,
         geometry: Geometry,

@@ -1,5 +1,5 @@
 -- What a step makes of a room, from what it makes of its committer.
-use Rattle.std.proofs.Common.{◌≡◌, inl, inr, ℕ, Bool, true, false, [], refl, sym, ◌∙◌, subst, arith}
+use Rattle.std.proofs.Common.{◌≡◌, inl, inr, Bool, true, false, [], refl, sym, ◌∙◌, subst, arith}
 use Rattle.std.specs.Prelude.{Option, Some, None, slice_index}
 use Rattle.std.proofs.Math.Logic.{∥∥₁_map}
 use Rattle.base.specs.declared.fault.Fault.TheVariants.{Failed, Device as DeviceFault}
