@@ -1,5 +1,5 @@
 -- The record in hand says which drawn commits are covered.
-use Rattle.std.proofs.Common.{◌≡◌, ◌≢◌, ◌⊎◌, inl, inr, ℕ, ◌<◌, ◌≤◌, Bool, true, false, cond, not, ◌&&◌, ◌||◌, zero, suc, List, [], ◌∷◌, ◌++◌, length, map, filter, refl, sym, ◌∙◌, ap, subst, arith, Option, Some, None, find, true≢false}
+use Rattle.std.proofs.Common.{◌≡◌, ◌≢◌, ◌⊎◌, inl, inr, ℕ, ◌<◌, Bool, true, false, cond, not, ◌&&◌, ◌||◌, zero, suc, List, [], ◌∷◌, ◌++◌, map, filter, refl, sym, ◌∙◌, ap, subst, arith, Option, Some, None, find, true≢false}
 use Rattle.std.specs.Prelude.{nat_eq, nat_lt, Contains}
 use Rattle.std.specs.List.{list_any, list_all}
 use Rattle.std.specs.Option.{option_map, option_or}
@@ -7,13 +7,12 @@ use Rattle.std.specs.Cmp.{both_ways}
 use Rattle.std.proofs.lemmas.Bool.{cases_eq, cases_lt, eq-eqb, eqb-true, ne_eqb, and_parts, and_from, ltb-true, ltb-false, false_from_ne_true, or_right, false≢true}
 use Rattle.base.specs.declared.key.Key.{Key}
 use Rattle.base.specs.Commits.{Commit, writes_key, last_writer}
-use Rattle.base.specs.Records.{Record, is_committed, are_rising}
+use Rattle.base.specs.Records.{is_committed, are_rising}
 use Rattle.base.specs.Stands.{has_timestamp}
-use Rattle.base.specs.Machine.{State, Drawn, Hand, ByCommit, drawn_at, drawn_of, is_stamped, state_covered}
+use Rattle.base.specs.Machine.{State, Drawn, Hand, ByCommit, drawn_at, drawn_of, state_covered}
 use Rattle.state_invariant.specs.Kept.{Origin, Keeps, KeepsHand, commit_at, commits_of_life, covered_since, version_by}
-use Rattle.state_invariant.proofs.Lookups.{find-passes}
 use Rattle.state_invariant.proofs.Lists.{find-filter, find-dropped, rising-above, rising-rest, rising-filter}
-use Rattle.state_invariant.proofs.Commits.{commit_at-none, commit_at-some, commit_at-has, commit_at-drawn, drawn_at-timestamp, timestamp-all, writer_from, writer-append}
+use Rattle.state_invariant.proofs.Commits.{commit_at-none, commit_at-drawn, timestamp-all, writer_from, writer-append}
 use Rattle.state_invariant.proofs.Choosing.{bounds, found-later, above-each, all-by_found}
 use Rattle.state_invariant.proofs.Covering.{no_gap-above, batch-drawn, since-now}
 use Rattle.session_invariant.specs.Sees.{last_on}
