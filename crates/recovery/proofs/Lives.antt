@@ -341,10 +341,10 @@ unfolding Refuses
 refusal-examined device fault refused = inl (refused, refl)
 
 -- it is cut short within its sweep, or within its record
-counts_at : Image → Bool → Counts
+abbrev counts_at : Image → Bool → Counts
 counts_at image b = cond b (record { stores = 32 + words_swept image; flushes = 5 + lines_swept image; fences = 3 }) (record { stores = 32; flushes = 5; fences = 2 })
 
-all_at : Image → Bool → ℕ
+abbrev all_at : Image → Bool → ℕ
 all_at image b = (counts_at image b).stores + (counts_at image b).flushes + (counts_at image b).fences
 
 pub cut-early : (old new : Device) → old.failures < new.failures → needs_sweep (image_of old) ≡ true → operations_of new < operations_of old + sweep_operations (image_of old) → IsCutShort old new

@@ -8,7 +8,7 @@ use Rattle.dirty_table.specs.Touches.{has}
 use Rattle.txn.specs.declared.drawn.DrawnCommit.{DrawnCommit}
 use Rattle.session_steps.specs.Shows.{has_drawn_by, plain_of, HoldsDrawn}
 use Rattle.session_steps.specs.Covering.{CoversCommits, committed_by, left_by}
-use Rattle.session_steps.proofs.Limits.{formed-gaps}
+use Rattle.gap_list.proofs.Tidy.{well_formed-tidy}
 use Rattle.session_steps.proofs.CoveredBatch.{has-covered, shows-covered}
 use Rattle.session_steps.proofs.sessions.Sessions.cover.Goals as goal
 
@@ -20,7 +20,7 @@ cover_commits-requires c = λ k d lt k' d' lt'.
 pub snapshot-requires : goal.snapshot-requires
 snapshot-requires c = ∥∥₁_elim c.requires (Bool-set _ _) (λ some.
     let q : State = plain_of c.args.self.now some.0 in
-    formed-gaps q.layout.version c.args.ruling (subst (λ (r : Record). is_well_formed q.layout.version r ≡ true) some.2.batch.target (some.2.keeps.numbers.hand some.1 some.2.batch.in_hand).formed))
+    well_formed-tidy q.layout.version c.args.ruling (subst (λ (r : Record). is_well_formed q.layout.version r ≡ true) some.2.batch.target (some.2.keeps.numbers.hand some.1 some.2.batch.in_hand).formed))
 
 pub returns-clause-covers : goal.returns-clause-covers
 returns-clause-covers c = λ h hand may.
