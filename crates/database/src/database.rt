@@ -62,15 +62,6 @@ impl<
             }
         }
     }
-
-    /// Ends the workers, covers all that was committed, and returns the device. No transaction is open: each borrows from it.
-    pub fn close(self) -> Result<D, Refused<D>> {
-        self.shared.end_work(&self.rt);
-        match self.shared.take_out(&self.rt).close() {
-            Ok(device) => Ok(device),
-            Err((fault, device)) => Err(Refused { fault, device }),
-        }
-    }
 }
 
 impl<D: Pmem + Drop, R: Wait + Drop> Drop for Database<D, R> {
@@ -89,5 +80,14 @@ impl<D: Pmem + Drop, R: Wait + Drop> Database<D, R> {
         };
         let session = steps::begin(room)?;
         Ok(Transaction::new(&self.rt, &self.shared, session))
+    }
+
+    /// Ends the workers, covers all that was committed, and returns the device. No transaction is open: each borrows from it.
+    pub fn close(self) -> Result<D, Refused<D>> {
+        self.shared.end_work(&self.rt);
+        match self.shared.take_out(&self.rt).close() {
+            Ok(device) => Ok(device),
+            Err((fault, device)) => Err(Refused { fault, device }),
+        }
     }
 }

@@ -8,6 +8,7 @@ use crate::answers::{Teller, answer};
 use crate::opening::{open, sentence};
 use anyhow::{Error, bail};
 use database::Database;
+use pmem_file::{FileLines, FilePmem};
 use std::alloc::Global;
 use std::env;
 use std::fs::File;
@@ -49,6 +50,20 @@ fn serve<
         Ok(database) => database,
         Err(refused) => bail!("{}", sentence(refused.fault)),
     };
+    answer_lines(rt, alloc, &database, is_prompted)?;
+    match database.close() {
+        Ok(_device) => Ok(println!(rt; "closed")?),
+        Err(refused) => bail!("{}", sentence(refused.fault)),
+    }
+}
+
+// Answers each line. A transaction that is open at the end is aborted.
+fn answer_lines<R: Input + Print + Wait + Drop>(
+    rt: &R,
+    alloc: Global,
+    database: &Database<FilePmem<FileLines>, R>,
+    is_prompted: bool,
+) -> Result<(), Error> {
     println!(rt; "ready")?;
     let teller = Teller {
         rt,
@@ -58,15 +73,11 @@ fn serve<
     let mut transaction = None;
     teller.prompt()?;
     for line in BufReader::new(alloc, rt.reader())?.lines(alloc) {
-        let answered = answer(&teller, &database, &mut transaction, line?.as_str());
+        let answered = answer(&teller, database, &mut transaction, line?.as_str());
         if let Err(error) = answered {
             println!(rt; "refused: {error}")?;
         }
         teller.prompt()?;
     }
-    drop(transaction);
-    match database.close() {
-        Ok(_device) => Ok(println!(rt; "closed")?),
-        Err(refused) => bail!("{}", sentence(refused.fault)),
-    }
+    Ok(())
 }
