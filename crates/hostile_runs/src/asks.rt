@@ -1,0 +1,70 @@
+use base::fault::Fault;
+use base::key::Key;
+use base::row::Row;
+use base::step::Step;
+use std::alloc::Global;
+
+/// What is asked of a room: all keys are of table 1, and each row is one byte.
+#[derive(Clone, Copy)]
+pub enum Ask {
+    Begin,
+    Put(u8, u64, u8),
+    Delete(u8, u64),
+    Draw(u8),
+    Stamp(u8),
+    Poll(u8),
+    End(u8),
+    /// So many ticks.
+    Commit(u64),
+    /// So many visits.
+    Collect(u64),
+}
+
+/// The steps that are asked for.
+pub fn steps(alloc: Global, asks: &[Ask]) -> Result<Vec<Step>, Fault> {
+    let mut steps = Vec::new(alloc);
+    for ask in asks {
+        push_each(&mut steps, &step_of(*ask)?, count_of(*ask))?;
+    }
+    Ok(steps)
+}
+
+fn push_each(steps: &mut Vec<Step>, step: &Step, count: u64) -> Result<(), Fault> {
+    for _ in 0..count {
+        if steps.push(*step).is_err() {
+            return Err(Fault::OutOfMemory);
+        }
+    }
+    Ok(())
+}
+
+// How often the step is made: ticks and visits come in numbers.
+fn count_of(ask: Ask) -> u64 {
+    match ask {
+        Ask::Commit(ticks) => ticks,
+        Ask::Collect(visits) => visits,
+        _ => 1,
+    }
+}
+
+fn step_of(ask: Ask) -> Result<Step, Fault> {
+    let table = 1;
+    Ok(match ask {
+        Ask::Begin => Step::Begin,
+        Ask::Put(session, key, byte) => Step::Put {
+            session,
+            key: Key { table, key },
+            row: Row::new(&[byte])?,
+        },
+        Ask::Delete(session, key) => Step::Delete {
+            session,
+            key: Key { table, key },
+        },
+        Ask::Draw(session) => Step::Draw { session },
+        Ask::Stamp(session) => Step::Stamp { session },
+        Ask::Poll(session) => Step::Poll { session },
+        Ask::End(session) => Step::End { session },
+        Ask::Commit(_) => Step::Commit,
+        Ask::Collect(_) => Step::Collect,
+    })
+}

@@ -1,0 +1,294 @@
+use crate::asks::Ask::{Begin, Commit, Draw, End, Poll, Put, Stamp};
+use crate::asks::{Ask, steps};
+use crate::judge::{Counts, opened_rows};
+use crate::life::{formatted, opened};
+use base::fault::Fault;
+use base::key::Key;
+use base::row::Row;
+use base::step::{Reply, Step};
+use image_check::check;
+use pmem::Pmem;
+use pmem_model::SimPmem;
+use rand_core::utils::NextWord;
+use rand_pcg::Pcg32;
+use room::Room;
+use std::alloc::Global;
+use std::thread::Threads;
+
+/// Words and their values.
+type Changes = &'static [(usize, u64)];
+
+/// What a check and an opening say of an image.
+#[derive(Clone, Copy)]
+enum Answer {
+    /// Both find this damaged.
+    Damaged(u64),
+    /// It is sound, has so many rows, and opens.
+    Rows(usize),
+    /// It is sound, and an opening finds no timestamps left.
+    NoTimestamps,
+}
+
+use Answer::{Damaged, NoTimestamps, Rows};
+
+/// The fault that a check finds, the one that an opening finds, and how many rows both find.
+type Found = (Option<Fault>, Option<Fault>, usize);
+
+fn found_as(answer: Answer) -> Found {
+    match answer {
+        Damaged(place) => {
+            let fault = Some(Fault::Damaged(place));
+            (fault, fault, 0)
+        }
+        Rows(rows) => (None, None, rows),
+        NoTimestamps => (None, Some(Fault::TimestampsOut), 0),
+    }
+}
+
+// Table 1, key 7 has the row `6162`, of the first commit.
+const FIRST_COMMIT: Changes = &[
+    (41, 1),
+    (42, 2),
+    (72, 1),
+    (74, 7),
+    (75, 131_073),
+    (76, 25_185),
+];
+
+// Changes of the fresh image of 4 slots, 2 places and a window of 8.
+const OF_FRESH: &[(Changes, Answer)] = &[
+    (&[], Rows(0)),
+    (&[(42, 0)], Damaged(1)),
+    (&[(43, 9)], Damaged(1)),
+    (&[(43, 4_294_967_296)], Damaged(1)),
+    (&[(71, 1)], Damaged(1)),
+    (&[(72, 1)], Damaged(2)),
+    (&[(73, 1)], Damaged(2)),
+    (&[(9, 5)], Rows(0)),
+    (&[(8, 4_611_686_018_427_387_904)], Damaged(0)),
+    (&[(8, 4)], Damaged(0)),
+    (&[(42, 4_611_686_018_427_387_888)], NoTimestamps),
+    (&[(42, 4_611_686_018_427_387_887)], Rows(0)),
+    (&[(40, 4_611_686_018_427_387_903)], NoTimestamps),
+];
+
+// Changes of that image with the first commit.
+const OF_FIRST_COMMIT: &[(Changes, Answer)] = &[
+    (&[], Rows(1)),
+    (&[(76, 65_536)], Damaged(2)),
+    (&[(75, 2_162_689)], Damaged(2)),
+    (&[(75, 16_908_289)], Damaged(2)),
+    (&[(75, 21_474_967_553)], Damaged(2)),
+    (&[(75, 17_180_000_257)], Rows(1)),
+    (&[(73, 1)], Rows(0)),
+    (&[(80, 2)], Damaged(3)),
+    (&[(80, 1), (82, 7), (83, 131_073), (84, 25_185)], Damaged(3)),
+];
+
+// An update of key 7, or its first row.
+const A_COMMIT: &[Ask] = &[
+    Begin,
+    Put(2, 7, 9),
+    Draw(2),
+    Stamp(2),
+    Commit(43),
+    Poll(2),
+    End(2),
+];
+
+fn change(words: &mut [u64], changes: Changes) {
+    for (at, value) in changes {
+        if let Some(word) = words.get_mut(*at) {
+            *word = *value;
+        }
+    }
+}
+
+/// Each change of both tables, by a check and by an opening.
+pub fn change_each<R: Threads + Sync>(
+    rt: &R,
+    alloc: Global,
+    counts: &mut Counts,
+) -> Result<(), Fault> {
+    change_table(rt, alloc, &[], OF_FRESH, counts)?;
+    change_table(rt, alloc, FIRST_COMMIT, OF_FIRST_COMMIT, counts)
+}
+
+fn change_table<R: Threads + Sync>(
+    rt: &R,
+    alloc: Global,
+    before: Changes,
+    table: &[(Changes, Answer)],
+    counts: &mut Counts,
+) -> Result<(), Fault> {
+    for (changes, answer) in table {
+        let mut words = formatted(alloc, 4)?;
+        change(&mut words, before);
+        change(&mut words, changes);
+        let found = found_in(rt, alloc, &words);
+        counts.images = counts.images.saturating_add(1);
+        counts.expect(found == found_as(*answer));
+    }
+    Ok(())
+}
+
+// Checks the words, and opens them. Other rows are a fault of the opening.
+fn found_in<R: Threads + Sync>(rt: &R, alloc: Global, words: &[u64]) -> Found {
+    let opened = opened_rows(rt, alloc, words);
+    match check(rt, alloc, words) {
+        Ok(report) => found_beside(&report.rows, opened),
+        Err(fault) => (Some(fault), opened.err(), 0),
+    }
+}
+
+// What an opening found, beside the rows of a check.
+fn found_beside(checked: &[(Key, Row)], opened: Result<(u64, Vec<(Key, Row)>), Fault>) -> Found {
+    match opened {
+        Ok((_, rows)) => {
+            let alike = rows.as_slice() == checked;
+            let fault = if alike { None } else { Some(Fault::WrongState) };
+            (None, fault, rows.len())
+        }
+        Err(fault) => (None, Some(fault), 0),
+    }
+}
+
+/// Each shorter part of the fresh image.
+pub fn cut_each<R: Threads + Sync>(
+    rt: &R,
+    alloc: Global,
+    counts: &mut Counts,
+) -> Result<(), Fault> {
+    let words = formatted(alloc, 4)?;
+    for length in 0..104 {
+        let fault = if length < 8 {
+            Fault::NotFormatted
+        } else {
+            Fault::BadGeometry
+        };
+        let found = found_in(rt, alloc, words.get(..length).unwrap_or(&[]));
+        counts.images = counts.images.saturating_add(1);
+        counts.expect(found == (Some(fault), Some(fault), 0));
+    }
+    Ok(())
+}
+
+// A value that an image may have, or that is just out of range, or any.
+fn value(chance: &mut Pcg32) -> u64 {
+    let any = u64::from(chance.next_word());
+    match any % 8 {
+        0 => 0,
+        1 => 1,
+        2 => any / 8 % 16,
+        3 => 131_073,
+        4 => 4_611_686_018_427_387_888 + any / 8 % 32,
+        5 => any / 8 % 131_072,
+        6 => u64::MAX,
+        _ => any << 32 | u64::from(chance.next_word()),
+    }
+}
+
+/// Changes at random of this image, of so many words at most, by so many numbers that begin with the seed.
+pub fn change_at_random<R: Threads + Sync>(
+    rt: &R,
+    alloc: Global,
+    words: &[u64],
+    given: (u64, u64, u32),
+    counts: &mut Counts,
+) -> Result<(), Fault> {
+    let (seed, images, most) = given;
+    let mut chance = Pcg32::new(seed, 54);
+    for _ in 0..images {
+        let Ok(mut words) = words.to_vec(alloc) else {
+            return Err(Fault::OutOfMemory);
+        };
+        change_some(&mut words, &mut chance, most);
+        counts.images = counts.images.saturating_add(1);
+        counts.expect(are_alike(found_in(rt, alloc, &words)));
+        counts.expect(is_usable(rt, alloc, &words));
+    }
+    Ok(())
+}
+
+// Changes one word, or up to so many.
+fn change_some(words: &mut [u64], chance: &mut Pcg32, most: u32) {
+    for _ in 0..1 + chance.next_word() % most.max(1) {
+        let at = chance.next_word() as usize % words.len().max(1);
+        if let Some(word) = words.get_mut(at) {
+            *word = value(chance);
+        }
+    }
+}
+
+// What is sound opens, limits of numbers aside, and nothing else does, for the same reason.
+fn are_alike(found: Found) -> bool {
+    match found {
+        (None, opened, _) => matches!(opened, None | Some(Fault::TimestampsOut)),
+        (checked, opened, _) => checked == opened,
+    }
+}
+
+// What opens takes a commit and a close, limits of slots and numbers aside, and is opened once more.
+fn is_usable<R: Threads + Sync>(rt: &R, alloc: Global, words: &[u64]) -> bool {
+    match used(rt, alloc, words) {
+        Ok(kept) => kept,
+        Err(fault) => !matches!(
+            fault,
+            Fault::Device | Fault::Failed | Fault::WrongState | Fault::OutOfMemory
+        ),
+    }
+}
+
+// Opens the words, makes a commit, closes and opens what is left: are all rows there, and that of the commit?
+fn used<R: Threads + Sync>(rt: &R, alloc: Global, words: &[u64]) -> Result<bool, Fault> {
+    let steps = steps(alloc, A_COMMIT)?;
+    match opened(rt, alloc, SimPmem::from_words(alloc, words)?) {
+        Ok(room) => closed_and_opened(rt, alloc, committed(room, &steps)?),
+        Err((fault, _device)) => Err(fault),
+    }
+}
+
+// The room once it has made the steps, none of which is refused.
+fn committed(room: Room<SimPmem>, steps: &[Step]) -> Result<Room<SimPmem>, Fault> {
+    let mut room = room;
+    for step in steps {
+        if let Reply::Refused(fault) = room.step(*step) {
+            return Err(fault);
+        }
+    }
+    Ok(room)
+}
+
+fn closed_and_opened<R: Threads + Sync>(
+    rt: &R,
+    alloc: Global,
+    room: Room<SimPmem>,
+) -> Result<bool, Fault> {
+    let rows = room.tables()?;
+    match room.close() {
+        Ok(device) => {
+            let (_, again) = opened_rows(rt, alloc, &device.image()?)?;
+            Ok(has_commit(&rows) && rows.as_slice() == again.as_slice())
+        }
+        Err((fault, _device)) => Err(fault),
+    }
+}
+
+// Is the row of the commit among these?
+fn has_commit(rows: &[(Key, Row)]) -> bool {
+    for (key, row) in rows {
+        if key.table == 1 && key.key == 7 {
+            return row.as_bytes() == [9].as_slice();
+        }
+    }
+    false
+}
+
+/// The words of the fresh image, with the first commit where that is asked.
+pub fn sound_words(alloc: Global, commits: bool) -> Result<Vec<u64>, Fault> {
+    let mut words = formatted(alloc, 4)?;
+    if commits {
+        change(&mut words, FIRST_COMMIT);
+    }
+    Ok(words)
+}

@@ -1,0 +1,178 @@
+use crate::asks::{Ask, steps};
+use crate::stories::Story;
+use base::fault::Fault;
+use base::geometry::Geometry;
+use base::step::{Reply, Step};
+use pmem::Pmem;
+use pmem_model::{Choice, SimPmem};
+use recovery::format;
+use room::Room;
+use std::alloc::Global;
+use std::thread::Threads;
+
+/// Which operations of a life fail.
+#[derive(Clone, Copy)]
+pub enum Failing {
+    /// All after so many.
+    After(u64),
+    /// The one after so many.
+    Once(u64),
+}
+
+/// What a life left.
+#[derive(Drop)]
+pub struct Left {
+    pub device: SimPmem,
+    /// How many records were acknowledged as covering.
+    pub acknowledged: usize,
+    /// Did a step that was refused find the next one refused too?
+    pub failed: bool,
+}
+
+/// How many operations the device made.
+pub fn operations(device: &SimPmem) -> u64 {
+    let made = device.operations();
+    made.stores
+        .saturating_add(made.flushes)
+        .saturating_add(made.fences)
+}
+
+/// The room of the device, which is to be at rest, or the fault with the device.
+pub fn opened<R: Threads + Sync>(
+    rt: &R,
+    alloc: Global,
+    device: SimPmem,
+) -> Result<Room<SimPmem>, (Fault, SimPmem)> {
+    if device.at_rest() {
+        Room::open(rt, alloc, device)
+    } else {
+        Err((Fault::Failed, device))
+    }
+}
+
+/// Opens a device with these words of which so many operations succeed, makes the steps up to the one that is refused, and
+/// closes the room where that is asked.
+pub fn live<R: Threads + Sync>(
+    rt: &R,
+    alloc: Global,
+    words: &[u64],
+    asked: (&[Step], bool),
+    failing: Option<Failing>,
+) -> Result<Left, Fault> {
+    let mut device = SimPmem::from_words(alloc, words)?;
+    match failing {
+        Some(Failing::After(fuse)) => device.set_fuse(Some(fuse)),
+        Some(Failing::Once(fault)) => device.set_fault(Some(fault)),
+        None => {}
+    }
+    let (steps, closes) = asked;
+    match opened(rt, alloc, device) {
+        Ok(room) => Ok(run(room, steps, closes)),
+        Err((Fault::Device, device)) => Ok(Left {
+            device,
+            acknowledged: 0,
+            failed: true,
+        }),
+        Err((fault, _device)) => Err(fault),
+    }
+}
+
+// Makes the steps up to the one that is refused, and that one again. The device then failed, or all was refused nothing.
+fn run(room: Room<SimPmem>, steps: &[Step], closes: bool) -> Left {
+    let mut room = room;
+    let mut acknowledged: usize = 0;
+    for step in steps {
+        match room.step(*step) {
+            Reply::Covered(_) => acknowledged = acknowledged.saturating_add(1),
+            Reply::Refused(fault) => {
+                let again = room.step(*step);
+                let failed = matches!(again, Reply::Refused(Fault::Failed));
+                return Left {
+                    device: room.into_device(),
+                    acknowledged,
+                    failed: fault == Fault::Device && failed,
+                };
+            }
+            _ => {}
+        }
+    }
+    if closes {
+        return closed(room, acknowledged);
+    }
+    Left {
+        device: room.into_device(),
+        acknowledged,
+        failed: false,
+    }
+}
+
+// A close is acknowledged as a record more.
+fn closed(room: Room<SimPmem>, acknowledged: usize) -> Left {
+    match room.close() {
+        Ok(device) => Left {
+            device,
+            acknowledged: acknowledged.saturating_add(1),
+            failed: false,
+        },
+        Err((fault, device)) => Left {
+            device,
+            acknowledged,
+            failed: fault == Fault::Device,
+        },
+    }
+}
+
+/// The words of a fresh device with so many slots, 2 places and a window of 8.
+pub fn formatted(alloc: Global, slots: u64) -> Result<Vec<u64>, Fault> {
+    let geometry = Geometry::new(slots, 2, 8)?;
+    let Ok(zeros) = vec![in alloc; 0; geometry.words() as usize] else {
+        return Err(Fault::OutOfMemory);
+    };
+    let mut device = SimPmem::from_words(alloc, &zeros)?;
+    match format(&mut device, geometry) {
+        Ok(()) => device.image(),
+        Err(fault) => Err(fault),
+    }
+}
+
+/// The words that the lives before the story leave.
+pub fn words_before<R: Threads + Sync>(
+    rt: &R,
+    alloc: Global,
+    story: &Story,
+) -> Result<Vec<u64>, Fault> {
+    let mut words = formatted(alloc, story.slots)?;
+    for (asks, newest) in story.before {
+        words = words_after(rt, alloc, &words, asks, *newest)?;
+    }
+    Ok(words)
+}
+
+// The words that a life leaves in which nothing is refused.
+fn words_after<R: Threads + Sync>(
+    rt: &R,
+    alloc: Global,
+    words: &[u64],
+    asks: &[Ask],
+    newest: bool,
+) -> Result<Vec<u64>, Fault> {
+    let steps = steps(alloc, asks)?;
+    let left = live(rt, alloc, words, (&steps, false), None)?;
+    if left.failed {
+        return Err(Fault::Failed);
+    }
+    let choice = if newest {
+        Choice::Newest
+    } else {
+        Choice::Oldest
+    };
+    crashed_words(&left.device, &choice)
+}
+
+/// The words that a crash of this choice leaves.
+pub fn crashed_words(device: &SimPmem, choice: &Choice) -> Result<Vec<u64>, Fault> {
+    match device.crash(choice) {
+        Ok(device) => device.image(),
+        Err(fault) => Err(fault),
+    }
+}
