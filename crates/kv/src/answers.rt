@@ -1,6 +1,5 @@
 use anyhow::{Error, bail};
 use base::Ts;
-use base::fault::Fault;
 use base::key::Key;
 use base::row::Row;
 use database::{Database, Transaction};
@@ -86,7 +85,7 @@ fn obey<R: Print + Wait + Drop>(
             teller.rows(rows.as_slice())?;
             Ok(false)
         }
-        _ => bail!("{}", Fault::WrongState),
+        _ => bail!("no such line here: help lists them"),
     }
 }
 

@@ -5,7 +5,7 @@ mod answers;
 mod opening;
 
 use crate::answers::{Teller, answer};
-use crate::opening::{open, sentence};
+use crate::opening::open;
 use anyhow::{Error, bail};
 use database::Database;
 use pmem_file::{FileLines, FilePmem};
@@ -48,12 +48,12 @@ fn serve<
 >(rt: &R, alloc: Global, name: &str, is_prompted: bool) -> Result<(), Error> {
     let database = match Database::open(*rt, alloc, open(rt, alloc, name)?) {
         Ok(database) => database,
-        Err(refused) => bail!("{}", sentence(refused.fault)),
+        Err(refused) => bail!("{}", refused.fault),
     };
     answer_lines(rt, alloc, &database, is_prompted)?;
     match database.close() {
         Ok(_device) => Ok(println!(rt; "closed")?),
-        Err(refused) => bail!("{}", sentence(refused.fault)),
+        Err(refused) => bail!("{}", refused.fault),
     }
 }
 

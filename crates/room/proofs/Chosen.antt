@@ -18,7 +18,7 @@ use Rattle.cycle_invariant.specs.Batches.{reach_from}
 use Rattle.cycle_invariant.proofs.Passes.{pass-finds}
 use Rattle.session_steps.specs.Shows.{plain_drawn}
 use Rattle.session_steps.proofs.Filters.{filter-map}
-use Rattle.session_steps.proofs.Snapshots.{version-known}
+use Rattle.session_steps.proofs.Snapshots.{known-long, version-known}
 
 -- ---- how far its record reaches
 
@@ -59,7 +59,7 @@ module _ (o : Origin) (q : State) (ds : List DrawnCommit) (kept : Keeps o q) (is
   pub reach-same : reach q ≡ reach_of q.ruling ds
   reach-same =
       pass-finds o q kept
-      ∙ ap (λ (v : ℕ). reach_from (most_longs v) q.ruling.persisted 0 q.drawn) (version-known q.layout kept.numbers.layout)
+      ∙ ap (λ (most : ℕ). reach_from most q.ruling.persisted 0 q.drawn) (known-long q.layout.version (version-known q.layout kept.numbers.layout))
       ∙ ap (reach_from 0 q.ruling.persisted 0) is
       ∙ walk-same 0 q.ruling.persisted 0 ds
 

@@ -11,7 +11,8 @@ use Rattle.state_invariant.proofs.Commits.{uncommitted-above}
 pub version-known : (a : Layout) → is_in_limits a ≡ true → is_known_version a.version ≡ true
 version-known a limits = (and_parts (is_known_version a.version) (is_between 1 65536 a.slots && (is_between 2 64 a.places && is_between 4 1024 a.window)) limits).0
 
-known-long : (version : ℕ) → is_known_version version ≡ true → most_longs version ≡ 0
+-- which names no long commits
+pub known-long : (version : ℕ) → is_known_version version ≡ true → most_longs version ≡ 0
 known-long version known =
     let both = and_parts (nat_le 1 version) (nat_le version 1) known in
     let one : 1 ≡ version = omega (arith, leb-true 1 version both.0, leb-true version 1 both.1) in
