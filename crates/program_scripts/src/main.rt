@@ -1,7 +1,4 @@
-//! A program that obeys scripts, and prints what comes of each. Those under `lives/` are scripts of whole lives, each on a
-//! device of its own, and what the subcommand `lives` prints of them is printed.
-//!
-//! Each other one is a script of what `wbl` is asked to do with one file. A command
+//! A program that obeys scripts of what `wbl` is asked to do with one file, and prints what comes of it. A command
 //! begins with `$`, and the lines after it are its input. Of `torn wbl` the input fails after these lines, and of
 //! `short N wbl` the output after so many bytes. The file of `wbl` is kept in memory, and those of `program` lie where
 //! this program runs.
@@ -32,45 +29,12 @@ fn main(rt: HostRuntime) -> Result<(), Error> {
     let names: Vec<String> = env::args(&rt)?.skip(1).collect(alloc)?;
     for name in names.as_slice() {
         println!(rt; "== {name}")?;
-        if name.as_str().starts_with("lives/") {
-            live(&rt, alloc, name.as_str())?;
-        } else {
-            obey_all(&rt, alloc, name.as_str())?;
+        let script = fs::read_to_string(&rt, name.as_str())?;
+        let mut file = Vec::new(alloc);
+        for part in script.as_str().split('$').skip(1) {
+            println!(rt; "${}", part.lines().next().unwrap_or(""))?;
+            obey(&rt, alloc, part, &mut file)?;
         }
-    }
-    Ok(())
-}
-
-// Lives the lives of a script.
-fn live<H: Files + Print + Threads + Wait + Copy + Drop + Send + Sync + 'static>(
-    rt: &H,
-    alloc: Global,
-    name: &str,
-) -> Result<(), Error> {
-    let text = fs::read(rt, name)?;
-    let order = Order::Lives { file: name };
-    execute(
-        rt,
-        alloc,
-        &order,
-        text.as_slice(),
-        &mut "".as_bytes(),
-        &mut io::writer(rt),
-    );
-    Ok(())
-}
-
-// Obeys the commands of a script.
-fn obey_all<H: Files + Print + Threads + Wait + Copy + Drop + Send + Sync + 'static>(
-    rt: &H,
-    alloc: Global,
-    name: &str,
-) -> Result<(), Error> {
-    let script = fs::read_to_string(rt, name)?;
-    let mut file = Vec::new(alloc);
-    for part in script.as_str().split('$').skip(1) {
-        println!(rt; "${}", part.lines().next().unwrap_or(""))?;
-        obey(rt, alloc, part, &mut file)?;
     }
     Ok(())
 }
