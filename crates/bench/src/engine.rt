@@ -4,6 +4,8 @@ use base::geometry::Geometry;
 use base::key::Key;
 use base::row::Row;
 use base::step::{Reply, Step};
+use pmem::Pmem;
+use pmem_file::{FilePmem, Nowhere};
 use pmem_model::SimPmem;
 use recovery::format;
 use room::Room;
@@ -78,8 +80,47 @@ fn open<H: Threads + Sync>(rt: &H, alloc: Global, words: &[u64]) -> Result<Room<
     }
 }
 
+/// The same over a device that keeps neither its history nor its lines.
+pub fn load_plain<H: Threads + Sync>(
+    rt: &H,
+    alloc: Global,
+    load: &Load,
+) -> Result<Room<FilePmem<Nowhere>>, Error> {
+    let mut room = open_plain(rt, alloc, load)?;
+    let each = Load {
+        commits: load.keys,
+        batch: 32,
+        ..*load
+    };
+    for cycle in 0..cycles(&each) {
+        commit_batch(&mut room, &each, cycle)?;
+    }
+    Ok(room)
+}
+
+fn open_plain<H: Threads + Sync>(
+    rt: &H,
+    alloc: Global,
+    load: &Load,
+) -> Result<Room<FilePmem<Nowhere>>, Error> {
+    let geometry = Geometry::new(load.slots, Geometry::LEAST_PLACES, Geometry::MOST_WINDOW)?;
+    let words = vec![in alloc; 0; geometry.words() as usize]?;
+    let mut device = FilePmem::new(alloc, words, Nowhere)?;
+    if let Err(fault) = format(&mut device, geometry) {
+        return Err(Error::from(fault));
+    }
+    match Room::open(rt, alloc, device) {
+        Ok(room) => Ok(room),
+        Err((fault, _device)) => Err(Error::from(fault)),
+    }
+}
+
 /// Makes all updates, and then all reads.
-pub fn run_load<H: Clock>(rt: &H, room: &mut Room<SimPmem>, load: &Load) -> Result<Made, Error> {
+pub fn run_load<H: Clock, D: Pmem + Drop>(
+    rt: &H,
+    room: &mut Room<D>,
+    load: &Load,
+) -> Result<Made, Error> {
     let start = Instant::now(rt)?;
     let mut ticks: u64 = 0;
     for cycle in 0..cycles(load) {
@@ -103,7 +144,7 @@ fn cycles(load: &Load) -> u64 {
 }
 
 // Updates one key in each session of a batch, and covers them by one record. How many ticks that took.
-fn commit_batch(room: &mut Room<SimPmem>, load: &Load, cycle: u64) -> Result<u64, Fault> {
+fn commit_batch<D: Pmem + Drop>(room: &mut Room<D>, load: &Load, cycle: u64) -> Result<u64, Fault> {
     let first = cycle.saturating_mul(load.batch);
     let end = first.saturating_add(load.batch).min(load.commits);
     for number in first..end {
@@ -132,7 +173,7 @@ fn key_of(number: u64, load: &Load) -> Key {
 }
 
 // Makes a step that is not refused.
-fn step(room: &mut Room<SimPmem>, step: Step) -> Result<Reply, Fault> {
+fn step<D: Pmem + Drop>(room: &mut Room<D>, step: Step) -> Result<Reply, Fault> {
     match room.step(step) {
         Reply::Refused(fault) => Err(fault),
         reply => Ok(reply),
@@ -141,7 +182,7 @@ fn step(room: &mut Room<SimPmem>, step: Step) -> Result<Reply, Fault> {
 
 // Ticks the committer until it has covered a batch, or has nothing to do, and lets the collector make a visit with each
 // tick. How often they did.
-fn cover(room: &mut Room<SimPmem>) -> Result<u64, Fault> {
+fn cover<D: Pmem + Drop>(room: &mut Room<D>) -> Result<u64, Fault> {
     for ticks in 1..u64::MAX {
         let reply = step(room, Step::Commit)?;
         step(room, Step::Collect)?;
@@ -153,7 +194,7 @@ fn cover(room: &mut Room<SimPmem>) -> Result<u64, Fault> {
 }
 
 // Reads in one session. How many rows it found.
-fn read_rows(room: &mut Room<SimPmem>, load: &Load) -> Result<u64, Fault> {
+fn read_rows<D: Pmem + Drop>(room: &mut Room<D>, load: &Load) -> Result<u64, Fault> {
     let mut rows: u64 = 0;
     step(room, Step::Begin)?;
     for number in 0..load.reads {

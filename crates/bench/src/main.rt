@@ -1,6 +1,7 @@
 //! Counts of what the modelled device, the engine and the board do, and with the word `time` first how fast: rounds of
 //! stores on the device; commits and reads of the engine; reads on a board beside a writer that publishes.
-//! `engine SLOTS KEYS COMMITS BATCH READS` runs the engine alone, and `readers N` the reads of N readers, each in a thread of
+//! `engine SLOTS KEYS COMMITS BATCH READS` runs the engine alone, `plain` with the same words the engine over a device that keeps
+//! no history, and `readers N` the reads of N readers, each in a thread of
 //! its own.
 #![tactic(auto)]
 
@@ -11,9 +12,9 @@ mod engine;
 mod readers;
 mod rounds;
 
-use anyhow::{Error, ensure};
+use anyhow::{Error, bail, ensure};
 use base::geometry::Geometry;
-use engine::{Load, Made, load_keys, run_load};
+use engine::{Load, Made, load_keys, load_plain, run_load};
 use pmem::Pmem;
 use pmem_model::SimPmem;
 use readers::read_beside_a_writer;
@@ -52,16 +53,8 @@ fn main(rt: HostRuntime) -> Result<(), Error> {
         words => (false, words),
     };
     match words {
-        ["engine", slots, keys, commits, batch, reads] => {
-            let load = Load {
-                slots: slots.parse::<u64>()?,
-                keys: keys.parse::<u64>()?,
-                commits: commits.parse::<u64>()?,
-                batch: batch.parse::<u64>()?,
-                reads: reads.parse::<u64>()?,
-            };
-            measure_engine(&rt, alloc, &load, timed)
-        }
+        ["engine", load @ ..] => measure_engine(&rt, alloc, &load_of(load)?, timed),
+        ["plain", load @ ..] => measure_plain(&rt, alloc, &load_of(load)?, timed),
         ["readers", readers] => measure_readers(&rt, alloc, readers.parse::<usize>()?, timed),
         _ => {
             measure_rounds(&rt, alloc, timed)?;
@@ -69,6 +62,19 @@ fn main(rt: HostRuntime) -> Result<(), Error> {
             measure_readers(&rt, alloc, FEW_READERS, timed)
         }
     }
+}
+
+fn load_of(words: &[&str]) -> Result<Load, Error> {
+    let [slots, keys, commits, batch, reads] = words else {
+        bail!("a load is SLOTS KEYS COMMITS BATCH READS");
+    };
+    Ok(Load {
+        slots: slots.parse::<u64>()?,
+        keys: keys.parse::<u64>()?,
+        commits: commits.parse::<u64>()?,
+        batch: batch.parse::<u64>()?,
+        reads: reads.parse::<u64>()?,
+    })
 }
 
 // On the device of the least and of the greatest image.
@@ -110,6 +116,23 @@ fn measure_engine<H: Print + Clock + Threads + Sync>(
     let made = run_load(rt, &mut room, load)?;
     print_run(rt, load, &made)?;
     print_operations(rt, &room.into_device())?;
+    if timed {
+        print_rate(rt, "commits", load.commits, made.committing)?;
+        print_rate(rt, "reads", load.reads, made.reading)?;
+    }
+    Ok(())
+}
+
+// The same over a device that keeps neither its history nor its lines, and counts nothing.
+fn measure_plain<H: Print + Clock + Threads + Sync>(
+    rt: &H,
+    alloc: Global,
+    load: &Load,
+    timed: bool,
+) -> Result<(), Error> {
+    let mut room = load_plain(rt, alloc, load)?;
+    let made = run_load(rt, &mut room, load)?;
+    print_run(rt, load, &made)?;
     if timed {
         print_rate(rt, "commits", load.commits, made.committing)?;
         print_rate(rt, "reads", load.reads, made.reading)?;
