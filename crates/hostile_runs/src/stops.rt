@@ -12,6 +12,9 @@ use std::thread::Threads;
 // Where more words than this have several survivors, each of them alone is the oldest or the newest.
 const MOST_WORDS: usize = 10;
 
+// After each number of operations that this divides, the openings that follow are stopped too.
+const REOPENED: u64 = 10;
+
 /// Lets the story's life stop after each number of operations, and each one operation fail.
 pub fn stop_each<R: Threads + Sync>(
     rt: &R,
@@ -47,6 +50,9 @@ fn stop_once<R: Threads + Sync>(
     counts.expect(left.failed == (made < story.operations));
     let allowed = allowed_after(story, made, left.acknowledged);
     judge_each(rt, alloc, &left.device, &allowed, counts)?;
+    if made % REOPENED != 0 {
+        return Ok(());
+    }
     open_again(rt, alloc, &left.device, story.opening, &allowed, counts)
 }
 
