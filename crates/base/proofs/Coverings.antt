@@ -13,12 +13,13 @@ record IsKept (q : State) (batch : Batch) (q' : State) : Type 0 where
   from : batch.from ≡ q.ruling.gate
   stamp : batch.stamp ≡ q'.ruling.gate
   persisted : batch.persisted ≡ q'.ruling.persisted
+  longs : batch.longs ≡ q'.ruling.longs
 
 same_batch : (batch other : Batch) → Covered batch ≡ Covered other → batch ≡ other
 same_batch batch other e = cc
 
 kept-hand : (q : State) (hand : Hand) → IsKept q (batch_of q hand) (state_covered q hand)
-kept-hand q hand = record { history = refl; from = refl; stamp = refl; persisted = refl }
+kept-hand q hand = record { history = refl; from = refl; stamp = refl; persisted = refl; longs = refl }
 
 kept-on : (q : State) (batch : Batch) (hand : Hand) (o : Option Stage) → Covered batch ≡ ticked_on q hand o → IsKept q batch (state_ticked_on q hand o)
 kept-on q batch hand (Some stage) e = cc
@@ -39,5 +40,5 @@ kept q batch q' (memory_refused e m r s) = cc
 kept q batch q' (device_failed e m r s) = cc
 
 pub covered-kept : (q : State) (batch : Batch) (q' : State) → Stepped q CommitTick (Covered batch) q'
-    → (q'.history ≡ q.history ++ batch.commits) × (batch.from ≡ q.ruling.gate) × (batch.stamp ≡ q'.ruling.gate) × (batch.persisted ≡ q'.ruling.persisted)
-covered-kept q batch q' s = let k = kept q batch q' s in (k.history, k.from, k.stamp, k.persisted)
+    → (q'.history ≡ q.history ++ batch.commits) × (batch.from ≡ q.ruling.gate) × (batch.stamp ≡ q'.ruling.gate) × (batch.persisted ≡ q'.ruling.persisted) × (batch.longs ≡ q'.ruling.longs)
+covered-kept q batch q' s = let k = kept q batch q' s in (k.history, k.from, k.stamp, k.persisted, k.longs)
