@@ -1,5 +1,5 @@
 -- The covered rows on a device.
-use Rattle.std.proofs.Common.{◌≡◌, inl, ℕ, Bool, true, List, [], take, length, refl, sym, ◌∙◌, subst, arith}
+use Rattle.std.proofs.Common.{◌≡◌, inl, ℕ, Bool, true, List, take, length, refl, sym, subst, arith}
 use Rattle.std.proofs.lemmas.List.{take_all}
 use Rattle.base.specs.declared.key.Key.{Key}
 use Rattle.base.specs.Commits.{Commit, Tables, after, Lists}
