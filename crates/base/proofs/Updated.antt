@@ -11,12 +11,13 @@ use Rattle.base.specs.declared.fault.Fault.{Fault}
 use Rattle.base.specs.declared.fault.Fault.TheVariants.{BadGeometry, NotFormatted, Damaged, Version, TimestampsOut}
 use Rattle.base.specs.Commits.{Commit, last_writer}
 use Rattle.base.specs.Layout.{Layout, slot_words, row_limit, most_longs, is_known_version, opened_version, opened_layout, place_start, is_between, total_words}
-use Rattle.base.specs.Search.{first_below, some_if}
-use Rattle.base.specs.Records.{Record, record_in, record_word, is_record, is_well_formed, is_committed, is_in, are_apart, are_rising}
-use Rattle.base.specs.Images.{Image, layout_of, gate_at, place_words, greatest_gate, ruling_place, ruling, is_ruled, is_formatted, has_good_geometry, is_wrong_gate, slot_word, begin_of, end_of, key_of, row_of, bytes_of, is_shown, is_misfit, is_second, len_of, is_bad_slot, opening_fault, damage, is_near_limit}
+use Rattle.base.specs.Search.{count_below, first_below, some_if}
+use Rattle.base.specs.Records.{Record, record_in, record_word, is_record, is_well_formed, is_committed, is_in, are_apart, are_rising, opened_gaps}
+use Rattle.base.specs.Images.{Image, layout_of, gate_at, place_words, greatest_gate, ruling_place, ruling, is_ruled, is_formatted, has_good_geometry, is_wrong_gate, slot_word, begin_of, end_of, key_of, row_of, bytes_of, is_shown, is_misfit, is_second, len_of, is_bad_slot, opening_fault, damage, is_near_limit, needs_sweep}
 use Rattle.base.specs.Keys.{key_eq}
 use Rattle.base.specs.Stands.{Stands, has_timestamp}
-use Rattle.base.specs.Openings.{opened, opened_under, held_under, StandsOpening, gaps_kept, IsOpenedGaps, OpensAs, updated}
+use Rattle.base.specs.Openings.{Counts, opened, opened_under, opened_slots, held_under, StandsOpening, gaps_kept, is_mark, lies_in_gap, lines_swept, record_counts, swept, words_swept, IsOpenedGaps, OpensAs, updated}
+use Rattle.base.proofs.Sweeps.{swept-at}
 use Rattle.base.specs.Machine.{State, ByCommit}
 use Rattle.base.specs.Laws.{OpensUpdated, UpdatedOpen}
 use Rattle.base.proofs.WellFormed.{well_formed-parts, well_formed-from}
@@ -152,6 +153,36 @@ module _ (first : ℕ) (words : List ℕ) where
   bad-same : (r : Record) (slot : ℕ) → is_bad_slot r new slot ≡ is_bad_slot r old slot
   bad-same r slot = λ i. (nat_le r.dirty (slot-same slot 0 i) || nat_le r.dirty (slot-same slot 1 i)) || (shown-same r slot i && (misfit-same slot i || second-same r slot i))
 
+  -- ---- a sweep of it
+
+  needs-same : needs_sweep new ≡ needs_sweep old
+  needs-same = ap (λ (r : Record). nat_lt 8 (length (opened_gaps r))) ruling-same
+
+  swept-same : (word : ℕ) → 2 ≤ word → slice_index (swept new) word ≡ slice_index (swept old) word
+  swept-same word far =
+      swept-at new word
+      ∙ (λ i. cond (is_mark (layout_of old) word && is_in (opened_gaps (ruling-same i)) (word-same word far i)) 0 (word-same word far i))
+      ∙ sym (swept-at old word)
+
+  slots-same : (word : ℕ) → 2 ≤ word → slice_index (opened_slots new) word ≡ slice_index (opened_slots old) word
+  slots-same word far = ap (λ (b : Bool). slice_index (cond b (swept new) new) word) needs-same ∙ by (needs_sweep old)
+    where
+      by : (b : Bool) → slice_index (cond b (swept new) new) word ≡ slice_index (cond b (swept old) old) word
+      by true = swept-same word far
+      by false = word-same word far
+
+  lies-same : (w slot : ℕ) → lies_in_gap new w slot ≡ lies_in_gap old w slot
+  lies-same w slot = λ i. is_in (opened_gaps (ruling-same i)) (slot-same slot w i)
+
+  words-same : words_swept new ≡ words_swept old
+  words-same = λ i. count_below (layout_of old).slots (λ slot. lies-same 0 slot i) + count_below (layout_of old).slots (λ slot. lies-same 1 slot i)
+
+  lines-same : lines_swept new ≡ lines_swept old
+  lines-same = λ i. count_below (layout_of old).slots (λ slot. lies-same 0 slot i || lies-same 1 slot i)
+
+  counts-same : record_counts new ≡ record_counts old
+  counts-same = λ i. cond (needs-same i) (let c : Counts = record { stores = 32 + words-same i; flushes = 5 + lines-same i; fences = 3 } in c) (record { stores = 32; flushes = 5; fences = 2 })
+
   -- ---- what is wrong with it
 
   module _ (opens : opening_fault old ≡ None) where
@@ -234,6 +265,14 @@ module _ (first : ℕ) (words : List ℕ) where
       up_to_date = refl;
       laid_out = refl;
       ruled = ruling-same;
+      same = λ e. cc;
+      size = refl;
+      words = word-same;
+      slots = slots-same;
+      shown = shown-same;
+      keys = key-same;
+      rows = row-same;
+      counts = counts-same;
       stands = stands-new;
       opened_as = opened-same;
       within = within-old;
@@ -250,7 +289,7 @@ known-of first version words opens =
 
 -- an image of the second version is its own
 same-second : (first : ℕ) (words : List ℕ) → opening_fault (first ∷ 2 ∷ words) ≡ None → OpensUpdated (first ∷ 2 ∷ words)
-same-second first words opens = record { opens = opens; up_to_date = refl; laid_out = refl; ruled = refl; stands = λ h d n s. s; opened_as = λ h l g. refl; within = λ h n o s. s }
+same-second first words opens = record { opens = opens; up_to_date = refl; laid_out = refl; ruled = refl; same = λ e. refl; size = refl; words = λ w far. refl; slots = λ w far. refl; shown = λ r s. refl; keys = λ s. refl; rows = λ s. refl; counts = refl; stands = λ h d n s. s; opened_as = λ h l g. refl; within = λ h n o s. s }
 
 pub updated-open : UpdatedOpen
 updated-open [] opens = absurd (cc opens)
