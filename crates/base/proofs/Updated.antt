@@ -272,6 +272,7 @@ module _ (first : ℕ) (words : List ℕ) where
       shown = shown-same;
       keys = key-same;
       rows = row-same;
+      misfits = misfit-same;
       counts = counts-same;
       stands = stands-new;
       opened_as = opened-same;
@@ -289,7 +290,7 @@ known-of first version words opens =
 
 -- an image of the second version is its own
 same-second : (first : ℕ) (words : List ℕ) → opening_fault (first ∷ 2 ∷ words) ≡ None → OpensUpdated (first ∷ 2 ∷ words)
-same-second first words opens = record { opens = opens; up_to_date = refl; laid_out = refl; ruled = refl; same = λ e. refl; size = refl; words = λ w far. refl; slots = λ w far. refl; shown = λ r s. refl; keys = λ s. refl; rows = λ s. refl; counts = refl; stands = λ h d n s. s; opened_as = λ h l g. refl; within = λ h n o s. s }
+same-second first words opens = record { opens = opens; up_to_date = refl; laid_out = refl; ruled = refl; same = λ e. refl; size = refl; words = λ w far. refl; slots = λ w far. refl; shown = λ r s. refl; keys = λ s. refl; rows = λ s. refl; misfits = λ s. refl; counts = refl; stands = λ h d n s. s; opened_as = λ h l g. refl; within = λ h n o s. s }
 
 pub updated-open : UpdatedOpen
 updated-open [] opens = absurd (cc opens)
