@@ -37,9 +37,13 @@ fn is_covered<D: Pmem + Drop>(room: &mut Room<D>, number: u64) -> Result<bool, F
     step(room, Step::Draw { session })?;
     step(room, Step::Stamp { session })?;
     cover(room)?;
-    let covered = matches!(step(room, Step::Poll { session })?, Reply::Committed(_));
-    step(room, Step::End { session })?;
-    Ok(covered)
+    match step(room, Step::Poll { session })? {
+        Reply::Committed(_) => {
+            step(room, Step::End { session })?;
+            Ok(true)
+        }
+        _ => Ok(false),
+    }
 }
 
 fn begin<D: Pmem + Drop>(room: &mut Room<D>) -> Result<u8, Fault> {
