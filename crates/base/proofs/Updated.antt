@@ -96,6 +96,11 @@ module _ (first : ℕ) (words : List ℕ) where
   word-same (suc zero) far = absurd (omega (arith, far))
   word-same (suc (suc k)) far = refl
 
+  other-same : (k : ℕ) → k ≢ 1 → slice_index new k ≡ slice_index old k
+  other-same zero other = refl
+  other-same (suc zero) other = absurd (other refl)
+  other-same (suc (suc k)) other = refl
+
   range-same : (from to : ℕ) → 2 ≤ from → slice_range new from to ≡ slice_range old from to
   range-same zero to far = absurd (omega (arith, far))
   range-same (suc zero) to far = absurd (omega (arith, far))
@@ -267,12 +272,16 @@ module _ (first : ℕ) (words : List ℕ) where
       ruled = ruling-same;
       same = λ e. cc;
       size = refl;
-      words = word-same;
+      words = other-same;
       slots = slots-same;
+      place = at-same;
+      begins = λ slot. slot-same slot 0;
       shown = shown-same;
       keys = key-same;
       rows = row-same;
       misfits = misfit-same;
+      marks = λ word. refl;
+      sweeps = needs-same;
       counts = counts-same;
       stands = stands-new;
       opened_as = opened-same;
@@ -290,7 +299,7 @@ known-of first version words opens =
 
 -- an image of the second version is its own
 same-second : (first : ℕ) (words : List ℕ) → opening_fault (first ∷ 2 ∷ words) ≡ None → OpensUpdated (first ∷ 2 ∷ words)
-same-second first words opens = record { opens = opens; up_to_date = refl; laid_out = refl; ruled = refl; same = λ e. refl; size = refl; words = λ w far. refl; slots = λ w far. refl; shown = λ r s. refl; keys = λ s. refl; rows = λ s. refl; misfits = λ s. refl; counts = refl; stands = λ h d n s. s; opened_as = λ h l g. refl; within = λ h n o s. s }
+same-second first words opens = record { opens = opens; up_to_date = refl; laid_out = refl; ruled = refl; same = λ e. refl; size = refl; words = λ w other. refl; slots = λ w far. refl; place = refl; begins = λ s. refl; shown = λ r s. refl; keys = λ s. refl; rows = λ s. refl; misfits = λ s. refl; marks = λ w. refl; sweeps = refl; counts = refl; stands = λ h d n s. s; opened_as = λ h l g. refl; within = λ h n o s. s }
 
 pub updated-open : UpdatedOpen
 updated-open [] opens = absurd (cc opens)
