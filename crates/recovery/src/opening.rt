@@ -16,6 +16,7 @@ use crate::sweeping::sweep;
 use base::fault::Fault;
 use base::gap::Gaps;
 use base::geometry::Geometry;
+use base::longs::Longs;
 use log_area::{Record, write_record};
 use pmem::Pmem;
 use std::alloc::Global;
@@ -193,5 +194,6 @@ fn next_record(geometry: Geometry, ruling: Record, gaps: Gaps) -> Record
         ruling.dirty() - 1,
         ruling.dirty() + geometry.window(),
         gaps,
+        Longs::none(),
     )
 }
