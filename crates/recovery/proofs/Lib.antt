@@ -1,4 +1,4 @@
-pub mod Formed
+pub mod Pieces
 pub mod SweptSlots
 pub mod Ruled
 pub mod Opens

@@ -10,8 +10,8 @@ use Rattle.base.specs.declared.fault.Fault.{Fault}
 use Rattle.base.specs.declared.fault.Fault.TheVariants.{TimestampsOut, OutOfMemory, Device as DeviceFault}
 use Rattle.base.specs.Search.{some_if}
 use Rattle.base.specs.Commits.{Commit}
-use Rattle.base.specs.Layout.{Layout, newest_version, slot_words, total_words, is_known_version, is_in_limits, is_between}
-use Rattle.base.specs.Records.{Record, opened_gaps, is_well_formed}
+use Rattle.base.specs.Layout.{Layout, slot_words, total_words, is_known_version, is_in_limits, is_between}
+use Rattle.base.specs.Records.{Record, opened_gaps}
 use Rattle.base.specs.Images.{Image, IsSound, damage, layout_of, ruling, is_shown, opening_fault, is_near_limit, needs_sweep, IsRuledBy, log_damage}
 use Rattle.base.specs.Stands.{Stands}
 use Rattle.base.specs.Openings.{IsOpenedGaps, Counts, opening_record, gaps_kept, swept, opened_slots, words_swept, lines_swept, record_counts, StandsOpening}
@@ -31,7 +31,7 @@ use Rattle.log_area.specs.Writings.{IsNextRecord, IsRuledByEither, IsOutside, be
 use Rattle.log_area.proofs.Rulings.{place_below, log_within}
 use Rattle.log_area.proofs.AtRest.{laid, fits_image, rest_holds}
 use Rattle.log_area.proofs.Heads.{laid_size, laid_limits}
-use Rattle.recovery.specs.Gaps.{few_gaps}
+use Rattle.recovery.specs.Gaps.{few_gaps, MayRule}
 use Rattle.recovery.specs.Slots.{IsUnder, IsSlotsFault, free_below, bad_below}
 use Rattle.recovery.specs.Live.{live_below}
 use Rattle.recovery.specs.Sweeping.{IsSwept, is_hit}
@@ -39,7 +39,7 @@ use Rattle.recovery.specs.Opened.{HasSlotsOf, Refuses, IsExamined, Examined, Has
 use Rattle.recovery.specs.declared.rows.LiveSlot.{LiveSlot}
 use Rattle.base.proofs.Layouts.{one-line}
 use Rattle.base.proofs.WellFormed.{WellFormed, well_formed-parts}
-use Rattle.recovery.proofs.Opens.{stands-opening, version-one, or-none, record_after}
+use Rattle.recovery.proofs.Opens.{stands-opening, or-none, record_after}
 use Rattle.recovery.proofs.Ruled.{images-sweeping, ruled-swept}
 use Rattle.recovery.proofs.Beginning.{fault-log, fault-slots, fault-limit, no-damage, no-fault}
 
@@ -92,11 +92,11 @@ module _ (layout : Layout) (r : Record) (image : Image) (rules : IsRuledBy layou
   pub wide-new : slot_words layout.version ≡ 8
   wide-new = (one-line layout.version known).words
 
-  pub formed-new : is_well_formed newest_version r ≡ true
-  formed-new = subst (λ (v : ℕ). is_well_formed v r ≡ true) (version-one layout.version known) (fits_image layout r image rules).well_formed
+  pub may-rule : MayRule r
+  may-rule = (layout.version, (fits_image layout r image rules).well_formed)
 
-  pub formed-parts : WellFormed newest_version r
-  formed-parts = well_formed-parts newest_version r formed-new
+  pub formed-parts : WellFormed layout.version r
+  formed-parts = well_formed-parts layout.version r (fits_image layout r image rules).well_formed
 
   pub under : IsUnder layout r image
   unfolding IsUnder
