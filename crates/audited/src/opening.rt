@@ -11,8 +11,8 @@ impl<D: Pmem + Drop + Send + Sync> Audited<D> {
     ghost use Rattle.base.specs.Images.{layout_of, opening_fault};
     ghost use Rattle.base.specs.Stands.{Stands};
     ghost use Rattle.base.specs.Machine.{State};
-    ghost use Rattle.base.specs.Openings.{OpensAs, StandsOpening, opened_slots};
-    ghost use Rattle.pmem.specs.Words.{LeavesOnly, IsAtRest, value_of, image_of, IsSettledAt, HasNoFailure};
+    ghost use Rattle.base.specs.Openings.{OpensAs, StandsOpening, opened_slots, updated};
+    ghost use Rattle.pmem.specs.Words.{LeavesOnly, IsAtRest, image_of, IsSettledAt, HasNoFailure};
     ghost use Rattle.recovery.specs.Opened.{IsRefusal, MakesOpening};
     ghost use Rattle.recovery.specs.Read.{TellsLogFault};
     ghost use Rattle.room.specs.Room.{Shows, ShowsStatus, device_of};
@@ -46,7 +46,7 @@ impl<D: Pmem + Drop + Send + Sync> Audited<D> {
 
         // The operations, and the words of superblock and slots, are those of the room's opening.
         ensures made { IfOk result (λ audited. MakesOpening (image_of (D.state device)) (D.state device) (device_of D.state audited.room)) }
-        ensures superblock { IfOk result (λ audited. (word : ℕ) → word < 8 → IsSettledAt (device_of D.state audited.room) word (value_of (D.state device) word)) }
+        ensures superblock { IfOk result (λ audited. (word : ℕ) → word < 8 → IsSettledAt (device_of D.state audited.room) word (slice_index (updated (image_of (D.state device))) word)) }
         ensures slots { IfOk result (λ audited. (word : ℕ) → 8 + 32 * (layout_of (image_of (D.state device))).places ≤ word → word < (D.state device).words
             → IsSettledAt (device_of D.state audited.room) word (slice_index (opened_slots (image_of (D.state device))) word)) }
 

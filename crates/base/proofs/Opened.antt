@@ -3,21 +3,21 @@
 use Rattle.std.proofs.Common.{◌≡◌, ℕ, ◌+◌, ◌-◌, ◌*◌, ◌^◌, ◌<◌, ◌≤◌, Bool, true, false, cond, not, ◌&&◌, ◌||◌, List, [], ◌∷◌, length, refl, sym, ◌∙◌, ap, arith, nat_eq, nat_lt, nat_le}
 use Rattle.std.specs.Prelude.{Option, Some, None, slice_index, ◌↔◌}
 use Rattle.std.specs.List.{list_all, range_with_len}
-use Rattle.std.specs.Option.{option_or}
+use Rattle.std.specs.Option.{option_map, option_or}
 use Rattle.std.proofs.lemmas.Bool.{and_parts, and_from, or_parts, leb-true, leb-false, ltb-true, ltb-false, lt-ltb, le-leb, eqb-true, not-false}
 use Rattle.std.proofs.lemmas.Bool.Decides.{nat_tests}
 use Rattle.base.specs.declared.key.Key.{Key}
 use Rattle.base.specs.declared.gap.Gap.{Gap}
 use Rattle.base.specs.declared.fault.Fault.{Fault}
-use Rattle.base.specs.declared.fault.Fault.TheVariants.{TimestampsOut}
-use Rattle.base.specs.Search.{some_if}
+use Rattle.base.specs.declared.fault.Fault.TheVariants.{Damaged, TimestampsOut}
+use Rattle.base.specs.Search.{first_below, some_if}
 use Rattle.base.specs.Commits.{Commit, after, last_writer}
-use Rattle.base.specs.Layout.{Layout, most_longs, slot_words, total_words, is_in_limits, is_known_version, opened_version}
+use Rattle.base.specs.Layout.{Layout, most_longs, slot_words, total_words, is_in_limits, is_known_version}
 use Rattle.base.specs.Records.{Record, record_word, record_in, is_record, is_in, is_committed, is_well_formed, opened_gaps}
-use Rattle.base.specs.Images.{Image, IsSound, layout_of, ruling, ruling_place, place_words, greatest_gate, has_good_geometry, is_ruled, key_of, begin_of, end_of, is_ahead, is_shown, is_misfit, is_second, is_bad_slot, ShownUnder, needs_sweep, is_near_limit, opening_fault}
+use Rattle.base.specs.Images.{Image, IsSound, layout_of, ruling, ruling_place, place_words, greatest_gate, has_good_geometry, is_formatted, is_ruled, is_wrong_gate, key_of, begin_of, end_of, is_ahead, is_shown, is_misfit, is_second, is_bad_slot, ShownUnder, needs_sweep, is_near_limit, opening_fault}
 use Rattle.base.specs.Stands.{Stands}
 use Rattle.base.specs.Machine.{State, Version, ByCommit}
-use Rattle.base.specs.Openings.{IsOpenedGaps, opening_record, opened, opened_under, held_under, gaps_kept, swept, opened_slots}
+use Rattle.base.specs.Openings.{IsOpenedGaps, IsUpToDate, opening_record, opened, opened_under, held_under, gaps_kept, swept, opened_slots}
 use Rattle.base.proofs.Histories.{no_bad_slot}
 use Rattle.base.proofs.Layouts.{line-words}
 use Rattle.base.proofs.WellFormed.{well_formed-parts}
@@ -49,9 +49,15 @@ some_if-none : (b : Bool) (fault : Fault) → some_if b fault ≡ None → b ≡
 some_if-none true fault e = absurd (cc e)
 some_if-none false fault e = refl
 
+map-none : (o : Option ℕ) → option_map Damaged o ≡ None → o ≡ None
+map-none None e = refl
+map-none (Some n) e = absurd (cc e)
+
 pub record IsWhole (image : Image) : Type 0 where
+  pub formatted : is_formatted image ≡ true
   pub known : is_known_version (layout_of image).version ≡ true
   pub geometry : has_good_geometry image ≡ true
+  pub gates : first_below (layout_of image).places (is_wrong_gate image) ≡ None
   pub ruled : is_ruled image ≡ true
 
 pub whole-of : (image : Image) → IsSound image → IsWhole image
@@ -62,6 +68,8 @@ whole-of image sound =
     let d = or-none _ _ c.1 in
     let e = or-none _ _ d.1 in
     record {
+      formatted = not-false (is_formatted image) (some_if-none (not (is_formatted image)) _ a.0);
+      gates = map-none (first_below (layout_of image).places (is_wrong_gate image)) d.0;
       known = not-false (is_known_version (layout_of image).version) (some_if-none (not (is_known_version (layout_of image).version)) _ b.0);
       geometry = not-false (has_good_geometry image) (some_if-none (not (has_good_geometry image)) _ c.0);
       ruled = not-false (is_ruled image) (some_if-none (not (is_ruled image)) _ e.0);
@@ -226,10 +234,6 @@ opened-below image sound slot h = let still = opened-still image sound in (still
 
 -- ---- what it gives
 
--- an image that opens is up to date
-same-version : (version : ℕ) → is_known_version version ≡ true → opened_version version ≡ version
-same-version version known = grind (arith, nat_tests)
-
 abbrev opened_by : Bool → Image → List Commit → List ℕ → List Gap → State
 opened_by b image history lost gaps = opened_under (layout_of image) (cond b (swept_record (ruling image)) (ruling image)) (cond b (swept image) image) history lost (cond b [] gaps)
 
@@ -255,10 +259,10 @@ same-by : (image : Image) (history : List Commit) (lost : List ℕ) (gaps : List
 same-by image history lost gaps sound false = refl
 same-by image history lost gaps sound true = λ i. record (opened_under (layout_of image) (ruling image) image history lost []) { held = λ slot. same-held image history sound slot i }
 
--- the state that an opening gives is that by what it found
-pub same_opened : (image : Image) (history : List Commit) (lost : List ℕ) (gaps : List Gap) → IsSound image → IsOpenedGaps (ruling image) gaps
+-- the state that an opening of an image of the newest version gives is that by what it found
+pub same_opened : (image : Image) (history : List Commit) (lost : List ℕ) (gaps : List Gap) → IsSound image → IsUpToDate image → IsOpenedGaps (ruling image) gaps
     → opened_under (layout_of image) (ruled_before image) (opened_slots image) history lost (gaps_kept (opened_gaps (ruling image))) ≡ opened image history lost gaps
-same_opened image history lost gaps sound covers =
+same_opened image history lost gaps sound up covers =
     same-by image history lost (opened_gaps (ruling image)) sound (needs_sweep image)
     ∙ ap (λ (gs : List Gap). opened_under (layout_of image) (ruling image) image history lost (gaps_kept gs)) (one_gap_list (ruling image) (opened_gaps (ruling image)) gaps (covers-of image sound) covers)
-    ∙ ap (λ (v : ℕ). opened_under (record (layout_of image) { version = v }) (ruling image) image history lost (gaps_kept gaps)) (sym (same-version (layout_of image).version (whole-of image sound).known))
+    ∙ ap (λ (a : Layout). opened_under a (ruling image) image history lost (gaps_kept gaps)) up

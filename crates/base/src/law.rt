@@ -1,6 +1,6 @@
 //! What follows from the definitions. The functions do nothing: the contract of each is a law.
 
-ghost use Rattle.base.specs.Laws.{EachFreshStands, SnapshotsStay, CyclesAreWhole, OthersKeepHand, WorldsAdd, AcknowledgedStaysOverLives, SoundStands, OpenedGaps, OneGapList, OneOpening, HasRun, OneRecord, OneSpelling, FoundRecord, RefusedKeeps, FailedStays, OneReply, HasReply, HistoryGrows, AcknowledgedStays, CoveredIsKept, DrawnOnce, WorldsStand, WorldsGrow, NeverReturns, DrawnOnceOverLives, CloseTold};
+ghost use Rattle.base.specs.Laws.{EachFreshStands, SnapshotsStay, CyclesAreWhole, OthersKeepHand, WorldsAdd, AcknowledgedStaysOverLives, SoundStands, OpenedGaps, OneGapList, OneOpening, UpdatedOpen, HasRun, OneRecord, OneSpelling, FoundRecord, RefusedKeeps, FailedStays, OneReply, HasReply, HistoryGrows, AcknowledgedStays, CoveredIsKept, DrawnOnce, WorldsStand, WorldsGrow, NeverReturns, DrawnOnceOverLives, CloseTold};
 ghost use Rattle.base.specs.Rounds.{VisitsFollow, RoundsRepeat};
 
 /// A freshly formatted image, of each layout in the limits, stands for no commits, and opens.
@@ -25,6 +25,7 @@ pub fn openings_are_decided()
     ensures gaps { OpenedGaps }
     ensures one_list { OneGapList }
     ensures one_state { OneOpening }
+    ensures updated { UpdatedOpen }
 {}
 
 /// A refused step changes nothing, but that a failing device is remembered: then each step is refused.

@@ -5,12 +5,13 @@ use base::key::Key;
 use base::row::Row;
 use base::step::{Reply, Step};
 use pmem::Pmem;
-use pmem_file::{FilePmem, Nowhere};
+use pmem_file::{FileLines, FilePmem, Nowhere};
 use pmem_model::SimPmem;
 use recovery::format;
 use room::Room;
 use std::alloc::Global;
-use std::rt::Clock;
+use std::fs::File;
+use std::rt::{Clock, Files};
 use std::thread::Threads;
 use std::time::{Duration, Instant};
 
@@ -42,14 +43,7 @@ pub fn load_keys<H: Threads + Sync>(
     load: &Load,
 ) -> Result<Room<SimPmem>, Error> {
     let mut room = open(rt, alloc, &formatted(alloc, load)?)?;
-    let each = Load {
-        commits: load.keys,
-        batch: 32,
-        ..*load
-    };
-    for cycle in 0..cycles(&each) {
-        commit_batch(&mut room, &each, cycle)?;
-    }
+    put_each_key(&mut room, load)?;
     Ok(reopened(rt, alloc, room)?)
 }
 
@@ -87,15 +81,33 @@ pub fn load_plain<H: Threads + Sync>(
     load: &Load,
 ) -> Result<Room<FilePmem<Nowhere>>, Error> {
     let mut room = open_plain(rt, alloc, load)?;
+    put_each_key(&mut room, load)?;
+    Ok(room)
+}
+
+/// The same over a device whose lines lie in the file of this name, which is formatted.
+pub fn load_file<H: Files<File = File> + Threads + Sync>(
+    rt: &H,
+    alloc: Global,
+    load: &Load,
+    name: &str,
+) -> Result<Room<FilePmem<FileLines>>, Error> {
+    let mut room = open_file(rt, alloc, load, name)?;
+    put_each_key(&mut room, load)?;
+    Ok(room)
+}
+
+// Gives each key a row, by batches of 32.
+fn put_each_key<D: Pmem + Drop>(room: &mut Room<D>, load: &Load) -> Result<(), Fault> {
     let each = Load {
         commits: load.keys,
         batch: 32,
         ..*load
     };
     for cycle in 0..cycles(&each) {
-        commit_batch(&mut room, &each, cycle)?;
+        commit_batch(room, &each, cycle)?;
     }
-    Ok(room)
+    Ok(())
 }
 
 fn open_plain<H: Threads + Sync>(
@@ -106,6 +118,23 @@ fn open_plain<H: Threads + Sync>(
     let geometry = Geometry::new(load.slots, Geometry::LEAST_PLACES, Geometry::MOST_WINDOW)?;
     let words = vec![in alloc; 0; geometry.words() as usize]?;
     let mut device = FilePmem::new(alloc, words, Nowhere)?;
+    if let Err(fault) = format(&mut device, geometry) {
+        return Err(Error::from(fault));
+    }
+    match Room::open(rt, alloc, device) {
+        Ok(room) => Ok(room),
+        Err((fault, _device)) => Err(Error::from(fault)),
+    }
+}
+
+fn open_file<H: Files<File = File> + Threads + Sync>(
+    rt: &H,
+    alloc: Global,
+    load: &Load,
+    name: &str,
+) -> Result<Room<FilePmem<FileLines>>, Error> {
+    let geometry = Geometry::new(load.slots, Geometry::LEAST_PLACES, Geometry::MOST_WINDOW)?;
+    let mut device = FilePmem::open(rt, alloc, name, geometry.words())?;
     if let Err(fault) = format(&mut device, geometry) {
         return Err(Error::from(fault));
     }
@@ -172,17 +201,17 @@ fn key_of(number: u64, load: &Load) -> Key {
     }
 }
 
-// Makes a step that is not refused.
-fn step<D: Pmem + Drop>(room: &mut Room<D>, step: Step) -> Result<Reply, Fault> {
+/// Makes a step that is not refused.
+pub fn step<D: Pmem + Drop>(room: &mut Room<D>, step: Step) -> Result<Reply, Fault> {
     match room.step(step) {
         Reply::Refused(fault) => Err(fault),
         reply => Ok(reply),
     }
 }
 
-// Ticks the committer until it has covered a batch, or has nothing to do, and lets the collector make a visit with each
-// tick. How often they did.
-fn cover<D: Pmem + Drop>(room: &mut Room<D>) -> Result<u64, Fault> {
+/// Ticks the committer until it has covered a batch, or has nothing to do, and lets the collector make a visit with each
+/// tick. How often they did.
+pub fn cover<D: Pmem + Drop>(room: &mut Room<D>) -> Result<u64, Fault> {
     for ticks in 1..u64::MAX {
         let reply = step(room, Step::Commit)?;
         step(room, Step::Collect)?;

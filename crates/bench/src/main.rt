@@ -1,8 +1,8 @@
 //! Counts of what the modelled device, the engine and the board do, and with the word `time` first how fast: rounds of
 //! stores on the device; commits and reads of the engine; reads on a board beside a writer that publishes.
 //! `engine SLOTS KEYS COMMITS BATCH READS` runs the engine alone, `plain` with the same words the engine over a device that keeps
-//! no history, and `readers N` the reads of N readers, each in a thread of
-//! its own.
+//! no history, `file NAME` with them the engine over a device whose lines lie in that file, and `readers N` the reads of N
+//! readers, each in a thread of its own.
 #![tactic(auto)]
 
 ghost use Rattle.std.specs.Prelude.{◌≤◌, IfOk};
@@ -11,17 +11,20 @@ ghost use Rattle.pmem_model.specs.Sim.{device_of};
 mod engine;
 mod readers;
 mod rounds;
+mod slow;
 
 use anyhow::{Error, bail, ensure};
 use base::geometry::Geometry;
-use engine::{Load, Made, load_keys, load_plain, run_load};
+use engine::{Load, Made, load_file, load_keys, load_plain, run_load};
 use pmem::Pmem;
 use pmem_model::SimPmem;
 use readers::read_beside_a_writer;
 use rounds::{STORES_IN_A_ROUND, make_rounds};
+use slow::covered_beside_a_slow_one;
 use std::alloc::Global;
 use std::env;
-use std::rt::Clock;
+use std::fs::File;
+use std::rt::{Clock, Files};
 use std::sync::Wait;
 use std::thread::Threads;
 use std::time::{Duration, Instant};
@@ -55,10 +58,12 @@ fn main(rt: HostRuntime) -> Result<(), Error> {
     match words {
         ["engine", load @ ..] => measure_engine(&rt, alloc, &load_of(load)?, timed),
         ["plain", load @ ..] => measure_plain(&rt, alloc, &load_of(load)?, timed),
+        ["file", name, load @ ..] => measure_file(&rt, alloc, name, &load_of(load)?, timed),
         ["readers", readers] => measure_readers(&rt, alloc, readers.parse::<usize>()?, timed),
         _ => {
             measure_rounds(&rt, alloc, timed)?;
             measure_engine(&rt, alloc, &SMALL, timed)?;
+            count_beside_a_slow_one(&rt, alloc)?;
             measure_readers(&rt, alloc, FEW_READERS, timed)
         }
     }
@@ -116,11 +121,7 @@ fn measure_engine<H: Print + Clock + Threads + Sync>(
     let made = run_load(rt, &mut room, load)?;
     print_run(rt, load, &made)?;
     print_operations(rt, &room.into_device())?;
-    if timed {
-        print_rate(rt, "commits", load.commits, made.committing)?;
-        print_rate(rt, "reads", load.reads, made.reading)?;
-    }
-    Ok(())
+    print_rates(rt, load, &made, timed)
 }
 
 // The same over a device that keeps neither its history nor its lines, and counts nothing.
@@ -133,10 +134,39 @@ fn measure_plain<H: Print + Clock + Threads + Sync>(
     let mut room = load_plain(rt, alloc, load)?;
     let made = run_load(rt, &mut room, load)?;
     print_run(rt, load, &made)?;
+    print_rates(rt, load, &made, timed)
+}
+
+// The same over a device whose lines lie in a file. A file of that name is formatted.
+fn measure_file<H: Print + Files<File = File> + Clock + Threads + Sync>(
+    rt: &H,
+    alloc: Global,
+    name: &str,
+    load: &Load,
+    timed: bool,
+) -> Result<(), Error> {
+    let mut room = load_file(rt, alloc, load, name)?;
+    let made = run_load(rt, &mut room, load)?;
+    print_run(rt, load, &made)?;
+    print_rates(rt, load, &made, timed)
+}
+
+fn print_rates<H: Print>(rt: &H, load: &Load, made: &Made, timed: bool) -> Result<(), Error> {
     if timed {
         print_rate(rt, "commits", load.commits, made.committing)?;
         print_rate(rt, "reads", load.reads, made.reading)?;
     }
+    Ok(())
+}
+
+// How many commits are covered while one that was drawn before them is never stamped.
+fn count_beside_a_slow_one<H: Print + Threads + Sync>(rt: &H, alloc: Global) -> Result<(), Error> {
+    let mut room = load_plain(rt, alloc, &SMALL)?;
+    let covered = covered_beside_a_slow_one(&mut room, SMALL.commits)?;
+    println!(rt;
+        "covered {covered} of {} beside one that never stamps",
+        SMALL.commits
+    )?;
     Ok(())
 }
 

@@ -9,7 +9,7 @@ use Rattle.base.specs.declared.key.Key.{Key}
 use Rattle.base.specs.declared.fault.Fault.{Fault}
 use Rattle.base.specs.declared.fault.Fault.TheVariants.{NotFormatted, Version as VersionFault}
 use Rattle.base.specs.Commits.{Commit, after, last_writer}
-use Rattle.base.specs.Layout.{Layout, slot_words, is_known_version, opened_version, opened_layout}
+use Rattle.base.specs.Layout.{Layout, slot_words, is_known_version}
 use Rattle.base.specs.Search.{some_if}
 use Rattle.base.specs.Records.{is_committed}
 use Rattle.base.specs.Images.{Image, IsSound, layout_of, ruling, begin_of, end_of, is_formatted, is_ahead, is_shown, is_misfit, is_second}
@@ -40,28 +40,6 @@ nil-of (x ∷ xs) e = absurd (cc e)
 
 drop-whole : (xs : List Commit) (n : ℕ) → length xs ≤ n → drop n xs ≡ []
 drop-whole xs n le = nil-of (drop n xs) (omega (arith, length-drop n xs, le))
-
--- ---- the layout
-
-or-none : {X : Type 0} → (a b : Option X) → option_or a b ≡ None → (a ≡ None) × (b ≡ None)
-or-none None b e = (refl, e)
-or-none (Some x) b e = absurd (cc e)
-
-some_if-none : (b : Bool) (fault : Fault) → some_if (not b) fault ≡ None → b ≡ true
-some_if-none true fault e = refl
-some_if-none false fault e = absurd (cc e)
-
-known-of : (image : Image) → IsSound image → is_known_version (layout_of image).version ≡ true
-known-of image sound =
-    some_if-none (is_known_version (layout_of image).version) (VersionFault (layout_of image).version)
-    (or-none (some_if (not (is_known_version (layout_of image).version)) (VersionFault (layout_of image).version)) _ (or-none (some_if (not (is_formatted image)) NotFormatted) _ sound).1).0
-
-same-layout : (image : Image) → IsSound image → layout_of image ≡ opened_layout (layout_of image)
-same-layout image sound =
-    let v : ℕ = (layout_of image).version in
-    let both = and_parts (nat_le 1 v) (nat_le v 1) (known-of image sound) in
-    let one : v ≡ 1 = omega (arith, leb-true 1 v both.0, leb-true v 1 both.1) in
-    ap (λ (n : ℕ). record (layout_of image) { version = n }) (one ∙ sym (ap opened_version one))
 
 -- ---- a state at rest
 
@@ -161,7 +139,7 @@ module _ (q : State) (device : Device) (fresh : IsFresh q device) (kept : Keeps 
 -- ---- an opened state
 
 pub opened-upholds : OpenedUpholds
-opened-upholds image history drawn next lost q device opens stands opened_as rests record_holds = record {
+opened-upholds image history drawn next lost q device opens up stands opened_as rests record_holds = record {
   keeps = kept;
   shows = shows;
   holds = record {
@@ -175,17 +153,17 @@ opened-upholds image history drawn next lost q device opens stands opened_as res
 }
   where
     kept : Keeps (origin_of q) q
-    kept = keeps-opened image history drawn next lost q opens stands opened_as
+    kept = keeps-opened image history drawn next lost q opens up stands opened_as
 
     shows : SlotsShow (origin_of q) q (value_of device)
     shows = record {
       each = λ slot lt.
           shows-same (origin_of q) q (slice_index (opened_slots image)) (value_of device) slot (λ w low. (rests.each slot w lt low).holds)
-          ((shows-opened image history drawn next lost q opens stands opened_as).each slot lt);
+          ((shows-opened image history drawn next lost q opens up stands opened_as).each slot lt);
     }
 
     laid_out : q.layout ≡ layout_of image
-    laid_out = ap (λ (p : State). p.layout) opened_as.2 ∙ sym (same-layout image stands.sound)
+    laid_out = ap (λ (p : State). p.layout) opened_as.2 ∙ sym up
 
     opening : IsOpening (layout_of image) (ruled_before image) (opened_slots image) history (gaps_kept (opened_gaps (ruling image)))
     opening = opening-of image history drawn next opens stands

@@ -4,7 +4,7 @@ use Rattle.base.specs.declared.key.Key.{Key}
 use Rattle.base.specs.Layout.{Layout, slot_words}
 use Rattle.base.specs.Records.{Record, is_in, is_committed}
 use Rattle.base.specs.Images.{Image, opening_fault}
-use Rattle.base.specs.Openings.{OpensAs, opened_slots}
+use Rattle.base.specs.Openings.{IsUpToDate, OpensAs, opened_slots}
 use Rattle.base.specs.Stands.{Stands}
 use Rattle.base.specs.Commits.{Commit, writes_key, last_writer}
 use Rattle.base.specs.Machine.{State, Session, Drawn, Hand, Version, BySession, ByCommit, drawn_at, lines_of, state_covered, StandsAt}
@@ -163,5 +163,5 @@ pub record RestsOn (a : Layout) (device : Device) (image : Image) : Type 0 where
 -- device upholds the opened state
 abbrev pub OpenedUpholds : Type 0
 OpenedUpholds =
-    (image : Image) (history drawn : List Commit) (next : ℕ) (lost : List ℕ) (q : State) (device : Device) → opening_fault image ≡ None → Stands image history drawn next → OpensAs image history lost q
+    (image : Image) (history drawn : List Commit) (next : ℕ) (lost : List ℕ) (q : State) (device : Device) → opening_fault image ≡ None → IsUpToDate image → Stands image history drawn next → OpensAs image history lost q
     → RestsOn q.layout device (opened_slots image) → HoldsRecord q.layout q.ruling device → Upholds (origin_of q) q device

@@ -85,6 +85,52 @@ const OF_FIRST_COMMIT: &[(Changes, Answer)] = &[
     (&[(80, 1), (82, 7), (83, 131_073), (84, 25_185)], Damaged(3)),
 ];
 
+// That image under a record with twelve long commits, 2 to 13, of which each leaves its number in the word that it has.
+const LONG_COMMITS: Changes = &[
+    (41, 14),
+    (42, 15),
+    (43, 51_539_607_552),
+    (60, 2),
+    (61, 3),
+    (62, 4),
+    (63, 5),
+    (64, 6),
+    (65, 7),
+    (66, 8),
+    (67, 9),
+    (68, 10),
+    (69, 11),
+    (70, 12),
+    (71, 13),
+    (72, 1),
+    (74, 7),
+    (75, 131_073),
+    (76, 25_185),
+];
+
+// Changes of the image with long commits: one of 0, one above the persisted timestamp, two that don't rise, a thirteenth,
+// one of fewer that is still named, one in a gap, and the first version, which has none.
+const OF_LONG_COMMITS: &[(Changes, Answer)] = &[
+    (&[], Rows(1)),
+    (&[(71, 14)], Rows(1)),
+    (&[(60, 1)], Rows(0)),
+    (&[(60, 0)], Damaged(1)),
+    (&[(71, 15)], Damaged(1)),
+    (&[(61, 2)], Damaged(1)),
+    (&[(43, 55_834_574_848)], Damaged(1)),
+    (&[(43, 47_244_640_256)], Damaged(1)),
+    (&[(43, 47_244_640_256), (71, 0)], Rows(1)),
+    (
+        &[(43, 47_244_640_257), (71, 0), (44, 13), (45, 14)],
+        Rows(1),
+    ),
+    (
+        &[(43, 47_244_640_257), (71, 0), (44, 12), (45, 14)],
+        Damaged(1),
+    ),
+    (&[(1, 1)], Damaged(1)),
+];
+
 // An update of key 7, or its first row.
 const A_COMMIT: &[Ask] = &[
     Begin,
@@ -104,14 +150,15 @@ fn change(words: &mut [u64], changes: Changes) {
     }
 }
 
-/// Each change of both tables, by a check and by an opening.
+/// Each change of the tables, by a check and by an opening.
 pub fn change_each<R: Threads + Sync>(
     rt: &R,
     alloc: Global,
     counts: &mut Counts,
 ) -> Result<(), Fault> {
     change_table(rt, alloc, &[], OF_FRESH, counts)?;
-    change_table(rt, alloc, FIRST_COMMIT, OF_FIRST_COMMIT, counts)
+    change_table(rt, alloc, FIRST_COMMIT, OF_FIRST_COMMIT, counts)?;
+    change_table(rt, alloc, LONG_COMMITS, OF_LONG_COMMITS, counts)
 }
 
 fn change_table<R: Threads + Sync>(

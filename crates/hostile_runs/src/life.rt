@@ -145,6 +145,9 @@ pub fn words_before<R: Threads + Sync>(
     for (asks, newest) in story.before {
         words = words_after(rt, alloc, &words, asks, *newest)?;
     }
+    if let Some(version) = words.get_mut(1) {
+        *version = story.version;
+    }
     Ok(words)
 }
 

@@ -1,36 +1,12 @@
 -- The gaps that an opening goes on with.
-use Rattle.std.proofs.Common.{◌≡◌, ℕ, Bool, true, false, cond, ◌&&◌, ◌||◌, List, [], length, refl, sym, ◌∙◌, ap, nat_lt, nat_eq}
+use Rattle.std.proofs.Common.{◌≡◌, Bool, true, false, cond, List, [], length, refl, sym, ◌∙◌, ap, nat_lt}
 use Rattle.std.specs.Prelude.{Option, Some, None}
-use Rattle.std.specs.List.{list_any}
 use Rattle.base.specs.declared.gap.Gap.{Gap}
-use Rattle.base.specs.Layout.{Layout, newest_version}
-use Rattle.base.specs.Records.{Record, is_in, opened_gaps, is_well_formed}
+use Rattle.base.specs.Layout.{Layout}
+use Rattle.base.specs.Records.{Record, opened_gaps}
 use Rattle.base.specs.Images.{Image, needs_sweep, IsRuledBy}
 use Rattle.base.specs.Openings.{gaps_kept, swept, opened_slots}
-use Rattle.base.proofs.GapLists.{opened-gaps}
 use Rattle.recovery.specs.Gaps.{few_gaps}
-use Rattle.recovery.proofs.Formed.{none-long}
-
--- ---- one timestamp
-
-in-opened : (r : Record) (t : ℕ) → is_well_formed newest_version r ≡ true → is_in (opened_gaps r) t ≡ (is_in r.gaps t || false || (nat_lt r.persisted t && nat_lt t r.dirty))
-in-opened r t well =
-    (opened-gaps newest_version r well).same t
-    ∙ ap (λ (longs : List ℕ). is_in r.gaps t || list_any (nat_eq t) longs || (nat_lt r.persisted t && nat_lt t r.dirty)) (none-long r well)
-
-pub in-skipped : (r : Record) (t : ℕ) → is_well_formed newest_version r ≡ true → (nat_lt r.persisted t && nat_lt t r.dirty) ≡ true → true ≡ is_in (opened_gaps r) t
-in-skipped r t well is = sym (in-opened r t well ∙ ap (λ (b : Bool). is_in r.gaps t || false || b) is ∙ last (is_in r.gaps t))
-  where
-    last : (b : Bool) → (b || false || true) ≡ true
-    last true = refl
-    last false = refl
-
-pub in-own : (r : Record) (t : ℕ) → is_well_formed newest_version r ≡ true → (nat_lt r.persisted t && nat_lt t r.dirty) ≡ false → is_in r.gaps t ≡ is_in (opened_gaps r) t
-in-own r t well is = sym (in-opened r t well ∙ ap (λ (b : Bool). is_in r.gaps t || false || b) is ∙ last (is_in r.gaps t))
-  where
-    last : (b : Bool) → (b || false || false) ≡ b
-    last true = refl
-    last false = refl
 
 -- ---- few or many
 

@@ -1,4 +1,4 @@
-pub mod Formed
+pub mod Pieces
 pub mod SweptSlots
 pub mod Ruled
 pub mod Opens
@@ -6,6 +6,7 @@ pub mod Keeping
 pub mod Visits
 pub mod Beginning
 pub mod Lives
+pub mod Updates
 pub mod Zeros
 pub mod Fresh
 pub mod LiveRows

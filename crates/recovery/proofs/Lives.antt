@@ -10,11 +10,11 @@ use Rattle.base.specs.declared.fault.Fault.{Fault}
 use Rattle.base.specs.declared.fault.Fault.TheVariants.{TimestampsOut, OutOfMemory, Device as DeviceFault}
 use Rattle.base.specs.Search.{some_if}
 use Rattle.base.specs.Commits.{Commit}
-use Rattle.base.specs.Layout.{Layout, newest_version, slot_words, total_words, is_known_version, is_in_limits, is_between}
-use Rattle.base.specs.Records.{Record, opened_gaps, is_well_formed}
+use Rattle.base.specs.Layout.{Layout, slot_words, total_words, is_known_version, is_in_limits, is_between}
+use Rattle.base.specs.Records.{Record, opened_gaps}
 use Rattle.base.specs.Images.{Image, IsSound, damage, layout_of, ruling, is_shown, opening_fault, is_near_limit, needs_sweep, IsRuledBy, log_damage}
 use Rattle.base.specs.Stands.{Stands}
-use Rattle.base.specs.Openings.{IsOpenedGaps, Counts, opening_record, gaps_kept, swept, opened_slots, words_swept, lines_swept, StandsOpening}
+use Rattle.base.specs.Openings.{IsOpenedGaps, Counts, opening_record, gaps_kept, swept, opened_slots, words_swept, lines_swept, record_counts, StandsOpening}
 use Rattle.base.proofs.Histories.{opens-sound}
 use Rattle.base.proofs.OpenedRecords.{formed-kept}
 use Rattle.base.proofs.Opened.{covers-of}
@@ -31,15 +31,15 @@ use Rattle.log_area.specs.Writings.{IsNextRecord, IsRuledByEither, IsOutside, be
 use Rattle.log_area.proofs.Rulings.{place_below, log_within}
 use Rattle.log_area.proofs.AtRest.{laid, fits_image, rest_holds}
 use Rattle.log_area.proofs.Heads.{laid_size, laid_limits}
-use Rattle.recovery.specs.Gaps.{few_gaps}
+use Rattle.recovery.specs.Gaps.{few_gaps, MayRule}
 use Rattle.recovery.specs.Slots.{IsUnder, IsSlotsFault, free_below, bad_below}
 use Rattle.recovery.specs.Live.{live_below}
 use Rattle.recovery.specs.Sweeping.{IsSwept, is_hit}
-use Rattle.recovery.specs.Opened.{HasSlotsOf, Refuses, IsExamined, Examined, HasOpened, IsCutShort, IsRefusal, sweep_operations}
+use Rattle.recovery.specs.Opened.{HasSlotsOf, Refuses, IsExamined, Examined, HasOpenedToday, IsCutBefore, IsCutShort, IsRefusal, sweep_operations, total}
 use Rattle.recovery.specs.declared.rows.LiveSlot.{LiveSlot}
 use Rattle.base.proofs.Layouts.{one-line}
 use Rattle.base.proofs.WellFormed.{WellFormed, well_formed-parts}
-use Rattle.recovery.proofs.Opens.{stands-opening, version-one, or-none, record_after}
+use Rattle.recovery.proofs.Opens.{stands-opening, or-none, record_after}
 use Rattle.recovery.proofs.Ruled.{images-sweeping, ruled-swept}
 use Rattle.recovery.proofs.Beginning.{fault-log, fault-slots, fault-limit, no-damage, no-fault}
 
@@ -92,11 +92,11 @@ module _ (layout : Layout) (r : Record) (image : Image) (rules : IsRuledBy layou
   pub wide-new : slot_words layout.version ≡ 8
   wide-new = (one-line layout.version known).words
 
-  pub formed-new : is_well_formed newest_version r ≡ true
-  formed-new = subst (λ (v : ℕ). is_well_formed v r ≡ true) (version-one layout.version known) (fits_image layout r image rules).well_formed
+  pub may-rule : MayRule r
+  may-rule = (layout.version, (fits_image layout r image rules).well_formed)
 
-  pub formed-parts : WellFormed newest_version r
-  formed-parts = well_formed-parts newest_version r formed-new
+  pub formed-parts : WellFormed layout.version r
+  formed-parts = well_formed-parts layout.version r (fits_image layout r image rules).well_formed
 
   pub under : IsUnder layout r image
   unfolding IsUnder
@@ -283,7 +283,7 @@ module _ (old mid new : Device) (orderly : IsOrderly mid) (rest : IsAtRest old) 
     pub has-opened : (target : Record) → target ≡ after → HoldsRecord layout target new → Spares (IsOutside (begun layout target)) mid new
         → Spares (λ word. (needs_sweep (image_of old) && is_hit layout r old word) ≡ false) old mid
         → (needs_sweep (image_of old) ≡ false → Makes 0 0 0 0 old mid) → (needs_sweep (image_of old) ≡ true → Makes (words_swept (image_of old)) (lines_swept (image_of old)) 1 0 old mid) → Makes 32 5 2 0 mid new
-        → (next : ℕ) → next ≡ r.dirty → HasOpened old new layout target next free live
+        → (next : ℕ) → next ≡ r.dirty → HasOpenedToday old new layout target next free live
     unfolding free_below
     has-opened target made holds spares unswept none some makes next next-is =
         let e = is (image_of old) layout r gaps free live ex in
@@ -345,16 +345,16 @@ abbrev counts_at : Image → Bool → Counts
 counts_at image b = cond b (record { stores = 32 + words_swept image; flushes = 5 + lines_swept image; fences = 3 }) (record { stores = 32; flushes = 5; fences = 2 })
 
 abbrev all_at : Image → Bool → ℕ
-all_at image b = (counts_at image b).stores + (counts_at image b).flushes + (counts_at image b).fences
+all_at image b = total (counts_at image b)
 
-pub cut-early : (old new : Device) → old.failures < new.failures → needs_sweep (image_of old) ≡ true → operations_of new < operations_of old + sweep_operations (image_of old) → IsCutShort old new
+pub cut-early : (old new : Device) → old.failures < new.failures → needs_sweep (image_of old) ≡ true → operations_of new < operations_of old + sweep_operations (image_of old) → IsCutBefore (total (record_counts (image_of old))) old new
 cut-early old new failed many few = record {
   failed = failed;
   few = subst (λ (b : Bool). operations_of new < operations_of old + all_at (image_of old) b) (sym many) (omega (arith, few));
 }
 
 pub cut-late : (old mid new : Device) → old.failures < new.failures → (needs_sweep (image_of old) ≡ false → Makes 0 0 0 0 old mid)
-    → (needs_sweep (image_of old) ≡ true → Makes (words_swept (image_of old)) (lines_swept (image_of old)) 1 0 old mid) → operations_of new < operations_of mid + 39 → IsCutShort old new
+    → (needs_sweep (image_of old) ≡ true → Makes (words_swept (image_of old)) (lines_swept (image_of old)) 1 0 old mid) → operations_of new < operations_of mid + 39 → IsCutBefore (total (record_counts (image_of old))) old new
 cut-late old mid new failed none made few = record { failed = failed; few = by (needs_sweep (image_of old)) refl }
   where
     by : (b : Bool) → needs_sweep (image_of old) ≡ b → operations_of new < operations_of old + all_at (image_of old) b

@@ -1,13 +1,13 @@
 -- The record that an opening writes, what it leaves alone, and what an opening gives.
-use Rattle.std.specs.Prelude.{◌≡◌, ◌⊎◌, ℕ, ◌+◌, ◌*◌, ◌<◌, ◌≤◌, Bool, false, not, ◌&&◌, List, length, map, slice_index, Option, Some, None}
+use Rattle.std.specs.Prelude.{◌≡◌, ◌⊎◌, ℕ, ◌+◌, ◌*◌, ◌<◌, ◌≤◌, Bool, false, not, nat_eq, ◌&&◌, List, length, map, slice_index, Option, Some, None}
 use Rattle.std.specs.List.{range_with_len}
 use Rattle.base.specs.declared.gap.Gap.{Gap}
 use Rattle.base.specs.declared.fault.Fault.{Fault}
 use Rattle.base.specs.declared.fault.Fault.TheVariants.{OutOfMemory, Device as DeviceFault}
-use Rattle.base.specs.Layout.{Layout}
+use Rattle.base.specs.Layout.{Layout, opened_layout}
 use Rattle.base.specs.Records.{Record, opened_gaps}
 use Rattle.base.specs.Images.{Image, layout_of, ruling, is_shown, opening_fault, needs_sweep, IsRuledBy}
-use Rattle.base.specs.Openings.{opening_record, opening_counts, gaps_kept, opened_slots, words_swept, lines_swept}
+use Rattle.base.specs.Openings.{Counts, opening_record, opening_counts, record_counts, gaps_kept, opened_slots, words_swept, lines_swept, updated, updates}
 use Rattle.pmem.specs.Device.{Device}
 use Rattle.pmem.specs.Words.{value_of, image_of, IsSettledAt, Makes, Spares, operations_of}
 use Rattle.log_area.specs.Rulings.{HoldsRecord}
@@ -47,19 +47,25 @@ free_in image = map (λ slot. not (is_shown (ruling image) image slot)) (range_w
 abbrev pub is_swept : Device → ℕ → Bool
 is_swept device word = needs_sweep (image_of device) && is_hit (layout_of (image_of device)) (ruling (image_of device)) device word
 
--- the word is none of the record's place, and an opening doesn't sweep it
+-- the word is that of the version, which an opening changes
+abbrev pub is_updated : Device → ℕ → Bool
+is_updated device word = updates (image_of device) && nat_eq word 1
+
+-- the word is none of the record's place, and an opening neither sweeps nor updates it
 abbrev pub IsLeftAlone : Device → Layout → Record → ℕ → Type 0
-IsLeftAlone device layout r word = IsOutside (begun layout r) word × (is_swept device word ≡ false)
+IsLeftAlone device layout r word = IsOutside (begun layout r) word × (is_swept device word ≡ false) × (is_updated device word ≡ false)
 
--- from one device to the other lead as many operations of each kind as an opening of the image makes, and none failed
+-- from one device to the other lead so many operations of each kind, and none failed
+abbrev pub MakesAll : Counts → Device → Device → Type 0
+MakesAll counts old new = Makes counts.stores counts.flushes counts.fences 0 old new
+
+-- those that an opening of the image makes
 abbrev pub MakesOpening : Image → Device → Device → Type 0
-MakesOpening image old new = Makes (opening_counts image).stores (opening_counts image).flushes (opening_counts image).fences 0 old new
+MakesOpening image old new = MakesAll (opening_counts image) old new
 
--- The old device, at rest, was opened, and the new one is what that made of it: this record rules it, the superblock is as
--- it was, and so are the slots, but for what a sweep of more than eight gaps stores; no crash meanwhile leaves anything else
--- in a word that is left alone; the next timestamp is the dirty one of the record that ruled before, these slots are free,
--- and these live
-pub record HasOpened (old new : Device) (layout : Layout) (r : Record) (next : ℕ) (free : List Bool) (live : List LiveSlot) : Type 0 where
+-- The old device, at rest and of today's version, was opened, and the new one is what that made of it: this record rules
+-- it, the superblock is as it was, and so are the slots, but for what a sweep of more than eight gaps stores
+pub record HasOpenedToday (old new : Device) (layout : Layout) (r : Record) (next : ℕ) (free : List Bool) (live : List LiveSlot) : Type 0 where
   pub opens : opening_fault (image_of old) ≡ None
   pub layout_is : layout ≡ layout_of (image_of old)
   pub record_is : r ≡ opening_record (layout_of (image_of old)) (ruling (image_of old)) (gaps_kept (opened_gaps (ruling (image_of old))))
@@ -67,8 +73,25 @@ pub record HasOpened (old new : Device) (layout : Layout) (r : Record) (next : �
   pub free_is : free ≡ free_in (image_of old)
   pub live_is : live ≡ live_below (image_of old) (layout_of (image_of old)).slots
   pub holds : HoldsRecord layout r new
-  pub left_alone : Spares (IsLeftAlone old layout r) old new
+  pub left_alone : Spares (λ word. IsOutside (begun layout r) word × (is_swept old word ≡ false)) old new
   pub superblock : (word : ℕ) → word < 8 → IsSettledAt new word (value_of old word)
+  pub slots : (word : ℕ) → 8 + 32 * layout.places ≤ word → word < old.words → IsSettledAt new word (slice_index (opened_slots (image_of old)) word)
+  pub made : MakesAll (record_counts (image_of old)) old new
+
+-- The old device, at rest, was opened, and the new one is what that made of it: this record rules it, the superblock is as
+-- it was, but for the version, and so are the slots, but for what a sweep of more than eight gaps stores; no crash meanwhile leaves anything else
+-- in a word that is left alone; the next timestamp is the dirty one of the record that ruled before, these slots are free,
+-- and these live
+pub record HasOpened (old new : Device) (layout : Layout) (r : Record) (next : ℕ) (free : List Bool) (live : List LiveSlot) : Type 0 where
+  pub opens : opening_fault (image_of old) ≡ None
+  pub layout_is : layout ≡ opened_layout (layout_of (image_of old))
+  pub record_is : r ≡ opening_record (layout_of (image_of old)) (ruling (image_of old)) (gaps_kept (opened_gaps (ruling (image_of old))))
+  pub next_is : next ≡ (ruling (image_of old)).dirty
+  pub free_is : free ≡ free_in (image_of old)
+  pub live_is : live ≡ live_below (image_of old) (layout_of (image_of old)).slots
+  pub holds : HoldsRecord layout r new
+  pub left_alone : Spares (IsLeftAlone old layout r) old new
+  pub superblock : (word : ℕ) → word < 8 → IsSettledAt new word (slice_index (updated (image_of old)) word)
   pub slots : (word : ℕ) → 8 + 32 * layout.places ≤ word → word < old.words → IsSettledAt new word (slice_index (opened_slots (image_of old)) word)
   pub made : MakesOpening (image_of old) old new
 
@@ -76,14 +99,22 @@ pub record HasOpened (old new : Device) (layout : Layout) (r : Record) (next : �
 abbrev pub sweep_operations : Image → ℕ
 sweep_operations image = words_swept image + lines_swept image + 1
 
--- and an opening
+-- all of them together
+abbrev pub total : Counts → ℕ
+total counts = counts.stores + counts.flushes + counts.fences
+
+-- how many an opening makes
 abbrev pub opening_operations : Image → ℕ
-opening_operations image = (opening_counts image).stores + (opening_counts image).flushes + (opening_counts image).fences
+opening_operations image = total (opening_counts image)
+
+-- an operation failed, before so many were made
+pub record IsCutBefore (most : ℕ) (old new : Device) : Type 0 where
+  pub failed : old.failures < new.failures
+  pub few : operations_of new < operations_of old + most
 
 -- an operation of an opening failed, before as many were made as the opening makes
-pub record IsCutShort (old new : Device) : Type 0 where
-  pub failed : old.failures < new.failures
-  pub few : operations_of new < operations_of old + opening_operations (image_of old)
+abbrev pub IsCutShort : Device → Device → Type 0
+IsCutShort old new = IsCutBefore (opening_operations (image_of old)) old new
 
 -- Why an opening is refused: for its own reason or for want of memory, and then nothing was done to the device; or
 -- because one of its operations failed, where the image has no fault

@@ -10,6 +10,7 @@ use base::actor::Actor;
 use base::fault::Fault;
 use base::gap::Gaps;
 use base::geometry::Geometry;
+use base::longs::Longs;
 use log_area::{FORMATTED, Record, write_geometry, write_record};
 use pmem::{Pmem, set_word};
 
@@ -54,5 +55,5 @@ fn write_fresh<D: Pmem>(device: &mut D, geometry: Geometry) -> Result<(), Fault>
 fn first_record() -> Record
     ensures { result ≡ first_record }
 {
-    Record::new(1, 0, 1, Gaps::none())
+    Record::new(1, 0, 1, Gaps::none(), Longs::none())
 }

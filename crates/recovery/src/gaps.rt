@@ -1,35 +1,87 @@
-ghost use Rattle.std.specs.Prelude.{◌≡◌, ◌&&◌, nat_lt, IsTrue};
-ghost use Rattle.base.specs.Layout.{newest_version};
-ghost use Rattle.base.specs.Records.{opened_gaps, is_in, is_well_formed};
-ghost use Rattle.recovery.specs.Gaps.{few_gaps};
+ghost use Rattle.std.specs.Prelude.{◌≡◌, ◌+◌, ◌-◌, ◌<◌, ◌&&◌, nat_lt, length, IfOk, OnOk, OnErr};
+ghost use Rattle.base.specs.Records.{opened_gaps, is_in};
+ghost use Rattle.recovery.specs.Gaps.{few_gaps, HasLongsBetween, HasUpTo, MayRule};
 
 use base::Ts;
+use base::fault::Fault;
 use base::gap::Gaps;
 use gap_list::GapList;
 use log_area::Record;
 
-/// The gaps with which an image is opened that the record rules: what it leaves between its persisted and its dirty
-/// timestamp is added, joined to a gap that ends just before. None where there are more than eight.
+/// The gaps with which an image is opened that the record rules: its own, one for each long commit, and what the record
+/// leaves between its persisted and its dirty timestamp, joined where they touch. None where there are more than eight.
 pub fn opened_gaps(ruling: Record) -> Option<Gaps>
-    requires { IsTrue (is_well_formed newest_version ruling) }
+    requires { MayRule ruling }
     ensures { result ≡ few_gaps ruling }
 {
-    if ruling.dirty() - ruling.persisted() < 2 {
-        return Some(ruling.gaps());
-    }
-    let mut gaps = GapList::of(ruling.gaps());
-    match gaps.add(ruling.persisted() + 1, ruling.dirty() - 1) {
-        Ok(()) => Some(gaps.gaps()),
+    match join_gaps(ruling) {
+        Ok(gaps) => Some(gaps.gaps()),
         Err(_) => None,
     }
 }
 
+// All of them, added by rising timestamp, so that the list never gets shorter: a ninth gap is one too many for good.
+fn join_gaps(ruling: Record) -> Result<GapList, Fault>
+    requires { MayRule ruling }
+    ensures ok { IfOk result (λ gaps. gaps ≡ opened_gaps ruling) }
+    ensures err { OnErr result (8 < length (opened_gaps ruling)) }
+{
+    let mut gaps = GapList::none();
+    let mut last = 0;
+    let own = ruling.gaps();
+    for gap in own.as_slice() {
+        add_longs(&mut gaps, ruling, last, gap.first)?;
+        gaps.add(gap.first, gap.last)?;
+        last = gap.last;
+    }
+    add_longs(&mut gaps, ruling, last, ruling.persisted() + 1)?;
+    add_skipped(&mut gaps, ruling)?;
+    Ok(gaps)
+}
+
+// Adds the long commits between two timestamps.
+fn add_longs(gaps: &mut GapList, ruling: Record, above: Ts, below: Ts) -> Result<(), Fault>
+    requires may_rule { MayRule ruling }
+    requires order { above < below }
+    requires before { HasUpTo ruling above gaps.old }
+    requires between { HasLongsBetween ruling above below }
+    ensures ok { OnOk result (HasUpTo ruling (below - 1) gaps.new) }
+    ensures err { OnErr result (8 < length (opened_gaps ruling)) }
+{
+    let mut last = above;
+    let longs = ruling.longs();
+    for long in longs.as_slice() {
+        if last < *long && *long < below {
+            gaps.add(*long, *long)?;
+            last = *long;
+        }
+    }
+    Ok(())
+}
+
+// Adds the timestamps that the opening skips, if there are any.
+fn add_skipped(gaps: &mut GapList, ruling: Record) -> Result<(), Fault>
+    requires may_rule { MayRule ruling }
+    requires before { HasUpTo ruling ruling.persisted gaps.old }
+    ensures ok { OnOk result (gaps.new ≡ opened_gaps ruling) }
+    ensures err { OnErr result (8 < length (opened_gaps ruling)) }
+{
+    let first = ruling.persisted() + 1;
+    let last = ruling.dirty() - 1;
+    if first <= last {
+        gaps.add(first, last)?;
+    }
+    Ok(())
+}
+
 /// Whether the timestamp lies in one of the gaps with which an image is opened that the record rules, few or many.
 pub fn lies_in_gap(ruling: Record, timestamp: Ts) -> bool
-    requires { IsTrue (is_well_formed newest_version ruling) }
+    requires { MayRule ruling }
     ensures { result ≡ is_in (opened_gaps ruling) timestamp }
 {
-    is_skipped(ruling, timestamp) || is_in_own_gap(ruling, timestamp)
+    is_in_own_gap(ruling, timestamp)
+        || ruling.longs().contains(timestamp)
+        || is_skipped(ruling, timestamp)
 }
 
 // Whether the opening skips the timestamp.
@@ -40,7 +92,7 @@ fn is_skipped(ruling: Record, timestamp: Ts) -> bool
 }
 
 fn is_in_own_gap(ruling: Record, timestamp: Ts) -> bool
-    requires { IsTrue (is_well_formed newest_version ruling) }
+    requires { MayRule ruling }
     ensures { result ≡ is_in ruling.gaps timestamp }
 {
     GapList::of(ruling.gaps()).holds(timestamp)

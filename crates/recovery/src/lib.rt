@@ -11,6 +11,7 @@ mod rows;
 mod slots;
 mod still;
 mod sweeping;
+mod updating;
 
 pub use examining::{Examined, examine};
 pub use formatting::format;

@@ -3,19 +3,21 @@ ghost use Rattle.base.specs.Commits.{Commit};
 ghost use Rattle.base.specs.Records.{opened_gaps};
 ghost use Rattle.base.specs.Images.{opening_fault, needs_sweep, IsRuledBy};
 ghost use Rattle.base.specs.Stands.{Stands};
-ghost use Rattle.base.specs.Openings.{StandsOpening, gaps_kept, opened_slots, words_swept, lines_swept};
+ghost use Rattle.base.specs.Openings.{StandsOpening, gaps_kept, opened_slots, record_counts, words_swept, lines_swept};
 ghost use Rattle.pmem.specs.Words.{LeavesOnly, IsAtRest, image_of, Keeps, OldOr, Makes, Spares, operations_of};
 ghost use Rattle.recovery.specs.Gaps.{few_gaps};
 ghost use Rattle.recovery.specs.Sweeping.{is_hit, IsSwept};
-ghost use Rattle.recovery.specs.Opened.{Examined as IsExaminedAs, HasOpened, IsCutShort, IsRefusal, sweep_operations};
+ghost use Rattle.recovery.specs.Opened.{Examined as IsExaminedAs, HasOpened, HasOpenedToday, IsCutBefore, IsCutShort, IsRefusal, sweep_operations, total};
 ghost use Rattle.recovery.specs.Read.{TellsLogFault};
 
 use crate::examining::{Examined, examine};
 use crate::rows::LiveSlot;
 use crate::sweeping::sweep;
+use crate::updating::update;
 use base::fault::Fault;
 use base::gap::Gaps;
 use base::geometry::Geometry;
+use base::longs::Longs;
 use log_area::{Record, write_record};
 use pmem::Pmem;
 use std::alloc::Global;
@@ -118,6 +120,25 @@ impl Examined {
         ensures images { (history drawn : List Commit) (next : ℕ) → Stands (image_of (D.state device.old)) history drawn next
             → LeavesOnly (D.state device.old) (D.state device.new) (StandsOpening (image_of (D.state device.old)) history next) }
     {
+        let geometry = match update(device, self.geometry) {
+            Ok(geometry) => geometry,
+            Err(fault) => return Err(fault),
+        };
+        let mut found = self;
+        found.geometry = geometry;
+        found.open_today(device)
+    }
+
+    // The same of an image of today's version.
+    fn open_today<D: Pmem>(self, device: &mut D) -> Result<Life, Fault>
+        requires at_rest { IsAtRest (D.state device.old) }
+        requires examined { IsExaminedAs (image_of (D.state device.old)) self.geometry self.ruling self.gaps self.free.items self.live.items }
+        ensures ok { IfOk result (λ life. HasOpenedToday (D.state device.old) (D.state device.new) life.geometry life.ruling life.next life.free.items life.live.items) }
+        ensures fault { IfErr result (λ fault. fault ≡ Fault.Device) }
+        ensures failed { OnErr result (IsCutBefore (total (record_counts (image_of (D.state device.old)))) (D.state device.old) (D.state device.new)) }
+        ensures images { (history drawn : List Commit) (next : ℕ) → Stands (image_of (D.state device.old)) history drawn next
+            → LeavesOnly (D.state device.old) (D.state device.new) (StandsOpening (image_of (D.state device.old)) history next) }
+    {
         let gaps = match keep_gaps(device, self.geometry, self.ruling, self.gaps) {
             Ok(gaps) => gaps,
             Err(fault) => return Err(fault),
@@ -193,5 +214,6 @@ fn next_record(geometry: Geometry, ruling: Record, gaps: Gaps) -> Record
         ruling.dirty() - 1,
         ruling.dirty() + geometry.window(),
         gaps,
+        Longs::none(),
     )
 }

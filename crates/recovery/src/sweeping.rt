@@ -1,9 +1,9 @@
-ghost use Rattle.std.specs.Prelude.{◌≡◌, ◌+◌, ◌<◌, ◌≤◌, false, IsTrue, IfOk, IfErr, OnOk, OnErr, ◌||◌, if◌then◌else◌};
-ghost use Rattle.base.specs.Layout.{newest_version, slot_start, total_words};
-ghost use Rattle.base.specs.Records.{is_well_formed};
+ghost use Rattle.std.specs.Prelude.{◌≡◌, ◌+◌, ◌<◌, ◌≤◌, false, IfOk, IfErr, OnOk, OnErr, ◌||◌, if◌then◌else◌};
+ghost use Rattle.base.specs.Layout.{slot_start, total_words};
 ghost use Rattle.base.specs.Images.{IsRuledBy};
 ghost use Rattle.base.specs.Openings.{swept, words_swept, lines_swept};
 ghost use Rattle.pmem.specs.Words.{value_of, image_of, IsAtRest, Keeps, OldOr, Makes, Spares, operations_of};
+ghost use Rattle.recovery.specs.Gaps.{MayRule};
 ghost use Rattle.recovery.specs.Opened.{sweep_operations};
 ghost use Rattle.recovery.specs.Sweeping.{lies, is_hit, IsZeroed, IsSwept, zeroed, cleaned};
 
@@ -42,7 +42,7 @@ fn sweep_slot<D: Pmem>(
     ruling: Record,
     slot: u64,
 ) -> Result<(), Fault>
-    requires formed { IsTrue (is_well_formed newest_version ruling) }
+    requires may_rule { MayRule ruling }
     requires size { (D.state device.old).words ≡ total_words geometry }
     requires slot { slot < geometry.slots }
     ensures fault { IfErr result (λ fault. fault ≡ Fault.Device) }
@@ -62,7 +62,7 @@ fn sweep_slot<D: Pmem>(
 
 // Stores 0 in a word that lies in a gap, and tells whether it did.
 fn sweep_word<D: Pmem>(device: &mut D, ruling: Record, word: usize) -> Result<bool, Fault>
-    requires formed { IsTrue (is_well_formed newest_version ruling) }
+    requires may_rule { MayRule ruling }
     requires within { word < (D.state device.old).words }
     ensures fault { IfErr result (λ fault. fault ≡ Fault.Device) }
     ensures failed { OnErr result ((D.state device.new).failures ≡ (D.state device.old).failures + 1) }

@@ -12,14 +12,16 @@ use Rattle.base.specs.Layout.{Layout, slot_start, slot_words, total_words, is_be
 use Rattle.base.specs.Records.{Record, opened_gaps}
 use Rattle.base.specs.Images.{Image, IsSound, layout_of, ruling, is_shown, needs_sweep, IsRuledBy}
 use Rattle.base.specs.Stands.{Stands}
-use Rattle.base.specs.Openings.{OpensAs, IsOpenedGaps, opened as opened-state, opening_record, gaps_kept, opened_slots}
+use Rattle.base.specs.Openings.{OpensAs, IsOpenedGaps, opened as opened-state, opening_record, gaps_kept, opened_slots, updated}
+use Rattle.base.specs.Laws.{OpensUpdated}
 use Rattle.base.specs.Machine.{State}
 use Rattle.base.proofs.Alike.{HasRowsOf, key-same, misfit-same}
 use Rattle.base.proofs.Histories.{history_in, sound-stands, opens-sound}
 use Rattle.base.proofs.Opened.{opened-rows, same_opened, whole-of, size-of, covers-of}
 use Rattle.base.proofs.Layouts.{line-words}
+use Rattle.base.proofs.Updated.{updated-open}
 use Rattle.pmem.specs.Device.{Device}
-use Rattle.pmem.specs.Words.{image_of, HasNoFailure}
+use Rattle.pmem.specs.Words.{image_of, HasNoFailure, IsSettledAt}
 use Rattle.pmem.specs.declared.device.Pmem.{Ghosts}
 use Rattle.log_area.specs.Rulings.{HoldsRecord}
 use Rattle.log_area.proofs.Heads.{image_size, image_word}
@@ -59,6 +61,16 @@ none-held false c x e = absurd (false≢true e)
 
 -- ---- the index was made before the operations
 
+-- the index of an image is that of the image with the version of today
+found-updated : (before : Image) → OpensUpdated before → (free : List Bool) (slots : ℕ) (index : List (Key × Entry)) → HasFound before free slots index → HasFound (updated before) free slots index
+found-updated before up free slots index found = record {
+  nothing_else = found.nothing_else;
+  newest = λ key slot is. let at = found.newest key slot is in (at.0, at.1, up.keys slot ∙ at.2);
+  each = λ slot lt taken fits.
+      let known = found.each slot lt taken (sym (up.misfits slot) ∙ fits) in
+      subst (λ (key : Key). is_some (entry_at index key).newest ≡ true) (sym (up.keys slot)) known;
+}
+
 -- the index of an image is that of one with the same rows
 found-alike : (before image : Image) (free : List Bool) (index : List (Key × Entry)) → HasRowsOf before image → 8 ≤ slot_words (layout_of before).version
     → HasFound before free (layout_of before).slots index → HasFound image free (layout_of before).slots index
@@ -70,15 +82,29 @@ found-alike before image free index like wide found = record {
       subst (λ (key : Key). is_some (entry_at index key).newest ≡ true) (sym (key-same before image like slot lt wide)) known;
 }
 
+-- the same slots are free
+free-updated : (before : Image) → OpensUpdated before → free_in (updated before) ≡ free_in before
+free-updated before up =
+    ap (λ (l : Layout). map (λ slot. not (is_shown (ruling (updated before)) (updated before) slot)) (range_with_len 0 l.slots)) up.laid_out
+    ∙ ap (λ (x : Record). map (λ slot. not (is_shown x (updated before) slot)) (range_with_len 0 (layout_of before).slots)) up.ruled
+    ∙ (λ i. map (λ slot. not (up.shown (ruling before) slot i)) (range_with_len 0 (layout_of before).slots))
+
 module _ (old new : Device) (layout : Layout) (r : Record) (next : ℕ) (free : List Bool) (live : List LiveSlot) (opened : HasOpened old new layout r next free live) where
+  -- the image with the version of today
   abbrev image : Image
-  image = image_of old
+  image = updated (image_of old)
+
+  up : OpensUpdated (image_of old)
+  up = updated-open (image_of old) opened.opens
 
   sound : IsSound image
-  sound = opens-sound image opened.opens
+  sound = opens-sound image up.opens
+
+  layout_is : layout ≡ layout_of image
+  layout_is = opened.layout_is ∙ sym up.laid_out
 
   old-words : old.words ≡ total_words layout
-  old-words = sym (image_size old) ∙ (size-of image (whole-of image sound).geometry).1 ∙ ap total_words (sym opened.layout_is)
+  old-words = sym (image_size old) ∙ sym up.size ∙ (size-of image (whole-of image sound).geometry).1 ∙ ap total_words (sym layout_is)
 
   new-words : new.words ≡ old.words
   new-words = opened.holds.stands.size ∙ sym old-words
@@ -87,12 +113,12 @@ module _ (old new : Device) (layout : Layout) (r : Record) (next : ℕ) (free : 
 
   -- the words of the slots that are no begins and no ends are as they were
   word-now : (word : ℕ) → 8 + 32 * layout.places ≤ word → word < old.words → get_or (image_of new) word 0 ≡ get_or (opened_slots image) word 0
-  word-now word past within = image_word new word (omega (arith, within, new-words)) ∙ (opened.slots word past within).holds
+  word-now word past within = image_word new word (omega (arith, within, new-words)) ∙ (opened.slots word past within).holds ∙ sym (up.slots word (omega (arith, past)))
 
   low-now : (word : ℕ) → word < 8 → get_or (image_of new) word 0 ≡ get_or image word 0
   low-now word low =
       let lt : word < old.words = omega (arith, low, old-words, log_within layout) in
-      image_word new word (omega (arith, lt, new-words)) ∙ (opened.superblock word low).holds ∙ sym (image_word old word lt)
+      image_word new word (omega (arith, lt, new-words)) ∙ (opened.superblock word low).holds
 
   layout-now : layout_of (image_of new) ≡ layout_of image
   layout-now = λ i. record { version = low-now 1 (omega arith) i; slots = low-now 2 (omega arith) i; places = low-now 3 (omega arith) i; window = low-now 4 (omega arith) i }
@@ -102,12 +128,12 @@ module _ (old new : Device) (layout : Layout) (r : Record) (next : ℕ) (free : 
 
   rows-now : HasRowsOf image (image_of new)
   rows-now = record {
-    size = image_size new ∙ new-words ∙ sym (image_size old);
+    size = image_size new ∙ new-words ∙ sym (image_size old) ∙ sym up.size;
     laid_out = layout-now;
     same = λ slot w lt low high.
-        ap (λ (l : Layout). get_or (image_of new) (slot_start l slot + w) 0) (layout-now ∙ sym opened.layout_is)
-        ∙ slot-now slot w (subst (λ (l : Layout). slot < l.slots) (sym opened.layout_is) lt) (subst (λ (l : Layout). w < slot_words l.version) (sym opened.layout_is) high)
-        ∙ ap (λ (l : Layout). get_or (opened_slots image) (slot_start l slot + w) 0) (opened.layout_is ∙ sym (opened-rows image).laid_out)
+        ap (λ (l : Layout). get_or (image_of new) (slot_start l slot + w) 0) (layout-now ∙ sym layout_is)
+        ∙ slot-now slot w (subst (λ (l : Layout). slot < l.slots) (sym layout_is) lt) (subst (λ (l : Layout). w < slot_words l.version) (sym layout_is) high)
+        ∙ ap (λ (l : Layout). get_or (opened_slots image) (slot_start l slot + w) 0) (layout_is ∙ sym (opened-rows image).laid_out)
         ∙ (opened-rows image).same slot w lt low high;
   }
 
@@ -115,18 +141,22 @@ module _ (old new : Device) (layout : Layout) (r : Record) (next : ℕ) (free : 
   wide = line-words (layout_of image).version
 
   -- so the index that was made before is that of the opened device
-  pub found-now : (was : List Bool) (slots : ℕ) (index : List (Key × Entry)) → was ≡ free → slots ≡ layout.slots → HasFound image was slots index → HasFound (image_of new) free layout.slots index
+  pub found-now : (was : List Bool) (slots : ℕ) (index : List (Key × Entry)) → was ≡ free → slots ≡ layout.slots → HasFound (image_of old) was slots index → HasFound (image_of new) free layout.slots index
   found-now was slots index same-free same-slots found =
-      subst (λ (n : ℕ). HasFound (image_of new) free n index) (ap (λ (l : Layout). l.slots) (sym opened.layout_is))
+      subst (λ (n : ℕ). HasFound (image_of new) free n index) (ap (λ (l : Layout). l.slots) (sym layout_is))
       (found-alike image (image_of new) free index rows-now wide
-      (subst (λ (n : ℕ). HasFound image free n index) (same-slots ∙ ap (λ (l : Layout). l.slots) opened.layout_is)
-      (subst (λ (f : List Bool). HasFound image f slots index) same-free found)))
+      (subst (λ (n : ℕ). HasFound image free n index) (same-slots ∙ ap (λ (l : Layout). l.slots) layout_is)
+      (subst (λ (f : List Bool). HasFound image f slots index) same-free (found-updated (image_of old) up was slots index found))))
+
+  -- free are the slots that aren't live
+  free-is : free ≡ free_in image
+  free-is = opened.free_is ∙ sym (free-updated (image_of old) up)
 
   -- each slot is free or not
   pub free-counted : length free ≡ layout.slots
   free-counted =
-      ap (λ (l : List Bool). length l) opened.free_is
-      ∙ (length-map-range_with_len (λ slot. not (is_shown (ruling image) image slot)) 0 (layout_of image).slots ∙ ap (λ (l : Layout). l.slots) (sym opened.layout_is))
+      ap (λ (l : List Bool). length l) free-is
+      ∙ (length-map-range_with_len (λ slot. not (is_shown (ruling image) image slot)) 0 (layout_of image).slots ∙ ap (λ (l : Layout). l.slots) (sym layout_is))
 
   -- no operation failed
   pub no-failure : HasNoFailure old new
@@ -134,30 +164,40 @@ module _ (old new : Device) (layout : Layout) (r : Record) (next : ℕ) (free : 
 
   -- ---- the state that it opens as
 
-  module _ (history drawn : List Commit) (before : ℕ) (lost : List ℕ) (stands : Stands image history drawn before) where
+  module _ (history drawn : List Commit) (before : ℕ) (lost : List ℕ) (stood : Stands (image_of old) history drawn before) where
+    stands : Stands image history drawn before
+    stands = up.stands history drawn before stood
+
     abbrev pub state_opened : State
     state_opened = opened-state image history lost (opened_gaps (ruling image))
 
     covers : IsOpenedGaps (ruling image) (opened_gaps (ruling image))
     covers = covers-of image stands.sound
 
-    pub opens-as : OpensAs image history lost state_opened
-    opens-as = (opened_gaps (ruling image), covers, refl)
+    updated-as : OpensAs image history lost state_opened
+    updated-as = (opened_gaps (ruling image), covers, refl)
+
+    pub opens-as : OpensAs (image_of old) history lost state_opened
+    opens-as = (opened_gaps (ruling image), subst (λ (x : Record). IsOpenedGaps x (opened_gaps (ruling image))) up.ruled covers, up.opened_as history lost (opened_gaps (ruling image)))
 
     same-layout : state_opened.layout ≡ layout_of image
-    same-layout = sym (ap (λ (q : State). q.layout) (same_opened image history lost (opened_gaps (ruling image)) stands.sound covers))
+    same-layout = sym (ap (λ (q : State). q.layout) (same_opened image history lost (opened_gaps (ruling image)) stands.sound up.up_to_date covers))
 
     layout-is : state_opened.layout ≡ layout
-    layout-is = same-layout ∙ sym opened.layout_is
+    layout-is = same-layout ∙ sym layout_is
 
     ruling-is : state_opened.ruling ≡ r
-    ruling-is = ap (λ (l : Layout). opening_record l (ruling image) (gaps_kept (opened_gaps (ruling image)))) same-layout ∙ sym opened.record_is
+    ruling-is =
+        ap (λ (l : Layout). opening_record l (ruling image) (gaps_kept (opened_gaps (ruling image)))) same-layout
+        ∙ ap (λ (x : Record). opening_record (layout_of image) x (gaps_kept (opened_gaps x))) up.ruled
+        ∙ ap (λ (l : Layout). opening_record l (ruling (image_of old)) (gaps_kept (opened_gaps (ruling (image_of old))))) up.laid_out
+        ∙ sym opened.record_is
 
     free-each : (slot : ℕ) → slot < layout.slots → slice_get free slot ≡ Some (is_none (state_opened.held slot))
     free-each slot h =
-        let lt : slot < (layout_of image).slots = subst (λ (l : Layout). slot < l.slots) opened.layout_is h in
+        let lt : slot < (layout_of image).slots = subst (λ (l : Layout). slot < l.slots) layout_is h in
         let within : slot < length (free_in image) = omega (arith, lt, length-map-range_with_len (λ s. not (is_shown (ruling image) image s)) 0 (layout_of image).slots) in
-        ap (λ (l : List Bool). slice_get l slot) opened.free_is
+        ap (λ (l : List Bool). slice_get l slot) free-is
         ∙ slice_get-get_or (free_in image) slot false within
         ∙ ap (λ (b : Bool). Some b) (get_or-map-range_with_len (λ s. not (is_shown (ruling image) image s)) 0 (layout_of image).slots slot slot false lt (omega arith)
         ∙ none-held (nat_lt slot (layout_of image).slots) (is_shown (ruling image) image slot) _ (lt-ltb slot (layout_of image).slots lt))
@@ -166,7 +206,7 @@ module _ (old new : Device) (layout : Layout) (r : Record) (next : ℕ) (free : 
     begins = record {
       layout_is = layout-is;
       ruling_is = ruling-is;
-      next_is = sym opened.next_is;
+      next_is = ap (λ (x : Record). x.dirty) up.ruled ∙ sym opened.next_is;
       none_drawn = refl;
       none_open = λ n. refl;
       unswept = refl;
@@ -175,11 +215,15 @@ module _ (old new : Device) (layout : Layout) (r : Record) (next : ℕ) (free : 
     }
 
     rests : RestsOn layout new (opened_slots image)
-    rests = record { each = λ slot w lt inside. opened.slots (word_of layout slot w) (above-log layout slot w) (omega (arith, old-words, word-within layout slot w lt inside)) }
+    rests = record {
+      each = λ slot w lt inside.
+          subst (λ (n : ℕ). IsSettledAt new (word_of layout slot w) n) (sym (up.slots (word_of layout slot w) (omega (arith, above-log layout slot w))))
+          (opened.slots (word_of layout slot w) (above-log layout slot w) (omega (arith, old-words, word-within layout slot w lt inside)));
+    }
 
     upholds : Upholds (origin_of state_opened) state_opened new
     upholds =
-        opened-upholds image history drawn before lost state_opened new opened.opens stands opens-as
+        opened-upholds image history drawn before lost state_opened new up.opens up.up_to_date stands updated-as
         (subst (λ (l : Layout). RestsOn l new (opened_slots image)) (sym layout-is) rests)
         (subst (λ (l : Layout). HoldsRecord l state_opened.ruling new) (sym layout-is) (subst (λ (x : Record). HoldsRecord layout x new) (sym ruling-is) opened.holds))
 
@@ -219,7 +263,7 @@ module _ (old : Device) (layout : Layout) (r : Record) (gaps : Option (List Gap)
   pub examined-found : (new : Device) (layout' : Layout) (r' : Record) (next : ℕ) (free' : List Bool) (live' : List LiveSlot) → HasOpened old new layout' r' next free' live' → (was : List Bool) (index : List (Key × Entry)) → was ≡ free
       → (layout_of (image_of old) ≡ layout → HasFound (image_of old) was layout.slots index) → HasFound (image_of new) free' layout'.slots index
   examined-found new layout' r' next free' live' opened was index same found =
-      found-now old new layout' r' next free' live' opened was layout.slots index (same ∙ examined-free ∙ sym opened.free_is) (ap (λ (l : Layout). l.slots) (sym rules.laid_out ∙ sym opened.layout_is)) (found rules.laid_out)
+      found-now old new layout' r' next free' live' opened was layout.slots index (same ∙ examined-free ∙ sym opened.free_is) (ap (λ (l : Layout). l.slots) (sym rules.laid_out) ∙ ap (λ (l : Layout). l.slots) (sym opened.layout_is)) (found rules.laid_out)
 
 -- ---- what is shown then
 

@@ -22,8 +22,8 @@ impl<D: Pmem + Drop + Send + Sync> Room<D> {
     ghost use Rattle.std.specs.Prelude.{◌≡◌, ◌+◌, ◌*◌, ◌<◌, ◌≤◌, true, false, None, slice_index, MatchResult};
     ghost use Rattle.base.specs.Images.{layout_of};
     ghost use Rattle.base.specs.Machine.{State};
-    ghost use Rattle.base.specs.Openings.{OpensAs, opened_slots};
-    ghost use Rattle.pmem.specs.Words.{value_of, IsSettledAt, HasNoFailure};
+    ghost use Rattle.base.specs.Openings.{OpensAs, opened_slots, updated};
+    ghost use Rattle.pmem.specs.Words.{IsSettledAt, HasNoFailure};
     ghost use Rattle.room.specs.Room.{Shows, device_of};
 
     /// Opens a device at rest, and returns it where that is refused. More than eight gaps are swept first.
@@ -44,10 +44,11 @@ impl<D: Pmem + Drop + Send + Sync> Room<D> {
         // What is wrong with its log is reported before want of memory.
         ensures log { IfErr result (λ e. TellsLogFault (image_of (D.state device)) e.0) }
 
-        // It makes the operations of one record, after those of a sweep where there are more than eight gaps, and the
-        // words of superblock and slots are settled as they were, but for what a sweep stores.
+        // It makes the operations of one record, after those that change the version of an image of the first one, and
+        // those of a sweep where there are more than eight gaps. The words of superblock and slots are settled as they
+        // were, but for that version and for what a sweep stores.
         ensures made { IfOk result (λ room. MakesOpening (image_of (D.state device)) (D.state device) (device_of D.state room)) }
-        ensures superblock { IfOk result (λ room. (word : ℕ) → word < 8 → IsSettledAt (device_of D.state room) word (value_of (D.state device) word)) }
+        ensures superblock { IfOk result (λ room. (word : ℕ) → word < 8 → IsSettledAt (device_of D.state room) word (slice_index (updated (image_of (D.state device))) word)) }
         ensures slots { IfOk result (λ room. (word : ℕ) → 8 + 32 * (layout_of (image_of (D.state device))).places ≤ word → word < (D.state device).words
             → IsSettledAt (device_of D.state room) word (slice_index (opened_slots (image_of (D.state device))) word)) }
 

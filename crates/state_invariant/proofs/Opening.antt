@@ -13,7 +13,7 @@ use Rattle.base.specs.Records.{Record, is_in, is_committed, opened_gaps}
 use Rattle.base.specs.Images.{Image, layout_of, key_of, row_of, begin_of, end_of, is_shown, is_ahead, is_misfit, is_second, ruling, is_bad_slot, opening_fault}
 use Rattle.base.specs.Search.{first_below}
 use Rattle.base.specs.Stands.{Stands}
-use Rattle.base.specs.Openings.{IsOpenedGaps, OpensAs, opening_record, opened_under, held_under, gaps_kept, opened_slots}
+use Rattle.base.specs.Openings.{IsOpenedGaps, IsUpToDate, OpensAs, opening_record, opened_under, held_under, gaps_kept, opened_slots}
 use Rattle.base.specs.Machine.{State, Version, BySession, ByCommit}
 use Rattle.base.proofs.Histories.{first_below-none, key_eq-same}
 use Rattle.base.proofs.WellFormed.{well_formed-parts}
@@ -306,14 +306,14 @@ module _ (a : Layout) (r : Record) (image : Image) (history : List Commit) (lost
 
 -- ---- the theorems
 
-pub keeps-opened : (image : Image) (history drawn : List Commit) (next : ℕ) (lost : List ℕ) (q : State) → opening_fault image ≡ None → Stands image history drawn next → OpensAs image history lost q
+pub keeps-opened : (image : Image) (history drawn : List Commit) (next : ℕ) (lost : List ℕ) (q : State) → opening_fault image ≡ None → IsUpToDate image → Stands image history drawn next → OpensAs image history lost q
     → Keeps (origin_of q) q
-keeps-opened image history drawn next lost q opens stands (gaps, covers, is) =
-    subst (λ (p : State). Keeps (origin_of p) p) (same_opened image history lost gaps stands.sound covers ∙ sym is)
+keeps-opened image history drawn next lost q opens up stands (gaps, covers, is) =
+    subst (λ (p : State). Keeps (origin_of p) p) (same_opened image history lost gaps stands.sound up covers ∙ sym is)
     (opened-keeps (layout_of image) (ruled_before image) (opened_slots image) history lost (gaps_kept (opened_gaps (ruling image))) (opening-of image history drawn next opens stands))
 
-pub shows-opened : (image : Image) (history drawn : List Commit) (next : ℕ) (lost : List ℕ) (q : State) → opening_fault image ≡ None → Stands image history drawn next → OpensAs image history lost q
+pub shows-opened : (image : Image) (history drawn : List Commit) (next : ℕ) (lost : List ℕ) (q : State) → opening_fault image ≡ None → IsUpToDate image → Stands image history drawn next → OpensAs image history lost q
     → SlotsShow (origin_of q) q (slice_index (opened_slots image))
-shows-opened image history drawn next lost q opens stands (gaps, covers, is) =
-    subst (λ (p : State). SlotsShow (origin_of p) p (slice_index (opened_slots image))) (same_opened image history lost gaps stands.sound covers ∙ sym is)
+shows-opened image history drawn next lost q opens up stands (gaps, covers, is) =
+    subst (λ (p : State). SlotsShow (origin_of p) p (slice_index (opened_slots image))) (same_opened image history lost gaps stands.sound up covers ∙ sym is)
     (opened-shows (layout_of image) (ruled_before image) (opened_slots image) history lost (gaps_kept (opened_gaps (ruling image))) (opening-of image history drawn next opens stands))

@@ -9,7 +9,7 @@ use Rattle.base.specs.Commits.{Commit}
 use Rattle.base.specs.Layout.{total_words}
 use Rattle.base.specs.Images.{Image, layout_of, opening_fault}
 use Rattle.base.specs.Stands.{Stands}
-use Rattle.base.specs.Openings.{OpensAs, opened_slots}
+use Rattle.base.specs.Openings.{IsUpToDate, OpensAs, opened_slots}
 use Rattle.state_invariant.specs.Kept.{Origin, origin_of, Keeps, IsInUse, version_by}
 use Rattle.state_invariant.specs.Shown.{SlotsShow, ReadsAs, StoresPut, StopsPut, StoresStamp}
 
@@ -27,9 +27,9 @@ CoveringKeeps = (o : Origin) (q : State) (hand : Hand) → Keeps o q → q.hand 
 
 -- an opened state keeps it, with its own beginning, and its slots show it in the words that the opening leaves there
 pub record OpenedKeeps : Type 0 where
-  pub keeps : (image : Image) (history drawn : List Commit) (next : ℕ) (lost : List ℕ) (q : State) → opening_fault image ≡ None → Stands image history drawn next → OpensAs image history lost q
+  pub keeps : (image : Image) (history drawn : List Commit) (next : ℕ) (lost : List ℕ) (q : State) → opening_fault image ≡ None → IsUpToDate image → Stands image history drawn next → OpensAs image history lost q
       → Keeps (origin_of q) q
-  pub shows : (image : Image) (history drawn : List Commit) (next : ℕ) (lost : List ℕ) (q : State) → opening_fault image ≡ None → Stands image history drawn next → OpensAs image history lost q
+  pub shows : (image : Image) (history drawn : List Commit) (next : ℕ) (lost : List ℕ) (q : State) → opening_fault image ≡ None → IsUpToDate image → Stands image history drawn next → OpensAs image history lost q
       → SlotsShow (origin_of q) q (slice_index (opened_slots image))
 
 -- each snapshot in use reads the rows of its tables in each whole image with these words

@@ -3,6 +3,7 @@ use Rattle.base.specs.declared.gap.Gap.{Gap}
 use Rattle.base.specs.Images.{ruling}
 use Rattle.base.specs.Openings.{opened}
 use Rattle.base.proofs.GapLists.{opened-gaps, one_gap_list}
+use Rattle.base.proofs.Updated.{updated-open}
 use Rattle.base.proofs.law.openings_are_decided.Goals as goal
 
 pub returns : goal.returns
@@ -11,4 +12,5 @@ returns c = record {
   one_list = one_gap_list;
   one_state = λ image history lost q q' a b.
       a.2 ∙ (ap (λ (gaps : List Gap). opened image history lost gaps) (one_gap_list (ruling image) a.0 b.0 a.1 b.1) ∙ sym b.2);
+  updated = updated-open;
 }

@@ -1,7 +1,7 @@
 use Rattle.std.proofs.Common.{inl, sym, ◌∙◌}
 use Rattle.pmem.specs.Words.{image_of}
 use Rattle.log_area.proofs.AtRest.{fits_image}
-use Rattle.recovery.proofs.Lives.{refuses-log, formed-new, formed-parts, under, window-small, refuses-slots, refuses-limit, refuses-memory, examined, ruled-size}
+use Rattle.recovery.proofs.Lives.{refuses-log, may-rule, formed-parts, under, window-small, refuses-slots, refuses-limit, refuses-memory, examined, ruled-size}
 use Rattle.recovery.proofs.WhatIsRead.{tells-later, under-own}
 use Rattle.recovery.proofs.examining.examine.Goals as goal
 
@@ -42,7 +42,7 @@ pub returns-in-Err-live_slots-clause-fault : goal.returns-in-Err-live_slots-clau
 returns-in-Err-live_slots-clause-fault g c = refuses-memory c.in-Ok.found.geometry c.in-Ok.found.target (image_of (g.D.Pmem.state c.args.device.now)) c.in-Ok.ensures.ok
 
 pub opened_gaps-requires : goal.opened_gaps-requires
-opened_gaps-requires g c = formed-new c.in-Ok.found.geometry c.in-Ok.found.target (image_of (g.D.Pmem.state c.args.device.now)) c.in-Ok.ensures.ok
+opened_gaps-requires g c = may-rule c.in-Ok.found.geometry c.in-Ok.found.target (image_of (g.D.Pmem.state c.args.device.now)) c.in-Ok.ensures.ok
 
 pub returns-clause-ok : goal.returns-clause-ok
 returns-clause-ok g c =

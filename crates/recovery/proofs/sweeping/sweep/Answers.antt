@@ -1,13 +1,13 @@
 use Rattle.std.proofs.Common.{◌≡◌, ℕ, ◌∙◌, subst, arith}
 use Rattle.pmem.specs.Words.{image_of}
 use Rattle.pmem.proofs.Runs.{keeps-fenced, keeps-failed}
-use Rattle.recovery.proofs.Lives.{formed-new, wide-new, ruled-size}
+use Rattle.recovery.proofs.Lives.{may-rule, wide-new, ruled-size}
 use Rattle.recovery.proofs.SweptSlots.{IsSweptUpTo, swept-none, swept-more, swept-error, swept-few, fence-few, swept-rests, swept-spares, swept-image, swept-made}
 use Rattle.log_area.proofs.Whole.{on_err}
 use Rattle.recovery.proofs.sweeping.sweep.Goals as goal
 
-pub sweep_slot-requires-clause-formed : goal.sweep_slot-requires-clause-formed
-sweep_slot-requires-clause-formed g c = formed-new c.args.geometry c.args.ruling (image_of (g.D.Pmem.state c.args.device.now)) c.requires.rules
+pub sweep_slot-requires-clause-may_rule : goal.sweep_slot-requires-clause-may_rule
+sweep_slot-requires-clause-may_rule g c = may-rule c.args.geometry c.args.ruling (image_of (g.D.Pmem.state c.args.device.now)) c.requires.rules
 
 pub sweep_slot-requires-clause-size : goal.sweep_slot-requires-clause-size
 sweep_slot-requires-clause-size g c =

@@ -1,5 +1,5 @@
-use Rattle.std.proofs.Common.{◌<◌, Bool, cond, OnErr, sym, subst, arith}
-use Rattle.std.proofs.lemmas.Bool.{lt-ltb}
+use Rattle.std.proofs.Common.{◌<◌, ◌≤◌, Bool, cond, OnErr, sym, subst, arith}
+use Rattle.std.proofs.lemmas.Bool.{le-ltb, lt-ltb}
 use Rattle.pmem.specs.Words.{value_of}
 use Rattle.version_slot.specs.Operations.{StopsWithin}
 use Rattle.collector.specs.Sweeping.{slot_operations, end_operations}
@@ -13,3 +13,12 @@ returns-then-self-slots-clause-stopped g c =
     let within : place < c.args.geometry.slots = omega (arith, c.if-self-slots.true, c.slots.ensures.value) in
     subst (λ (b : Bool). OnErr c.visit_slot.result (StopsWithin (cond b (slot_operations c.args.geometry c.args.gaps c.args.self.now.swept place (value_of old)) (end_operations c.args.gaps c.args.self.now.swept)) old new))
     (sym (lt-ltb place c.args.geometry.slots within)) c.visit_slot.ensures.stopped
+
+pub returns-else-self-slots-clause-stopped : goal.returns-else-self-slots-clause-stopped
+returns-else-self-slots-clause-stopped g c =
+    let old = g.D.Pmem.state c.args.device.now in
+    let new = g.D.Pmem.state c.end_sweep.new.device in
+    let place = c.args.self.now.place in
+    let past : c.args.geometry.slots ≤ place = omega (arith, c.if-self-slots.false, c.slots.ensures.value) in
+    subst (λ (b : Bool). OnErr c.end_sweep.result (StopsWithin (cond b (slot_operations c.args.geometry c.args.gaps c.args.self.now.swept place (value_of old)) (end_operations c.args.gaps c.args.self.now.swept)) old new))
+    (sym (le-ltb place c.args.geometry.slots past)) c.end_sweep.ensures.stopped

@@ -1,0 +1,65 @@
+use crate::engine::{cover, step};
+use base::fault::Fault;
+use base::key::Key;
+use base::row::Row;
+use base::step::{Reply, Step};
+use pmem::Pmem;
+use room::Room;
+
+// The key that the slow transaction inserts.
+const SLOW: Key = Key { table: 2, key: 0 };
+
+/// Makes so many commits, one after the other, beside a transaction that has drawn its timestamp before them and never
+/// stamps. How many were covered until one waits.
+pub fn covered_beside_a_slow_one<D: Pmem + Drop>(
+    room: &mut Room<D>,
+    commits: u64,
+) -> Result<u64, Fault> {
+    let slow = begin(room)?;
+    put(room, slow, SLOW, 0)?;
+    step(room, Step::Draw { session: slow })?;
+    for number in 0..commits {
+        if !is_covered(room, number)? {
+            return Ok(number);
+        }
+    }
+    Ok(commits)
+}
+
+// Updates one of eight keys, and lets the committer cover what it can.
+fn is_covered<D: Pmem + Drop>(room: &mut Room<D>, number: u64) -> Result<bool, Fault> {
+    let session = begin(room)?;
+    let key = Key {
+        table: 1,
+        key: number % 8,
+    };
+    put(room, session, key, number)?;
+    step(room, Step::Draw { session })?;
+    step(room, Step::Stamp { session })?;
+    cover(room)?;
+    match step(room, Step::Poll { session })? {
+        Reply::Committed(_) => {
+            step(room, Step::End { session })?;
+            Ok(true)
+        }
+        _ => Ok(false),
+    }
+}
+
+fn begin<D: Pmem + Drop>(room: &mut Room<D>) -> Result<u8, Fault> {
+    match step(room, Step::Begin)? {
+        Reply::Began(session) => Ok(session),
+        _ => Err(Fault::WrongState),
+    }
+}
+
+fn put<D: Pmem + Drop>(
+    room: &mut Room<D>,
+    session: u8,
+    key: Key,
+    number: u64,
+) -> Result<(), Fault> {
+    let row = Row::new(&number.to_le_bytes())?;
+    step(room, Step::Put { session, key, row })?;
+    Ok(())
+}

@@ -1,0 +1,291 @@
+-- An image that an opening gives the version of today.
+use Rattle.std.proofs.Common.{◌≡◌, ◌≢◌, ◌⊎◌, inl, inr, ℕ, ◌+◌, ◌*◌, ◌<◌, ◌≤◌, Bool, true, false, cond, not, ◌&&◌, List, [], ◌∷◌, length, get_or, map, flat_map, refl, sym, ◌∙◌, ap, subst, arith, nat_eq, true≢false}
+use Rattle.std.specs.Prelude.{Option, Some, None}
+use Rattle.std.specs.List.{range_with_len}
+use Rattle.std.proofs.lemmas.Bool.{cases_eq, cases_lt, eq-eqb, ne_eqb}
+use Rattle.std.proofs.lemmas.List.{ext_get_or, get_or_past}
+use Rattle.std.proofs.lemmas.List.FromFn.{length-map-range_with_len, get_or-map-range_with_len}
+use Rattle.base.specs.declared.gap.Gap.{Gap}
+use Rattle.base.specs.Commits.{Commit}
+use Rattle.base.specs.Layout.{Layout, opened_layout, opened_version, total_words}
+use Rattle.base.specs.Laws.{OpensUpdated}
+use Rattle.base.specs.Records.{Record, is_in, opened_gaps}
+use Rattle.base.specs.Images.{Image, layout_of, ruling, is_shown, opening_fault, needs_sweep, is_wrong_gate, IsRuledBy}
+use Rattle.base.specs.Search.{first_below}
+use Rattle.base.specs.Stands.{Stands}
+use Rattle.base.specs.Openings.{Counts, opening_record, gaps_kept, opened_slots, is_mark, record_counts, update_counts, StandsOpening, updated, updates}
+use Rattle.base.proofs.Histories.{opens-sound}
+use Rattle.base.proofs.Opened.{whole-of, size-of}
+use Rattle.base.proofs.Updated.{updated-open}
+use Rattle.pmem.specs.Device.{Device, IsOrderly}
+use Rattle.pmem.specs.Words.{value_of, IsAtRest, IsSettled, IsSettledAt, IsStore, IsWithin, LeavesOnly, image_of, Keeps, Makes, OldOr, Spares, Survives, operations_of}
+use Rattle.pmem.proofs.Images.{leaves_trans, leaves_weaken}
+use Rattle.pmem.proofs.Spares.{spares_fewer, spares_none, spares_trans}
+use Rattle.pmem.proofs.Steps.{only-settled}
+use Rattle.log_area.specs.Rulings.{HoldsRecord}
+use Rattle.log_area.specs.Writings.{IsOutside, begun}
+use Rattle.log_area.proofs.Rulings.{log_within}
+use Rattle.recovery.specs.Slots.{free_below}
+use Rattle.recovery.specs.Live.{live_at, live_below}
+use Rattle.recovery.specs.Sweeping.{is_hit, lies}
+use Rattle.recovery.specs.Opened.{Examined, IsExamined, HasOpened, HasOpenedToday, IsCutBefore, IsCutShort, IsLeftAlone, MakesAll, free_in, is_swept, is_updated, total}
+use Rattle.recovery.specs.declared.rows.LiveSlot.{LiveSlot}
+use Rattle.recovery.proofs.Lives.{is}
+
+-- ---- what is known of the image is known of the updated one
+
+module _ (image : Image) (up : OpensUpdated image) where
+  -- the same slots are free
+  pub free-updated : free_in (updated image) ≡ free_in image
+  free-updated =
+      ap (λ (l : Layout). map (λ slot. not (is_shown (ruling (updated image)) (updated image) slot)) (range_with_len 0 l.slots)) up.laid_out
+      ∙ ap (λ (r : Record). map (λ slot. not (is_shown r (updated image) slot)) (range_with_len 0 (layout_of image).slots)) up.ruled
+      ∙ (λ i. map (λ slot. not (up.shown (ruling image) slot i)) (range_with_len 0 (layout_of image).slots))
+
+  free-same : (n : ℕ) → free_below (updated image) n ≡ free_below image n
+  unfolding free_below
+  free-same n =
+      ap (λ (r : Record). map (λ slot. not (is_shown r (updated image) slot)) (range_with_len 0 n)) up.ruled
+      ∙ (λ i. map (λ slot. not (up.shown (ruling image) slot i)) (range_with_len 0 n))
+
+  live-same : (n : ℕ) → live_below (updated image) n ≡ live_below image n
+  unfolding live_below
+  live-same n =
+      ap (λ (r : Record). flat_map (λ slot. cond (is_shown r (updated image) slot) (live_at (updated image) slot ∷ []) []) (range_with_len 0 n)) up.ruled
+      ∙ (λ i. flat_map (λ slot. cond (up.shown (ruling image) slot i) ((let l : LiveSlot = record { key = up.keys slot i; slot = slot; begin = up.begins slot i } in l) ∷ []) []) (range_with_len 0 n))
+
+  rules-updated : (layout : Layout) (r : Record) → IsRuledBy layout r image → IsRuledBy (opened_layout layout) r (updated image)
+  rules-updated layout r rules =
+      let whole = whole-of (updated image) (opens-sound (updated image) up.opens) in
+      record {
+        formatted = whole.formatted;
+        geometry = whole.geometry;
+        laid_out = up.laid_out ∙ ap opened_layout rules.laid_out;
+        gates = subst (λ (l : Layout). first_below l.places (is_wrong_gate (updated image)) ≡ None) (up.laid_out ∙ ap opened_layout rules.laid_out) whole.gates;
+        well_ruled = whole.ruled;
+        by_record = up.ruled ∙ rules.by_record;
+        at_place = up.place ∙ rules.at_place;
+      }
+
+  pub examined-updated : (layout : Layout) (r : Record) (gaps : Option (List Gap)) (free : List Bool) (live : List LiveSlot) → Examined image layout r gaps free live
+      → Examined (updated image) (opened_layout layout) r gaps free live
+  unfolding Examined
+  examined-updated layout r gaps free live ex =
+      let known = is image layout r gaps free live ex in
+      record {
+        opens = up.opens;
+        rules = rules-updated layout r known.rules;
+        gaps_are = known.gaps_are;
+        free_are = known.free_are ∙ sym (free-same layout.slots);
+        live_are = known.live_are ∙ sym (live-same layout.slots);
+      }
+
+-- ---- the words of a device
+
+image-words : (device : Device) → length (image_of device) ≡ device.words
+image-words device = length-map-range_with_len (value_of device) 0 device.words
+
+word-in : (device : Device) (word : ℕ) → word < device.words → get_or (image_of device) word 0 ≡ value_of device word
+word-in device word lt = get_or-map-range_with_len (value_of device) 0 device.words word word 0 lt (omega arith)
+
+module _ (old : Device) (rest : IsAtRest old) (opens : opening_fault (image_of old) ≡ None) where
+  abbrev image : Image
+  image = image_of old
+
+  up : OpensUpdated image
+  up = updated-open image opens
+
+  version-now : get_or (updated image) 1 0 ≡ opened_version (layout_of image).version
+  version-now = ap (λ (l : Layout). l.version) up.laid_out
+
+  -- an image with these words is the old one, or the updated one
+  either-image : (other : Image) → length other ≡ old.words → IsWithin old.words (OldOr old (IsStore 1 (opened_version (layout_of image).version))) other → (other ≡ image) ⊎ (other ≡ updated image)
+  either-image other size within = by (cases_lt 1 old.words)
+    where
+      other-word : (word : ℕ) → word < old.words → word ≢ 1 → get_or other word 0 ≡ get_or image word 0
+      other-word word lt far = elim (within word lt) [
+        | inl there ↦ only-settled old word (get_or other word 0) (rest word lt) there ∙ sym (word-in old word lt)
+        | inr store ↦ absurd (far store.0)
+      ]
+
+      whole : get_or other 1 0 ≡ get_or image 1 0 → other ≡ image
+      whole same = ext_get_or 0 other image (size ∙ sym (image-words old)) (λ word lt. at word (omega (arith, lt, size)) (cases_eq word 1))
+        where
+          at : (word : ℕ) → word < old.words → (word ≡ 1) ⊎ (word ≢ 1) → get_or other word 0 ≡ get_or image word 0
+          at word lt (inl one) = ap (λ (w : ℕ). get_or other w 0) one ∙ same ∙ sym (ap (λ (w : ℕ). get_or image w 0) one)
+          at word lt (inr far) = other-word word lt far
+
+      changed : get_or other 1 0 ≡ opened_version (layout_of image).version → other ≡ updated image
+      changed same = ext_get_or 0 other (updated image) (size ∙ sym (image-words old) ∙ sym up.size) (λ word lt. at word (omega (arith, lt, size)) (cases_eq word 1))
+        where
+          at : (word : ℕ) → word < old.words → (word ≡ 1) ⊎ (word ≢ 1) → get_or other word 0 ≡ get_or (updated image) word 0
+          at word lt (inl one) = ap (λ (w : ℕ). get_or other w 0) one ∙ same ∙ sym version-now ∙ sym (ap (λ (w : ℕ). get_or (updated image) w 0) one)
+          at word lt (inr far) = other-word word lt far ∙ sym (up.words word far)
+
+      by : (1 < old.words) ⊎ (old.words ≤ 1) → (other ≡ image) ⊎ (other ≡ updated image)
+      by (inl lt) = elim (within 1 lt) [
+        | inl there ↦ inl (whole (only-settled old 1 (get_or other 1 0) (rest 1 lt) there ∙ sym (word-in old 1 lt)))
+        | inr store ↦ inr (changed store.1)
+      ]
+      by (inr short) = inl (whole (get_or_past other 1 0 (omega (arith, short, size)) ∙ sym (get_or_past image 1 0 (omega (arith, short, image-words old)))))
+
+  stands-now : (history drawn : List Commit) (next : ℕ) → Stands image history drawn next → StandsOpening image history next image
+  stands-now history drawn next s = record {
+    stands = record { sound = s.sound; tables = s.tables; covered = s.covered; left_out = refl; reserved = s.reserved };
+    ruled = inl refl;
+    laid_out = inl refl;
+  }
+
+  stands-updated : (history drawn : List Commit) (next : ℕ) → Stands image history drawn next → StandsOpening image history next (updated image)
+  stands-updated history drawn next s =
+      let t = up.stands history drawn next s in
+      record {
+        stands = record { sound = t.sound; tables = t.tables; covered = t.covered; left_out = refl; reserved = t.reserved };
+        ruled = inl up.ruled;
+        laid_out = inr up.laid_out;
+      }
+
+  -- whatever a crash leaves while the version is stored
+  pub images-updating : (new : Device) → Keeps old new (OldOr old (IsStore 1 (opened_version (layout_of image).version))) → (history drawn : List Commit) (next : ℕ) → Stands image history drawn next
+      → LeavesOnly old new (StandsOpening image history next)
+  images-updating new kept history drawn next s = record {
+    continues = kept.images.continues;
+    each = λ other might. elim (either-image other (might.left.size ∙ kept.images.continues.same_words) (kept.images.each other might)) [
+      | inl same ↦ subst (λ (i : Image). StandsOpening image history next i) (sym same) (stands-now history drawn next s)
+      | inr same ↦ subst (λ (i : Image). StandsOpening image history next i) (sym same) (stands-updated history drawn next s)
+    ];
+  }
+
+  -- and once it is settled
+  module _ (new : Device) (same-words : new.words ≡ old.words) (holds : IsSettledAt new 1 (opened_version (layout_of image).version)) (spares : Spares (λ word. word ≢ 1) old new) where
+    pub rest-updated : IsAtRest new
+    rest-updated word lt = by (cases_eq word 1)
+      where
+        by : (word ≡ 1) ⊎ (word ≢ 1) → IsSettled new word
+        by (inl one) = subst (λ (w : ℕ). IsSettled new w) (sym one) holds.settled
+        by (inr far) = (spares.kept word far).settled (rest word (omega (arith, lt, same-words)))
+
+    value-updated : (word : ℕ) → word < new.words → value_of new word ≡ get_or (updated image) word 0
+    value-updated word lt = by (cases_eq word 1)
+      where
+        by : (word ≡ 1) ⊎ (word ≢ 1) → value_of new word ≡ get_or (updated image) word 0
+        by (inl one) = ap (value_of new) one ∙ holds.holds ∙ sym version-now ∙ sym (ap (λ (w : ℕ). get_or (updated image) w 0) one)
+        by (inr far) = (spares.kept word far).value ∙ sym (word-in old word (omega (arith, lt, same-words))) ∙ sym (up.words word far)
+
+    pub image-updated : image_of new ≡ updated image
+    image-updated = ext_get_or 0 (image_of new) (updated image) (image-words new ∙ same-words ∙ sym (image-words old) ∙ sym up.size) (λ word lt.
+        word-in new word (omega (arith, lt, image-words new)) ∙ value-updated word (omega (arith, lt, image-words new)))
+
+-- where the image has today's version already, nothing is done
+module _ (old : Device) (opens : opening_fault (image_of old) ≡ None) (current : (layout_of (image_of old)).version ≡ opened_version (layout_of (image_of old)).version) where
+  pub none-updated : updates (image_of old) ≡ false
+  none-updated = ap not (eq-eqb (layout_of (image_of old)).version (opened_version (layout_of (image_of old)).version) current)
+
+  pub image-current : image_of old ≡ updated (image_of old)
+  image-current = sym ((updated-open (image_of old) opens).same none-updated)
+
+  counts-none : update_counts (image_of old) ≡ record { stores = 0; flushes = 0; fences = 0 }
+  counts-none = ap (λ (b : Bool). cond b (let c : Counts = record { stores = 1; flushes = 1; fences = 1 } in c) (record { stores = 0; flushes = 0; fences = 0 })) none-updated
+
+  pub makes-none : MakesAll (update_counts (image_of old)) old old
+  makes-none = subst (λ (c : Counts). MakesAll c old old) (sym counts-none) (record { stores_made = omega arith; flushes_made = omega arith; fences_made = omega arith; failures_made = omega arith })
+
+-- where it has another, its word alone is stored
+module _ (old : Device) (other : (layout_of (image_of old)).version ≢ opened_version (layout_of (image_of old)).version) where
+  pub some-updated : updates (image_of old) ≡ true
+  some-updated = ap not (ne_eqb (layout_of (image_of old)).version (opened_version (layout_of (image_of old)).version) other)
+
+  counts-some : update_counts (image_of old) ≡ record { stores = 1; flushes = 1; fences = 1 }
+  counts-some = ap (λ (b : Bool). cond b (let c : Counts = record { stores = 1; flushes = 1; fences = 1 } in c) (record { stores = 0; flushes = 0; fences = 0 })) some-updated
+
+  pub makes-update : (new : Device) → Makes 1 1 1 0 old new → MakesAll (update_counts (image_of old)) old new
+  makes-update new makes = subst (λ (c : Counts). MakesAll c old new) (sym counts-some) makes
+
+  pub cut-update : (new : Device) → old.failures < new.failures → operations_of new < operations_of old + 3 → IsCutBefore (total (update_counts (image_of old))) old new
+  cut-update new failed few = subst (λ (c : Counts). IsCutBefore (total c) old new) (sym counts-some) (record { failed = failed; few = few })
+
+  pub others-spared : (new : Device) → Spares (λ word. word ≢ 1) old new → Spares (λ word. is_updated old word ≡ false) old new
+  others-spared new spares = spares_fewer (λ word alone one. true≢false (sym (both word one) ∙ alone)) spares
+    where
+      both : (word : ℕ) → word ≡ 1 → is_updated old word ≡ true
+      both word one = ap (λ (b : Bool). b && nat_eq word 1) some-updated ∙ eq-eqb word 1 one
+
+-- ---- the opening of an image, once it is updated
+
+module _ (old mid new : Device) (opens : opening_fault (image_of old) ≡ None) (updated-is : image_of mid ≡ updated (image_of old)) (made-update : MakesAll (update_counts (image_of old)) old mid) where
+  abbrev before : Image
+  before = image_of old
+
+  gone : OpensUpdated before
+  gone = updated-open before opens
+
+  same-counts : record_counts (image_of mid) ≡ record_counts before
+  same-counts = ap record_counts updated-is ∙ gone.counts
+
+  -- an opening that is cut short after the update is cut short
+  pub cut-after : IsCutBefore (total (record_counts (image_of mid))) mid new → IsCutShort old new
+  cut-after cut =
+      let c = subst (λ (c : Counts). IsCutBefore (total c) mid new) same-counts cut in
+      record {
+        failed = omega (arith, c.failed, made-update.failures_made);
+        few = omega (arith, c.few, made-update.stores_made, made-update.flushes_made, made-update.fences_made);
+      }
+
+  pub images-after : (history drawn : List Commit) (next : ℕ) → Stands before history drawn next → LeavesOnly old mid (StandsOpening before history next)
+      → ((history drawn : List Commit) (next : ℕ) → Stands (image_of mid) history drawn next → LeavesOnly mid new (StandsOpening (image_of mid) history next))
+      → LeavesOnly old new (StandsOpening before history next)
+  images-after history drawn next s first second =
+      leaves_trans first
+      (leaves_weaken (λ image stands. gone.within history next image (subst (λ (i : Image). StandsOpening i history next image) updated-is stands))
+      (second history drawn next (subst (λ (i : Image). Stands i history drawn next) (sym updated-is) (gone.stands history drawn next s))))
+
+  module _ (same-words : mid.words ≡ old.words) (spared : Spares (λ word. is_updated old word ≡ false) old mid) (layout : Layout) (r : Record) (next : ℕ) (free : List Bool) (live : List LiveSlot) (today : HasOpenedToday mid new layout r next free live) where
+    layout-now : layout_of (image_of mid) ≡ opened_layout (layout_of before)
+    layout-now = ap layout_of updated-is ∙ gone.laid_out
+
+    ruled-now : ruling (image_of mid) ≡ ruling before
+    ruled-now = ap ruling updated-is ∙ gone.ruled
+
+    mid-words : old.words ≡ total_words layout
+    mid-words = sym same-words ∙ sym (image-words mid) ∙ (size-of (image_of mid) (whole-of (image_of mid) (opens-sound (image_of mid) today.opens)).geometry).1 ∙ ap total_words (sym today.layout_is)
+
+    swept-same : (word : ℕ) → is_updated old word ≡ false → is_swept old word ≡ false → is_swept mid word ≡ false
+    swept-same word alone unswept =
+        ap (λ (i : Image). needs_sweep i && is_hit (layout_of i) (ruling i) mid word) updated-is
+        ∙ (λ i. gone.sweeps i && (gone.marks word i && lies (gone.ruled i) ((spared.kept word alone).value i)))
+        ∙ unswept
+
+    pub has-opened-updated : HasOpened old new layout r next free live
+    has-opened-updated = record {
+      opens = opens;
+      layout_is = today.layout_is ∙ layout-now;
+      record_is = today.record_is ∙ ap (λ (l : Layout). opening_record l (ruling (image_of mid)) (gaps_kept (opened_gaps (ruling (image_of mid))))) layout-now
+          ∙ ap (λ (x : Record). opening_record (layout_of before) x (gaps_kept (opened_gaps x))) ruled-now;
+      next_is = today.next_is ∙ ap (λ (x : Record). x.dirty) ruled-now;
+      free_is = today.free_is ∙ ap free_in updated-is ∙ free-updated before gone;
+      live_is = today.live_is ∙ ap (λ (i : Image). live_below i (layout_of i).slots) updated-is ∙ ap (λ (l : Layout). live_below (updated before) l.slots) gone.laid_out ∙ live-same before gone (layout_of before).slots;
+      holds = today.holds;
+      left_alone = spares_trans (spares_fewer (λ word alone. alone.2) spared) (spares_fewer (λ word alone. (alone.0, swept-same word alone.2 alone.1)) today.left_alone);
+      superblock = λ word low.
+          let lt : word < mid.words = omega (arith, low, mid-words, same-words, log_within layout) in
+          subst (λ (n : ℕ). IsSettledAt new word n) (sym (word-in mid word lt) ∙ ap (λ (i : Image). get_or i word 0) updated-is) (today.superblock word low);
+      slots = λ word past lt.
+          subst (λ (n : ℕ). IsSettledAt new word n) (ap (λ (i : Image). get_or (opened_slots i) word 0) updated-is ∙ gone.slots word (omega (arith, past)))
+          (today.slots word past (omega (arith, lt, same-words)));
+      made = let m = subst (λ (c : Counts). MakesAll c mid new) same-counts today.made in
+          record {
+            stores_made = omega (arith, m.stores_made, made-update.stores_made);
+            flushes_made = omega (arith, m.flushes_made, made-update.flushes_made);
+            fences_made = omega (arith, m.fences_made, made-update.fences_made);
+            failures_made = omega (arith, m.failures_made, made-update.failures_made);
+          };
+    }
+
+-- ---- a device whose image opens
+
+-- it has a superblock
+pub opened-size : (old : Device) → opening_fault (image_of old) ≡ None → 8 ≤ old.words
+opened-size old opens =
+    let a : Layout = layout_of (image_of old) in
+    let size = (size-of (image_of old) (whole-of (image_of old) (opens-sound (image_of old) opens)).geometry).1 in
+    omega (arith, log_within a, size, image-words old)
