@@ -69,15 +69,6 @@ sound-faultless image is =
     (option_or (some_if (not (is.well_ruled i)) (Damaged (ruling_place image)))
     (option_or (option_map (λ slot. Damaged ((layout_of image).places + slot)) (is.slots i)) None)))))
 
-pub version-one : (v : ℕ) → is_known_version v ≡ true → v ≡ newest_version
-version-one v e = grind (arith, nat_tests)
-
--- an image of this version keeps its layout
-pub same-layout : (a : Layout) → is_known_version a.version ≡ true → opened_layout a ≡ a
-same-layout a known =
-    let one = version-one a.version known in
-    ap (λ (v : ℕ). opened_layout (record a { version = v })) one ∙ ap (λ (v : ℕ). record a { version = v }) (sym one)
-
 pub known-good : (image : Image) → has_good_geometry image ≡ true → is_known_version (layout_of image).version ≡ true
 known-good image good = (and_parts _ _ (and_parts _ _ (and_parts _ _ (and_parts _ _ (and_parts _ _ good).0).0).0).0).0
 

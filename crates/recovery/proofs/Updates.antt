@@ -280,3 +280,12 @@ module _ (old mid new : Device) (opens : opening_fault (image_of old) ≡ None) 
             failures_made = omega (arith, m.failures_made, made-update.failures_made);
           };
     }
+
+-- ---- a device whose image opens
+
+-- it has a superblock
+pub opened-size : (old : Device) → opening_fault (image_of old) ≡ None → 8 ≤ old.words
+opened-size old opens =
+    let a : Layout = layout_of (image_of old) in
+    let size = (size-of (image_of old) (whole-of (image_of old) (opens-sound (image_of old) opens)).geometry).1 in
+    omega (arith, log_within a, size, image-words old)
