@@ -105,13 +105,14 @@ module _ (image : Image) (sound : IsSound image) where
 
 -- what a report tells, from what was read
 pub reports : (image : Image) (layout : Layout) (r : Record) (read rows : List (Key × List ℕ)) → IsRead image layout r read
-    → is_rising (map (λ row. row.0) rows) ≡ true → ((key : Key) → lookup_key rows key ≡ last_at read key) → Reports image r.gate r.persisted r.dirty r.gaps rows
+    → is_rising (map (λ row. row.0) rows) ≡ true → ((key : Key) → lookup_key rows key ≡ last_at read key) → Reports image r.gate r.persisted r.dirty r.gaps r.longs rows
 reports image layout r read rows is rising same = record {
   sound = is.sound;
   gate_is = ap (λ (x : Record). x.gate) is.rules;
   persisted_is = ap (λ (x : Record). x.persisted) is.rules;
   dirty_is = ap (λ (x : Record). x.dirty) is.rules;
   gaps_are = ap (λ (x : Record). x.gaps) is.rules;
+  longs_are = ap (λ (x : Record). x.longs) is.rules;
   lists = record {
     tables = lookup_key rows;
     lists = record { rising = rising; same = λ key. refl };

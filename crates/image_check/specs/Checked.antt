@@ -13,13 +13,14 @@ pub record ListsTables (image : Image) (rows : List (Key × List ℕ)) : Type 0 
   pub lists : Lists rows tables
   pub of_image : (key : Key) (row : List ℕ) → TablesOf image key row ↔ (tables key ≡ Some row)
 
--- the image is sound; these are the numbers and the gaps of its ruling record, and these its rows
-pub record Reports (image : Image) (gate persisted dirty : ℕ) (gaps : List Gap) (rows : List (Key × List ℕ)) : Type 0 where
+-- the image is sound; these are the numbers, the gaps and the long commits of its ruling record, and these its rows
+pub record Reports (image : Image) (gate persisted dirty : ℕ) (gaps : List Gap) (longs : List ℕ) (rows : List (Key × List ℕ)) : Type 0 where
   pub sound : IsSound image
   pub gate_is : gate ≡ (ruling image).gate
   pub persisted_is : persisted ≡ (ruling image).persisted
   pub dirty_is : dirty ≡ (ruling image).dirty
   pub gaps_are : gaps ≡ (ruling image).gaps
+  pub longs_are : longs ≡ (ruling image).longs
   pub lists : ListsTables image rows
 
 -- the last row that a list has at a key

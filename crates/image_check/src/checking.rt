@@ -7,6 +7,7 @@ use base::Ts;
 use base::fault::Fault;
 use base::gap::Gaps;
 use base::key::Key;
+use base::longs::Longs;
 use base::row::Row;
 use recovery::read_image;
 use std::alloc::Global;
@@ -20,6 +21,8 @@ pub struct Report {
     pub persisted: Ts,
     pub dirty: Ts,
     pub gaps: Gaps,
+    /// The long commits that the record names.
+    pub longs: Longs,
     /// The rows of its tables, by rising key.
     pub rows: Vec<(Key, Row)>,
 }
@@ -27,7 +30,7 @@ pub struct Report {
 /// Tests all words of an image that count, and reports what it holds. It opens nothing, so it also checks an image whose
 /// opening would find no timestamps left. An image that isn't sound is refused for the first thing that is wrong with it.
 pub fn check<R: Threads + Sync>(rt: &R, alloc: Global, words: &[u64]) -> Result<Report, Fault>
-    ensures ok { IfOk result (λ report. Reports words.now report.gate report.persisted report.dirty report.gaps report.rows.items) }
+    ensures ok { IfOk result (λ report. Reports words.now report.gate report.persisted report.dirty report.gaps report.longs report.rows.items) }
     ensures fault { IfErr result (IsReadRefusal words.now) }
 {
     let found = match read_image(rt, alloc, words) {
@@ -41,6 +44,7 @@ pub fn check<R: Threads + Sync>(rt: &R, alloc: Global, words: &[u64]) -> Result<
             persisted: ruling.persisted(),
             dirty: ruling.dirty(),
             gaps: ruling.gaps(),
+            longs: ruling.longs(),
             rows,
         }),
         Err(_) => Err(Fault::OutOfMemory),

@@ -1,6 +1,6 @@
 -- An image that an opening gives the version of today.
-use Rattle.std.proofs.Common.{◌≡◌, ◌≢◌, ◌⊎◌, inl, inr, ℕ, ◌+◌, ◌*◌, ◌<◌, ◌≤◌, Bool, true, false, cond, not, ◌&&◌, List, [], ◌∷◌, length, get_or, map, flat_map, refl, sym, ◌∙◌, ap, subst, arith, nat_eq, true≢false}
-use Rattle.std.specs.Prelude.{Option, Some, None}
+use Rattle.std.proofs.Common.{◌≡◌, ◌≢◌, ◌⊎◌, inl, inr, ℕ, ◌+◌, ◌<◌, ◌≤◌, Bool, true, false, cond, not, ◌&&◌, List, [], ◌∷◌, length, get_or, map, flat_map, refl, sym, ◌∙◌, ap, subst, arith, nat_eq, true≢false}
+use Rattle.std.specs.Prelude.{Option, None}
 use Rattle.std.specs.List.{range_with_len}
 use Rattle.std.proofs.lemmas.Bool.{cases_eq, cases_lt, eq-eqb, ne_eqb}
 use Rattle.std.proofs.lemmas.List.{ext_get_or, get_or_past}
@@ -9,26 +9,24 @@ use Rattle.base.specs.declared.gap.Gap.{Gap}
 use Rattle.base.specs.Commits.{Commit}
 use Rattle.base.specs.Layout.{Layout, opened_layout, opened_version, total_words}
 use Rattle.base.specs.Laws.{OpensUpdated}
-use Rattle.base.specs.Records.{Record, is_in, opened_gaps}
+use Rattle.base.specs.Records.{Record, opened_gaps}
 use Rattle.base.specs.Images.{Image, layout_of, ruling, is_shown, opening_fault, needs_sweep, is_wrong_gate, IsRuledBy}
 use Rattle.base.specs.Search.{first_below}
 use Rattle.base.specs.Stands.{Stands}
-use Rattle.base.specs.Openings.{Counts, opening_record, gaps_kept, opened_slots, is_mark, record_counts, update_counts, StandsOpening, updated, updates}
+use Rattle.base.specs.Openings.{Counts, opening_record, gaps_kept, opened_slots, record_counts, update_counts, StandsOpening, updated, updates}
 use Rattle.base.proofs.Histories.{opens-sound}
 use Rattle.base.proofs.Opened.{whole-of, size-of}
 use Rattle.base.proofs.Updated.{updated-open}
-use Rattle.pmem.specs.Device.{Device, IsOrderly}
-use Rattle.pmem.specs.Words.{value_of, IsAtRest, IsSettled, IsSettledAt, IsStore, IsWithin, LeavesOnly, image_of, Keeps, Makes, OldOr, Spares, Survives, operations_of}
+use Rattle.pmem.specs.Device.{Device}
+use Rattle.pmem.specs.Words.{value_of, IsAtRest, IsSettled, IsSettledAt, IsStore, IsWithin, LeavesOnly, image_of, Keeps, Makes, OldOr, Spares, operations_of}
 use Rattle.pmem.proofs.Images.{leaves_trans, leaves_weaken}
-use Rattle.pmem.proofs.Spares.{spares_fewer, spares_none, spares_trans}
+use Rattle.pmem.proofs.Spares.{spares_fewer, spares_trans}
 use Rattle.pmem.proofs.Steps.{only-settled}
-use Rattle.log_area.specs.Rulings.{HoldsRecord}
-use Rattle.log_area.specs.Writings.{IsOutside, begun}
 use Rattle.log_area.proofs.Rulings.{log_within}
 use Rattle.recovery.specs.Slots.{free_below}
 use Rattle.recovery.specs.Live.{live_at, live_below}
 use Rattle.recovery.specs.Sweeping.{is_hit, lies}
-use Rattle.recovery.specs.Opened.{Examined, IsExamined, HasOpened, HasOpenedToday, IsCutBefore, IsCutShort, IsLeftAlone, MakesAll, free_in, is_swept, is_updated, total}
+use Rattle.recovery.specs.Opened.{Examined, HasOpened, HasOpenedToday, IsCutBefore, IsCutShort, MakesAll, free_in, is_swept, is_updated, total}
 use Rattle.recovery.specs.declared.rows.LiveSlot.{LiveSlot}
 use Rattle.recovery.proofs.Lives.{is}
 

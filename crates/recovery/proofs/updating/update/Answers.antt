@@ -1,4 +1,4 @@
-use Rattle.std.proofs.Common.{◌≡◌, ◌≢◌, ℕ, false, sym, ◌∙◌, ap, subst, arith}
+use Rattle.std.proofs.Common.{◌≡◌, ◌≢◌, ℕ, false, sym, ◌∙◌, ap, subst}
 use Rattle.base.specs.Images.{layout_of}
 use Rattle.base.specs.Layout.{Layout, opened_layout, opened_version}
 use Rattle.pmem.specs.Words.{image_of, IsSettledAt, IsStore, Keeps, OldOr}

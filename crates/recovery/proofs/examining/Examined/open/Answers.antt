@@ -1,8 +1,8 @@
-use Rattle.std.proofs.Common.{List, OnErr, IfOk, sym, subst, ◌∙◌, ◌≡◌}
+use Rattle.std.proofs.Common.{List, OnErr, IfOk, sym, subst, ◌≡◌}
 use Rattle.std.specs.Prelude.{Bool, false, Option, None, Result, Ok, Err}
 use Rattle.base.specs.declared.fault.Fault.{Fault}
 use Rattle.base.specs.declared.gap.Gap.{Gap}
-use Rattle.base.specs.Images.{layout_of, opening_fault}
+use Rattle.base.specs.Images.{opening_fault}
 use Rattle.base.specs.Layout.{Layout, opened_layout}
 use Rattle.base.specs.Openings.{record_counts, update_counts, updated}
 use Rattle.base.specs.Records.{Record}
