@@ -4,6 +4,7 @@ use crate::{Board, History, Naming, Reader, Token};
 use base::batch::{Batch, Commit};
 use base::fault::Fault;
 use base::key::Key;
+use base::longs::Longs;
 use base::row::Row;
 use std::alloc::{AllocError, Global};
 use std::marker::Brand;
@@ -31,14 +32,14 @@ fn add<J: Naming, R: Wait + Drop>(
     board: &mut Board<J, R>,
     row: Row,
 ) -> Result<(), Fault> {
-    let (stamp, persisted) = board.last();
-    if stamp > 10000 || persisted > 10000 {
+    let (stamp, persisted, longs) = board.last();
+    if stamp > 10000 || persisted > 10000 || longs != Longs::none() {
         return Err(Fault::TimestampsOut);
     }
     let Ok(commits) = commit(alloc, persisted + 1, row) else {
         return Err(Fault::OutOfMemory);
     };
-    let batch = Batch::new(stamp, stamp + 1, persisted + 1, commits);
+    let batch = Batch::new(stamp, stamp + 1, persisted + 1, longs, commits);
     board.publish(batch).map_err(|refused| refused.0)
 }
 
@@ -67,7 +68,16 @@ fn one_commit<J: Naming, R: Wait>(
 ) -> Result<OneCommit, Fault>
     requires { history ≡ J.book }
 {
-    let (mut board, mut readers) = Board::<J, &R>::open(rt, alloc, history, 2, 0, &[], 1)?;
+    let (mut board, mut readers) = Board::<J, &R>::open(
+        rt,
+        alloc,
+        history,
+        2,
+        0,
+        Longs::none(),
+        &[],
+        1,
+    )?;
     let reader = &mut readers[0];
     add(alloc, &mut board, Row::new(&[1])?)?;
     let token = board.token();
@@ -122,7 +132,7 @@ fn add_many<J: Naming, R: Wait + Drop>(
     count: u64,
 ) -> Result<(), Fault> {
     for _ in 0..count {
-        let (stamp, _) = board.last();
+        let (stamp, _, _) = board.last();
         add(alloc, board, row_of(stamp.saturating_add(1))?)?;
         let stamp = board.token().stamp();
         board.prune(stamp.saturating_sub(15))?;
@@ -140,7 +150,16 @@ fn twenty_commits<J: Naming, R: Wait>(
 ) -> Result<(Bounds, [Answer; 4]), Fault>
     requires { history ≡ J.book }
 {
-    let (mut board, mut readers) = Board::<J, &R>::open(rt, alloc, history, 2, 0, &[], 1)?;
+    let (mut board, mut readers) = Board::<J, &R>::open(
+        rt,
+        alloc,
+        history,
+        2,
+        0,
+        Longs::none(),
+        &[],
+        1,
+    )?;
     let reader = &mut readers[0];
     add_many(alloc, &mut board, 20)?;
     reader.learn(board.token());
@@ -179,7 +198,16 @@ fn told_across<J: Naming + Send + Sync, R: Threads + Wait + Sync>(
 ) -> Result<(Answer, Answer), Fault>
     requires { history ≡ J.book }
 {
-    let (board, mut readers) = Board::<J, &R>::open(rt, alloc, history, 2, 0, &[], 1)?;
+    let (board, mut readers) = Board::<J, &R>::open(
+        rt,
+        alloc,
+        history,
+        2,
+        0,
+        Longs::none(),
+        &[],
+        1,
+    )?;
     let reader = readers.swap_remove(0);
     let desk = Mutex::new(None);
     let (board, (mut reader, answer)) = join(
@@ -252,7 +280,7 @@ fn busy<J: Naming + Send + Sync, R: Threads + Wait + Sync>(
 ) -> Result<(Result<(), Fault>, Vec<Watched>), Fault>
     requires { history ≡ J.book }
 {
-    let (board, readers) = Board::<J, &R>::open(rt, alloc, history, 2, 0, &[], 7)?;
+    let (board, readers) = Board::<J, &R>::open(rt, alloc, history, 2, 0, Longs::none(), &[], 7)?;
     let over = AtomicBool::new(false);
     let ((board, added), watched) = join(
         rt,
