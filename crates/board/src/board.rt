@@ -1,4 +1,5 @@
 use crate::change::{Change, Start};
+use crate::fitting::covers_due;
 use crate::history::{Book, Front, History, Naming};
 use crate::reader::Reader;
 use crate::shelf::{Shelf, Step};
@@ -65,7 +66,7 @@ impl<J: Naming, T: Absorb<O> + Kept<O> + Drop, O: Drop, R: Wait + Drop> Model fo
 }
 
 impl<J: Naming, R: Wait + Drop> Desk<J, Shelf<J>, Step<J>, R> {
-    ghost use Rattle.std.specs.Prelude.{◌≡◌, ◌⊎◌, ◌<◌, ◌≤◌, length, [], Ok, Some, None, All, IfOk, IfErr, MatchResult, vec_capacity};
+    ghost use Rattle.std.specs.Prelude.{◌≡◌, ◌⊎◌, ◌↔◌, ◌<◌, ◌≤◌, length, [], Ok, Some, None, All, IsTrue, IfOk, IfErr, MatchResult, vec_capacity};
     ghost use Rattle.base.specs.declared.fault.Fault.TheVariants.{OutOfMemory};
     ghost use Rattle.base.specs.Published.{last_stamp};
     ghost use Rattle.board.specs.declared.change.Change.TheVariants.{Add, Raise};
@@ -164,6 +165,16 @@ impl<J: Naming, R: Wait + Drop> Desk<J, Shelf<J>, Step<J>, R> {
         ensures { result ≡ (last_stamp (whole self.now), last_persisted (whole self.now), last_longs (whole self.now)) }
     {
         (self.stamp, self.persisted, self.longs)
+    }
+
+    /// Whether the batch may come next: it goes on from what is published and what waits.
+    pub fn fits(&self, batch: &Batch) -> bool
+        ensures { IsTrue result ↔ Fits (whole self.now) batch.now }
+    {
+        batch.from() == self.stamp
+            && batch.stamp() > self.stamp
+            && batch.stamp() - self.stamp == 1
+            && covers_due(self.persisted, &self.longs, batch)
     }
 
     /// Publishes what waits and then the batch. Where memory runs out, the batch comes back, or waits with the others.

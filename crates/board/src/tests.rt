@@ -1,6 +1,7 @@
-ghost use Rattle.std.specs.Prelude.{◌≡◌, [], ◌∷◌, map, IfOk};
+ghost use Rattle.std.specs.Prelude.{◌≡◌};
 
 use crate::{Board, History, Naming, Reader, Token};
+use base::Ts;
 use base::batch::{Batch, Commit};
 use base::fault::Fault;
 use base::key::Key;
@@ -17,12 +18,13 @@ type Answer = Result<Option<Row>, Fault>;
 
 const KEY: Key = Key { table: 1, key: 7 };
 
-// A commit that writes the row under the key.
-fn commit(alloc: Global, timestamp: u64, row: Row) -> Result<Vec<Commit>, AllocError>
-    ensures { IfOk result (λ commits. map (λ commit. commit.timestamp) commits.items ≡ timestamp ∷ []) }
-{
-    let writes = Vec::from_array(alloc, [(KEY, Some(row))])?;
-    let commits = Vec::from_array(alloc, [Commit::new(timestamp, writes)])?;
+// Commits with these timestamps, each of which writes the row under the key.
+fn commits(alloc: Global, timestamps: &[Ts], row: Row) -> Result<Vec<Commit>, AllocError> {
+    let mut commits = Vec::new(alloc);
+    for timestamp in timestamps {
+        let writes = Vec::from_array(alloc, [(KEY, Some(row))])?;
+        commits.push(Commit::new(*timestamp, writes))?;
+    }
     Ok(commits)
 }
 
@@ -33,13 +35,21 @@ fn add<J: Naming, R: Wait + Drop>(
     row: Row,
 ) -> Result<(), Fault> {
     let (stamp, persisted, longs) = board.last();
-    if stamp > 10000 || persisted > 10000 || longs != Longs::none() {
+    if stamp > 10000 || persisted > 10000 {
         return Err(Fault::TimestampsOut);
     }
-    let Ok(commits) = commit(alloc, persisted + 1, row) else {
+    let Ok(commits) = commits(alloc, &[persisted + 1], row) else {
         return Err(Fault::OutOfMemory);
     };
     let batch = Batch::new(stamp, stamp + 1, persisted + 1, longs, commits);
+    publish(board, batch)
+}
+
+// Publishes the batch, which goes on from what is published.
+fn publish<J: Naming, R: Wait + Drop>(board: &mut Board<J, R>, batch: Batch) -> Result<(), Fault> {
+    if !board.fits(&batch) {
+        return Err(Fault::WrongState);
+    }
     board.publish(batch).map_err(|refused| refused.0)
 }
 
@@ -116,6 +126,95 @@ fn board_reads(rt: HostRuntime) -> Result<(), Fail> {
             Err(Fault::TooOld),
             Err(Fault::NotYet),
         ]
+    );
+    Ok(())
+}
+
+type Covered = (bool, bool, bool);
+
+// Whether what is published covers commits 5, 6 and 7.
+fn covered<J: Naming, R: Wait + Drop>(board: &Board<J, R>) -> Covered {
+    let token = board.token();
+    (token.covers(5), token.covers(6), token.covers(7))
+}
+
+// The long commit 5.
+fn five() -> Longs {
+    let mut longs = Longs::none();
+    longs.push(5);
+    longs
+}
+
+// Publishes a batch that persists up to 7, with these long commits and the commits of these timestamps.
+fn add_to_seven<J: Naming, R: Wait + Drop>(
+    alloc: Global,
+    board: &mut Board<J, R>,
+    stamp: u64,
+    longs: Longs,
+    timestamps: &[Ts],
+) -> Result<(), Fault> {
+    let Ok(commits) = commits(alloc, timestamps, Row::new(&[1])?) else {
+        return Err(Fault::OutOfMemory);
+    };
+    publish(
+        board,
+        Batch::new(stamp, stamp.saturating_add(1), 7, longs, commits),
+    )
+}
+
+// What is covered while commit 5 is long, what a batch without it comes to, and what is covered once it is covered too. The
+// board publishes 5 as long, or begins with it.
+fn long_commit<J: Naming, R: Wait>(
+    rt: &R,
+    alloc: Global,
+    history: History,
+    begun: bool,
+) -> Result<(Covered, Result<(), Fault>, Covered), Fault>
+    requires { history ≡ J.book }
+{
+    let (stamp, persisted, longs) = if begun {
+        (6, 7, five())
+    } else {
+        (5, 4, Longs::none())
+    };
+    let (mut board, _readers) = Board::<J, &R>::open(
+        rt,
+        alloc,
+        history,
+        stamp,
+        persisted,
+        longs,
+        &[],
+        1,
+    )?;
+    if !begun {
+        add_to_seven(alloc, &mut board, 5, five(), &[6, 7])?;
+    }
+    let before = covered(&board);
+    let nothing = add_to_seven(alloc, &mut board, 6, Longs::none(), &[]);
+    add_to_seven(alloc, &mut board, 6, Longs::none(), &[5])?;
+    Ok((before, nothing, covered(&board)))
+}
+
+#[test]
+fn long_commits_are_covered_later(rt: HostRuntime) -> Result<(), Fail> {
+    let seen = long_commit::<Brand, _>(&rt, rt.alloc(), History::new(), false)?;
+    assert_eq!(rt;
+        seen,
+        (
+            (false, true, true),
+            Err(Fault::WrongState),
+            (true, true, true)
+        )
+    );
+    let seen = long_commit::<Brand, _>(&rt, rt.alloc(), History::new(), true)?;
+    assert_eq!(rt;
+        seen,
+        (
+            (false, true, true),
+            Err(Fault::WrongState),
+            (true, true, true)
+        )
     );
     Ok(())
 }
