@@ -6,20 +6,20 @@ use Rattle.base.specs.declared.fault.Fault.TheVariants.{OutOfMemory, TimestampsO
 use Rattle.base.specs.declared.gap.Gap.{Gap}
 use Rattle.base.specs.Batches.{Batch}
 use Rattle.base.specs.Commits.{Commit}
-use Rattle.base.specs.Layout.{Layout}
+use Rattle.base.specs.Layout.{Layout, most_longs}
 use Rattle.base.specs.Machine.{is_nil}
 use Rattle.base.specs.Records.{Record}
 use Rattle.txn.specs.declared.drawn.DrawnCommit.{DrawnCommit}
-use Rattle.txn.specs.DrawnCommits.{is_stamped, reach}
+use Rattle.txn.specs.DrawnCommits.{is_stamped, reach, passed_over}
 use Rattle.txn.specs.WriteSets.{plain_writes}
 
--- how many commits a record may pass over
-abbrev pub most_passed : ℕ
-most_passed = 0
-
 -- up to which timestamp the next record reaches
-abbrev pub reach_of : Record → List DrawnCommit → ℕ
-reach_of ruling drawn = reach most_passed ruling.persisted drawn
+abbrev pub reach_of : Layout → Record → List DrawnCommit → ℕ
+reach_of layout ruling drawn = reach (most_longs layout.version) ruling.persisted drawn
+
+-- the long commits that it names: those of the drawn commits that it passes over
+abbrev pub longs_of : Layout → Record → List DrawnCommit → List ℕ
+longs_of layout ruling drawn = passed_over (reach_of layout ruling drawn) drawn
 
 -- the commit is stamped, and not above there
 abbrev pub is_chosen : ℕ → DrawnCommit → Bool
@@ -37,14 +37,14 @@ commit_of d = record { timestamp = d.timestamp; writes = plain_writes d.writes }
 abbrev pub standing_gaps : Bool → Record → List Gap
 standing_gaps swept ruling = if swept then [] else ruling.gaps
 
--- the record that reaches up to this timestamp, and reserves a window from the next one on
-abbrev pub record_of : Layout → Record → ℕ → Bool → ℕ → Record
-record_of layout ruling next swept reach = record {
+-- the next record: it reaches as far as it may, and reserves a window from the next timestamp on
+abbrev pub record_of : Layout → Record → ℕ → Bool → List DrawnCommit → Record
+record_of layout ruling next swept drawn = record {
   gate = ruling.gate + 1;
-  persisted = reach;
+  persisted = reach_of layout ruling drawn;
   dirty = next + layout.window;
   gaps = standing_gaps swept ruling;
-  longs = [];
+  longs = longs_of layout ruling drawn;
 }
 
 -- the record that a close writes last: it persists all that is drawn, and reserves nothing
@@ -53,7 +53,7 @@ closing_record ruling next swept = record { gate = ruling.gate + 1; persisted = 
 
 -- the batch that this record covers
 abbrev pub batch_of : Record → Record → List DrawnCommit → Batch
-batch_of ruling target drawn = record { from = ruling.gate; stamp = target.gate; persisted = target.persisted; commits = map commit_of (chosen target.persisted drawn) }
+batch_of ruling target drawn = record { from = ruling.gate; stamp = target.gate; persisted = target.persisted; longs = target.longs; commits = map commit_of (chosen target.persisted drawn) }
 
 -- a record is due although there is nothing to cover: fewer timestamps than half a window are reserved, or swept gaps stand
 abbrev pub has_other_reason_to_write : Layout → Record → ℕ → Bool → Bool
@@ -61,7 +61,7 @@ has_other_reason_to_write layout ruling next swept = nat_lt (2 * (ruling.dirty -
 
 -- nothing to cover, and no other reason for a record
 abbrev pub is_idle : Layout → Record → ℕ → Bool → List DrawnCommit → Bool
-is_idle layout ruling next swept drawn = not (list_any (is_chosen (reach_of ruling drawn)) drawn) && not (has_other_reason_to_write layout ruling next swept)
+is_idle layout ruling next swept drawn = not (list_any (is_chosen (reach_of layout ruling drawn)) drawn) && not (has_other_reason_to_write layout ruling next swept)
 
 -- no record number is left; or one is, and memory is wanting
 abbrev pub IsBeginFault : Record → Fault → Type 0

@@ -3,19 +3,17 @@ ghost use Rattle.std.specs.List.{list_any};
 ghost use Rattle.base.specs.Records.{is_committed};
 ghost use Rattle.dirty_table.specs.Touches.{has};
 ghost use Rattle.txn.specs.DrawnCommits.{are_numbered};
-ghost use Rattle.group_commit.specs.Choosing.{commit_of, reach_of, is_chosen, chosen, standing_gaps, record_of, closing_record, batch_of, is_idle};
+ghost use Rattle.group_commit.specs.Choosing.{commit_of, reach_of, longs_of, is_chosen, chosen, standing_gaps, record_of, closing_record, batch_of, is_idle};
 
 use base::batch::{Batch, Commit};
 use base::gap::Gaps;
 use base::geometry::Geometry;
+use base::longs::Longs;
 use base::{NUMBER_LIMIT, Ts};
 use dirty_table::SessionSet;
 use log_area::Record;
 use std::alloc::{AllocError, Global};
 use txn::{DrawnCommit, DrawnCommits};
-
-// How many commits a record may pass over: it names no long commit.
-const MOST_PASSED: usize = 0;
 
 /// Whether the committer has nothing to do: no commit is chosen, half a window of timestamps is reserved, and no swept gap
 /// stands.
@@ -32,15 +30,15 @@ pub fn is_idle(
     let reserved = ruling.dirty().saturating_sub(next);
     let window_is_short = reserved < (geometry.window() + 1) / 2;
     let has_swept_gaps = swept && !ruling.gaps().as_slice().is_empty();
-    let reach = reach_of(ruling, drawn);
+    let reach = reach_of(geometry, ruling, drawn);
     !has_chosen(reach, drawn.as_slice()) && !(window_is_short || has_swept_gaps)
 }
 
-/// Up to which timestamp the next record reaches.
-pub(crate) fn reach_of(ruling: Record, drawn: &DrawnCommits) -> Ts
-    ensures { result ≡ reach_of ruling drawn.now.commits }
+// Up to which timestamp the next record reaches.
+fn reach_of(geometry: Geometry, ruling: Record, drawn: &DrawnCommits) -> Ts
+    ensures { result ≡ reach_of geometry ruling drawn.now.commits }
 {
-    drawn.reach(ruling.persisted(), MOST_PASSED)
+    drawn.reach(ruling.persisted(), geometry.most_longs())
 }
 
 // Whether a record that reaches up to there covers the commit.
@@ -65,30 +63,34 @@ pub(crate) fn is_numbered(ruling: Record) -> bool
     ruling.gate() + 1 < NUMBER_LIMIT
 }
 
-/// The record that reaches up to this timestamp.
+/// The next record. It names the commits that it passes over.
 pub(crate) fn record_of(
     geometry: Geometry,
     ruling: Record,
     next: Ts,
     swept: bool,
-    reach: Ts,
+    drawn: &DrawnCommits,
 ) -> Record
     requires numbered { ruling.gate < 2 ^ 62 }
     requires countable { next ≤ 2 ^ 62 }
-    ensures { result ≡ record_of geometry ruling next swept reach }
+    requires few { length (longs_of geometry ruling drawn.now.commits) ≤ 12 }
+    ensures { result ≡ record_of geometry ruling next swept drawn.now.commits }
 {
+    let reach = reach_of(geometry, ruling, drawn);
     let dirty = next + geometry.window();
     let gaps = standing_gaps(ruling, swept);
-    Record::new(ruling.gate() + 1, reach, dirty, gaps)
+    let longs = drawn.passed_over(reach);
+    Record::new(ruling.gate() + 1, reach, dirty, gaps, longs)
 }
 
-/// The record that a close writes last: it persists all that is drawn, and reserves no timestamp.
+/// The record that a close writes last: it persists all that is drawn, names no long commit, and reserves no timestamp.
 pub fn closing_record(ruling: Record, next: Ts, swept: bool) -> Record
     requires { ruling.gate < 2 ^ 62 }
     ensures { result ≡ closing_record ruling next swept }
 {
     let gaps = standing_gaps(ruling, swept);
-    Record::new(ruling.gate() + 1, next.saturating_sub(1), next, gaps)
+    let persisted = next.saturating_sub(1);
+    Record::new(ruling.gate() + 1, persisted, next, gaps, Longs::none())
 }
 
 // The gaps that the next record names.
@@ -109,7 +111,13 @@ pub(crate) fn batch_of(
     ensures { IfOk result (λ batch. batch ≡ batch_of ruling target drawn.now) }
 {
     let commits = commits_of(alloc, target.persisted(), drawn)?;
-    Ok(Batch::new(ruling.gate(), target.gate(), target.persisted(), commits))
+    Ok(Batch::new(
+        ruling.gate(),
+        target.gate(),
+        target.persisted(),
+        target.longs(),
+        commits,
+    ))
 }
 
 // What each of the chosen ones wrote.

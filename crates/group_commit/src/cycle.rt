@@ -1,4 +1,4 @@
-use crate::batch::{batch_of, is_numbered, reach_of, record_of, sessions_committed_by};
+use crate::batch::{batch_of, is_numbered, record_of, sessions_committed_by};
 use crate::stage::CycleStage;
 use base::Ts;
 use base::actor::Actor;
@@ -42,7 +42,7 @@ pub struct Covered {
 }
 
 impl Cycle {
-    ghost use Rattle.std.specs.Prelude.{◌≡◌, ◌≢◌, ◌↔◌, ◌+◌, ◌*◌, ◌^◌, ◌<◌, ◌≤◌, ◌&&◌, ℕ, nat_eq, Some, None, IsTrue, IfOk, IfErr, OnOk, OnErr};
+    ghost use Rattle.std.specs.Prelude.{◌≡◌, ◌≢◌, ◌↔◌, ◌+◌, ◌*◌, ◌^◌, ◌<◌, ◌≤◌, ◌&&◌, ℕ, nat_eq, length, Some, None, IsTrue, IfOk, IfErr, OnOk, OnErr};
     ghost use Rattle.std.specs.List.{list_any};
     ghost use Rattle.base.specs.Layout.{total_words};
     ghost use Rattle.base.specs.Records.{are_rising, is_committed};
@@ -52,7 +52,7 @@ impl Cycle {
     ghost use Rattle.pmem.specs.Trace.{applied};
     ghost use Rattle.dirty_table.specs.Touches.{has, lines_touched};
     ghost use Rattle.group_commit.specs.declared.stage.CycleStage.TheVariants.{FlushLines, WriteRecord};
-    ghost use Rattle.group_commit.specs.Choosing.{reach_of, record_of, batch_of, IsBeginFault};
+    ghost use Rattle.group_commit.specs.Choosing.{longs_of, record_of, batch_of, IsBeginFault};
     ghost use Rattle.group_commit.specs.Cycles.{line_from, operation_in, reached_in, ticked_in};
 
     /// Takes the drawn commits that the next record may cover, and the memory of their batch: no tick takes any. Fails with
@@ -67,9 +67,10 @@ impl Cycle {
     ) -> Result<Cycle, Fault>
         requires numbered { ruling.gate < 2 ^ 62 }
         requires countable { next ≤ 2 ^ 62 }
-        ensures batch { IfOk result (λ cycle. cycle.batch ≡ batch_of ruling (record_of geometry ruling next swept (reach_of ruling drawn.now.commits)) drawn.now.commits) }
+        requires few { length (longs_of geometry ruling drawn.now.commits) ≤ 12 }
+        ensures batch { IfOk result (λ cycle. cycle.batch ≡ batch_of ruling (record_of geometry ruling next swept drawn.now.commits) drawn.now.commits) }
         ensures sessions { IfOk result (λ cycle. (n : ℕ) → has cycle.sessions n ≡ list_any (λ d. nat_eq d.session n && is_committed cycle.writing.target d.timestamp) drawn.now.commits) }
-        ensures writing { IfOk result (λ cycle. cycle.writing ≡ begun geometry (record_of geometry ruling next swept (reach_of ruling drawn.now.commits))) }
+        ensures writing { IfOk result (λ cycle. cycle.writing ≡ begun geometry (record_of geometry ruling next swept drawn.now.commits)) }
         ensures stage { IfOk result (λ cycle. cycle.stage ≡ FlushLines 0 0) }
         ensures numbered { OnOk result (ruling.gate + 1 < 2 ^ 62) }
         ensures fault { IfErr result (IsBeginFault ruling) }
@@ -78,7 +79,7 @@ impl Cycle {
             return Err(Fault::TimestampsOut);
         }
         let commits = drawn.as_slice();
-        let target = record_of(geometry, ruling, next, swept, reach_of(ruling, drawn));
+        let target = record_of(geometry, ruling, next, swept, drawn);
         let Ok(batch) = batch_of(alloc, ruling, target, commits) else {
             return Err(Fault::OutOfMemory);
         };

@@ -1,11 +1,14 @@
-ghost use Rattle.std.specs.Prelude.{◌≡◌};
+ghost use Rattle.std.specs.Prelude.{◌≡◌, ◌<◌, ◌≤◌, ◌^◌, length};
 
 use crate::Cycle;
 use base::Ts;
+use base::fault::Fault;
 use base::gap::Gaps;
 use base::geometry::Geometry;
 use base::key::Key;
+use base::longs::Longs;
 use log_area::Record;
+use std::alloc::Global;
 use std::test::Fail;
 use txn::{DrawnCommit, DrawnCommits, Write, WriteSet};
 
@@ -32,12 +35,25 @@ fn deletion(session: u8, timestamp: Ts, stamped: usize) -> DrawnCommit
     }
 }
 
+// Begins a cycle over what is drawn, where that is no more than a record may pass over.
+fn begin(
+    alloc: Global,
+    geometry: Geometry,
+    ruling: Record,
+    next: Ts,
+    drawn: &DrawnCommits,
+) -> Result<Cycle, Fault>
+    requires numbered { ruling.gate < 2 ^ 62 }
+    requires countable { next ≤ 2 ^ 62 }
+    requires few { length drawn.now.commits ≤ 12 }
+{
+    Cycle::begin(alloc, geometry, ruling, next, false, drawn)
+}
+
 #[test]
-fn a_batch_takes_the_stamped_commits_before_the_first_that_is_not(
-    rt: HostRuntime,
-) -> Result<(), Fail> {
+fn a_batch_takes_the_stamped_commits(rt: HostRuntime) -> Result<(), Fail> {
     let geometry = Geometry::new(4, 2, 4)?;
-    let ruling = Record::new(1, 4, 12, Gaps::none());
+    let ruling = Record::new(1, 4, 12, Gaps::none(), Longs::none());
     let mut drawn = DrawnCommits::new(rt.alloc());
     assert!(rt; crate::is_idle(geometry, ruling, 8, false, &drawn));
     drawn.reserve()?;
@@ -45,9 +61,9 @@ fn a_batch_takes_the_stamped_commits_before_the_first_that_is_not(
     drawn.reserve()?;
     drawn.push(deletion(3, 6, 0));
     drawn.reserve()?;
-    drawn.push(deletion(4, 7, 1));
+    drawn.push(deletion(4, 7, 0));
     assert!(rt; !crate::is_idle(geometry, ruling, 8, false, &drawn));
-    let cycle = Cycle::begin(rt.alloc(), geometry, ruling, 8, false, &drawn)?;
+    let cycle = begin(rt.alloc(), geometry, ruling, 8, &drawn)?;
     assert!(rt; !cycle.is_done());
     let covered = cycle.finish();
     assert_eq!(rt; covered.batch.commits().len(), 1);
@@ -56,9 +72,35 @@ fn a_batch_takes_the_stamped_commits_before_the_first_that_is_not(
     assert_eq!(rt; covered.batch.persisted(), 5);
     assert_eq!(rt; covered.record.persisted(), 5);
     assert_eq!(rt; covered.record.dirty(), 12);
+    assert!(rt; covered.record.longs().as_slice().is_empty());
     assert_eq!(rt; crate::closing_record(ruling, 8, false).persisted(), 7);
     assert!(rt; covered.sessions.contains(2));
     assert!(rt; !covered.sessions.contains(3));
     assert!(rt; !covered.sessions.contains(4));
+    Ok(())
+}
+
+#[test]
+fn a_long_commit_is_named_until_it_is_stamped(rt: HostRuntime) -> Result<(), Fail> {
+    let geometry = Geometry::new(8, 2, 4)?;
+    let mut longs = Longs::none();
+    longs.push(1);
+    let ruling = Record::new(4, 3, 8, Gaps::none(), longs);
+    let mut drawn = DrawnCommits::new(rt.alloc());
+    drawn.reserve()?;
+    drawn.push(deletion(2, 1, 0));
+    assert!(rt; crate::is_idle(geometry, ruling, 4, false, &drawn));
+    let again = begin(rt.alloc(), geometry, ruling, 4, &drawn)?.finish();
+    assert_eq!(rt; again.batch.commits().len(), 0);
+    assert_eq!(rt; again.record.longs().as_slice(), [1].as_slice());
+    drawn.stamp(1);
+    assert!(rt; !crate::is_idle(geometry, ruling, 4, false, &drawn));
+    let covered = begin(rt.alloc(), geometry, ruling, 4, &drawn)?.finish();
+    assert_eq!(rt; covered.batch.from(), 4);
+    assert_eq!(rt; covered.batch.commits().len(), 1);
+    assert!(rt; covered.batch.longs().as_slice().is_empty());
+    assert_eq!(rt; covered.record.persisted(), 3);
+    assert_eq!(rt; covered.record.dirty(), 8);
+    assert!(rt; covered.sessions.contains(2));
     Ok(())
 }

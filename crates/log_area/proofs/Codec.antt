@@ -1,16 +1,14 @@
 -- What the words of a place say of the record in it.
-use Rattle.std.proofs.Common.{◌≡◌, ℕ, ◌+◌, ◌-◌, ◌*◌, ◌/◌, ◌^◌, ◌<◌, ◌≤◌, Bool, true, false, ◌&&◌, List, [], ◌∷◌, length, get_or, drop, refl, sym, ◌∙◌, ap, arith, not, lit<, nat_lt, nat_le, unwrap_or, slice_get}
+use Rattle.std.proofs.Common.{◌≡◌, ◌⊎◌, inl, inr, ℕ, ◌+◌, ◌-◌, ◌*◌, ◌/◌, ◌%◌, ◌^◌, ◌<◌, ◌≤◌, Bool, true, false, ◌&&◌, List, [], ◌∷◌, length, get_or, drop, refl, sym, ◌∙◌, ap, arith, cond, lit<, nat_eq, nat_lt, unwrap_or, slice_get}
 use Rattle.std.specs.Prelude.{None}
-use Rattle.std.specs.List.{list_all}
-use Rattle.std.proofs.lemmas.Bool.{le-leb}
 use Rattle.std.proofs.lemmas.Bool.Decides.{nat_tests}
-use Rattle.std.proofs.lemmas.List.{nil_from_length, ext_get_or, length-drop, drop_more}
+use Rattle.std.proofs.lemmas.List.{ext_get_or, length-drop, drop_more}
 use Rattle.std.proofs.lemmas.Option.{unwrap_or-slice_get}
 use Rattle.base.specs.declared.gap.Gap.{Gap}
 use Rattle.base.specs.Layout.{most_longs}
-use Rattle.base.specs.Records.{Record, IsRecord, record_word, is_well_formed, no_gap, is_in, are_apart, are_rising}
-use Rattle.base.proofs.Spelling.{record_word-first, record_word-last, same_gap, same_record, few_gaps}
-use Rattle.log_area.specs.Codec.{IsReadFrom, are_within}
+use Rattle.base.specs.Records.{Record, IsRecord, record_word, no_gap, are_apart, are_rising}
+use Rattle.base.proofs.Spelling.{record_word-first, record_word-last, same_gap, record_word-long, same_record, few_gaps}
+use Rattle.log_area.specs.Codec.{IsReadFrom}
 
 -- ---- words of a record
 
@@ -34,42 +32,64 @@ pub apart_next : (gaps : List Gap) (i j : ℕ) (test : Bool) → i ≡ j + 1 →
     → are_apart (drop j gaps) ≡ (test && are_apart (drop i gaps))
 apart_next gaps i j test is h t = apart_step gaps i j is h ∙ ap (λ (b : Bool). b && are_apart (drop i gaps)) (sym t)
 
--- the parts of the test that are left where there are few gaps and no long commits
-pub formed-parts : (version : ℕ) (r : Record) → length r.gaps ≤ 8 → r.longs ≡ []
-    → is_well_formed version r ≡ ((nat_lt r.persisted r.dirty && nat_lt r.dirty (2 ^ 62)) && (are_within r.persisted r.gaps && are_apart r.gaps))
-formed-parts version r few none =
-    (λ i. nat_lt r.persisted r.dirty && nat_lt r.dirty (2 ^ 62)
-    && le-leb (length r.gaps) 8 few i && le-leb (length r.longs) (most_longs version) (omega (arith, ap (length {A = ℕ}) none)) i
-    && are_within r.persisted r.gaps && are_apart r.gaps
-    && list_all (λ t. nat_le 1 t && nat_le t r.persisted && not (is_in r.gaps t)) (none i) && are_rising (none i))
-    ∙ parts (nat_lt r.persisted r.dirty && nat_lt r.dirty (2 ^ 62)) (are_within r.persisted r.gaps) (are_apart r.gaps)
+-- ---- the order of long commits
+
+rising_step : (ts : List ℕ) (i j : ℕ) → i ≡ j + 1 → i < length ts → are_rising (drop j ts) ≡ (nat_lt (get_or ts j 0) (get_or ts i 0) && are_rising (drop i ts))
+rising_step ts i j is h =
+    let here : drop j ts ≡ get_or ts j 0 ∷ drop i ts = drop_more ts j 0 (omega arith) ∙ ap (λ (n : ℕ). get_or ts j 0 ∷ drop n ts) (sym is) in
+    let next : drop i ts ≡ get_or ts i 0 ∷ drop (i + 1) ts = drop_more ts i 0 h in
+    ap are_rising here ∙ ap (λ (l : List ℕ). are_rising (get_or ts j 0 ∷ l)) next
+    ∙ ap (λ (l : List ℕ). nat_lt (get_or ts j 0) (get_or ts i 0) && are_rising l) (sym next)
+
+-- a test between two decides, or leaves the rest to
+pub rising_next : (ts : List ℕ) (i j : ℕ) (test : Bool) → i ≡ j + 1 → i < length ts → test ≡ nat_lt (get_or ts j 0) (get_or ts i 0) → are_rising (drop j ts) ≡ (test && are_rising (drop i ts))
+rising_next ts i j test is h t = rising_step ts i j is h ∙ ap (λ (b : Bool). b && are_rising (drop i ts)) (sym t)
+
+-- with at most one left there is nothing to test
+pub rising_end : (ts : List ℕ) (i : ℕ) → length ts ≤ i + 1 → are_rising (drop i ts) ≡ true
+rising_end ts i h = short (drop i ts) (omega (arith, length-drop i ts))
   where
-    parts : (a w x : Bool) → (a && true && true && w && x && true && true) ≡ (a && (w && x))
-    parts true true true = refl
-    parts true true false = refl
-    parts true false x = refl
-    parts false w x = refl
+    short : (ts : List ℕ) → length ts ≤ 1 → are_rising ts ≡ true
+    short [] h = refl
+    short (a ∷ []) h = refl
+    short (a ∷ b ∷ ts) h = absurd (omega (arith, h))
 
 -- ---- one record fits
 
-module _ (version : ℕ) (words : List ℕ) (r : Record) (without : most_longs version ≡ 0) (is : IsRecord version words r) where
-  few : (length r.gaps ≤ 8) × (length r.longs ≤ 0)
-  few = let both = few_gaps version r is.well_formed in (both.0, omega (arith, both.1, without))
+few_longs : (version : ℕ) → most_longs version ≤ 12
+few_longs version = by_test (nat_eq version 1)
+  where
+    by_test : (b : Bool) → cond b 0 12 ≤ 12
+    by_test true = omega arith
+    by_test false = omega arith
 
-  pub count-words : get_or words 3 0 ≡ length r.gaps
-  count-words = omega (arith, is.each 3 (lit< tt), few.1)
+module _ (version : ℕ) (words : List ℕ) (r : Record) (is : IsRecord version words r) where
+  few : (length r.gaps ≤ 8) × (length r.longs ≤ 12)
+  few = let both = few_gaps version r is.well_formed in (both.0, omega (arith, both.1, few_longs version))
+
+  pub gap-count : get_or words 3 0 % 2 ^ 32 ≡ length r.gaps
+  gap-count = omega (arith, is.each 3 (lit< tt), few.0)
+
+  pub long-count : get_or words 3 0 / 2 ^ 32 ≡ length r.longs
+  long-count = omega (arith, is.each 3 (lit< tt), few.0)
+
+  -- words whose counts are too great hold none
+  pub too-many : (8 < get_or words 3 0 % 2 ^ 32) ⊎ (12 < get_or words 3 0 / 2 ^ 32) → ⊥
+  too-many (inl gaps) = omega (arith, gaps, gap-count, few.0)
+  too-many (inr longs) = omega (arith, longs, long-count, few.1)
 
   pub unique : (c : Record) → IsReadFrom words c → r ≡ c
   unique c read =
-      let none : r.longs ≡ [] = nil_from_length r.longs (omega (arith, few.1)) in
-      let count : length r.gaps ≡ length c.gaps = sym count-words ∙ sym read.count in
+      let gaps : length r.gaps ≡ length c.gaps = sym gap-count ∙ sym read.count in
+      let longs : length r.longs ≡ length c.longs = sym long-count ∙ sym read.long_count in
       same_record r c
       (sym (is.each 0 (lit< tt)) ∙ sym read.gate) (sym (is.each 1 (lit< tt)) ∙ sym read.persisted) (sym (is.each 2 (lit< tt)) ∙ sym read.dirty)
-      (ext_get_or no_gap r.gaps c.gaps count (λ k h.
+      (ext_get_or no_gap r.gaps c.gaps gaps (λ k h.
       same_gap (get_or r.gaps k no_gap) (get_or c.gaps k no_gap)
-      (sym (record_word-first r k (omega (arith, h, few.0))) ∙ sym (is.each (4 + 2 * k) (omega (arith, h, few.0))) ∙ sym (ap (λ (g : Gap). g.first) (read.gaps k (omega (arith, h, count)))))
-      (sym (record_word-last r k (omega (arith, h, few.0))) ∙ sym (is.each (5 + 2 * k) (omega (arith, h, few.0))) ∙ sym (ap (λ (g : Gap). g.last) (read.gaps k (omega (arith, h, count)))))))
-      (none ∙ sym read.longs)
+      (sym (record_word-first r k (omega (arith, h, few.0))) ∙ sym (is.each (4 + 2 * k) (omega (arith, h, few.0))) ∙ sym (ap (λ (g : Gap). g.first) (read.gaps k (omega (arith, h, gaps)))))
+      (sym (record_word-last r k (omega (arith, h, few.0))) ∙ sym (is.each (5 + 2 * k) (omega (arith, h, few.0))) ∙ sym (ap (λ (g : Gap). g.last) (read.gaps k (omega (arith, h, gaps)))))))
+      (ext_get_or 0 r.longs c.longs longs (λ k h.
+      sym (record_word-long r k) ∙ sym (is.each (20 + k) (omega (arith, h, few.1))) ∙ sym (read.longs k (omega (arith, h, longs)))))
 
 -- with at most one gap left there is nothing to test
 pub apart_end : (gaps : List Gap) (i : ℕ) → length gaps ≤ i + 1 → are_apart (drop i gaps) ≡ true

@@ -7,6 +7,7 @@ mod record;
 mod ruling;
 mod stage;
 mod superblock;
+mod updating;
 mod write;
 mod writing;
 
@@ -15,5 +16,6 @@ pub use record::Record;
 pub use ruling::Ruling;
 pub use stage::WritingStage;
 pub use superblock::{FORMATTED, read_geometry, write_geometry};
+pub use updating::update_version;
 pub use write::write_record;
 pub use writing::Writing;

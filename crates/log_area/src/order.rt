@@ -1,8 +1,9 @@
-ghost use Rattle.std.specs.Prelude.{◌≡◌, ◌+◌, ◌&&◌, nat_lt, nat_le};
-ghost use Rattle.base.specs.Records.{are_apart};
-ghost use Rattle.log_area.specs.Codec.{are_within};
+ghost use Rattle.std.specs.Prelude.{◌≡◌, ◌+◌, ◌&&◌, not, nat_lt, nat_le};
+ghost use Rattle.base.specs.Records.{is_in, are_apart, are_rising};
+ghost use Rattle.log_area.specs.Codec.{are_within, are_out_of};
 
-use base::gap::Gap;
+use base::Ts;
+use base::gap::{Gap, Gaps};
 
 // Does each gap go up, not past this timestamp, and end well before the next begins?
 pub fn are_in_order(gaps: &[Gap], persisted: u64) -> bool
@@ -40,4 +41,49 @@ fn ends_before(gap: Gap, next: Gap) -> bool
     ensures { result ≡ nat_lt (gap.last + 1) next.first }
 {
     1 < next.first && gap.last < next.first - 1
+}
+
+// Do the long commits rise, from 1 to this timestamp and in no gap?
+pub fn are_longs(longs: &[Ts], gaps: Gaps, persisted: u64) -> bool
+    ensures { result ≡ (are_out_of gaps persisted longs.now && are_rising longs.now) }
+{
+    are_out_of(gaps, persisted, longs) && are_rising(longs)
+}
+
+// Does each lie from 1 to this timestamp, in no gap?
+fn are_out_of(gaps: Gaps, persisted: u64, longs: &[Ts]) -> bool
+    ensures { result ≡ are_out_of gaps persisted longs.now }
+{
+    longs.iter().all(|long| is_out_of(gaps, persisted, *long))
+}
+
+fn is_out_of(gaps: Gaps, persisted: u64, timestamp: Ts) -> bool
+    ensures { result ≡ (nat_le 1 timestamp && nat_le timestamp persisted && not (is_in gaps timestamp)) }
+{
+    1 <= timestamp && timestamp <= persisted && !is_in(gaps, timestamp)
+}
+
+// Is each above the one before it?
+fn are_rising(timestamps: &[Ts]) -> bool
+    ensures { result ≡ are_rising timestamps.now }
+{
+    for i in 1..timestamps.len() {
+        if timestamps[i - 1] >= timestamps[i] {
+            return false;
+        }
+    }
+    true
+}
+
+// Does the timestamp lie in one of the gaps?
+pub fn is_in(gaps: Gaps, timestamp: Ts) -> bool
+    ensures { result ≡ is_in gaps timestamp }
+{
+    gaps.as_slice().iter().any(|gap| holds(*gap, timestamp))
+}
+
+fn holds(gap: Gap, timestamp: Ts) -> bool
+    ensures { result ≡ (nat_le gap.first timestamp && nat_le timestamp gap.last) }
+{
+    gap.first <= timestamp && timestamp <= gap.last
 }

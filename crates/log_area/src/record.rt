@@ -1,45 +1,50 @@
-ghost use Rattle.std.specs.Prelude.{◌≡◌, ◌&&◌, nat_le};
-ghost use Rattle.base.specs.Records.{is_in};
+ghost use Rattle.std.specs.Prelude.{◌≡◌, ◌+◌, ◌-◌, ◌*◌, ◌<◌, ◌≤◌, ◌&&◌, ℕ, length, nat_le, slice_index, slice_index_or};
+ghost use Rattle.base.specs.Layout.{most_longs};
+ghost use Rattle.base.specs.Records.{is_in, no_gap};
 
-use crate::order::are_in_order;
+use crate::order::{are_in_order, are_longs, is_in};
 use base::gap::{Gap, Gaps};
+use base::longs::Longs;
 use base::{NUMBER_LIMIT, Ts};
 use std::marker::Model;
 
-/// A group commit record: its number (the gate), the persisted and the dirty timestamp, and the gaps.
+// What a place's word 3 counts once for each long commit; once for each gap it counts 1.
+const LONG_COUNT: u64 = 1 << 32;
+
+/// A group commit record: its number (the gate), the persisted and the dirty timestamp, the gaps, and the long commits.
 #[derive(Clone, Copy, Debug, PartialEq, Eq)]
 pub struct Record {
     gate: u64,
     persisted: u64,
     dirty: u64,
     gaps: Gaps,
+    longs: Longs,
 }
 
 impl Model for Record {
-    ghost use Rattle.std.specs.Prelude.{[]};
     ghost use Rattle.base.specs.Records as records;
 
     ghost Value = { records.Record };
 
-    ghost view = { λ r. record { gate = r.gate; persisted = r.persisted; dirty = r.dirty; gaps = r.gaps; longs = [] } };
+    ghost view = { λ r. record { gate = r.gate; persisted = r.persisted; dirty = r.dirty; gaps = r.gaps; longs = r.longs } };
 
-    ghost inverse = { λ r. record { gate = r.gate; persisted = r.persisted; dirty = r.dirty; gaps = r.gaps } };
+    ghost inverse = { λ r. record { gate = r.gate; persisted = r.persisted; dirty = r.dirty; gaps = r.gaps; longs = r.longs } };
 }
 
 impl Record {
-    ghost use Rattle.std.specs.Prelude.{ℕ, ◌<◌, ◌≤◌, ◌↔◌, ◌^◌, nat_lt, [], IfSome, IfNone, IsTrue, length, slice_index};
-    ghost use Rattle.base.specs.Layout.{most_longs};
+    ghost use Rattle.std.specs.Prelude.{◌⊎◌, ◌↔◌, ◌^◌, ◌/◌, ◌%◌, nat_lt, IfSome, IfNone, IsTrue};
     ghost use Rattle.base.specs.Records.{Record as Value, IsRecord, is_committed, is_well_formed, record_word};
     ghost use Rattle.log_area.specs.Codec.{IsReadFrom, NoneFits, FillsWords};
 
-    pub fn new(gate: u64, persisted: u64, dirty: u64, gaps: Gaps) -> Record
-        ensures { result ≡ record { gate = gate; persisted = persisted; dirty = dirty; gaps = gaps; longs = [] } }
+    pub fn new(gate: u64, persisted: u64, dirty: u64, gaps: Gaps, longs: Longs) -> Record
+        ensures { result ≡ record { gate = gate; persisted = persisted; dirty = dirty; gaps = gaps; longs = longs } }
     {
         Record {
             gate,
             persisted,
             dirty,
             gaps,
+            longs,
         }
     }
 
@@ -50,7 +55,7 @@ impl Record {
         self.gate
     }
 
-    /// The last timestamp that is committed or lies in a gap.
+    /// The last timestamp that is committed, lies in a gap or is a long commit's.
     pub fn persisted(&self) -> u64
         ensures { result ≡ self.now.persisted }
     {
@@ -70,11 +75,21 @@ impl Record {
         self.gaps
     }
 
-    /// Does it commit the timestamp: is it persisted, and in no gap?
+    /// The timestamps up to the persisted one that are drawn and not yet covered.
+    pub fn longs(&self) -> Longs
+        ensures { result ≡ self.now.longs }
+    {
+        self.longs
+    }
+
+    /// Does it commit the timestamp: is it persisted, in no gap, and no long commit's?
     pub fn commits(&self, timestamp: Ts) -> bool
         ensures { result ≡ is_committed self.now timestamp }
     {
-        1 <= timestamp && timestamp <= self.persisted && !is_in(self.gaps, timestamp)
+        1 <= timestamp
+            && timestamp <= self.persisted
+            && !is_in(self.gaps, timestamp)
+            && !self.longs.contains(timestamp)
     }
 
     /// What a place that holds the record has in its word of this number.
@@ -86,9 +101,9 @@ impl Record {
             0 => self.gate,
             1 => self.persisted,
             2 => self.dirty,
-            3 => self.gaps.as_slice().len() as u64,
+            3 => self.count_word(),
             4..=19 => self.gap_word(word),
-            _ => 0,
+            _ => self.long_word(word),
         }
     }
 
@@ -105,9 +120,25 @@ impl Record {
         }
     }
 
-    /// The record that a place's words hold in an image of this version, if they hold one. Long commits aren't read yet.
+    // How many gaps there are, and how many long commits.
+    fn count_word(&self) -> u64
+        ensures { result ≡ length self.now.gaps + 2 ^ 32 * length self.now.longs }
+    {
+        self.gaps.as_slice().len() as u64 + LONG_COUNT * self.longs.as_slice().len() as u64
+    }
+
+    fn long_word(&self, word: usize) -> u64
+        requires { 20 ≤ word }
+        ensures { result ≡ slice_index self.now.longs (word - 20) }
+    {
+        match self.longs.as_slice().get(word - 20) {
+            Some(timestamp) => *timestamp,
+            None => 0,
+        }
+    }
+
+    /// The record that a place's words hold in an image of this version, if they hold one.
     pub fn from_words(words: &[u64], version: u64) -> Option<Record>
-        requires { most_longs version ≡ 0 }
         ensures read { IfSome result (IsRecord version words.now) }
         ensures refused { IfNone result (NoneFits version words.now) }
     {
@@ -122,28 +153,34 @@ impl Record {
     // The only record that the words may hold.
     fn candidate(words: &[u64]) -> Option<Record>
         ensures read { IfSome result (IsReadFrom words.now) }
-        ensures refused { IfNone result (length words.now ≡ 32 → 8 < slice_index words.now 3) }
+        ensures refused { IfNone result (length words.now ≡ 32
+            → (8 < slice_index words.now 3 % 2 ^ 32) ⊎ (12 < slice_index words.now 3 / 2 ^ 32)) }
     {
-        if words.len() != 32 || words[3] > Gaps::LIMIT as u64 {
+        if words.len() != 32 {
             return None;
         }
-        let mut gaps = Gaps::none();
-        for i in 0..words[3] as usize {
-            gaps.push(Gap {
-                first: words[4 + 2 * i],
-                last: words[5 + 2 * i],
-            });
+        let gaps = words[3] % LONG_COUNT;
+        let longs = words[3] / LONG_COUNT;
+        if gaps > Gaps::LIMIT as u64 || longs > Longs::LIMIT as u64 {
+            return None;
         }
-        Some(Record::new(words[0], words[1], words[2], gaps))
+        Some(Record::new(
+            words[0],
+            words[1],
+            words[2],
+            gaps_in(words, gaps as usize),
+            longs_in(words, longs as usize),
+        ))
     }
 
-    /// Are its timestamps and gaps such as a sound image of this version may have? No version forbids a record without
-    /// long commits.
+    /// Are its timestamps, gaps and long commits such as a sound image of this version may have?
     pub fn is_well_formed(&self, version: u64) -> bool
         ensures { result ≡ is_well_formed version self.now }
     {
-        let _ = version;
-        self.has_rising_timestamps() && are_in_order(self.gaps.as_slice(), self.persisted)
+        self.has_rising_timestamps()
+            && self.longs.as_slice().len() <= most_longs(version)
+            && are_in_order(self.gaps.as_slice(), self.persisted)
+            && are_longs(self.longs.as_slice(), self.gaps, self.persisted)
     }
 
     fn has_rising_timestamps(&self) -> bool
@@ -166,14 +203,41 @@ impl Record {
     }
 }
 
-fn is_in(gaps: Gaps, timestamp: Ts) -> bool
-    ensures { result ≡ is_in gaps timestamp }
+// How many long commits a record may name in an image of this version.
+fn most_longs(version: u64) -> usize
+    ensures { result ≡ most_longs version }
 {
-    gaps.as_slice().iter().any(|gap| holds(*gap, timestamp))
+    if version == 1 { 0 } else { Longs::LIMIT }
 }
 
-fn holds(gap: Gap, timestamp: Ts) -> bool
-    ensures { result ≡ (nat_le gap.first timestamp && nat_le timestamp gap.last) }
+// As many gaps as this from a place's words.
+fn gaps_in(words: &[u64], count: usize) -> Gaps
+    requires size { length words.now ≡ 32 }
+    requires few { count ≤ 8 }
+    ensures count { length result ≡ count }
+    ensures each { (k : ℕ) → k < count
+        → slice_index_or result k no_gap ≡ record { first = slice_index words.now (4 + 2 * k); last = slice_index words.now (5 + 2 * k) } }
 {
-    gap.first <= timestamp && timestamp <= gap.last
+    let mut gaps = Gaps::none();
+    for i in 0..count {
+        gaps.push(Gap {
+            first: words[4 + 2 * i],
+            last: words[5 + 2 * i],
+        });
+    }
+    gaps
+}
+
+// As many long commits as this from a place's words.
+fn longs_in(words: &[u64], count: usize) -> Longs
+    requires size { length words.now ≡ 32 }
+    requires few { count ≤ 12 }
+    ensures count { length result ≡ count }
+    ensures each { (k : ℕ) → k < count → slice_index result k ≡ slice_index words.now (20 + k) }
+{
+    let mut longs = Longs::none();
+    for i in 0..count {
+        longs.push(words[20 + i]);
+    }
+    longs
 }

@@ -1,5 +1,5 @@
 -- The ticks that make no operation: nothing is due, or a batch is chosen, or the tick is refused.
-use Rattle.std.proofs.Common.{◌≡◌, inl, inr, ℕ, ◌+◌, ◌^◌, ◌<◌, ◌≤◌, ◌&&◌, true, false, cond, List, [], map, refl, sym, ◌∙◌, ap, subst, arith, nat_eq, nat_le}
+use Rattle.std.proofs.Common.{◌≡◌, inl, inr, ℕ, ◌+◌, ◌^◌, ◌<◌, ◌≤◌, ◌&&◌, Bool, true, false, cond, List, [], length, map, refl, sym, ◌∙◌, ap, subst, arith, nat_eq, nat_le}
 use Rattle.std.specs.Prelude.{Option, Some, None}
 use Rattle.std.specs.List.{list_any}
 use Rattle.std.proofs.lemmas.Bool.{le-leb, lt-leb}
@@ -12,6 +12,7 @@ use Rattle.base.specs.declared.step.Reply.TheVariants.{Idle, Ticked, Refused}
 use Rattle.base.specs.Batches.{Batch}
 use Rattle.base.specs.Records.{Record, is_committed}
 use Rattle.base.specs.Machine.{State, Hand, is_idle, refusal, taken_in_hand, chosen, passed_over, target_of, batch_of}
+use Rattle.base.proofs.WellFormed.{well_formed-parts}
 use Rattle.pmem.specs.Device.{Device, IsOrderly}
 use Rattle.log_area.specs.declared.stage.WritingStage.TheVariants.{StoreBody, Done}
 use Rattle.log_area.specs.Rulings.{HoldsRecord}
@@ -19,11 +20,11 @@ use Rattle.log_area.specs.Writings.{Progress, begun}
 use Rattle.txn.specs.declared.drawn.DrawnCommit.{DrawnCommit}
 use Rattle.dirty_table.specs.Touches.{has}
 use Rattle.group_commit.specs.declared.stage.CycleStage.TheVariants.{FlushLines}
-use Rattle.group_commit.specs.Choosing.{reach_of, commit_of, IsBeginFault}
+use Rattle.group_commit.specs.Choosing.{reach_of, longs_of, commit_of, IsBeginFault}
 use Rattle.group_commit.specs.Choosing as group
 use Rattle.group_commit.specs.Cycles.{Cycling}
 use Rattle.group_commit.proofs.Counting.{ticks-are_counted}
-use Rattle.state_invariant.specs.Kept.{Origin}
+use Rattle.state_invariant.specs.Kept.{Origin, Keeps}
 use Rattle.state_invariant.proofs.Choosing.{keeps-chosen}
 use Rattle.device_invariant.specs.Log.{HoldsHand as LogHoldsHand}
 use Rattle.device_invariant.specs.Upholds.{Upholds}
@@ -31,11 +32,10 @@ use Rattle.cycle_invariant.specs.Leads.{Ticks}
 use Rattle.cycle_invariant.proofs.Ticks.{idle-ticks, choosing-ticks, refused-ticks}
 use Rattle.session_steps.specs.declared.sessions.Sessions.{Sessions}
 use Rattle.session_steps.specs.Shows.{plain_drawn, line_numbers}
-use Rattle.session_steps.proofs.Snapshots.{no-longs}
 use Rattle.session_steps.proofs.Hands.{shows-hand}
 use Rattle.room.specs.Committing.{HoldsHand, HoldsCycle, ShowsIn}
 use Rattle.room.specs.Steps.{StepsToIn}
-use Rattle.room.proofs.Chosen.{reach-same, commits-same, idle-same}
+use Rattle.room.proofs.Chosen.{reach-same, commits-same, longs-same, idle-same}
 
 -- without a cycle nothing is in hand
 pub rests-of : (q : State) (drawn : List DrawnCommit) → HoldsCycle q drawn q.hand None → q.hand ≡ None
@@ -54,6 +54,19 @@ gate-below s device q shows =
     let is : q.ruling.gate ≡ s.numbers.record.gate = ap (λ (p : State). p.ruling.gate) shows.shown.plain in
     let holds : HoldsRecord q.layout q.ruling device = subst (λ (hand : Option Hand). LogHoldsHand q device hand) (rests-of q s.drawn.commits shows.cycle_is) shows.shown.upholds.holds.log in
     omega (arith, is, holds.stands.fits.in_range)
+
+-- the next record names no more long commits than it has words for
+pub few-passed : (s : Sessions) (device : Device) (q : State) → ShowsIn s None device q → length (longs_of s.numbers.geometry s.numbers.record s.drawn.commits) ≤ 12
+few-passed s device q shows =
+    let keeps : Keeps shows.shown.hidden.origin q = shows.shown.upholds.keeps in
+    let formed = well_formed-parts q.layout.version (target_of q) (keeps-chosen shows.shown.hidden.origin q keeps).formed in
+    let passed : passed_over q ≡ longs_of q.layout q.ruling s.drawn.commits = longs-same shows.shown.hidden.origin q s.drawn.commits keeps (ap (λ (p : State). p.drawn) shows.shown.plain) in
+    let same : length (passed_over q) ≡ length (longs_of s.numbers.geometry s.numbers.record s.drawn.commits) = ap (λ (ts : List ℕ). length ts) (passed ∙ ap (λ (p : State). longs_of p.layout p.ruling s.drawn.commits) shows.shown.plain) in
+    omega (arith, same, formed.fewer, few-longs (nat_eq q.layout.version 1))
+  where
+    few-longs : (b : Bool) → cond b 0 12 ≤ 12
+    few-longs true = omega arith
+    few-longs false = omega arith
 
 -- a tick without an operation, whose reply isn't the device's
 quietly : (o : Origin) (q q' : State) (reply : Reply) (device : Device) (sessions : Sessions) (cycle : Option Cycling) → Ticks o q q' reply device device → ShowsIn sessions cycle device q' → (reply ≡ Refused DeviceFault → ⊥)
@@ -96,14 +109,11 @@ module _ (s : Sessions) (device : Device) (orderly : IsOrderly device) (q : Stat
   drawn : q.drawn ≡ map plain_drawn ds
   drawn = ap (λ (p : State). p.drawn) shows.shown.plain
 
-  longs-none : passed_over q ≡ []
-  longs-none = no-longs q.layout (target_of q) upholds.keeps.numbers.layout (keeps-chosen o q upholds.keeps).formed
-
   due-same : is_idle q ≡ group.is_idle s.numbers.geometry s.numbers.record s.numbers.next s.collector.swept ds
   due-same = idle-same o q ds upholds.keeps drawn s.collector.swept swept ∙ λ i. group.is_idle (layout i) (ruling i) (next i) s.collector.swept ds
 
   abbrev record_is : Record
-  record_is = group.record_of s.numbers.geometry s.numbers.record s.numbers.next s.collector.swept (reach_of s.numbers.record ds)
+  record_is = group.record_of s.numbers.geometry s.numbers.record s.numbers.next s.collector.swept ds
 
   target-same : target_of q ≡ record_is
   target-same =
@@ -112,9 +122,9 @@ module _ (s : Sessions) (device : Device) (orderly : IsOrderly device) (q : Stat
         persisted = reach-same o q ds upholds.keeps drawn i;
         dirty = q.next + q.layout.window;
         gaps = cond (swept i) [] q.ruling.gaps;
-        longs = longs-none i;
+        longs = longs-same o q ds upholds.keeps drawn i;
       })
-      ∙ λ i. group.record_of (layout i) (ruling i) (next i) s.collector.swept (reach_of (ruling i) ds)
+      ∙ λ i. group.record_of (layout i) (ruling i) (next i) s.collector.swept ds
 
   -- ---- nothing is due
 
@@ -167,10 +177,10 @@ module _ (s : Sessions) (device : Device) (orderly : IsOrderly device) (q : Stat
       target-is = ap (λ (p : Progress). p.target) writing ∙ sym target-same
 
       commits-are : chosen q ≡ map commit_of (group.chosen record_is.persisted ds)
-      commits-are = commits-same o q ds upholds.keeps drawn ∙ λ i. map commit_of (group.chosen (reach_of (ruling i) ds) ds)
+      commits-are = commits-same o q ds upholds.keeps drawn ∙ λ i. map commit_of (group.chosen (reach_of (layout i) (ruling i) ds) ds)
 
       batch-same : batch_of q (taken_in_hand q) ≡ group.batch_of s.numbers.record record_is ds
-      batch-same = λ i. let b : Batch = record { from = (ruling i).gate; stamp = (target-same i).gate; persisted = (target-same i).persisted; commits = commits-are i } in b
+      batch-same = λ i. let b : Batch = record { from = (ruling i).gate; stamp = (target-same i).gate; persisted = (target-same i).persisted; longs = (target-same i).longs; commits = commits-are i } in b
 
       holds : HoldsHand taken ds (taken_in_hand q) cycle
       holds = record {

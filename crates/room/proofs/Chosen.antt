@@ -1,4 +1,5 @@
--- The drawn commits that a cycle takes are the batch that the machine chooses.
+-- The drawn commits that a cycle takes are the batch that the machine chooses, and its record names those that the machine
+-- passes over.
 use Rattle.std.proofs.Common.{◌≡◌, ℕ, ◌+◌, ◌-◌, ◌*◌, Bool, true, false, cond, not, ◌&&◌, ◌||◌, List, [], ◌∷◌, map, filter, fold, refl, ◌∙◌, ap, nat_eq, nat_lt, nat_le}
 use Rattle.std.specs.Prelude.{max}
 use Rattle.std.specs.List.{list_any}
@@ -6,19 +7,18 @@ use Rattle.std.proofs.lemmas.List.{length-map}
 use Rattle.std.proofs.lemmas.Simd.{map-map}
 use Rattle.base.specs.Layout.{most_longs}
 use Rattle.base.specs.Commits.{Commit}
-use Rattle.base.specs.Machine.{State, Drawn, is_stamped, is_nil, is_idle, is_chosen, chosen, reach, has_other_reason_to_write}
+use Rattle.base.specs.Machine.{State, Drawn, is_stamped, is_nil, is_idle, is_chosen, is_passed, chosen, passed_over, reach, has_other_reason_to_write}
 use Rattle.txn.specs.declared.drawn.DrawnCommit.{DrawnCommit}
 use Rattle.txn.specs.DrawnCommits.{Walk, walk_on}
 use Rattle.txn.specs.DrawnCommits as drawn
 use Rattle.txn.specs.WriteSets.{plain_write}
-use Rattle.group_commit.specs.Choosing.{reach_of, commit_of}
+use Rattle.group_commit.specs.Choosing.{reach_of, longs_of, commit_of}
 use Rattle.group_commit.specs.Choosing as group
 use Rattle.state_invariant.specs.Kept.{Origin, Keeps}
 use Rattle.cycle_invariant.specs.Batches.{reach_from}
 use Rattle.cycle_invariant.proofs.Passes.{pass-finds}
 use Rattle.session_steps.specs.Shows.{plain_drawn}
 use Rattle.session_steps.proofs.Filters.{filter-map}
-use Rattle.session_steps.proofs.Snapshots.{known-long, version-known}
 
 -- ---- how far its record reaches
 
@@ -56,28 +56,41 @@ nil-filter p (x ∷ xs) = by (p x) (nil-filter p xs)
     by false rest = rest
 
 module _ (o : Origin) (q : State) (ds : List DrawnCommit) (kept : Keeps o q) (is : q.drawn ≡ map plain_drawn ds) where
-  pub reach-same : reach q ≡ reach_of q.ruling ds
+  pub reach-same : reach q ≡ reach_of q.layout q.ruling ds
   reach-same =
       pass-finds o q kept
-      ∙ ap (λ (most : ℕ). reach_from most q.ruling.persisted 0 q.drawn) (known-long q.layout.version (version-known q.layout kept.numbers.layout))
-      ∙ ap (reach_from 0 q.ruling.persisted 0) is
-      ∙ walk-same 0 q.ruling.persisted 0 ds
+      ∙ ap (reach_from (most_longs q.layout.version) q.ruling.persisted 0) is
+      ∙ walk-same (most_longs q.layout.version) q.ruling.persisted 0 ds
 
   -- ---- the batch
 
-  chosen-same : filter (is_chosen q) q.drawn ≡ map plain_drawn (group.chosen (reach_of q.ruling ds) ds)
+  chosen-same : filter (is_chosen q) q.drawn ≡ map plain_drawn (group.chosen (reach_of q.layout q.ruling ds) ds)
   chosen-same =
       ap (filter (is_chosen q)) is
       ∙ filter-map plain_drawn (is_chosen q) ds
       ∙ λ i. map plain_drawn (filter (λ (d : DrawnCommit). stamped-same d i && nat_le d.timestamp (reach-same i)) ds)
 
-  pub commits-same : chosen q ≡ map commit_of (group.chosen (reach_of q.ruling ds) ds)
-  commits-same = ap (map (λ (d : Drawn). d.commit)) chosen-same ∙ map-map (λ (d : Drawn). d.commit) plain_drawn (group.chosen (reach_of q.ruling ds) ds)
+  pub commits-same : chosen q ≡ map commit_of (group.chosen (reach_of q.layout q.ruling ds) ds)
+  commits-same = ap (map (λ (d : Drawn). d.commit)) chosen-same ∙ map-map (λ (d : Drawn). d.commit) plain_drawn (group.chosen (reach_of q.layout q.ruling ds) ds)
+
+  -- ---- what its record names
+
+  passed-same : filter (is_passed q) q.drawn ≡ map plain_drawn (filter (drawn.is_passed (reach_of q.layout q.ruling ds)) ds)
+  passed-same =
+      ap (filter (is_passed q)) is
+      ∙ filter-map plain_drawn (is_passed q) ds
+      ∙ λ i. map plain_drawn (filter (λ (d : DrawnCommit). not (stamped-same d i) && nat_le d.timestamp (reach-same i)) ds)
+
+  pub longs-same : passed_over q ≡ longs_of q.layout q.ruling ds
+  longs-same =
+      ap (map (λ (d : Drawn). d.commit.timestamp)) passed-same
+      ∙ map-map (λ (d : Drawn). d.commit.timestamp) plain_drawn (filter (drawn.is_passed (reach_of q.layout q.ruling ds)) ds)
 
   -- ---- what is due
 
   pub idle-same : (swept : Bool) → q.swept ≡ swept → is_idle q ≡ group.is_idle q.layout q.ruling q.next swept ds
   idle-same swept has =
       ap (λ (cs : List Commit). is_nil cs && not (has_other_reason_to_write q)) commits-same
-      ∙ ap (λ (b : Bool). b && not (has_other_reason_to_write q)) (nil-map commit_of (group.chosen (reach_of q.ruling ds) ds) ∙ nil-filter (group.is_chosen (reach_of q.ruling ds)) ds)
-      ∙ λ i. not (list_any (group.is_chosen (reach_of q.ruling ds)) ds) && not (nat_lt (2 * (q.ruling.dirty - q.next)) q.layout.window || has i && not (is_nil q.ruling.gaps))
+      ∙ ap (λ (b : Bool). b && not (has_other_reason_to_write q))
+      (nil-map commit_of (group.chosen (reach_of q.layout q.ruling ds) ds) ∙ nil-filter (group.is_chosen (reach_of q.layout q.ruling ds)) ds)
+      ∙ λ i. not (list_any (group.is_chosen (reach_of q.layout q.ruling ds)) ds) && not (nat_lt (2 * (q.ruling.dirty - q.next)) q.layout.window || has i && not (is_nil q.ruling.gaps))

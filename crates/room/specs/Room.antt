@@ -57,10 +57,11 @@ pub record RunsTo {D : Type 0} {G : Ghosts D} (state : D → Device) (old new : 
   pub failure : TellsFailure (device_of state old) (device_of state new) (Contains replies (Refused DeviceFault))
   pub operations : operations_of (device_of state new) ≤ operations_of (device_of state old) + most_operations_along q steps states
 
--- the numbers and the gaps of the state
+-- the numbers, the gaps and the long commits of the state
 pub record ShowsStatus (q : State) (status : Status) : Type 0 where
   pub gate : status.gate ≡ q.ruling.gate
   pub persisted : status.persisted ≡ q.ruling.persisted
   pub dirty : status.dirty ≡ q.ruling.dirty
   pub next : status.next ≡ q.next
   pub gaps : status.gaps ≡ q.ruling.gaps
+  pub longs : status.longs ≡ q.ruling.longs

@@ -96,6 +96,7 @@ impl<D: Pmem + Drop> Room<D> {
             dirty: numbers.record.dirty(),
             next: numbers.next,
             gaps: numbers.record.gaps(),
+            longs: numbers.record.longs(),
         }
     }
 }

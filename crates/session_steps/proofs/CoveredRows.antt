@@ -1,5 +1,5 @@
 -- The covered rows on a device.
-use Rattle.std.proofs.Common.{◌≡◌, inl, ℕ, Bool, true, List, [], take, length, refl, sym, ◌∙◌, subst, arith}
+use Rattle.std.proofs.Common.{◌≡◌, inl, ℕ, Bool, true, List, take, length, refl, sym, subst, arith}
 use Rattle.std.proofs.lemmas.List.{take_all}
 use Rattle.base.specs.declared.key.Key.{Key}
 use Rattle.base.specs.Commits.{Commit, Tables, after, Lists}
@@ -8,7 +8,7 @@ use Rattle.pmem.specs.Device.{Device, IsOrderly}
 use Rattle.device_invariant.specs.Upholds.{Upholds}
 use Rattle.base.specs.Layout.{total_words}
 use Rattle.pmem.specs.Words.{image_of}
-use Rattle.snapshot.specs.Snapshots.{Seen, covers}
+use Rattle.snapshot.specs.Snapshots.{Seen, covers, seen_by}
 use Rattle.gap_list.specs.GapLists.{is_gap_list}
 use Rattle.index.specs.declared.ranges.KeyRange.TheVariants.{All}
 use Rattle.index.specs.Reading.{CountsAs, ShowsTables, ranged}
@@ -19,7 +19,6 @@ use Rattle.session_steps.specs.declared.sessions.Sessions.{Sessions}
 use Rattle.session_steps.specs.Shows.{Hidden, plain_of, Agrees, Shows, ShowsAny}
 use Rattle.gap_list.proofs.Tidy.{well_formed-tidy}
 use Rattle.session_steps.proofs.Reading.{laid-out, words-are}
-use Rattle.session_steps.proofs.Snapshots.{no-longs}
 
 upheld : (s : Sessions) (device : Device) (q : State) (shown : Shows s device q) → Upholds shown.hidden.origin (plain_of s shown.hidden) device
 upheld s device q shown = subst (λ (p : State). Upholds shown.hidden.origin p device) shown.plain shown.upholds
@@ -32,7 +31,7 @@ words-shown s device orderly (q, shown) = words-are shown.hidden.origin (plain_o
 
 -- what the present snapshot sees are the rows of the tables
 pub tables-read : (s : Sessions) (device : Device) (snapshot : Seen) (rows : List (Key × List ℕ)) → IsOrderly device
-    → snapshot ≡ record { persisted = s.numbers.record.persisted; gaps = s.numbers.record.gaps; longs = [] }
+    → snapshot ≡ seen_by s.numbers.record
     → ((counts : ℕ → Bool) (tables : Tables) → CountsAs counts snapshot s.numbers.geometry (image_of device) → ShowsTables counts s.numbers.geometry (image_of device) tables → Lists rows (ranged All tables))
     → (q : State) → Shows s device q → Lists rows (after q.history)
 tables-read s device snapshot rows orderly is read q shown = subst (λ (p : State). Lists rows (after p.history)) (sym shown.plain) listed
@@ -47,10 +46,7 @@ tables-read s device snapshot rows orderly is read q shown = subst (λ (p : Stat
     agrees = subst (λ (p : State). Agrees s h.origin h.seen p) shown.plain shown.agrees
 
     sees : Sees h.origin (plain_of s h) snapshot (length h.history)
-    sees =
-        let none : s.numbers.record.longs ≡ [] = no-longs s.numbers.geometry s.numbers.record upholds.keeps.numbers.layout upholds.keeps.numbers.formed in
-        subst (λ (x : Seen). Sees h.origin (plain_of s h) x (length h.history)) ((λ i. record { persisted = s.numbers.record.persisted; gaps = s.numbers.record.gaps; longs = none i }) ∙ sym is)
-        (present-sees h.origin (plain_of s h) upholds.keeps)
+    sees = subst (λ (x : Seen). Sees h.origin (plain_of s h) x (length h.history)) (sym is) (present-sees h.origin (plain_of s h) upholds.keeps)
 
     reading : ReadsBy (covers snapshot) s.numbers.geometry (after (take (length h.history) h.history)) (image_of device)
     reading = reads h.origin (plain_of s h) device snapshot (length h.history) orderly upholds (inl refl) sees

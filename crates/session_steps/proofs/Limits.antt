@@ -1,5 +1,5 @@
 -- What the numbers of the sessions keep to.
-use Rattle.std.proofs.Common.{◌≡◌, ℕ, ◌^◌, ◌≤◌, true, arith}
+use Rattle.std.proofs.Common.{◌≡◌, ◌^◌, ◌≤◌, true, arith}
 use Rattle.gap_list.specs.GapLists.{is_gap_list}
 use Rattle.gap_list.proofs.Tidy.{well_formed-tidy}
 use Rattle.session_steps.specs.declared.sessions.Sessions.{Sessions}

@@ -18,7 +18,7 @@ use Rattle.base.specs.SessionSteps.{as_step, as_reply}
 use Rattle.base.specs.Stands.{has_timestamp}
 use Rattle.base.specs.Records.{is_committed}
 use Rattle.base.specs.Machine.{State, Session, Drawn as PlainDrawn, Active as Reads, IsDrawn, IsStamped, IsCovered, refused, answered, memory_refused, refusal, session_of, allows, standing_of, replaced, with_session, drawn_at, polled}
-use Rattle.snapshot.specs.Snapshots.{Seen}
+use Rattle.snapshot.specs.Snapshots.{Seen, seen_by}
 use Rattle.txn.specs.declared.drawn.DrawnCommit.{DrawnCommit}
 use Rattle.txn.specs.declared.transaction.Transaction.{Transaction}
 use Rattle.txn.specs.declared.transaction.Transaction.TheVariants.{Active, Drawn, ReadOnly}
@@ -37,7 +37,6 @@ use Rattle.session_steps.proofs.OneSet.{replaced-same, replaced-other, sessions-
 use Rattle.session_steps.proofs.Refusals.{refused-absent, refused-misplaced, passes, refusal-begin, is_of_active, others-bar}
 use Rattle.session_invariant.proofs.Present.{present-sees}
 use Rattle.session_steps.proofs.Tests.{unfound, same-drawers}
-use Rattle.session_steps.proofs.Snapshots.{no-longs}
 
 -- ---- refusals
 
@@ -110,7 +109,7 @@ covered-or-drawn s h n t holds at = by (commit_at t s.drawn.commits) (drawn-plai
 
 -- ---- Begin
 
-pub begins : (s : Sessions) (ts : List (Option Transaction)) (n : ℕ) (snapshot : Seen) (h : Hidden) → IsLowestFree s.transactions n → snapshot ≡ record { persisted = s.numbers.record.persisted; gaps = s.numbers.record.gaps; longs = [] }
+pub begins : (s : Sessions) (ts : List (Option Transaction)) (n : ℕ) (snapshot : Seen) (h : Hidden) → IsLowestFree s.transactions n → snapshot ≡ seen_by s.numbers.record
     → Sets s.transactions ts n (Some (Active snapshot [])) → Holds s h → Goes s (record s { transactions = ts }) Begin (Began n) h
 begins s ts n snapshot h lowest is sets holds = record {
   next = record h { seen = seen };
@@ -133,8 +132,7 @@ begins s ts n snapshot h lowest is sets holds = record {
     sees : Sees h.origin (plain_of (record s { transactions = ts }) (record h { seen = seen })) snapshot (length h.history)
     sees =
         let present = present-sees h.origin (plain_of s h) holds.keeps in
-        let none : s.numbers.record.longs ≡ [] = no-longs s.numbers.geometry s.numbers.record holds.keeps.numbers.layout holds.keeps.numbers.formed in
-        let all : Sees h.origin (plain_of s h) snapshot (length h.history) = subst (λ (x : Seen). Sees h.origin (plain_of s h) x (length h.history)) ((λ i. record { persisted = s.numbers.record.persisted; gaps = s.numbers.record.gaps; longs = none i }) ∙ sym is) present in
+        let all : Sees h.origin (plain_of s h) snapshot (length h.history) = subst (λ (x : Seen). Sees h.origin (plain_of s h) x (length h.history)) (sym is) present in
         record { covered = all.covered; early = all.early }
 
 -- a begin that finds no number, or no memory

@@ -67,7 +67,6 @@ use Rattle.session_steps.proofs.OpenedSlots.{read-key}
 use Rattle.session_steps.proofs.Reading.{laid-out, words-are}
 use Rattle.session_steps.proofs.Stepping.{take-only}
 use Rattle.session_steps.proofs.Tests.{same-drawers}
-use Rattle.session_steps.proofs.Snapshots.{no-longs}
 
 -- ---- whose operations they are, and what they leave
 
@@ -215,7 +214,7 @@ module _ (s : Sessions) (h : Hidden) (before now : Device) (holds : HoldsOn s h 
 
   -- ---- a slot
 
-  module _ (lt : place < a.slots) (at : is_at_slot q ≡ true) (ruling : Seen) (ruled : ruling ≡ record { persisted = s.numbers.record.persisted; gaps = s.numbers.record.gaps; longs = [] }) (run : Runs ops before now) where
+  module _ (lt : place < a.slots) (at : is_at_slot q ≡ true) (ruling : Seen) (ruled : ruling ≡ seen_by s.numbers.record) (run : Runs ops before now) where
     abbrev held : ℕ → Option Version
     held = held_after_visit q place
 
@@ -231,9 +230,7 @@ module _ (s : Sessions) (h : Hidden) (before now : Device) (holds : HoldsOn s h 
     -- a version is garbage where all cover its end
     covered-garbage : (v : Version) → h.held place ≡ Some v → covered ≡ is_garbage q place
     covered-garbage v there =
-        let none = no-longs a s.numbers.record u.keeps.numbers.layout u.keeps.numbers.formed in
-        let present : ruling ≡ seen_by s.numbers.record = ruled ∙ sym (λ i. record { persisted = s.numbers.record.persisted; gaps = s.numbers.record.gaps; longs = none i }) in
-        (λ i. covers (present i) end && list_all (λ n. covered-same end (h.seen n) (transaction_at s.transactions n) i) session_numbers)
+        (λ i. covers (ruled i) end && list_all (λ n. covered-same end (h.seen n) (transaction_at s.transactions n) i) session_numbers)
         ∙ ends-tell-garbage h.origin q before snapshots place v holds.works orderly u (λ n begun writes active. sees-in h.origin q n (h.seen n) (transaction_at s.transactions n) begun writes (holds.agrees.sessions n) active) lt there
 
     bare-live : h.held place ≡ None → is_garbage q place ≡ false
@@ -419,7 +416,7 @@ module _ (s : Sessions) (h : Hidden) (before now : Device) (holds : HoldsOn s h 
           (λ slot below. ap (λ (xs : List Bool). slice_get xs slot) freed ∙ free-then slot below) (ap (λ (xs : List Bool). length xs) freed ∙ counted-then covered) room entries)
 
   -- by what the code has of it
-  pub collects-at : (slot : ℕ) (ruling : Seen) (collector : Collector) (slots : List Bool) (index : List (Key × Entry)) → ruling ≡ record { persisted = s.numbers.record.persisted; gaps = s.numbers.record.gaps; longs = [] }
+  pub collects-at : (slot : ℕ) (ruling : Seen) (collector : Collector) (slots : List Bool) (index : List (Key × Entry)) → ruling ≡ seen_by s.numbers.record
       → Slot slot ≡ visit_at a place → collector ≡ moved_on a s.collector → slots ≡ freed_at a place (all_cover ruling s.transactions) (value_of before) s.slots → Runs ops before now
       → ForgetsAt a (value_of now) slot slots s.index index → KeepsRoom s.index index
       → (q' : State) × CollectsTo s (record s { collector = collector; slots = slots; index = index }) before now (Ok (Slot slot)) q q'

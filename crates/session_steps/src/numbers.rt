@@ -1,5 +1,6 @@
-ghost use Rattle.std.specs.Prelude.{◌≡◌, ◌+◌, ◌*◌, ◌^◌, ◌<◌, ◌≤◌, [], nat_eq, nat_le, IsTrue};
+ghost use Rattle.std.specs.Prelude.{◌≡◌, ◌+◌, ◌*◌, ◌^◌, ◌<◌, ◌≤◌, nat_eq, nat_le, IsTrue};
 ghost use Rattle.gap_list.specs.GapLists.{is_gap_list};
+ghost use Rattle.snapshot.specs.Snapshots.{seen_by};
 
 use base::geometry::Geometry;
 use base::{NUMBER_LIMIT, Ts};
@@ -19,9 +20,10 @@ impl Numbers {
     /// What the record covers.
     pub fn snapshot(&self) -> Snapshot
         requires { IsTrue (is_gap_list self.now.record.gaps) }
-        ensures { result ≡ record { persisted = self.now.record.persisted; gaps = self.now.record.gaps; longs = [] } }
+        ensures { result ≡ seen_by self.now.record }
     {
-        Snapshot::new(self.record.persisted(), GapList::of(self.record.gaps()))
+        let gaps = GapList::of(self.record.gaps());
+        Snapshot::new(self.record.persisted(), gaps, self.record.longs())
     }
 
     /// Is no timestamp left that the record reserves?
@@ -55,17 +57,21 @@ impl Numbers {
 mod tests {
     use super::*;
     use base::gap::Gaps;
+    use base::longs::Longs;
     use std::test::Fail;
 
     #[test]
     fn timestamps_are_drawn_up_to_the_dirty_one(rt: HostRuntime) -> Result<(), Fail> {
+        let mut longs = Longs::none();
+        longs.push(12);
         let mut numbers = Numbers {
             geometry: Geometry::new(16, 4, 64)?,
-            record: Record::new(3, 18, 20, Gaps::none()),
+            record: Record::new(3, 18, 20, Gaps::none(), longs),
             next: 19,
         };
         let snapshot = numbers.snapshot();
         assert!(rt; snapshot.covers(18));
+        assert!(rt; !snapshot.covers(12));
         assert!(rt; !snapshot.covers(19));
         assert!(rt; !numbers.is_window_full());
         assert!(rt; !numbers.is_near_limit());

@@ -4,6 +4,7 @@
 ghost use Rattle.std.specs.Prelude.{◌≡◌};
 
 use base::Ts;
+use base::longs::Longs;
 use gap_list::GapList;
 use std::marker::Model;
 
@@ -12,32 +13,35 @@ use std::marker::Model;
 pub struct Snapshot {
     persisted: Ts,
     gaps: GapList,
+    longs: Longs,
 }
 
 impl Model for Snapshot {
-    ghost use Rattle.std.specs.Prelude.{[]};
     ghost use Rattle.snapshot.specs.Snapshots.{Seen};
 
     ghost Value = { Seen };
 
-    ghost view = { λ s. record { persisted = s.persisted; gaps = s.gaps; longs = [] } };
+    ghost view = { λ s. record { persisted = s.persisted; gaps = s.gaps; longs = s.longs } };
 
-    ghost inverse = { λ s. record { persisted = s.persisted; gaps = s.gaps } };
+    ghost inverse = { λ s. record { persisted = s.persisted; gaps = s.gaps; longs = s.longs } };
 }
 
 impl Snapshot {
-    ghost use Rattle.std.specs.Prelude.{[]};
     ghost use Rattle.base.specs.Records.{Record, is_committed};
     ghost use Rattle.snapshot.specs.Snapshots.{covers, seen_by};
 
-    /// What a record with these numbers and these gaps covers.
-    pub fn new(persisted: Ts, gaps: GapList) -> Snapshot
-        ensures { result ≡ record { persisted = persisted; gaps = gaps; longs = [] } }
+    /// What a record with this persisted timestamp, these gaps and these long commits covers.
+    pub fn new(persisted: Ts, gaps: GapList, longs: Longs) -> Snapshot
+        ensures { result ≡ record { persisted = persisted; gaps = gaps; longs = longs } }
     {
-        Snapshot { persisted, gaps }
+        Snapshot {
+            persisted,
+            gaps,
+            longs,
+        }
     }
 
-    /// The last timestamp that is covered or lies in a gap.
+    /// The last timestamp that is covered, lies in a gap or is a long commit's.
     pub fn persisted(&self) -> Ts
         ensures { result ≡ self.now.persisted }
     {
@@ -51,12 +55,19 @@ impl Snapshot {
         self.gaps
     }
 
+    /// The long commits: drawn, at most the persisted timestamp, and not covered.
+    pub fn longs(&self) -> Longs
+        ensures { result ≡ self.now.longs }
+    {
+        self.longs
+    }
+
     /// Whether the commit of this timestamp is covered: whether a record with these numbers commits it.
     pub fn covers(&self, ts: Ts) -> bool
         ensures covers { result ≡ covers self.now ts }
         ensures of_record { (r : Record) → self.now ≡ seen_by r → result ≡ is_committed r ts }
     {
-        1 <= ts && ts <= self.persisted && !self.gaps.holds(ts)
+        1 <= ts && ts <= self.persisted && !self.gaps.holds(ts) && !self.longs.contains(ts)
     }
 }
 
@@ -66,18 +77,23 @@ mod tests {
     use std::test::Fail;
 
     #[test]
-    fn commits_in_gaps_are_not_covered(rt: HostRuntime) -> Result<(), Fail> {
+    fn commits_in_gaps_and_long_commits_are_not_covered(rt: HostRuntime) -> Result<(), Fail> {
         let mut gaps = GapList::none();
         gaps.add(2, 9)?;
-        let snapshot = Snapshot::new(18, gaps);
+        let mut longs = Longs::none();
+        longs.push(12);
+        let snapshot = Snapshot::new(18, gaps, longs);
         assert_eq!(rt; snapshot.persisted(), 18);
         assert!(rt; snapshot.gaps().holds(9));
+        assert!(rt; snapshot.longs().contains(12));
         for (ts, covered) in [
             (0, false),
             (1, true),
             (2, false),
             (9, false),
             (10, true),
+            (12, false),
+            (13, true),
             (18, true),
             (19, false),
         ] {

@@ -1,5 +1,5 @@
 -- Commits that are drawn and not covered.
-use Rattle.std.specs.Prelude.{ℕ, Bool, ◌+◌, ◌&&◌, max, fold, nat_eq, nat_le, nat_lt, length, find, if◌then◌else◌, List, Option}
+use Rattle.std.specs.Prelude.{ℕ, Bool, ◌+◌, ◌&&◌, not, max, fold, filter, map, nat_eq, nat_le, nat_lt, length, find, if◌then◌else◌, List, Option}
 use Rattle.std.specs.List.{list_all}
 use Rattle.txn.specs.declared.drawn.DrawnCommit.{DrawnCommit}
 
@@ -36,3 +36,11 @@ walk_over most persisted commits = fold (walk_on most) (record { reached = persi
 -- up to which timestamp a record reaches that may pass over so many commits: at least up to this one
 abbrev pub reach : ℕ → ℕ → List DrawnCommit → ℕ
 reach most persisted commits = (walk_over most persisted commits).reached
+
+-- the commit isn't stamped, and not above there
+abbrev pub is_passed : ℕ → DrawnCommit → Bool
+is_passed reach d = not (is_stamped d) && nat_le d.timestamp reach
+
+-- the timestamps of the commits that a record which reaches up to there passes over
+abbrev pub passed_over : ℕ → List DrawnCommit → List ℕ
+passed_over reach commits = map (λ d. d.timestamp) (filter (is_passed reach) commits)

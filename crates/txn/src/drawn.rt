@@ -4,6 +4,7 @@ ghost use Rattle.txn.specs.DrawnCommits.{with_stamp};
 use crate::write_set::WriteSet;
 use base::Ts;
 use base::fault::Fault;
+use base::longs::Longs;
 use snapshot::Snapshot;
 use std::alloc::Global;
 use std::marker::Model;
@@ -61,7 +62,7 @@ impl DrawnCommits {
     ghost use Rattle.std.specs.Prelude.{◌≤◌, ◌<◌, ◌++◌, [], ◌∷◌, not, filter, length, option_copied, IfErr, IsTrue, OnOk, OnErr};
     ghost use Rattle.base.specs.declared.fault.Fault.TheVariants.{OutOfMemory};
     ghost use Rattle.snapshot.specs.Snapshots.{covers};
-    ghost use Rattle.txn.specs.DrawnCommits.{are_numbered, drawn_at, reach};
+    ghost use Rattle.txn.specs.DrawnCommits.{are_numbered, drawn_at, reach, passed_over};
 
     /// None is drawn.
     pub fn new(alloc: Global) -> DrawnCommits
@@ -143,6 +144,20 @@ impl DrawnCommits {
         }
         reached
     }
+
+    /// The timestamps of the commits that a record which reaches up to this one passes over: those that aren't stamped.
+    pub fn passed_over(&self, reach: Ts) -> Longs
+        requires { length (passed_over reach self.now.commits) ≤ 12 }
+        ensures { result ≡ passed_over reach self.now.commits }
+    {
+        let mut longs = Longs::none();
+        for commit in self.commits.as_slice() {
+            if !commit.is_stamped() && commit.timestamp <= reach {
+                longs.push(commit.timestamp);
+            }
+        }
+        longs
+    }
 }
 
 // One more write of the commits of this timestamp is stamped.
@@ -184,10 +199,12 @@ mod tests {
         drawn.stamp(9);
         assert_eq!(rt; drawn.reach(7, 0), 7);
         assert_eq!(rt; drawn.reach(7, 1), 9);
+        assert_eq!(rt; drawn.passed_over(9).as_slice(), [8].as_slice());
+        assert!(rt; drawn.passed_over(7).as_slice().is_empty());
         drawn.stamp(8);
         assert_eq!(rt; drawn.reach(7, 0), 9);
         assert!(rt; drawn.as_slice()[0].is_stamped());
-        drawn.cover(&Snapshot::new(8, GapList::none()));
+        drawn.cover(&Snapshot::new(8, GapList::none(), Longs::none()));
         assert!(rt; drawn.get(8).is_none());
         assert!(rt; drawn.get(9).is_some());
         assert_eq!(rt; drawn.reach(8, 0), 9);

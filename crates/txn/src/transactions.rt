@@ -148,6 +148,7 @@ mod tests {
     use super::*;
     use crate::write_set::WriteSet;
     use base::key::Key;
+    use base::longs::Longs;
     use gap_list::GapList;
     use snapshot::Snapshot;
     use std::test::Fail;
@@ -155,7 +156,7 @@ mod tests {
     #[test]
     fn a_session_takes_the_lowest_number_that_is_free(rt: HostRuntime) -> Result<(), Fail> {
         let mut transactions = Transactions::new(rt.alloc());
-        let snapshot = Snapshot::new(7, GapList::none());
+        let snapshot = Snapshot::new(7, GapList::none(), Longs::none());
         let first = transactions.begin(Transaction::Active {
             snapshot,
             writes: WriteSet::new(),

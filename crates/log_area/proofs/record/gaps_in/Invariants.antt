@@ -1,7 +1,7 @@
 use Rattle.std.proofs.Common.{◌≡◌, ℕ, ◌<◌, ◌+◌, ◌*◌, length, get_or}
 use Rattle.base.specs.declared.gap.Gap.{Gap}
 use Rattle.base.specs.Records.{no_gap}
-use Rattle.log_area.proofs.record.Record.candidate.Given as goal
+use Rattle.log_area.proofs.record.gaps_in.Given as goal
 
 abbrev pub invariant-loop-i : goal.invariant-loop-i
 invariant-loop-i l = record {

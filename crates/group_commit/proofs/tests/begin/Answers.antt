@@ -1,0 +1,13 @@
+use Rattle.std.proofs.Common.{◌≤◌, length, arith, filter}
+use Rattle.std.proofs.lemmas.List.{length-map}
+use Rattle.txn.specs.declared.drawn.DrawnCommit.{DrawnCommit}
+use Rattle.txn.specs.DrawnCommits.{is_passed}
+use Rattle.group_commit.specs.Choosing.{reach_of}
+use Rattle.group_commit.proofs.Batches.{few-filtered}
+use Rattle.group_commit.proofs.tests.begin.Goals as goal
+
+pub begin-requires-clause-few : goal.begin-requires-clause-few
+begin-requires-clause-few c =
+    let ds = c.args.drawn.now.commits in
+    let reach = reach_of c.args.geometry c.args.ruling ds in
+    omega (arith, length-map (filter (is_passed reach) ds) (λ (d : DrawnCommit). d.timestamp), few-filtered (is_passed reach) ds, c.requires.few)
