@@ -3,6 +3,3 @@ use Rattle.board.proofs.tests.long_commits_are_covered_later.Given as goal
 -- the books of the new histories
 abbrev pub ghosts-long_commit : goal.ghosts-long_commit
 ghosts-long_commit g a = record { book = a.history }
-
-abbrev pub ghosts-long_commit-2 : goal.ghosts-long_commit-2
-ghosts-long_commit-2 g a = record { book = a.history }
