@@ -145,7 +145,10 @@ fn assert_same_longs(
     seed: u64,
 ) -> Result<(), Fault> {
     let (status, longs) = (room.status(), model.longs()?);
-    assert!(rt; status.longs.as_slice() == longs.as_slice(), "seed {seed}: long commits");
+    assert!(rt;
+        status.longs.as_slice() == longs.as_slice(),
+        "seed {seed}: long commits"
+    );
     Ok(())
 }
 
