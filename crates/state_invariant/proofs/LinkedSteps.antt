@@ -147,7 +147,7 @@ links-draw o q n value kept none links = by (writes_of (q.sessions n)) refl
         subst (λ (ws : Writes). Links o (state_drawn q n ws) value) (sym is)
         (links-drawn o q n write rest kept (allowed q (Draw n) none).up (λ key writes. free-to-draw q n key f.2 (ap (λ (ws : Writes). is_some (lookup_key ws key)) is ∙ writes)) value links)
 
-links-next : (o : Origin) (q : State) (step : Step) (value : ℕ → ℕ) → Keeps o q → refusal q step ≡ None → fills step ≡ false → Links o q value → Links o (next_state q step) value
+pub links-next : (o : Origin) (q : State) (step : Step) (value : ℕ → ℕ) → Keeps o q → refusal q step ≡ None → fills step ≡ false → Links o q value → Links o (next_state q step) value
 links-next o q Begin value kept none quiet links = links-session o q (unwrap_or (free_session q) 0) (Some (Active (length q.history) [])) q.held (keeps-next o q Begin kept none) (λ slot v at. at) (inl refl) value links
 links-next o q (Get n key) value kept none quiet links = links
 links-next o q (Scan n table lo hi) value kept none quiet links = links
