@@ -135,7 +135,7 @@ begins s ts n snapshot h lowest is sets holds = record {
         let present = present-sees h.origin (plain_of s h) holds.keeps in
         let none : s.numbers.record.longs ≡ [] = no-longs s.numbers.geometry s.numbers.record holds.keeps.numbers.layout holds.keeps.numbers.formed in
         let all : Sees h.origin (plain_of s h) snapshot (length h.history) = subst (λ (x : Seen). Sees h.origin (plain_of s h) x (length h.history)) ((λ i. record { persisted = s.numbers.record.persisted; gaps = s.numbers.record.gaps; longs = none i }) ∙ sym is) present in
-        record { covered = all.covered; early = all.early }
+        record { covered = all.covered; early = all.early; gaps = all.gaps }
 
 -- a begin that finds no number, or no memory
 pub begins-not : (s : Sessions) (fault : Fault) (h : Hidden) → (fault ≡ SessionsFull) × IsFull s.transactions ⊎ (fault ≡ OutOfMemory) × ((n : ℕ) × IsLowestFree s.transactions n) → Holds s h

@@ -1,7 +1,7 @@
 -- Which version each one names, over a draw.
 use Rattle.std.proofs.Common.{◌≡◌, ◌≢◌, ◌⊎◌, inl, inr, ℕ, zero, suc, ◌+◌, ◌<◌, ◌≤◌, Bool, true, false, cond, ◌||◌, List, [], ◌∷◌, length, map, take, drop, refl, sym, ◌∙◌, ap, arith, Option, Some, None, slice_get}
 use Rattle.std.specs.Prelude.{nat_eq, is_some, find}
-use Rattle.std.specs.List.{list_any}
+use Rattle.std.specs.List.{list_any, list_all}
 use Rattle.std.proofs.lemmas.List.Folds.{list_any-append}
 use Rattle.base.specs.declared.key.Key.{Key}
 use Rattle.base.specs.Keys.{key_eq, lookup_key}
@@ -50,17 +50,24 @@ free-to-draw q n key alone has =
       drawn = λ t d found. unlike-drawn q n key t d alone has found;
     }
 
+-- the last row's timestamp was drawn
+last-before : (o : Origin) (q : State) (t : ℕ) (key : Key) (commits : List Commit) → Keeps o q → list_all (λ c. is_committed q.ruling c.timestamp) commits ≡ true → last_row commits key ≡ Some t → t < q.next
+last-before o q t key commits kept all last =
+    let committed : is_committed q.ruling t ≡ true = row-all (is_committed q.ruling) key None commits all (λ t e. absurd (cc e)) t last in
+    omega (arith, (committed-bounds q.ruling t committed).1, kept.numbers.persisted)
+
+pub row-before : (o : Origin) (q : State) (kept : Keeps o q) (place t : ℕ) (key : Key) → last_row (take place q.history) key ≡ Some t → t < q.next
+row-before o q kept place t key last = last-before o q t key (take place q.history) kept (all-take (λ (c : Commit). is_committed q.ruling c.timestamp) place q.history kept.numbers.covered) last
+
+pub last_row-before : (o : Origin) (q : State) (kept : Keeps o q) (t : ℕ) (key : Key) → last_row q.history key ≡ Some t → t < q.next
+last_row-before o q kept t key last = last-before o q t key q.history kept kept.numbers.covered last
+
 -- ---- the draw
 
 module _ (o : Origin) (q : State) (n : ℕ) (write : Key × Option (List ℕ)) (rest : Writes) (kept : Keeps o q) (works : q.failed ≡ false)
     (alone : (key : Key) → writes_key key (drawn_now q (write ∷ rest)).commit ≡ true → IsFreeToDraw q n key) where
   abbrev then : State
   then = state_drawn q n (write ∷ rest)
-
-  row-below : (place t : ℕ) (key : Key) → last_row (take place q.history) key ≡ Some t → t < q.next
-  row-below place t key last =
-      let committed : is_committed q.ruling t ≡ true = row-all (is_committed q.ruling) key None (take place q.history) (all-take (λ (c : Commit). is_committed q.ruling c.timestamp) place q.history kept.numbers.covered) (λ t e. absurd (cc e)) t last in
-      omega (arith, (committed-bounds q.ruling t committed).1, kept.numbers.persisted)
 
   commit-below : (place : ℕ) (c : Commit) → slice_get q.history place ≡ Some c → c.timestamp < q.next
   commit-below place c at =
@@ -111,5 +118,5 @@ module _ (o : Origin) (q : State) (n : ℕ) (write : Key × Option (List ℕ)) (
 
     pub links-drawn : Links o then value
     links-drawn = record {
-      each = λ slot v lt held place t earlier after last low there. let l = each slot v lt held place t earlier after last low (held-was earlier t v.key (row-below place t v.key last) there) in record { read = l.read };
+      each = λ slot v lt held place t earlier after last low there. let l = each slot v lt held place t earlier after last low (held-was earlier t v.key (row-before o q kept place t v.key last) there) in record { read = l.read };
     }
