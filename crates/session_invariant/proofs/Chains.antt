@@ -101,17 +101,25 @@ module _ (o : Origin) (q : State) (image : Image) (s : Seen) (n : ℕ) (key : Ke
           let c = covered-slot target (last_writer (take n q.history) key) lt held_key committed in
           elim (cases_lt o.ruling.persisted (last_writer (take n q.history) key)) [
             | inl later ↦ record {
-                timestamp = last_writer (take n q.history) key; slot = target; last = row-there q.history n key row bounds.1 there_key; within = lt; held = held_key;
-                begun = omega (arith, begin-is target, c.begun.own later, (committed-bounds q.ruling (last_writer (take n q.history) key) committed).1, kept.numbers.persisted);
-                low = inr (omega (arith, begin-is target, c.begun.own later));
-                leads = λ bound below. arrives bound target refl below;
-              }
+              timestamp = last_writer (take n q.history) key;
+              slot = target;
+              last = row-there q.history n key row bounds.1 there_key;
+              within = lt;
+              held = held_key;
+              begun = omega (arith, begin-is target, c.begun.own later, (committed-bounds q.ruling (last_writer (take n q.history) key) committed).1, kept.numbers.persisted);
+              low = inr (omega (arith, begin-is target, c.begun.own later));
+              leads = λ bound below. arrives bound target refl below;
+            }
             | inr earlier ↦ record {
-                timestamp = last_writer (take n q.history) key; slot = target; last = row-there q.history n key row bounds.1 there_key; within = lt; held = held_key;
-                begun = omega (arith, begin-is target, (committed-bounds o.ruling (slice_index image (word_of q.layout target 0)) (c.begun.earlier earlier)).1, next-above);
-                low = inl (omega (arith, begin-is target, (committed-bounds o.ruling (slice_index image (word_of q.layout target 0)) (c.begun.earlier earlier)).1));
-                leads = λ bound below. arrives bound target refl below;
-              }
+              timestamp = last_writer (take n q.history) key;
+              slot = target;
+              last = row-there q.history n key row bounds.1 there_key;
+              within = lt;
+              held = held_key;
+              begun = omega (arith, begin-is target, (committed-bounds o.ruling (slice_index image (word_of q.layout target 0)) (c.begun.earlier earlier)).1, next-above);
+              low = inl (omega (arith, begin-is target, (committed-bounds o.ruling (slice_index image (word_of q.layout target 0)) (c.begun.earlier earlier)).1));
+              leads = λ bound below. arrives bound target refl below;
+            }
           ]
 
       by : (k : Key) × (row : List ℕ) × ((q.held target ≡ Some (last_of q n k)) × (after (take n q.history) k ≡ Some row) × Spells q.layout (slice_index image) target k row) → Reaches n

@@ -72,8 +72,10 @@ module _ (o : Origin) (q q' : State) (value new : ℕ → ℕ) (slot n : ℕ) (k
   own place t earlier v is (by_commit u at k c since found is_at writes) last low there = let writers : ByCommit u ≡ BySession n = ap (λ (v : Version). v.writer) is in absurd (cc writers)
 
   links-put : Links o q' new
-  links-put = record { each = λ s v lt held place t earlier after last low there. subst (λ (l : Layout). LinksTo l new s (earlier + 1)) (sym p.layout)
-      (by s v (omega (arith, lt, ap (λ (l : Layout). l.slots) p.layout)) held place t earlier after last (omega (arith, low, ap (λ (l : Layout). l.slots) p.layout)) there) }
+  links-put = record {
+    each = λ s v lt held place t earlier after last low there. subst (λ (l : Layout). LinksTo l new s (earlier + 1)) (sym p.layout)
+        (by s v (omega (arith, lt, ap (λ (l : Layout). l.slots) p.layout)) held place t earlier after last (omega (arith, low, ap (λ (l : Layout). l.slots) p.layout)) there);
+  }
     where
       by : (s : ℕ) (v : Version) → s < q.layout.slots → q'.held s ≡ Some v → (place t earlier : ℕ) → ComesAfter o q' v place → last_row (take place q'.history) v.key ≡ Some t → earlier < q.layout.slots → q'.held earlier ≡ Some (version_by v.key (ByCommit t))
           → LinksTo q.layout new s (earlier + 1)
