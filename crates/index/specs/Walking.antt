@@ -21,7 +21,7 @@ abbrev pub next_at : Seen → Key → ℕ → Slot → Next
 next_at s key bound held =
     if key_eq held.version.key key && nat_lt held.begin bound
     then (if covers s held.begin then (if covers s held.end then Over else SeesRow held.version.row)
-      else (if is_counted s held.begin then Earlier held.begin held.version.previous else Over))
+    else (if is_counted s held.begin then Earlier held.begin held.version.previous else Over))
     else Over
 
 -- what it says of the way

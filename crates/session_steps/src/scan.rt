@@ -63,9 +63,9 @@ impl Sessions {
         ensures { IfOk result (λ rows. (counts : ℕ → Bool) (tables : Tables) → CountsAs counts active.now.snapshot self.now.numbers.geometry (image_of (D.state device.now)) → AreLinked active.now.snapshot (image_of (D.state device.now)) self.now.index → ShowsTables counts self.now.numbers.geometry (image_of (D.state device.now)) tables → Lists rows.items (ranged range (overlaid (plain_writes active.now.writes) tables))) }
     {
         let geometry = self.numbers.geometry;
-        let seen =
-            self.index
-                .rows_by_key(self.alloc, device, geometry, &active.snapshot, range);
+        let seen = self
+            .index
+            .rows_by_key(self.alloc, device, geometry, &active.snapshot, range);
         let mut rows = match seen {
             Ok(rows) => rows,
             Err(fault) => return Err(fault),
