@@ -8,6 +8,7 @@ use Rattle.state_invariant.specs.Kept.{Origin}
 use Rattle.state_invariant.specs.Shown.{word_of, IsNever}
 use Rattle.state_invariant.proofs.Garbage.{garbage-undrawn, garbage-replaced}
 use Rattle.state_invariant.proofs.Collecting.{moved, OnlyFrees, stays as same_holder, frees, keeps-moved, shows-moved}
+use Rattle.state_invariant.proofs.LinkedSteps.{links-moved}
 use Rattle.device_invariant.specs.Slots.{SlotHolds}
 use Rattle.device_invariant.specs.Sweeps.{IsSweeping}
 use Rattle.device_invariant.specs.Log.{HoldsHand}
@@ -56,6 +57,7 @@ module _ (o : Origin) (q : State) (device : Device) (held : ℕ → Option Versi
   upholds-moved never sweeping = record {
     keeps = keeps-moved o q u.keeps held swept place still only;
     shows = shows-moved o q u.keeps held swept place still only (value_of device) never u.shows;
+    links = links-moved o q held swept place (value_of device) only u.links;
     holds = record {
       slots = record { each = λ slot lt. slot-moved slot (holds-half.slots.each slot lt) };
       log = hand-moved q.hand holds-half.log;

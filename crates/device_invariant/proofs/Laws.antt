@@ -1,5 +1,5 @@
 -- The laws: what a device upholds under each move.
-use Rattle.std.proofs.Common.{◌≡◌, ◌≢◌, ◌⊎◌, inl, inr, ℕ, ◌+◌, ◌<◌, true, [], sym, ◌∙◌, subst, arith, true≢false}
+use Rattle.std.proofs.Common.{◌≡◌, ◌≢◌, ◌⊎◌, inl, inr, ℕ, ◌+◌, ◌<◌, true, [], refl, sym, ◌∙◌, subst, arith, true≢false}
 use Rattle.std.specs.Prelude.{Option, Some, None, IsTrue}
 use Rattle.std.proofs.lemmas.Bool.{cases_eq}
 use Rattle.base.specs.declared.key.Key.{Key}
@@ -14,6 +14,8 @@ use Rattle.state_invariant.specs.Kept.{Origin, Keeps, KeepsHand}
 use Rattle.state_invariant.specs.Shown.{word_of, is_drawn_on, SlotsShow, SlotShows, ShowsAs, class_of_version}
 use Rattle.state_invariant.proofs.Covering.{keeps-covered}
 use Rattle.state_invariant.proofs.ShownCovering.{shows-covered}
+use Rattle.state_invariant.proofs.LinkedCovers.{links-covered}
+use Rattle.state_invariant.proofs.LinkedSteps.{links-failed, links-hand}
 use Rattle.state_invariant.proofs.Stepping.{keeps-with_hand, keeps-failed}
 use Rattle.device_invariant.specs.Slots.{NeverCounts, SlotHolds}
 use Rattle.device_invariant.specs.Sweeps.{IsSweeping}
@@ -27,6 +29,7 @@ use Rattle.device_invariant.proofs.Recording.{holds-operation, holds-covered, op
 use Rattle.device_invariant.proofs.Showing.{shows-shrink, shows-same, shows-with_hand, shows-failed}
 use Rattle.device_invariant.proofs.Filling.{holds-cleared, holds-filled, zero-facts}
 use Rattle.device_invariant.proofs.Storing.{others-stored}
+use Rattle.device_invariant.proofs.Linking.{links-shrink, links-but_one}
 
 -- ---- operations that store nothing
 
@@ -37,6 +40,7 @@ pub flushes-keep : FlushesKeep
 flushes-keep o q old new actor line is u = record {
   keeps = u.keeps;
   shows = shows-shrink o q old new (same-values q old new (λ slot lt w low. flushed-shrinks actor line (word_of q.layout slot w) is)) u.shows;
+  links = links-shrink o q old new (same-values q old new (λ slot lt w low. flushed-shrinks actor line (word_of q.layout slot w) is)) u.links;
   holds = holds-flushed q old new actor line is u.holds;
 }
 
@@ -44,6 +48,7 @@ pub fences-keep : FencesKeep
 fences-keep o q old new actor is u = record {
   keeps = u.keeps;
   shows = shows-shrink o q old new (same-values q old new (λ slot lt w low. fenced-shrinks actor (word_of q.layout slot w) is)) u.shows;
+  links = links-shrink o q old new (same-values q old new (λ slot lt w low. fenced-shrinks actor (word_of q.layout slot w) is)) u.links;
   holds = holds-fenced q old new actor is u.holds;
 }
 
@@ -51,11 +56,12 @@ pub failures-keep : FailuresKeep
 failures-keep o q old new is u = record {
   keeps = keeps-failed o q u.keeps;
   shows = shows-failed o q (value_of new) (shows-shrink o q old new (same-values q old new (λ slot lt w low. failed-shrinks (word_of q.layout slot w) is)) u.shows);
+  links = links-failed o q (value_of new) (links-shrink o q old new (same-values q old new (λ slot lt w low. failed-shrinks (word_of q.layout slot w) is)) u.links);
   holds = holds-failed q old new is u.holds;
 }
 
 pub failing-keeps : FailingKeeps
-failing-keeps o q device u = record { keeps = keeps-failed o q u.keeps; shows = shows-failed o q (value_of device) u.shows; holds = holds-fails q device u.holds }
+failing-keeps o q device u = record { keeps = keeps-failed o q u.keeps; shows = shows-failed o q (value_of device) u.shows; links = links-failed o q (value_of device) u.links; holds = holds-fails q device u.holds }
 
 -- ---- ticks
 
@@ -88,6 +94,7 @@ upholds-ticked : (o : Origin) (q : State) (hand : Hand) (old new : Device) → q
 upholds-ticked o q hand old new in_hand shrinks holds u = record {
   keeps = keeps-ticked o q hand in_hand u.keeps;
   shows = shows-with_hand o q (Some (record hand { ticks = hand.ticks + 1 })) (value_of new) (shows-shrink o q old new (same-values q old new shrinks) u.shows);
+  links = links-hand o q (Some (record hand { ticks = hand.ticks + 1 })) (value_of new) (links-shrink o q old new (same-values q old new shrinks) u.links);
   holds = holds;
 }
 
@@ -97,6 +104,7 @@ choosing-keeps o q hand device none first k numbered u =
     record {
       keeps = kept;
       shows = shows-with_hand o q (Some hand) (value_of device) u.shows;
+      links = links-hand o q (Some hand) (value_of device) u.links;
       holds = holds-chosen o q hand device none first kept numbered u.holds;
     }
 
@@ -118,6 +126,7 @@ covering-keeps o q hand old new orderly orderly' up in_hand ticks is u =
     record {
       keeps = keeps-covered o q hand u.keeps (u.keeps.numbers.hand hand in_hand);
       shows = shows-covered o q hand (value_of new) up u.keeps (u.keeps.numbers.hand hand in_hand) shows;
+      links = links-covered o q hand u.keeps (u.keeps.numbers.hand hand in_hand) (value_of new) (links-shrink o q old new (same-values q old new (λ slot lt w low. fenced-shrinks committer (word_of q.layout slot w) is)) u.links);
       holds = holds-covered o q hand old new orderly orderly' in_hand ticks is u.keeps shows u.holds;
     }
 
@@ -172,6 +181,7 @@ clearing-keeps o q slot old new lt free is u =
     record {
       keeps = u.keeps;
       shows = shows-but_one o q old new slot 0 0 (within-slot q.layout.version 0 (omega arith)) is (shows-free o q (value_of new) slot free (stored-value old new (word_of q.layout slot 0) 0 is)) u.shows;
+      links = links-but_one o q old new slot 0 0 (within-slot q.layout.version 0 (omega arith)) is (inl (omega arith)) u.links;
       holds = holds-cleared q old new slot zero.0 zero.1 lt free is u.holds;
     }
 
@@ -179,7 +189,12 @@ pub filling-keeps : FillingKeeps
 filling-keeps o q slot w value old new lt free begin one low as_end is u =
     let zero = zero-facts o q u.keeps in
     let filled = holds-filled q old new slot w value zero.0 zero.1 lt (inl free) one low as_end begin is u.holds in (
-      record { keeps = u.keeps; shows = shows-but_one o q old new slot w value low is (shows-free o q (value_of new) slot free filled.1.holds) u.shows; holds = filled.0 },
+      record {
+        keeps = u.keeps;
+        shows = shows-but_one o q old new slot w value low is (shows-free o q (value_of new) slot free filled.1.holds) u.shows;
+        links = links-but_one o q old new slot w value low is (inr (inl free)) u.links;
+        holds = filled.0;
+      },
       filled.1,
     )
 
@@ -194,5 +209,6 @@ refilling-keeps o q slot n w value key old new lt held one low as_end is u =
       shows = shows-but_one o down old new slot w value low is
           (subst (λ (v : Option Version). ShowsAs o down (value_of new) slot (class_of_version o down v)) (sym held)
           (record { begin = inl filled.1.holds; end = λ up. absurd (true≢false up); spells = λ up. absurd (true≢false up) })) u.shows;
+      links = links-but_one o down old new slot w value low is (inr (inr (refl, n, key, held))) u.links;
       holds = filled.0;
     }

@@ -23,6 +23,7 @@ use Rattle.pmem.specs.Words.{value_of, IsSettled, EachSurvivor}
 use Rattle.state_invariant.specs.Kept.{origin_of, Keeps, version_by, row_by, row_in, commit_at, commits_of_life}
 use Rattle.state_invariant.specs.Shown.{IsNever, word_of, IsHidden, is_drawn_on, SlotsShow, ShowsAs, class_of_version}
 use Rattle.state_invariant.proofs.Commits.{committed-bounds}
+use Rattle.state_invariant.proofs.Linking.{links-opened}
 use Rattle.state_invariant.proofs.Opening.{keeps-opened, shows-opened}
 use Rattle.device_invariant.specs.Slots.{newest_of, NeverCounts, IsDead, IsLive, SlotHolds}
 use Rattle.device_invariant.specs.Log.{HoldsHand}
@@ -142,6 +143,7 @@ pub opened-upholds : OpenedUpholds
 opened-upholds image history drawn next lost q device opens up stands opened_as rests record_holds = record {
   keeps = kept;
   shows = shows;
+  links = links-opened image history drawn next lost q (value_of device) opens up stands opened_as;
   holds = record {
     slots = record { each = λ slot lt. fresh-holds q device fresh kept shows slot lt };
     log = subst (HoldsHand q device) (sym (ap (λ (p : State). p.hand) opened_as.2)) record_holds;

@@ -18,6 +18,7 @@ use Rattle.log_area.specs.Rulings.{HoldsRecord}
 use Rattle.base.specs.Actors.{committer}
 use Rattle.log_area.specs.Writings.{operation_of}
 use Rattle.state_invariant.specs.Kept.{Origin, origin_of, IsInUse, Keeps, KeepsHand, version_by}
+use Rattle.state_invariant.specs.Links.{Links}
 use Rattle.state_invariant.specs.Shown.{word_of, is_key_stamped, SlotsShow, ReadsAs}
 use Rattle.device_invariant.specs.Slots.{newest_of, SlotsHold}
 use Rattle.device_invariant.specs.Sweeps.{IsSweeping}
@@ -144,7 +145,8 @@ pub data ChangesHolder (q : State) (held : ℕ → Option Version) (device : Dev
 abbrev pub HoldersKeep : Type 0
 HoldersKeep =
     (o : Origin) (q : State) (sessions : ℕ → Option Session) (held : ℕ → Option Version) (device : Device) → ((slot : ℕ) → slot < q.layout.slots → ChangesHolder q held device slot)
-    → Keeps o (record q { sessions = sessions; held = held }) → SlotsShow o (record q { sessions = sessions; held = held }) (value_of device) → Upholds o q device
+    → Keeps o (record q { sessions = sessions; held = held }) → SlotsShow o (record q { sessions = sessions; held = held }) (value_of device)
+    → Links o (record q { sessions = sessions; held = held }) (value_of device) → Upholds o q device
     → Upholds o (record q { sessions = sessions; held = held }) device
 
 -- ---- reading

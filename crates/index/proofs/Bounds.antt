@@ -1,105 +1,142 @@
--- The rows of a range, slot by slot.
-use Rattle.std.proofs.Common.{◌≡◌, ◌⊎◌, inl, inr, ℕ, zero, suc, ◌+◌, ◌<◌, Bool, true, false, cond, List, refl, sym, ◌∙◌, ap, subst, arith}
-use Rattle.std.specs.Prelude.{Option, Some, None, ◌↔◌}
+-- The rows of a range, key by key.
+use Rattle.std.proofs.Common.{◌≡◌, ℕ, Bool, true, false, ◌||◌, cond, List, [], ◌∷◌, ◌++◌, is_some, refl, sym, ◌∙◌, ap, subst, arith, append_assoc, append-nil}
+use Rattle.std.specs.Prelude.{Option, Some, None, unwrap_or, slice_index_or, All}
 use Rattle.std.specs.BTreeMap.{BTreeMap, IsOrdered, get}
+use Rattle.std.specs.BTreeMap.Range.{range_contains, entries_between, IsEntryInRange}
+use Rattle.std.specs.declared.ops.Bound.{Bound}
+use Rattle.std.proofs.lemmas.Bool.Decides.{nat_tests}
+use Rattle.std.proofs.lemmas.List.Elements.{All-head, All-tail}
 use Rattle.base.specs.declared.key.Key.{Key}
-use Rattle.base.specs.Keys.{key_eq}
+use Rattle.base.specs.Keys.{key_eq, lookup_key}
 use Rattle.base.specs.Commits.{Tables, Lists}
+use Rattle.base.proofs.Histories.{key_eq-true}
+use Rattle.index.specs.declared.entry.Entry.{Entry}
+use Rattle.index.specs.Entries.{key_cmp, blank, entry_at}
+use Rattle.index.specs.Reading.{CountsAs, ShowsTables, contains, ranged, bounds_of}
+use Rattle.index.specs.Walking.{AreLinked}
+use Rattle.index.specs.declared.ranges.KeyRange.{KeyRange}
+use Rattle.index.specs.declared.ranges.KeyRange.TheVariants.{All as AllKeys, Within}
 use Rattle.base.specs.Layout.{Layout}
 use Rattle.base.specs.Images.{Image}
-use Rattle.base.proofs.Histories.{key_eq-true, key_eq-same}
 use Rattle.snapshot.specs.Snapshots.{Seen}
-use Rattle.index.specs.Entries.{key_cmp}
-use Rattle.index.specs.Reading.{CountsAs, HasSeen, ShowsTables, contains, ranged}
-use Rattle.index.specs.declared.ranges.KeyRange.{KeyRange}
 use Rattle.index.proofs.KeyOrder.{rising, looked-up}
-use Rattle.index.proofs.Lookups.{seen-row, row-seen, apart}
+use Rattle.index.proofs.Lookups.{none-seen}
+use Rattle.index.proofs.Ways.{seen-at}
 
--- a slot below the number is seen with the row at the key, which is in the range
-pub record SeenBelow (counts : ℕ → Bool) (image : Image) (range : KeyRange) (n : ℕ) (key : Key) (row : List ℕ) : Type 0 where
-  pub slot : ℕ
-  pub below : slot < n
-  pub seen : HasSeen counts image slot key row
-  pub in_range : contains range key ≡ true
+abbrev Entries : Type 0
+Entries = List (Key × Entry)
 
--- these rows are those seen below the number
-abbrev pub HasBelow : (ℕ → Bool) → Image → KeyRange → ℕ → (Key → Option (List ℕ)) → Type 0
-HasBelow counts image range n has = (key : Key) (row : List ℕ) → (has key ≡ Some row) ↔ SeenBelow counts image range n key row
+-- the entry is the one that the index has of its key
+abbrev pub IsEntryOf : Entries → Key × Entry → Type 0
+IsEntryOf index e = entry_at index e.0 ≡ e.1
 
-split : (k n : ℕ) → k < n + 1 → (k < n) ⊎ (k ≡ n)
-split k zero h = inr (omega (arith, h))
-split zero (suc n) h = inl (omega arith)
-split (suc k) (suc n) h = elim (split k n (omega (arith, h))) [ inl less ↦ inl (omega (arith, less)) | inr same ↦ inr (ap suc same) ]
+-- of these entries some are left; the rows are those of the tables at the keys of the others
+pub record HasUpTo (tables : Tables) (index all rest : Entries) (has : Key → Option (List ℕ)) : Type 0 where
+  pub done : Entries
+  pub split : all ≡ done ++ rest
+  pub left : All (IsEntryOf index) rest
+  pub rows : (key : Key) → has key ≡ cond (is_some (lookup_key done key)) (tables key) None
 
-some-one : (x y : List ℕ) (o : Option (List ℕ)) → o ≡ Some x → o ≡ Some y → x ≡ y
-some-one x y o is is' = let e : Some x ≡ Some y = sym is ∙ is' in cc e
+pub none-yet : (tables : Tables) (index all : Entries) (has : Key → Option (List ℕ)) → All (IsEntryOf index) all → ((key : Key) → has key ≡ None) → HasUpTo tables index all all has
+none-yet tables index all has each none = record { done = []; split = refl; left = each; rows = none }
 
-no-some : (x : List ℕ) (o : Option (List ℕ)) → o ≡ None → o ≡ Some x → ⊥
-no-some x o is is' = let e : None ≡ Some x = sym is ∙ is' in absurd (cc e)
+looked-more : (es : Entries) (e : Key × Entry) (key : Key) → is_some (lookup_key (es ++ e ∷ []) key) ≡ (is_some (lookup_key es key) || key_eq e.0 key)
+looked-more [] e key = by (key_eq e.0 key)
+  where
+    by : (b : Bool) → is_some (cond b (Some e.1) None) ≡ b
+    by true = refl
+    by false = refl
+looked-more (x ∷ es) e key = by (key_eq x.0 key) (looked-more es e key)
+  where
+    by : (b : Bool) → is_some (lookup_key (es ++ e ∷ []) key) ≡ (is_some (lookup_key es key) || key_eq e.0 key) → is_some (cond b (Some x.1) (lookup_key (es ++ e ∷ []) key)) ≡ (is_some (cond b (Some x.1) (lookup_key es key)) || key_eq e.0 key)
+    by true rest = refl
+    by false rest = rest
 
-module _ (counts : ℕ → Bool) (image : Image) (range : KeyRange) where
-  pub none-below : (has : Key → Option (List ℕ)) → ((key : Key) → has key ≡ None) → HasBelow counts image range 0 has
-  none-below has none key row = (λ e. absurd (no-some row (has key) (none key) e), λ b. absurd (omega (arith, b.below)))
+module _ (tables : Tables) (index all : Entries) (e : Key × Entry) (rest : Entries) (has : Key → Option (List ℕ)) (h : HasUpTo tables index all (e ∷ rest) has) where
+  pub next-entry : IsEntryOf index e
+  next-entry = All-head (IsEntryOf index) e rest h.left
 
-  further : (n : ℕ) (key : Key) (row : List ℕ) → SeenBelow counts image range n key row → SeenBelow counts image range (n + 1) key row
-  further n key row b = record { slot = b.slot; below = omega (arith, b.below); seen = b.seen; in_range = b.in_range }
+  one-more : (has' : Key → Option (List ℕ)) → ((key : Key) → has' key ≡ cond (is_some (lookup_key h.done key) || key_eq e.0 key) (tables key) None) → HasUpTo tables index all rest has'
+  one-more has' rows = record {
+    done = h.done ++ e ∷ [];
+    split = h.split ∙ sym (append_assoc h.done (e ∷ []) rest);
+    left = All-tail (IsEntryOf index) e rest h.left;
+    rows = λ key. rows key ∙ ap (λ (b : Bool). cond b (tables key) None) (sym (looked-more h.done e key));
+  }
 
-  -- nothing in the range is seen in the next slot
-  pub pass : (n : ℕ) (has : Key → Option (List ℕ)) → HasBelow counts image range n has
-      → ((key : Key) (row : List ℕ) → HasSeen counts image n key row → contains range key ≡ true → ⊥) → HasBelow counts image range (n + 1) has
-  pass n has so_far none key row = (λ e. further n key row ((so_far key row).0 e), λ b. (so_far key row).1 (by b (split b.slot n b.below)))
+  -- the tables have no row at its key
+  pub passed-over : tables e.0 ≡ None → HasUpTo tables index all rest has
+  passed-over none = one-more has (λ key. h.rows key ∙ by key (is_some (lookup_key h.done key)) (key_eq e.0 key) refl)
     where
-      by : (b : SeenBelow counts image range (n + 1) key row) → (b.slot < n) ⊎ (b.slot ≡ n) → SeenBelow counts image range n key row
-      by b (inl less) = record { slot = b.slot; below = less; seen = b.seen; in_range = b.in_range }
-      by b (inr same) = absurd (none key row (subst (λ (k : ℕ). HasSeen counts image k key row) same b.seen) b.in_range)
+      by : (key : Key) (a b : Bool) → key_eq e.0 key ≡ b → cond a (tables key) None ≡ cond (a || b) (tables key) None
+      by key true b is = refl
+      by key false true is = sym (ap tables (sym (key_eq-true e.0 key is)) ∙ none)
+      by key false false is = refl
 
-  -- what is seen in the next slot lies outside
-  pub outside : (n : ℕ) (has : Key → Option (List ℕ)) (key : Key) (row : List ℕ) → HasSeen counts image n key row → contains range key ≡ false
-      → HasBelow counts image range n has → HasBelow counts image range (n + 1) has
-  outside n has key row seen out so_far =
-      pass n has so_far (λ k r seen' is. apart (sym out ∙ (ap (contains range) (sym seen.at ∙ seen'.at) ∙ is)))
+  -- its row was put in
+  pub put-in : (has' : Key → Option (List ℕ)) (row : List ℕ) → tables e.0 ≡ Some row → ((key : Key) → has' key ≡ cond (key_eq e.0 key) (Some row) (has key)) → HasUpTo tables index all rest has'
+  put-in has' row there more = one-more has' (λ key. more key ∙ ap (λ (x : Option (List ℕ)). cond (key_eq e.0 key) (Some row) x) (h.rows key) ∙ by key (is_some (lookup_key h.done key)) (key_eq e.0 key) refl)
+    where
+      by : (key : Key) (a b : Bool) → key_eq e.0 key ≡ b → cond b (Some row) (cond a (tables key) None) ≡ cond (a || b) (tables key) None
+      by key true true is = sym there ∙ ap tables (key_eq-true e.0 key is)
+      by key false true is = sym there ∙ ap tables (key_eq-true e.0 key is)
+      by key true false is = refl
+      by key false false is = refl
 
-  module _ (snapshot : Seen) (a : Layout) (tables : Tables) (agree : CountsAs counts snapshot a image) (shows : ShowsTables counts a image tables) where
-    -- what is seen in the next slot is put in
-    pub put-in : (n : ℕ) (has has' : Key → Option (List ℕ)) (key : Key) (row : List ℕ) → HasSeen counts image n key row → contains range key ≡ true
-        → ((k : Key) → has' k ≡ cond (key_eq key k) (Some row) (has k)) → HasBelow counts image range n has → HasBelow counts image range (n + 1) has'
-    put-in n has has' key row seen within more so_far k r = (λ e. forth (key_eq key k) refl (sym (more k) ∙ e), λ b. more k ∙ back b (split b.slot n b.below) (key_eq key k) refl)
-      where
-        forth : (b : Bool) → key_eq key k ≡ b → cond b (Some row) (has k) ≡ Some r → SeenBelow counts image range (n + 1) k r
-        forth true is e =
-            let same : key ≡ k = key_eq-true key k is in
-            let row_same : row ≡ r = some-one row r (Some row) refl e in
-            record {
-              slot = n;
-              below = omega arith;
-              seen = subst (λ (x : List ℕ). HasSeen counts image n k x) row_same (subst (λ (x : Key). HasSeen counts image n x row) same seen);
-              in_range = ap (contains range) (sym same) ∙ within;
-            }
-        forth false is e = further n k r ((so_far k r).0 e)
+-- ---- the entries of a range
 
-        back : (b : SeenBelow counts image range (n + 1) k r) → (b.slot < n) ⊎ (b.slot ≡ n) → (t : Bool) → key_eq key k ≡ t → cond t (Some row) (has k) ≡ Some r
-        back b where_ true is =
-            let same : key ≡ k = key_eq-true key k is in
-            ap Some (some-one row r (tables k) (ap tables (sym same) ∙ seen-row counts snapshot a image tables agree shows n key row seen) (seen-row counts snapshot a image tables agree shows b.slot k r b.seen))
-        back b (inl less) false is = (so_far k r).1 (record { slot = b.slot; below = less; seen = b.seen; in_range = b.in_range })
-        back b (inr same) false is =
-            let at : key ≡ k = sym seen.at ∙ (subst (λ (m : ℕ). HasSeen counts image m k r) same b.seen).at in
-            absurd (apart (sym is ∙ (ap (key_eq key) (sym at) ∙ key_eq-same key)))
+-- each that lies in it is the index's
+pub entries-of : (m : BTreeMap Key Entry) (lo hi : Bound Key) (es : Entries) → All (IsEntryInRange key_cmp lo hi m) es → All (IsEntryOf m.entries) es
+entries-of m lo hi es all = λ k d lt. ap (λ (x : Option Entry). unwrap_or x blank) (looked-up m.entries (slice_index_or es k d).0 ∙ (all k d lt).1)
 
-    -- all slots
-    pub all-below : (n : ℕ) (has : Key → Option (List ℕ)) → n ≡ a.slots → HasBelow counts image range n has → (key : Key) → has key ≡ ranged range tables key
-    all-below n has is so_far key = by (contains range key) refl (has key) refl (tables key) refl
-      where
-        by : (b : Bool) → contains range key ≡ b → (o : Option (List ℕ)) → has key ≡ o → (t : Option (List ℕ)) → tables key ≡ t → o ≡ cond b t None
-        by true within o has-is (Some row) t-is =
-            let seen = row-seen counts snapshot a image tables agree shows key row t-is in
-            sym has-is ∙ (so_far key row).1 (record { slot = seen.0; below = omega (arith, seen.1.within, is, ap (λ (l : Layout). l.slots) agree.laid_out); seen = seen.1; in_range = within })
-        by true within (Some row) has-is None t-is =
-            let b = (so_far key row).0 has-is in
-            absurd (no-some row (tables key) t-is (seen-row counts snapshot a image tables agree shows b.slot key row b.seen))
-        by true within None has-is None t-is = refl
-        by false out (Some row) has-is t t-is = let b = (so_far key row).0 has-is in absurd (apart (sym out ∙ b.in_range))
-        by false out None has-is t t-is = refl
+-- those between two bounds are found by their keys
+looked-between : (lo hi : Bound Key) (es : Entries) (key : Key) → lookup_key (entries_between key_cmp lo hi es) key ≡ cond (range_contains key_cmp lo hi key) (lookup_key es key) None
+looked-between lo hi [] key = by (range_contains key_cmp lo hi key)
+  where
+    by : (b : Bool) → ◌≡◌ {A = Option Entry} None (cond b None None)
+    by true = refl
+    by false = refl
+looked-between lo hi (e ∷ es) key = by (range_contains key_cmp lo hi e.0) refl (key_eq e.0 key) refl (looked-between lo hi es key)
+  where
+    in-range : key_eq e.0 key ≡ true → (b : Bool) → range_contains key_cmp lo hi e.0 ≡ b → range_contains key_cmp lo hi key ≡ b
+    in-range same b is = ap (range_contains key_cmp lo hi) (sym (key_eq-true e.0 key same)) ∙ is
+
+    by : (a : Bool) → range_contains key_cmp lo hi e.0 ≡ a → (b : Bool) → key_eq e.0 key ≡ b → lookup_key (entries_between key_cmp lo hi es) key ≡ cond (range_contains key_cmp lo hi key) (lookup_key es key) None
+        → lookup_key (cond a (e ∷ entries_between key_cmp lo hi es) (entries_between key_cmp lo hi es)) key ≡ cond (range_contains key_cmp lo hi key) (cond b (Some e.1) (lookup_key es key)) None
+    by true lies true same rest = ap (λ (b : Bool). cond b (Some e.1) (lookup_key (entries_between key_cmp lo hi es) key)) same ∙ sym (ap (λ (b : Bool). cond b (Some e.1) None) (in-range same true lies))
+    by true lies false apart rest = ap (λ (b : Bool). cond b (Some e.1) (lookup_key (entries_between key_cmp lo hi es) key)) apart ∙ rest
+    by false out true same rest = rest ∙ ap (λ (b : Bool). cond b (lookup_key es key) None) (in-range same false out) ∙ sym (ap (λ (b : Bool). cond b (Some e.1) None) (in-range same false out))
+    by false out false apart rest = rest
+
+-- the bounds of a range hold its keys
+between-is : (range : KeyRange) (key : Key) → range_contains key_cmp (bounds_of range).0 (bounds_of range).1 key ≡ contains range key
+between-is AllKeys key = refl
+between-is (Within table lo hi) key = grind (arith, nat_tests)
+
+-- ---- at the end
+
+-- none are left, and at a key that the index doesn't have the tables have none
+pub all-there : (tables : Tables) (range : KeyRange) (index all : Entries) (has : Key → Option (List ℕ)) → HasUpTo tables index all [] has → all ≡ entries_between key_cmp (bounds_of range).0 (bounds_of range).1 index
+    → ((key : Key) → lookup_key index key ≡ None → tables key ≡ None) → (key : Key) → has key ≡ ranged range tables key
+all-there tables range index all has h between absent key =
+    h.rows key
+    ∙ ap (λ (es : Entries). cond (is_some (lookup_key es key)) (tables key) None) (sym (append-nil h.done) ∙ sym h.split ∙ between)
+    ∙ ap (λ (o : Option Entry). cond (is_some o) (tables key) None) (looked-between (bounds_of range).0 (bounds_of range).1 index key ∙ ap (λ (b : Bool). cond b (lookup_key index key) None) (between-is range key))
+    ∙ by (contains range key) (lookup_key index key) refl
+  where
+    by : (b : Bool) (o : Option Entry) → lookup_key index key ≡ o → cond (is_some (cond b o None)) (tables key) None ≡ cond b (tables key) None
+    by true (Some e) is = refl
+    by true None is = sym (absent key is)
+    by false o is = refl
+
+-- at such a key nothing is seen
+pub absent-none : (counts : ℕ → Bool) (s : Seen) (a : Layout) (image : Image) (tables : Tables) (index : Entries) → CountsAs counts s a image → ShowsTables counts a image tables → AreLinked s image index
+    → (key : Key) → lookup_key index key ≡ None → tables key ≡ None
+absent-none counts s a image tables index agree shows linked key absent =
+    none-seen counts s a image tables agree shows key (λ slot row seen.
+    let head = linked key slot (seen-at s image key counts a agree slot row seen) in
+    let none : None ≡ Some head.0 = sym (ap (λ (o : Option Entry). (unwrap_or o blank).newest) absent) ∙ head.1 in
+    cc none)
 
 -- the entries of a map that has the rows of the tables list them
 pub listed : (m : BTreeMap Key (List ℕ)) (rows : List (Key × List ℕ)) (tables : Tables) → rows ≡ m.entries → IsOrdered key_cmp m → ((key : Key) → get key_cmp m key ≡ tables key) → Lists rows tables

@@ -1,32 +1,18 @@
--- What a snapshot sees of one slot of a device.
-use Rattle.std.proofs.Common.{◌≡◌, ◌⊎◌, inl, inr, ℕ, ◌+◌, ◌*◌, ◌^◌, ◌<◌, ◌≤◌, Bool, true, false, not, ◌&&◌, List, length, get_or, refl, sym, ◌∙◌, ap, subst, arith, lit<}
-use Rattle.std.specs.Prelude.{Option, Some, None, IfSome, IfNone}
+-- What a slot of a device holds in its image.
+use Rattle.std.proofs.Common.{◌≡◌, ◌⊎◌, inl, inr, ℕ, ◌+◌, ◌*◌, ◌^◌, ◌<◌, ◌≤◌, true, false, length, get_or, refl, sym, ◌∙◌, ap, subst, arith, lit<}
 use Rattle.std.proofs.Math.Nat.{mul-le-mul_left}
 use Rattle.std.proofs.lemmas.Bool.{cases_lt}
 use Rattle.std.proofs.lemmas.List.{get_or_past}
 use Rattle.std.proofs.lemmas.List.FromFn.{length-map-range_with_len, get_or-map-range_with_len}
-use Rattle.base.specs.declared.key.Key.{Key}
 use Rattle.base.specs.Layout.{Layout, IsOneLine, is_in_limits, slot_start, slot_words, total_words}
-use Rattle.base.specs.Images.{layout_of, slot_word, begin_of, end_of, is_live, is_misfit}
+use Rattle.base.specs.Images.{layout_of, slot_word, begin_of, end_of, is_misfit}
 use Rattle.pmem.specs.Device.{Device, IsOrderly}
 use Rattle.pmem.specs.Words.{value_of, image_of}
-use Rattle.snapshot.specs.Snapshots.{Seen, covers}
 use Rattle.version_slot.specs.declared.words.Slot.{Slot}
 use Rattle.version_slot.specs.Words.{Fits, IsVersion, IsSlot, slot_at}
 use Rattle.version_slot.proofs.Decoding.{limits}
-use Rattle.version_slot.proofs.ImageSlots.{version_of, holds_version, well_formed, key_is, row_is_of}
-use Rattle.index.specs.Reading.{CountsAs, HasSeen}
-
-and_true : (a b : Bool) → (a && b) ≡ true → (a ≡ true) × (b ≡ true)
-and_true true b e = (refl, e)
-and_true false b e = absurd (cc e)
-
-apart : false ≡ true → ⊥
-apart e = absurd (cc e)
-
-not_true : (a : Bool) → not a ≡ true → a ≡ false
-not_true true e = absurd (cc e)
-not_true false e = refl
+use Rattle.version_slot.proofs.ImageSlots.{version_of, holds_version, well_formed, key_is, row_is_of, link_of_is}
+use Rattle.index.proofs.Ways.{HoldsAs}
 
 -- ---- the words of a slot, on a device and in its image
 
@@ -98,46 +84,14 @@ module _ (device : Device) (a : Layout) (slot : ℕ) (size : device.words ≡ to
   pub end-same : end_of (image_of device) slot ≡ slot_at a slot (value_of device) 1
   end-same = word-same 1 (lit< tt)
 
-  -- what is read where it is live
-  pub read-seen : (counts : ℕ → Bool) → is_live counts (image_of device) slot ≡ true → (s : Slot) → IsSlot a (slot_at a slot (value_of device)) s → HasSeen counts (image_of device) slot s.version.key s.version.row
-  read-seen counts live s is = record {
+  -- what is read of it
+  pub holds-as : (s : Slot) → IsSlot a (slot_at a slot (value_of device)) s → HoldsAs (image_of device) slot s
+  holds-as s is = record {
     within = within;
-    live = live;
     fits = well_formed (image_of device) slot within whole s.version (held s is);
-    at = key_is (image_of device) slot within whole s.version (held s is);
-    is = row_is_of (image_of device) slot within whole s.version (held s is);
+    begin = begin-same ∙ is.begin;
+    end = end-same ∙ is.end;
+    key = key_is (image_of device) slot within whole s.version (held s is);
+    row = row_is_of (image_of device) slot within whole s.version (held s is);
+    link = link_of_is (image_of device) slot within whole s.version (held s is);
   }
-
--- ---- what the snapshot says of it
-
-module _ (device : Device) (a : Layout) (snapshot : Seen) (slot : ℕ) (size : device.words ≡ total_words a) (limited : is_in_limits a ≡ true) (h : slot < a.slots) where
-  module _ (counts : ℕ → Bool) (agree : CountsAs counts snapshot a (image_of device)) where
-    live-as : (begin end : ℕ) → begin ≡ slot_at a slot (value_of device) 0 → end ≡ slot_at a slot (value_of device) 1
-        → is_live counts (image_of device) slot ≡ (covers snapshot begin && not (covers snapshot end))
-    live-as begin end begin-is end-is =
-        agree.live slot h
-        ∙ (λ i. covers snapshot ((begin-same device a slot size limited h agree.laid_out ∙ sym begin-is) i) && not (covers snapshot ((end-same device a slot size limited h agree.laid_out ∙ sym end-is) i)))
-
-    -- a slot whose begin isn't covered isn't seen
-    pub unbegun : (begin : ℕ) → begin ≡ slot_at a slot (value_of device) 0 → covers snapshot begin ≡ false → (key : Key) (row : List ℕ) → HasSeen counts (image_of device) slot key row → ⊥
-    unbegun begin is not_covered key row seen =
-        apart (sym not_covered ∙ (and_true _ _ (sym (live-as begin (slot_at a slot (value_of device) 1) is refl) ∙ seen.live)).0)
-
-    -- nor is one whose end is
-    pub ended : (end : ℕ) → end ≡ slot_at a slot (value_of device) 1 → covers snapshot end ≡ true → (key : Key) (row : List ℕ) → HasSeen counts (image_of device) slot key row → ⊥
-    ended end is covered key row seen =
-        apart (sym (not_true _ (and_true _ _ (sym (live-as (slot_at a slot (value_of device) 0) end refl is) ∙ seen.live)).1) ∙ covered)
-
-  -- what is read of a slot that is seen
-  pub seen-read : (begin end : ℕ) → begin ≡ slot_at a slot (value_of device) 0 → end ≡ slot_at a slot (value_of device) 1 → covers snapshot begin ≡ true → covers snapshot end ≡ false
-      → (o : Option Slot) → IfSome o (IsSlot a (slot_at a slot (value_of device)))
-      → IfSome o (λ s. (counts : ℕ → Bool) → CountsAs counts snapshot a (image_of device) → HasSeen counts (image_of device) slot s.version.key s.version.row)
-  seen-read begin end begin-is end-is begun lasts (Some s) is = λ counts agree.
-      read-seen device a slot size limited h agree.laid_out counts (live-as counts agree begin end begin-is end-is ∙ (λ i. begun i && not (lasts i))) s is
-  seen-read begin end begin-is end-is begun lasts None is = is
-
-  -- where nothing is read, nothing is seen
-  pub none-read : IsOrderly device → (o : Option Slot) → IfNone o ((s : Slot) → IsSlot a (slot_at a slot (value_of device)) s → ⊥)
-      → IfNone o ((counts : ℕ → Bool) → CountsAs counts snapshot a (image_of device) → (key : Key) (row : List ℕ) → HasSeen counts (image_of device) slot key row → ⊥)
-  none-read orderly (Some s) none = none
-  none-read orderly None none = λ counts agree key row seen. no-slot device a slot size limited h agree.laid_out orderly none seen.fits

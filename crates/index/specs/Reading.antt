@@ -1,6 +1,8 @@
 -- What a snapshot sees of the slots of an image.
-use Rattle.std.specs.Prelude.{◌≡◌, ◌↔◌, ◌<◌, ℕ, Bool, true, false, List, Some, None, if◌then◌else◌}
+use Rattle.std.specs.Prelude.{◌≡◌, ◌↔◌, ◌<◌, ◌≤◌, ℕ, Bool, true, false, List, Some, None, if◌then◌else◌}
 use Rattle.std.specs.BTreeMap.{BTreeMap, get}
+use Rattle.std.specs.declared.ops.Bound.{Bound}
+use Rattle.std.specs.declared.ops.Bound.TheVariants.{Included, Unbounded}
 use Rattle.base.specs.declared.key.Key.{Key}
 use Rattle.base.specs.Keys.{is_in_range}
 use Rattle.base.specs.Commits.{Tables}
@@ -33,6 +35,16 @@ pub record ShowsTables (counts : ℕ → Bool) (a : Layout) (image : Image) (tab
 abbrev pub contains : KeyRange → Key → Bool
 contains All key = true
 contains (Within table lo hi) key = is_in_range table lo hi key
+
+-- from which key on its keys lie, and up to which
+abbrev pub bounds_of : KeyRange → Bound Key × Bound Key
+bounds_of All = (Unbounded, Unbounded)
+bounds_of (Within table lo hi) = (Included (record { table = table; key = lo }), Included (record { table = table; key = hi }))
+
+-- the first isn't behind the last
+abbrev pub IsForward : KeyRange → Type 0
+IsForward All = Unit {0}
+IsForward (Within table lo hi) = lo ≤ hi
 
 -- the rows of the tables in the range
 abbrev pub ranged : KeyRange → Tables → Tables

@@ -1,12 +1,12 @@
-//! Where the versions of each key are, and reading rows as a snapshot sees them.
+//! Where the versions of each key are, and reading rows as a snapshot sees them: links are followed from the newest on.
 #![tactic(auto)]
 
 mod entry;
 mod map;
 mod ranges;
-mod reading;
+mod walking;
 
 pub use entry::Entry;
 pub use map::Index;
-pub use ranges::{KeyRange, listed, rows, rows_by_key};
-pub use reading::{Found, find_at};
+pub use ranges::{KeyRange, listed};
+pub use walking::Found;

@@ -9,7 +9,7 @@ use std::marker::Model;
 /// Where the versions of each key are. A key that has no entry has a blank one.
 #[derive(Drop)]
 pub struct Index {
-    entries: BTreeMap<Key, Entry, Global>,
+    pub(crate) entries: BTreeMap<Key, Entry, Global>,
 }
 
 impl Model for Index {

@@ -1,11 +1,13 @@
-ghost use Rattle.std.specs.Prelude.{◌≡◌, ℕ, Bool, IfOk, IfErr};
+ghost use Rattle.std.specs.Prelude.{◌≡◌, ℕ, Bool, false, IsTrue, IfOk, IfErr};
 ghost use Rattle.base.specs.Commits.{Lists, Tables};
 ghost use Rattle.base.specs.Layout.{total_words};
 ghost use Rattle.base.specs.declared.fault.Fault.TheVariants.{OutOfMemory};
 ghost use Rattle.pmem.specs.Words.{image_of};
-ghost use Rattle.index.specs.Reading.{CountsAs, ShowsTables, HasRows, contains, ranged};
+ghost use Rattle.base.specs.declared.key.Key.{Key as KeyValue};
+ghost use Rattle.index.specs.Reading.{CountsAs, ShowsTables, HasRows, contains, ranged, bounds_of, IsForward};
 
-use crate::reading::seen_slot;
+use crate::map::Index;
+use crate::walking::follow;
 use base::fault::Fault;
 use base::geometry::Geometry;
 use base::key::Key;
@@ -14,6 +16,7 @@ use pmem::Pmem;
 use snapshot::Snapshot;
 use std::alloc::{AllocError, Global};
 use std::collections::BTreeMap;
+use std::ops::Bound;
 
 /// The keys whose rows are wanted.
 #[derive(Clone, Copy, Debug, PartialEq, Eq)]
@@ -35,52 +38,82 @@ impl KeyRange {
             }
         }
     }
+
+    // Whether no key is one of them, since the last is before the first.
+    fn is_empty(self) -> bool
+        ensures empty { IsTrue result → (key : KeyValue) → contains self key ≡ false }
+        ensures forward { result ≡ false → IsForward self }
+    {
+        match self {
+            KeyRange::All => false,
+            KeyRange::Within { table: _, lo, hi } => hi < lo,
+        }
+    }
+
+    // From which key on they lie, and up to which.
+    fn bounds(self) -> (Bound<Key>, Bound<Key>)
+        ensures { result ≡ bounds_of self }
+    {
+        match self {
+            KeyRange::All => (Bound::Unbounded, Bound::Unbounded),
+            KeyRange::Within { table, lo, hi } => (
+                Bound::Included(Key { table, key: lo }),
+                Bound::Included(Key { table, key: hi }),
+            ),
+        }
+    }
 }
 
-/// The rows that the snapshot sees at the keys of the range, by rising key.
-pub fn rows<D: Pmem>(
-    alloc: Global,
-    device: &D,
-    geometry: Geometry,
-    snapshot: &Snapshot,
-    range: KeyRange,
-) -> Result<Vec<(Key, Row)>, Fault>
-    requires device { (D.state device.now).words ≡ total_words geometry }
-    ensures ok { IfOk result (λ rows. (counts : ℕ → Bool) (tables : Tables) → CountsAs counts snapshot.now geometry (image_of (D.state device.now)) → ShowsTables counts geometry (image_of (D.state device.now)) tables → Lists rows.items (ranged range tables)) }
-    ensures fault { IfErr result (λ fault. fault ≡ OutOfMemory) }
-{
-    let Ok(seen) = rows_by_key(alloc, device, geometry, snapshot, range) else {
-        return Err(Fault::OutOfMemory);
-    };
-    let Ok(rows) = listed(alloc, seen) else {
-        return Err(Fault::OutOfMemory);
-    };
-    Ok(rows)
-}
+impl Index {
+    ghost use Rattle.index.specs.Walking.{AreLinked};
 
-/// The same rows, as a map.
-pub fn rows_by_key<D: Pmem>(
-    alloc: Global,
-    device: &D,
-    geometry: Geometry,
-    snapshot: &Snapshot,
-    range: KeyRange,
-) -> Result<BTreeMap<Key, Row>, AllocError>
-    requires device { (D.state device.now).words ≡ total_words geometry }
-    ensures { IfOk result (λ seen. (counts : ℕ → Bool) (tables : Tables) → CountsAs counts snapshot.now geometry (image_of (D.state device.now)) → ShowsTables counts geometry (image_of (D.state device.now)) tables → HasRows seen (ranged range tables)) }
-{
-    let mut seen = BTreeMap::new(alloc);
-    for slot in 0..geometry.slots() {
-        if let Some(found) = seen_slot(device, geometry, snapshot, slot) {
-            let version = found.version;
-            if range.contains(version.key) {
-                let Ok(_) = seen.insert(version.key, version.row) else {
+    /// The rows that the snapshot sees at the keys of the range, by rising key.
+    pub fn rows<D: Pmem>(
+        &self,
+        alloc: Global,
+        device: &D,
+        geometry: Geometry,
+        snapshot: &Snapshot,
+        range: KeyRange,
+    ) -> Result<Vec<(Key, Row)>, Fault>
+        requires device { (D.state device.now).words ≡ total_words geometry }
+        ensures ok { IfOk result (λ rows. (counts : ℕ → Bool) (tables : Tables) → CountsAs counts snapshot.now geometry (image_of (D.state device.now)) → AreLinked snapshot.now (image_of (D.state device.now)) self.now → ShowsTables counts geometry (image_of (D.state device.now)) tables → Lists rows.items (ranged range tables)) }
+        ensures fault { IfErr result (λ fault. fault ≡ OutOfMemory) }
+    {
+        let Ok(seen) = self.rows_by_key(alloc, device, geometry, snapshot, range) else {
+            return Err(Fault::OutOfMemory);
+        };
+        let Ok(rows) = listed(alloc, seen) else {
+            return Err(Fault::OutOfMemory);
+        };
+        Ok(rows)
+    }
+
+    /// The same rows, as a map.
+    pub fn rows_by_key<D: Pmem>(
+        &self,
+        alloc: Global,
+        device: &D,
+        geometry: Geometry,
+        snapshot: &Snapshot,
+        range: KeyRange,
+    ) -> Result<BTreeMap<Key, Row>, AllocError>
+        requires device { (D.state device.now).words ≡ total_words geometry }
+        ensures { IfOk result (λ seen. (counts : ℕ → Bool) (tables : Tables) → CountsAs counts snapshot.now geometry (image_of (D.state device.now)) → AreLinked snapshot.now (image_of (D.state device.now)) self.now → ShowsTables counts geometry (image_of (D.state device.now)) tables → HasRows seen (ranged range tables)) }
+    {
+        let mut seen = BTreeMap::new(alloc);
+        if range.is_empty() {
+            return Ok(seen);
+        }
+        for (key, entry) in self.entries.range(range.bounds()) {
+            if let Some(found) = follow(device, geometry, snapshot, entry.newest, *key) {
+                let Ok(_) = seen.insert(*key, found.row) else {
                     return Err(AllocError);
                 };
             }
         }
+        Ok(seen)
     }
-    Ok(seen)
 }
 
 /// The rows of the map, by rising key.

@@ -5,6 +5,6 @@
 mod law;
 
 pub use law::{
-    conflicts_are_of_last_draws, records_say_who_is_covered, snapshots_read_their_tables,
-    snapshots_stay_exact,
+    conflicts_are_of_last_draws, links_lead_to_what_is_seen, records_say_who_is_covered,
+    snapshots_read_their_tables, snapshots_stay_exact,
 };

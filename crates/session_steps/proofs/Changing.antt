@@ -14,7 +14,7 @@ use Rattle.session_steps.specs.declared.sessions.Sessions.{Sessions}
 use Rattle.session_invariant.specs.Sees.{Sees}
 use Rattle.session_steps.specs.Shows.{Hidden, plain_of, HoldsSession, HoldsDrawn, Agrees}
 use Rattle.session_steps.proofs.OneSet.{each-set}
-use Rattle.session_steps.proofs.Kept.{SameBut, Moves, slot-kept, version-kept, writes-kept, table-kept}
+use Rattle.session_steps.proofs.Kept.{SameBut, Moves, slot-kept, version-kept, version-before, writes-kept, table-kept}
 
 -- what holds of a session that isn't the one
 pub session-kept : (o : Origin) (n m : ℕ) (q q' : State) (seen : ℕ) (t : Option Transaction) → SameBut n q q' → ((snapshot : _) → Sees o q snapshot seen → Sees o q' snapshot seen) → nat_eq m n ≡ false
@@ -34,11 +34,11 @@ pub agrees-changed : (s : Sessions) (h : Hidden) (ts : List (Option Transaction)
     → Agrees (record s { transactions = ts; slots = slots }) h.origin seen (plain_of (record s { transactions = ts; slots = slots }) (record h { seen = seen; held = held }))
 agrees-changed s h ts slots seen held n x agrees sets moves same-seen here apart free counted = record {
   sessions = each-set (λ m t. HoldsSession h.origin q' m (seen m) t) s.transactions ts n x sets here
-      (λ m ne. subst (λ (k : ℕ). HoldsSession h.origin q' m k (transaction_at s.transactions m)) (sym (same-seen m ne)) (session-kept h.origin n m q q' (h.seen m) (transaction_at s.transactions m) same (λ snapshot sees. record { covered = sees.covered; early = sees.early }) ne (agrees.sessions m)));
+      (λ m ne. subst (λ (k : ℕ). HoldsSession h.origin q' m k (transaction_at s.transactions m)) (sym (same-seen m ne)) (session-kept h.origin n m q q' (h.seen m) (transaction_at s.transactions m) same (λ snapshot sees. record { covered = sees.covered; early = sees.early; gaps = sees.gaps }) ne (agrees.sessions m)));
   drawn = λ k d lt. drawn _ (agrees.drawn k d lt) (apart k d lt);
   free = free;
   counted = counted;
-  index = λ key. let e = agrees.index key in record { live = slot-kept n q q' (newest_of q key) (live_of (entry_at s.index key)) same refl e.live; last = e.last; newest = λ slot at. version-kept n q q' key slot same (e.newest slot at); drawn = e.drawn };
+  index = λ key. let e = agrees.index key in record { live = slot-kept n q q' (newest_of q key) (live_of (entry_at s.index key)) same refl e.live; last = e.last; newest = λ t slot last lt at. e.newest t slot last lt (version-before n q q' key slot t same at); only = λ slot at. version-kept n q q' key slot same (e.only slot at); drawn = e.drawn };
   lines = table-kept n q q' s.drawn.commits s.dirty same agrees.lines;
 }
   where

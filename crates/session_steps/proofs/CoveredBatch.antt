@@ -27,6 +27,8 @@ use Rattle.dirty_table.specs.Touches.{has, is_touched, Forgets}
 use Rattle.index.specs.declared.entry.Entry.{Entry}
 use Rattle.index.specs.Entries.{entry_at, live_of}
 use Rattle.state_invariant.specs.Kept.{Origin, Keeps, commits_of_life, version_by}
+use Rattle.state_invariant.specs.Links.{last_row}
+use Rattle.state_invariant.proofs.Covering.{batch-drawn, found-left}
 use Rattle.state_invariant.proofs.Lists.{rising-above, rising-rest}
 use Rattle.device_invariant.specs.Slots.{newest_of}
 use Rattle.device_invariant.specs.Log.{is_ended}
@@ -35,11 +37,11 @@ use Rattle.session_invariant.proofs.Batches.{covers-batch}
 use Rattle.step_invariant.specs.Moves.{IsSlotOf}
 use Rattle.session_steps.specs.declared.sessions.Sessions.{Sessions}
 use Rattle.session_invariant.specs.Sees.{Sees, last_on}
-use Rattle.session_steps.specs.Shows.{Hidden, plain_of, plain_session, plain_drawn, HasItsSlot, HoldsSession, HoldsEntry, HoldsDrawn, HoldsLines, has_drawn_by, line_numbers, Agrees}
+use Rattle.session_steps.specs.Shows.{Hidden, plain_of, plain_session, plain_drawn, HasItsSlot, HoldsSession, HasDrawn, HoldsEntry, HoldsDrawn, HoldsLines, has_drawn_by, line_numbers, Agrees}
 use Rattle.session_steps.specs.Covering.{covered_by_commits, committed_by, left_by, CoversCommits, IsOf, MayCover, hidden_covered, HasCovered, ShowsCovered}
 use Rattle.session_steps.proofs.Kept.{numbers-by-tests}
 use Rattle.session_steps.proofs.Filters.{filter-map, filter-at, any-split}
-use Rattle.session_steps.proofs.CoveredIndex.{any-at, has_key, written-plain, written-commits, Within, IsOwn, within-commits, live-commits}
+use Rattle.session_steps.proofs.CoveredIndex.{any-at, has_key, written-plain, written-commits, Within, IsOwn, within-commits, live-commits, none-commits, stays-commits, newest-after}
 
 -- ---- the order of drawn commits
 
@@ -89,6 +91,19 @@ stamp-of (ByCommit t) = t
 slot-same : (q q' : State) (v : Version) (o : Option ℕ) → q'.layout ≡ q.layout → q'.held ≡ q.held → IsSlotOf q v o → IsSlotOf q' v o
 slot-same q q' v (Some slot) layout held is = (subst (λ (a : _). slot < a.slots) (sym layout) is.0, ap (λ (f : ℕ → Option Version). f slot) held ∙ is.1)
 slot-same q q' v None layout held is = λ slot lt at. is slot (subst (λ (a : _). slot < a.slots) layout lt) (sym (ap (λ (f : ℕ → Option Version). f slot) held) ∙ at)
+
+-- one that is found among the commits, and passes a test
+any-found : (p test : Commit → Bool) (cs : List Commit) (c : Commit) → find test cs ≡ Some c → p c ≡ true → list_any p cs ≡ true
+any-found p test [] c found is = absurd (cc found)
+any-found p test (x ∷ cs) c found is = by (test x) found (λ found. any-found p test cs c found is)
+  where
+    right : (a b : Bool) → b ≡ true → (a || b) ≡ true
+    right true b is = refl
+    right false b is = is
+
+    by : (b : Bool) → cond b (Some x) (find test cs) ≡ Some c → (find test cs ≡ Some c → list_any p cs ≡ true) → (p x || list_any p cs) ≡ true
+    by true found rest = let same : x ≡ c = cc found in ap (λ (b : Bool). b || list_any p cs) (ap p same ∙ is)
+    by false found rest = right (p x) (list_any p cs) (rest found)
 
 -- ---- covering
 
@@ -151,6 +166,7 @@ module _ (s : Sessions) (ruling : Record) (h : Hidden) (hand : Hand) (may : MayC
       sees sight = record {
         covered = λ t lt out. sight.covered t lt out ∙ ap (λ (cs : List Commit). is_committed o.ruling t || has_timestamp (drop o.opened cs) t) (sym (take-append-le (h.seen n) h.history hand.commits within));
         early = sight.early;
+        gaps = sight.gaps;
       }
 
   -- ---- drawn commits
@@ -183,8 +199,9 @@ module _ (s : Sessions) (ruling : Record) (h : Hidden) (hand : Hand) (may : MayC
   entry key = subst (HoldsEntry o q' key) (sym (covers.entries key)) record {
     live = slot-same q q' (newest_of q' key) _ refl refl (live-commits q (newest_of q' key) key None (last_writer q'.history key) refl batch (entry_at s.index key) (newest-own key) (either (list_any (writes_key key) hand.commits) refl));
     last = within.last_is;
-    newest = λ slot at. let has = within.newest slot at in record { within = has.within; timestamp = has.timestamp; held = has.held };
-    drawn = within.drawn;
+    newest = λ t slot last. newest-after o q may.keeps key h.history batch (entry_at s.index key) batch-slots old.newest t slot (ap (λ (cs : List Commit). last_row (h.history ++ cs) key) (sym commits-are) ∙ last);
+    only = λ slot at. let has = within.only slot at in record { within = has.within; timestamp = has.timestamp; held = has.held };
+    drawn = λ slot at. (within.drawn slot at, drawn-left slot at (list_any (λ (d : DrawnCommit). has_key key d.writes) batch) refl);
   }
     where
       old : HoldsEntry o q key (entry_at s.index key)
@@ -192,7 +209,27 @@ module _ (s : Sessions) (ruling : Record) (h : Hidden) (hand : Hand) (may : MayC
 
       within : Within q key (last_on key (commits_of_life o q')) (covered_by_commits key (entry_at s.index key) batch)
       within = within-commits q (newest_of q' key) key (last_on key (commits_of_life o q')) (last_writer q'.history key) refl batch (entry_at s.index key) (newest-own key)
-          record { last_is = old.last ∙ sym (ap (λ (p : State). last_on key (commits_of_life o p)) plain ∙ law.last key); newest = old.newest; drawn = old.drawn }
+          record { last_is = old.last ∙ sym (ap (λ (p : State). last_on key (commits_of_life o p)) plain ∙ law.last key); only = old.only; drawn = λ slot at. (old.drawn slot at).0 }
+
+      batch-slots : All (λ (d : DrawnCommit). All (HasItsSlot q (ByCommit d.timestamp)) d.writes) batch
+      batch-slots = λ k d lt. (All-filter counts (HoldsDrawn s q) s.drawn.commits may.agrees.drawn k d lt).writes
+
+      -- a drawn commit on the key that isn't of the batch stays drawn
+      drawn-left : (slot : ℕ) → (covered_by_commits key (entry_at s.index key) batch).drawn ≡ Some slot → (b : Bool) → list_any (λ (d : DrawnCommit). has_key key d.writes) batch ≡ b → HasDrawn q' key
+      drawn-left slot at true written = absurd (cc (sym (none-commits key batch (entry_at s.index key) (inr written)) ∙ at))
+      drawn-left slot at false unwritten =
+          let was = (old.drawn slot (sym (ap (λ (e : Entry). e.drawn) (stays-commits key batch (entry_at s.index key) unwritten)) ∙ at)).1 in
+          let out : has_timestamp hand.commits was.0 ≡ false = not-of_batch was.0 was.1 was.2 was.3 (has_timestamp hand.commits was.0) refl in
+          (was.0, was.1, ap (λ (p : State). drawn_at p was.0) plain ∙ found-left o q hand may.keeps (may.keeps.numbers.hand hand may.batch.in_hand) was.0 out ∙ was.2, was.3)
+        where
+          not-of_batch : (t : ℕ) (d : PlainDrawn) → drawn_at q t ≡ Some d → writes_key key d.commit ≡ true → (b : Bool) → has_timestamp hand.commits t ≡ b → b ≡ false
+          not-of_batch t d at writes false is = refl
+          not-of_batch t d at writes true is =
+              let e = batch-drawn o q hand may.keeps (may.keeps.numbers.hand hand may.batch.in_hand) t is in
+              let both : Some e.0 ≡ Some d = sym e.1 ∙ at in
+              let same : e.0 ≡ d = cc both in
+              let any : list_any (writes_key key) hand.commits ≡ true = any-found (writes_key key) (λ (c : Commit). nat_eq c.timestamp t) hand.commits e.0.commit e.2 (ap (λ (x : PlainDrawn). writes_key key x.commit) same ∙ writes) in
+              absurd (cc (sym any ∙ batch-writes key ∙ unwritten))
 
       either : (b : Bool) → list_any (writes_key key) hand.commits ≡ b → IsSlotOf q (newest_of q' key) (live_of (entry_at s.index key)) ⊎ (list_any (λ (d : DrawnCommit). has_key key d.writes) batch ≡ true)
       either true is = inr (sym (batch-writes key) ∙ is)

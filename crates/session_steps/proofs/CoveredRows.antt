@@ -11,10 +11,13 @@ use Rattle.pmem.specs.Words.{image_of}
 use Rattle.snapshot.specs.Snapshots.{Seen, covers, seen_by}
 use Rattle.gap_list.specs.GapLists.{is_gap_list}
 use Rattle.index.specs.declared.ranges.KeyRange.TheVariants.{All}
+use Rattle.index.specs.Entries.{entry_at}
+use Rattle.index.specs.Walking.{AreLinked}
 use Rattle.index.specs.Reading.{CountsAs, ShowsTables, ranged}
 use Rattle.session_invariant.specs.Sees.{Sees, ReadsBy}
 use Rattle.session_invariant.proofs.Present.{present-sees}
 use Rattle.session_invariant.proofs.Reading.{reads}
+use Rattle.session_invariant.proofs.Chains.{links-lead}
 use Rattle.session_steps.specs.declared.sessions.Sessions.{Sessions}
 use Rattle.session_steps.specs.Shows.{Hidden, plain_of, Agrees, Shows, ShowsAny}
 use Rattle.gap_list.proofs.Tidy.{well_formed-tidy}
@@ -32,7 +35,7 @@ words-shown s device orderly (q, shown) = words-are shown.hidden.origin (plain_o
 -- what the present snapshot sees are the rows of the tables
 pub tables-read : (s : Sessions) (device : Device) (snapshot : Seen) (rows : List (Key × List ℕ)) → IsOrderly device
     → snapshot ≡ seen_by s.numbers.record
-    → ((counts : ℕ → Bool) (tables : Tables) → CountsAs counts snapshot s.numbers.geometry (image_of device) → ShowsTables counts s.numbers.geometry (image_of device) tables → Lists rows (ranged All tables))
+    → ((counts : ℕ → Bool) (tables : Tables) → CountsAs counts snapshot s.numbers.geometry (image_of device) → AreLinked snapshot (image_of device) s.index → ShowsTables counts s.numbers.geometry (image_of device) tables → Lists rows (ranged All tables))
     → (q : State) → Shows s device q → Lists rows (after q.history)
 tables-read s device snapshot rows orderly is read q shown = subst (λ (p : State). Lists rows (after p.history)) (sym shown.plain) listed
   where
@@ -51,7 +54,10 @@ tables-read s device snapshot rows orderly is read q shown = subst (λ (p : Stat
     reading : ReadsBy (covers snapshot) s.numbers.geometry (after (take (length h.history) h.history)) (image_of device)
     reading = reads h.origin (plain_of s h) device snapshot (length h.history) orderly upholds (inl refl) sees
 
+    linked : AreLinked snapshot (image_of device) s.index
+    linked key = links-lead h.origin (plain_of s h) device snapshot (length h.history) key (entry_at s.index key).newest orderly upholds (inl refl) sees (agrees.index key).newest
+
     listed : Lists rows (after h.history)
     listed =
         subst (λ (cs : List Commit). Lists rows (after cs)) (take_all (length h.history) h.history (omega arith))
-        (read (covers snapshot) (after (take (length h.history) h.history)) (record { laid_out = laid-out h.origin (plain_of s h) device orderly upholds; live = λ slot lt. refl }) (record { rows = reading.rows; fits = reading.fits }))
+        (read (covers snapshot) (after (take (length h.history) h.history)) (record { laid_out = laid-out h.origin (plain_of s h) device orderly upholds; live = λ slot lt. refl }) linked (record { rows = reading.rows; fits = reading.fits }))

@@ -1,11 +1,12 @@
 -- What agrees after a draw.
 use Rattle.std.proofs.Common.{◌≡◌, ◌⊎◌, inl, inr, ℕ, ◌+◌, ◌/◌, ◌<◌, ◌≤◌, Bool, true, false, ◌&&◌, ◌||◌, cond, not, List, [], ◌∷◌, ◌++◌, map, take, drop, refl, sym, ◌∙◌, ap, subst, arith, nat_eq, nat_lt, append_assoc, Contains, get_or}
-use Rattle.std.specs.Prelude.{Option, Some, None, is_some, is_none, All}
+use Rattle.std.specs.Prelude.{Option, Some, None, is_some, is_none, find, All}
 use Rattle.std.specs.List.{list_any, list_all, flat_map, range_with_len}
 use Rattle.std.specs.Option.{option_map, option_or, option_to_list, option_and_then}
 use Rattle.std.proofs.lemmas.Bool.{and_parts}
 use Rattle.std.proofs.lemmas.Bool.Decides.{nat_tests}
 use Rattle.std.proofs.lemmas.List.Elements.{All-append, All-cons, All-nil, All-head, All-tail, All-contains, All-contains_itself}
+use Rattle.std.proofs.lemmas.List.{map-append}
 use Rattle.std.proofs.lemmas.List.Folds.{list_any-append}
 use Rattle.base.specs.declared.key.Key.{Key}
 use Rattle.base.specs.Commits.{Commit, writes_key, last_writer}
@@ -13,7 +14,7 @@ use Rattle.base.specs.Layout.{slot_start}
 use Rattle.base.specs.Records.{is_committed}
 use Rattle.base.specs.Stands.{has_timestamp}
 use Rattle.base.proofs.Layouts.{one-line as line-of}
-use Rattle.base.specs.Machine.{State, Drawn as PlainDrawn, Version, Writer, BySession, ByCommit, is_by, by_commit, drawn_of, version_lines}
+use Rattle.base.specs.Machine.{State, Drawn as PlainDrawn, Version, Writer, BySession, ByCommit, is_by, by_commit, drawn_at, drawn_of, version_lines}
 use Rattle.snapshot.specs.Snapshots.{Seen, covers}
 use Rattle.txn.specs.declared.drawn.DrawnCommit.{DrawnCommit}
 use Rattle.txn.specs.declared.transaction.Transaction.{Transaction}
@@ -27,9 +28,11 @@ use Rattle.dirty_table.specs.Touches.{is_touched, Touches}
 use Rattle.index.specs.declared.entry.Entry.{Entry}
 use Rattle.index.specs.Entries.{entry_at, has_room, live_of}
 use Rattle.state_invariant.specs.Kept.{version_by, commits_of_life, covered_since}
+use Rattle.state_invariant.specs.Links.{HoldsNewest}
 use Rattle.state_invariant.specs.Shown.{IsOutOfSwept, counts_at}
 use Rattle.state_invariant.proofs.Commits.{timestamp-all, committed-bounds, uncommitted-above}
-use Rattle.state_invariant.proofs.Drawing.{held-drawn, held-stays, held-turns}
+use Rattle.state_invariant.proofs.Drawing.{drawn_now, drawn_at-next, found-new, found-old, held-drawn, held-stays, held-turns}
+use Rattle.state_invariant.proofs.LinkedDraws.{last_row-before}
 use Rattle.state_invariant.proofs.Lists.{all-drop, all-take}
 use Rattle.state_invariant.proofs.Log.{writer-bounded}
 use Rattle.device_invariant.specs.Slots.{newest_of}
@@ -38,7 +41,7 @@ use Rattle.step_invariant.specs.Moves.{IsSlotOf}
 use Rattle.session_steps.specs.declared.sessions.Sessions.{Sessions}
 use Rattle.session_steps.specs.Drawing.{touched_lines, drawn_entry}
 use Rattle.session_invariant.specs.Sees.{Sees, last_on}
-use Rattle.session_steps.specs.Shows.{Hidden, plain_of, plain_drawn, HasItsSlot, HoldsSession, HasVersionOf, HoldsEntry, HoldsDrawn, HoldsLines, Agrees, has_drawn_by, line_numbers}
+use Rattle.session_steps.specs.Shows.{Hidden, plain_of, plain_drawn, HasItsSlot, HoldsSession, HasVersionOf, HasDrawn, HoldsEntry, HoldsDrawn, HoldsLines, Agrees, has_drawn_by, line_numbers}
 use Rattle.session_steps.specs.Steps.{Holds}
 use Rattle.session_steps.proofs.Kept.{numbers-by-tests}
 use Rattle.session_invariant.proofs.Conflicts.{last_on-append}
@@ -148,7 +151,7 @@ module _ (s : Sessions) (h : Hidden) (n : ℕ) (snapshot : Seen) (writes : List 
     -- ---- sessions
 
     sees-more : (seen : ℕ) (snap : Seen) → Sees h.origin old snap seen → Sees h.origin then snap seen
-    sees-more seen snap sees = record { covered = λ u lt unswept. by u lt unswept (nat_lt u t) refl; early = omega (arith, sees.early) }
+    sees-more seen snap sees = record { covered = λ u lt unswept. by u lt unswept (nat_lt u t) refl; early = omega (arith, sees.early); gaps = sees.gaps }
       where
         earlier : List Commit
         earlier = drop h.origin.opened (take seen h.history)
@@ -214,23 +217,48 @@ module _ (s : Sessions) (h : Hidden) (n : ℕ) (snapshot : Seen) (writes : List 
     version-turns : (key : Key) (slot : ℕ) → HasVersionOf old key slot → HasVersionOf then key slot
     version-turns key slot has = record { within = has.within; timestamp = has.timestamp; held = ap (by_commit n t) has.held }
 
+    -- the newest row version is where it was
+    newest-more : (key : Key) (newest : Option ℕ) → HoldsNewest old key newest → HoldsNewest then key newest
+    newest-more key newest has u slot last lt at = by (held-drawn n t (h.held slot) (version_by key (ByCommit u)) at)
+      where
+        by : ((h.held slot ≡ Some (version_by key (BySession n))) × (ByCommit u ≡ ByCommit t)) ⊎ ((h.held slot ≡ Some (version_by key (ByCommit u))) × (false ≡ false)) → newest ≡ Some slot
+        by (inl turned) = absurd (not-now u (last_row-before h.origin old holds.keeps u key last) turned.1)
+        by (inr was) = has u slot last lt was.0
+
+    -- a key that a drawn commit writes, one writes still
+    drawn-more : then.drawn ≡ old.drawn ++ drawn_now old (plain_writes writes) ∷ []
+    drawn-more = map-append plain_drawn s.drawn.commits (new ∷ [])
+
+    drawn-still : (key : Key) → HasDrawn old key → HasDrawn then key
+    drawn-still key (u, d, at, wrote) = (
+      u,
+      d,
+      ap (find (λ (d : PlainDrawn). nat_eq d.commit.timestamp u)) drawn-more ∙ found-old old (plain_writes writes) u (λ same. absurd (cc (sym at ∙ ap (drawn_at old) same ∙ drawn_at-next h.origin old holds.keeps.numbers))) ∙ at,
+      wrote,
+    )
+
     entry-more : (key : Key) (o : Option Write) → write_of key writes ≡ o → HoldsEntry h.origin old key (entry_at s.index key) → HoldsEntry h.origin then key (drawn_entry o t (entry_at s.index key))
     entry-more key None none has = record {
       live = slot-stays (newest_of old key) _ refl (not-now (last_writer h.history key) (newest-early key)) has.live;
       last = has.last ∙ sym (last-more key ∙ ap (λ (o : Option Write). option_or (cond (is_some o) (Some t) None) (last_on key (commits_of_life h.origin old))) none);
-      newest = λ slot at. version-turns key slot (has.newest slot at);
-      drawn = has.drawn;
+      newest = newest-more key (entry_at s.index key).newest has.newest;
+      only = λ slot at. version-turns key slot (has.only slot at);
+      drawn = λ slot is. let had = has.drawn slot is in (had.0, drawn-still key had.1);
     }
     entry-more key (Some write) found has = record {
       live = slot-stays (newest_of old key) _ refl (not-now (last_writer h.history key) (newest-early key)) has.live;
       last = sym (last-more key ∙ ap (λ (o : Option Write). option_or (cond (is_some o) (Some t) None) (last_on key (commits_of_life h.origin old))) found);
-      newest = λ slot at. version-turns key slot (has.newest slot at);
-      drawn = λ slot is. by write.slot is (All-contains (HasItsSlot old (BySession n)) writes write session.1 (found-in key writes write found).0).slot;
+      newest = newest-more key (entry_at s.index key).newest has.newest;
+      only = λ slot at. version-turns key slot (has.only slot at);
+      drawn = λ slot is. (within slot is, (t, drawn_now old (plain_writes writes), ap (find (λ (d : PlainDrawn). nat_eq d.commit.timestamp t)) drawn-more ∙ found-new h.origin old (plain_writes writes) holds.keeps.numbers, writes-plain key t writes ∙ ap (λ (o : Option Write). is_some o) found));
     }
       where
-        by : (o : Option ℕ) {slot : ℕ} → o ≡ Some slot → IsSlotOf old (version_by write.key (BySession n)) o → slot < s.numbers.geometry.slots
-        by None is has = absurd (cc is)
-        by (Some own) is has = let same : own ≡ _ = cc is in subst (λ (k : ℕ). k < s.numbers.geometry.slots) same has.0
+        within : (slot : ℕ) → write.slot ≡ Some slot → slot < s.numbers.geometry.slots
+        within slot is = by write.slot is (All-contains (HasItsSlot old (BySession n)) writes write session.1 (found-in key writes write found).0).slot
+          where
+            by : (o : Option ℕ) {slot : ℕ} → o ≡ Some slot → IsSlotOf old (version_by write.key (BySession n)) o → slot < s.numbers.geometry.slots
+            by None is has = absurd (cc is)
+            by (Some own) is has = let same : own ≡ _ = cc is in subst (λ (k : ℕ). k < s.numbers.geometry.slots) same has.0
 
     -- ---- the lines of the commits that were drawn before
 

@@ -8,7 +8,7 @@ use Rattle.session_steps.specs.Shows.{Hidden, plain_of, HoldsSession, Agrees}
 
 session-failed : (s : Sessions) (h : Hidden) (n seen : ℕ) (x : Option Transaction) → HoldsSession h.origin (plain_of s h) n seen x → HoldsSession h.origin (plain_of s (record h { failed = true })) n seen x
 session-failed s h n seen None has = tt
-session-failed s h n seen (Some (Active snapshot writes)) has = (record { covered = has.0.covered; early = has.0.early }, λ k d lt. record { slot = (has.1 k d lt).slot; row = (has.1 k d lt).row })
+session-failed s h n seen (Some (Active snapshot writes)) has = (record { covered = has.0.covered; early = has.0.early; gaps = has.0.gaps }, λ k d lt. record { slot = (has.1 k d lt).slot; row = (has.1 k d lt).row })
 session-failed s h n seen (Some (Drawn u)) has = tt
 session-failed s h n seen (Some ReadOnly) has = tt
 
@@ -19,6 +19,6 @@ failed-agrees s h agrees = record {
   drawn = λ k d lt. let has = agrees.drawn k d lt in record { session = has.session; writes = λ j w below. record { slot = (has.writes j w below).slot; row = (has.writes j w below).row }; room = has.room };
   free = agrees.free;
   counted = agrees.counted;
-  index = λ key. let e = agrees.index key in record { live = e.live; last = e.last; newest = λ slot at. let has = e.newest slot at in record { within = has.within; timestamp = has.timestamp; held = has.held }; drawn = e.drawn };
+  index = λ key. let e = agrees.index key in record { live = e.live; last = e.last; newest = e.newest; only = λ slot at. let has = e.only slot at in record { within = has.within; timestamp = has.timestamp; held = has.held }; drawn = e.drawn };
   lines = record { own = agrees.lines.own; none = agrees.lines.none };
 }

@@ -14,6 +14,7 @@ use Rattle.txn.specs.Transactions.{transaction_at}
 use Rattle.index.specs.declared.entry.Entry.{Entry}
 use Rattle.index.specs.Entries.{entry_at, KeepsRoom, live_of}
 use Rattle.state_invariant.specs.Kept.{Keeps, version_by}
+use Rattle.state_invariant.specs.Links.{last_row}
 use Rattle.state_invariant.proofs.Garbage.{IsGarbage, garbage-undrawn, garbage-replaced}
 use Rattle.state_invariant.proofs.Collecting.{OnlyFrees, stays, frees}
 use Rattle.device_invariant.specs.Slots.{newest_of}
@@ -56,6 +57,14 @@ module _ (s : Sessions) (h : Hidden) (keeps : Keeps h.origin (plain_of s h)) (ag
       by slot lt at (stays same) = none slot lt (sym same ∙ at)
       by slot lt at (frees g free) = absurd (cc (sym free ∙ at))
 
+  -- a slot that is held then was held by the same version
+  was : (slot : ℕ) (v : Version) → held slot ≡ Some v → h.held slot ≡ Some v
+  was slot v at = by (only slot)
+    where
+      by : OnlyFrees q held slot → h.held slot ≡ Some v
+      by (stays same) = sym same ∙ at
+      by (frees g free) = absurd (cc (sym free ∙ at))
+
   same-writer : (v w : Version) → Some v ≡ Some w → v.writer ≡ w.writer
   same-writer v w e = cc e
 
@@ -92,7 +101,7 @@ module _ (s : Sessions) (h : Hidden) (keeps : Keeps h.origin (plain_of s h)) (ag
   session-left : (n : ℕ) (seen : ℕ) (t : Option Transaction) → HoldsSession h.origin q n seen t → HoldsSession h.origin then n seen t
   session-left n seen None has = tt
   session-left n seen (Some (Active snapshot writes)) has = (
-    record { covered = λ t before out. has.0.covered t before (λ is. out (still is)); early = has.0.early },
+    record { covered = λ t before out. has.0.covered t before (λ is. out (still is)); early = has.0.early; gaps = has.0.gaps },
     λ k d lt. let write = has.1 k d lt in record { slot = slot-left _ _ (session-read n _) write.slot; row = write.row },
   )
   session-left n seen (Some (Drawn t)) has = tt
@@ -136,19 +145,28 @@ module _ (s : Sessions) (h : Hidden) (keeps : Keeps h.origin (plain_of s h)) (ag
   entry-left key e same has = record {
     live = slot-left (newest_of q key) (live_of e) (newest-read key) has.live;
     last = has.last;
-    newest = λ slot at. let version = has.newest slot at in record { within = version.within; timestamp = version.timestamp; held = same slot at ∙ version.held };
+    newest = λ t slot last lt at. has.newest t slot last lt (was slot (version_by key (ByCommit t)) at);
+    only = λ slot at. let version = has.only slot at in record { within = version.within; timestamp = version.timestamp; held = same slot at ∙ version.held };
     drawn = has.drawn;
   }
 
   -- one that is forgotten, since its slot is freed
-  pub entry-forgotten : (key : Key) (e : Entry) (slot : ℕ) → e.newest ≡ Some slot → IsGarbage q slot → HoldsEntry h.origin q key e → HoldsEntry h.origin then key (record e { newest = None; ended = false })
-  entry-forgotten key e slot at g has = record {
+  pub entry-forgotten : (key : Key) (e : Entry) (slot : ℕ) → e.newest ≡ Some slot → IsGarbage q slot → held slot ≡ None → HoldsEntry h.origin q key e → HoldsEntry h.origin then key (record e { newest = None; ended = false })
+  entry-forgotten key e slot at g gone has = record {
     live = slot-left (newest_of q key) None (newest-read key) (none e.ended refl);
     last = has.last;
-    newest = λ other none. absurd (cc none);
+    newest = λ t other last lt there. absurd (unheld t other last lt there);
+    only = λ other none. absurd (cc none);
     drawn = has.drawn;
   }
     where
+      -- the newest row version is the one that is freed
+      unheld : (t other : ℕ) → last_row h.history key ≡ Some t → other < s.numbers.geometry.slots → held other ≡ Some (version_by key (ByCommit t)) → ⊥
+      unheld t other last lt there =
+          let both : Some slot ≡ Some other = sym at ∙ has.newest t other last lt (was other (version_by key (ByCommit t)) there) in
+          let same : slot ≡ other = cc both in
+          cc (sym gone ∙ ap held same ∙ there)
+
       none : (b : Bool) → e.ended ≡ b → IsSlotOf q (newest_of q key) None
       none true is = subst (IsSlotOf q (newest_of q key)) (ap (λ (b : Bool). cond b None e.newest) is) has.live
       none false is =

@@ -153,7 +153,7 @@ deletes s ts slots n key snapshot writes h at full gives sets holds = record {
   origin = refl;
   drawers = same-drawers s.drawn.commits;
   agrees = agrees-changed s h ts slots h.seen held n (Some (Active snapshot (with_write_at (deletion key) writes))) holds.agrees sets (λ slot. moves slot (is_own_at n key (h.held slot)) refl) (λ m apart. refl)
-      (record { covered = session.0.covered; early = session.0.early }, written)
+      (record { covered = session.0.covered; early = session.0.early; gaps = session.0.gaps }, written)
       (λ k d lt there. absurd (cc (at, there))) (λ slot lt. free slot lt (is_own_at n key (h.held slot)) refl (own_of key writes) own gives) (counted (own_of key writes) gives);
   stepped = answered (delete-asks s h n key snapshot writes false holds at full) refl
       (λ i. record (plain_of s h) { sessions = λ m. (sessions-kept s.transactions ts h.seen n (Some (Active snapshot (with_write_at (deletion key) writes))) sets m ∙ ap (λ (x : Option Session). replaced n x (plain_of s h).sessions m) now) i; held = held });

@@ -36,7 +36,7 @@ module _ (s : Sessions) (h : Hidden) (hand : Option Hand) (failed : Bool) (a : A
   session-with : (n seen : ℕ) (t : Option Transaction) → HoldsSession h.origin was n seen t → HoldsSession h.origin is n seen t
   session-with n seen None held = tt
   session-with n seen (Some (Active snapshot writes)) held =
-      (record { covered = held.0.covered; early = held.0.early }, λ k d lt. write-with (BySession n) (slice_index_or writes k d) (held.1 k d lt))
+      (record { covered = held.0.covered; early = held.0.early; gaps = held.0.gaps }, λ k d lt. write-with (BySession n) (slice_index_or writes k d) (held.1 k d lt))
   session-with n seen (Some (Drawn t)) held = tt
   session-with n seen (Some ReadOnly) held = tt
 
@@ -52,7 +52,8 @@ module _ (s : Sessions) (h : Hidden) (hand : Option Hand) (failed : Bool) (a : A
     index = λ key. record {
       live = slot-with (newest_of was key) (live_of (entry_at s.index key)) (a.index key).live;
       last = (a.index key).last;
-      newest = λ slot at. let has = (a.index key).newest slot at in record { within = has.within; timestamp = has.timestamp; held = has.held };
+      newest = (a.index key).newest;
+      only = λ slot at. let has = (a.index key).only slot at in record { within = has.within; timestamp = has.timestamp; held = has.held };
       drawn = (a.index key).drawn;
     };
     lines = record { own = a.lines.own; none = a.lines.none };

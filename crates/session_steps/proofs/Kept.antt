@@ -51,6 +51,14 @@ version-kept n q q' key slot same has =
     let is = slot-kept n q q' (version_by key (ByCommit has.timestamp)) (Some slot) same refl (has.within, has.held) in
     record { within = is.0; timestamp = has.timestamp; held = is.1 }
 
+-- and was in it before
+pub version-before : (n : ℕ) (q q' : State) (key : Key) (slot t : ℕ) → SameBut n q q' → q'.held slot ≡ Some (version_by key (ByCommit t)) → q.held slot ≡ Some (version_by key (ByCommit t))
+version-before n q q' key slot t same at = by (same.held slot)
+  where
+    by : (q'.held slot ≡ q.held slot) ⊎ ((is_nobodys_or n (q.held slot) ≡ true) × (is_nobodys_or n (q'.held slot) ≡ true)) → q.held slot ≡ Some (version_by key (ByCommit t))
+    by (inl stays) = sym stays ∙ at
+    by (inr own) = absurd (by-other n (q'.held slot) (version_by key (ByCommit t)) at own.1 refl)
+
 pub write-kept : (n : ℕ) (q q' : State) (writer : Writer) (write : Write) → SameBut n q q' → is_by n writer ≡ false → HasItsSlot q writer write → HasItsSlot q' writer write
 write-kept n q q' writer write same other has = record { slot = slot-kept n q q' (version_by write.key writer) write.slot same other has.slot; row = has.row }
 

@@ -127,11 +127,23 @@ module _ (a : Layout) (ruling : Record) (next : ℕ) (free : List Bool) (q : Sta
         let none : is_some (entry_at index (key_of (image_of device) slot)).newest ≡ false = ap (λ (k : Key). is_some (entry_at index k).newest) has.1.at ∙ ap (λ (o : Option ℕ). is_some o) is in
         true≢false (sym some ∙ none)
 
+    -- a version that holds a slot of the key is found there
+    newest-found : (slot t : ℕ) → slot < q.layout.slots → q.held slot ≡ Some (version_by key (ByCommit t)) → (o : Option ℕ) → (entry_at index key).newest ≡ o → (entry_at index key).newest ≡ Some slot
+    newest-found slot t lt held o is = by o is (newest-slot o is)
+      where
+        newest : q.held slot ≡ Some (newest_of q key)
+        newest = held ∙ ap (λ (v : Version). Some v) (held-newest slot (version_by key (ByCommit t)) lt held)
+
+        by : (o : Option ℕ) → (entry_at index key).newest ≡ o → IsSlotOf q (newest_of q key) o → (entry_at index key).newest ≡ Some slot
+        by None is none = absurd (none slot lt newest)
+        by (Some other) is at = is ∙ ap (λ (k : ℕ). Some k) (u.keeps.owns.once other slot (newest_of q key) at.0 lt at.1 newest)
+
     pub holds-found : HoldsEntry (origin_of q) q key (entry_at index key)
     holds-found = record {
       live = subst (IsSlotOf q (newest_of q key)) (sym (ap (λ (e : Entry). live_of e) (found.nothing_else key))) (newest-slot (entry_at index key).newest refl);
       last = ap (λ (e : Entry). e.last) (found.nothing_else key) ∙ ap (last_on key) (sym life);
-      newest = λ slot at. let is = newest-slot (Some slot) at in record { within = is.0; timestamp = last_writer q.history key; held = is.1 };
+      newest = λ t slot last lt held. newest-found slot t lt held (entry_at index key).newest refl;
+      only = λ slot at. let is = newest-slot (Some slot) at in record { within = is.0; timestamp = last_writer q.history key; held = is.1 };
       drawn = λ slot at. absurd (none-some slot (sym (ap (λ (e : Entry). e.drawn) (found.nothing_else key)) ∙ at));
     }
 

@@ -39,7 +39,7 @@ use Rattle.state_invariant.specs.Kept.{version_by}
 use Rattle.state_invariant.proofs.Lookups.{apart-keys, first_below-some}
 use Rattle.state_invariant.proofs.Writing.{version-parts, free_slot-some}
 use Rattle.device_invariant.specs.Upholds.{Upholds}
-use Rattle.step_invariant.specs.Moves.{IsSlotOf, unless_own, put_operations}
+use Rattle.step_invariant.specs.Moves.{IsSlotOf, unless_own, put_operations, LinksNewest}
 use Rattle.step_invariant.proofs.Counting.{puts-count}
 use Rattle.step_invariant.proofs.Putting.{puts-lead}
 use Rattle.session_steps.specs.declared.sessions.Sessions.{Sessions}
@@ -110,9 +110,20 @@ link-fits s h key holds = by (entry_at s.index key).drawn refl (entry_at s.index
     e = holds.agrees.index key
 
     by : (d : Option ℕ) → (entry_at s.index key).drawn ≡ d → (m : Option ℕ) → (entry_at s.index key).newest ≡ m → link_number (option_or d m) ≤ s.numbers.geometry.slots
-    by (Some slot) is m newest = let lt = e.drawn slot is in omega (arith, lt)
-    by None is (Some slot) newest = let lt = (e.newest slot newest).within in omega (arith, lt)
+    by (Some slot) is m newest = let lt = (e.drawn slot is).0 in omega (arith, lt)
+    by None is (Some slot) newest = let lt = (e.only slot newest).within in omega (arith, lt)
     by None is None newest = omega arith
+
+-- where no commit bars the session from drawing, it is the newest that is held
+pub link-newest : (s : Sessions) (h : Hidden) (n : ℕ) (v : Content) → Holds s h → v.previous ≡ head_of (entry_at s.index v.key) → LinksNewest (plain_of s h) n v
+link-newest s h n v holds is free t slot last lt held = is ∙ by (entry_at s.index v.key).drawn refl
+  where
+    e : HoldsEntry h.origin (plain_of s h) v.key (entry_at s.index v.key)
+    e = holds.agrees.index v.key
+
+    by : (d : Option ℕ) → (entry_at s.index v.key).drawn ≡ d → option_or d (entry_at s.index v.key).newest ≡ Some slot
+    by None none = e.newest t slot last lt held
+    by (Some other) at = let d = (e.drawn other at).1 in absurd (cc (sym (free.drawn d.0 d.1 d.2) ∙ d.3))
 
 -- the write of a row
 abbrev pub row-at : Key → List ℕ → ℕ → Write
@@ -180,17 +191,17 @@ module _ (s : Sessions) (h : Hidden) (n : ℕ) (snapshot : Seen) (writes : List 
         → Agrees after-put h.origin h.seen then
     agrees-put moves its lt others free counted =
         agrees-changed s h ts slots h.seen (held_after_put q n v.key) n (Some (Active snapshot (with_write_at new writes))) holds.agrees sets moves (λ m apart. refl) (
-          record { covered = session.0.covered; early = session.0.early },
+          record { covered = session.0.covered; early = session.0.early; gaps = session.0.gaps },
           all-with_write_at (HasItsSlot then (BySession n)) new writes (rising-plain h.origin q n (h.seen n) writes holds.upholds.keeps here) (record { slot = (lt, its); row = refl })
               (λ k d below apart. record { slot = others _ apart _ (session.1 k d below).slot; row = (session.1 k d below).row }),
         )
         (λ k d below there. absurd (cc (at, there))) free counted
 
     -- all of it
-    goes-put : Agrees after-put h.origin h.seen then → Fits s.numbers.geometry v → refusal q (step.Put n v.key v.row) ≡ None → slot < s.numbers.geometry.slots → held_after_put q n v.key slot ≡ Some (version_by v.key (BySession n))
+    goes-put : Agrees after-put h.origin h.seen then → Fits s.numbers.geometry v → v.previous ≡ head_of (entry_at s.index v.key) → refusal q (step.Put n v.key v.row) ≡ None → slot < s.numbers.geometry.slots → held_after_put q n v.key slot ≡ Some (version_by v.key (BySession n))
         → Runs (put_operations q n n slot v) before now → list_all (is_by_actor (Some n)) (put_operations q n n slot v) ≡ true → GoesOn s after-put before now (Put n v.key v.row) Done h
-    goes-put agrees fits allowed lt its run by-actor =
-        let leads = puts-lead.stored h.origin q n n slot v before now fits allowed lt its run holds.upholds in
+    goes-put agrees fits linked allowed lt its run by-actor =
+        let leads = puts-lead.stored h.origin q n n slot v before now fits allowed lt its (link-newest s h n v held linked) run holds.upholds in
         let counts = puts-count.stored q n n slot v before now run in
         record {
           next = hidden;
@@ -247,12 +258,12 @@ module _ (s : Sessions) (h : Hidden) (n : ℕ) (snapshot : Seen) (writes : List 
     own-allowed : refusal q (step.Put n v.key v.row) ≡ None
     own-allowed = allowed (Some slot) own-of refl
 
-    pub puts-own : (ts : List (Option Transaction)) → Sets s.transactions ts n (Some (Active snapshot (with_write_at new writes))) → Fits s.numbers.geometry v → Runs (fill_operations s.numbers.geometry slot v) before now
+    pub puts-own : (ts : List (Option Transaction)) → Sets s.transactions ts n (Some (Active snapshot (with_write_at new writes))) → Fits s.numbers.geometry v → v.previous ≡ head_of (entry_at s.index v.key) → Runs (fill_operations s.numbers.geometry slot v) before now
         → GoesOn s (record s { transactions = ts }) before now (Put n v.key v.row) Done h
-    puts-own ts sets fits run =
+    puts-own ts sets fits linked run =
         goes-put ts s.slots sets
         (agrees-put ts s.slots sets (λ k. inl (λ i. held-same i k)) own-held own-here.0 (λ other apart o has. stays other o has) (λ k lt. holds.agrees.free k lt ∙ (λ i. Some (is_none (sym held-same i k)))) holds.agrees.counted)
-        fits own-allowed own-here.0 own-held (subst (λ (ops : List Operation). Runs ops before now) (sym own-operations) run) own-only
+        fits linked own-allowed own-here.0 own-held (subst (λ (ops : List Operation). Runs ops before now) (sym own-operations) run) own-only
       where
         stays : (other : Key) (o : Option ℕ) → IsSlotOf q (version_by other (BySession n)) o → IsSlotOf (then ts s.slots sets) (version_by other (BySession n)) o
         stays other (Some k) has = (has.0, (λ i. held-same i k) ∙ has.1)
@@ -291,11 +302,11 @@ module _ (s : Sessions) (h : Hidden) (n : ℕ) (snapshot : Seen) (writes : List 
     taken-allowed = allowed None none (ap (λ (o : Option ℕ). is_none o) free-slot)
 
     pub puts-taken : (ts : List (Option Transaction)) (slots : List Bool) → slots ≡ slice_set s.slots slot false → Sets s.transactions ts n (Some (Active snapshot (with_write_at new writes))) → Fits s.numbers.geometry v
-        → Runs (clear_operations s.numbers.geometry n slot ++ fill_operations s.numbers.geometry slot v) before now → GoesOn s (record s { transactions = ts; slots = slots }) before now (Put n v.key v.row) Done h
-    puts-taken ts slots taken sets fits run =
+        → v.previous ≡ head_of (entry_at s.index v.key) → Runs (clear_operations s.numbers.geometry n slot ++ fill_operations s.numbers.geometry slot v) before now → GoesOn s (record s { transactions = ts; slots = slots }) before now (Put n v.key v.row) Done h
+    puts-taken ts slots taken sets fits linked run =
         goes-put ts slots sets
         (agrees-put ts slots sets (λ k. moves k (nat_eq k slot) refl) taken-held free-here.0 others (λ k lt. free k lt (nat_eq k slot) refl) (ap (λ (xs : List Bool). length xs) taken ∙ length-set s.slots slot false ∙ holds.agrees.counted))
-        fits taken-allowed free-here.0 taken-held (subst (λ (ops : List Operation). Runs ops before now) (sym taken-operations) run) taken-only
+        fits linked taken-allowed free-here.0 taken-held (subst (λ (ops : List Operation). Runs ops before now) (sym taken-operations) run) taken-only
       where
         at-slot : (k : ℕ) → held_after_put q n v.key k ≡ cond (nat_eq k slot) (Some (version_by v.key (BySession n))) (h.held k)
         at-slot k = λ i. held-taken i k

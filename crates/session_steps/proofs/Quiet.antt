@@ -133,7 +133,7 @@ begins s ts n snapshot h lowest is sets holds = record {
     sees =
         let present = present-sees h.origin (plain_of s h) holds.keeps in
         let all : Sees h.origin (plain_of s h) snapshot (length h.history) = subst (λ (x : Seen). Sees h.origin (plain_of s h) x (length h.history)) (sym is) present in
-        record { covered = all.covered; early = all.early }
+        record { covered = all.covered; early = all.early; gaps = all.gaps }
 
 -- a begin that finds no number, or no memory
 pub begins-not : (s : Sessions) (fault : Fault) (h : Hidden) → (fault ≡ SessionsFull) × IsFull s.transactions ⊎ (fault ≡ OutOfMemory) × ((n : ℕ) × IsLowestFree s.transactions n) → Holds s h

@@ -25,12 +25,15 @@ use Rattle.txn.specs.declared.write.Write.{Write}
 use Rattle.txn.specs.Transactions.{transaction_at}
 use Rattle.txn.specs.WriteSets.{write_of, plain_writes}
 use Rattle.txn.proofs.Plain.{lookup_key-plain_writes}
+use Rattle.snapshot.specs.Walks.{IsLinked}
+use Rattle.index.specs.Entries.{entry_at}
 use Rattle.index.specs.Reading.{CountsAs, ShowsTables}
 use Rattle.state_invariant.specs.Kept.{Origin}
 use Rattle.device_invariant.specs.Log.{HoldsHand, writing_at}
 use Rattle.device_invariant.specs.Upholds.{Upholds}
 use Rattle.session_invariant.specs.Sees.{ReadsBy}
 use Rattle.session_invariant.proofs.Reading.{reads}
+use Rattle.session_invariant.proofs.Chains.{links-lead}
 use Rattle.session_steps.specs.declared.sessions.Sessions.{Sessions}
 use Rattle.session_steps.specs.Shows.{Hidden, plain_of, plain_session, HoldsSession}
 use Rattle.session_steps.specs.Steps.{Holds, HoldsOn, Goes}
@@ -75,7 +78,7 @@ gets-own s n key row snapshot writes write h at wrote is holds = record {
 -- the row of its snapshot
 pub gets-seen : (s : Sessions) (device : Device) (n : ℕ) (key : Key) (row : Option (List ℕ)) (snapshot : Seen) (writes : List Write) (h : Hidden) → IsOrderly device → transaction_at s.transactions n ≡ Some (Active snapshot writes)
     → write_of key writes ≡ None
-    → ((counts : ℕ → Bool) (tables : Tables) → CountsAs counts snapshot s.numbers.geometry (image_of device) → ShowsTables counts s.numbers.geometry (image_of device) tables → row ≡ tables key)
+    → ((counts : ℕ → Bool) (tables : Tables) → CountsAs counts snapshot s.numbers.geometry (image_of device) → IsLinked snapshot (image_of device) key (entry_at s.index key).newest → ShowsTables counts s.numbers.geometry (image_of device) tables → row ≡ tables key)
     → HoldsOn s h device → Goes s s (Get n key) (Row row) h
 gets-seen s device n key row snapshot writes h orderly at unwritten told holds = record {
   next = h;
@@ -93,5 +96,8 @@ gets-seen s device n key row snapshot writes h orderly at unwritten told holds =
     reading : ReadsBy (covers snapshot) s.numbers.geometry (after (take (h.seen n) h.history)) (image_of device)
     reading = reads h.origin (plain_of s h) device snapshot (h.seen n) orderly holds.upholds (inr (n, plain_writes writes, found s h n _ at)) session.0
 
+    linked : IsLinked snapshot (image_of device) key (entry_at s.index key).newest
+    linked = links-lead h.origin (plain_of s h) device snapshot (h.seen n) key (entry_at s.index key).newest orderly holds.upholds (inr (n, plain_writes writes, found s h n _ at)) session.0 (holds.agrees.index key).newest
+
     seen : row ≡ after (take (h.seen n) h.history) key
-    seen = told (covers snapshot) (after (take (h.seen n) h.history)) (record { laid_out = laid-out h.origin (plain_of s h) device orderly holds.upholds; live = λ slot lt. refl }) (record { rows = reading.rows; fits = reading.fits })
+    seen = told (covers snapshot) (after (take (h.seen n) h.history)) (record { laid_out = laid-out h.origin (plain_of s h) device orderly holds.upholds; live = λ slot lt. refl }) linked (record { rows = reading.rows; fits = reading.fits })

@@ -24,10 +24,12 @@ use Rattle.txn.proofs.KeyOrder.{lt_apart}
 use Rattle.txn.proofs.Rising.{rising_tail, first_below_rest}
 use Rattle.index.specs.declared.ranges.KeyRange.{KeyRange}
 use Rattle.index.specs.declared.ranges.KeyRange.TheVariants.{Within}
-use Rattle.index.specs.Entries.{key_cmp}
+use Rattle.index.specs.Entries.{key_cmp, entry_at}
+use Rattle.index.specs.Walking.{AreLinked}
 use Rattle.index.specs.Reading.{CountsAs, ShowsTables, HasRows, contains, ranged}
 use Rattle.session_invariant.specs.Sees.{ReadsBy}
 use Rattle.session_invariant.proofs.Reading.{reads}
+use Rattle.session_invariant.proofs.Chains.{links-lead}
 use Rattle.session_steps.specs.declared.sessions.Sessions.{Sessions}
 use Rattle.session_steps.specs.Shows.{Hidden, plain_of, plain_session, HoldsSession}
 use Rattle.session_steps.specs.Steps.{Holds, HoldsOn, Goes}
@@ -112,7 +114,7 @@ scans-nothing s n table lo hi snapshot writes h at holds = record {
 
 -- the rows that the session sees
 pub scans-seen : (s : Sessions) (device : Device) (n table lo hi : ℕ) (rows : List (Key × List ℕ)) (snapshot : Seen) (writes : List Write) (h : Hidden) → IsOrderly device → transaction_at s.transactions n ≡ Some (Active snapshot writes)
-    → ((counts : ℕ → Bool) (tables : Tables) → CountsAs counts snapshot s.numbers.geometry (image_of device) → ShowsTables counts s.numbers.geometry (image_of device) tables
+    → ((counts : ℕ → Bool) (tables : Tables) → CountsAs counts snapshot s.numbers.geometry (image_of device) → AreLinked snapshot (image_of device) s.index → ShowsTables counts s.numbers.geometry (image_of device) tables
     → Lists rows (ranged (Within table lo hi) (overlaid (plain_writes writes) tables)))
     → HoldsOn s h device → Goes s s (Scan n table lo hi) (Rows rows) h
 scans-seen s device n table lo hi rows snapshot writes h orderly at read holds = record {
@@ -130,5 +132,8 @@ scans-seen s device n table lo hi rows snapshot writes h orderly at read holds =
     reading : ReadsBy (covers snapshot) s.numbers.geometry (after (take (h.seen n) h.history)) (image_of device)
     reading = reads h.origin (plain_of s h) device snapshot (h.seen n) orderly holds.upholds (inr (n, plain_writes writes, found s h n _ at)) session.0
 
+    linked : AreLinked snapshot (image_of device) s.index
+    linked key = links-lead h.origin (plain_of s h) device snapshot (h.seen n) key (entry_at s.index key).newest orderly holds.upholds (inr (n, plain_writes writes, found s h n _ at)) session.0 (holds.agrees.index key).newest
+
     listed : Lists rows (in_range table lo hi (overlaid (plain_writes writes) (after (take (h.seen n) h.history))))
-    listed = read (covers snapshot) (after (take (h.seen n) h.history)) (record { laid_out = laid-out h.origin (plain_of s h) device orderly holds.upholds; live = λ slot lt. refl }) (record { rows = reading.rows; fits = reading.fits })
+    listed = read (covers snapshot) (after (take (h.seen n) h.history)) (record { laid_out = laid-out h.origin (plain_of s h) device orderly holds.upholds; live = λ slot lt. refl }) linked (record { rows = reading.rows; fits = reading.fits })

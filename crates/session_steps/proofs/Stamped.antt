@@ -16,7 +16,8 @@ use Rattle.base.specs.declared.step.SessionStep.TheVariants.{Stamp}
 use Rattle.base.specs.declared.step.SessionReply.{SessionReply}
 use Rattle.base.specs.declared.step.SessionReply.TheVariants.{Stamped, More, Refused}
 use Rattle.base.specs.SessionSteps.{as_reply}
-use Rattle.base.specs.Commits.{Commit}
+use Rattle.base.specs.Commits.{Commit, writes_key}
+use Rattle.base.specs.declared.key.Key.{Key}
 use Rattle.base.specs.Layout.{Layout}
 use Rattle.base.specs.Stands.{has_timestamp}
 use Rattle.base.specs.Machine.{State, Session, Drawn as PlainDrawn, ByCommit, Drew, IsCovered, IsStamped, IsDrawn, answered, device_failed, refusal, next_state, allows, standing_of, is_stamped, timestamp_of, counted, drawn_at, stamped_write, is_last_stamp, StandsWithin}
@@ -85,6 +86,24 @@ sessions-stamped : (t : ℕ) (ds : List DrawnCommit) → map (λ (d : DrawnCommi
 sessions-stamped t [] = refl
 sessions-stamped t (d ∷ ds) = λ i. same-session t d i ∷ sessions-stamped t ds i
 
+abbrev found_in : ℕ → List DrawnCommit → Option PlainDrawn
+found_in u ds = find (λ (e : PlainDrawn). nat_eq e.commit.timestamp u) (map plain_drawn ds)
+
+abbrev IsStill : ℕ → ℕ → PlainDrawn → List DrawnCommit → Type 0
+IsStill t u d ds = (e : PlainDrawn) × (found_in u (map (with_stamp t) ds) ≡ Some e) × (e.commit ≡ d.commit)
+
+-- one that is found by its timestamp is found still
+found-stamped : (t u : ℕ) (ds : List DrawnCommit) (d : PlainDrawn) → found_in u ds ≡ Some d → IsStill t u d ds
+found-stamped t u [] d is = absurd (cc is)
+found-stamped t u (c ∷ ds) d is = by (nat_eq c.timestamp u) refl is (found-stamped t u ds d)
+  where
+    head : (b : Bool) → nat_eq c.timestamp u ≡ b → found_in u (map (with_stamp t) (c ∷ ds)) ≡ cond b (Some (plain_drawn (with_stamp t c))) (found_in u (map (with_stamp t) ds))
+    head b it = ap (λ (b : Bool). cond b (Some (plain_drawn (with_stamp t c))) (found_in u (map (with_stamp t) ds))) (ap (λ (x : Commit). nat_eq x.timestamp u) (same-commit t c) ∙ it)
+
+    by : (b : Bool) → nat_eq c.timestamp u ≡ b → cond b (Some (plain_drawn c)) (found_in u ds) ≡ Some d → (found_in u ds ≡ Some d → IsStill t u d ds) → IsStill t u d (c ∷ ds)
+    by true it is rest = let this : plain_drawn c ≡ d = cc is in (plain_drawn (with_stamp t c), head true it, same-commit t c ∙ ap (λ (x : PlainDrawn). x.commit) this)
+    by false it is rest = let r = rest is in (r.0, head false it ∙ r.1, r.2)
+
 -- ---- what agrees then
 
 module _ (s : Sessions) (h : Hidden) (t spare : ℕ) where
@@ -93,7 +112,7 @@ module _ (s : Sessions) (h : Hidden) (t spare : ℕ) where
 
   session-stamped : (n seen : ℕ) (x : Option Transaction) → HoldsSession h.origin (plain_of s h) n seen x → HoldsSession h.origin (plain_of stamped h) n seen x
   session-stamped n seen None has = tt
-  session-stamped n seen (Some (Active snapshot writes)) has = (record { covered = has.0.covered; early = has.0.early }, λ k d lt. record { slot = (has.1 k d lt).slot; row = (has.1 k d lt).row })
+  session-stamped n seen (Some (Active snapshot writes)) has = (record { covered = has.0.covered; early = has.0.early; gaps = has.0.gaps }, λ k d lt. record { slot = (has.1 k d lt).slot; row = (has.1 k d lt).row })
   session-stamped n seen (Some (Drawn u)) has = tt
   session-stamped n seen (Some ReadOnly) has = tt
 
@@ -113,8 +132,9 @@ module _ (s : Sessions) (h : Hidden) (t spare : ℕ) where
     index = λ key. let e = agrees.index key in record {
       live = e.live;
       last = e.last ∙ ap (λ (cs : List Commit). last_on key (covered_since h.origin (plain_of s h) ++ cs)) (sym (commits-stamped t s.drawn.commits));
-      newest = λ slot at. let has = e.newest slot at in record { within = has.within; timestamp = has.timestamp; held = has.held };
-      drawn = e.drawn;
+      newest = e.newest;
+      only = λ slot at. let has = e.only slot at in record { within = has.within; timestamp = has.timestamp; held = has.held };
+      drawn = λ slot at. let has = e.drawn slot at in let still = found-stamped t has.1.0 s.drawn.commits has.1.1 has.1.2 in (has.0, (has.1.0, still.0, still.1, ap (writes_key key) still.2 ∙ has.1.3));
     };
     lines = record {
       own = All-map (λ d. (line : ℕ) → is_touched s.dirty d.session line ≡ list_any (λ l. nat_eq l line) (line_numbers (plain_of stamped h) ((plain_drawn d).commit ∷ []))) (with_stamp t) s.drawn.commits

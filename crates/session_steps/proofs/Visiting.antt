@@ -361,9 +361,9 @@ module _ (s : Sessions) (h : Hidden) (before now : Device) (holds : HoldsOn s h 
             by : (b : Bool) → option_eq nat_eq (entry_at s.index key).newest (Some place) ≡ b → (g : Bool) → is_garbage q place ≡ g
                 → HoldsEntry h.origin then key (cond b (record (entry_at s.index key) { newest = None; ended = false }) (entry_at s.index key))
             by true same true garbage =
-                entry-forgotten s h u.keeps holds.agrees collector slots index held still (λ slot. visit-frees h.origin q place slot u.keeps) key (entry_at s.index key) place (same-option (entry_at s.index key).newest place same) (garbage-is h.origin q place u.keeps garbage) (holds.agrees.index key)
+                entry-forgotten s h u.keeps holds.agrees collector slots index held still (λ slot. visit-frees h.origin q place slot u.keeps) key (entry_at s.index key) place (same-option (entry_at s.index key).newest place same) (garbage-is h.origin q place u.keeps garbage) (garbage-none garbage) (holds.agrees.index key)
             by true same false live =
-                let version = (holds.agrees.index key).newest place (same-option (entry_at s.index key).newest place same) in
+                let version = (holds.agrees.index key).only place (same-option (entry_at s.index key).newest place same) in
                 absurd (cc (sym (held-none live) ∙ version.held))
             by false apart g garbage = entry-kept key (λ slot newest. held-other slot (λ same. absurd (true≢false (sym (option-same (entry_at s.index key).newest place (newest ∙ ap (λ (k : ℕ). Some k) same)) ∙ apart))))
 
@@ -379,7 +379,7 @@ module _ (s : Sessions) (h : Hidden) (before now : Device) (holds : HoldsOn s h 
             by true garbage =
                 let g = garbage-is h.origin q place u.keeps garbage in
                 entry-kept key (λ slot newest. held-other slot (λ same.
-                let version = (holds.agrees.index key).newest slot newest in
+                let version = (holds.agrees.index key).only slot newest in
                 absurd (apart (found-key g ∙ same-key (version_by g.key (ByCommit g.timestamp)) (version_by key (ByCommit version.timestamp)) (sym g.held ∙ sym (ap h.held same) ∙ version.held)))))
 
       entries : (key : Key) → HoldsEntry h.origin then key (entry_at index key)

@@ -3,8 +3,8 @@ use Rattle.std.specs.Prelude.{◌≡◌, ℕ, ◌<◌, Bool, true, false, nat_eq
 use Rattle.std.specs.List.{list_any}
 use Rattle.std.specs.Option.{option_map}
 use Rattle.base.specs.declared.key.Key.{Key}
-use Rattle.base.specs.Commits.{Commit}
-use Rattle.base.specs.Machine.{State, Session, Active as Reads, Drew, WroteNothing, Drawn as PlainDrawn, Hand, Version, Writer, BySession, ByCommit}
+use Rattle.base.specs.Commits.{Commit, writes_key}
+use Rattle.base.specs.Machine.{State, Session, Active as Reads, Drew, WroteNothing, Drawn as PlainDrawn, Hand, Version, Writer, BySession, ByCommit, drawn_at}
 use Rattle.pmem.specs.Device.{Device}
 use Rattle.txn.specs.declared.drawn.DrawnCommit.{DrawnCommit}
 use Rattle.txn.specs.declared.transaction.Transaction.{Transaction}
@@ -17,6 +17,7 @@ use Rattle.dirty_table.specs.Touches.{is_touched}
 use Rattle.index.specs.declared.entry.Entry.{Entry}
 use Rattle.index.specs.Entries.{entry_at, has_room, live_of}
 use Rattle.state_invariant.specs.Kept.{Origin, commits_of_life, version_by}
+use Rattle.state_invariant.specs.Links.{HoldsNewest}
 use Rattle.device_invariant.specs.Slots.{newest_of}
 use Rattle.device_invariant.specs.Log.{lines_in, line_number}
 use Rattle.device_invariant.specs.Upholds.{Upholds}
@@ -81,13 +82,18 @@ pub record HasVersionOf (q : State) (key : Key) (slot : ℕ) : Type 0 where
   pub timestamp : ℕ
   pub held : q.held slot ≡ Some (version_by key (ByCommit timestamp))
 
+-- a drawn commit writes the key
+abbrev pub HasDrawn : State → Key → Type 0
+HasDrawn q key = (t : ℕ) × (d : PlainDrawn) × (drawn_at q t ≡ Some d) × (writes_key key d.commit ≡ true)
+
 -- what the index has of a key: the slot of its newest covered version, while that has a row, and the last timestamp that was
--- drawn for it in this life. Also the slot of a version that a deletion ended is the key's, as long as it isn't freed
+-- drawn for it in this life. Also the slot of a version that a deletion ended is the newest, as long as it isn't freed
 pub record HoldsEntry (o : Origin) (q : State) (key : Key) (entry : Entry) : Type 0 where
   pub live : IsSlotOf q (newest_of q key) (live_of entry)
   pub last : entry.last ≡ last_on key (commits_of_life o q)
-  pub newest : (slot : ℕ) → entry.newest ≡ Some slot → HasVersionOf q key slot
-  pub drawn : (slot : ℕ) → entry.drawn ≡ Some slot → slot < q.layout.slots
+  pub newest : HoldsNewest q key entry.newest
+  pub only : (slot : ℕ) → entry.newest ≡ Some slot → HasVersionOf q key slot
+  pub drawn : (slot : ℕ) → entry.drawn ≡ Some slot → (slot < q.layout.slots) × HasDrawn q key
 
 -- one of the drawn commits is the session's
 abbrev pub has_drawn_by : List DrawnCommit → ℕ → Bool

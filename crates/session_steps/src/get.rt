@@ -1,7 +1,6 @@
 use crate::sessions::Sessions;
 use base::key::Key;
 use base::step::SessionReply;
-use index::find_at;
 use pmem::Pmem;
 
 impl Sessions {
@@ -22,8 +21,7 @@ impl Sessions {
             Some(write) => SessionReply::Row(write.row),
             None => {
                 let geometry = self.numbers.geometry;
-                let hint = self.index.live(key);
-                match find_at(device, geometry, &active.snapshot, hint, key) {
+                match self.index.walk(device, geometry, key, &active.snapshot) {
                     Some(found) => SessionReply::Row(Some(found.row)),
                     None => SessionReply::Row(None),
                 }

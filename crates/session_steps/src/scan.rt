@@ -8,6 +8,7 @@ ghost use Rattle.base.specs.Layout.{total_words};
 ghost use Rattle.pmem.specs.Words.{image_of};
 ghost use Rattle.txn.specs.WriteSets.{plain_writes};
 ghost use Rattle.index.specs.Entries.{key_cmp};
+ghost use Rattle.index.specs.Walking.{AreLinked};
 ghost use Rattle.index.specs.Reading.{CountsAs, ShowsTables, HasRows, ranged};
 
 use crate::active::Active;
@@ -17,7 +18,7 @@ use base::key::Key;
 use base::row::Row;
 use base::rows::Rows;
 use base::step::SessionReply;
-use index::{KeyRange, listed, rows_by_key};
+use index::{KeyRange, listed};
 use pmem::Pmem;
 use std::alloc::AllocError;
 use std::collections::BTreeMap;
@@ -59,10 +60,13 @@ impl Sessions {
         range: KeyRange,
     ) -> Result<Vec<(Key, Row)>, AllocError>
         requires device { (D.state device.now).words ≡ total_words self.now.numbers.geometry }
-        ensures { IfOk result (λ rows. (counts : ℕ → Bool) (tables : Tables) → CountsAs counts active.now.snapshot self.now.numbers.geometry (image_of (D.state device.now)) → ShowsTables counts self.now.numbers.geometry (image_of (D.state device.now)) tables → Lists rows.items (ranged range (overlaid (plain_writes active.now.writes) tables))) }
+        ensures { IfOk result (λ rows. (counts : ℕ → Bool) (tables : Tables) → CountsAs counts active.now.snapshot self.now.numbers.geometry (image_of (D.state device.now)) → AreLinked active.now.snapshot (image_of (D.state device.now)) self.now.index → ShowsTables counts self.now.numbers.geometry (image_of (D.state device.now)) tables → Lists rows.items (ranged range (overlaid (plain_writes active.now.writes) tables))) }
     {
         let geometry = self.numbers.geometry;
-        let mut rows = match rows_by_key(self.alloc, device, geometry, &active.snapshot, range) {
+        let seen = self
+            .index
+            .rows_by_key(self.alloc, device, geometry, &active.snapshot, range);
+        let mut rows = match seen {
             Ok(rows) => rows,
             Err(fault) => return Err(fault),
         };

@@ -2,7 +2,7 @@ use crate::sessions::Sessions;
 use base::fault::Fault;
 use base::key::Key;
 use base::row::Row;
-use index::{KeyRange, rows};
+use index::KeyRange;
 use pmem::Pmem;
 use std::alloc::Global;
 
@@ -20,7 +20,7 @@ impl Sessions {
         ensures fault { IfErr result (λ fault. fault ≡ OutOfMemory) }
     {
         let snapshot = self.numbers.snapshot();
-        rows(
+        self.index.rows(
             alloc,
             device,
             self.numbers.geometry,

@@ -1,5 +1,5 @@
 -- A batch of any number of commits is chosen.
-use Rattle.std.proofs.Common.{◌||◌, ◌≡◌, ◌≢◌, ◌⊎◌, inl, inr, ℕ, zero, suc, ◌+◌, ◌^◌, ◌<◌, ◌≤◌, Bool, true, false, cond, not, ◌&&◌, List, [], ◌∷◌, map, filter, fold, take, length, refl, sym, ◌∙◌, ap, subst, arith, Option, Some, None, find, true≢false}
+use Rattle.std.proofs.Common.{◌||◌, ◌≡◌, ◌≢◌, ◌⊎◌, inl, inr, ℕ, suc, ◌+◌, ◌<◌, ◌≤◌, Bool, true, false, cond, not, ◌&&◌, List, [], ◌∷◌, map, filter, fold, length, refl, sym, ◌∙◌, ap, arith, Option, Some, None, find, true≢false}
 use Rattle.std.specs.Prelude.{nat_eq, nat_lt, nat_le, max, count_by}
 use Rattle.std.specs.List.{list_any, list_all}
 use Rattle.std.specs.Option.{option_map, option_or}
@@ -7,14 +7,13 @@ use Rattle.std.proofs.lemmas.Bool.{cases_eq, cases_lt, eq-eqb, eqb-true, ne_eqb,
 use Rattle.base.specs.Commits.{Commit}
 use Rattle.base.specs.Layout.{Layout, is_in_limits, is_known_version, is_between, most_longs}
 use Rattle.base.specs.declared.gap.Gap.{Gap}
-use Rattle.base.specs.Records.{Record, is_committed, is_in, is_well_formed, are_apart, are_rising}
-use Rattle.std.proofs.Math.Seq.{take-length}
+use Rattle.base.specs.Records.{Record, is_committed, is_in, is_well_formed, are_rising}
 use Rattle.base.specs.Stands.{has_timestamp}
 use Rattle.base.specs.Machine.{State, Drawn, drawn_at, drawn_of, is_stamped, may_be_covered, unstamped_below, is_chosen, is_passed, chosen, reach, passed_over, standing_gaps, target_of, taken_in_hand}
-use Rattle.state_invariant.specs.Kept.{Origin, KeepsHand, KeepsNumbers, Keeps, commit_at, commits_of_life, covered_since}
+use Rattle.state_invariant.specs.Kept.{Origin, KeepsHand, Keeps, commit_at, commits_of_life, covered_since}
 use Rattle.state_invariant.proofs.Lookups.{find-passes, find-all}
-use Rattle.state_invariant.proofs.Lists.{all-take, all-map, find-map, rising-above, rising-rest, rising-with, rising-filter, all-drop, all-filter_with}
-use Rattle.state_invariant.proofs.Commits.{commit_at-has, commit_at-some, commit_at-append, commit_at-drawn, drawn_at-timestamp, all-by_timestamp, timestamp-all, committed-bounds, uncommitted-gap}
+use Rattle.state_invariant.proofs.Lists.{all-map, find-map, rising-above, rising-rest, rising-filter, all-drop}
+use Rattle.state_invariant.proofs.Commits.{commit_at-has, commit_at-some, commit_at-append, commit_at-drawn, drawn_at-timestamp, all-by_timestamp, timestamp-all}
 use Rattle.base.proofs.WellFormed.{well_formed-parts, well_formed-from}
 use Rattle.state_invariant.proofs.Records.{well_formed-further, well_formed-dropped}
 use Rattle.state_invariant.proofs.Covering.{no_gap-above}

@@ -1,15 +1,20 @@
 -- A visit of the collector keeps what a state keeps, and what the slots show.
-use Rattle.std.proofs.Common.{◌≡◌, ◌≢◌, ◌⊎◌, inl, inr, ℕ, ◌+◌, ◌<◌, Bool, true, false, cond, List, [], take, refl, sym, ◌∙◌, ap, subst, arith, Option, Some, None}
+use Rattle.std.proofs.Common.{◌≡◌, ◌≢◌, ◌⊎◌, inl, inr, ℕ, ◌+◌, ◌<◌, ◌≤◌, Bool, true, false, cond, List, length, slice_get, [], take, refl, sym, ◌∙◌, ap, subst, arith, Option, Some, None}
 use Rattle.std.specs.Prelude.{IsTrue}
-use Rattle.std.proofs.lemmas.Bool.{cases_eq}
+use Rattle.std.proofs.lemmas.Bool.{cases_eq, cases_lt}
 use Rattle.base.specs.declared.gap.Gap.{Gap}
 use Rattle.base.specs.declared.key.Key.{Key}
-use Rattle.base.specs.Commits.{last_writer}
+use Rattle.base.specs.Commits.{Commit, last_writer}
+use Rattle.base.specs.Records.{is_committed}
 use Rattle.base.specs.Machine.{State, Drawn, Hand, Version, BySession, ByCommit, drawn_at, replaced}
 use Rattle.base.specs.Collecting.{is_garbage, is_at_slot, held_after_visit, slot_visited, sweep_ended, visited}
 use Rattle.state_invariant.specs.Kept.{Origin, KeepsHand, KeepsOrigin, Keeps, IsInUse, HasSlot, version_by, last_of}
 use Rattle.state_invariant.specs.Shown.{word_of, IsNever, is_drawn_on, Class, Free, Waiting, Begun, Newest, Replaced, class_of, class_of_version, ShowsAs, SlotShows, SlotsShow}
 use Rattle.state_invariant.proofs.Lookups.{replaced-same, replaced-other}
+use Rattle.state_invariant.proofs.Commits.{committed-bounds}
+use Rattle.state_invariant.proofs.Log.{IsWritten, writer-since, placed, one-place}
+use Rattle.state_invariant.proofs.Places.{front-fact}
+use Rattle.state_invariant.proofs.Reading.{above-origin, snapshot-bounds}
 use Rattle.state_invariant.proofs.Garbage.{IsGarbage, garbage-is, garbage-undrawn, garbage-ended}
 
 -- ---- slots are freed, the place moves, and a sweep ends
@@ -112,10 +117,28 @@ module _ (o : Origin) (q : State) (kept : Keeps o q) (held : ℕ → Option Vers
       let clash : ◌≡◌ {A = Option Drawn} None (Some d) = sym none ∙ found in
       cc clash
 
-  of-snapshot : (slot n : ℕ) (key : Key) → IsInUse q n → IsGarbage q slot → q.held slot ≡ Some (last_of q n key) → ⊥
-  of-snapshot slot n key in_use g at =
-      let same = same-commit slot g key (last_writer (take n q.history) key) at in
-      g.later n in_use (ap (last_writer (take n q.history)) same.0 ∙ sym same.1)
+  -- a version that is freed isn't the last on its key after the commits of a snapshot in use, or of a later one
+  of-snapshot : (slot n m : ℕ) (key : Key) → IsGarbage q slot → IsInUse q n → n ≤ m → m ≤ length q.history → q.held slot ≡ Some (last_of q m key) → ⊥
+  of-snapshot slot n m key g in_use since within held =
+      let same = same-commit slot g key (last_writer (take m q.history) key) held in
+      by same.1 (λ is. g.later n in_use (ap (last_writer (take n q.history)) same.0 ∙ is)) (writer-since q.history key n m since within)
+    where
+      bounds : (o.opened ≤ n) × (n ≤ length q.history)
+      bounds = snapshot-bounds o q kept n in_use
+
+      by : g.timestamp ≡ last_writer (take m q.history) key → (last_writer (take n q.history) key ≢ g.timestamp) → (last_writer (take m q.history) key ≡ last_writer (take n q.history) key) ⊎ IsWritten q.history key n m → ⊥
+      by stamps later (inl same) = later (sym same ∙ sym stamps)
+      by stamps later (inr w) =
+          let is : w.commit.timestamp ≡ g.timestamp = sym w.last ∙ sym stamps in
+          let p = placed q.history 0 n g.timestamp (g.among n in_use) in
+          let above : o.ruling.persisted < w.commit.timestamp = above-origin o q kept w.place w.commit (omega (arith, w.low, bounds.0)) w.at in
+          elim (cases_lt p.place o.opened) [
+            | inl before ↦ absurd (omega (arith, above, is, p.is, (committed-bounds o.ruling p.commit.timestamp (early p.place p.commit before p.at)).1))
+            | inr life ↦ absurd (omega (arith, p.high, w.low, one-place q.history o.opened p.place w.place p.commit w.commit kept.numbers.origin.distinct life (omega (arith, w.low, bounds.0)) p.at w.at (p.is ∙ sym is)))
+          ]
+        where
+          early : (place : ℕ) (c : Commit) → place < o.opened → slice_get q.history place ≡ Some c → is_committed o.ruling c.timestamp ≡ true
+          early place c lt at = front-fact (λ (c : Commit). is_committed o.ruling c.timestamp) q.history o.opened place c kept.numbers.origin.before lt at
 
   pub keeps-moved : Keeps o then
   keeps-moved =
@@ -138,14 +161,14 @@ module _ (o : Origin) (q : State) (kept : Keeps o q) (held : ℕ → Option Vers
           snapshots = n.snapshots;
           numbered = n.numbered;
         };
-        draws = record { rising = d.rising; apart = d.apart; counted = d.counted; in_order = d.in_order; sorted = d.sorted; drew = d.drew };
+        draws = record { rising = d.rising; apart = d.apart; counted = d.counted; in_order = d.in_order; sorted = d.sorted; drew = d.drew; rises = record { covered = d.rises.covered; drawn = d.rises.drawn } };
         owns = record {
           once = λ a b v lt_a lt_b at_a at_b. w.once a b v lt_a lt_b (was a v at_a) (was b v at_b);
           has = λ slot v lt at. w.has slot v lt (was slot v at);
           before = λ slot t key lt at. w.before slot t key lt (was slot (version_by key (ByCommit t)) at);
           by_session = λ n key row wrote. has-still (version_by key (BySession n)) (λ slot g at. of-session slot n key g at) (w.by_session n key row wrote);
           by_draw = λ t key d row found wrote. has-still (version_by key (ByCommit t)) (λ slot g at. of-drawn slot t key d found g at) (w.by_draw t key d row found wrote);
-          at_snapshot = λ n key row in_use there. has-still (last_of q n key) (λ slot g at. of-snapshot slot n key in_use g at) (w.at_snapshot n key row in_use there);
+          since_snapshot = λ n in_use m key row since within there. has-still (last_of q m key) (λ slot g at. of-snapshot slot n m key g in_use since within at) (w.since_snapshot n in_use m key row since within there);
         };
       }
 

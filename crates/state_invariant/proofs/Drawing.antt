@@ -9,7 +9,7 @@ use Rattle.std.proofs.lemmas.List.Folds.{find-append, list_all-map, list_any-app
 use Rattle.base.specs.declared.key.Key.{Key}
 use Rattle.base.specs.declared.step.Step.TheVariants.{Draw}
 use Rattle.base.specs.Keys.{lookup_key, key_eq, is_rising}
-use Rattle.base.specs.Commits.{Writes, Commit, writes_key}
+use Rattle.base.specs.Commits.{Writes, Commit, writes_key, last_writer}
 use Rattle.base.specs.Records.{is_committed, are_rising}
 use Rattle.base.specs.Stands.{has_timestamp}
 use Rattle.base.specs.Machine.{State, Session, Active, Drew, WroteNothing, Drawn, Hand, Version, Writer, BySession, ByCommit, drawn_at, drawn_of, writes_of, begun_of, is_by, by_commit, state_drawn, next_state, refusal, unseen_by, conflict_of, is_nil}
@@ -17,6 +17,7 @@ use Rattle.state_invariant.specs.Kept.{Origin, KeepsHand, KeepsOrigin, KeepsNumb
 use Rattle.state_invariant.proofs.Lookups.{same-keys, replaced-same, replaced-other, find-all}
 use Rattle.state_invariant.proofs.Lists.{all-drop, all-weaken, all-one_more, rising-one_more, find-map}
 use Rattle.state_invariant.proofs.Commits.{commit_at-none, commit_at-some, commit_at-has, timestamp-all, commit_at-append, drawn_at-timestamp, uncommitted-above}
+use Rattle.state_invariant.proofs.Log.{writer-bounded}
 use Rattle.state_invariant.proofs.Refusals.{allowed, active}
 use Rattle.state_invariant.proofs.Sessions.{numbered-set, number-writing, keeps-session, each-set}
 
@@ -227,7 +228,7 @@ module _ (o : Origin) (q : State) (n : ℕ) (write : Key × Option (List ℕ)) (
   is-new : (d : Drawn) → drawn_at then q.next ≡ Some d → newest ≡ d
   is-new d found = let same : Some newest ≡ Some d = sym (found-new o q (write ∷ rest) kept.numbers) ∙ found in cc same
 
-  draws-drawn : DrawsInOrder then
+  draws-drawn : DrawsInOrder o then
   draws-drawn = let k = kept.draws in record {
     rising = ap are_rising (map-append (λ d. d.commit.timestamp) q.drawn (newest ∷ []))
         ∙ rising-one_more (map (λ d. d.commit.timestamp) q.drawn) q.next k.rising
@@ -238,6 +239,7 @@ module _ (o : Origin) (q : State) (n : ℕ) (write : Key × Option (List ℕ)) (
     in_order = all-one_more (λ d. is_rising (map (λ write. write.0) d.commit.writes)) q.drawn newest k.in_order (ap (λ (ws : Writes). is_rising (map (λ (w : Key × Option (List ℕ)). w.0) ws)) (sym has_writes) ∙ k.sorted n);
     sorted = each-set (λ (s : Option Session). is_rising (map (λ write. write.0) (writes_of s)) ≡ true) n (Some (Drew q.next)) q.sessions refl k.sorted;
     drew = λ m t is. each-set (λ (s : Option Session). s ≡ Some (Drew t) → (has_timestamp q.history t ≡ true) ⊎ ((d : Drawn) × (drawn_at then t ≡ Some d))) n (Some (Drew q.next)) q.sessions (drew_now t) (λ m e. drew_before t (k.drew m t e)) m is;
+    rises = record { covered = k.rises.covered; drawn = λ t d key found writes. rises t d key found writes (cases_eq t q.next) };
   }
     where
       apart : (t u : ℕ) (d e : Drawn) (key : Key) → (t ≡ q.next) ⊎ (t ≢ q.next) → (u ≡ q.next) ⊎ (u ≢ q.next) → drawn_at then t ≡ Some d → drawn_at then u ≡ Some e → writes_key key d.commit ≡ true → writes_key key e.commit ≡ true → t ≡ u
@@ -249,6 +251,10 @@ module _ (o : Origin) (q : State) (n : ℕ) (write : Key × Option (List ℕ)) (
           let same : newest ≡ e = is-new e (ap (drawn_at then) (sym b) ∙ found_e) in
           absurd (true≢false (sym writes_d ∙ unlike-drawn q n key t d alone (writes-new key (ap (λ (x : Drawn). writes_key key x.commit) same ∙ writes_e)) (sym (found-old q (write ∷ rest) t a) ∙ found_d)))
       apart t u d e key (inr a) (inr b) found_d found_e writes_d writes_e = kept.draws.apart t u d e key (sym (found-old q (write ∷ rest) t a) ∙ found_d) (sym (found-old q (write ∷ rest) u b) ∙ found_e) writes_d writes_e
+
+      rises : (t : ℕ) (d : Drawn) (key : Key) → drawn_at then t ≡ Some d → writes_key key d.commit ≡ true → (t ≡ q.next) ⊎ (t ≢ q.next) → last_writer q.history key < t
+      rises t d key found writes (inl same) = omega (arith, same, writer-bounded q.ruling key q.history kept.numbers.covered, kept.numbers.persisted)
+      rises t d key found writes (inr other) = kept.draws.rises.drawn t d key (sym (found-old q (write ∷ rest) t other) ∙ found) writes
 
       drew_now : (t : ℕ) → Some (Drew q.next) ≡ Some (Drew t) → (has_timestamp q.history t ≡ true) ⊎ ((d : Drawn) × (drawn_at then t ≡ Some d))
       drew_now t e = let same : q.next ≡ t = cc e in inr (newest, ap (drawn_at then) (sym same) ∙ found-new o q (write ∷ rest) kept.numbers)
@@ -282,7 +288,7 @@ module _ (o : Origin) (q : State) (n : ℕ) (write : Key × Option (List ℕ)) (
     before = λ slot t k lt at. before slot t k lt (held-drawn n q.next (q.held slot) (version_by k (ByCommit t)) at);
     by_session = λ m k r is. by_session m k r is (cases_eq m n);
     by_draw = λ t k d r found wrote. by_draw t k d r found wrote (cases_eq t q.next);
-    at_snapshot = λ m k r in_use is. let old = kept.owns.at_snapshot m k r (used m in_use) is in (old.0, old.1, held-stays n q.next (q.held old.0) (last_of q m k) old.2 refl);
+    since_snapshot = λ m in_use more k r since within is. let old = kept.owns.since_snapshot m (used m in_use) more k r since within is in (old.0, old.1, held-stays n q.next (q.held old.0) (last_of q more k) old.2 refl);
   }
     where
       used : (m : ℕ) → IsInUse then m → IsInUse q m

@@ -4,6 +4,7 @@ use Rattle.std.specs.Prelude.{slice_index, Option, Some, None, unwrap_or, is_som
 use Rattle.std.specs.List.{list_all}
 use Rattle.std.proofs.lemmas.List.{take_all, drop_all}
 use Rattle.std.proofs.lemmas.Bool.{and_parts, and_from, and_right, and_cases, or_parts, or_left, cases_order, leb-true, leb-false, le-leb, lt-ltb, eq-eqb, not-true, not-false, cond-true, cond-false, false≢true, true≢false}
+use Rattle.std.proofs.lemmas.Option.{slice_get_within}
 use Rattle.base.specs.declared.key.Key.{Key}
 use Rattle.base.specs.declared.gap.Gap.{Gap}
 use Rattle.base.specs.Keys.{key_eq, lookup_key}
@@ -221,6 +222,10 @@ module _ (a : Layout) (r : Record) (image : Image) (history : List Commit) (lost
       in_order = refl;
       sorted = λ n. refl;
       drew = λ n t is. absurd (none-some _ is);
+      rises = record {
+        covered = λ place c key since at writes. absurd (omega (arith, since, slice_get_within history place c at));
+        drawn = λ t d key found writes. absurd (none-some d found);
+      };
     };
     owns = record {
       once = λ x y version hx hy ex ey.
@@ -236,7 +241,7 @@ module _ (a : Layout) (r : Record) (image : Image) (history : List Commit) (lost
           omega (arith, same, writer-before (key_of image slot) (row_of image slot) (live-row slot h held.live));
       by_session = λ n key row e. absurd (none-some (Some row) e);
       by_draw = λ t key d row found e. absurd (none-some d found);
-      at_snapshot = λ n key row in_use e. at_snapshot n key row in_use e;
+      since_snapshot = λ n in_use m key row since within e. at_all m key row (all-in n m in_use since within) e;
     };
   }
     where
@@ -246,9 +251,12 @@ module _ (a : Layout) (r : Record) (image : Image) (history : List Commit) (lost
           let within : found.0 < a.slots = subst (λ (l : Layout). found.0 < l.slots) opening.layout found.1 in
           (found.0, within, held-live a r image history found.0 within found.2 ∙ ap (λ (k : Key). Some (version_by k (ByCommit (last_writer history k)))) found.3)
 
-      at_snapshot : (n : ℕ) (key : Key) (row : List ℕ) → IsInUse start n → after (take n history) key ≡ Some row → HasSlot start (last_of start n key)
-      at_snapshot n key row (inr (session, writes, active)) e = absurd (none-some _ active)
-      at_snapshot n key row (inl all) e =
+      all-in : (n m : ℕ) → IsInUse start n → n ≤ m → m ≤ length history → m ≡ length history
+      all-in n m (inr (session, writes, active)) since within = absurd (none-some _ active)
+      all-in n m (inl all) since within = omega (arith, all, since, within)
+
+      at_all : (n : ℕ) (key : Key) (row : List ℕ) → n ≡ length history → after (take n history) key ≡ Some row → HasSlot start (last_of start n key)
+      at_all n key row all e =
           let same : take n history ≡ history = take_all n history (omega (arith, all)) in
           subst (λ (cs : List Commit). HasSlot start (version_by key (ByCommit (last_writer cs key)))) (sym same) (shown key row (sym (ap (λ (cs : List Commit). after cs key) same) ∙ e))
 

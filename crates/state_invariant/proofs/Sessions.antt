@@ -87,7 +87,7 @@ module _ (o : Origin) (q : State) (sessions : ℕ → Option Session) (held : �
     numbered = numbered;
   }
 
-  draws-held : DrawsInOrder then
+  draws-held : DrawsInOrder o then
   draws-held = let k = kept.draws in record {
     rising = k.rising;
     apart = k.apart;
@@ -95,6 +95,7 @@ module _ (o : Origin) (q : State) (sessions : ℕ → Option Session) (held : �
     in_order = k.in_order;
     sorted = λ n. (each n).sorted;
     drew = λ n t is. (each n).drew t is;
+    rises = record { covered = k.rises.covered; drawn = k.rises.drawn };
   }
 
   owns-held : HeldKeeps q sessions held → Owns o then
@@ -104,7 +105,7 @@ module _ (o : Origin) (q : State) (sessions : ℕ → Option Session) (held : �
     before = λ slot t key lt at. kept.owns.before slot t key lt (h.was slot t key at);
     by_session = h.owns;
     by_draw = λ t key d row found wrote. let old = kept.owns.by_draw t key d row found wrote in (old.0, old.1, h.stays old.0 t key old.2);
-    at_snapshot = λ n key row in_use is. let old = kept.owns.at_snapshot n key row (used n in_use) is in (old.0, old.1, h.stays old.0 _ key old.2);
+    since_snapshot = λ n in_use m key row since within is. let old = kept.owns.since_snapshot n (used n in_use) m key row since within is in (old.0, old.1, h.stays old.0 _ key old.2);
   }
     where
       used : (n : ℕ) → IsInUse then n → IsInUse q n

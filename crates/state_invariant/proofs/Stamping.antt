@@ -185,6 +185,10 @@ module _ (o : Origin) (q : State) (t : ℕ) (unfinished : list_any (λ d. nat_eq
       in_order = all-counted t (λ (c : Commit). is_rising (map (λ write. write.0) c.writes)) q.drawn ∙ k.in_order;
       sorted = k.sorted;
       drew = λ m u is. drew u (k.drew m u is);
+      rises = record {
+        covered = k.rises.covered;
+        drawn = λ u d key found writes. let a = found-before u d found in k.rises.drawn u a.0 key a.1 (sym (ap (λ (c : Commit). writes_key key c) (ap (λ (x : Drawn). x.commit) a.2 ∙ counted-commit t a.0)) ∙ writes);
+      };
     };
     owns = let w = kept.owns in record {
       once = w.once;
@@ -192,7 +196,7 @@ module _ (o : Origin) (q : State) (t : ℕ) (unfinished : list_any (λ d. nat_eq
       before = w.before;
       by_session = w.by_session;
       by_draw = λ u key d row found wrote. let a = found-before u d found in w.by_draw u key a.0 row a.1 (sym (ap (λ (c : Commit). lookup_key c.writes key) (ap (λ (x : Drawn). x.commit) a.2 ∙ counted-commit t a.0)) ∙ wrote);
-      at_snapshot = w.at_snapshot;
+      since_snapshot = w.since_snapshot;
     };
   }
     where

@@ -57,8 +57,8 @@ keeps-with_hand o q hand failed kept keeps =
         snapshots = n.snapshots;
         numbered = n.numbered;
       };
-      draws = record { rising = d.rising; apart = d.apart; counted = d.counted; in_order = d.in_order; sorted = d.sorted; drew = d.drew };
-      owns = record { once = w.once; has = w.has; before = w.before; by_session = w.by_session; by_draw = w.by_draw; at_snapshot = w.at_snapshot };
+      draws = record { rising = d.rising; apart = d.apart; counted = d.counted; in_order = d.in_order; sorted = d.sorted; drew = d.drew; rises = record { covered = d.rises.covered; drawn = d.rises.drawn } };
+      owns = record { once = w.once; has = w.has; before = w.before; by_session = w.by_session; by_draw = w.by_draw; since_snapshot = w.since_snapshot };
     }
 
 -- a batch goes on

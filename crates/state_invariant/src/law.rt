@@ -1,6 +1,6 @@
 //! What follows from the definitions. The functions do nothing: the contract of each is a law.
 
-ghost use Rattle.state_invariant.specs.Laws.{StepsKeep, RunsKeep, CoveringKeeps, OpenedKeeps, Reading, CoveringShows, StepsShow, PutShows, StampShows};
+ghost use Rattle.state_invariant.specs.Laws.{StepsKeep, RunsKeep, CoveringKeeps, OpenedKeeps, Reading, CoveringShows, StepsShow, PutShows, StampShows, OpenedLinks, StoresLink, StepsLink, CoveringLinks, PutLinks};
 
 /// Every step keeps what a plain state of a life keeps: one that is answered or refused, one that is refused for want of
 /// memory, and one in which the device fails. So does every run.
@@ -41,4 +41,15 @@ pub fn puts_show_their_version()
 /// of the newest covered version of the key.
 pub fn stamps_show_their_timestamp()
     ensures { StampShows }
+{}
+
+/// Each version that can still be covered names the row version before it on its key, while that is held. Openings, stores in
+/// begins and ends, all steps, a batch that is covered and a device that fails keep that; a put that names the newest
+/// version that is held, too.
+pub fn versions_stay_linked()
+    ensures opened { OpenedLinks }
+    ensures stores { StoresLink }
+    ensures steps { StepsLink }
+    ensures covering { CoveringLinks }
+    ensures puts { PutLinks }
 {}

@@ -6,5 +6,5 @@ mod law;
 pub use law::{
     covering_keeps_the_state, openings_keep_the_state, puts_show_their_version,
     snapshots_read_their_tables, stamps_show_their_timestamp, steps_keep_the_slots,
-    steps_keep_the_state,
+    steps_keep_the_state, versions_stay_linked,
 };

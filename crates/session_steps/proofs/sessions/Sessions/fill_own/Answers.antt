@@ -31,7 +31,7 @@ returns-in-Ok-clause-step g c = λ h holds.
     puts-own c.args.self.now h c.args.session c.args.active.snapshot c.args.active.writes (record { key = c.args.key; row = c.args.row; previous = c.link.result }) c.args.slot (g.D.Pmem.state c.args.device.now) (g.D.Pmem.state c.fill.new.device) holds
     c.requires.active c.requires.fits c.requires.row c.requires.own c.write.new.self
     (subst (λ (w : Write). Sets c.args.self.now.transactions c.write.new.self c.args.session (Some (Active c.args.active.snapshot (with_write_at w c.args.active.writes)))) c.row_write.ensures (c.write.ensures _ _ c.requires.active))
-    c.in-Ok.ensures.version.fits c.in-Ok.ensures.run
+    c.in-Ok.ensures.version.fits c.link.ensures c.in-Ok.ensures.run
 
 pub returns-in-Err-clause-step : goal.returns-in-Err-clause-step
 returns-in-Err-clause-step g c = λ h holds.

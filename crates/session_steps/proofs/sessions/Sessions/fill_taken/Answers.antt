@@ -47,7 +47,7 @@ returns-in-Ok-fill-clause-step g c = λ h holds.
     puts-taken c.args.self.now h c.args.session c.args.active.snapshot c.args.active.writes (record { key = c.args.key; row = c.args.row; previous = _ }) c.in-Ok.slot (g.D.Pmem.state c.args.device.now) (g.D.Pmem.state c.fill.new.device) holds
     c.requires.active c.requires.fits c.requires.row c.requires.unheld c.in-Ok.ensures.lowest c.write.new.self c.take.new.self c.in-Ok.ensures.taken
     (subst (λ (w : Write). Sets c.args.self.now.transactions c.write.new.self c.args.session (Some (Active c.args.active.snapshot (with_write_at w c.args.active.writes)))) c.row_write.ensures (c.write.ensures _ _ c.requires.active))
-    c.in-Ok-fill.ensures.version.fits (runs-then (subst (λ (k : ℕ). Runs (clear_operations c.args.self.now.numbers.geometry k c.in-Ok.slot) (g.D.Pmem.state c.args.device.now) (g.D.Pmem.state c.take.new.device)) c.session.ensures c.in-Ok.ensures.operations) c.in-Ok-fill.ensures.run)
+    c.in-Ok-fill.ensures.version.fits c.link.ensures (runs-then (subst (λ (k : ℕ). Runs (clear_operations c.args.self.now.numbers.geometry k c.in-Ok.slot) (g.D.Pmem.state c.args.device.now) (g.D.Pmem.state c.take.new.device)) c.session.ensures c.in-Ok.ensures.operations) c.in-Ok-fill.ensures.run)
 
 pub returns-in-Err-fill-clause-step : goal.returns-in-Err-fill-clause-step
 returns-in-Err-fill-clause-step g c = λ h holds.

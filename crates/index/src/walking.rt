@@ -1,0 +1,137 @@
+ghost use Rattle.std.specs.Prelude.{◌≡◌, ◌<◌, ℕ, Bool, List, IfSome, IfNone, Option};
+ghost use Rattle.std.specs.Option.{option_map};
+ghost use Rattle.base.specs.Commits.{Tables};
+ghost use Rattle.base.specs.Images.{layout_of};
+ghost use Rattle.base.specs.Layout.{total_words};
+ghost use Rattle.pmem.specs.Words.{image_of};
+ghost use Rattle.index.specs.Reading.{CountsAs, HasSeen, ShowsTables};
+ghost use Rattle.snapshot.specs.Walks.{IsLinked};
+ghost use Rattle.index.specs.Walking.{Looks, next_at};
+ghost use Rattle.index.specs.declared.walking.Next.TheVariants.{Earlier};
+
+use crate::map::Index;
+use base::geometry::Geometry;
+use base::key::Key;
+use base::row::Row;
+use base::{SlotNo, Ts};
+use pmem::Pmem;
+use snapshot::Snapshot;
+use version_slot::{Slot, read};
+
+/// A version that a snapshot sees: its slot, and its row.
+#[derive(Clone, Copy, Debug, PartialEq, Eq)]
+pub struct Found {
+    pub slot: SlotNo,
+    pub row: Row,
+}
+
+impl Index {
+    ghost use Rattle.index.specs.Entries.{entry_at};
+
+    /// The version of the key that the snapshot sees. From the newest covered one on links are followed, each to an earlier
+    /// version of the key, as long as what the walk is at began after the snapshot.
+    pub fn walk<D: Pmem>(
+        &self,
+        device: &D,
+        geometry: Geometry,
+        key: Key,
+        snapshot: &Snapshot,
+    ) -> Option<Found>
+        requires device { (D.state device.now).words ≡ total_words geometry }
+        ensures slot { IfSome result (λ found. found.slot < geometry.slots) }
+        ensures some { IfSome result (λ found. (counts : ℕ → Bool) → CountsAs counts snapshot.now geometry (image_of (D.state device.now)) → HasSeen counts (image_of (D.state device.now)) found.slot key found.row) }
+        ensures none { IfNone result ((counts : ℕ → Bool) → CountsAs counts snapshot.now geometry (image_of (D.state device.now)) → IsLinked snapshot.now (image_of (D.state device.now)) key (entry_at self.now key).newest → (slot : ℕ) (row : List ℕ) → ¬ HasSeen counts (image_of (D.state device.now)) slot key row) }
+        ensures tables { (counts : ℕ → Bool) (tables : Tables) → CountsAs counts snapshot.now geometry (image_of (D.state device.now)) → IsLinked snapshot.now (image_of (D.state device.now)) key (entry_at self.now key).newest
+            → ShowsTables counts geometry (image_of (D.state device.now)) tables → option_map (λ found. found.row) result ≡ tables key }
+    {
+        follow(device, geometry, snapshot, self.entry(key).newest, key)
+    }
+}
+
+// What a walk finds in a slot that it comes to.
+#[derive(Clone, Copy, Debug)]
+pub(crate) enum Next {
+    // The version that the snapshot sees.
+    Seen(Row),
+    // The version began after the snapshot, and links to that slot.
+    Earlier { begin: Ts, previous: Option<SlotNo> },
+    // Nothing that leads on.
+    Over,
+}
+
+// What a slot's words say to a walk that comes from a version that began later than the bound.
+fn next_at(held: &Slot, snapshot: &Snapshot, key: Key, bound: Ts) -> Next
+    ensures { result ≡ next_at snapshot.now key bound held.now }
+{
+    if held.version.key == key && held.begin < bound {
+        if snapshot.covers(held.begin) {
+            if snapshot.covers(held.end) {
+                Next::Over
+            } else {
+                Next::Seen(held.version.row)
+            }
+        } else if 0 < held.begin && !snapshot.gaps().holds(held.begin) {
+            Next::Earlier {
+                begin: held.begin,
+                previous: held.version.previous,
+            }
+        } else {
+            Next::Over
+        }
+    } else {
+        Next::Over
+    }
+}
+
+// The same, of a slot of the device.
+fn look<D: Pmem>(
+    device: &D,
+    geometry: Geometry,
+    snapshot: &Snapshot,
+    key: Key,
+    slot: SlotNo,
+    bound: Ts,
+) -> Next
+    requires device { (D.state device.now).words ≡ total_words geometry }
+    ensures within { (row : List ℕ) → result ≡ Next.Seen row → slot < geometry.slots }
+    ensures falls { (begin : ℕ) (previous : Option ℕ) → result ≡ Earlier begin previous → begin < bound }
+    ensures looks { layout_of (image_of (D.state device.now)) ≡ geometry → Looks snapshot.now (image_of (D.state device.now)) key bound slot result }
+{
+    if slot >= geometry.slots() {
+        return Next::Over;
+    }
+    match read(device, geometry, slot) {
+        Some(held) => next_at(&held, snapshot, key, bound),
+        None => Next::Over,
+    }
+}
+
+// The version of the key that the snapshot sees, by links from this slot on.
+pub(crate) fn follow<D: Pmem>(
+    device: &D,
+    geometry: Geometry,
+    snapshot: &Snapshot,
+    newest: Option<SlotNo>,
+    key: Key,
+) -> Option<Found>
+    requires device { (D.state device.now).words ≡ total_words geometry }
+    ensures slot { IfSome result (λ found. found.slot < geometry.slots) }
+    ensures some { IfSome result (λ found. (counts : ℕ → Bool) → CountsAs counts snapshot.now geometry (image_of (D.state device.now)) → HasSeen counts (image_of (D.state device.now)) found.slot key found.row) }
+    ensures none { IfNone result ((counts : ℕ → Bool) → CountsAs counts snapshot.now geometry (image_of (D.state device.now)) → IsLinked snapshot.now (image_of (D.state device.now)) key newest → (slot : ℕ) (row : List ℕ) → ¬ HasSeen counts (image_of (D.state device.now)) slot key row) }
+    ensures tables { (counts : ℕ → Bool) (tables : Tables) → CountsAs counts snapshot.now geometry (image_of (D.state device.now)) → IsLinked snapshot.now (image_of (D.state device.now)) key newest
+        → ShowsTables counts geometry (image_of (D.state device.now)) tables → option_map (λ found. found.row) result ≡ tables key }
+{
+    let mut at = newest;
+    let mut bound = u64::MAX;
+    while let Some(slot) = at {
+        match look(device, geometry, snapshot, key, slot, bound) {
+            Next::Seen(row) => return Some(Found { slot, row }),
+            Next::Over => return None,
+            Next::Earlier { begin, previous } => {
+                bound = begin;
+                at = previous;
+            }
+        }
+    }
+    None
+}

@@ -1,0 +1,76 @@
+-- The last row that commits wrote at a key.
+use Rattle.std.proofs.Common.{◌≡◌, ℕ, zero, suc, ◌≤◌, Bool, true, false, cond, List, [], ◌∷◌, ◌++◌, length, take, refl, sym, ◌∙◌, ap, arith, Option, Some, None, slice_get}
+use Rattle.std.specs.Prelude.{is_some, fold, unwrap_or}
+use Rattle.std.specs.List.{list_all}
+use Rattle.std.proofs.lemmas.Bool.{and_parts}
+use Rattle.std.proofs.lemmas.List.Sums.{fold-append}
+use Rattle.base.specs.declared.key.Key.{Key}
+use Rattle.base.specs.Keys.{lookup_key}
+use Rattle.base.specs.Commits.{Commit, no_rows, after, writes_key, last_writer}
+use Rattle.state_invariant.specs.Kept.{row_in}
+use Rattle.state_invariant.specs.Links.{last_row}
+use Rattle.state_invariant.proofs.Commits.{laid-append}
+use Rattle.state_invariant.proofs.Log.{place-within}
+
+-- ---- commits that write no row there
+
+rowless : (key : Key) (c : Commit) → writes_key key c ≡ false → is_some (row_in c.writes key) ≡ false
+rowless key c none = by (lookup_key c.writes key) none
+  where
+    by : (x : Option (Option (List ℕ))) → is_some x ≡ false → is_some (unwrap_or x None) ≡ false
+    by None e = refl
+    by (Some v) e = absurd (cc e)
+
+pub none-row : (key : Key) (last : Option ℕ) (ys : List Commit) → ((i : ℕ) (c : Commit) → slice_get ys i ≡ Some c → writes_key key c ≡ false)
+    → fold (λ (last : Option ℕ) (commit : Commit). cond (is_some (row_in commit.writes key)) (Some commit.timestamp) last) last ys ≡ last
+none-row key last [] each = refl
+none-row key last (y ∷ ys) each =
+    ap (λ (b : Bool). fold (λ (last : Option ℕ) (commit : Commit). cond (is_some (row_in commit.writes key)) (Some commit.timestamp) last) (cond b (Some y.timestamp) last) ys) (rowless key y (each 0 y refl))
+    ∙ none-row key last ys (λ i c at. each (suc i) c at)
+
+-- what all timestamps have, that of the last row has
+pub row-all : (p : ℕ → Bool) (key : Key) (s : Option ℕ) (cs : List Commit) → list_all (λ c. p c.timestamp) cs ≡ true → ((t : ℕ) → s ≡ Some t → p t ≡ true)
+    → (t : ℕ) → fold (λ (last : Option ℕ) (commit : Commit). cond (is_some (row_in commit.writes key)) (Some commit.timestamp) last) s cs ≡ Some t → p t ≡ true
+row-all p key s [] all here t e = here t e
+row-all p key s (c ∷ cs) all here t e =
+    let both = and_parts (p c.timestamp) (list_all (λ c. p c.timestamp) cs) all in
+    row-all p key (cond (is_some (row_in c.writes key)) (Some c.timestamp) s) cs both.1 (next (is_some (row_in c.writes key)) both.0) t e
+  where
+    next : (b : Bool) → p c.timestamp ≡ true → (t : ℕ) → cond b (Some c.timestamp) s ≡ Some t → p t ≡ true
+    next true has t e = let same : c.timestamp ≡ t = cc e in ap p (sym same) ∙ has
+    next false has t e = here t e
+
+-- ---- one commit more
+
+take-place : (cs : List Commit) (n : ℕ) (c : Commit) → slice_get cs n ≡ Some c → take (suc n) cs ≡ take n cs ++ c ∷ []
+take-place [] n c at = absurd (cc at)
+take-place (x ∷ cs) zero c at = let same : x ≡ c = cc at in ap (λ (y : Commit). y ∷ []) same
+take-place (x ∷ cs) (suc n) c at = ap (λ (ys : List Commit). x ∷ ys) (take-place cs n c at)
+
+pub row-place : (cs : List Commit) (n : ℕ) (c : Commit) (key : Key) → slice_get cs n ≡ Some c → last_row (take (suc n) cs) key ≡ cond (is_some (row_in c.writes key)) (Some c.timestamp) (last_row (take n cs) key)
+row-place cs n c key at = ap (λ (xs : List Commit). last_row xs key) (take-place cs n c at) ∙ fold-append (λ (last : Option ℕ) (commit : Commit). cond (is_some (row_in commit.writes key)) (Some commit.timestamp) last) None (take n cs) (c ∷ [])
+
+pub writer-place : (cs : List Commit) (n : ℕ) (c : Commit) (key : Key) → slice_get cs n ≡ Some c → last_writer (take (suc n) cs) key ≡ cond (writes_key key c) c.timestamp (last_writer (take n cs) key)
+writer-place cs n c key at = ap (λ (xs : List Commit). last_writer xs key) (take-place cs n c at) ∙ fold-append (λ (t : ℕ) (commit : Commit). cond (writes_key key commit) commit.timestamp t) 0 (take n cs) (c ∷ [])
+
+after-place : (cs : List Commit) (n : ℕ) (c : Commit) (key : Key) → slice_get cs n ≡ Some c → after (take (suc n) cs) key ≡ unwrap_or (lookup_key c.writes key) (after (take n cs) key)
+after-place cs n c key at = ap (λ (xs : List Commit). after xs key) (take-place cs n c at) ∙ laid-append no_rows (take n cs) (c ∷ []) key
+
+-- where a row is there, its commit is the last that wrote one
+pub row-there : (cs : List Commit) (n : ℕ) (key : Key) (row : List ℕ) → n ≤ length cs → after (take n cs) key ≡ Some row → last_row (take n cs) key ≡ Some (last_writer (take n cs) key)
+row-there cs zero key row within there = absurd (cc there)
+row-there cs (suc n) key row within there = on (λ was. row-there cs n key row (omega (arith, within)) was) (place-within cs n (omega (arith, within)))
+  where
+    on : (after (take n cs) key ≡ Some row → last_row (take n cs) key ≡ Some (last_writer (take n cs) key)) → (c : Commit) × (slice_get cs n ≡ Some c) → last_row (take (suc n) cs) key ≡ Some (last_writer (take (suc n) cs) key)
+    on before (c, at) = by (lookup_key c.writes key) refl
+      where
+        by : (x : Option (Option (List ℕ))) → lookup_key c.writes key ≡ x → last_row (take (suc n) cs) key ≡ Some (last_writer (take (suc n) cs) key)
+        by None wrote =
+            let was : after (take n cs) key ≡ Some row = sym (after-place cs n c key at ∙ ap (λ (x : Option (Option (List ℕ))). unwrap_or x (after (take n cs) key)) wrote) ∙ there in
+            row-place cs n c key at ∙ ap (λ (x : Option (Option (List ℕ))). cond (is_some (unwrap_or x None)) (Some c.timestamp) (last_row (take n cs) key)) wrote
+            ∙ before was
+            ∙ ap (λ (t : ℕ). Some t) (sym (writer-place cs n c key at ∙ ap (λ (x : Option (Option (List ℕ))). cond (is_some x) c.timestamp (last_writer (take n cs) key)) wrote))
+        by (Some value) wrote =
+            let is : value ≡ Some row = sym (after-place cs n c key at ∙ ap (λ (x : Option (Option (List ℕ))). unwrap_or x (after (take n cs) key)) wrote) ∙ there in
+            row-place cs n c key at ∙ ap (λ (x : Option (Option (List ℕ))). cond (is_some (unwrap_or x None)) (Some c.timestamp) (last_row (take n cs) key)) (wrote ∙ ap (λ (v : Option (List ℕ)). Some v) is)
+            ∙ ap (λ (t : ℕ). Some t) (sym (writer-place cs n c key at ∙ ap (λ (x : Option (Option (List ℕ))). cond (is_some x) c.timestamp (last_writer (take n cs) key)) wrote))

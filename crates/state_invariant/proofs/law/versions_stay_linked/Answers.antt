@@ -1,0 +1,7 @@
+use Rattle.state_invariant.proofs.Linking.{links-opened, links-stores}
+use Rattle.state_invariant.proofs.LinkedSteps.{links-step, links-hand_covered}
+use Rattle.state_invariant.proofs.LinkedPuts.{put-links}
+use Rattle.state_invariant.proofs.law.versions_stay_linked.Goals as goal
+
+pub returns : goal.returns
+returns c = record { opened = links-opened; stores = links-stores; steps = links-step; covering = links-hand_covered; puts = put-links }
