@@ -1,9 +1,10 @@
 //! Reads on a board, beside a writer that publishes until the last reader is done.
-ghost use Rattle.std.specs.Prelude.{◌≡◌, ◌<◌, ◌≤◌, [], ◌∷◌, map, IfOk};
+ghost use Rattle.std.specs.Prelude.{◌≡◌, ◌<◌, ◌≤◌};
 
 use base::batch::{Batch, Commit};
 use base::fault::Fault;
 use base::key::Key;
+use base::longs::Longs;
 use base::row::Row;
 use board::{Board, History, Naming, Reader};
 use std::alloc::{AllocError, Global};
@@ -55,7 +56,7 @@ fn read_one_board<J: Naming + Send + Sync, R: Threads + Wait + Sync>(
     requires readers { (0 < readers) × (readers ≤ 8) }
 {
     let rows = first_rows(alloc)?;
-    let (board, readers) = Board::<J, &R>::open(rt, alloc, history, 0, 0, &rows, readers)?;
+    let (board, readers) = Board::<J, &R>::open(rt, alloc, history, 0, 0, Longs::none(), &rows, readers)?;
     let count = readers.len() as u64;
     let done = AtomicU64::new(0);
     let ((board, published), read) = join(
@@ -112,23 +113,24 @@ fn publish_one<J: Naming, R: Wait + Drop>(
     alloc: Global,
     board: &mut Board<J, R>,
 ) -> Result<(), Fault> {
-    let (stamp, persisted) = board.last();
+    let (stamp, persisted, longs) = board.last();
     if stamp >= MOST_BATCHES || persisted >= MOST_BATCHES {
         return Err(Fault::TimestampsOut);
     }
     let Ok(commits) = update(alloc, persisted + 1, Row::new(&stamp.to_be_bytes())?) else {
         return Err(Fault::OutOfMemory);
     };
-    let batch = Batch::new(stamp, stamp + 1, persisted + 1, commits);
+    let batch = Batch::new(stamp, stamp + 1, persisted + 1, longs, commits);
+    if !board.fits(&batch) {
+        return Err(Fault::WrongState);
+    }
     board.publish(batch).map_err(|refused| refused.0)?;
     let last = board.token().stamp();
     board.prune(last.saturating_sub(KEPT))
 }
 
 // A commit that updates one row, each in turn.
-fn update(alloc: Global, timestamp: u64, row: Row) -> Result<Vec<Commit>, AllocError>
-    ensures { IfOk result (λ commits. map (λ commit. commit.timestamp) commits.items ≡ timestamp ∷ []) }
-{
+fn update(alloc: Global, timestamp: u64, row: Row) -> Result<Vec<Commit>, AllocError> {
     let key = Key {
         table: 1,
         key: timestamp % KEYS,

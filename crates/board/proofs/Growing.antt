@@ -1,6 +1,5 @@
 -- What changes make of a published list.
 use Rattle.std.proofs.Common.{◌≡◌, ℕ, ◌+◌, ◌-◌, ◌≤◌, ◌<◌, Bool, true, false, nat_le, MatchBool, length, length-append, drop, suc, subst, fold, map, Option, Some, None, is_some, Result, Ok, Err, is_err, MatchResult, List, [], ◌∷◌, ◌++◌, refl, sym, ap, ◌∙◌, le_refl, le_trans, arith}
-use Rattle.std.specs.List.{range_with_len}
 use Rattle.std.proofs.lemmas.Bool.Decides.{nat_tests}
 use mathlib.Core.List.{append-nil, append_assoc, IsPrefix}
 use Rattle.board.proofs.Fronts.{prefix_shorter}
@@ -10,15 +9,15 @@ use Rattle.board.specs.declared.change.Change.{Change}
 use Rattle.board.specs.declared.change.Change.TheVariants.{Begin, Add, Raise}
 use Rattle.board.specs.Changes.{changed, begun, list_of}
 use Rattle.board.specs.Shown.{Shown, whole, shown, one_or_none}
-use Rattle.board.specs.Lists.{IsPublished, Begins, Counted, Fits, persisted_from}
+use Rattle.board.specs.Lists.{IsPublished, Begins, CoversDue, Counted, Fits, persisted_from, longs_from}
 use Rattle.board.proofs.Staying.{stamps_stay}
 use Rattle.board.proofs.Rules.{begins_self, begins_on}
 use Rattle.board.proofs.Ends.{last_from-push}
 
 begins_one : (list : Published) (change : Change) → Begins list (changed list change)
 begins_one list (Begin start) = begins_self list
-begins_one list (Add batch) = record { stamp = refl; persisted = refl; rows = refl; batches = (batch ∷ [], refl); floor = le_refl list.floor }
-begins_one list (Raise stamp) = record { stamp = refl; persisted = refl; rows = refl; batches = ([], append-nil list.batches); floor = omega arith }
+begins_one list (Add batch) = record { stamp = refl; persisted = refl; longs = refl; rows = refl; batches = (batch ∷ [], refl); floor = le_refl list.floor }
+begins_one list (Raise stamp) = record { stamp = refl; persisted = refl; longs = refl; rows = refl; batches = ([], append-nil list.batches); floor = omega arith }
 
 pub begins_changed : (list : Published) (changes : List Change) → Begins list (fold changed list changes)
 begins_changed list [] = begins_self list
@@ -28,15 +27,15 @@ follow-push : (stamp : ℕ) (batches : List Batch) (batch : Batch) → Follow st
 follow-push stamp [] batch h from own = (from, own ∙ ap (λ (n : ℕ). n + 1) from, tt)
 follow-push stamp (b ∷ batches) batch h from own = (h.0, h.1, follow-push b.stamp batches batch h.2 from own)
 
-counted-push : (persisted : ℕ) (batches : List Batch) (batch : Batch) → Counted persisted batches → persisted_from persisted batches ≤ batch.persisted
-    → map (λ commit. commit.timestamp) batch.commits ≡ range_with_len (persisted_from persisted batches + 1) (batch.persisted - persisted_from persisted batches) → Counted persisted (batches ++ batch ∷ [])
-counted-push persisted [] batch h le is = (le, is, tt)
-counted-push persisted (b ∷ batches) batch h le is = (h.0, h.1, counted-push b.persisted batches batch h.2 le is)
+counted-push : (persisted : ℕ) (longs : List ℕ) (batches : List Batch) (batch : Batch) → Counted persisted longs batches
+    → CoversDue (persisted_from persisted batches) (longs_from longs batches) batch → Counted persisted longs (batches ++ batch ∷ [])
+counted-push persisted longs [] batch h covers = (covers, tt)
+counted-push persisted longs (b ∷ batches) batch h covers = (h.0, counted-push b.persisted b.longs batches batch h.1 covers)
 
 pub fits : (list : Published) (batch : Batch) → IsPublished list → Fits list batch → IsPublished (changed list (Add batch))
 fits list batch h f = record {
   follow = follow-push list.stamp list.batches batch h.follow f.from f.stamp;
-  counted = counted-push list.persisted list.batches batch h.counted f.persisted f.commits;
+  counted = counted-push list.persisted list.longs list.batches batch h.counted f.covers;
   floor = omega (arith, last_from-push list.stamp list.batches batch, h.floor, f.from, f.stamp);
 }
 

@@ -4,6 +4,7 @@ pub mod Rules
 pub mod Ends
 pub mod Cells
 pub mod Covers
+pub mod Due
 pub mod Growing
 pub mod Staying
 pub mod Standing

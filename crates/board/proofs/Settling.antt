@@ -10,16 +10,17 @@ use Rattle.board.specs.Stored.{Stands}
 use Rattle.board.proofs.Puts.{laid_alike}
 
 -- rows that differ at keys of the first batch alone
-pub stands_alike : (stamp persisted floor : ℕ) (rows other : List (Key × List ℕ)) (batches : List Batch) (batch : Batch) (list : Published) → slice_get batches 0 ≡ Some batch → batch.stamp ≤ floor
+pub stands_alike : (stamp persisted : ℕ) (longs : List ℕ) (floor : ℕ) (rows other : List (Key × List ℕ)) (batches : List Batch) (batch : Batch) (list : Published) → slice_get batches 0 ≡ Some batch → batch.stamp ≤ floor
     → ((k : Key) → is_written k batch.commits ≡ false → lookup_key other k ≡ lookup_key rows k)
-    → Stands stamp persisted floor rows batches list → Stands stamp persisted floor other batches list
-stands_alike stamp persisted floor rows other [] batch list at low same h = absurd (cc at)
-stands_alike stamp persisted floor rows other (b ∷ batches) batch list at low same h =
+    → Stands stamp persisted longs floor rows batches list → Stands stamp persisted longs floor other batches list
+stands_alike stamp persisted longs floor rows other [] batch list at low same h = absurd (cc at)
+stands_alike stamp persisted longs floor rows other (b ∷ batches) batch list at low same h =
     let is : b ≡ batch = cc at in
     record {
       floor_is = h.floor_is;
       last = h.last;
       persisted_is = h.persisted_is;
+      longs_are = h.longs_are;
       rows_are = λ time key le.
           let there : nat_le b.stamp time ≡ true = grind (arith, nat_tests, ap (λ (x : Batch). x.stamp) is, h.floor_is) in
           let alike = laid_alike key (lookup_key rows key) (lookup_key other key) b.commits (λ none. same key (subst (λ (x : Batch). is_written key x.commits ≡ false) is none)) in

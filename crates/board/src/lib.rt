@@ -3,6 +3,7 @@
 
 mod board;
 pub mod change;
+mod fitting;
 pub mod history;
 pub mod law;
 pub mod reader;

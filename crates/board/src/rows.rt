@@ -11,6 +11,7 @@ use crate::versions::{Versions, forget};
 use base::Ts;
 use base::batch::{Batch, Commit};
 use base::key::Key;
+use base::longs::Longs;
 use base::row::Row;
 use std::alloc::{AllocError, Global};
 use std::collections::BTreeMap;
@@ -79,15 +80,15 @@ pub fn lay(rows: &mut Rows, commits: &[Commit]) -> Result<(), AllocError>
 }
 
 /// Lays the batches that are not above the floor into the rows, oldest first, and removes their versions. Where memory
-/// runs out the others stay. `last` is the stamp and the timestamp of the last one that was laid.
+/// runs out the others stay. `last` is the stamp, the timestamp and the long commits of the last one that was laid.
 pub fn settle(
     rows: &mut Rows,
     versions: &mut Versions,
     batches: &mut Vec<Batch>,
     floor: u64,
-    last: &mut (u64, Ts),
+    last: &mut (u64, Ts, Longs),
 ) -> Result<(), AllocError>
-    ensures rows { (list : Published) → Stands last.old.0 last.old.1 floor rows.old.entries batches.old.items list → Stands last.new.0 last.new.1 floor rows.new.entries batches.new.items list }
+    ensures rows { (list : Published) → Stands last.old.0 last.old.1 last.old.2 floor rows.old.entries batches.old.items list → Stands last.new.0 last.new.1 last.new.2 floor rows.new.entries batches.new.items list }
     ensures versions { Indexed last.old.0 versions.old.entries batches.old.items → Indexed last.new.0 versions.new.entries batches.new.items }
     ensures all { OnOk result (Indexed last.old.0 versions.old.entries batches.old.items → All (λ batch. floor < batch.stamp) batches.new.items) }
 {
@@ -101,9 +102,9 @@ fn settle_one(
     versions: &mut Versions,
     batches: &mut Vec<Batch>,
     floor: u64,
-    last: &mut (u64, Ts),
+    last: &mut (u64, Ts, Longs),
 ) -> Result<bool, AllocError>
-    ensures rows { (list : Published) → Stands last.old.0 last.old.1 floor rows.old.entries batches.old.items list → Stands last.new.0 last.new.1 floor rows.new.entries batches.new.items list }
+    ensures rows { (list : Published) → Stands last.old.0 last.old.1 last.old.2 floor rows.old.entries batches.old.items list → Stands last.new.0 last.new.1 last.new.2 floor rows.new.entries batches.new.items list }
     ensures versions { Indexed last.old.0 versions.old.entries batches.old.items → Indexed last.new.0 versions.new.entries batches.new.items }
     ensures one { IfOk result (λ laid. MatchBool laid (length batches.new.items < length batches.old.items) (IfSome (slice_get batches.new.items 0) (λ batch. floor < batch.stamp))) }
 {
@@ -116,6 +117,6 @@ fn settle_one(
     lay(rows, batch.commits())?;
     let batch = batches.remove(0);
     forget(versions, batch.stamp(), batch.commits());
-    *last = (batch.stamp(), batch.persisted());
+    *last = (batch.stamp(), batch.persisted(), batch.longs());
     Ok(true)
 }

@@ -8,6 +8,7 @@ use base::Ts;
 use base::batch::{Batch, Commit};
 use base::fault::Fault;
 use base::key::Key;
+use base::longs::Longs;
 use base::row::Row;
 use left_right::Absorb;
 use std::alloc::{AllocError, Global};
@@ -27,6 +28,7 @@ pub struct Shelf<J: Naming> {
     // Of the last batch that was laid into the rows, or of the rows alone.
     stamp: u64,
     persisted: Ts,
+    longs: Longs,
     rows: Rows,
     versions: Versions,
     batches: Vec<Batch>,
@@ -47,7 +49,7 @@ impl<J: Naming> Model for Shelf<J> {
 
     ghost view = { λ s. s.front };
 
-    ghost invariant = { λ s. Stands s.stamp s.persisted s.floor s.rows.entries s.batches.items (list_of s.front) × Indexed s.stamp s.versions.entries s.batches.items };
+    ghost invariant = { λ s. Stands s.stamp s.persisted s.longs s.floor s.rows.entries s.batches.items (list_of s.front) × Indexed s.stamp s.versions.entries s.batches.items };
 }
 
 impl<J: Naming> Absorb<Step<J>> for Shelf<J> {
@@ -83,7 +85,7 @@ impl<J: Naming> Shelf<J> {
     ghost use Rattle.board.specs.declared.change.Change.TheVariants.{Add, Raise};
     ghost use Rattle.board.specs.Changes.{list_of};
     ghost use Rattle.board.specs.Openings.{opening};
-    ghost use Rattle.board.specs.Lists.{IsPublished, last_persisted};
+    ghost use Rattle.board.specs.Lists.{IsPublished, last_persisted, last_longs};
     ghost use Rattle.board.specs.Views.{answer};
     ghost use Rattle.board.specs.Cells.{after_batches};
 
@@ -93,15 +95,17 @@ impl<J: Naming> Shelf<J> {
         front: Front<J>,
         stamp: u64,
         persisted: Ts,
+        longs: Longs,
         rows: &[(Key, Row)],
     ) -> Result<Shelf<J>, AllocError>
-        requires { list_of front ≡ opening stamp persisted rows.now }
+        requires { list_of front ≡ opening stamp persisted longs rows.now }
         ensures { IfOk result (λ shelf. shelf ≡ front) }
     {
         let rows = rows_of(alloc, rows)?;
         Ok(Shelf {
             stamp,
             persisted,
+            longs,
             rows,
             versions: Versions::new(alloc),
             batches: Vec::new(alloc),
@@ -133,7 +137,7 @@ impl<J: Naming> Shelf<J> {
         self.front.is_published();
         self.front = front.again();
         self.floor = self.floor.max(stamp);
-        let mut last = (self.stamp, self.persisted);
+        let mut last = (self.stamp, self.persisted, self.longs);
         // Where memory ends, the rest is laid by a later change.
         let _ = settle(
             &mut self.rows,
@@ -142,7 +146,7 @@ impl<J: Naming> Shelf<J> {
             self.floor,
             &mut last,
         );
-        (self.stamp, self.persisted) = last;
+        (self.stamp, self.persisted, self.longs) = last;
     }
 
     /// The history that it was made by.
@@ -166,6 +170,16 @@ impl<J: Naming> Shelf<J> {
         match self.batches.last() {
             Some(batch) => batch.persisted(),
             None => self.persisted,
+        }
+    }
+
+    /// The long commits at the last stamp.
+    pub(crate) fn last_longs(&self) -> Longs
+        ensures { result ≡ last_longs (list_of self.now) }
+    {
+        match self.batches.last() {
+            Some(batch) => batch.longs(),
+            None => self.longs,
         }
     }
 
@@ -211,5 +225,11 @@ fn copy_of(alloc: Global, batch: &Batch) -> Result<Batch, AllocError>
     ensures { IfOk result (λ copy. copy ≡ batch.now) }
 {
     let commits = batch.commits().to_vec(alloc)?;
-    Ok(Batch::new(batch.from(), batch.stamp(), batch.persisted(), commits))
+    Ok(Batch::new(
+        batch.from(),
+        batch.stamp(),
+        batch.persisted(),
+        batch.longs(),
+        commits,
+    ))
 }

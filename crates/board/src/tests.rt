@@ -1,9 +1,11 @@
-ghost use Rattle.std.specs.Prelude.{◌≡◌, [], ◌∷◌, map, IfOk};
+ghost use Rattle.std.specs.Prelude.{◌≡◌};
 
 use crate::{Board, History, Naming, Reader, Token};
+use base::Ts;
 use base::batch::{Batch, Commit};
 use base::fault::Fault;
 use base::key::Key;
+use base::longs::Longs;
 use base::row::Row;
 use std::alloc::{AllocError, Global};
 use std::marker::Brand;
@@ -16,12 +18,13 @@ type Answer = Result<Option<Row>, Fault>;
 
 const KEY: Key = Key { table: 1, key: 7 };
 
-// A commit that writes the row under the key.
-fn commit(alloc: Global, timestamp: u64, row: Row) -> Result<Vec<Commit>, AllocError>
-    ensures { IfOk result (λ commits. map (λ commit. commit.timestamp) commits.items ≡ timestamp ∷ []) }
-{
-    let writes = Vec::from_array(alloc, [(KEY, Some(row))])?;
-    let commits = Vec::from_array(alloc, [Commit::new(timestamp, writes)])?;
+// Commits with these timestamps, each of which writes the row under the key.
+fn commits(alloc: Global, timestamps: &[Ts], row: Row) -> Result<Vec<Commit>, AllocError> {
+    let mut commits = Vec::new(alloc);
+    for timestamp in timestamps {
+        let writes = Vec::from_array(alloc, [(KEY, Some(row))])?;
+        commits.push(Commit::new(*timestamp, writes))?;
+    }
     Ok(commits)
 }
 
@@ -31,14 +34,22 @@ fn add<J: Naming, R: Wait + Drop>(
     board: &mut Board<J, R>,
     row: Row,
 ) -> Result<(), Fault> {
-    let (stamp, persisted) = board.last();
+    let (stamp, persisted, longs) = board.last();
     if stamp > 10000 || persisted > 10000 {
         return Err(Fault::TimestampsOut);
     }
-    let Ok(commits) = commit(alloc, persisted + 1, row) else {
+    let Ok(commits) = commits(alloc, &[persisted + 1], row) else {
         return Err(Fault::OutOfMemory);
     };
-    let batch = Batch::new(stamp, stamp + 1, persisted + 1, commits);
+    let batch = Batch::new(stamp, stamp + 1, persisted + 1, longs, commits);
+    publish(board, batch)
+}
+
+// Publishes the batch, which goes on from what is published.
+fn publish<J: Naming, R: Wait + Drop>(board: &mut Board<J, R>, batch: Batch) -> Result<(), Fault> {
+    if !board.fits(&batch) {
+        return Err(Fault::WrongState);
+    }
     board.publish(batch).map_err(|refused| refused.0)
 }
 
@@ -67,7 +78,16 @@ fn one_commit<J: Naming, R: Wait>(
 ) -> Result<OneCommit, Fault>
     requires { history ≡ J.book }
 {
-    let (mut board, mut readers) = Board::<J, &R>::open(rt, alloc, history, 2, 0, &[], 1)?;
+    let (mut board, mut readers) = Board::<J, &R>::open(
+        rt,
+        alloc,
+        history,
+        2,
+        0,
+        Longs::none(),
+        &[],
+        1,
+    )?;
     let reader = &mut readers[0];
     add(alloc, &mut board, Row::new(&[1])?)?;
     let token = board.token();
@@ -110,6 +130,95 @@ fn board_reads(rt: HostRuntime) -> Result<(), Fail> {
     Ok(())
 }
 
+type Covered = (bool, bool, bool);
+
+// Whether what is published covers commits 5, 6 and 7.
+fn covered<J: Naming, R: Wait + Drop>(board: &Board<J, R>) -> Covered {
+    let token = board.token();
+    (token.covers(5), token.covers(6), token.covers(7))
+}
+
+// The long commit 5.
+fn five() -> Longs {
+    let mut longs = Longs::none();
+    longs.push(5);
+    longs
+}
+
+// Publishes a batch that persists up to 7, with these long commits and the commits of these timestamps.
+fn add_to_seven<J: Naming, R: Wait + Drop>(
+    alloc: Global,
+    board: &mut Board<J, R>,
+    stamp: u64,
+    longs: Longs,
+    timestamps: &[Ts],
+) -> Result<(), Fault> {
+    let Ok(commits) = commits(alloc, timestamps, Row::new(&[1])?) else {
+        return Err(Fault::OutOfMemory);
+    };
+    publish(
+        board,
+        Batch::new(stamp, stamp.saturating_add(1), 7, longs, commits),
+    )
+}
+
+// What is covered while commit 5 is long, what a batch without it comes to, and what is covered once it is covered too. The
+// board publishes 5 as long, or begins with it.
+fn long_commit<J: Naming, R: Wait>(
+    rt: &R,
+    alloc: Global,
+    history: History,
+    begun: bool,
+) -> Result<(Covered, Result<(), Fault>, Covered), Fault>
+    requires { history ≡ J.book }
+{
+    let (stamp, persisted, longs) = if begun {
+        (6, 7, five())
+    } else {
+        (5, 4, Longs::none())
+    };
+    let (mut board, _readers) = Board::<J, &R>::open(
+        rt,
+        alloc,
+        history,
+        stamp,
+        persisted,
+        longs,
+        &[],
+        1,
+    )?;
+    if !begun {
+        add_to_seven(alloc, &mut board, 5, five(), &[6, 7])?;
+    }
+    let before = covered(&board);
+    let nothing = add_to_seven(alloc, &mut board, 6, Longs::none(), &[]);
+    add_to_seven(alloc, &mut board, 6, Longs::none(), &[5])?;
+    Ok((before, nothing, covered(&board)))
+}
+
+#[test]
+fn long_commits_are_covered_later(rt: HostRuntime) -> Result<(), Fail> {
+    let seen = long_commit::<Brand, _>(&rt, rt.alloc(), History::new(), false)?;
+    assert_eq!(rt;
+        seen,
+        (
+            (false, true, true),
+            Err(Fault::WrongState),
+            (true, true, true)
+        )
+    );
+    let seen = long_commit::<Brand, _>(&rt, rt.alloc(), History::new(), true)?;
+    assert_eq!(rt;
+        seen,
+        (
+            (false, true, true),
+            Err(Fault::WrongState),
+            (true, true, true)
+        )
+    );
+    Ok(())
+}
+
 // The row that the commit of a stamp writes.
 fn row_of(stamp: u64) -> Result<Row, Fault> {
     Row::new(&stamp.to_be_bytes())
@@ -122,7 +231,7 @@ fn add_many<J: Naming, R: Wait + Drop>(
     count: u64,
 ) -> Result<(), Fault> {
     for _ in 0..count {
-        let (stamp, _) = board.last();
+        let (stamp, _, _) = board.last();
         add(alloc, board, row_of(stamp.saturating_add(1))?)?;
         let stamp = board.token().stamp();
         board.prune(stamp.saturating_sub(15))?;
@@ -140,7 +249,16 @@ fn twenty_commits<J: Naming, R: Wait>(
 ) -> Result<(Bounds, [Answer; 4]), Fault>
     requires { history ≡ J.book }
 {
-    let (mut board, mut readers) = Board::<J, &R>::open(rt, alloc, history, 2, 0, &[], 1)?;
+    let (mut board, mut readers) = Board::<J, &R>::open(
+        rt,
+        alloc,
+        history,
+        2,
+        0,
+        Longs::none(),
+        &[],
+        1,
+    )?;
     let reader = &mut readers[0];
     add_many(alloc, &mut board, 20)?;
     reader.learn(board.token());
@@ -179,7 +297,16 @@ fn told_across<J: Naming + Send + Sync, R: Threads + Wait + Sync>(
 ) -> Result<(Answer, Answer), Fault>
     requires { history ≡ J.book }
 {
-    let (board, mut readers) = Board::<J, &R>::open(rt, alloc, history, 2, 0, &[], 1)?;
+    let (board, mut readers) = Board::<J, &R>::open(
+        rt,
+        alloc,
+        history,
+        2,
+        0,
+        Longs::none(),
+        &[],
+        1,
+    )?;
     let reader = readers.swap_remove(0);
     let desk = Mutex::new(None);
     let (board, (mut reader, answer)) = join(
@@ -252,7 +379,7 @@ fn busy<J: Naming + Send + Sync, R: Threads + Wait + Sync>(
 ) -> Result<(Result<(), Fault>, Vec<Watched>), Fault>
     requires { history ≡ J.book }
 {
-    let (board, readers) = Board::<J, &R>::open(rt, alloc, history, 2, 0, &[], 7)?;
+    let (board, readers) = Board::<J, &R>::open(rt, alloc, history, 2, 0, Longs::none(), &[], 7)?;
     let over = AtomicBool::new(false);
     let ((board, added), watched) = join(
         rt,

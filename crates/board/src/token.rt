@@ -1,5 +1,6 @@
 use crate::history::{Front, Naming};
 use base::Ts;
+use base::longs::Longs;
 use std::marker::Model;
 
 /// What was published when it was made. Contracts see it as that list.
@@ -8,6 +9,7 @@ pub struct Token<J: Naming> {
     pub(crate) front: Front<J>,
     pub(crate) stamp: u64,
     pub(crate) persisted: Ts,
+    pub(crate) longs: Longs,
 }
 
 impl<J: Naming> Model for Token<J> {
@@ -18,17 +20,17 @@ impl<J: Naming> Model for Token<J> {
     ghost use Rattle.std.specs.Prelude.{◌≡◌};
     ghost use Rattle.base.specs.Published.{last_stamp};
     ghost use Rattle.board.specs.Changes.{list_of};
-    ghost use Rattle.board.specs.Lists.{last_persisted};
+    ghost use Rattle.board.specs.Lists.{last_persisted, last_longs};
 
     ghost view = { λ t. list_of t.front };
 
-    ghost invariant = { λ t. (t.stamp ≡ last_stamp (list_of t.front)) × (t.persisted ≡ last_persisted (list_of t.front)) };
+    ghost invariant = { λ t. (t.stamp ≡ last_stamp (list_of t.front)) × (t.persisted ≡ last_persisted (list_of t.front)) × (t.longs ≡ last_longs (list_of t.front)) };
 }
 
 impl<J: Naming> Token<J> {
-    ghost use Rattle.std.specs.Prelude.{◌≡◌, ◌⊎◌, ◌<◌, ◌↔◌, IsTrue};
+    ghost use Rattle.std.specs.Prelude.{◌≡◌, ◌⊎◌, ◌↔◌, IsTrue};
     ghost use Rattle.base.specs.Published.{last_stamp};
-    ghost use Rattle.board.specs.Lists.{Begins, has_commit};
+    ghost use Rattle.board.specs.Lists.{Begins, IsLater, has_commit};
 
     /// The last stamp that was published.
     pub fn stamp(&self) -> u64
@@ -39,10 +41,10 @@ impl<J: Naming> Token<J> {
 
     /// Whether a published batch holds the commit.
     pub fn covers(&self, timestamp: Ts) -> bool
-        ensures { self.now.persisted < timestamp → IsTrue result ↔ IsTrue (has_commit self.now timestamp) }
+        ensures { IsLater self.now timestamp → IsTrue result ↔ IsTrue (has_commit self.now timestamp) }
     {
         self.front.is_published();
-        timestamp <= self.persisted
+        timestamp <= self.persisted && !self.longs.contains(timestamp)
     }
 
     /// Another one of the same list.
@@ -53,6 +55,7 @@ impl<J: Naming> Token<J> {
             front: self.front.again(),
             stamp: self.stamp,
             persisted: self.persisted,
+            longs: self.longs,
         }
     }
 

@@ -26,6 +26,15 @@ abbrev pub gaps_text : List Gap → Text
 gaps_text [] = codes " -"
 gaps_text (gap ∷ gaps) = flat_map gap_text (gap ∷ gaps)
 
+-- a timestamp, after a space
+abbrev pub long_text : ℕ → Text
+long_text timestamp = codes " " ++ decimal timestamp
+
+-- the long commits, a space before each, where there are any
+abbrev pub longs_text : List ℕ → Text
+longs_text [] = []
+longs_text (long ∷ longs) = codes " longs" ++ flat_map long_text (long ∷ longs)
+
 -- the name of what a crash keeps
 abbrev pub survivor_text : Survivor → Text
 survivor_text Oldest = codes "oldest"
@@ -40,10 +49,10 @@ opened_line gate persisted dirty next gaps =
 abbrev pub closed_line : ℕ → ℕ → ℕ → Text
 closed_line gate persisted dirty = codes "closed gate " ++ (decimal gate ++ (codes " p " ++ (decimal persisted ++ (codes " d " ++ decimal dirty))))
 
--- the line of a sound image, with these numbers and gaps of its ruling record
-abbrev pub sound_line : ℕ → ℕ → ℕ → List Gap → Text
-sound_line gate persisted dirty gaps =
-    codes "sound gate " ++ (decimal gate ++ (codes " p " ++ (decimal persisted ++ (codes " d " ++ (decimal dirty ++ (codes " gaps" ++ gaps_text gaps))))))
+-- the line of a sound image, with these numbers, gaps and long commits of its ruling record
+abbrev pub sound_line : ℕ → ℕ → ℕ → List Gap → List ℕ → Text
+sound_line gate persisted dirty gaps longs =
+    codes "sound gate " ++ (decimal gate ++ (codes " p " ++ (decimal persisted ++ (codes " d " ++ (decimal dirty ++ (codes " gaps" ++ (gaps_text gaps ++ longs_text longs)))))))
 
 -- the line of a row and its key
 abbrev pub entry_text : Key → List ℕ → Text
@@ -66,7 +75,7 @@ abbrev pub text_of : Printed → Text
 text_of (printed.Opened gate persisted dirty next gaps) = opened_line gate persisted dirty next gaps.now
 text_of (printed.Closed gate persisted dirty) = closed_line gate persisted dirty
 text_of (printed.Formatted words) = codes "formatted " ++ (decimal words ++ codes " words")
-text_of (printed.Sound gate persisted dirty gaps) = sound_line gate persisted dirty gaps.now
+text_of (printed.Sound gate persisted dirty gaps longs) = sound_line gate persisted dirty gaps.now longs.now
 text_of (printed.Entry key row) = entry_text key row.now
 text_of (printed.End rows) = end_line rows
 text_of (printed.Rows rows) = rows_text rows.now

@@ -2,9 +2,10 @@ ghost use Rattle.std.specs.Prelude.{◌≡◌, ◌++◌, ◌∷◌, [], IfOk, On
 ghost use Rattle.std.specs.String.{string_bytes};
 ghost use Rattle.std.specs.Io.KnownBytes.{Appends};
 ghost use Rattle.command_line.specs.Rows.{row_text};
-ghost use Rattle.command_line.specs.Texts.{end_line, entry_text, gaps_text, rows_text, refused_text, survivor_text, text_of};
+ghost use Rattle.command_line.specs.Texts.{end_line, entry_text, gaps_text, longs_text, rows_text, refused_text, survivor_text, text_of};
 
 use crate::command::Survivor;
+use base::Ts;
 use base::fault::Fault;
 use base::gap::Gap;
 use base::key::Key;
@@ -34,12 +35,13 @@ pub enum Printed<'a> {
     Formatted {
         words: u64,
     },
-    /// An image is sound: the gate, the timestamps and the gaps of its ruling record.
+    /// An image is sound: the gate, the timestamps, the gaps and the long commits of its ruling record.
     Sound {
         gate: u64,
         persisted: u64,
         dirty: u64,
         gaps: &'a [Gap],
+        longs: &'a [Ts],
     },
     /// A row of an image, with its key.
     Entry {
@@ -117,9 +119,11 @@ pub fn text(alloc: Global, line: &Printed) -> Result<String, AllocError>
             persisted,
             dirty,
             gaps,
+            longs,
         } => {
             let gaps = gaps_text(alloc, gaps)?;
-            format!(in alloc; "sound gate {gate} p {persisted} d {dirty} gaps{gaps}")
+            let longs = longs_text(alloc, longs)?;
+            format!(in alloc; "sound gate {gate} p {persisted} d {dirty} gaps{gaps}{longs}")
         }
         Printed::Entry { key, row } => entry_line(alloc, key, row),
         Printed::End { rows } => end_line(alloc, rows),
@@ -213,6 +217,20 @@ fn gaps_text(alloc: Global, gaps: &[Gap]) -> Result<String, AllocError>
         let first = gap.first;
         let last = gap.last;
         let next = format!(in alloc; " {first}-{last}")?;
+        text.push_str(next.as_str())?;
+    }
+    Ok(text)
+}
+
+fn longs_text(alloc: Global, longs: &[Ts]) -> Result<String, AllocError>
+    ensures { IfOk result (λ text. string_bytes text ≡ longs_text longs.now) }
+{
+    if longs.is_empty() {
+        return Ok(String::new(alloc));
+    }
+    let mut text = String::from_str(alloc, " longs")?;
+    for long in longs {
+        let next = format!(in alloc; " {long}")?;
         text.push_str(next.as_str())?;
     }
     Ok(text)

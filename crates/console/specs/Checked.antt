@@ -12,7 +12,7 @@ use Rattle.command_line.specs.Texts.{sound_line, entries_text, end_line}
 -- the lines of a sound image with this ruling record and these rows
 abbrev pub checked_text : Record → List (Key × List ℕ) → Text
 checked_text r rows =
-    ((sound_line r.gate r.persisted r.dirty r.gaps ++ 10 ∷ []) ++ entries_text rows) ++ (end_line (length rows) ++ 10 ∷ [])
+    ((sound_line r.gate r.persisted r.dirty r.gaps r.longs ++ 10 ∷ []) ++ entries_text rows) ++ (end_line (length rows) ++ 10 ∷ [])
 
 -- the file has the words of a sound image, and what is printed is its ruling record, the rows of its tables by rising key, and how many they are
 pub record PrintsChecked (file : List ℕ) (old new : Option Text) : Type 0 where

@@ -36,6 +36,7 @@ pub fn check_file<T: Threads + Sync, W: Write>(
         persisted: report.persisted,
         dirty: report.dirty,
         gaps: report.gaps.as_slice(),
+        longs: report.longs.as_slice(),
     };
     print(alloc, output, &sound)?;
     show_rows(alloc, report.rows.as_slice(), output)?;

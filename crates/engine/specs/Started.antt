@@ -8,6 +8,7 @@ use Rattle.base.specs.Published.{Published}
 pub record IsStartedOn (q : State) (list : Published) : Type 0 where
   pub stamp : list.stamp ≡ q.ruling.gate
   pub persisted : list.persisted ≡ q.ruling.persisted
+  pub longs : list.longs ≡ q.ruling.longs
   pub rows : Lists list.rows (after q.history)
   pub batches : list.batches ≡ []
   pub floor : list.floor ≡ q.ruling.gate

@@ -64,4 +64,5 @@ fn is_same(one: &Status, other: &Status) -> bool
         && one.dirty == other.dirty
         && one.next == other.next
         && one.gaps.is(&other.gaps)
+        && one.longs.is(&other.longs)
 }

@@ -24,7 +24,16 @@ pub fn board_of<R: Wait + Drop, D: Pmem + Drop, J: Naming>(
 {
     let status = audited.status();
     match audited.tables() {
-        Ok(rows) => Board::open(rt, alloc, history, status.gate, status.persisted, &rows, 8),
+        Ok(rows) => Board::open(
+            rt,
+            alloc,
+            history,
+            status.gate,
+            status.persisted,
+            status.longs,
+            &rows,
+            8,
+        ),
         Err(fault) => Err(fault),
     }
 }

@@ -1,7 +1,6 @@
 use crate::origin::Origin;
 use crate::shared::Shared;
-use base::Ts;
-use base::batch::{Batch, Commit};
+use base::batch::Batch;
 use base::fault::Fault;
 use board::{Board, Naming, Token};
 use pmem::Pmem;
@@ -19,12 +18,10 @@ pub enum Posting {
     Unfit,
 }
 
-ghost use Rattle.std.specs.Prelude.{◌≡◌, ◌⊎◌, ◌↔◌, ◌≤◌, ◌<◌, ◌+◌, ◌-◌, IsTrue, IfSome, MatchResult, Ok, map};
-ghost use Rattle.std.specs.List.{range_with_len};
+ghost use Rattle.std.specs.Prelude.{◌≡◌, ◌⊎◌, ◌≤◌, ◌<◌, ◌+◌, ◌-◌, IfSome, MatchResult, Ok};
 ghost use Rattle.base.specs.declared.fault.Fault.TheVariants.{OutOfMemory};
-ghost use Rattle.base.specs.Published.{Published, last_stamp};
+ghost use Rattle.base.specs.Published.{last_stamp};
 ghost use Rattle.board.specs.declared.change.Change.TheVariants.{Raise};
-ghost use Rattle.board.specs.Lists.{Fits, last_persisted};
 ghost use Rattle.board.specs.Shown.{shown, waiting};
 ghost use Rattle.engine.specs.Posting.{Tries};
 
@@ -91,7 +88,7 @@ fn publish<R: Wait + Drop, J: Naming>(board: &mut Board<J, R>, left: Option<Batc
             Err(_) => Posting::Again(None),
         };
     };
-    if !fits(board.last(), &batch) {
+    if !board.fits(&batch) {
         return Posting::Unfit;
     }
     match board.publish(batch) {
@@ -109,34 +106,4 @@ fn prune<R: Wait + Drop, J: Naming>(board: &mut Board<J, R>) -> Result<(), Fault
 {
     let stamp = board.token().stamp();
     board.prune(stamp.saturating_sub(15))
-}
-
-// Whether the batch may come next, where a list ends with this stamp and this persisted timestamp.
-fn fits(last: (u64, Ts), batch: &Batch) -> bool
-    ensures { (list : Published) → last ≡ (last_stamp list, last_persisted list) → IsTrue result ↔ Fits list batch.now }
-{
-    let (stamp, persisted) = last;
-    batch.from() == stamp
-        && batch.stamp() > stamp
-        && batch.stamp() - stamp == 1
-        && persisted <= batch.persisted()
-        && is_counted(batch.commits(), persisted, batch.persisted())
-}
-
-// Whether there is one commit for each timestamp after the one, up to the other.
-fn is_counted(commits: &[Commit], after: Ts, upto: Ts) -> bool
-    requires { after ≤ upto }
-    ensures { IsTrue result ↔ (map (λ commit. commit.timestamp) commits.now ≡ range_with_len (after + 1) (upto - after)) }
-{
-    let mut last = after;
-    for commit in commits {
-        if last >= upto {
-            return false;
-        }
-        if commit.timestamp() != last + 1 {
-            return false;
-        }
-        last += 1;
-    }
-    last == upto
 }

@@ -7,6 +7,7 @@ use base::Ts;
 use base::fault::Fault;
 use base::step::{Note, Step};
 use pmem::Pmem;
+use room::Status;
 use std::marker::PhantomData;
 use std::sync::{Mutex, MutexGuard, Wait};
 use std::thread;
@@ -25,7 +26,8 @@ pub struct Desk<D: Pmem, J: Origin> {
 }
 
 impl<D: Pmem + Drop, J: Origin> Desk<D, J> {
-    ghost use Rattle.std.specs.Prelude.{◌≡◌, ◌↔◌, ◌≤◌, ◌⊎◌, IsTrue, true, MatchOption};
+    ghost use Rattle.std.specs.Prelude.{◌≡◌, ◌↔◌, ◌≤◌, ◌⊎◌, IsTrue, true, false, nat_eq, MatchOption};
+    ghost use Rattle.std.specs.List.{list_any};
     ghost use Rattle.base.specs.Machine.{State};
     ghost use Rattle.room.specs.Room.{Shows};
     ghost use Rattle.engine.specs.Lending.{HasMade, has_failed};
@@ -40,14 +42,14 @@ impl<D: Pmem + Drop, J: Origin> Desk<D, J> {
         }
     }
 
-    /// Whether a wait for the timestamp is over: it is persisted, or the device has failed.
+    /// Whether a wait for the timestamp is over: it is persisted and not long, or the device has failed.
     pub fn is_over(&self, timestamp: Ts) -> bool
         ensures { MatchOption self.now.audited (IsTrue result → ⊥)
-            (λ audited. (q : State) → Shows D.state audited.room q → IsTrue result ↔ ((timestamp ≤ q.ruling.persisted) ⊎ (has_failed audited.entries.items ≡ true))) }
+            (λ audited. (q : State) → Shows D.state audited.room q → IsTrue result ↔ (((timestamp ≤ q.ruling.persisted) × (list_any (nat_eq timestamp) q.ruling.longs ≡ false)) ⊎ (has_failed audited.entries.items ≡ true))) }
     {
         match &self.audited {
             Some(audited) => {
-                timestamp <= audited.status().persisted || has_failed(audited.history())
+                is_covered(&audited.status(), timestamp) || has_failed(audited.history())
             }
             None => false,
         }
@@ -95,7 +97,7 @@ impl<D: Pmem + Drop, J: Origin, B: Drop> Shared<D, J, B> {
         unreachable!()
     }
 
-    /// Waits until the room has persisted the timestamp, or its device has failed. It makes no step and takes no memory.
+    /// Waits until the room has persisted the timestamp, also where it was long, or its device has failed. It makes no step and takes no memory.
     pub fn wait_for<R: Wait>(&self, rt: &R, timestamp: Ts) {
         for _ in rt.forever() {
             let desk = self.desk.lock(rt);
@@ -114,8 +116,16 @@ impl<D: Pmem + Drop, J: Origin, B: Drop> Shared<D, J, B> {
     }
 }
 
-ghost use Rattle.std.specs.Prelude.{◌≡◌};
+ghost use Rattle.std.specs.Prelude.{◌≡◌, ◌↔◌, ◌≤◌, false, nat_eq, IsTrue};
+ghost use Rattle.std.specs.List.{list_any};
 ghost use Rattle.engine.specs.Lending.{is_failure, has_failed};
+
+// Whether the record covers the timestamp, where that was drawn since the opening.
+fn is_covered(status: &Status, timestamp: Ts) -> bool
+    ensures { IsTrue result ↔ ((timestamp ≤ status.now.persisted) × (list_any (nat_eq timestamp) status.now.longs ≡ false)) }
+{
+    timestamp <= status.persisted && !status.longs.contains(timestamp)
+}
 
 // Whether the device had failed by the last of these steps.
 fn has_failed(entries: &[(Step, Note)]) -> bool

@@ -1,5 +1,5 @@
 -- What the commits of a batch wrote.
-use Rattle.std.proofs.Common.{◌≡◌, ℕ, ◌≤◌, Bool, true, false, cond, List, [], ◌∷◌, length, take, map, filter, find, Some, refl, ◌∙◌, ap, arith}
+use Rattle.std.proofs.Common.{◌≡◌, ℕ, ◌≤◌, Bool, true, false, cond, List, [], ◌∷◌, length, take, map, find, Some, refl, ◌∙◌, ap, arith}
 use Rattle.std.specs.Prelude.{Option, IsTrue, nat_le}
 use Rattle.std.proofs.lemmas.Bool.{leb-true}
 use Rattle.std.proofs.lemmas.List.{take_all}
@@ -24,12 +24,3 @@ found-from from line (x ∷ xs) found = by_test (nat_le from x) refl found (foun
     by_test : (b : Bool) → nat_le from x ≡ b → cond b (Some x) (find (nat_le from) xs) ≡ Some line → (find (nat_le from) xs ≡ Some line → from ≤ line) → from ≤ line
     by_test true is e rest = let same : x ≡ line = cc e in omega (arith, same, leb-true from x is)
     by_test false is e rest = rest e
-
--- no more elements pass a test than there are
-pub few-filtered : {X : Type 0} (p : X → Bool) (xs : List X) → length (filter p xs) ≤ length xs
-few-filtered p [] = omega arith
-few-filtered p (x ∷ xs) = by (p x) (few-filtered p xs)
-  where
-    by : (b : Bool) → length (filter p xs) ≤ length xs → length (cond b (x ∷ filter p xs) (filter p xs)) ≤ length (x ∷ xs)
-    by true le = omega (arith, le)
-    by false le = omega (arith, le)

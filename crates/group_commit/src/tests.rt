@@ -81,6 +81,45 @@ fn a_batch_takes_the_stamped_commits(rt: HostRuntime) -> Result<(), Fail> {
 }
 
 #[test]
+fn stamped_commits_are_covered_past_one_that_is_not(rt: HostRuntime) -> Result<(), Fail> {
+    let geometry = Geometry::new(8, 2, 4)?;
+    let ruling = Record::new(3, 0, 8, Gaps::none(), Longs::none());
+    let mut drawn = DrawnCommits::new(rt.alloc());
+    drawn.reserve()?;
+    drawn.push(deletion(2, 1, 0));
+    drawn.reserve()?;
+    drawn.push(deletion(3, 2, 1));
+    drawn.reserve()?;
+    drawn.push(deletion(4, 3, 1));
+    let covered = begin(rt.alloc(), geometry, ruling, 4, &drawn)?.finish();
+    assert_eq!(rt; covered.batch.from(), 3);
+    assert_eq!(rt; covered.batch.commits().len(), 2);
+    assert_eq!(rt; covered.batch.longs().as_slice(), [1].as_slice());
+    assert_eq!(rt; covered.record.persisted(), 3);
+    assert_eq!(rt; covered.record.dirty(), 8);
+    assert_eq!(rt; covered.record.longs().as_slice(), [1].as_slice());
+    assert!(rt; !covered.sessions.contains(2));
+    assert!(rt; covered.sessions.contains(4));
+    Ok(())
+}
+
+#[test]
+fn a_commit_above_thirteen_unstamped_ones_waits(rt: HostRuntime) -> Result<(), Fail> {
+    let geometry = Geometry::new(64, 2, 64)?;
+    let ruling = Record::new(2, 0, 65, Gaps::none(), Longs::none());
+    let mut drawn = DrawnCommits::new(rt.alloc());
+    for session in 2..16 {
+        drawn.reserve()?;
+        drawn.push(deletion(session, Ts::from(session) - 1, 0));
+    }
+    drawn.stamp(14);
+    assert!(rt; crate::is_idle(geometry, ruling, 15, false, &drawn));
+    drawn.stamp(13);
+    assert!(rt; !crate::is_idle(geometry, ruling, 15, false, &drawn));
+    Ok(())
+}
+
+#[test]
 fn a_long_commit_is_named_until_it_is_stamped(rt: HostRuntime) -> Result<(), Fail> {
     let geometry = Geometry::new(8, 2, 4)?;
     let mut longs = Longs::none();

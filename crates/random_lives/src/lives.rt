@@ -137,6 +137,21 @@ fn assert_agrees(
     Ok(())
 }
 
+// The record of the room names the model's long commits.
+fn assert_same_longs(
+    rt: &impl Abort,
+    room: &Room<SimPmem>,
+    model: &Model,
+    seed: u64,
+) -> Result<(), Fault> {
+    let (status, longs) = (room.status(), model.longs()?);
+    assert!(rt;
+        status.longs.as_slice() == longs.as_slice(),
+        "seed {seed}: long commits"
+    );
+    Ok(())
+}
+
 // The room of a device that is at rest.
 fn opened<R: Threads + Sync + Abort>(
     rt: &R,
@@ -186,7 +201,8 @@ fn closed_life<R: Threads + Sync + Abort>(
 ) -> Result<SimPmem, Fault> {
     let mut room = opened(rt, alloc, device)?;
     live(rt, &mut room, model, chance, seed)?;
-    model.close();
+    assert_same_longs(rt, &room, model, seed)?;
+    model.close()?;
     match room.close() {
         Ok(device) => device.crash(&Choice::Oldest),
         Err((fault, _device)) => Err(fault),
@@ -205,6 +221,7 @@ fn crashed_life<R: Threads + Sync + Abort>(
     device.set_fuse(Some(MOST_IN_AN_OPENING + chance.below(400)));
     let mut room = opened(rt, alloc, device)?;
     live(rt, &mut room, model, chance, seed)?;
+    assert_same_longs(rt, &room, model, seed)?;
     let left = crashed(alloc, room, chance)?;
     model.stop(gate_of(rt, alloc, &left)?)?;
     Ok(left)
@@ -241,8 +258,9 @@ fn assert_opening_agrees<R: Threads + Sync + Abort>(
 // Lives of one device, whose numbers at random begin with the seed.
 fn live_all<R: Threads + Sync + Abort>(rt: &R, alloc: Global, seed: u64) -> Result<(), Fault> {
     let mut chance = Chance::new(seed);
-    let mut model = Model::new(alloc);
-    let mut device = formatted(alloc, Geometry::new(SLOTS as u64, 2, WINDOW)?)?;
+    let geometry = Geometry::new(SLOTS as u64, 2, WINDOW)?;
+    let mut model = Model::new(alloc, geometry.most_longs());
+    let mut device = formatted(alloc, geometry)?;
     for _ in 0..LIVES {
         device = next_life(rt, alloc, device, &mut model, &mut chance, seed)?;
         assert_opening_agrees(rt, alloc, &device, &model, seed)?;

@@ -22,39 +22,44 @@ struct Commit {
     writes: Writes,
     lines: u64,
     stamps_left: u64,
+    /// It is in the batch of the cycle that runs.
+    taken: bool,
 }
 
 #[derive(Clone, Copy)]
 enum State {
     Active,
-    /// With the place of its commit.
-    Drawn(usize),
+    /// With the timestamp of its commit.
+    Drawn(u64),
     ReadOnly,
 }
 
 #[derive(Clone, Copy)]
 struct Session {
-    /// How many commits it sees.
+    /// How many covered commits it sees.
     begun: usize,
     writes: Writes,
     state: State,
 }
 
-// A cycle: up to which commit it covers, how many ticks are left, what it reserves, and whether it drops the gaps.
+// A cycle: up to which timestamp it persists, how many ticks are left, what it reserves, and whether it drops the gaps.
 #[derive(Clone, Copy)]
 struct Cycle {
-    covered: usize,
+    persisted: u64,
     ticks: u64,
     dirty: u64,
     drops_gaps: bool,
 }
 
-/// The engine as one list of commits, of which so many are covered, with four sessions, and what takes each slot.
+/// The engine as the commits that are covered, in the order in which that happened, those that are drawn, by rising timestamp,
+/// four sessions, and what takes each slot. A drawn commit at or below the persisted timestamp is long.
 #[derive(Drop)]
 pub struct Model {
     alloc: Global,
-    commits: Vec<Commit>,
-    covered: usize,
+    /// How many long commits a record may name.
+    most_longs: usize,
+    covered: Vec<Commit>,
+    drawn: Vec<Commit>,
     sessions: [Option<Session>; 4],
     cycle: Option<Cycle>,
     gate: u64,
@@ -70,11 +75,12 @@ pub struct Model {
 
 impl Model {
     /// A fresh device that was opened.
-    pub fn new(alloc: Global) -> Model {
+    pub fn new(alloc: Global, most_longs: usize) -> Model {
         Model {
             alloc,
-            commits: Vec::new(alloc),
-            covered: 0,
+            most_longs,
+            covered: Vec::new(alloc),
+            drawn: Vec::new(alloc),
             sessions: [None; 4],
             cycle: None,
             gate: 2,
@@ -99,12 +105,23 @@ impl Model {
 
     /// What the covered commits leave.
     pub fn tables(&self) -> Tables {
-        self.tables_after(self.covered)
+        self.tables_after(self.covered.len())
+    }
+
+    /// The timestamps of the long commits.
+    pub fn longs(&self) -> Result<Vec<u64>, Fault> {
+        let mut longs = Vec::new(self.alloc);
+        for commit in &self.drawn {
+            if commit.timestamp <= self.persisted && longs.push(commit.timestamp).is_err() {
+                return Err(Fault::OutOfMemory);
+            }
+        }
+        Ok(longs)
     }
 
     fn tables_after(&self, commits: usize) -> Tables {
         let mut tables = [None; KEYS];
-        for commit in self.commits.iter().take(commits) {
+        for commit in self.covered.iter().take(commits) {
             for (row, write) in tables.iter_mut().zip(commit.writes.iter()) {
                 if let Some(written) = write {
                     *row = *written;
@@ -146,7 +163,7 @@ impl Model {
         for (number, place) in (2..).zip(self.sessions.iter_mut()) {
             if place.is_none() {
                 *place = Some(Session {
-                    begun: self.covered,
+                    begun: self.covered.len(),
                     writes: [None; KEYS],
                     state: State::Active,
                 });
@@ -162,7 +179,7 @@ impl Model {
             State::Drawn(commit) => match step {
                 Step::Stamp { .. } => (self.stamp(commit), Some(session)),
                 Step::Poll { .. } => (self.poll(commit), Some(session)),
-                Step::End { .. } if commit < self.covered => (Note::Done, None),
+                Step::End { .. } if self.is_covered(commit) => (Note::Done, None),
                 _ => (Note::Refused(Fault::WrongState), Some(session)),
             },
             State::ReadOnly => match step {
@@ -234,6 +251,7 @@ impl Model {
             writes: session.writes,
             lines: 0,
             stamps_left: 0,
+            taken: false,
         };
         let tables = self.tables_after(session.begun);
         for ((key, write), row) in (0..).zip(session.writes.iter()).zip(tables.iter()) {
@@ -257,8 +275,8 @@ impl Model {
         if self.next == self.dirty {
             return (Note::Refused(Fault::WindowFull), Some(session));
         }
-        let state = State::Drawn(self.commits.len());
-        if self.commits.push(drawn).is_err() {
+        let state = State::Drawn(self.next);
+        if self.drawn.push(drawn).is_err() {
             return (Note::Refused(Fault::OutOfMemory), Some(session));
         }
         self.slots
@@ -271,7 +289,7 @@ impl Model {
     }
 
     fn is_written_after(&self, begun: usize, key: usize) -> bool {
-        for commit in self.commits.iter().skip(begun) {
+        for commit in self.covered.iter().skip(begun).chain(self.drawn.iter()) {
             if let Some(Some(_)) = commit.writes.get(key) {
                 return true;
             }
@@ -279,25 +297,32 @@ impl Model {
         false
     }
 
-    fn stamp(&mut self, at: usize) -> Note {
-        match self.commits.get_mut(at) {
-            Some(commit) if commit.stamps_left > 0 => {
+    fn stamp(&mut self, timestamp: u64) -> Note {
+        for commit in self.drawn.iter_mut() {
+            if commit.timestamp == timestamp && commit.stamps_left > 0 {
                 commit.stamps_left -= 1;
-                if commit.stamps_left == 0 {
+                return if commit.stamps_left == 0 {
                     Note::Stamped
                 } else {
                     Note::More
-                }
+                };
             }
-            _ => Note::Refused(Fault::WrongState),
+        }
+        Note::Refused(Fault::WrongState)
+    }
+
+    fn poll(&self, timestamp: u64) -> Note {
+        if self.is_covered(timestamp) {
+            Note::Committed(timestamp)
+        } else {
+            Note::Waiting
         }
     }
 
-    fn poll(&self, at: usize) -> Note {
-        match self.commits.get(at) {
-            Some(commit) if at < self.covered => Note::Committed(commit.timestamp),
-            _ => Note::Waiting,
-        }
+    fn is_covered(&self, timestamp: u64) -> bool {
+        self.covered
+            .iter()
+            .any(|commit| commit.timestamp == timestamp)
     }
 
     fn tick(&mut self) -> Note {
@@ -309,29 +334,32 @@ impl Model {
             self.cycle = Some(Cycle { ticks, ..cycle });
             return Note::Ticked(Stage::Chosen);
         }
-        self.cover();
-        Note::Covered(self.gate)
+        match self.cover() {
+            Ok(()) => Note::Covered(self.gate),
+            Err(fault) => Note::Refused(fault),
+        }
     }
 
-    // Takes the longest run of stamped commits, unless there is none, half of the window is left, and no swept gap stands.
+    // Takes the stamped commits up to the reach, unless there is none, half of the window is left, and no swept gap stands.
     fn choose(&mut self) -> Note {
-        let mut covered = self.covered;
+        let persisted = self.reach();
         let mut ticks: u64 = 40;
-        for commit in self.commits.iter().skip(self.covered) {
-            if commit.stamps_left > 0 {
-                break;
+        let mut some = false;
+        for commit in self.drawn.iter_mut() {
+            if commit.stamps_left == 0 && commit.timestamp <= persisted {
+                commit.taken = true;
+                some = true;
+                ticks = ticks.saturating_add(commit.lines);
             }
-            covered = covered.saturating_add(1);
-            ticks = ticks.saturating_add(commit.lines);
         }
         let drops_gaps = self.swept && !self.gaps.is_empty();
         let window_stays = self.dirty.saturating_sub(self.next) >= WINDOW / 2;
-        if covered == self.covered && window_stays && !drops_gaps {
+        if !some && window_stays && !drops_gaps {
             return Note::Idle;
         }
         let dirty = self.next.saturating_add(WINDOW);
         self.cycle = Some(Cycle {
-            covered,
+            persisted,
             ticks,
             dirty,
             drops_gaps,
@@ -339,10 +367,24 @@ impl Model {
         Note::Ticked(Stage::Chosen)
     }
 
-    fn cover(&mut self) {
+    // The greatest timestamp of a stamped commit that has few enough unstamped ones below it, and no less than what is persisted.
+    fn reach(&self) -> u64 {
+        let mut reach = self.persisted;
+        let mut unstamped: usize = 0;
+        for commit in &self.drawn {
+            if commit.stamps_left > 0 {
+                unstamped = unstamped.saturating_add(1);
+            } else if unstamped <= self.most_longs {
+                reach = reach.max(commit.timestamp);
+            }
+        }
+        reach
+    }
+
+    fn cover(&mut self) -> Result<(), Fault> {
         if let Some(cycle) = self.cycle {
-            self.covered = cycle.covered;
-            self.persisted = self.persisted.max(self.last_covered());
+            self.cover_taken()?;
+            self.persisted = cycle.persisted;
             self.dirty = cycle.dirty;
             self.gate = self.gate.saturating_add(1);
             if cycle.drops_gaps {
@@ -350,15 +392,18 @@ impl Model {
             }
         }
         self.cycle = None;
+        Ok(())
     }
 
-    // The timestamp of the last covered commit.
-    fn last_covered(&self) -> u64 {
-        let mut last = 0;
-        for commit in self.commits.iter().take(self.covered) {
-            last = commit.timestamp;
+    // The drawn commits that were taken are covered, by rising timestamp.
+    fn cover_taken(&mut self) -> Result<(), Fault> {
+        for commit in &self.drawn {
+            if commit.taken && self.covered.push(*commit).is_err() {
+                return Err(Fault::OutOfMemory);
+            }
         }
-        last
+        self.drawn.retain(|commit| !commit.taken);
+        Ok(())
     }
 
     // The collector frees the slot of its place where no one reads its version any more, or ends a sweep.
@@ -388,12 +433,12 @@ impl Model {
                 }
             }
         }
-        self.is_replaced(version, self.covered)
+        self.is_replaced(version, self.covered.len())
     }
 
     // Is the version of one of so many commits, and is a later one of them on its key?
     fn is_replaced(&self, version: Version, commits: usize) -> bool {
-        for commit in self.commits.iter().take(commits) {
+        for commit in self.covered.iter().take(commits) {
             if version.writer == Writer::Commit(commit.timestamp) {
                 return self.last_writer(version.key, commits) != commit.timestamp;
             }
@@ -404,7 +449,7 @@ impl Model {
     // The last of so many commits that writes the key.
     fn last_writer(&self, key: usize, commits: usize) -> u64 {
         let mut last = 0;
-        for commit in self.commits.iter().take(commits) {
+        for commit in self.covered.iter().take(commits) {
             if let Some(Some(_)) = commit.writes.get(key) {
                 last = commit.timestamp;
             }
@@ -415,13 +460,18 @@ impl Model {
     /// The power fails, and the device is opened with this gate. Of a cycle only the whole may survive.
     pub fn stop(&mut self, gate: u64) -> Result<(), Fault> {
         if gate > self.gate.saturating_add(1) {
-            self.cover();
+            self.cover()?;
         }
-        self.commits.truncate(self.covered);
+        for timestamp in self.longs()? {
+            self.add_gap(timestamp, timestamp)?;
+        }
         let first = self.persisted.saturating_add(1);
         let last = self.dirty.saturating_sub(1);
         if first <= last {
             self.add_gap(first, last)?;
+        }
+        if self.gaps.len() > 8 {
+            self.gaps.clear();
         }
         self.next = self.dirty;
         self.open();
@@ -429,17 +479,21 @@ impl Model {
     }
 
     /// The room is closed, and the device opened.
-    pub fn close(&mut self) {
-        self.cover();
+    pub fn close(&mut self) -> Result<(), Fault> {
+        self.cover()?;
         self.gate = self.gate.saturating_add(1);
-        self.covered = self.commits.len();
+        for commit in self.drawn.iter_mut() {
+            commit.taken = true;
+        }
+        self.cover_taken()?;
         if self.swept {
             self.gaps.clear();
         }
         self.open();
+        Ok(())
     }
 
-    // A gap more, after the others, which is joined to the last where that is adjacent. An opening with a ninth leaves none.
+    // A gap more, after the others, which is joined to the last where that is adjacent.
     fn add_gap(&mut self, first: u64, last: u64) -> Result<(), Fault> {
         let mut gap = Gap { first, last };
         if let Some(before) = self.gaps.last().copied() {
@@ -451,13 +505,12 @@ impl Model {
         if self.gaps.push(gap).is_err() {
             return Err(Fault::OutOfMemory);
         }
-        if self.gaps.len() > 8 {
-            self.gaps.clear();
-        }
         Ok(())
     }
 
+    // What is drawn is gone.
     fn open(&mut self) {
+        self.drawn.clear();
         self.gate = self.gate.saturating_add(1);
         self.persisted = self.next.saturating_sub(1);
         self.dirty = self.next.saturating_add(WINDOW);
@@ -467,7 +520,7 @@ impl Model {
         self.place = 0;
         let mut kept = [0; KEYS];
         for (key, commit) in kept.iter_mut().enumerate() {
-            *commit = self.last_writer(key, self.covered);
+            *commit = self.last_writer(key, self.covered.len());
         }
         self.slots.free_others(kept);
     }

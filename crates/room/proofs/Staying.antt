@@ -151,7 +151,7 @@ module _ (o : Origin) (q q' : State) (step : Step) (reply : Reply) (old new : Li
   hand-stays : (hand : Hand) (cycle : Cycling) → q.hand ≡ Some hand → HoldsHand q old hand cycle → HoldsHand q' new hand cycle
   hand-stays hand cycle in_hand h = record {
     sessions = λ n. h.sessions n ∙ sessions-stay n;
-    batch = h.batch ∙ ap (λ (r : Record). let b : Batch = record { from = r.gate; stamp = hand.target.gate; persisted = hand.target.persisted; commits = hand.commits } in b) (sym l.ruling);
+    batch = h.batch ∙ ap (λ (r : Record). let b : Batch = record { from = r.gate; stamp = hand.target.gate; persisted = hand.target.persisted; longs = hand.target.longs; commits = hand.commits } in b) (sym l.ruling);
     layout = h.layout ∙ sym l.layout;
     target = h.target;
     unfinished = h.unfinished;

@@ -57,7 +57,7 @@ abbrev pub cycle : List Reply
 cycle =
     map Ticked ((Chosen ∷ LineFlushed 0 ∷ LinesFenced ∷ map BodyStored (1 ∷ 2 ∷ 3 ∷ 4 ∷ 5 ∷ 6 ∷ 7 ∷ 8 ∷ 9 ∷ 10 ∷ 11 ∷ 12 ∷ 13 ∷ 14 ∷ 15 ∷ 16 ∷ 17 ∷ 18 ∷ 19 ∷ 20 ∷ 21 ∷ 22 ∷ 23 ∷ 24 ∷ 25 ∷ 26 ∷ 27 ∷ 28 ∷ 29 ∷ 30 ∷ 31 ∷ []))
     ++ map BodyFlushed (0 ∷ 1 ∷ 2 ∷ 3 ∷ []) ++ (BodyFenced ∷ GateStored ∷ GateFlushed ∷ []))
-    ++ Covered (record { from = 2; stamp = 3; persisted = 1; commits = commit_1 ∷ [] }) ∷ []
+    ++ Covered (record { from = 2; stamp = 3; persisted = 1; longs = []; commits = commit_1 ∷ [] }) ∷ []
 
 -- opened again with commit 1 covered, and what it reads
 abbrev pub reopened : State
@@ -134,7 +134,7 @@ pub record OwnWrites : Type 0 where
   pub gives_back : (end start (Begin ∷ Put 2 key_7 ab ∷ Delete 2 key_7 ∷ [])).held 0 ≡ None
   pub operations : operates (end start (Begin ∷ Delete 2 key_7 ∷ Draw 2 ∷ [])) (Stamp 2) ≡ false
   pub covers : last_reply (replies start (Begin ∷ Delete 2 key_7 ∷ Draw 2 ∷ Stamp 2 ∷ ticks 41))
-      ≡ Covered (record { from = 2; stamp = 3; persisted = 1; commits = record { timestamp = 1; writes = (key_7, None) ∷ [] } ∷ [] })
+      ≡ Covered (record { from = 2; stamp = 3; persisted = 1; longs = []; commits = record { timestamp = 1; writes = (key_7, None) ∷ [] } ∷ [] })
 
 -- keys on both sides of those two
 abbrev pub key_6 : Key
@@ -173,7 +173,7 @@ pub record Update : Type 0 where
 -- two keys in one commit, a deletion and an insertion, stamped one by one in order of the keys
 pub record TwoKeys : Type 0 where
   pub stamps : replies committed (End 2 ∷ Begin ∷ Put 2 key_8 ab ∷ Delete 2 key_7 ∷ Draw 2 ∷ Stamp 2 ∷ Stamp 2 ∷ Stamp 2 ∷ []) ≡ Done ∷ Began 2 ∷ Done ∷ Done ∷ DrewAs 2 ∷ More ∷ Stamped ∷ Refused WrongState ∷ []
-  pub covers : last_reply (replies two_keys (ticks 43)) ≡ Covered (record { from = 3; stamp = 4; persisted = 2; commits = record { timestamp = 2; writes = (key_7, None) ∷ (key_8, Some ab) ∷ [] } ∷ [] })
+  pub covers : last_reply (replies two_keys (ticks 43)) ≡ Covered (record { from = 3; stamp = 4; persisted = 2; longs = []; commits = record { timestamp = 2; writes = (key_7, None) ∷ (key_8, Some ab) ∷ [] } ∷ [] })
   pub reads : replies (end two_keys (ticks 43)) (End 2 ∷ Begin ∷ Get 2 key_7 ∷ Get 2 key_8 ∷ []) ≡ Done ∷ Began 2 ∷ Row None ∷ Row (Some ab) ∷ []
 
 -- an abort frees the slots and the number

@@ -6,7 +6,7 @@ use Rattle.board.proofs.rows.settle.Given as goal
 
 abbrev pub invariant-loop : goal.invariant-loop
 invariant-loop l =
-    ((list : Published) → Stands l.initial.last.0 l.initial.last.1 l.floor l.initial.rows.entries l.initial.batches.items list → Stands l.last.0 l.last.1 l.floor l.rows.entries l.batches.items list)
+    ((list : Published) → Stands l.initial.last.0 l.initial.last.1 l.initial.last.2 l.floor l.initial.rows.entries l.initial.batches.items list → Stands l.last.0 l.last.1 l.last.2 l.floor l.rows.entries l.batches.items list)
     × (Indexed l.initial.last.0 l.initial.versions.entries l.initial.batches.items → Indexed l.last.0 l.versions.entries l.batches.items)
 
 abbrev pub decreases-loop : goal.decreases-loop

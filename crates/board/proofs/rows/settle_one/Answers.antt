@@ -12,7 +12,7 @@ returns-in_err-lay-clause-rows c list h =
     let at : slice_get c.args.batches.now.items 0 ≡ Some batch = search rules in
     let low : batch.stamp ≤ c.args.floor = search rules in
     let same : (k : Key) → is_written k batch.commits ≡ false → lookup_key c.lay.new.rows.entries k ≡ lookup_key c.args.rows.now.entries k = rw (← c.commits.ensures) c.lay.ensures.others in
-    stands_alike c.args.last.now.0 c.args.last.now.1 c.args.floor _ _ c.args.batches.now.items batch list at low same h
+    stands_alike c.args.last.now.0 c.args.last.now.1 c.args.last.now.2 c.args.floor _ _ c.args.batches.now.items batch list at low same h
 
 pub returns-clause-versions : goal.returns-clause-versions
 returns-clause-versions c h =

@@ -1,9 +1,9 @@
-use Rattle.std.proofs.Common.{◌≤◌, length, arith, filter}
+use Rattle.std.proofs.Common.{arith, filter}
 use Rattle.std.proofs.lemmas.List.{length-map}
 use Rattle.txn.specs.declared.drawn.DrawnCommit.{DrawnCommit}
 use Rattle.txn.specs.DrawnCommits.{is_passed}
+use Rattle.txn.proofs.Passed.{few-filtered}
 use Rattle.group_commit.specs.Choosing.{reach_of}
-use Rattle.group_commit.proofs.Batches.{few-filtered}
 use Rattle.group_commit.proofs.tests.begin.Goals as goal
 
 pub begin-requires-clause-few : goal.begin-requires-clause-few

@@ -11,6 +11,7 @@ use Rattle.group_commit.specs.Choosing.{longs_of, is_idle, batch_of, record_of, 
 use Rattle.group_commit.specs.Cycles.{Cycling}
 use Rattle.log_area.specs.Writings.{begun}
 use Rattle.txn.specs.declared.drawn.DrawnCommit.{DrawnCommit}
+use Rattle.txn.specs.InFlight.{InFlight}
 use Rattle.session_steps.specs.declared.numbers.Numbers.{Numbers}
 use Rattle.room.specs.Steps.{StepsToIn}
 use Rattle.room.proofs.Choices.{next-below, gate-below, few-passed, idles, takes, refuses}
@@ -35,9 +36,10 @@ begin-requires-clause-countable c = ∥∥₁_elim c.requires.shown le_prop (λ 
 
 pub begin-requires-clause-few : goal.begin-requires-clause-few
 begin-requires-clause-few c = ∥∥₁_elim c.requires.shown le_prop (λ some.
-    let is = λ i. let n = c.numbers-numbers.ensures i in length (longs_of n.geometry n.record (c.drawn-drawn.ensures i).commits) in
+    let numbers = ap (λ (n : Numbers). length (longs_of n.geometry n.record c.drawn-drawn.result.now.commits)) c.numbers-numbers.ensures in
+    let drawn = ap (λ (d : InFlight). length (longs_of c.args.self.now.sessions.numbers.geometry c.args.self.now.sessions.numbers.record d.commits)) c.drawn-drawn.ensures in
     let few = few-passed _ _ _ some.1.1 in
-    omega (arith, is, few))
+    omega (arith, numbers, drawn, few))
 
 pub returns-in-Ok : goal.returns-in-Ok
 returns-in-Ok c = record {
