@@ -51,18 +51,27 @@ const DRAWN: &[Ask] = &[
     Commit(41),
 ];
 
-// The first commit is stamped after a tick that has nothing to do.
-const STAMPED: &[Ask] = &[Stamp(3), Stamp(4), Commit(1), Stamp(2), Commit(44)];
+// The other two are stamped, and covered past the first.
+const STAMPED: &[Ask] = &[Stamp(3), Stamp(4), Commit(43)];
+
+// The first is stamped after a tick that has nothing to do.
+const STAMPED_LAST: &[Ask] = &[Commit(1), Stamp(2), Commit(42)];
 
 #[test]
-fn record_without_commits_keeps_the_window_open(rt: HostRuntime) -> Result<(), Fault> {
+fn long_commit_is_covered_later(rt: HostRuntime) -> Result<(), Fault> {
     let mut room = opened(&rt, rt.alloc(), fresh(rt.alloc(), 8, 4)?)?;
     let none = batch_after(&rt, rt.alloc(), &mut room, DRAWN)?;
     assert_batch(&rt, &none, (2, 3, 0), &[]);
-    let three = batch_after(&rt, rt.alloc(), &mut room, STAMPED)?;
-    assert_batch(&rt, &three, (3, 4, 3), &[1, 2, 3]);
+    let two = batch_after(&rt, rt.alloc(), &mut room, STAMPED)?;
+    assert_batch(&rt, &two, (3, 4, 3), &[2, 3]);
+    assert!(rt; two.longs().as_slice() == [1].as_slice());
+    assert!(rt; room.status().longs.as_slice() == [1].as_slice());
+    let first = batch_after(&rt, rt.alloc(), &mut room, STAMPED_LAST)?;
+    assert_batch(&rt, &first, (4, 5, 3), &[1]);
+    assert!(rt; first.longs().as_slice().is_empty());
     let status = room.status();
-    assert!(rt; (status.gate, status.persisted, status.dirty, status.next) == (4, 3, 8, 4));
+    assert!(rt; (status.gate, status.persisted, status.dirty, status.next) == (5, 3, 8, 4));
+    assert!(rt; status.longs.as_slice().is_empty());
     Ok(())
 }
 

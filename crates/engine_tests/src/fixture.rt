@@ -14,7 +14,7 @@ pub fn fresh_words() -> [u64; 104] {
     let mut words = [0; 104];
     // Read from its high byte down it is `WBL-PRF1`.
     words[0] = 0x5742_4C2D_5052_4631;
-    words[1] = 1;
+    words[1] = 2;
     words[2] = 4;
     words[3] = 2;
     words[4] = 8;

@@ -356,38 +356,54 @@ pub const REUSED_SLOT: Story = Story {
     ],
 };
 
+/// Key 7 has a row.
+pub const ONE_ROW: &[Past] = &[(
+    &[Begin, Put(2, 1, 7, 1), Draw(2), Stamp(2), Commit(42)],
+    false,
+)];
+
+// What the openings that follow one another show.
+const ITS_OPENINGS: &[Opening] = &[
+    Opening {
+        numbers: (4, 9, 18, 10),
+        gaps: &[(2, 9)],
+        rows: &[(7, 1)],
+    },
+    Opening {
+        numbers: (5, 17, 26, 18),
+        gaps: &[(2, 17)],
+        rows: &[(7, 1)],
+    },
+    Opening {
+        numbers: (6, 25, 34, 26),
+        gaps: &[(2, 25)],
+        rows: &[(7, 1)],
+    },
+    Opening {
+        numbers: (7, 33, 42, 34),
+        gaps: &[(2, 33)],
+        rows: &[(7, 1)],
+    },
+];
+
 /// The opening after a first commit. Each further one that is lost makes the gap longer.
 pub const OPENING: Story = Story {
     slots: 4,
-    before: &[(
-        &[Begin, Put(2, 1, 7, 1), Draw(2), Stamp(2), Commit(42)],
-        false,
-    )],
+    before: ONE_ROW,
     asks: &[],
     closes: false,
-    openings: &[
-        Opening {
-            numbers: (4, 9, 18, 10),
-            gaps: &[(2, 9)],
-            rows: &[(7, 1)],
-        },
-        Opening {
-            numbers: (5, 17, 26, 18),
-            gaps: &[(2, 17)],
-            rows: &[(7, 1)],
-        },
-        Opening {
-            numbers: (6, 25, 34, 26),
-            gaps: &[(2, 25)],
-            rows: &[(7, 1)],
-        },
-        Opening {
-            numbers: (7, 33, 42, 34),
-            gaps: &[(2, 33)],
-            rows: &[(7, 1)],
-        },
-    ],
+    openings: ITS_OPENINGS,
     gates: &[(36, 4, 4), (38, 4, 5), (39, 5, 5)],
+};
+
+/// The same over an image of the first version: it stores, flushes and fences the version first.
+pub const FIRST_VERSION: Story = Story {
+    slots: 4,
+    before: ONE_ROW,
+    asks: &[],
+    closes: false,
+    openings: ITS_OPENINGS,
+    gates: &[(39, 4, 4), (41, 4, 5), (42, 5, 5)],
 };
 
 /// Nine lives, of which each covers a key and leaves a gap, and the last loses an update.
