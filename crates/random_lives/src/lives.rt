@@ -77,7 +77,8 @@ fn noted(room: &mut Room<SimPmem>, step: Step) -> Note {
     }
 }
 
-// Makes steps at random up to the first that finds the device failing.
+// Makes steps at random up to the first that finds the device failing. One session stamps seldom, if it is there, so that its
+// commits stay long.
 fn live(
     rt: &impl Abort,
     room: &mut Room<SimPmem>,
@@ -85,9 +86,13 @@ fn live(
     chance: &mut Chance,
     seed: u64,
 ) -> Result<(), Fault> {
+    let slow = 2 + chance.below(6) as u8;
     for _ in 0..STEPS {
         let (step, count) = any_step(chance)?;
         if step == Step::Begin && model.is_full() {
+            continue;
+        }
+        if step == (Step::Stamp { session: slow }) && chance.below(16) > 0 {
             continue;
         }
         for _ in 0..count {
