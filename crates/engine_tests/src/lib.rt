@@ -30,3 +30,5 @@ mod slots;
 mod stories;
 #[cfg(test)]
 mod texts;
+#[cfg(test)]
+mod walks;
