@@ -3,6 +3,7 @@ use crate::fixture::fresh_words;
 use base::fault::Fault;
 use base::geometry::Geometry;
 use base::key::Key;
+use base::longs::Longs;
 use gap_list::GapList;
 use index::Index;
 use pmem_model::SimPmem;
@@ -25,7 +26,7 @@ fn walked(
     let device = SimPmem::from_words(alloc, words)?;
     let mut index = Index::new(alloc);
     index.found(KEY, newest)?;
-    let snapshot = Snapshot::new(persisted, GapList::none());
+    let snapshot = Snapshot::new(persisted, GapList::none(), Longs::none());
     match index.walk(&device, geometry, KEY, &snapshot) {
         Some(found) => Ok(found.row.as_bytes().first().copied()),
         None => Ok(None),
