@@ -56,7 +56,16 @@ fn read_one_board<J: Naming + Send + Sync, R: Threads + Wait + Sync>(
     requires readers { (0 < readers) × (readers ≤ 8) }
 {
     let rows = first_rows(alloc)?;
-    let (board, readers) = Board::<J, &R>::open(rt, alloc, history, 0, 0, Longs::none(), &rows, readers)?;
+    let (board, readers) = Board::<J, &R>::open(
+        rt,
+        alloc,
+        history,
+        0,
+        0,
+        Longs::none(),
+        &rows,
+        readers,
+    )?;
     let count = readers.len() as u64;
     let done = AtomicU64::new(0);
     let ((board, published), read) = join(
