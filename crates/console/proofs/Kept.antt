@@ -6,7 +6,7 @@ use Rattle.base.specs.declared.step.Step.{Step}
 use Rattle.base.specs.declared.step.Reply.{Reply}
 use Rattle.base.specs.Commits.{Commit}
 use Rattle.base.specs.Images.{Image, layout_of}
-use Rattle.base.specs.Layout.{Layout, opened_layout, opened_version}
+use Rattle.base.specs.Layout.{Layout, opened_layout, opened_version, plain_version}
 use Rattle.base.specs.Machine.{State, Stepped, Hand, Cover, StandsUnder, StandsAt, StandsClosed, drawn_of, covers_at, of_hand, present, closed, uncovered}
 use Rattle.pmem.specs.Device.{Device, restarted}
 use Rattle.pmem.specs.Words.{image_of}
@@ -82,7 +82,7 @@ opened-twice a = by (nat_eq a.version 3) refl
     by : (b : Bool) → nat_eq a.version 3 ≡ b → opened_layout (opened_layout a) ≡ opened_layout a
     by b is = rw is (at b)
       where
-        at : (b : Bool) → record a { version = opened_version (cond b 3 1) } ≡ record a { version = cond b 3 1 }
+        at : (b : Bool) → record a { version = opened_version (cond b 3 plain_version) } ≡ record a { version = cond b 3 plain_version }
         at true = refl
         at false = refl
 
