@@ -11,7 +11,6 @@ use Rattle.pmem.specs.Words.{value_of, image_of}
 use Rattle.log_area.proofs.Heads.{image_size, image_word}
 use Rattle.version_slot.specs.declared.words.Slot.{Slot}
 use Rattle.version_slot.specs.Words.{Fits, IsVersion, IsSlot, slot_at}
-use Rattle.version_slot.proofs.Decoding.{limits}
 use Rattle.version_slot.proofs.ImageSlots.{key_is}
 use Rattle.index.proofs.Slots.{no-slot}
 use Rattle.index.specs.declared.entry.Entry.{Entry}
@@ -27,22 +26,19 @@ pub told : (free : List Bool) (slot : ℕ) (d b : Bool) → slot < length free �
 told free slot d b lt is = slice_get-get_or free slot d lt ∙ ap (λ (b : Bool). Some b) is
 
 module _ (device : Device) (a : Layout) (slot : ℕ) (size : device.words ≡ total_words a) (limited : is_in_limits a ≡ true) (h : slot < a.slots) (laid : layout_of (image_of device) ≡ a) where
-  eight : slot_words a.version ≡ 8
-  eight = (limits a limited).0.words
-
-  in-slot : (w : ℕ) → w < 8 → slot_start a slot + w < device.words
+  in-slot : (w : ℕ) → w < slot_words a.version → slot_start a slot + w < device.words
   in-slot w lt =
       let product : slot_words a.version * (slot + 1) ≤ slot_words a.version * a.slots = mul-le-mul_left {m = slot + 1} {n = a.slots} (slot_words a.version) (omega arith) in
-      omega (arith, size, product, eight, lt)
+      omega (arith, size, product, lt)
 
-  word-same : (w : ℕ) → w < 8 → slot_word (image_of device) slot w ≡ slot_at a slot (value_of device) w
+  word-same : (w : ℕ) → w < slot_words a.version → slot_word (image_of device) slot w ≡ slot_at a slot (value_of device) w
   word-same w lt = ap (λ (l : Layout). get_or (image_of device) (slot_start l slot + w) 0) laid ∙ image_word device (slot_start a slot + w) (in-slot w lt)
 
   held : (s : Slot) → IsSlot a (slot_at a slot (value_of device)) s → IsVersion (layout_of (image_of device)) (slot_word (image_of device) slot) s.version
   held s is = record {
     each = λ w low high.
-        let lt : w < 8 = omega (arith, high, ap (λ (l : Layout). slot_words l.version) laid, eight) in
-        word-same w lt ∙ is.version.each w low (omega (arith, lt, eight));
+        let lt : w < slot_words a.version = subst (λ (l : Layout). w < slot_words l.version) laid high in
+        word-same w lt ∙ is.version.each w low lt;
     fits = subst (λ (l : Layout). Fits l s.version) (sym laid) is.version.fits;
   }
 

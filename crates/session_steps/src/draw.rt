@@ -1,13 +1,14 @@
-ghost use Rattle.std.specs.Prelude.{◌≡◌, ℕ, true, IsTrue, All, IfErr, IfOk, OnOk};
+ghost use Rattle.std.specs.Prelude.{◌≡◌, ◌<◌, ◌++◌, ℕ, true, IsTrue, All, IfErr, IfOk, OnOk};
 ghost use Rattle.std.specs.List.{flat_map};
 ghost use Rattle.base.specs.declared.fault.Fault.TheVariants.{OutOfMemory};
 ghost use Rattle.base.specs.declared.key.Key.{Key as KeyValue};
 ghost use Rattle.index.specs.Entries.{entry_at, has_room, KeepsRoom};
 ghost use Rattle.txn.specs.WriteSets.{write_of};
-ghost use Rattle.session_steps.specs.Drawing.{fits_touched, touched_lines, drawn_entry};
+ghost use Rattle.session_steps.specs.Drawing.{fits_touched, own_lines, touched_lines, drawn_entry};
 
 use crate::active::Active;
 use crate::sessions::Sessions;
+use base::SlotNo;
 use base::Ts;
 use base::fault::Fault;
 use base::geometry::Geometry;
@@ -18,7 +19,7 @@ use std::alloc::{AllocError, Global};
 use txn::{DrawnCommit, Transaction, WriteSet};
 
 impl Sessions {
-    ghost use Rattle.std.specs.Prelude.{◌≢◌, ◌<◌, ◌+◌, ◌*◌, ◌^◌, nat_eq, nat_le, false, find, map, [], Some, None};
+    ghost use Rattle.std.specs.Prelude.{◌≢◌, ◌+◌, ◌*◌, ◌^◌, nat_eq, nat_le, false, find, map, [], Some, None};
     ghost use Rattle.base.specs.declared.step.SessionStep.TheVariants.{Draw};
     ghost use Rattle.txn.specs.Transactions.{transaction_at};
     ghost use Rattle.txn.specs.declared.transaction.Transaction.TheVariants.{Active as IsActiveWith};
@@ -123,7 +124,7 @@ fn reserve_keys(index: &mut Index, writes: &WriteSet) -> Result<(), Fault>
     Ok(())
 }
 
-// The first lines of the versions that the writes make and end.
+// The lines that the writes touch: all of each version that they make, and the first of each that they end.
 fn lines_of(
     alloc: Global,
     geometry: Geometry,
@@ -136,13 +137,25 @@ fn lines_of(
     let mut lines = Vec::new(alloc);
     for write in writes.as_slice() {
         if let Some(slot) = write.slot {
-            lines.push(geometry.slot_line(slot) as u64)?;
+            push_own(&mut lines, geometry, slot)?;
         }
         if let Some(slot) = index.live(write.key) {
             lines.push(geometry.slot_line(slot) as u64)?;
         }
     }
     Ok(lines)
+}
+
+// Adds the lines of a version in the slot.
+fn push_own(lines: &mut Vec<u64>, geometry: Geometry, slot: SlotNo) -> Result<(), AllocError>
+    requires { slot < geometry.slots }
+    ensures { OnOk result (lines.new.items ≡ lines.old.items ++ own_lines geometry slot) }
+{
+    let first = geometry.slot_line(slot) as u64;
+    for part in 0..geometry.slot_lines() {
+        lines.push(first + part as u64)?;
+    }
+    Ok(())
 }
 
 // Notes in the index that each of the keys was drawn with this timestamp.

@@ -15,6 +15,7 @@ use version_slot::{Version, fill};
 
 impl Sessions {
     ghost use Rattle.std.specs.Prelude.{◌≤◌, ◌<◌, ℕ, false, length};
+    ghost use Rattle.base.specs.Layout.{row_limit};
     ghost use Rattle.base.specs.declared.step.SessionReply.TheVariants.{Done};
     ghost use Rattle.base.specs.declared.step.SessionStep.TheVariants.{Put};
     ghost use Rattle.index.specs.Entries.{entry_at, head_of};
@@ -27,7 +28,7 @@ impl Sessions {
     ghost use Rattle.session_steps.specs.Giving.{is_full_of, own_of};
     ghost use Rattle.session_steps.specs.Steps.{HoldsSomeOn, TakesOn};
 
-    // Writes a row: in the slot that the session has for the key, or else in the lowest free one.
+    // Writes a row that a slot holds: in the slot that the session has for the key, or else in the lowest free one.
     pub(crate) fn put<D: Pmem>(
         &mut self,
         device: &mut D,
@@ -38,12 +39,13 @@ impl Sessions {
         requires shown { ∥ HoldsSomeOn self.old (D.state device.old) ∥₁ }
         ensures step { TakesOn self.old self.new (D.state device.old) (D.state device.new) (Put session key row) result }
     {
-        let len = row.as_bytes().len();
-        prove!(len <= Row::LIMIT);
         let active = match self.active(session) {
             Ok(active) => active,
             Err(fault) => return SessionReply::Refused(fault),
         };
+        if row.as_bytes().len() > self.numbers.geometry.row_limit() {
+            return SessionReply::Refused(Fault::TooLong);
+        }
         if is_full_for(&active.writes, key) {
             return SessionReply::Refused(Fault::WriteSetFull);
         }
@@ -67,7 +69,7 @@ impl Sessions {
         requires active { transaction_at self.old.transactions session ≡ Some (IsActiveWith active.snapshot active.writes) }
         requires room { HasRoomFor key active.writes }
         requires fits { is_full_of key active.writes ≡ false }
-        requires row { length row ≤ 32 }
+        requires row { length row ≤ row_limit self.old.numbers.geometry.version }
         requires own { own_of key active.writes ≡ Some slot }
         ensures step { TakesOn self.old self.new (D.state device.old) (D.state device.new) (Put session key row) result }
         ensures link { result ≡ Done → IsVersion self.old.numbers.geometry (slot_at self.old.numbers.geometry slot (value_of (D.state device.new)))
@@ -101,7 +103,7 @@ impl Sessions {
         requires within { (2 ≤ session) × (session < 64) }
         requires room { HasRoomFor key active.writes }
         requires fits { is_full_of key active.writes ≡ false }
-        requires row { length row ≤ 32 }
+        requires row { length row ≤ row_limit self.old.numbers.geometry.version }
         requires unheld { own_of key active.writes ≡ None }
         ensures step { TakesOn self.old self.new (D.state device.old) (D.state device.new) (Put session key row) result }
         ensures link { result ≡ Done → (slot : ℕ) × (lowest_free self.old.slots ≡ Some slot)
