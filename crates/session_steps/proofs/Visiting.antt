@@ -345,7 +345,7 @@ module _ (s : Sessions) (h : Hidden) (before now : Device) (holds : HoldsOn s h 
 
       module _ (found : Content) (free : is_free slots place ≡ true) (read : IsSlot a (slot_at a place (value_of now)) found) where
         found-key : (g : IsGarbage q place) → found.version.key ≡ g.key
-        found-key g = sym (read-key now a place size u.keeps.numbers.layout lt laid found read) ∙ (spelt g).1.at
+        found-key g = sym (read-key now a place size lt laid found read) ∙ (spelt g).1.at
 
         held-none : is_garbage q place ≡ false → h.held place ≡ None
         held-none live = nothing (h.held place) (sym (ap (λ (o : Option Version). is_none o) (held-other place (λ same. live))) ∙ sym free-at ∙ free)
