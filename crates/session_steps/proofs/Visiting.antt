@@ -398,7 +398,7 @@ module _ (s : Sessions) (h : Hidden) (before now : Device) (holds : HoldsOn s h 
             where
               live : (b : Bool) → is_garbage q place ≡ b → b ≡ false
               live false is = refl
-              live true is = absurd (no-slot now a place size u.keeps.numbers.layout lt laid orderly' none (spelt (garbage-is h.origin q place u.keeps is)).1.fits)
+              live true is = absurd (no-slot now a place size lt laid orderly' none (spelt (garbage-is h.origin q place u.keeps is)).1.fits)
           by (gone found free read sets) = subst (HoldsEntry h.origin then key) (sym (sets key)) (which (key_eq found.version.key key) refl)
             where
               which : (b : Bool) → key_eq found.version.key key ≡ b → HoldsEntry h.origin then key (cond b (forgotten place (entry_at s.index found.version.key)) (entry_at s.index key))
