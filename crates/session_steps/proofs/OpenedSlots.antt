@@ -4,7 +4,7 @@ use Rattle.std.specs.Prelude.{Some, Result, Ok, Err, OnOk, slice_get}
 use Rattle.std.proofs.lemmas.Option.{slice_get-get_or}
 use Rattle.std.proofs.Math.Nat.{mul-le-mul_left}
 use Rattle.base.specs.declared.key.Key.{Key}
-use Rattle.base.specs.Layout.{Layout, is_in_limits, slot_start, slot_words, total_words}
+use Rattle.base.specs.Layout.{Layout, slot_start, slot_words, total_words}
 use Rattle.base.specs.Images.{layout_of, slot_word, key_of, is_misfit}
 use Rattle.pmem.specs.Device.{Device, IsOrderly}
 use Rattle.pmem.specs.Words.{value_of, image_of}
@@ -25,7 +25,7 @@ on-ok (Err e) f p = p
 pub told : (free : List Bool) (slot : ℕ) (d b : Bool) → slot < length free → get_or free slot d ≡ b → slice_get free slot ≡ Some b
 told free slot d b lt is = slice_get-get_or free slot d lt ∙ ap (λ (b : Bool). Some b) is
 
-module _ (device : Device) (a : Layout) (slot : ℕ) (size : device.words ≡ total_words a) (limited : is_in_limits a ≡ true) (h : slot < a.slots) (laid : layout_of (image_of device) ≡ a) where
+module _ (device : Device) (a : Layout) (slot : ℕ) (size : device.words ≡ total_words a) (h : slot < a.slots) (laid : layout_of (image_of device) ≡ a) where
   in-slot : (w : ℕ) → w < slot_words a.version → slot_start a slot + w < device.words
   in-slot w lt =
       let product : slot_words a.version * (slot + 1) ≤ slot_words a.version * a.slots = mul-le-mul_left {m = slot + 1} {n = a.slots} (slot_words a.version) (omega arith) in
@@ -55,4 +55,4 @@ module _ (device : Device) (a : Layout) (slot : ℕ) (size : device.words ≡ to
     where
       by : (b : Bool) → is_misfit (image_of device) slot ≡ b → b ≡ true
       by true is = refl
-      by false is = absurd (no-slot device a slot size limited h laid orderly none is)
+      by false is = absurd (no-slot device a slot size h laid orderly none is)

@@ -8,12 +8,11 @@ ghost use Rattle.session_steps.specs.Drawing.{fits_touched, own_lines, touched_l
 
 use crate::active::Active;
 use crate::sessions::Sessions;
-use base::SlotNo;
-use base::Ts;
 use base::fault::Fault;
 use base::geometry::Geometry;
 use base::key::Key;
 use base::step::SessionReply;
+use base::{SlotNo, Ts};
 use index::Index;
 use std::alloc::{AllocError, Global};
 use txn::{DrawnCommit, Transaction, WriteSet};
