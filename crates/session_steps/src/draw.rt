@@ -4,9 +4,9 @@ ghost use Rattle.base.specs.declared.fault.Fault.TheVariants.{OutOfMemory};
 ghost use Rattle.base.specs.declared.key.Key.{Key as KeyValue};
 ghost use Rattle.index.specs.Entries.{entry_at, has_room, KeepsRoom};
 ghost use Rattle.txn.specs.WriteSets.{write_of};
-ghost use Rattle.session_steps.specs.Drawing.{fits_touched, own_lines, touched_lines, drawn_entry};
+ghost use Rattle.session_steps.specs.Drawing.{conflict_in, fits_touched, own_lines, touched_lines, drawn_entry};
 
-use crate::active::Active;
+use crate::active::active_in;
 use crate::sessions::Sessions;
 use base::fault::Fault;
 use base::geometry::Geometry;
@@ -14,15 +14,16 @@ use base::key::Key;
 use base::step::SessionReply;
 use base::{SlotNo, Ts};
 use index::Index;
+use snapshot::Snapshot;
 use std::alloc::{AllocError, Global};
 use txn::{DrawnCommit, Transaction, WriteSet};
 
 impl Sessions {
     ghost use Rattle.std.specs.Prelude.{◌≢◌, ◌+◌, ◌*◌, ◌^◌, nat_eq, nat_le, false, find, map, [], Some, None};
     ghost use Rattle.base.specs.declared.step.SessionStep.TheVariants.{Draw};
+    ghost use Rattle.snapshot.specs.Snapshots.{Seen};
     ghost use Rattle.txn.specs.Transactions.{transaction_at};
     ghost use Rattle.txn.specs.declared.transaction.Transaction.TheVariants.{Active as IsActiveWith};
-    ghost use Rattle.session_steps.specs.Drawing.{conflict_in};
     ghost use Rattle.session_steps.specs.Steps.{HoldsSome, Takes};
 
     // Draws a timestamp for what a session has written.
@@ -30,7 +31,7 @@ impl Sessions {
         requires shown { ∥ HoldsSome self.old ∥₁ }
         ensures step { Takes self.old self.new (Draw session) result }
     {
-        let active = match self.active(session) {
+        let active = match active_in(&self.transactions, session) {
             Ok(active) => active,
             Err(fault) => return SessionReply::Refused(fault),
         };
@@ -38,7 +39,7 @@ impl Sessions {
             self.transactions.set(session, Transaction::ReadOnly);
             return SessionReply::Done;
         }
-        if let Some(key) = self.conflict(&active) {
+        if let Some(key) = conflict(&self.index, active.snapshot, active.writes) {
             return SessionReply::Refused(Fault::Conflict(key));
         }
         if self.numbers.is_window_full() {
@@ -47,35 +48,20 @@ impl Sessions {
         if self.numbers.is_near_limit() {
             return SessionReply::Refused(Fault::TimestampsOut);
         }
-        self.draw_next(session, active)
-    }
-
-    // The least of the keys that was last drawn by a commit which the snapshot doesn't cover.
-    fn conflict(&self, active: &Active) -> Option<Key>
-        ensures { result ≡ conflict_in self.now.index active.now.snapshot active.now.writes }
-    {
-        for write in active.writes.as_slice() {
-            if let Some(timestamp) = self.index.entry(write.key).last {
-                if !active.snapshot.covers(timestamp) {
-                    return Some(write.key);
-                }
-            }
-        }
-        None
+        let writes = *active.writes;
+        self.draw_next(session, writes)
     }
 
     // Draws the next timestamp, against which nothing stands but want of memory. The growths come before any change.
-    fn draw_next(&mut self, session: u8, active: Active) -> SessionReply
+    fn draw_next(&mut self, session: u8, writes: WriteSet) -> SessionReply
         requires shown { ∥ HoldsSome self.old ∥₁ }
-        requires active { transaction_at self.old.transactions session ≡ Some (IsActiveWith active.snapshot active.writes) }
+        requires active { (snapshot : Seen) × (transaction_at self.old.transactions session ≡ Some (IsActiveWith snapshot writes)) × (conflict_in self.old.index snapshot writes ≡ None) }
         requires numbered { session < 64 }
-        requires written { active.writes ≢ [] }
-        requires clear { conflict_in self.old.index active.snapshot active.writes ≡ None }
+        requires written { writes ≢ [] }
         requires window { nat_eq self.old.numbers.next self.old.numbers.record.dirty ≡ false }
         requires early { nat_le (2 ^ 62) (self.old.numbers.next + 2 * self.old.numbers.geometry.window) ≡ false }
         ensures step { Takes self.old self.new (Draw session) result }
     {
-        let writes = active.writes;
         match reserve_keys(&mut self.index, &writes) {
             Ok(()) => {}
             Err(fault) => return SessionReply::Refused(fault),
@@ -105,6 +91,20 @@ impl Sessions {
             Err(fault) => SessionReply::Refused(fault),
         }
     }
+}
+
+// The least of the keys that was last drawn by a commit which the snapshot doesn't cover.
+fn conflict(index: &Index, snapshot: &Snapshot, writes: &WriteSet) -> Option<Key>
+    ensures { result ≡ conflict_in index.now snapshot.now writes.now }
+{
+    for write in writes.as_slice() {
+        if let Some(timestamp) = index.entry(write.key).last {
+            if !snapshot.covers(timestamp) {
+                return Some(write.key);
+            }
+        }
+    }
+    None
 }
 
 // Makes room in the index for each key that is written. All entries stay.
