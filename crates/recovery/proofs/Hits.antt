@@ -1,14 +1,15 @@
 -- Which slots a sweep stores in, and that it leaves the others as they are.
-use Rattle.std.proofs.Common.{◌≡◌, ℕ, ◌+◌, ◌<◌, ◌/◌, Bool, true, false, cond, ◌||◌, List, map, get_or, length, refl, sym, ◌∙◌, ap, subst, arith}
+use Rattle.std.proofs.Common.{◌≡◌, ℕ, ◌+◌, ◌*◌, ◌<◌, ◌/◌, nat_eq, Bool, true, false, cond, ◌||◌, List, map, get_or, length, refl, sym, ◌∙◌, ap, subst, arith}
 use Rattle.std.specs.Prelude.{Option, None}
 use Rattle.std.specs.List.{range_with_len}
 use Rattle.std.proofs.lemmas.List.FromFn.{length-map-range_with_len, get_or-map-range_with_len}
 use Rattle.std.proofs.lemmas.Simd.{map-map}
 use Rattle.base.specs.declared.gap.Gap.{Gap}
-use Rattle.base.specs.Layout.{Layout}
+use Rattle.base.specs.Layout.{Layout, slot_start, slot_words, plain_version, opened_version, opened_layout}
+use Rattle.base.specs.Laws.{OpensUpdated}
 use Rattle.base.specs.Records.{Record, is_in, opened_gaps}
-use Rattle.base.specs.Images.{Image, ruling, slot_word, begin_of, end_of}
-use Rattle.base.specs.Openings.{lies_in_gap}
+use Rattle.base.specs.Images.{Image, layout_of, ruling, slot_word, begin_of, end_of}
+use Rattle.base.specs.Openings.{lies_in_gap, updated}
 use Rattle.pmem.specs.Device.{Device, stored, flushed}
 use Rattle.pmem.specs.Words.{value_of}
 use Rattle.recovery.specs.declared.slots.Reading.{Reading}
@@ -52,3 +53,32 @@ cleaned-same r at old begun ended =
 pub or-neither : (a b : Bool) → (a || b) ≡ false → (a ≡ false) × (b ≡ false)
 or-neither true b e = absurd (cc e)
 or-neither false b e = (refl, e)
+
+-- ---- an image that is updated first
+
+same-width : (version : ℕ) → slot_words (opened_version version) ≡ slot_words version
+same-width version = by (nat_eq version 3)
+  where
+    by : (b : Bool) → slot_words (cond b 3 plain_version) ≡ cond b 16 8
+    by true = refl
+    by false = refl
+
+module _ (image : Image) (up : OpensUpdated image) where
+  word-updated : (slot w : ℕ) → slot_word (updated image) slot w ≡ slot_word image slot w
+  word-updated slot w =
+      let a = layout_of image in
+      ap (λ (l : Layout). get_or (updated image) (slot_start l slot + w) 0) up.laid_out
+      ∙ ap (λ (width : ℕ). get_or (updated image) (8 + 32 * a.places + width * slot + w) 0) (same-width a.version)
+      ∙ up.words (slot_start a slot + w) (λ e. omega (arith, e))
+
+  gap-updated : (w slot : ℕ) → lies_in_gap (updated image) w slot ≡ lies_in_gap image w slot
+  gap-updated w slot = λ i. is_in (opened_gaps (up.ruled i)) (word-updated slot w i)
+
+  pub hits-updated : (layout : Layout) (gaps : Option (List Gap)) (hits : List Bool) → AreHits image layout gaps hits → AreHits (updated image) (opened_layout layout) gaps hits
+  unfolding AreHits hits_below
+  hits-updated layout gaps hits are none = are none ∙ (λ i. map (λ slot. sym (gap-updated 0 slot) i || sym (gap-updated 1 slot) i) (range_with_len 0 layout.slots))
+
+-- it is known of the image as it is then
+pub hits-now : (before now : Image) (up : OpensUpdated before) (layout today : Layout) (gaps : Option (List Gap)) (hits : List Bool) → AreHits before layout gaps hits → now ≡ updated before → today ≡ opened_layout layout → AreHits now today gaps hits
+hits-now before now up layout today gaps hits are same is-today =
+    subst (λ (i : Image). AreHits i today gaps hits) (sym same) (subst (λ (l : Layout). AreHits (updated before) l gaps hits) (sym is-today) (hits-updated before up layout gaps hits are))

@@ -1,5 +1,6 @@
 -- What readings of the slots tell of an image.
-use Rattle.std.proofs.Common.{◌≡◌, ℕ, ◌+◌, ◌<◌, Bool, true, false, List, map, get_or, length, refl, sym, ◌∙◌, ap, arith, lit<, true≢false}
+use Rattle.std.proofs.Common.{◌≡◌, ℕ, ◌+◌, ◌<◌, Bool, true, false, List, map, get_or, length, refl, sym, ◌∙◌, ap, subst, arith, lit<, true≢false}
+use Rattle.std.specs.Prelude.{None}
 use Rattle.std.specs.List.{range_with_len}
 use Rattle.std.proofs.lemmas.List.FromFn.{length-map-range_with_len, get_or-map-range_with_len}
 use Rattle.base.specs.Layout.{Layout, total_words}
@@ -13,8 +14,9 @@ use Rattle.recovery.specs.declared.slots.Found.{Found}
 use Rattle.recovery.specs.declared.slots.Found.TheVariants.{Bad, Live, Free}
 use Rattle.recovery.specs.declared.slots.Reading.{Reading}
 use Rattle.recovery.specs.declared.rows.LiveSlot.{LiveSlot}
-use Rattle.recovery.specs.Live.{live_at}
-use Rattle.recovery.specs.Slots.{IsUnder, found_in, reading_in, readings_below, is_bad, is_free}
+use Rattle.recovery.specs.Live.{live_at, live_below}
+use Rattle.recovery.specs.Read.{rows_below}
+use Rattle.recovery.specs.Slots.{IsUnder, AreReadings, found_in, reading_in, readings_below, bad_below, is_bad, is_free}
 use Rattle.recovery.proofs.Visits.{word-same, found-free, found-live, found-bad}
 
 -- what is read of a slot of a device is what its image has
@@ -65,3 +67,19 @@ row-is image slot key row found =
 pub begin-at : (image : Image) (n slot : ℕ) (d : Reading) (readings : List Reading) → readings ≡ readings_below image n → slot < n → (get_or readings slot d).begin ≡ begin_of image slot
 unfolding reading_in
 begin-at image n slot d readings are h = ap (λ (reading : Reading). reading.begin) (reading-at image n slot d readings are h)
+
+pub readings-size : (image : Image) (n : ℕ) → length (readings_below image n) ≡ n
+unfolding readings_below
+readings-size image n = length-map-range_with_len (reading_in image) 0 n
+
+-- what was read is one reading of each slot of an image without a bad slot
+pub are-readings : (image : Image) (n : ℕ) (readings : List Reading) → readings ≡ readings_below image n → bad_below image n ≡ None → AreReadings image readings
+are-readings image n readings are good =
+    let size : n ≡ length readings = sym (readings-size image n) ∙ ap length (sym are) in
+    record { all = are ∙ ap (readings_below image) size; good = subst (λ (k : ℕ). bad_below image k ≡ None) size good }
+
+pub all-live : (image : Image) (n : ℕ) (readings : List Reading) (live : List LiveSlot) → readings ≡ readings_below image n → bad_below image n ≡ None → ((i : Image) → AreReadings i readings → live ≡ live_below i (length readings)) → live ≡ live_below image n
+all-live image n readings live are good each = each image (are-readings image n readings are good) ∙ ap (live_below image) (ap length are ∙ readings-size image n)
+
+pub all-rows : (image : Image) (n : ℕ) (readings : List Reading) (rows : List (Key × List ℕ)) → readings ≡ readings_below image n → bad_below image n ≡ None → ((i : Image) → AreReadings i readings → rows ≡ rows_below i (length readings)) → rows ≡ rows_below image n
+all-rows image n readings rows are good each = each image (are-readings image n readings are good) ∙ ap (rows_below image) (ap length are ∙ readings-size image n)
