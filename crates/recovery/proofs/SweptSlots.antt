@@ -295,13 +295,13 @@ module _ (a : Layout) (r : Record) (start : Device) where
       counted : (b : Bool) (test : ℕ → Bool) → test slot ≡ b → count_below (slot + 1) test ≡ count_below slot test + cond b 1 0
       counted b test e = ap (λ (n : ℕ). count_below n test) (add-one slot) ∙ ap (λ (b : Bool). count_below slot test + cond b 1 0) e
 
-      gap-first : lies_in_gap (image_of start) 0 slot ≡ begun
+      pub gap-first : lies_in_gap (image_of start) 0 slot ≡ begun
       gap-first = gap-is 0 (omega arith) ∙ ap (λ (k : ℕ). lies r (value_of start k)) (zero_more first) ∙ sym begun-is
         where
           zero_more : (k : ℕ) → k + 0 ≡ k
           zero_more k = omega arith
 
-      gap-second : lies_in_gap (image_of start) 1 slot ≡ ended
+      pub gap-second : lies_in_gap (image_of start) 1 slot ≡ ended
       gap-second = gap-is 1 (omega arith) ∙ sym ended-is
 
       counts-by : (b e : Bool) → begun ≡ b → ended ≡ e
