@@ -10,7 +10,7 @@ use Rattle.base.specs.Laws.{OpensUpdated}
 use Rattle.base.specs.Records.{Record, is_in, opened_gaps}
 use Rattle.base.specs.Images.{Image, layout_of, ruling, slot_word, begin_of, end_of}
 use Rattle.base.specs.Openings.{lies_in_gap, updated}
-use Rattle.pmem.specs.Device.{Device, stored, flushed}
+use Rattle.pmem.specs.Device.{Device, flushed}
 use Rattle.pmem.specs.Words.{value_of}
 use Rattle.recovery.specs.declared.slots.Reading.{Reading}
 use Rattle.recovery.specs.Slots.{reading_in, readings_below}

@@ -1,5 +1,5 @@
 -- A slot in which a sweep stores nothing.
-use Rattle.std.proofs.Common.{◌≡◌, inl, ℕ, ◌+◌, ◌<◌, Bool, false, ◌||◌, sym, ◌∙◌}
+use Rattle.std.proofs.Common.{◌≡◌, inl, ℕ, ◌+◌, ◌<◌, false, ◌||◌, sym, ◌∙◌}
 use Rattle.base.specs.Layout.{Layout, slot_start, total_words}
 use Rattle.base.specs.Records.{Record}
 use Rattle.base.specs.Images.{IsRuledBy}

@@ -1,6 +1,6 @@
 -- Visiting the slots one after another.
 use Rattle.std.proofs.Common.{◌≡◌, ◌⊎◌, inl, inr, ℕ, zero, suc, ◌+◌, ◌<◌, ◌≤◌, Bool, true, false, cond, not, ◌&&◌, ◌||◌, [], ◌∷◌, ◌++◌, refl, sym, ◌∙◌, ap, subst, arith, add-one, nat_eq, nat_le, ◌*◌, ◌^◌, length, get_or, lit<}
-use Rattle.std.specs.Prelude.{Option, Some, None, is_some, IsSome, IfSome, IfNone, List}
+use Rattle.std.specs.Prelude.{Option, Some, None, is_some, List}
 use Rattle.std.specs.Option.{option_or, option_map}
 use Rattle.std.specs.declared.cmp.Ordering.{Ordering}
 use Rattle.std.specs.declared.cmp.Ordering.TheVariants.{Less, Equal, Greater}

@@ -1,4 +1,4 @@
-use Rattle.std.proofs.Common.{◌≡◌, ◌<◌, ℕ, Vec, Global, List, [], ◌∷◌, ◌++◌, sym, ◌∙◌, ap, length, arith}
+use Rattle.std.proofs.Common.{◌<◌, ℕ, Vec, Global, List, [], ◌∷◌, ◌++◌, sym, ◌∙◌, ap, length, arith}
 use Rattle.base.specs.declared.key.Key.{Key}
 use Rattle.recovery.proofs.LiveRows.{rows-none, rows-live, rows-free, good-at}
 use Rattle.recovery.proofs.Readings.{found-at, live-here, free-here, row-is}

@@ -1,4 +1,4 @@
-use Rattle.std.proofs.Common.{◌≡◌, ◌<◌, Vec, Global, [], ◌∷◌, ◌++◌, sym, ◌∙◌, ap, length, arith}
+use Rattle.std.proofs.Common.{◌<◌, Vec, Global, [], ◌∷◌, ◌++◌, sym, ◌∙◌, ap, length, arith}
 use Rattle.recovery.specs.declared.rows.LiveSlot.{LiveSlot}
 use Rattle.recovery.proofs.LiveRows.{live-none, live-live, live-free, good-at}
 use Rattle.recovery.proofs.Readings.{found-at, begin-at, live-here, free-here, live-is}

@@ -1,5 +1,4 @@
-use Rattle.std.proofs.Common.{true, false, not, inl, inr, sym, ◌∙◌, ap, arith}
-use Rattle.std.proofs.lemmas.Bool.{not-true, not-false}
+use Rattle.std.proofs.Common.{inl, inr, sym, ◌∙◌, arith}
 use Rattle.recovery.proofs.Visits.{look-ahead, look-free, look-live, look-bad}
 use Rattle.recovery.proofs.Readings.{reading-is}
 use Rattle.recovery.proofs.slots.look.Goals as goal
