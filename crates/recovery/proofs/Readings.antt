@@ -35,7 +35,6 @@ pub readings-are : (image : Image) (n : ℕ) → map (reading_in image) (range_w
 unfolding readings_below
 readings-are image n = refl
 
-
 -- what was read of one slot
 pub reading-at : (image : Image) (n slot : ℕ) (d : Reading) (readings : List Reading) → readings ≡ readings_below image n → slot < n → get_or readings slot d ≡ reading_in image slot
 unfolding readings_below

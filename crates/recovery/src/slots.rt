@@ -126,7 +126,11 @@ fn visit(
 }
 
 // Which slots are free, by what was read of each. The lowest bad slot is reported.
-pub fn free_slots(alloc: Global, geometry: Geometry, readings: &[Reading]) -> Result<Vec<bool>, Fault>
+pub fn free_slots(
+    alloc: Global,
+    geometry: Geometry,
+    readings: &[Reading],
+) -> Result<Vec<bool>, Fault>
     requires { length readings.now ≡ geometry.slots }
     ensures free { IfOk result (λ free. (image : Image) → readings.now ≡ readings_below image geometry.slots → free.items ≡ free_below image geometry.slots) }
     ensures good { OnOk result ((image : Image) → readings.now ≡ readings_below image geometry.slots → bad_below image geometry.slots ≡ None) }

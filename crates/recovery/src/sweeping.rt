@@ -17,7 +17,11 @@ use pmem::Pmem;
 use std::alloc::{AllocError, Global};
 
 // Whether a sweep stores 0 in each slot, by what was read of each.
-pub fn hit_slots(alloc: Global, ruling: Record, readings: &[Reading]) -> Result<Vec<bool>, AllocError>
+pub fn hit_slots(
+    alloc: Global,
+    ruling: Record,
+    readings: &[Reading],
+) -> Result<Vec<bool>, AllocError>
     requires { MayRule ruling }
     ensures { IfOk result (λ hits. hits.items ≡ map (is_hit_by ruling) readings.now) }
 {
