@@ -34,3 +34,5 @@ mod stories;
 mod texts;
 #[cfg(test)]
 mod walks;
+#[cfg(test)]
+mod widths;
