@@ -4,11 +4,12 @@ use base::row::Row;
 use base::step::Step;
 use std::alloc::Global;
 
-/// What is asked of a room: all keys are of table 1, and each row is one byte.
+/// What is asked of a room: all keys are of table 1, and each row is one byte, or 96 alike.
 #[derive(Clone, Copy)]
 pub enum Ask {
     Begin,
     Put(u8, u64, u8),
+    PutWide(u8, u64, u8),
     Delete(u8, u64),
     Draw(u8),
     Stamp(u8),
@@ -55,6 +56,11 @@ fn step_of(ask: Ask) -> Result<Step, Fault> {
             session,
             key: Key { table, key },
             row: Row::new(&[byte])?,
+        },
+        Ask::PutWide(session, key, byte) => Step::Put {
+            session,
+            key: Key { table, key },
+            row: Row::new(&[byte; 96])?,
         },
         Ask::Delete(session, key) => Step::Delete {
             session,

@@ -15,10 +15,11 @@ use Rattle.base.specs.declared.key.Key.{Key}
 use Rattle.base.specs.declared.fault.Fault.{Fault}
 use Rattle.base.specs.declared.fault.Fault.TheVariants.{Damaged, OutOfMemory}
 use Rattle.base.specs.Keys.{key_eq}
-use Rattle.base.specs.Layout.{Layout, IsOneLine, slot_start, slot_words, total_words}
+use Rattle.base.specs.Layout.{Layout, slot_start, slot_words, total_words}
 use Rattle.base.specs.Records.{Record, is_committed}
 use Rattle.base.specs.Search.{first_below}
 use Rattle.base.specs.Images.{Image, layout_of, ruling, slot_word, begin_of, end_of, key_of, row_of, is_ahead, is_shown, is_misfit, is_bad_slot, is_second}
+use Rattle.base.proofs.Layouts.{line-words}
 use Rattle.pmem.specs.Device.{Device, IsOrderly}
 use Rattle.pmem.specs.Words.{value_of, image_of}
 use Rattle.version_slot.specs.declared.words.Slot.{Slot}
@@ -174,10 +175,6 @@ module _ (device : Device) (layout : Layout) (r : Record) (slot : ℕ) (size : d
   unfolding IsUnder
   laid-out = under.0
 
-  one : IsOneLine layout.version
-  unfolding IsUnder
-  one = under.2
-
   ruled : ruling (image_of device) ≡ r
   unfolding IsUnder
   ruled = under.1
@@ -188,20 +185,23 @@ module _ (device : Device) (layout : Layout) (r : Record) (slot : ℕ) (size : d
   word-at : (word : ℕ) → word < device.words → get_or (image_of device) word 0 ≡ value_of device word
   word-at word lt = get_or-map-range_with_len (value_of device) 0 device.words word word 0 lt (omega arith)
 
-  in-slot : (w : ℕ) → w < 8 → slot_start layout slot + w < device.words
+  in-slot : (w : ℕ) → w < slot_words layout.version → slot_start layout slot + w < device.words
   in-slot w lt =
-      let wide : slot_words layout.version ≡ 8 = one.words in
       let product : slot_words layout.version * (slot + 1) ≤ slot_words layout.version * layout.slots = mul-le-mul_left {m = slot + 1} {n = layout.slots} (slot_words layout.version) (omega arith) in
-      omega (arith, size, product, wide, lt)
+      omega (arith, size, product, lt)
 
+  each-word : (w : ℕ) → w < slot_words layout.version → slot_word (image_of device) slot w ≡ slot_at layout slot (value_of device) w
+  each-word w lt = ap (λ (l : Layout). get_or (image_of device) (slot_start l slot + w) 0) laid-out ∙ word-at (slot_start layout slot + w) (in-slot w lt)
+
+  -- of the first line
   pub word-same : (w : ℕ) → w < 8 → slot_word (image_of device) slot w ≡ slot_at layout slot (value_of device) w
-  word-same w lt = ap (λ (l : Layout). get_or (image_of device) (slot_start l slot + w) 0) laid-out ∙ word-at (slot_start layout slot + w) (in-slot w lt)
+  word-same w lt = each-word w (omega (arith, lt, line-words layout.version))
 
   abbrev of_image : ℕ → ℕ
   of_image = slot_word (image_of device) slot
 
-  wide-image : slot_words (layout_of (image_of device)).version ≡ 8
-  wide-image = ap (λ (l : Layout). slot_words l.version) laid-out ∙ one.words
+  same-width : slot_words (layout_of (image_of device)).version ≡ slot_words layout.version
+  same-width = ap (λ (l : Layout). slot_words l.version) laid-out
 
   within : slot < (layout_of (image_of device)).slots
   within = omega (arith, h, ap (λ (l : Layout). l.slots) laid-out)
@@ -213,8 +213,8 @@ module _ (device : Device) (layout : Layout) (r : Record) (slot : ℕ) (size : d
   pub held : (s : Slot) → IsSlot layout (slot_at layout slot (value_of device)) s → IsVersion (layout_of (image_of device)) (slot_word (image_of device) slot) s.version
   held s is = record {
     each = λ w low high.
-        let lt : w < 8 = omega (arith, high, wide-image) in
-        word-same w lt ∙ is.version.each w low (omega (arith, lt, one.words));
+        let lt : w < slot_words layout.version = omega (arith, high, same-width) in
+        each-word w lt ∙ is.version.each w low lt;
     fits = subst (λ (l : Layout). Fits l s.version) (sym laid-out) is.version.fits;
   }
 
@@ -233,15 +233,13 @@ module _ (device : Device) (layout : Layout) (r : Record) (slot : ℕ) (size : d
       by true is = is
       by false is =
           let image = image_of device in
-          let version = holds_version image slot within whole (subst (λ (l : Layout). IsOneLine l.version) (sym laid-out) one) (fits-words orderly) is in
+          let version = holds_version image slot within whole (fits-words orderly) is in
           absurd (none (record { begin = slot_at layout slot (value_of device) 0; end = slot_at layout slot (value_of device) 1; version = version_of image slot })
           (record {
             begin = refl;
             end = refl;
             version = record {
-              each = λ w low high.
-                  let lt : w < 8 = omega (arith, high, one.words) in
-                  sym (word-same w lt) ∙ version.each w low (omega (arith, lt, wide-image));
+              each = λ w low high. sym (each-word w high) ∙ version.each w low (omega (arith, high, same-width));
               fits = subst (λ (l : Layout). Fits l (version_of image slot)) laid-out version.fits;
             };
           }))

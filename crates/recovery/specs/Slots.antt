@@ -8,16 +8,16 @@ use Rattle.base.specs.declared.key.Key.{Key}
 use Rattle.base.specs.declared.fault.Fault.{Fault}
 use Rattle.base.specs.declared.fault.Fault.TheVariants.{Damaged, OutOfMemory}
 use Rattle.base.specs.Keys.{key_eq}
-use Rattle.base.specs.Layout.{Layout, IsOneLine}
+use Rattle.base.specs.Layout.{Layout}
 use Rattle.base.specs.Records.{Record}
 use Rattle.base.specs.Search.{first_below}
 use Rattle.base.specs.Images.{Image, layout_of, ruling, key_of, is_ahead, is_shown, is_misfit, is_bad_slot}
 use Rattle.recovery.specs.declared.slots.Found.{Found}
 use Rattle.recovery.specs.declared.slots.Found.TheVariants.{Bad, Live, Free}
 
--- the image has this layout, of slots of one line, and this record rules it
+-- the image has this layout, and this record rules it
 unfoldable pub IsUnder : Layout → Record → Image → Type 0
-IsUnder layout r image = (layout_of image ≡ layout) × (ruling image ≡ r) × IsOneLine layout.version
+IsUnder layout r image = (layout_of image ≡ layout) × (ruling image ≡ r)
 
 -- what a slot holds by itself, whatever other slots hold
 unfoldable pub found_in : Image → ℕ → Found

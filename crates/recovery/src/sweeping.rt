@@ -14,8 +14,8 @@ use base::geometry::Geometry;
 use log_area::Record;
 use pmem::Pmem;
 
-/// Stores 0 in each begin and each end that lies in a gap with which the image is opened, flushes the lines of these
-/// slots, and waits until that persists.
+/// Stores 0 in each begin and each end that lies in a gap with which the image is opened, flushes the first lines of
+/// these slots, where both stand, and waits until that persists.
 pub fn sweep<D: Pmem>(device: &mut D, geometry: Geometry, ruling: Record) -> Result<(), Fault>
     requires at_rest { IsAtRest (D.state device.old) }
     requires rules { IsRuledBy geometry ruling (image_of (D.state device.old)) }
@@ -35,7 +35,7 @@ pub fn sweep<D: Pmem>(device: &mut D, geometry: Geometry, ruling: Record) -> Res
     Ok(())
 }
 
-// Stores 0 in the begin and in the end of a slot where they lie in a gap, and then flushes its line.
+// Stores 0 in the begin and in the end of a slot where they lie in a gap, and then flushes its first line.
 fn sweep_slot<D: Pmem>(
     device: &mut D,
     geometry: Geometry,

@@ -4,14 +4,13 @@ use Rattle.std.specs.Prelude.{Some, Result, Ok, Err, OnOk, slice_get}
 use Rattle.std.proofs.lemmas.Option.{slice_get-get_or}
 use Rattle.std.proofs.Math.Nat.{mul-le-mul_left}
 use Rattle.base.specs.declared.key.Key.{Key}
-use Rattle.base.specs.Layout.{Layout, is_in_limits, slot_start, slot_words, total_words}
+use Rattle.base.specs.Layout.{Layout, slot_start, slot_words, total_words}
 use Rattle.base.specs.Images.{layout_of, slot_word, key_of, is_misfit}
 use Rattle.pmem.specs.Device.{Device, IsOrderly}
 use Rattle.pmem.specs.Words.{value_of, image_of}
 use Rattle.log_area.proofs.Heads.{image_size, image_word}
 use Rattle.version_slot.specs.declared.words.Slot.{Slot}
 use Rattle.version_slot.specs.Words.{Fits, IsVersion, IsSlot, slot_at}
-use Rattle.version_slot.proofs.Decoding.{limits}
 use Rattle.version_slot.proofs.ImageSlots.{key_is}
 use Rattle.index.proofs.Slots.{no-slot}
 use Rattle.index.specs.declared.entry.Entry.{Entry}
@@ -26,23 +25,20 @@ on-ok (Err e) f p = p
 pub told : (free : List Bool) (slot : ℕ) (d b : Bool) → slot < length free → get_or free slot d ≡ b → slice_get free slot ≡ Some b
 told free slot d b lt is = slice_get-get_or free slot d lt ∙ ap (λ (b : Bool). Some b) is
 
-module _ (device : Device) (a : Layout) (slot : ℕ) (size : device.words ≡ total_words a) (limited : is_in_limits a ≡ true) (h : slot < a.slots) (laid : layout_of (image_of device) ≡ a) where
-  eight : slot_words a.version ≡ 8
-  eight = (limits a limited).0.words
-
-  in-slot : (w : ℕ) → w < 8 → slot_start a slot + w < device.words
+module _ (device : Device) (a : Layout) (slot : ℕ) (size : device.words ≡ total_words a) (h : slot < a.slots) (laid : layout_of (image_of device) ≡ a) where
+  in-slot : (w : ℕ) → w < slot_words a.version → slot_start a slot + w < device.words
   in-slot w lt =
       let product : slot_words a.version * (slot + 1) ≤ slot_words a.version * a.slots = mul-le-mul_left {m = slot + 1} {n = a.slots} (slot_words a.version) (omega arith) in
-      omega (arith, size, product, eight, lt)
+      omega (arith, size, product, lt)
 
-  word-same : (w : ℕ) → w < 8 → slot_word (image_of device) slot w ≡ slot_at a slot (value_of device) w
+  word-same : (w : ℕ) → w < slot_words a.version → slot_word (image_of device) slot w ≡ slot_at a slot (value_of device) w
   word-same w lt = ap (λ (l : Layout). get_or (image_of device) (slot_start l slot + w) 0) laid ∙ image_word device (slot_start a slot + w) (in-slot w lt)
 
   held : (s : Slot) → IsSlot a (slot_at a slot (value_of device)) s → IsVersion (layout_of (image_of device)) (slot_word (image_of device) slot) s.version
   held s is = record {
     each = λ w low high.
-        let lt : w < 8 = omega (arith, high, ap (λ (l : Layout). slot_words l.version) laid, eight) in
-        word-same w lt ∙ is.version.each w low (omega (arith, lt, eight));
+        let lt : w < slot_words a.version = subst (λ (l : Layout). w < slot_words l.version) laid high in
+        word-same w lt ∙ is.version.each w low lt;
     fits = subst (λ (l : Layout). Fits l s.version) (sym laid) is.version.fits;
   }
 
@@ -59,4 +55,4 @@ module _ (device : Device) (a : Layout) (slot : ℕ) (size : device.words ≡ to
     where
       by : (b : Bool) → is_misfit (image_of device) slot ≡ b → b ≡ true
       by true is = refl
-      by false is = absurd (no-slot device a slot size limited h laid orderly none is)
+      by false is = absurd (no-slot device a slot size h laid orderly none is)

@@ -1,6 +1,6 @@
-ghost use Rattle.std.specs.Prelude.{◌≡◌, ◌<◌, length, IfOk, IfErr, OnOk, IsTrue};
+ghost use Rattle.std.specs.Prelude.{◌≡◌, ◌<◌, length, IfOk, IfErr, OnOk};
 ghost use Rattle.base.specs.Images.{layout_of};
-ghost use Rattle.base.specs.Layout.{is_in_limits, total_words};
+ghost use Rattle.base.specs.Layout.{total_words};
 ghost use Rattle.base.specs.declared.fault.Fault.TheVariants.{OutOfMemory};
 ghost use Rattle.pmem.specs.Words.{image_of};
 ghost use Rattle.session_steps.specs.Opening.{FindsAt, HasFound};
@@ -27,7 +27,6 @@ fn found_at<D: Pmem>(
     geometry: Geometry,
     slot: SlotNo,
 ) -> Result<(), Fault>
-    requires limits { IsTrue (is_in_limits geometry) }
     requires slot { slot < geometry.slots }
     requires device { (D.state device.now).words ≡ total_words geometry }
     ensures ok { OnOk result (layout_of (image_of (D.state device.now)) ≡ geometry → FindsAt (image_of (D.state device.now)) slot index.old index.new) }
