@@ -8,7 +8,6 @@ mod ending;
 mod finishing;
 mod law;
 mod opening;
-mod persisting;
 mod room;
 mod stamping;
 mod status;
