@@ -99,7 +99,7 @@ module _ (c : Committer) (before : Device) (gate : ℕ) (is : gate ≡ c.session
         images-last = by result ok err
           where
             by : (r : Result (Unit {0}) Fault) → OnOk r (IsLastPart new between now) → IfErr r (IsFailedPart new between now) → (q : State) → Shows c before q → q.failed ≡ false → LeavesOnly before now (StandsClosing q)
-            by (Ok x) last failed = (last_after c new before between now done last).images
+            by (Ok x) last failed = (last_after c new new before between now done last).images
             by (Err fault) last failed = (failed_after c new new before between now done fault failed).images
 
         pub refused-last : IfErr result (λ fault. (q : State) → Shows c before q → q.failed ≡ false → IsClosingRefusal q before now fault)

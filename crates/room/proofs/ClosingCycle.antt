@@ -156,25 +156,25 @@ run-on layout target p old mid new run orderly orderly' staged un made =
 -- ---- how far the cycle has come
 
 -- so many lines are flushed, as far as this state goes
-record IsFlushedTo (c : Committer) (before now : Device) (q : State) (count : ℕ) : Type 0 where
+pub record IsFlushedTo (c : Committer) (before now : Device) (q : State) (count : ℕ) : Type 0 where
   pub shown : Shows c now q
   pub flushed : AreFlushed q now count
   pub images : LeavesOnly before now (StandsClosing q)
 
 -- what is drawn persists
-record IsPersisted (c : Committer) (before now : Device) (q : State) : Type 0 where
+pub record IsPersisted (c : Committer) (before now : Device) (q : State) : Type 0 where
   pub shown : Shows c now q
   pub persisted : HasPersisted q now
   pub images : LeavesOnly before now (StandsClosing q)
 
 -- what is drawn persists since some device, and so much of the record is written since
-record IsRecording (c : Committer) (before now : Device) (writing : Progress) : Type 0 where
+pub record IsRecording (c : Committer) (before now : Device) (writing : Progress) : Type 0 where
   pub between : Device
   pub persists : (q : State) → Shows c before q → q.failed ≡ false → IsPersisted c before between q
   pub run : IsRun c.sessions.numbers.geometry (last_record c) writing between now
   pub staged : IsStage writing.stage
 
-abbrev HasCome : Committer → List ℕ → Device → Device → Progress → CycleStage → Type 0
+abbrev pub HasCome : Committer → List ℕ → Device → Device → Progress → CycleStage → Type 0
 HasCome c lines before now writing (FlushLines count from) = IsCut lines count from × (writing ≡ begun c.sessions.numbers.geometry (last_record c)) × ((q : State) → Shows c before q → q.failed ≡ false → IsFlushedTo c before now q count)
 HasCome c lines before now writing WriteRecord = IsRecording c before now writing
 
@@ -300,7 +300,7 @@ module _ (c : Committer) (before now : Device) (cycle : Cycling) (so_far : IsCov
       pub comes-closer : (after : Cycling) → after ≡ ticked_in lines cycle → ticks_left c.sessions.dirty (Some after) < ticks_left c.sessions.dirty (Some cycle)
       comes-closer after is =
           subst (λ (a : Cycling). ticks_left c.sessions.dirty (Some a) < ticks_left c.sessions.dirty (Some cycle)) (sym is)
-          (subst (λ (s : CycleStage). ticks_left c.sessions.dirty (Some (ticked_at lines cycle s)) < left_at (length lines) cycle.writing.stage s) refl (by cycle.stage refl so_far.come))
+          (by cycle.stage refl so_far.come)
         where
           by : (stage : CycleStage) → cycle.stage ≡ stage → HasCome c lines before now cycle.writing stage → ticks_left c.sessions.dirty (Some (ticked_at lines cycle stage)) < left_at (length lines) cycle.writing.stage stage
           by (FlushLines count from) at come = flushes (find (nat_le from) lines) refl
