@@ -7,7 +7,7 @@ use Rattle.std.specs.Prelude.{Option, Some, None, Result, Ok, Err, IfErr, OnOk, 
 use Rattle.std.specs.Option.{option_or}
 use Rattle.std.specs.Result.{IsErrAnd}
 use Rattle.base.specs.declared.fault.Fault.{Fault}
-use Rattle.base.specs.declared.fault.Fault.TheVariants.{Device as DeviceFault, Failed, TimestampsOut}
+use Rattle.base.specs.declared.fault.Fault.TheVariants.{Failed, TimestampsOut}
 use Rattle.base.specs.Records.{Record}
 use Rattle.base.specs.Search.{some_if}
 use Rattle.base.specs.Machine.{State, Hand, closing_gate, closing_fault, StandsClosing}

@@ -1,5 +1,5 @@
 -- The cycle of a close: the lines of all that is drawn are flushed, the committer fences, and the last record is written.
-use Rattle.std.proofs.Common.{◌≡◌, ◌≢◌, ℕ, ◌+◌, ◌-◌, ◌*◌, ◌/◌, ◌^◌, ◌<◌, ◌≤◌, Bool, true, false, ◌&&◌, List, length, refl, sym, ◌∙◌, ap, subst, arith}
+use Rattle.std.proofs.Common.{◌≡◌, ◌≢◌, ℕ, ◌+◌, ◌-◌, ◌*◌, ◌/◌, ◌^◌, ◌<◌, Bool, true, false, ◌&&◌, List, length, refl, sym, ◌∙◌, ap, subst, arith}
 use Rattle.std.proofs.Math.Bridge.{le_prop}
 use Rattle.std.proofs.Math.Logic.{∥∥₁_elim}
 use Rattle.std.proofs.Math.Nat.{ℕ_set}
@@ -21,7 +21,6 @@ use Rattle.pmem.specs.Trace.{applied}
 use Rattle.pmem.specs.Words.{LeavesOnly, HasNoFailure, Spares}
 use Rattle.pmem.proofs.Images.{leaves_refl, leaves_trans}
 use Rattle.pmem.proofs.Spares.{spares-failed}
-use Rattle.log_area.specs.declared.stage.WritingStage.{WritingStage}
 use Rattle.log_area.specs.declared.stage.WritingStage.TheVariants.{StoreBody, Done}
 use Rattle.log_area.specs.Stages.{IsStage, next_stage, operations_before}
 use Rattle.log_area.specs.Rulings.{HoldsRecord}
