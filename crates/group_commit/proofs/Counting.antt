@@ -101,7 +101,7 @@ operations-next FlushGate is un = refl
 operations-next FenceGate is un = refl
 operations-next Done is un = absurd (un refl)
 
-staged-next : (stage : WritingStage) → IsStage stage → IsStage (next_stage stage)
+pub staged-next : (stage : WritingStage) → IsStage stage → IsStage (next_stage stage)
 staged-next (StoreBody w) is = by_test (nat_lt w 31) refl
   where
     by_test : (b : Bool) → nat_lt w 31 ≡ b → IsStage (cond b (StoreBody (w + 1)) (FlushBody 0))

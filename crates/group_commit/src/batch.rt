@@ -84,7 +84,7 @@ pub(crate) fn record_of(
 }
 
 /// The record that a close writes last: it persists all that is drawn, names no long commit, and reserves no timestamp.
-pub fn closing_record(ruling: Record, next: Ts, swept: bool) -> Record
+pub(crate) fn closing_record(ruling: Record, next: Ts, swept: bool) -> Record
     requires { ruling.gate < 2 ^ 62 }
     ensures { result ≡ closing_record ruling next swept }
 {
@@ -145,12 +145,12 @@ fn commit_of(alloc: Global, drawn: DrawnCommit) -> Result<Commit, AllocError>
 }
 
 /// The sessions that drew these commits.
-pub fn sessions_of(run: &[DrawnCommit]) -> SessionSet
-    requires { IsTrue (are_numbered run.now) }
-    ensures { (n : ℕ) → has result n ≡ list_any (λ d. nat_eq d.session n) run.now }
+pub(crate) fn sessions_of(commits: &[DrawnCommit]) -> SessionSet
+    requires { IsTrue (are_numbered commits.now) }
+    ensures { (n : ℕ) → has result n ≡ list_any (λ d. nat_eq d.session n) commits.now }
 {
     let mut sessions = SessionSet::none();
-    for commit in run {
+    for commit in commits {
         sessions.insert(commit.session);
     }
     sessions

@@ -1,4 +1,6 @@
-use crate::batch::{batch_of, is_numbered, record_of, sessions_committed_by};
+use crate::batch::{
+    batch_of, closing_record, is_numbered, record_of, sessions_committed_by, sessions_of,
+};
 use crate::stage::CycleStage;
 use base::Ts;
 use base::actor::Actor;
@@ -52,7 +54,7 @@ impl Cycle {
     ghost use Rattle.pmem.specs.Trace.{applied};
     ghost use Rattle.dirty_table.specs.Touches.{has, lines_touched};
     ghost use Rattle.group_commit.specs.declared.stage.CycleStage.TheVariants.{FlushLines, WriteRecord};
-    ghost use Rattle.group_commit.specs.Choosing.{longs_of, record_of, batch_of, IsBeginFault};
+    ghost use Rattle.group_commit.specs.Choosing.{longs_of, record_of, closing_record, batch_of, IsBeginFault};
     ghost use Rattle.group_commit.specs.Cycles.{line_from, operation_in, reached_in, ticked_in};
 
     /// Takes the drawn commits that the next record may cover, and the memory of their batch: no tick takes any. Fails with
@@ -83,15 +85,49 @@ impl Cycle {
         let Ok(batch) = batch_of(alloc, ruling, target, commits) else {
             return Err(Fault::OutOfMemory);
         };
-        Ok(Cycle {
+        let sessions = sessions_committed_by(target, commits);
+        Ok(Cycle::new(geometry, target, batch, sessions))
+    }
+
+    /// Takes all that is drawn, under the record that a close writes last. Nobody is told what it covers, so its batch stays
+    /// empty: it takes no memory.
+    pub fn closing(
+        alloc: Global,
+        geometry: Geometry,
+        ruling: Record,
+        next: Ts,
+        swept: bool,
+        drawn: &DrawnCommits,
+    ) -> Cycle
+        requires numbered { ruling.gate < 2 ^ 62 }
+        ensures sessions { (n : ℕ) → has result.sessions n ≡ list_any (λ d. nat_eq d.session n) drawn.now.commits }
+        ensures writing { result.writing ≡ begun geometry (closing_record ruling next swept) }
+        ensures stage { result.stage ≡ FlushLines 0 0 }
+    {
+        let target = closing_record(ruling, next, swept);
+        let batch = Batch::new(
+            ruling.gate(),
+            target.gate(),
+            target.persisted(),
+            target.longs(),
+            Vec::new(alloc),
+        );
+        Cycle::new(geometry, target, batch, sessions_of(drawn.as_slice()))
+    }
+
+    // No line is flushed yet.
+    fn new(geometry: Geometry, target: Record, batch: Batch, sessions: SessionSet) -> Cycle
+        ensures { result ≡ record { batch = batch; sessions = sessions; writing = begun geometry target; stage = FlushLines 0 0 } }
+    {
+        Cycle {
             batch,
-            sessions: sessions_committed_by(target, commits),
+            sessions,
             writing: Writing::new(geometry, target),
             stage: CycleStage::FlushLines {
                 flushed: 0,
                 from: 0,
             },
-        })
+        }
     }
 
     /// Was its last operation made?

@@ -9,7 +9,7 @@ mod stage;
 #[cfg(test)]
 mod tests;
 
-pub use batch::{closing_record, is_idle, sessions_of};
+pub use batch::is_idle;
 pub use cycle::{Covered, Cycle};
 pub use law::ticks_are_counted;
 pub use stage::CycleStage;

@@ -73,10 +73,28 @@ fn a_batch_takes_the_stamped_commits(rt: HostRuntime) -> Result<(), Fail> {
     assert_eq!(rt; covered.record.persisted(), 5);
     assert_eq!(rt; covered.record.dirty(), 12);
     assert!(rt; covered.record.longs().as_slice().is_empty());
-    assert_eq!(rt; crate::closing_record(ruling, 8, false).persisted(), 7);
     assert!(rt; covered.sessions.contains(2));
     assert!(rt; !covered.sessions.contains(3));
     assert!(rt; !covered.sessions.contains(4));
+    Ok(())
+}
+
+#[test]
+fn a_close_takes_all_that_is_drawn(rt: HostRuntime) -> Result<(), Fail> {
+    let geometry = Geometry::new(4, 2, 4)?;
+    let ruling = Record::new(1, 4, 12, Gaps::none(), Longs::none());
+    let mut drawn = DrawnCommits::new(rt.alloc());
+    drawn.reserve()?;
+    drawn.push(deletion(2, 5, 1));
+    drawn.reserve()?;
+    drawn.push(deletion(4, 7, 1));
+    let closing = Cycle::closing(rt.alloc(), geometry, ruling, 8, false, &drawn).finish();
+    assert_eq!(rt; closing.record.gate(), 2);
+    assert_eq!(rt; closing.record.persisted(), 7);
+    assert_eq!(rt; closing.record.dirty(), 8);
+    assert!(rt; closing.sessions.contains(2));
+    assert!(rt; !closing.sessions.contains(3));
+    assert!(rt; closing.sessions.contains(4));
     Ok(())
 }
 

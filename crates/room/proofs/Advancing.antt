@@ -71,7 +71,7 @@ held q drawn cycle holds = by q.hand refl holds
 
 -- ---- lists
 
-found-any : (p : ℕ → Bool) (x : ℕ) (xs : List ℕ) → find p xs ≡ Some x → list_any (λ y. nat_eq y x) xs ≡ true
+pub found-any : (p : ℕ → Bool) (x : ℕ) (xs : List ℕ) → find p xs ≡ Some x → list_any (λ y. nat_eq y x) xs ≡ true
 found-any p x [] found = absurd (cc found)
 found-any p x (y ∷ ys) found = by (p y) found (found-any p x ys)
   where
@@ -79,7 +79,7 @@ found-any p x (y ∷ ys) found = by (p y) found (found-any p x ys)
     by true is rest = let same : y ≡ x = cc is in or_left (nat_eq y x) (list_any (λ z. nat_eq z x) ys) (eq-eqb y x same)
     by false is rest = or_right (nat_eq y x) (list_any (λ z. nat_eq z x) ys) (rest is)
 
-any-has : (p : ℕ → Bool) (x : ℕ) (xs : List ℕ) → list_any (λ y. nat_eq y x) xs ≡ true → list_all p xs ≡ true → p x ≡ true
+pub any-has : (p : ℕ → Bool) (x : ℕ) (xs : List ℕ) → list_any (λ y. nat_eq y x) xs ≡ true → list_all p xs ≡ true → p x ≡ true
 any-has p x [] any all = absurd (true≢false (sym any))
 any-has p x (y ∷ ys) any all = by (nat_eq y x) refl any (and_parts (p y) (list_all p ys) all) (any-has p x ys)
   where

@@ -8,6 +8,6 @@ pub mod Runs
 pub mod Parts
 pub mod Ticked
 pub mod Stamps
-pub mod Flushes
+pub mod ClosingCycle
 pub mod Closes
 pub mod Advancing

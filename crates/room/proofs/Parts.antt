@@ -13,7 +13,7 @@ use Rattle.cycle_invariant.proofs.Covers.{at-closing}
 use Rattle.room.specs.declared.committer.Committer.{Committer}
 use Rattle.room.specs.Committing.{Shows}
 use Rattle.room.specs.Steps.{ShowsSome}
-use Rattle.room.specs.Closing.{IsDonePart, IsFailedPart}
+use Rattle.room.specs.Closing.{IsDonePart, IsFailedPart, IsLastPart}
 
 -- what may be left now may be left within a close
 pub stands-closing : (c : Committer) (device : Device) (q : State) → Shows c device q → (image : Image) → MayLeave device image → StandsClosing q image
@@ -56,6 +56,17 @@ module _ (old mid new : Committer) (before between now : Device) (a : IsDonePart
     images = λ q shown works.
         let first = a.goes_on q shown works in
         leaves_trans first.1.images (leaves_weaken first.1.closes.within (b.images first.0 first.1.shows first.1.works));
+  }
+
+  pub last_after : IsLastPart mid between now → IsLastPart old before now
+  last_after b = record {
+    no_failure = b.no_failure ∙ a.no_failure;
+    images = λ q shown works.
+        let first = a.goes_on q shown works in
+        leaves_trans first.1.images (leaves_weaken first.1.closes.within (b.images first.0 first.1.shows first.1.works));
+    closed = λ q shown works image may.
+        let first = a.goes_on q shown works in
+        first.1.closes.after_it image (b.closed first.0 first.1.shows first.1.works image may);
   }
 
   pub shown_after : ∥ ShowsSome old before ∥₁ → ∥ ShowsSome mid between ∥₁

@@ -3,8 +3,9 @@ use Rattle.std.specs.Prelude.{◌≡◌, ◌⊎◌, ℕ, ◌+◌, ◌-◌, ◌<�
 use Rattle.std.specs.Option.{option_map}
 use Rattle.base.specs.declared.fault.Fault.{Fault}
 use Rattle.base.specs.declared.fault.Fault.TheVariants.{Device as DeviceFault}
-use Rattle.base.specs.Machine.{State, drawn_of, closing_fault, StandsClosing}
-use Rattle.pmem.specs.Device.{Device}
+use Rattle.base.specs.Images.{Image}
+use Rattle.base.specs.Machine.{State, closing_fault, StandsClosing, StandsClosed}
+use Rattle.pmem.specs.Device.{Device, MayLeave}
 use Rattle.pmem.specs.Words.{LeavesOnly, HasNoFailure}
 use Rattle.log_area.specs.declared.stage.WritingStage.{WritingStage}
 use Rattle.log_area.specs.Stages.{operations_before}
@@ -15,8 +16,7 @@ use Rattle.group_commit.specs.declared.stage.CycleStage.TheVariants.{FlushLines,
 use Rattle.group_commit.specs.Cycles.{Cycling}
 use Rattle.txn.specs.declared.drawn.DrawnCommit.{DrawnCommit}
 use Rattle.txn.specs.DrawnCommits.{is_stamped}
-use Rattle.device_invariant.specs.Log.{lines_in}
-use Rattle.cycle_invariant.specs.Closing.{ClosesAs, AreFlushed, HasPersisted}
+use Rattle.cycle_invariant.specs.Closing.{ClosesAs}
 use Rattle.room.specs.declared.committer.Committer.{Committer}
 use Rattle.room.specs.Committing.{Shows}
 
@@ -45,6 +45,12 @@ pub record IsFailedPart (old : Committer) (before now : Device) (fault : Fault) 
   pub failure : before.failures < now.failures
   pub images : (q : State) → Shows old before q → q.failed ≡ false → LeavesOnly before now (StandsClosing q)
 
+-- all that was drawn is covered: a crash meanwhile left what a close may leave, and now leaves what one leaves
+pub record IsLastPart (old : Committer) (before now : Device) : Type 0 where
+  pub no_failure : HasNoFailure before now
+  pub images : (q : State) → Shows old before q → q.failed ≡ false → LeavesOnly before now (StandsClosing q)
+  pub closed : (q : State) → Shows old before q → q.failed ≡ false → (image : Image) → MayLeave now image → StandsClosed q image
+
 -- ---- the ticks that are left
 
 -- a bound of the ticks that a cycle has left at its stage, where its batch touches so many lines
@@ -62,23 +68,3 @@ ticks_left dirty (Some cycle) = left_at (length (lines_touched (has cycle.sessio
 -- the session of the first of the commits that isn't stamped whole
 abbrev pub unstamped_session : List DrawnCommit → Option ℕ
 unstamped_session commits = option_map (λ d. d.session) (find (λ d. not (is_stamped d)) commits)
-
--- the state is shown, and all lines that the drawn commits touch wait for the committer's fence
-pub record IsFlushed (c : Committer) (device : Device) (q : State) : Type 0 where
-  pub shown : Shows c device q
-  pub works : q.failed ≡ false
-  pub flushed : AreFlushed q device (length (lines_in q (drawn_of q)))
-
--- the state is shown, and what is drawn persists
-pub record IsPersisted (c : Committer) (device : Device) (q : State) : Type 0 where
-  pub shown : Shows c device q
-  pub works : q.failed ≡ false
-  pub persisted : HasPersisted q device
-
--- whatever state was shown is so still, with all lines flushed; and a crash meanwhile left what a close may leave
-abbrev pub FlushesDrawn : Committer → Device → Device → Type 0
-FlushesDrawn c before now = (q : State) → Shows c before q → q.failed ≡ false → IsFlushed c now q × LeavesOnly before now (StandsClosing q)
-
--- and so it is once what is drawn persists
-abbrev pub PersistsDrawn : Committer → Device → Device → Type 0
-PersistsDrawn c before now = (q : State) → Shows c before q → q.failed ≡ false → IsPersisted c now q × LeavesOnly before now (StandsClosing q)

@@ -26,7 +26,7 @@ impl<D: Pmem + Drop> Room<D> {
         ensures fault { IfErr result (λ e. (q : State) → Shows D.state self q → IsClosingRefusal q (device_of D.state self) (D.state e.1) e.0) }
     {
         let Room {
-            alloc: _,
+            alloc,
             mut device,
             mut committer,
             failed,
@@ -34,7 +34,7 @@ impl<D: Pmem + Drop> Room<D> {
         if failed {
             return Err((Fault::Failed, device));
         }
-        match committer.close(&mut device) {
+        match committer.close(alloc, &mut device) {
             Ok(()) => Ok(device),
             Err(fault) => Err((fault, device)),
         }

@@ -1,14 +1,13 @@
 use crate::committer::Committer;
 use base::NUMBER_LIMIT;
 use base::fault::Fault;
-use group_commit::closing_record;
-use log_area::write_record;
+use group_commit::Cycle;
 use pmem::Pmem;
+use std::alloc::Global;
 
 impl Committer {
-    ghost use Rattle.std.specs.Prelude.{◌≡◌, ◌+◌, ◌^◌, ◌<◌, false, None, IfErr, OnOk, OnErr, IsTrue};
+    ghost use Rattle.std.specs.Prelude.{◌≡◌, ◌+◌, ◌^◌, ◌<◌, false, None, IfErr, OnOk, IsTrue};
     ghost use Rattle.std.specs.List.{list_all};
-    ghost use Rattle.base.specs.declared.fault.Fault.TheVariants.{Device as DeviceFault};
     ghost use Rattle.base.specs.Images.{Image};
     ghost use Rattle.base.specs.Machine.{State, StandsClosing, StandsClosed, closing_fault};
     ghost use Rattle.pmem.specs.Device.{MayLeave};
@@ -16,11 +15,11 @@ impl Committer {
     ghost use Rattle.txn.specs.DrawnCommits.{is_stamped};
     ghost use Rattle.room.specs.Committing.{Shows};
     ghost use Rattle.room.specs.Steps.{ShowsSome};
-    ghost use Rattle.room.specs.Closing.{IsClosingRefusal, IsPersisted};
+    ghost use Rattle.room.specs.Closing.{IsClosingRefusal, IsFailedPart, IsLastPart};
 
     // Covers all that is drawn, under a record that reserves no timestamp. Fails with `TimestampsOut` before any operation
     // where no record number is left, and with `Device` where an operation fails. It takes no memory.
-    pub(crate) fn close<D: Pmem>(&mut self, device: &mut D) -> Result<(), Fault>
+    pub(crate) fn close<D: Pmem>(&mut self, alloc: Global, device: &mut D) -> Result<(), Fault>
         requires shown { ∥ ShowsSome self.old (D.state device.old) ∥₁ }
 
         // A crash meanwhile leaves what was covered, with the batch in hand, or with all that was drawn; and after it that last.
@@ -37,26 +36,30 @@ impl Committer {
         }
         self.finish_cycle(device)?;
         self.stamp_rest(device)?;
-        self.persist_drawn(device)?;
-        self.write_last(device)
+        self.cover_drawn(alloc, device)
     }
 
-    // Writes the record under which all that is drawn is covered.
-    fn write_last<D: Pmem>(&self, device: &mut D) -> Result<(), Fault>
+    // Covers all that is drawn by a cycle of its own, whose record reserves no timestamp.
+    fn cover_drawn<D: Pmem>(&self, alloc: Global, device: &mut D) -> Result<(), Fault>
         requires shown { ∥ ShowsSome self.now (D.state device.old) ∥₁ }
         requires rests { self.now.cycle ≡ None }
         requires stamped { IsTrue (list_all is_stamped self.now.sessions.drawn.commits) }
         requires numbered { self.now.sessions.numbers.record.gate + 1 < 2 ^ 62 }
-
-        // Where what is drawn persists, a crash meanwhile leaves what a close may leave, and after it all that was drawn.
-        ensures images { (q : State) → IsPersisted self.now (D.state device.old) q → LeavesOnly (D.state device.old) (D.state device.new) (StandsClosing q) }
-        ensures ok { OnOk result ((q : State) → IsPersisted self.now (D.state device.old) q → (image : Image) → MayLeave (D.state device.new) image → StandsClosed q image) }
-        ensures no_failure { OnOk result (HasNoFailure (D.state device.old) (D.state device.new)) }
-        ensures failure { OnErr result ((D.state device.old).failures < (D.state device.new).failures) }
-        ensures fault { IfErr result (λ fault. fault ≡ DeviceFault) }
+        ensures ok { OnOk result (IsLastPart self.now (D.state device.old) (D.state device.new)) }
+        ensures err { IfErr result (IsFailedPart self.now (D.state device.old) (D.state device.new)) }
     {
         let numbers = self.sessions.numbers();
-        let target = closing_record(numbers.record, numbers.next, self.sessions.has_swept());
-        write_record(device, numbers.geometry, target)
+        let mut cycle = Cycle::closing(
+            alloc,
+            numbers.geometry,
+            numbers.record,
+            numbers.next,
+            self.sessions.has_swept(),
+            self.sessions.drawn(),
+        );
+        while !cycle.is_done() {
+            cycle.tick(device, self.sessions.dirty())?;
+        }
+        Ok(())
     }
 }

@@ -9,7 +9,6 @@ mod finishing;
 mod indexing;
 mod law;
 mod opening;
-mod persisting;
 mod room;
 mod stamping;
 mod status;

@@ -4,4 +4,4 @@ use Rattle.dirty_table.specs.Touches.{has}
 use Rattle.group_commit.proofs.batch.sessions_of.Given as goal
 
 abbrev pub invariant-loop-commit : goal.invariant-loop-commit
-invariant-loop-commit l = (n : ℕ) → has l.sessions n ≡ list_any (λ d. nat_eq d.session n) (take l.commit-index l.run)
+invariant-loop-commit l = (n : ℕ) → has l.sessions n ≡ list_any (λ d. nat_eq d.session n) (take l.commit-index l.commits)
