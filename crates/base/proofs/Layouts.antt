@@ -1,8 +1,6 @@
 -- What the versions of the format have in common.
-use Rattle.std.proofs.Common.{◌≡◌, ℕ, ◌*◌, ◌≤◌, Bool, true, false, cond, refl, arith, nat_eq}
-use Rattle.std.proofs.lemmas.Bool.{ne_eqb}
-use Rattle.std.proofs.lemmas.Bool.Decides.{nat_tests}
-use Rattle.base.specs.Layout.{Layout, IsOneLine, slot_words, is_known_version}
+use Rattle.std.proofs.Common.{◌≡◌, ◌⊎◌, inl, inr, ℕ, ◌*◌, ◌-◌, ◌≤◌, Bool, true, false, cond, refl, arith, nat_eq}
+use Rattle.base.specs.Layout.{Layout, slot_words, row_limit}
 use Rattle.base.specs.Machine.{version_lines}
 
 -- a slot has a line or more
@@ -10,6 +8,14 @@ pub line-words : (version : ℕ) → 8 ≤ slot_words version
 line-words version = by (nat_eq version 3)
   where
     by : (b : Bool) → 8 ≤ cond b 16 8
+    by true = omega arith
+    by false = omega arith
+
+-- a slot has at most two lines
+pub two-lines : (version : ℕ) → slot_words version ≤ 16
+two-lines version = by (nat_eq version 3)
+  where
+    by : (b : Bool) → cond b 16 8 ≤ 16
     by true = omega arith
     by false = omega arith
 
@@ -21,13 +27,18 @@ lines-words a = by (nat_eq a.version 3)
     by true = refl
     by false = refl
 
-not-three : (b : Bool) → b ≡ false → (◌≡◌ {A = ℕ} (cond b 16 8) 8) × (◌≡◌ {A = ℕ} (cond b 96 32) 32)
-not-three true e = absurd (cc e)
-not-three false e = (refl, refl)
+-- a slot is of one line and takes rows of 32 bytes, or of two and takes rows of 96
+pub either-width : (version : ℕ) → ((slot_words version ≡ 8) × (row_limit version ≡ 32)) ⊎ ((slot_words version ≡ 16) × (row_limit version ≡ 96))
+either-width version = by (nat_eq version 3)
+  where
+    by : (b : Bool) → (◌≡◌ {A = ℕ} (cond b 16 8) 8 × ◌≡◌ {A = ℕ} (cond b 96 32) 32) ⊎ (◌≡◌ {A = ℕ} (cond b 16 8) 16 × ◌≡◌ {A = ℕ} (cond b 96 32) 96)
+    by true = inr (refl, refl)
+    by false = inl (refl, refl)
 
--- each version that opens has slots of one line
-pub one-line : (version : ℕ) → is_known_version version ≡ true → IsOneLine version
-one-line version known =
-    let few : version ≤ 2 = grind (arith, nat_tests) in
-    let both = not-three (nat_eq version 3) (ne_eqb version 3 (λ is. omega (arith, is, few))) in
-    record { words = both.0; limit = both.1 }
+-- the longest row fills the words that are left of a slot
+pub row-fills : (version : ℕ) → row_limit version ≡ 8 * (slot_words version - 4)
+row-fills version = by (nat_eq version 3)
+  where
+    by : (b : Bool) → ◌≡◌ {A = ℕ} (cond b 96 32) (8 * (cond b 16 8 - 4))
+    by true = refl
+    by false = refl

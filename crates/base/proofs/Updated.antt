@@ -24,17 +24,18 @@ use Rattle.base.proofs.WellFormed.{well_formed-parts, well_formed-from}
 
 -- ---- versions
 
-known-is : (v : ℕ) → is_known_version v ≡ true → (v ≡ 1) ⊎ (v ≡ 2)
-known-is v known = by v (leb-true 1 v both.0) (leb-true v 2 both.1)
+known-is : (v : ℕ) → is_known_version v ≡ true → (v ≡ 1) ⊎ (v ≡ 2) ⊎ (v ≡ 3)
+known-is v known = by v (leb-true 1 v both.0) (leb-true v 3 both.1)
   where
-    both : (nat_le 1 v ≡ true) × (nat_le v 2 ≡ true)
-    both = and_parts (nat_le 1 v) (nat_le v 2) known
+    both : (nat_le 1 v ≡ true) × (nat_le v 3 ≡ true)
+    both = and_parts (nat_le 1 v) (nat_le v 3) known
 
-    by : (v : ℕ) → 1 ≤ v → v ≤ 2 → (v ≡ 1) ⊎ (v ≡ 2)
+    by : (v : ℕ) → 1 ≤ v → v ≤ 3 → (v ≡ 1) ⊎ (v ≡ 2) ⊎ (v ≡ 3)
     by zero low high = absurd (omega (arith, low))
     by (suc zero) low high = inl refl
-    by (suc (suc zero)) low high = inr refl
-    by (suc (suc (suc v))) low high = absurd (omega (arith, high))
+    by (suc (suc zero)) low high = inr (inl refl)
+    by (suc (suc (suc zero))) low high = inr (inr refl)
+    by (suc (suc (suc (suc v)))) low high = absurd (omega (arith, high))
 
 -- what is well formed under the first version is so under the second
 formed-more : (r : Record) → is_well_formed 1 r ≡ true → is_well_formed 2 r ≡ true
@@ -301,11 +302,16 @@ known-of first version words opens =
 same-second : (first : ℕ) (words : List ℕ) → opening_fault (first ∷ 2 ∷ words) ≡ None → OpensUpdated (first ∷ 2 ∷ words)
 same-second first words opens = record { opens = opens; up_to_date = refl; laid_out = refl; ruled = refl; same = λ e. refl; size = refl; words = λ w other. refl; slots = λ w far. refl; place = refl; begins = λ s. refl; shown = λ r s. refl; keys = λ s. refl; rows = λ s. refl; misfits = λ s. refl; marks = λ w. refl; sweeps = refl; counts = refl; stands = λ h d n s. s; opened_as = λ h l g. refl; within = λ h n o s. s }
 
+-- and so is one of the third, whose slots have two lines
+same-third : (first : ℕ) (words : List ℕ) → opening_fault (first ∷ 3 ∷ words) ≡ None → OpensUpdated (first ∷ 3 ∷ words)
+same-third first words opens = record { opens = opens; up_to_date = refl; laid_out = refl; ruled = refl; same = λ e. refl; size = refl; words = λ w other. refl; slots = λ w far. refl; place = refl; begins = λ s. refl; shown = λ r s. refl; keys = λ s. refl; rows = λ s. refl; misfits = λ s. refl; marks = λ w. refl; sweeps = refl; counts = refl; stands = λ h d n s. s; opened_as = λ h l g. refl; within = λ h n o s. s }
+
 pub updated-open : UpdatedOpen
 updated-open [] opens = absurd (cc opens)
 updated-open (first ∷ []) opens = absurd (cc opens)
 updated-open (first ∷ version ∷ words) opens = by (known-is version (known-of first version words opens))
   where
-    by : (version ≡ 1) ⊎ (version ≡ 2) → OpensUpdated (first ∷ version ∷ words)
+    by : (version ≡ 1) ⊎ (version ≡ 2) ⊎ (version ≡ 3) → OpensUpdated (first ∷ version ∷ words)
     by (inl one) = subst (λ (v : ℕ). OpensUpdated (first ∷ v ∷ words)) (sym one) (opens-first first words (subst (λ (v : ℕ). opening_fault (first ∷ v ∷ words) ≡ None) one opens))
-    by (inr two) = subst (λ (v : ℕ). OpensUpdated (first ∷ v ∷ words)) (sym two) (same-second first words (subst (λ (v : ℕ). opening_fault (first ∷ v ∷ words) ≡ None) two opens))
+    by (inr (inl two)) = subst (λ (v : ℕ). OpensUpdated (first ∷ v ∷ words)) (sym two) (same-second first words (subst (λ (v : ℕ). opening_fault (first ∷ v ∷ words) ≡ None) two opens))
+    by (inr (inr three)) = subst (λ (v : ℕ). OpensUpdated (first ∷ v ∷ words)) (sym three) (same-third first words (subst (λ (v : ℕ). opening_fault (first ∷ v ∷ words) ≡ None) three opens))

@@ -1,16 +1,16 @@
 -- Words that give an order are read: what each part of them leaves to be given by the others.
-use Rattle.std.proofs.Common.{◌≡◌, ◌≢◌, ℕ, suc, ◌+◌, ◌^◌, List, [], ◌∷◌, ◌++◌, true, false, Option, Some, None, refl, sym, inl, inr, ◌∙◌, ap, subst, is_some, length, drop, slice_index, arith, Bor}
+use Rattle.std.proofs.Common.{◌≡◌, ◌≢◌, ℕ, suc, ◌+◌, ◌^◌, Bool, List, [], ◌∷◌, ◌++◌, true, false, Option, Some, None, refl, sym, inl, inr, ◌∙◌, ap, subst, is_some, length, drop, slice_index, arith, Bor}
 use Rattle.std.proofs.lemmas.List.{length-append}
 use Rattle.std.specs.Prelude.{IsSomeAnd, IfSome}
 use Rattle.std.specs.List.{flat_map}
 use Rattle.command_line.specs.Lines.{texts}
 use Rattle.command_line.specs.Numbers.{Text, number_below}
-use Rattle.command_line.specs.Words.{Part, is_file_name, file, spaced, joined, file_of, value_for, value_of, words_of_part, option_word, WritesAtMostOne}
-use Rattle.command_line.specs.Given.{Agrees, AreGiven, IsNamed, Shows, SetsFile, SetsNumber, at_most_one, number_at, with_number}
+use Rattle.command_line.specs.Words.{Part, is_file_name, file, flag, spaced, joined, file_of, flag_of, flag_words, value_for, value_of, words_of_part, option_word, wide_word, WritesAtMostOne}
+use Rattle.command_line.specs.Given.{Agrees, AreGiven, IsNamed, Shows, SetsFile, SetsNumber, SetsWide, at_most_one, number_at, with_number}
 use Rattle.command_line.specs.declared.given.Given.{Given}
 use Rattle.command_line.specs.declared.orders.Choice.{Choice}
 use Rattle.command_line.specs.declared.orders.Choice.TheVariants.{Slots, Places, Window, Sessions, Commits}
-use Rattle.command_line.proofs.Parts.{file_kept, number_other, number_same, numbers_kept, same_or_not, value_other, value_same}
+use Rattle.command_line.proofs.Parts.{file_kept, number_other, number_same, numbers_by-wide, numbers_kept, same_or_not, value_other, value_same, wide_kept}
 
 -- ---- lists of words
 
@@ -94,6 +94,20 @@ no_file-plain : (choice : Choice) → is_file_name (option_word choice) ≡ fals
 no_file-plain Slots = refl
 no_file-plain _ = refl
 
+-- the word for wide slots is no option's name, alone or with a value
+not_wide-letter : (choice : Choice) → 100 ≡ letter choice → ⊥
+not_wide-letter Slots h = absurd (omega (arith, h))
+not_wide-letter Places h = absurd (omega (arith, h))
+not_wide-letter Window h = absurd (omega (arith, h))
+not_wide-letter Sessions h = absurd (omega (arith, h))
+not_wide-letter Commits h = absurd (omega (arith, h))
+
+not_wide-joined : (choice : Choice) (more : Text) → wide_word ≡ option_word choice ++ more → ⊥
+not_wide-joined choice more h = not_wide-letter choice (ap fifth h ∙ letter-at choice more)
+
+not_wide : (choice : Choice) → wide_word ≡ option_word choice → ⊥
+not_wide choice h = not_wide-letter choice (ap fifth h ∙ letter-plain choice)
+
 not_both : (name : Text) → is_file_name name ≡ true → is_file_name name ≡ false → ⊥
 not_both name named unnamed = cc (named, unnamed)
 
@@ -106,6 +120,18 @@ without choice given = with_number choice None given
 -- all but the file
 abbrev pub without_file : Given → Given
 without_file given = record given { file = None }
+
+-- all but the word for wide slots
+abbrev pub without_wide : Given → Given
+without_wide given = record given { wide = false }
+
+flag_part : (more : List Text) (wide : Bool) → wide_word ∷ more ≡ flag_words wide → (wide ≡ true) × (more ≡ [])
+flag_part more true h = (refl, same_tail wide_word wide_word more [] h)
+flag_part more false h = absurd (cons_not_nil wide_word more h)
+
+no_flag : (wide : Bool) → [] ≡ flag_words wide → wide ≡ false
+no_flag true h = absurd (no_cons wide_word [] h)
+no_flag false h = refl
 
 writes_first : (value : Text) (values : List Text) (o : Option ℕ) → WritesAtMostOne (value ∷ values) o
     → (values ≡ []) × (is_some (number_below (2 ^ 64) value) ≡ true) × (o ≡ number_below (2 ^ 64) value)
@@ -151,8 +177,8 @@ numbers_left choice value parts given all none asked =
     ]
 
 leaves : (choice : Choice) (value : Text) (parts : List Part) (given : Given) → flat_map file_of parts ≡ at_most_one given.file → IsNamed given.file
-    → NumbersGiven choice value parts given → Leaves choice value parts given
-leaves choice value parts given one_file file_named all =
+    → flat_map flag_of parts ≡ flag_words given.wide → NumbersGiven choice value parts given → Leaves choice value parts given
+leaves choice value parts given one_file file_named wide all =
     let first : WritesAtMostOne (value ∷ flat_map (value_of choice) parts) (number_at choice given) =
     subst (λ (values : List Text). WritesAtMostOne (values ++ flat_map (value_of choice) parts) (number_at choice given)) (value_same choice value) (all choice) in
     let w = writes_first value _ (number_at choice given) first in
@@ -161,6 +187,7 @@ leaves choice value parts given one_file file_named all =
         one_file = one_file ∙ ap at_most_one (sym same);
         file_named = subst IsNamed (sym same) file_named;
         numbers_given = numbers_left choice value parts given all w.0;
+        wide_asked = wide ∙ ap flag_words (sym (wide_kept choice None given));
       };
       reads = w.1;
       is = w.2;
@@ -185,6 +212,10 @@ pub record Filed (name : Text) (words : List Text) (given : Given) : Type 0 wher
   pub named : is_file_name name ≡ true
   pub is : at_most_one given.file ≡ name ∷ []
 
+pub record Flagged (words : List Text) (given : Given) : Type 0 where
+  pub rest : AreGiven words (without_wide given)
+  pub is : given.wide ≡ true
+
 as_spaced : (choice : Choice) (words : List Text) (parts : List Part) (given : Given) → flat_map words_of_part parts ≡ option_word choice ∷ words → Shows parts given
     → Spaced choice words given
 as_spaced choice words [] given h shown = absurd (no_cons _ _ h)
@@ -192,11 +223,12 @@ as_spaced choice words (file name ∷ parts) given h shown =
     let is : name ≡ option_word choice = same_head name (option_word choice) _ words h in
     let yes = (file_part name _ given.file shown.one_file shown.file_named).0 in
     absurd (not_both name yes (rw is (no_file-plain choice)))
+as_spaced choice words (flag ∷ parts) given h shown = absurd (not_wide choice (same_head wide_word (option_word choice) _ words h))
 as_spaced choice words (spaced c value ∷ parts) given h shown =
     let same : c ≡ choice = same_name c choice (same_head (option_word c) (option_word choice) _ words h) in
     let rest : value ∷ flat_map words_of_part parts ≡ words = same_tail (option_word c) (option_word choice) _ words h in
     let shows : Shows (spaced choice value ∷ parts) given = subst (λ (d : Choice). Shows (spaced d value ∷ parts) given) same shown in
-    let left : Leaves choice value parts given = leaves choice value parts given shows.one_file shows.file_named shows.numbers_given in
+    let left : Leaves choice value parts given = leaves choice value parts given shows.one_file shows.file_named shows.wide_asked shows.numbers_given in
     record {
       value = value;
       more = flat_map words_of_part parts;
@@ -215,6 +247,8 @@ as_joined choice value words (file name ∷ parts) given h shown =
     let is : name ≡ option_word choice ++ 61 ∷ value = same_head name (option_word choice ++ 61 ∷ value) _ words h in
     let yes = (file_part name _ given.file shown.one_file shown.file_named).0 in
     absurd (not_both name yes (rw is (no_file-name choice (61 ∷ value))))
+as_joined choice value words (flag ∷ parts) given h shown =
+    absurd (not_wide-joined choice (61 ∷ value) (same_head wide_word (option_word choice ++ 61 ∷ value) _ words h))
 as_joined choice value words (spaced c v ∷ parts) given h shown =
     absurd (alone c choice value (same_head (option_word c) (option_word choice ++ 61 ∷ value) _ words h))
 as_joined choice value words (joined c v ∷ parts) given h shown =
@@ -222,18 +256,18 @@ as_joined choice value words (joined c v ∷ parts) given h shown =
     let rest : flat_map words_of_part parts ≡ words = same_tail (option_word c ++ 61 ∷ v) (option_word choice ++ 61 ∷ value) _ words h in
     let first : Shows (joined choice v ∷ parts) given = subst (λ (d : Choice). Shows (joined d v ∷ parts) given) both.0 shown in
     let shows : Shows (joined choice value ∷ parts) given = subst (λ (t : Text). Shows (joined choice t ∷ parts) given) both.1 first in
-    let left : Leaves choice value parts given = leaves choice value parts given shows.one_file shows.file_named shows.numbers_given in
+    let left : Leaves choice value parts given = leaves choice value parts given shows.one_file shows.file_named shows.wide_asked shows.numbers_given in
     record {
       rest = (parts, rest, left.rest);
       reads = left.reads;
       is = left.is;
     }
 
-as_file : (name : Text) (words : List Text) (parts : List Part) (given : Given)
+as_file : (name : Text) (words : List Text) (parts : List Part) (given : Given) → name ≢ wide_word
     → ((choice : Choice) → name ≢ option_word choice) → ((choice : Choice) (value : Text) → name ≢ option_word choice ++ 61 ∷ value)
     → flat_map words_of_part parts ≡ name ∷ words → Shows parts given → Filed name words given
-as_file name words [] given alone_not joined_not h shown = absurd (no_cons _ _ h)
-as_file name words (file n ∷ parts) given alone_not joined_not h shown =
+as_file name words [] given wide_not alone_not joined_not h shown = absurd (no_cons _ _ h)
+as_file name words (file n ∷ parts) given wide_not alone_not joined_not h shown =
     let is : n ≡ name = same_head n name _ words h in
     let rest : flat_map words_of_part parts ≡ words = same_tail n name _ words h in
     let left = file_part n (flat_map file_of parts) given.file shown.one_file shown.file_named in
@@ -245,15 +279,43 @@ as_file name words (file n ∷ parts) given alone_not joined_not h shown =
           one_file = left.1;
           file_named = tt;
           numbers_given = λ choice. subst (WritesAtMostOne _) (sym (numbers_kept given (without_file given) refl choice)) (shown.numbers_given choice);
+          wide_asked = shown.wide_asked;
         },
       );
       named = subst (λ (t : Text). is_file_name t ≡ true) is left.0;
       is = left.2 ∙ ap (λ (t : Text). t ∷ []) is;
     }
-as_file name words (spaced c v ∷ parts) given alone_not joined_not h shown =
+as_file name words (flag ∷ parts) given wide_not alone_not joined_not h shown = absurd (wide_not (sym (same_head wide_word name _ words h)))
+as_file name words (spaced c v ∷ parts) given wide_not alone_not joined_not h shown =
     absurd (alone_not c (sym (same_head (option_word c) name _ words h)))
-as_file name words (joined c v ∷ parts) given alone_not joined_not h shown =
+as_file name words (joined c v ∷ parts) given wide_not alone_not joined_not h shown =
     absurd (joined_not c v (sym (same_head (option_word c ++ 61 ∷ v) name _ words h)))
+
+as_wide : (words : List Text) (parts : List Part) (given : Given) → flat_map words_of_part parts ≡ wide_word ∷ words → Shows parts given → Flagged words given
+as_wide words [] given h shown = absurd (no_cons _ _ h)
+as_wide words (file name ∷ parts) given h shown =
+    let is : name ≡ wide_word = same_head name wide_word _ words h in
+    let yes = (file_part name _ given.file shown.one_file shown.file_named).0 in
+    absurd (not_both name yes (rw is refl))
+as_wide words (flag ∷ parts) given h shown =
+    let rest : flat_map words_of_part parts ≡ words = same_tail wide_word wide_word _ words h in
+    let w = flag_part (flat_map flag_of parts) given.wide shown.wide_asked in
+    record {
+      rest = (
+        parts,
+        rest,
+        record {
+          one_file = shown.one_file;
+          file_named = shown.file_named;
+          numbers_given = λ choice. subst (WritesAtMostOne _) (sym (numbers_by-wide false given choice)) (shown.numbers_given choice);
+          wide_asked = w.1;
+        },
+      );
+      is = w.0;
+    }
+as_wide words (spaced c v ∷ parts) given h shown = absurd (not_wide c (sym (same_head (option_word c) wide_word _ words h)))
+as_wide words (joined c v ∷ parts) given h shown =
+    absurd (not_wide-joined c (61 ∷ v) (sym (same_head (option_word c ++ 61 ∷ v) wide_word _ words h)))
 
 -- ---- what is read agrees
 
@@ -272,6 +334,7 @@ agrees-number choice value old new given same is set = record {
         ap (number_at asked) set.is_now
         ∙ (number_other asked choice _ old other ∙ (same.numbers asked ∙ number_other asked choice None given other))
   ];
+  width = ap (λ (g : Given). g.wide) set.is_now ∙ (wide_kept choice _ old ∙ (same.width ∙ wide_kept choice None given));
 }
 
 no_file-of : (o : Option (Bor Text)) → at_most_one o ≡ [] → o ≡ None
@@ -282,6 +345,14 @@ agrees-file : (name : Text) (old new given : Given) → Agrees old (without_file
 agrees-file name old new given same is set = record {
   file = set.is_now ∙ sym is;
   numbers = λ choice. numbers_kept old new set.others_same choice ∙ (same.numbers choice ∙ numbers_kept given (without_file given) refl choice);
+  width = ap (λ (g : Given). g.wide) set.others_same ∙ same.width;
+}
+
+agrees-wide : (old new given : Given) → Agrees old (without_wide given) → given.wide ≡ true → SetsWide old new → Agrees new given
+agrees-wide old new given same is set = record {
+  file = ap (λ (g : Given). at_most_one g.file) set.is_now ∙ same.file;
+  numbers = λ choice. ap (number_at choice) set.is_now ∙ (numbers_by-wide true old choice ∙ (same.numbers choice ∙ numbers_by-wide false given choice));
+  width = ap (λ (g : Given). g.wide) set.is_now ∙ sym is;
 }
 
 both-some : (r : Option Given) (P Q : Given → Type 0) → is_some r ≡ true → IfSome r P → ((x : Given) → P x → Q x) → IsSomeAnd r Q
@@ -294,23 +365,26 @@ unwritten : (o : Option ℕ) → WritesAtMostOne [] o → o ≡ None
 unwritten None h = refl
 unwritten (Some n) (value, same, is) = absurd (no_cons value [] same)
 
--- no file, and no numbers
+-- no file, no numbers, and no wide slots
 record GivesNone (given : Given) : Type 0 where
   file : given.file ≡ None
   numbers : (choice : Choice) → number_at choice given ≡ None
+  narrow : given.wide ≡ false
 
 nothing-by : (parts : List Part) (given new : Given) → flat_map words_of_part parts ≡ [] → Shows parts given → GivesNone new → Agrees new given
 nothing-by [] given new h shown none = record {
   file = ap at_most_one none.file ∙ shown.one_file;
   numbers = λ choice. none.numbers choice ∙ sym (unwritten (number_at choice given) (shown.numbers_given choice));
+  width = none.narrow ∙ sym (no_flag given.wide shown.wide_asked);
 }
 nothing-by (file name ∷ parts) given new h shown none = absurd (cons_not_nil _ _ h)
+nothing-by (flag ∷ parts) given new h shown none = absurd (cons_not_nil _ _ h)
 nothing-by (spaced c v ∷ parts) given new h shown none = absurd (cons_not_nil _ _ h)
 nothing-by (joined c v ∷ parts) given new h shown none = absurd (cons_not_nil _ _ h)
 
 -- what no words give
 abbrev pub nothing : Given
-nothing = record { file = None; slots = None; places = None; window = None; sessions = None; commits = None }
+nothing = record { file = None; slots = None; places = None; window = None; sessions = None; commits = None; wide = false }
 
 no_number : (choice : Choice) → number_at choice nothing ≡ None
 no_number Slots = refl
@@ -319,7 +393,7 @@ no_number _ = refl
 pub nothing_given : (words : List (Bor Text)) (given : Given) → length words ≡ 0 → AreGiven (texts words) given → Agrees nothing given
 nothing_given words given none (parts, spelled, shown) =
     let empty : flat_map words_of_part parts ≡ [] = spelled ∙ ap texts (empty-of words none) in
-    nothing-by parts given nothing empty shown (record { file = refl; numbers = no_number })
+    nothing-by parts given nothing empty shown (record { file = refl; numbers = no_number; narrow = refl })
 
 -- an option and its value in the next word
 pub spaced_rest : (words rest more : List (Bor Text)) (first value : Bor Text) (choice : Choice) (given : Given)
@@ -353,12 +427,19 @@ joined_rest words rest first value choice given e1 name (parts, spelled, shown) 
     let all : texts words ≡ (option_word choice ++ 61 ∷ value) ∷ texts rest = ap texts e1 ∙ ap (λ w. w ∷ texts rest) name in
     as_joined choice value (texts rest) parts given (spelled ∙ all) shown
 
--- a word that is neither
+-- the word for wide slots
+pub wide_rest : (words rest : List (Bor Text)) (first : Bor Text) (given : Given)
+    → words ≡ first ∷ rest → first.now ≡ wide_word → AreGiven (texts words) given → Flagged (texts rest) given
+wide_rest words rest first given e1 name (parts, spelled, shown) =
+    let all : texts words ≡ wide_word ∷ texts rest = ap texts e1 ∙ ap (λ w. w ∷ texts rest) name in
+    as_wide (texts rest) parts given (spelled ∙ all) shown
+
+-- a word that is none of these
 pub file_rest : (words rest : List (Bor Text)) (first : Bor Text) (given : Given)
-    → words ≡ first ∷ rest → ((choice : Choice) → first.now ≢ option_word choice) → ((choice : Choice) (value : Text) → first.now ≢ option_word choice ++ 61 ∷ value)
+    → words ≡ first ∷ rest → first.now ≢ wide_word → ((choice : Choice) → first.now ≢ option_word choice) → ((choice : Choice) (value : Text) → first.now ≢ option_word choice ++ 61 ∷ value)
     → AreGiven (texts words) given → Filed first.now (texts rest) given
-file_rest words rest first given e1 alone_not joined_not (parts, spelled, shown) =
-    as_file first.now (texts rest) parts given alone_not joined_not (spelled ∙ ap texts e1) shown
+file_rest words rest first given e1 wide_not alone_not joined_not (parts, spelled, shown) =
+    as_file first.now (texts rest) parts given wide_not alone_not joined_not (spelled ∙ ap texts e1) shown
 
 pub agrees_option : (choice : Choice) (value : Text) (words : List Text) (old given : Given) (r : Option Given)
     → Joined choice value words given → Agrees old (without choice given)
@@ -367,6 +448,12 @@ pub agrees_option : (choice : Choice) (value : Text) (words : List Text) (old gi
 agrees_option choice value words old given r j same may sets =
     both-some r (SetsNumber old choice value) (λ found. Agrees found given) (may (was_none old given choice same) j.reads) sets
     (λ new set. agrees-number choice value old new given same j.is set)
+
+pub agrees_width : (words : List Text) (old given : Given) (r : Option Given)
+    → Flagged words given → Agrees old (without_wide given) → (old.wide ≡ false → is_some r ≡ true) → IfSome r (SetsWide old)
+    → IsSomeAnd r (λ found. Agrees found given)
+agrees_width words old given r f same may sets =
+    both-some r (SetsWide old) (λ found. Agrees found given) (may same.width) sets (λ new set. agrees-wide old new given same f.is set)
 
 pub agrees_name : (name : Text) (words : List Text) (old given : Given) (r : Option Given)
     → Filed name words given → Agrees old (without_file given)

@@ -1,10 +1,10 @@
 -- What one more part of a command line sets.
-use Rattle.std.proofs.Common.{◌≡◌, ◌≢◌, ◌⊎◌, ◌^◌, ℕ, List, [], ◌∷◌, ◌++◌, true, false, Option, Some, None, refl, sym, ◌∙◌, ap, subst, inl, inr, is_some, unwrap_or, Bor}
+use Rattle.std.proofs.Common.{◌≡◌, ◌≢◌, ◌⊎◌, ◌^◌, ℕ, Bool, List, [], ◌∷◌, ◌++◌, true, false, Option, Some, None, refl, sym, ◌∙◌, ap, subst, inl, inr, is_some, unwrap_or, Bor}
 use Rattle.command_line.specs.Lines.{texts}
 use Rattle.std.specs.List.{flat_map}
 use Rattle.command_line.specs.Numbers.{Text, number_below}
-use Rattle.command_line.specs.Words.{Part, is_file_name, file, spaced, joined, file_of, value_of, value_for, option_word, WritesAtMostOne, HasNumber}
-use Rattle.command_line.specs.Given.{AreGiven, IsNamed, Shows, SetsFile, SetsNumber, at_most_one, number_at, with_number}
+use Rattle.command_line.specs.Words.{Part, is_file_name, file, flag, spaced, joined, file_of, flag_of, flag_words, value_of, value_for, option_word, wide_word, WritesAtMostOne, HasNumber}
+use Rattle.command_line.specs.Given.{AreGiven, IsNamed, Shows, SetsFile, SetsNumber, SetsWide, at_most_one, number_at, with_number}
 use Rattle.command_line.specs.declared.given.Given.{Given}
 use Rattle.command_line.specs.declared.orders.Choice.{Choice}
 use Rattle.command_line.specs.declared.orders.Choice.TheVariants.{Slots, Places, Window, Sessions, Commits}
@@ -55,6 +55,14 @@ pub file_kept : (choice : Choice) (number : Option ℕ) (given : Given) → (wit
 file_kept Slots number given = refl
 file_kept _ number given = refl
 
+pub wide_kept : (choice : Choice) (number : Option ℕ) (given : Given) → (with_number choice number given).wide ≡ given.wide
+wide_kept Slots number given = refl
+wide_kept _ number given = refl
+
+pub numbers_by-wide : (wide : Bool) (given : Given) (choice : Choice) → number_at choice (record given { wide = wide }) ≡ number_at choice given
+numbers_by-wide wide given Slots = refl
+numbers_by-wide wide given _ = refl
+
 pub numbers_kept : (old new : Given) → new ≡ record old { file = new.file } → (choice : Choice) → number_at choice new ≡ number_at choice old
 numbers_kept old new same Slots = ap (number_at Slots) same
 numbers_kept old new same Places = ap (number_at Places) same
@@ -94,6 +102,22 @@ shows_file words name old new (parts, spelled, shown) set = (
         ap (λ rest. name ∷ rest) none ∙ sym set.is_now;
     file_named = named_file new.file name set.is_now set.named;
     numbers_given = λ choice. kept _ _ _ (numbers_kept old new set.others_same choice) (shown.numbers_given choice);
+    wide_asked = shown.wide_asked ∙ ap (λ (g : Given). flag_words g.wide) (sym set.others_same);
+  },
+)
+
+-- the word for wide slots goes before what the rest shows
+pub shows_wide : (words : List Text) (old new : Given) → AreGiven words old → SetsWide old new → AreGiven (wide_word ∷ words) new
+shows_wide words old new (parts, spelled, shown) set = (
+  flag ∷ parts,
+  ap (λ rest. wide_word ∷ rest) spelled,
+  record {
+    one_file = shown.one_file ∙ ap (λ (g : Given). at_most_one g.file) (sym set.is_now);
+    file_named = still_named old.file new.file (ap (λ (g : Given). g.file) set.is_now) shown.file_named;
+    numbers_given = λ choice. kept _ _ _ (ap (number_at choice) set.is_now ∙ numbers_by-wide true old choice) (shown.numbers_given choice);
+    wide_asked =
+        let none : flat_map flag_of parts ≡ [] = shown.wide_asked ∙ ap flag_words set.was_not in
+        ap (λ rest. wide_word ∷ rest) none ∙ ap (λ (g : Given). flag_words g.wide) (sym set.is_now);
   },
 )
 
@@ -124,6 +148,9 @@ numbers choice value parts old new shown set asked =
 same_file : (choice : Choice) (value : Text) (old new : Given) → SetsNumber old choice value new → new.file ≡ old.file
 same_file choice value old new set = ap (λ (g : Given). g.file) set.is_now ∙ file_kept choice _ old
 
+same_width : (choice : Choice) (value : Text) (old new : Given) → SetsNumber old choice value new → new.wide ≡ old.wide
+same_width choice value old new set = ap (λ (g : Given). g.wide) set.is_now ∙ wide_kept choice _ old
+
 pub shows_spaced : (words : List Text) (choice : Choice) (value : Text) (old new : Given) → AreGiven words old → SetsNumber old choice value new
     → AreGiven (option_word choice ∷ value ∷ words) new
 shows_spaced words choice value old new (parts, spelled, shown) set =
@@ -134,6 +161,7 @@ shows_spaced words choice value old new (parts, spelled, shown) set =
         one_file = shown.one_file ∙ ap at_most_one (sym same);
         file_named = still_named old.file new.file same shown.file_named;
         numbers_given = numbers choice value parts old new shown set;
+        wide_asked = shown.wide_asked ∙ ap flag_words (sym (same_width choice value old new set));
       },
     )
 
@@ -147,6 +175,7 @@ shows_joined words choice value old new (parts, spelled, shown) set =
         one_file = shown.one_file ∙ ap at_most_one (sym same);
         file_named = still_named old.file new.file same shown.file_named;
         numbers_given = numbers choice value parts old new shown set;
+        wide_asked = shown.wide_asked ∙ ap flag_words (sym (same_width choice value old new set));
       },
     )
 
@@ -175,5 +204,13 @@ pub file_words : (words rest : List (Bor Text)) (first : Bor Text) (old new : Gi
 file_words words rest first old new e1 given set =
     let all : texts words ≡ first.now ∷ texts rest = ap texts e1 in
     let shown : AreGiven (first.now ∷ texts rest) new = shows_file (texts rest) first.now old new given set in
+    let P : List Text → Type 0 = λ ws. AreGiven ws new in
+    subst P (sym all) shown
+
+pub wide_words : (words rest : List (Bor Text)) (first : Bor Text) (old new : Given)
+    → words ≡ first ∷ rest → first.now ≡ wide_word → AreGiven (texts rest) old → SetsWide old new → AreGiven (texts words) new
+wide_words words rest first old new e1 name given set =
+    let all : texts words ≡ wide_word ∷ texts rest = ap texts e1 ∙ ap (λ w. w ∷ texts rest) name in
+    let shown : AreGiven (wide_word ∷ texts rest) new = shows_wide (texts rest) old new given set in
     let P : List Text → Type 0 = λ ws. AreGiven ws new in
     subst P (sym all) shown

@@ -1,9 +1,9 @@
 -- What the words after a subcommand give, before defaults.
-use Rattle.std.specs.Prelude.{◌≡◌, ◌^◌, ℕ, List, [], ◌∷◌, true, Option, Some, None, IfSome, is_some}
+use Rattle.std.specs.Prelude.{◌≡◌, ◌^◌, ℕ, List, [], ◌∷◌, true, false, Option, Some, None, IfSome, is_some}
 use Rattle.std.specs.Borrow.{Bor}
 use Rattle.std.specs.List.{flat_map}
 use Rattle.command_line.specs.Numbers.{Text, number_below}
-use Rattle.command_line.specs.Words.{Part, is_file_name, words_of_part, file_of, value_of, WritesAtMostOne}
+use Rattle.command_line.specs.Words.{Part, is_file_name, words_of_part, file_of, flag_of, flag_words, value_of, WritesAtMostOne}
 use Rattle.command_line.specs.declared.given.Given.{Given}
 use Rattle.command_line.specs.declared.orders.Choice.{Choice}
 use Rattle.command_line.specs.declared.orders.Choice.TheVariants.{Slots, Places, Window, Sessions, Commits}
@@ -33,11 +33,12 @@ with_number Window number given = record given { window = number }
 with_number Sessions number given = record given { sessions = number }
 with_number Commits number given = record given { commits = number }
 
--- these parts name this file and these numbers
+-- these parts name this file and these numbers, and the word for wide slots where that is given
 pub record Shows (parts : List Part) (given : Given) : Type 0 where
   pub one_file : flat_map file_of parts ≡ at_most_one given.file
   pub file_named : IsNamed given.file
   pub numbers_given : (choice : Choice) → WritesAtMostOne (flat_map (value_of choice) parts) (number_at choice given)
+  pub wide_asked : flat_map flag_of parts ≡ flag_words given.wide
 
 -- the words are those of parts that show this
 abbrev pub AreGiven : List Text → Given → Type 0
@@ -56,7 +57,13 @@ pub record SetsNumber (old : Given) (choice : Choice) (value : Text) (new : Give
   pub writes : is_some (number_below (2 ^ 64) value) ≡ true
   pub is_now : new ≡ with_number choice (number_below (2 ^ 64) value) old
 
--- the same file's name, if there is one, and the same numbers
+-- wide slots are asked for, which were not
+pub record SetsWide (old new : Given) : Type 0 where
+  pub was_not : old.wide ≡ false
+  pub is_now : new ≡ record old { wide = true }
+
+-- the same file's name, if there is one, the same numbers, and the same width
 pub record Agrees (found given : Given) : Type 0 where
   pub file : at_most_one found.file ≡ at_most_one given.file
   pub numbers : (choice : Choice) → number_at choice found ≡ number_at choice given
+  pub width : found.wide ≡ given.wide

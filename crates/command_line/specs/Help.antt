@@ -2,7 +2,7 @@
 use Rattle.std.specs.Prelude.{◌≡◌, ◌≢◌, ℕ, List, [], ◌∷◌, Some, true, false, codes, ⊤}
 use Rattle.clap.specs.Simple.{new_shape}
 use Rattle.clap.specs.Words.{App, IsAmong, Rule, Shape, fault_of, new_rule}
-use Rattle.clap.specs.declared.builder.action.ArgAction.TheVariants.{Set}
+use Rattle.clap.specs.declared.builder.action.ArgAction.TheVariants.{Set, SetTrue}
 use Rattle.clap.specs.declared.builder.value_parser.ValueParser.TheVariants as parser
 use Rattle.clap.specs.declared.error.kind.ErrorKind.{ErrorKind}
 use Rattle.clap.specs.declared.error.kind.ErrorKind.TheVariants as kind
@@ -26,13 +26,18 @@ number_rule name default least most = record (new_rule name) {
   parser = Some (parser.Unsigned least most);
 }
 
+-- an option without a value, which may be left out
+abbrev pub flag_rule : Text → Rule
+flag_rule name = record (new_rule name) { long = Some name; action = Some SetTrue }
+
 -- a subcommand with what follows it
 abbrev pub subcommand_shape : Text → List Rule → Shape
 subcommand_shape name rules = record (new_shape name) { rules = rules }
 
 abbrev pub format_shape : Shape
 format_shape = subcommand_shape (codes "format") (name_rule (codes "FILE") ∷ number_rule (codes "slots") (codes "1024") 1 65536
-    ∷ number_rule (codes "places") (codes "4") 2 64 ∷ number_rule (codes "window") (codes "64") 4 1024 ∷ [])
+    ∷ number_rule (codes "places") (codes "4") 2 64 ∷ number_rule (codes "window") (codes "64") 4 1024
+    ∷ flag_rule (codes "wide") ∷ [])
 
 abbrev pub run_shape : Shape
 run_shape = subcommand_shape (codes "run") (name_rule (codes "FILE") ∷ [])

@@ -1,8 +1,8 @@
 -- What the words of the command line ask for.
-use Rattle.std.specs.Prelude.{◌≡◌, ℕ, ◌^◌, ◌≤◌, List, [], ◌∷◌, ◌++◌, ◌⊎◌, Bool, true, not, Option, Some, None, codes}
+use Rattle.std.specs.Prelude.{◌≡◌, ℕ, ◌^◌, ◌≤◌, List, [], ◌∷◌, ◌++◌, ◌⊎◌, Bool, true, not, Option, Some, None, codes, if◌then◌else◌}
 use Rattle.std.specs.List.{flat_map}
 use Rattle.std.specs.Str.Parse.{starts_with_minus}
-use Rattle.base.specs.Layout.{is_in_limits, layout_with, plain_version}
+use Rattle.base.specs.Layout.{Layout, is_in_limits, layout_with, plain_version, wide_version}
 use Rattle.command_line.specs.Numbers.{Text, number_below}
 use Rattle.command_line.specs.declared.orders.Choice.{Choice}
 use Rattle.command_line.specs.declared.orders.Choice.TheVariants.{Slots, Places, Window, Sessions, Commits}
@@ -21,24 +21,40 @@ option_word Window = codes "--window"
 option_word Sessions = codes "--sessions"
 option_word Commits = codes "--commits"
 
--- a part of what follows a subcommand: the file, an option with its value in a word of its own, or one
--- with its value in the same word
+-- the option of `format` that has no value
+abbrev pub wide_word : Text
+wide_word = codes "--wide"
+
+-- a part of what follows a subcommand: the file, the word for wide slots, an option with its value in a word of its own, or
+-- one with its value in the same word
 pub data Part : Type 0 where
   file : Text → Part
+  flag : Part
   spaced : Choice → Text → Part
   joined : Choice → Text → Part
 
 -- the words of a part
 abbrev pub words_of_part : Part → List Text
 words_of_part (file name) = name ∷ []
+words_of_part flag = wide_word ∷ []
 words_of_part (spaced choice value) = option_word choice ∷ value ∷ []
 words_of_part (joined choice value) = (option_word choice ++ 61 ∷ value) ∷ []
 
 -- the file that a part names
 abbrev pub file_of : Part → List Text
 file_of (file name) = name ∷ []
+file_of flag = []
 file_of (spaced choice value) = []
 file_of (joined choice value) = []
+
+-- the word for wide slots, where a part is it
+abbrev pub flag_of : Part → List Text
+flag_of flag = wide_word ∷ []
+flag_of _ = []
+
+-- that word, where wide slots are asked for
+abbrev pub flag_words : Bool → List Text
+flag_words wide = if wide then wide_word ∷ [] else []
 
 -- the value, where it is given for the option that is asked about
 abbrev pub value_for : Choice → Choice → Text → List Text
@@ -52,6 +68,7 @@ value_for _ _ value = []
 -- the value that a part gives to an option
 abbrev pub value_of : Choice → Part → List Text
 value_of asked (file name) = []
+value_of asked flag = []
 value_of asked (spaced choice value) = value_for asked choice value
 value_of asked (joined choice value) = value_for asked choice value
 
@@ -70,6 +87,10 @@ HasNumber parts choice default n =
     (IsLeftOut parts choice × (n ≡ default))
     ⊎ WritesAtMostOne (flat_map (value_of choice) parts) (Some n)
 
+-- the layout that a format asks for: of slots of two lines where it asks for wide ones
+abbrev pub asked_layout : Bool → ℕ → ℕ → ℕ → Layout
+asked_layout wide slots places window = layout_with (if wide then wide_version else plain_version) slots places window
+
 -- the words are those of the parts, which name the file once
 pub record Spells (words : List Text) (parts : List Part) (name : Text) : Type 0 where
   pub spelled : flat_map words_of_part parts ≡ words
@@ -77,14 +98,15 @@ pub record Spells (words : List Text) (parts : List Part) (name : Text) : Type 0
   pub file_named : is_file_name name ≡ true
 
 -- these parts are spelled, with each option of `format` at most once, and no other
-pub record SpellsFormat (words : List Text) (parts : List Part) (name : Text) (slots places window : ℕ) : Type 0 where
+pub record SpellsFormat (words : List Text) (parts : List Part) (name : Text) (wide : Bool) (slots places window : ℕ) : Type 0 where
   pub spelled : Spells words parts name
+  pub wide_asked : flat_map flag_of parts ≡ flag_words wide
   pub slots_given : HasNumber parts Slots 1024 slots
   pub places_given : HasNumber parts Places 4 places
   pub window_given : HasNumber parts Window 64 window
   pub no_sessions : IsLeftOut parts Sessions
   pub no_commits : IsLeftOut parts Commits
-  pub limits : is_in_limits (layout_with plain_version slots places window) ≡ true
+  pub limits : is_in_limits (asked_layout wide slots places window) ≡ true
 
 -- these parts are spelled, with each option of `threads` at most once, and no other
 pub record SpellsThreads (words : List Text) (parts : List Part) (name : Text) (sessions commits : ℕ) : Type 0 where
@@ -94,6 +116,7 @@ pub record SpellsThreads (words : List Text) (parts : List Part) (name : Text) (
   pub no_slots : IsLeftOut parts Slots
   pub no_places : IsLeftOut parts Places
   pub no_window : IsLeftOut parts Window
+  pub not_wide : flat_map flag_of parts ≡ []
   pub sessions_limits : (1 ≤ sessions) × (sessions ≤ 32)
   pub commits_limits : (1 ≤ commits) × (commits ≤ 1000)
 
@@ -104,7 +127,7 @@ pub record IsOneFile (words : List Text) (name : Text) : Type 0 where
 
 -- the subcommand of an order
 abbrev pub subcommand_of : Order → Text
-subcommand_of (Format name slots places window) = codes "format"
+subcommand_of (Format name wide slots places window) = codes "format"
 subcommand_of (Run name) = codes "run"
 subcommand_of (Check name) = codes "check"
 subcommand_of (Lives name) = codes "lives"
@@ -112,7 +135,7 @@ subcommand_of (Threads name sessions commits) = codes "threads"
 
 -- what follows the subcommand gives the rest of this order: a file's name, and numbers within their limits
 abbrev pub GivesRest : List Text → Order → Type 0
-GivesRest words (Format name slots places window) = (parts : List Part) × SpellsFormat words parts name.now slots places window
+GivesRest words (Format name wide slots places window) = (parts : List Part) × SpellsFormat words parts name.now wide slots places window
 GivesRest words (Run name) = IsOneFile words name.now
 GivesRest words (Check name) = IsOneFile words name.now
 GivesRest words (Lives name) = IsOneFile words name.now

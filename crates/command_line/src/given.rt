@@ -1,14 +1,13 @@
-ghost use Rattle.std.specs.Prelude.{◌≡◌, ◌≢◌, ◌^◌, ◌∷◌, ◌++◌, IfNone, IfSome, IsSome, IsSomeAnd, IsTrue, None, codes};
+ghost use Rattle.std.specs.Prelude.{◌≡◌, ◌≢◌, ◌^◌, ◌∷◌, ◌++◌, IfNone, IfSome, IsSome, IsFalse, IsSomeAnd, IsTrue, None, codes, false};
 ghost use Rattle.command_line.specs.Lines.{texts};
 ghost use Rattle.command_line.specs.Numbers.{Text, number_below};
-ghost use Rattle.command_line.specs.Words.{Gives, GivesAfter, GivesNothing, GivesNothingAfter, IsOneFile, is_file_name, option_word};
-ghost use Rattle.command_line.specs.Given.{Agrees, AreGiven, SetsFile, SetsNumber, number_at};
+ghost use Rattle.command_line.specs.Words.{Gives, GivesAfter, GivesNothing, GivesNothingAfter, IsOneFile, is_file_name, option_word, wide_word};
+ghost use Rattle.command_line.specs.Given.{Agrees, AreGiven, SetsFile, SetsNumber, SetsWide, number_at};
 ghost use Rattle.command_line.specs.declared.given.Given.{Given as GivenValue};
 ghost use Rattle.command_line.specs.declared.orders.Choice.{Choice as ChoiceValue};
 
 use crate::number::number;
-use crate::orders::{Choice, MOST_COMMITS, MOST_SESSIONS, Order};
-use base::geometry::Geometry;
+use crate::orders::{Choice, MOST_COMMITS, MOST_SESSIONS, Order, asked_geometry};
 
 /// What the words after a subcommand give, before defaults.
 #[derive(Clone, Copy)]
@@ -19,6 +18,7 @@ pub(crate) struct Given<'a> {
     pub(crate) window: Option<u64>,
     pub(crate) sessions: Option<u64>,
     pub(crate) commits: Option<u64>,
+    pub(crate) wide: bool,
 }
 
 const DEFAULT_SLOTS: u64 = 1024;
@@ -78,11 +78,12 @@ fn spelled_format<'a>(words: &[&'a str]) -> Option<Order<'a>>
     let slots = given.slots.unwrap_or(DEFAULT_SLOTS);
     let places = given.places.unwrap_or(DEFAULT_PLACES);
     let window = given.window.unwrap_or(DEFAULT_WINDOW);
-    if Geometry::new(slots, places, window).is_err() {
+    if asked_geometry(given.wide, slots, places, window).is_err() {
         return None;
     }
     Some(Order::Format {
         file,
+        wide: given.wide,
         slots,
         places,
         window,
@@ -95,7 +96,7 @@ fn spelled_threads<'a>(words: &[&'a str]) -> Option<Order<'a>>
 {
     let given = read_given(words)?;
     let file = given.file?;
-    if given.slots.is_some() || given.places.is_some() || given.window.is_some() {
+    if given.slots.is_some() || given.places.is_some() || given.window.is_some() || given.wide {
         return None;
     }
     let sessions = given.sessions.unwrap_or(DEFAULT_SESSIONS);
@@ -110,7 +111,7 @@ fn spelled_threads<'a>(words: &[&'a str]) -> Option<Order<'a>>
     })
 }
 
-// What a file and options with numbers give, each named at most once.
+// What a file, options with numbers and the word for wide slots give, each named at most once.
 fn read_given<'a>(words: &[&'a str]) -> Option<Given<'a>>
     ensures given { IfSome result (λ given. AreGiven (texts words.now) given) }
     ensures all { (given : GivenValue) → AreGiven (texts words.now) given → IsSomeAnd result (λ found. Agrees found given) }
@@ -123,6 +124,7 @@ fn read_given<'a>(words: &[&'a str]) -> Option<Given<'a>>
             window: None,
             sessions: None,
             commits: None,
+            wide: false,
         });
     };
     if let Some(choice) = spaced_choice(first) {
@@ -131,6 +133,9 @@ fn read_given<'a>(words: &[&'a str]) -> Option<Given<'a>>
     }
     if let Some((choice, value)) = joined_choice(first) {
         return with_number(read_given(rest)?, choice, value);
+    }
+    if is_wide_word(first) {
+        return with_wide(read_given(rest)?);
     }
     with_file(read_given(rest)?, first)
 }
@@ -152,6 +157,13 @@ fn spaced_choice(word: &str) -> Option<Choice>
     } else {
         None
     }
+}
+
+fn is_wide_word(word: &str) -> bool
+    ensures yes { IsTrue result → word.now ≡ wide_word }
+    ensures no { IsFalse result → word.now ≢ wide_word }
+{
+    word == "--wide"
 }
 
 fn joined_choice(word: &str) -> Option<(Choice, &str)>
@@ -178,6 +190,19 @@ fn with_file<'a>(given: Given<'a>, word: &'a str) -> Option<Given<'a>>
     }
     Some(Given {
         file: Some(word),
+        ..given
+    })
+}
+
+fn with_wide<'a>(given: Given<'a>) -> Option<Given<'a>>
+    ensures sets { IfSome result (λ now. SetsWide given.entry now) }
+    ensures may { given.entry.wide ≡ false → IsSome result }
+{
+    if given.wide {
+        return None;
+    }
+    Some(Given {
+        wide: true,
         ..given
     })
 }

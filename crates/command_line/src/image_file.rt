@@ -7,7 +7,7 @@ use byteorder::{ByteOrder, LittleEndian};
 use std::alloc::{AllocError, Global};
 
 /// The bytes of the longest image.
-pub const MOST_FILE_BYTES: usize = 4_210_752;
+pub const MOST_FILE_BYTES: usize = 8_405_056;
 
 const WORD_BYTES: usize = 8;
 

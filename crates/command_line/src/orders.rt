@@ -1,12 +1,20 @@
+ghost use Rattle.std.specs.Prelude.{◌≡◌, ◌↔◌, IfErr, IfOk, IsOk, IsTrue};
+ghost use Rattle.base.specs.Layout.{is_in_limits};
+ghost use Rattle.base.specs.declared.fault.Fault.TheVariants.{BadGeometry};
+ghost use Rattle.command_line.specs.Words.{asked_layout};
+
+use base::fault::Fault;
+use base::geometry::Geometry;
 use std::alloc::AllocError;
 use thiserror::Error;
 
 /// What the words of the command line ask for.
 #[derive(Clone, Copy, Debug, PartialEq, Eq)]
 pub enum Order<'a> {
-    /// A new image is written into the file.
+    /// A new image is written into the file, with slots of two lines where wide ones are asked for.
     Format {
         file: &'a str,
+        wide: bool,
         slots: u64,
         places: u64,
         window: u64,
@@ -47,6 +55,20 @@ pub const MOST_SESSIONS: u64 = 32;
 
 /// How many commits each of them may make, from 1 on.
 pub const MOST_COMMITS: u64 = 1_000;
+
+/// The layout that a format asks for: of version 3, with slots of two lines, where it asks for wide
+/// ones, and else of version 2. `BadGeometry` where its numbers are out of their limits.
+pub fn asked_geometry(wide: bool, slots: u64, places: u64, window: u64) -> Result<Geometry, Fault>
+    ensures ok { IfOk result (λ geometry. geometry ≡ asked_layout wide slots places window) }
+    ensures limits { IsOk result ↔ IsTrue (is_in_limits (asked_layout wide slots places window)) }
+    ensures fault { IfErr result (λ fault. fault ≡ BadGeometry) }
+{
+    if wide {
+        Geometry::wide(slots, places, window)
+    } else {
+        Geometry::new(slots, places, window)
+    }
+}
 
 /// Why the words give no order. Each carries the text for the user.
 #[derive(Debug, Drop, Error)]

@@ -1,6 +1,6 @@
 ghost use Rattle.std.specs.Prelude.{◌≡◌, codes, false, IfErr, IfOk, OnErr};
 ghost use Rattle.clap.specs.Words.{app_of, kind_of, rule_of, shape_of};
-ghost use Rattle.command_line.specs.Help.{AnswersHelp, TellsKind, check_shape, format_shape, lives_shape, name_rule, number_rule, run_shape, threads_shape, wbl, wbl_alone, wbl_of_images};
+ghost use Rattle.command_line.specs.Help.{AnswersHelp, TellsKind, check_shape, flag_rule, format_shape, lives_shape, name_rule, number_rule, run_shape, threads_shape, wbl, wbl_alone, wbl_of_images};
 ghost use Rattle.command_line.specs.Lines.{texts};
 ghost use Rattle.command_line.specs.Words.{Gives, GivesNothing};
 
@@ -104,6 +104,7 @@ fn format_command<'a>(alloc: Global) -> Result<Command<'a>, AllocError>
     let window = number_option(alloc, "window", "64", 4, 1024).help(
         "How many timestamps a commit record leaves for later commits, 4 to 1024",
     );
+    let wide = wide_option(alloc);
     Command::new(alloc, "format")
         .about("Writes a new, empty image into FILE")
         .after_help(
@@ -112,7 +113,8 @@ fn format_command<'a>(alloc: Global) -> Result<Command<'a>, AllocError>
         .arg(file_argument(alloc))?
         .arg(slots)?
         .arg(places)?
-        .arg(window)
+        .arg(window)?
+        .arg(wide)
 }
 
 fn run_command<'a>(alloc: Global) -> Result<Command<'a>, AllocError>
@@ -203,6 +205,16 @@ fn name_argument<'a>(alloc: Global, id: &'a str, help: &'a str) -> Arg<'a>
         .required(true)
         .action(ArgAction::Set)
         .help(help)
+}
+
+fn wide_option<'a>(alloc: Global) -> Arg<'a>
+    ensures rule { rule_of result ≡ flag_rule (codes "wide") }
+    ensures global { result.global ≡ false }
+{
+    Arg::new(alloc, "wide")
+        .long("wide")
+        .action(ArgAction::SetTrue)
+        .help("Slots of two lines, for rows of up to 96 bytes instead of 32")
 }
 
 fn number_option<'a>(

@@ -84,7 +84,7 @@ Tells old new number = Appends old new (text_of (printed.NotACommand number) ++ 
 -- the line of this number is to blame: of a run, one of the input, which ends it; of lives, one of the script, and then nothing
 -- is printed before. This is printed at the end
 abbrev pub EndsAtLine : Order → List ℕ → Option Text → Option Text → Option Text → ℕ → Text → Type 0
-EndsAtLine (Format name slots places window) file input old new number ended = ⊥
+EndsAtLine (Format name wide slots places window) file input old new number ended = ⊥
 EndsAtLine (Run name) file input old new number ended = EndsAtBadLine file input old new number ended
 EndsAtLine (Check name) file input old new number ended = ⊥
 EndsAtLine (Threads name sessions commits) file input old new number ended = ⊥

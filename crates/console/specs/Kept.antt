@@ -1,7 +1,7 @@
 -- What FILE keeps of the history that its image stands for.
 use Rattle.std.specs.Prelude.{◌≡◌, ℕ, ◌++◌, List, None, Bool, true, false, ⊤}
 use Rattle.base.specs.Commits.{Commit}
-use Rattle.base.specs.Layout.{Layout, layout_with, plain_version, opened_layout}
+use Rattle.base.specs.Layout.{Layout, opened_layout}
 use Rattle.base.specs.Images.{Image, layout_of}
 use Rattle.base.specs.Stands.{Stands}
 use Rattle.base.specs.Machine.{State, StandsClosed, closing_fault}
@@ -11,6 +11,7 @@ use Rattle.base.specs.Fresh.{fresh_image}
 use Rattle.room.specs.Room.{Shows}
 use Rattle.room.specs.declared.room.Room.{Room}
 use Rattle.command_line.specs.ImageFile.{HoldsWords, IsFileOf}
+use Rattle.command_line.specs.Words.{asked_layout}
 use Rattle.command_line.specs.declared.orders.Order.{Order}
 use Rattle.command_line.specs.declared.orders.Order.TheVariants.{Format, Run, Check, Threads, Lives}
 
@@ -49,7 +50,7 @@ pub record KeepsHistories (before after : List ℕ) : Type 0 where
 
 -- what a subcommand leaves in FILE: of a format the fresh image, of a run and of threads what keeps the histories
 abbrev pub Leaves : Order → List ℕ → List ℕ → Type 0
-Leaves (Format name slots places window) before after = IsFileOf (fresh_image (layout_with plain_version slots places window)) after
+Leaves (Format name wide slots places window) before after = IsFileOf (fresh_image (asked_layout wide slots places window)) after
 Leaves (Run name) before after = KeepsHistories before after
 Leaves (Check name) before after = ⊥
 Leaves (Threads name sessions commits) before after = ∥ KeepsHistories before after ∥₁
@@ -57,7 +58,7 @@ Leaves (Lives name) before after = ⊥
 
 -- a subcommand that ends well writes FILE, but for a check and for lives
 abbrev pub writes_file : Order → Bool
-writes_file (Format name slots places window) = true
+writes_file (Format name wide slots places window) = true
 writes_file (Run name) = true
 writes_file (Check name) = false
 writes_file (Threads name sessions commits) = true
@@ -65,7 +66,7 @@ writes_file (Lives name) = false
 
 -- where the order is a check, this
 abbrev pub IfCheck : Order → Type 0 → Type 0
-IfCheck (Format name slots places window) P = ⊤
+IfCheck (Format name wide slots places window) P = ⊤
 IfCheck (Run name) P = ⊤
 IfCheck (Check name) P = P
 IfCheck (Threads name sessions commits) P = ⊤
@@ -73,7 +74,7 @@ IfCheck (Lives name) P = ⊤
 
 -- where the order is lives, this
 abbrev pub IfLives : Order → Type 0 → Type 0
-IfLives (Format name slots places window) P = ⊤
+IfLives (Format name wide slots places window) P = ⊤
 IfLives (Run name) P = ⊤
 IfLives (Check name) P = ⊤
 IfLives (Threads name sessions commits) P = ⊤

@@ -57,11 +57,12 @@ abbrev pub Collects : State → ℕ → Reply → State → Type 0
 Collects q visits answer q' =
     (more : ℕ) × Ticks step.Collect is_answered more q answer q' × (more ≤ visits - 1) × ((more ≡ visits - 1) ⊎ (is_answered answer ≡ false))
 
--- `put`: a row that is too long is refused before anything else is
+-- `put`: a row that is too long for any slot is refused before anything else is. One that is too long for the slots of this image
+-- is refused by the step
 abbrev pub Puts : State → ℕ → Key → List ℕ → Reply → State → Type 0
 Puts q session key row answer q' =
-    ((length row ≤ 32) × Stepped q (step.Put session key row) answer q')
-    ⊎ ((32 < length row) × (answer ≡ reply.Refused TooLong) × (q' ≡ q))
+    ((length row ≤ 96) × Stepped q (step.Put session key row) answer q')
+    ⊎ ((96 < length row) × (answer ≡ reply.Refused TooLong) × (q' ≡ q))
 
 -- what a command that isn't a crash answers, and the state then
 abbrev pub Answers : State → Command → Reply → State → Type 0

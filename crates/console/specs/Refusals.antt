@@ -1,17 +1,18 @@
 -- Why a subcommand is refused, and what is printed then.
-use Rattle.std.specs.Prelude.{◌≡◌, ◌⊎◌, ℕ, List, [], ◌∷◌, ◌++◌, length, true, false, Option, Some, None, ⊤}
+use Rattle.std.specs.Prelude.{◌≡◌, ◌⊎◌, ℕ, List, [], ◌∷◌, ◌++◌, length, Bool, true, false, Option, Some, None, ⊤}
 use Rattle.std.specs.Io.KnownBytes.{Appends}
 use Rattle.base.specs.declared.fault.Fault.{Fault}
 use Rattle.base.specs.declared.fault.Fault.TheVariants.{BadGeometry, OutOfMemory}
 use Rattle.base.specs.Commits.{Commit}
 use Rattle.base.specs.Images.{Image, damage, opening_fault}
-use Rattle.base.specs.Layout.{is_in_limits, layout_with, plain_version}
+use Rattle.base.specs.Layout.{is_in_limits}
 use Rattle.base.specs.Machine.{State, closing_fault}
 use Rattle.base.specs.Stands.{Stands}
 use Rattle.command_line.specs.ImageFile.{HoldsWords, is_image_length}
 use Rattle.command_line.specs.Numbers.{Text}
 use Rattle.command_line.specs.Scripts.{HasBadGeometry}
 use Rattle.command_line.specs.Texts.{refused_text}
+use Rattle.command_line.specs.Words.{asked_layout}
 use Rattle.command_line.specs.declared.orders.Order.{Order}
 use Rattle.command_line.specs.declared.orders.Order.TheVariants.{Format, Run, Check, Threads, Lives}
 use Rattle.console.specs.Input.{Reads}
@@ -30,8 +31,8 @@ refusal_line fault = refused_text fault ++ 10 ∷ []
 -- memory and there is none, and then that is the fault
 
 -- the numbers of a format are out of their limits
-abbrev pub IsFormatFault : ℕ → ℕ → ℕ → Fault → Type 0
-IsFormatFault slots places window fault = (is_in_limits (layout_with plain_version slots places window) ≡ false) × (fault ≡ BadGeometry)
+abbrev pub IsFormatFault : Bool → ℕ → ℕ → ℕ → Fault → Type 0
+IsFormatFault wide slots places window fault = (is_in_limits (asked_layout wide slots places window) ≡ false) × (fault ≡ BadGeometry)
 
 -- the file has the words of an image with this fault
 pub record HasFault (file : List ℕ) (Is : Image → Fault → Type 0) (fault : Fault) : Type 0 where
@@ -71,7 +72,7 @@ pub record EndsAtClose (file : List ℕ) (input old new : Option Text) (fault : 
 
 -- the subcommand has this fault, and no more is printed than it prints before, and this at the end
 abbrev pub EndsRefused : Order → List ℕ → Option Text → Option Text → Option Text → Fault → Text → Type 0
-EndsRefused (Format name slots places window) file input old new fault ended = IsFormatFault slots places window fault × Appends old new ended
+EndsRefused (Format name wide slots places window) file input old new fault ended = IsFormatFault wide slots places window fault × Appends old new ended
 EndsRefused (Run name) file input old new fault ended =
     (IsFileFault file IsOpeningFault fault × Appends old new ended) ⊎ EndsAtClose file input old new fault ended
 EndsRefused (Check name) file input old new fault ended = IsFileFault file IsDamage fault × Appends old new ended

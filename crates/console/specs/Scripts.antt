@@ -38,12 +38,12 @@ stop_of script.OutOfMemory = Refused OutOfMemory
 
 -- ---- what is asked
 
--- the step of a command that has one. A row that is too long has none, and is refused before anything else is
+-- the step of a command that has one. A row that is too long for any slot has none, and is refused before anything else is
 abbrev pub step_of : Command → Option Step
 step_of Begin = Some step.Begin
 step_of (Get n key) = Some (step.Get n key)
 step_of (Scan n table lo hi) = Some (step.Scan n table lo hi)
-step_of (Put n key row) = if nat_le (length row) 32 then Some (step.Put n key row) else None
+step_of (Put n key row) = if nat_le (length row) 96 then Some (step.Put n key row) else None
 step_of (Delete n key) = Some (step.Delete n key)
 step_of (Draw n) = Some (step.Draw n)
 step_of (Stamp n) = Some (step.Stamp n)

@@ -20,7 +20,7 @@ use crate::stop::Stop;
 use crate::threads::run_threads;
 use base::fault::Fault;
 use base::geometry::Geometry;
-use command_line::orders::Order;
+use command_line::orders::{Order, asked_geometry};
 use command_line::printed::{Printed, print};
 use std::alloc::Global;
 use std::io::{ErrorKind, Read, Write};
@@ -81,12 +81,13 @@ fn obey<T: Threads + Wait + Copy + Drop + Send + Sync + 'static, R: Read, W: Wri
 {
     match *order {
         Order::Format {
+            wide,
             slots,
             places,
             window,
             ..
         } => {
-            let geometry = match Geometry::new(slots, places, window) {
+            let geometry = match asked_geometry(wide, slots, places, window) {
                 Ok(geometry) => geometry,
                 Err(fault) => return Err(Stop::Refused(fault)),
             };

@@ -21,6 +21,8 @@ mod fixture;
 #[cfg(test)]
 mod formats;
 #[cfg(test)]
+mod loads;
+#[cfg(test)]
 mod memory;
 #[cfg(test)]
 mod numbers;
@@ -32,3 +34,5 @@ mod stories;
 mod texts;
 #[cfg(test)]
 mod walks;
+#[cfg(test)]
+mod widths;

@@ -4,7 +4,7 @@ use base::row::Row;
 use base::step::Step;
 use std::alloc::Global;
 
-/// What is asked of a room: all keys are of table 1, and each row is one byte.
+/// What is asked of a room: all keys are of table 1, and each row is one byte, or 96 alike.
 #[derive(Clone, Copy, Debug)]
 pub enum Ask {
     Begin,
@@ -12,6 +12,7 @@ pub enum Ask {
     /// All keys.
     Scan(u8),
     Put(u8, u64, u8),
+    PutWide(u8, u64, u8),
     Delete(u8, u64),
     Draw(u8),
     Stamp(u8),
@@ -70,6 +71,11 @@ pub fn step_of(ask: Ask) -> Result<Step, Fault> {
             session,
             key: Key { table, key },
             row: Row::new(&[byte])?,
+        },
+        Ask::PutWide(session, key, byte) => Step::Put {
+            session,
+            key: Key { table, key },
+            row: Row::new(&[byte; 96])?,
         },
         Ask::Delete(session, key) => Step::Delete {
             session,

@@ -131,6 +131,37 @@ const OF_LONG_COMMITS: &[(Changes, Answer)] = &[
     (&[(1, 1)], Damaged(1)),
 ];
 
+// Table 1, key 7 has a row of 96 bytes in the first of 4 slots of two lines, of the first commit.
+const WIDE_COMMIT: Changes = &[
+    (41, 1),
+    (42, 2),
+    (72, 1),
+    (74, 7),
+    (75, 6_291_457),
+    (76, 25_185),
+    (79, 25_185),
+    (80, 25_185),
+    (87, 25_185),
+];
+
+// Changes of that image: rows of 97, 90 and 40 bytes with and without bytes after them, unused bits, links to the fifth
+// slot and the fourth, a begin of a slot at the dirty timestamp, an end, and a second version of the key.
+const OF_WIDE_COMMIT: &[(Changes, Answer)] = &[
+    (&[], Rows(1)),
+    (&[(87, 0)], Rows(1)),
+    (&[(75, 6_356_993)], Damaged(2)),
+    (&[(75, 5_898_241)], Rows(1)),
+    (&[(75, 5_898_241), (87, 65_536)], Damaged(2)),
+    (&[(75, 2_621_441)], Damaged(2)),
+    (&[(75, 2_621_441), (87, 0)], Rows(1)),
+    (&[(75, 23_068_673)], Damaged(2)),
+    (&[(75, 21_481_127_937)], Damaged(2)),
+    (&[(75, 17_186_160_641)], Rows(1)),
+    (&[(73, 1)], Rows(0)),
+    (&[(88, 2)], Damaged(3)),
+    (&[(88, 1), (90, 7), (91, 131_073), (92, 25_185)], Damaged(3)),
+];
+
 // An update of key 7, or its first row.
 const A_COMMIT: &[Ask] = &[
     Begin,
@@ -156,21 +187,24 @@ pub fn change_each<R: Threads + Sync>(
     alloc: Global,
     counts: &mut Counts,
 ) -> Result<(), Fault> {
-    change_table(rt, alloc, &[], OF_FRESH, counts)?;
-    change_table(rt, alloc, FIRST_COMMIT, OF_FIRST_COMMIT, counts)?;
-    change_table(rt, alloc, LONG_COMMITS, OF_LONG_COMMITS, counts)
+    change_table(rt, alloc, (2, &[]), OF_FRESH, counts)?;
+    change_table(rt, alloc, (2, FIRST_COMMIT), OF_FIRST_COMMIT, counts)?;
+    change_table(rt, alloc, (2, LONG_COMMITS), OF_LONG_COMMITS, counts)?;
+    change_table(rt, alloc, (3, WIDE_COMMIT), OF_WIDE_COMMIT, counts)
 }
 
+// Each change of a table, on a fresh image of this version with these words.
 fn change_table<R: Threads + Sync>(
     rt: &R,
     alloc: Global,
-    before: Changes,
+    before: (u64, Changes),
     table: &[(Changes, Answer)],
     counts: &mut Counts,
 ) -> Result<(), Fault> {
+    let (version, first) = before;
     for (changes, answer) in table {
-        let mut words = formatted(alloc, 4)?;
-        change(&mut words, before);
+        let mut words = formatted(alloc, version, 4)?;
+        change(&mut words, first);
         change(&mut words, changes);
         let found = found_in(rt, alloc, &words);
         counts.images = counts.images.saturating_add(1);
@@ -206,7 +240,7 @@ pub fn cut_each<R: Threads + Sync>(
     alloc: Global,
     counts: &mut Counts,
 ) -> Result<(), Fault> {
-    let words = formatted(alloc, 4)?;
+    let words = formatted(alloc, 2, 4)?;
     for length in 0..104 {
         let fault = if length < 8 {
             Fault::NotFormatted
@@ -345,7 +379,7 @@ fn has_commit(rows: &[(Key, Row)]) -> bool {
 
 /// The words of the fresh image, with the first commit where that is asked.
 pub fn sound_words(alloc: Global, commits: bool) -> Result<Vec<u64>, Fault> {
-    let mut words = formatted(alloc, 4)?;
+    let mut words = formatted(alloc, 2, 4)?;
     if commits {
         change(&mut words, FIRST_COMMIT);
     }

@@ -109,9 +109,15 @@ fn is_one_of(rows: &[(Key, Row)], tables: &[Table]) -> bool {
 
 fn is_table(rows: &[(Key, Row)], table: Table) -> bool {
     for ((key, row), (number, byte)) in rows.iter().zip(table.iter()) {
-        if key.table != 1 || key.key != *number || row.as_bytes() != [*byte].as_slice() {
+        if key.table != 1 || key.key != *number || !is_row(row, *byte) {
             return false;
         }
     }
     rows.len() == table.len()
+}
+
+// Is it one such byte, or 96 of them?
+fn is_row(row: &Row, byte: u8) -> bool {
+    let bytes = row.as_bytes();
+    bytes == [byte].as_slice() || bytes == [byte; 96].as_slice()
 }

@@ -122,9 +122,9 @@ fn closed(room: Room<SimPmem>, acknowledged: usize) -> Left {
     }
 }
 
-/// The words of a fresh device with so many slots, 2 places and a window of 8.
-pub fn formatted(alloc: Global, slots: u64) -> Result<Vec<u64>, Fault> {
-    fresh_words(alloc, Geometry::new(slots, 2, 8)?)
+/// The words of a fresh device of this version with so many slots, 2 places and a window of 8.
+pub fn formatted(alloc: Global, version: u64, slots: u64) -> Result<Vec<u64>, Fault> {
+    fresh_words(alloc, Geometry::of_version(version, slots, 2, 8)?)
 }
 
 /// The words of a fresh device of this geometry.
@@ -145,7 +145,8 @@ pub fn words_before<R: Threads + Sync>(
     alloc: Global,
     story: &Story,
 ) -> Result<Vec<u64>, Fault> {
-    let mut words = formatted(alloc, story.slots)?;
+    let version = story.version.max(Geometry::PLAIN_VERSION);
+    let mut words = formatted(alloc, version, story.slots)?;
     for (asks, newest) in story.before {
         words = words_after(rt, alloc, &words, asks, *newest)?;
     }

@@ -36,7 +36,7 @@ pub fn fill_at_random<R: Threads + Sync>(
 }
 
 fn filled(alloc: Global, chance: &mut Pcg32) -> Result<Vec<u64>, Fault> {
-    let mut words = formatted(alloc, SLOTS)?;
+    let mut words = formatted(alloc, 2, SLOTS)?;
     set(&mut words, PERSISTED, 1 << 60);
     set(&mut words, DIRTY, 1 << 61);
     for slot in 0..SLOTS as usize {

@@ -1,7 +1,7 @@
 use crate::asks::Ask;
-use crate::asks::Ask::{Begin, Collect, Commit, Delete, Draw, Poll, Put, Stamp};
+use crate::asks::Ask::{Begin, Collect, Commit, Delete, Draw, Poll, Put, PutWide, Stamp};
 
-/// The keys of table 1 that have a row, by rising key, and the one byte of each row.
+/// The keys of table 1 that have a row, by rising key, and the byte of each row, once or 96 times.
 pub type Table = &'static [(u64, u8)];
 
 /// A life that may stop anywhere, on a device of a window of 8 and 2 places, and the lives before it. Each of those ends in
@@ -64,6 +64,16 @@ const THREE_DRAWN: &[Ask] = &[
     Draw(2),
     Draw(4),
     Stamp(2),
+];
+
+// Key 7 has a row of 96 bytes.
+const WIDE_ROW: &[Ask] = &[
+    Begin,
+    PutWide(2, 7, 1),
+    Draw(2),
+    Stamp(2),
+    Commit(43),
+    Poll(2),
 ];
 
 // Nine lives, of which each covers a key and leaves a gap, and the last loses an update.
@@ -282,5 +292,38 @@ pub const STORIES: &[Story] = &[
             (146, 1, 2),
             (147, 2, 2),
         ],
+    },
+    // A slot of two lines takes a put of 18 operations, and the cycle is of two lines.
+    Story {
+        name: "wide row",
+        slots: 4,
+        before: &[],
+        asks: WIDE_ROW,
+        version: 3,
+        closes: false,
+        opening: 39,
+        operations: 100,
+        tables: &[&[], &[(7, 1)]],
+        ruled: &[(97, 0, 0), (99, 0, 1), (100, 1, 1)],
+    },
+    // The ended version touches its first line alone, so the cycle is of three.
+    Story {
+        name: "wide row that is updated",
+        slots: 4,
+        before: &[(WIDE_ROW, false)],
+        asks: &[
+            Begin,
+            PutWide(2, 7, 2),
+            Draw(2),
+            Stamp(2),
+            Commit(44),
+            Poll(2),
+        ],
+        version: 3,
+        closes: false,
+        opening: 39,
+        operations: 102,
+        tables: &[&[(7, 1)], &[(7, 2)]],
+        ruled: &[(99, 0, 0), (101, 0, 1), (102, 1, 1)],
     },
 ];

@@ -1,30 +1,24 @@
 -- What a slot of a device holds in its image.
-use Rattle.std.proofs.Common.{◌≡◌, ◌⊎◌, inl, inr, ℕ, ◌+◌, ◌*◌, ◌^◌, ◌<◌, ◌≤◌, true, false, length, get_or, refl, sym, ◌∙◌, ap, subst, arith, lit<}
+use Rattle.std.proofs.Common.{◌≡◌, ◌⊎◌, inl, inr, ℕ, ◌+◌, ◌*◌, ◌^◌, ◌<◌, ◌≤◌, false, length, get_or, refl, sym, ◌∙◌, ap, subst, arith, lit<}
 use Rattle.std.proofs.Math.Nat.{mul-le-mul_left}
 use Rattle.std.proofs.lemmas.Bool.{cases_lt}
 use Rattle.std.proofs.lemmas.List.{get_or_past}
 use Rattle.std.proofs.lemmas.List.FromFn.{length-map-range_with_len, get_or-map-range_with_len}
-use Rattle.base.specs.Layout.{Layout, IsOneLine, is_in_limits, slot_start, slot_words, total_words}
+use Rattle.base.specs.Layout.{Layout, slot_start, slot_words, total_words}
 use Rattle.base.specs.Images.{layout_of, slot_word, begin_of, end_of, is_misfit}
+use Rattle.base.proofs.Layouts.{line-words}
 use Rattle.pmem.specs.Device.{Device, IsOrderly}
 use Rattle.pmem.specs.Words.{value_of, image_of}
 use Rattle.version_slot.specs.declared.words.Slot.{Slot}
 use Rattle.version_slot.specs.Words.{Fits, IsVersion, IsSlot, slot_at}
-use Rattle.version_slot.proofs.Decoding.{limits}
 use Rattle.version_slot.proofs.ImageSlots.{version_of, holds_version, well_formed, key_is, row_is_of, link_of_is}
 use Rattle.index.proofs.Ways.{HoldsAs}
 
 -- ---- the words of a slot, on a device and in its image
 
-module _ (device : Device) (a : Layout) (slot : ℕ) (size : device.words ≡ total_words a) (limited : is_in_limits a ≡ true) (h : slot < a.slots) (laid : layout_of (image_of device) ≡ a) where
-  one : IsOneLine a.version
-  one = (limits a limited).0
-
-  eight : slot_words a.version ≡ 8
-  eight = one.words
-
-  eight-image : slot_words (layout_of (image_of device)).version ≡ 8
-  eight-image = ap (λ (l : Layout). slot_words l.version) laid ∙ eight
+module _ (device : Device) (a : Layout) (slot : ℕ) (size : device.words ≡ total_words a) (h : slot < a.slots) (laid : layout_of (image_of device) ≡ a) where
+  same-width : slot_words (layout_of (image_of device)).version ≡ slot_words a.version
+  same-width = ap (λ (l : Layout). slot_words l.version) laid
 
   length-image : length (image_of device) ≡ device.words
   length-image = length-map-range_with_len (value_of device) 0 device.words
@@ -32,12 +26,12 @@ module _ (device : Device) (a : Layout) (slot : ℕ) (size : device.words ≡ to
   word-at : (word : ℕ) → word < device.words → get_or (image_of device) word 0 ≡ value_of device word
   word-at word lt = get_or-map-range_with_len (value_of device) 0 device.words word word 0 lt (omega arith)
 
-  in-slot : (w : ℕ) → w < 8 → slot_start a slot + w < device.words
+  in-slot : (w : ℕ) → w < slot_words a.version → slot_start a slot + w < device.words
   in-slot w lt =
       let product : slot_words a.version * (slot + 1) ≤ slot_words a.version * a.slots = mul-le-mul_left {m = slot + 1} {n = a.slots} (slot_words a.version) (omega arith) in
-      omega (arith, size, product, eight, lt)
+      omega (arith, size, product, lt)
 
-  word-same : (w : ℕ) → w < 8 → slot_word (image_of device) slot w ≡ slot_at a slot (value_of device) w
+  word-same : (w : ℕ) → w < slot_words a.version → slot_word (image_of device) slot w ≡ slot_at a slot (value_of device) w
   word-same w lt = ap (λ (l : Layout). get_or (image_of device) (slot_start l slot + w) 0) laid ∙ word-at (slot_start a slot + w) (in-slot w lt)
 
   within : slot < (layout_of (image_of device)).slots
@@ -49,8 +43,8 @@ module _ (device : Device) (a : Layout) (slot : ℕ) (size : device.words ≡ to
   held : (s : Slot) → IsSlot a (slot_at a slot (value_of device)) s → IsVersion (layout_of (image_of device)) (slot_word (image_of device) slot) s.version
   held s is = record {
     each = λ w low high.
-        let lt : w < 8 = omega (arith, high, eight-image) in
-        word-same w lt ∙ is.version.each w low (omega (arith, lt, eight));
+        let lt : w < slot_words a.version = omega (arith, high, same-width) in
+        word-same w lt ∙ is.version.each w low lt;
     fits = subst (λ (l : Layout). Fits l s.version) (sym laid) is.version.fits;
   }
 
@@ -65,24 +59,22 @@ module _ (device : Device) (a : Layout) (slot : ℕ) (size : device.words ≡ to
   pub no-slot : IsOrderly device → ((s : Slot) → IsSlot a (slot_at a slot (value_of device)) s → ⊥) → is_misfit (image_of device) slot ≡ false → ⊥
   no-slot orderly none fits =
       let image = image_of device in
-      let version = holds_version image slot within whole (subst (λ (l : Layout). IsOneLine l.version) (sym laid) one) (fits-words orderly) fits in
+      let version = holds_version image slot within whole (fits-words orderly) fits in
       none (record { begin = slot_at a slot (value_of device) 0; end = slot_at a slot (value_of device) 1; version = version_of image slot })
       (record {
         begin = refl;
         end = refl;
         version = record {
-          each = λ w low high.
-              let lt : w < 8 = omega (arith, high, eight) in
-              sym (word-same w lt) ∙ version.each w low (omega (arith, lt, eight-image));
+          each = λ w low high. sym (word-same w high) ∙ version.each w low (omega (arith, high, same-width));
           fits = subst (λ (l : Layout). Fits l (version_of image slot)) laid version.fits;
         };
       })
 
   pub begin-same : begin_of (image_of device) slot ≡ slot_at a slot (value_of device) 0
-  begin-same = word-same 0 (lit< tt)
+  begin-same = word-same 0 (omega (arith, line-words a.version))
 
   pub end-same : end_of (image_of device) slot ≡ slot_at a slot (value_of device) 1
-  end-same = word-same 1 (lit< tt)
+  end-same = word-same 1 (omega (arith, line-words a.version))
 
   -- what is read of it
   pub holds-as : (s : Slot) → IsSlot a (slot_at a slot (value_of device)) s → HoldsAs (image_of device) slot s

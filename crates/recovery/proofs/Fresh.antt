@@ -1,10 +1,11 @@
 -- What the stages of a format make of a device.
 use Rattle.std.proofs.Common.{◌≡◌, ◌≢◌, ◌⊎◌, inl, inr, ℕ, zero, suc, ◌+◌, ◌-◌, ◌*◌, ◌/◌, ◌%◌, ◌<◌, ◌≤◌, true, false, ◌&&◌, List, length, get_or, refl, sym, ◌∙◌, ap, subst, arith, nat_le, nat_eq}
 use Rattle.std.proofs.Math.Nat.{mod-eq_of_lt}
-use Rattle.std.proofs.lemmas.Bool.{and_parts, and_right, cases_lt}
+use Rattle.std.proofs.lemmas.Bool.{and_right, cases_lt}
 use Rattle.std.proofs.lemmas.List.{ext_get_or}
 use Rattle.std.proofs.lemmas.List.FromFn.{length-map-range_with_len, get_or-map-range_with_len}
-use Rattle.base.specs.Layout.{Layout, slot_words, total_words, is_in_limits, is_known_version}
+use Rattle.base.specs.Layout.{Layout, total_words, is_in_limits}
+use Rattle.base.specs.Machine.{version_lines}
 use Rattle.base.specs.Records.{record_word}
 use Rattle.base.specs.Images.{Image, is_formatted, superblock_word}
 use Rattle.pmem.specs.Device.{Device}
@@ -18,7 +19,7 @@ use Rattle.pmem.proofs.Changes.{settled_at-shrinks}
 use Rattle.base.specs.Fresh.{superblock_words, first_record, fresh_word, fresh_image}
 use Rattle.base.proofs.Fresh.{low-word, inside-word, outside-word}
 use Rattle.recovery.specs.Fresh.{IsFormatting}
-use Rattle.base.proofs.Layouts.{one-line}
+use Rattle.base.proofs.Layouts.{lines-words}
 
 -- ---- images
 
@@ -116,8 +117,7 @@ module _ (layout : Layout) (limits : is_in_limits layout ≡ true) where
 
       pub enough1 : (8 ≤ d1.words) × (d1.words ≡ 8 * (d1.words / 8))
       enough1 =
-          let wide : slot_words layout.version ≡ 8 = (one-line layout.version (and_parts (is_known_version layout.version) _ limits).0).words in
-          let total : total_words layout ≡ 8 * (1 + 4 * layout.places + layout.slots) = ap (λ (n : ℕ). 8 + 32 * layout.places + n * layout.slots) wide ∙ omega arith in
+          let total : total_words layout ≡ 8 * (1 + 4 * layout.places + version_lines layout * layout.slots) = ap (λ (n : ℕ). 8 + 32 * layout.places + n * layout.slots) (lines-words layout) ∙ omega arith in
           (omega (arith, size1, log_within layout), omega (arith, size1, total))
 
       module _ (d2 : Device) (s2 : Spares (λ w. w < 8) d1 d2) where

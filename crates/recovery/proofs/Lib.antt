@@ -4,6 +4,9 @@ pub mod Ruled
 pub mod Opens
 pub mod Keeping
 pub mod Visits
+pub mod Readings
+pub mod Hits
+pub mod Unhit
 pub mod Beginning
 pub mod Lives
 pub mod Updates

@@ -10,7 +10,7 @@ use Rattle.base.specs.declared.fault.Fault.{Fault}
 use Rattle.base.specs.declared.fault.Fault.TheVariants.{TimestampsOut, OutOfMemory, Device as DeviceFault}
 use Rattle.base.specs.Search.{some_if}
 use Rattle.base.specs.Commits.{Commit}
-use Rattle.base.specs.Layout.{Layout, slot_words, total_words, is_known_version, is_in_limits, is_between}
+use Rattle.base.specs.Layout.{Layout, total_words, is_known_version, is_in_limits, is_between}
 use Rattle.base.specs.Records.{Record, opened_gaps}
 use Rattle.base.specs.Images.{Image, IsSound, damage, layout_of, ruling, is_shown, opening_fault, is_near_limit, needs_sweep, IsRuledBy, log_damage}
 use Rattle.base.specs.Stands.{Stands}
@@ -37,7 +37,6 @@ use Rattle.recovery.specs.Live.{live_below}
 use Rattle.recovery.specs.Sweeping.{IsSwept, is_hit}
 use Rattle.recovery.specs.Opened.{HasSlotsOf, Refuses, IsExamined, Examined, HasOpenedToday, IsCutBefore, IsCutShort, IsRefusal, sweep_operations, total}
 use Rattle.recovery.specs.declared.rows.LiveSlot.{LiveSlot}
-use Rattle.base.proofs.Layouts.{one-line}
 use Rattle.base.proofs.WellFormed.{WellFormed, well_formed-parts}
 use Rattle.recovery.proofs.Opens.{stands-opening, or-none, record_after}
 use Rattle.recovery.proofs.Ruled.{images-sweeping, ruled-swept}
@@ -86,12 +85,6 @@ module _ (layout : Layout) (r : Record) (image : Image) (rules : IsRuledBy layou
   layout-good : is_in_limits layout ≡ true
   layout-good = laid_limits layout image (laid layout r image rules)
 
-  known : is_known_version layout.version ≡ true
-  known = (and_parts (is_known_version layout.version) _ layout-good).0
-
-  pub wide-new : slot_words layout.version ≡ 8
-  wide-new = (one-line layout.version known).words
-
   pub may-rule : MayRule r
   may-rule = (layout.version, (fits_image layout r image rules).well_formed)
 
@@ -100,7 +93,7 @@ module _ (layout : Layout) (r : Record) (image : Image) (rules : IsRuledBy layou
 
   pub under : IsUnder layout r image
   unfolding IsUnder
-  under = (rules.laid_out, rules.by_record, one-line layout.version known)
+  under = (rules.laid_out, rules.by_record)
 
   pub window-small : layout.window ≤ 1024
   window-small =

@@ -1,12 +1,14 @@
 -- What a sweep makes of a device, slot by slot.
 use Rattle.std.proofs.Common.{◌≡◌, ◌≢◌, ◌⊎◌, inl, inr, ℕ, zero, suc, ◌+◌, ◌-◌, ◌*◌, ◌/◌, ◌<◌, ◌≤◌, Bool, true, false, cond, ◌&&◌, ◌||◌, List, length, get_or, refl, sym, ◌∙◌, ap, subst, arith, add-one, true≢false}
+use Rattle.std.proofs.Math.Nat.{mul-le-mul_left}
 use Rattle.std.proofs.lemmas.Bool.{false≢true, and_parts, and_from, cases_lt, cases_eq, ltb-true}
 use Rattle.std.proofs.lemmas.List.{ext_get_or}
 use Rattle.std.proofs.lemmas.List.FromFn.{length-map-range_with_len, get_or-map-range_with_len}
 use Rattle.base.specs.Search.{count_below}
-use Rattle.base.specs.Layout.{Layout, slot_start, slot_words, total_words, is_in_limits, is_known_version}
+use Rattle.base.specs.Layout.{Layout, slot_start, slot_words, total_words}
 use Rattle.base.specs.Records.{Record, is_in, opened_gaps}
 use Rattle.base.specs.Images.{IsRuledBy}
+use Rattle.base.specs.Machine.{version_lines}
 use Rattle.base.specs.Openings.{is_mark, swept, lies_in_gap, words_swept, lines_swept}
 use Rattle.base.proofs.Sweeps.{mark-of, unmarked-low, swept-at, swept-size}
 use Rattle.pmem.specs.Device.{Device, Entry, IsOrderly, IsAmong, survivors_in, IsReadyIn, stored, flushed, fenced, failed}
@@ -17,7 +19,7 @@ use Rattle.pmem.proofs.Changes.{shrinks_refl, shrinks_trans, stored-shrinks, flu
 use Rattle.pmem.proofs.Counts.{makes_none, makes-fenced}
 use Rattle.pmem.proofs.Steps.{history-flushed_same, history-stored_other, survivors-stored_same}
 use Rattle.pmem.proofs.Words.{ready-marked}
-use Rattle.base.proofs.Layouts.{one-line}
+use Rattle.base.proofs.Layouts.{line-words, lines-words}
 use Rattle.recovery.specs.Opened.{sweep_operations}
 use Rattle.recovery.specs.Sweeping.{lies, IsZeroed, is_hit, IsSwept, zeroed, cleaned}
 
@@ -91,15 +93,12 @@ count-upto test n (suc m) le = elim (cases_eq n (suc m)) [
 
 -- ---- one slot
 
-pub wide-limits : (a : Layout) → is_in_limits a ≡ true → slot_words a.version ≡ 8
-wide-limits a limits = (one-line a.version (and_parts (is_known_version a.version) _ limits).0).words
-
-module _ (a : Layout) (r : Record) (slot : ℕ) (wide : slot_words a.version ≡ 8) where
+module _ (a : Layout) (r : Record) (slot : ℕ) where
   mark-first : is_mark a (slot_start a slot) ≡ true
-  mark-first = let at : slot_start a slot + 0 ≡ slot_start a slot = omega arith in sym (ap (is_mark a) at) ∙ mark-of a slot 0 (omega (arith, wide))
+  mark-first = let at : slot_start a slot + 0 ≡ slot_start a slot = omega arith in sym (ap (is_mark a) at) ∙ mark-of a slot 0 (omega (arith, line-words a.version))
 
   mark-second : is_mark a (slot_start a slot + 1) ≡ true
-  mark-second = mark-of a slot 1 (omega (arith, wide))
+  mark-second = mark-of a slot 1 (omega (arith, line-words a.version))
 
   pub from-first : (old : Device) (word x : ℕ) → IsZeroed r (slot_start a slot) old word x → IsSwept a r old word x
   from-first old word x is = record { hit = and_from _ _ (ap (is_mark a) is.there ∙ mark-first) is.lay; zero = is.zero }
@@ -143,10 +142,10 @@ pub record IsSweptUpTo (a : Layout) (r : Record) (start : Device) (n : ℕ) (now
 value-at : (device : Device) (word : ℕ) → word < device.words → get_or (image_of device) word 0 ≡ value_of device word
 value-at device word lt = get_or-map-range_with_len (value_of device) 0 device.words word word 0 lt (omega arith)
 
-next-start : (base width slot : ℕ) → width ≡ 8 → base + width * (slot + 1) ≡ base + width * slot + 8
-next-start base width slot wide = let product : width * (slot + 1) ≡ width * slot + width = omega arith in omega (arith, product, wide)
+next-start : (base width slot : ℕ) → base + width * (slot + 1) ≡ base + width * slot + width
+next-start base width slot = let product : width * (slot + 1) ≡ width * slot + width = omega arith in omega (arith, product)
 
-module _ (a : Layout) (r : Record) (start : Device) (wide : slot_words a.version ≡ 8) where
+module _ (a : Layout) (r : Record) (start : Device) where
   pub swept-none : IsOrderly start → IsSweptUpTo a r start 0 start
   swept-none orderly = record {
     kept = keeps_none start (OldOr start (IsSwept a r start)) orderly (λ word x there. inl there);
@@ -159,20 +158,17 @@ module _ (a : Layout) (r : Record) (start : Device) (wide : slot_words a.version
     abbrev first : ℕ
     first = slot_start a slot
 
-    next : slot_start a (slot + 1) ≡ first + 8
-    next = next-start (8 + 32 * a.places) (slot_words a.version) slot wide
+    next : slot_start a (slot + 1) ≡ first + slot_words a.version
+    next = next-start (8 + 32 * a.places) (slot_words a.version) slot
 
     inside : first + 8 ≤ start.words
-    inside = omega (arith, next, size, products)
+    inside = omega (arith, next, size, products, line-words a.version)
       where
         products : slot_start a (slot + 1) ≤ total_words a
-        products = upto (8 + 32 * a.places) (slot_words a.version) slot a.slots h wide
+        products = upto (8 + 32 * a.places) (slot_words a.version) slot a.slots h
           where
-            upto : (base width slot slots : ℕ) → slot < slots → width ≡ 8 → base + width * (slot + 1) ≤ base + width * slots
-            upto base width slot slots lt eight =
-                let x : width * (slot + 1) ≡ 8 * (slot + 1) = ap (λ (k : ℕ). k * (slot + 1)) eight in
-                let y : width * slots ≡ 8 * slots = ap (λ (k : ℕ). k * slots) eight in
-                omega (arith, lt, x, y)
+            upto : (base width slot slots : ℕ) → slot < slots → base + width * (slot + 1) ≤ base + width * slots
+            upto base width slot slots lt = omega (arith, mul-le-mul_left {m = slot + 1} {n = slots} width (omega (arith, lt)))
 
     gap-is : (w : ℕ) → w < 2 → lies_in_gap (image_of start) w slot ≡ lies r (value_of start (first + w))
     gap-is w two =
@@ -196,7 +192,7 @@ module _ (a : Layout) (r : Record) (start : Device) (wide : slot_words a.version
       begun-is = ap (lies r) (inv.others first (inl (omega arith))).value
 
       ended-is : ended ≡ lies r (value_of start (first + 1))
-      ended-is = ap (lies r) (second-value a r slot wide now ∙ (inv.others (first + 1) (inl (omega arith))).value)
+      ended-is = ap (lies r) (second-value a r slot now ∙ (inv.others (first + 1) (inl (omega arith))).value)
 
       abbrev new : Device
       new = cleaned r first now
@@ -212,10 +208,10 @@ module _ (a : Layout) (r : Record) (start : Device) (wide : slot_words a.version
       spared word one two = shrinks_trans (zeroed-shrinks r first now word one) (shrinks_trans (zeroed-shrinks r (first + 1) mid word two) (flush-shrinks word))
 
       hit-first : is_hit a r start first ≡ begun
-      hit-first = ap (λ (b : Bool). b && lies r (value_of start first)) (mark-first a r slot wide) ∙ sym begun-is
+      hit-first = ap (λ (b : Bool). b && lies r (value_of start first)) (mark-first a r slot) ∙ sym begun-is
 
       hit-second : is_hit a r start (first + 1) ≡ ended
-      hit-second = ap (λ (b : Bool). b && lies r (value_of start (first + 1))) (mark-second a r slot wide) ∙ sym ended-is
+      hit-second = ap (λ (b : Bool). b && lies r (value_of start (first + 1))) (mark-second a r slot) ∙ sym ended-is
 
       -- what was stored is flushed
       ready-at : (d : Device) (word : ℕ) → Survives d word 0 → word / 8 ≡ first / 8 → IsReady (flushed 0 (first / 8) d) 0 word
@@ -226,7 +222,7 @@ module _ (a : Layout) (r : Record) (start : Device) (wide : slot_words a.version
 
       start-line : (w : ℕ) → w < 8 → (first + w) / 8 ≡ first / 8
       start-line w lt =
-          let whole : first ≡ 8 * (1 + 4 * a.places + slot) = ap (λ (k : ℕ). 8 + 32 * a.places + k * slot) wide ∙ omega arith in
+          let whole : first ≡ 8 * (1 + 4 * a.places + version_lines a * slot) = ap (λ (k : ℕ). 8 + 32 * a.places + k * slot) (lines-words a) ∙ omega arith in
           omega (arith, whole, lt)
 
       after-flush : (b : Bool) (word : ℕ) → b ≡ true → value_of late word ≡ 0 → Survives late word 0 → word / 8 ≡ first / 8 → (value_of (cond b (flushed 0 (first / 8) late) late) word ≡ 0) × IsReady (cond b (flushed 0 (first / 8) late) late) 0 word
@@ -275,14 +271,14 @@ module _ (a : Layout) (r : Record) (start : Device) (wide : slot_words a.version
           there_late = subst (λ (d : Device). Survives d (first + 1) 0) (sym made-late) (stored-there mid (first + 1))
 
       -- a hit word of the slot is its begin or its end
-      which : (word : ℕ) → first ≤ word → word < first + 8 → is_hit a r start word ≡ true → (word ≡ first) ⊎ (word ≡ first + 1)
+      which : (word : ℕ) → first ≤ word → word < first + slot_words a.version → is_hit a r start word ≡ true → (word ≡ first) ⊎ (word ≡ first + 1)
       which word low high hit = by (cases_eq word first)
         where
           at : first + (word - first) ≡ word
           at = omega (arith, low)
 
           two : word - first < 2
-          two = ltb-true (word - first) 2 (sym (mark-of a slot (word - first) (omega (arith, low, high, wide))) ∙ ap (is_mark a) at ∙ (and_parts (is_mark a word) (lies r (value_of start word)) hit).0)
+          two = ltb-true (word - first) 2 (sym (mark-of a slot (word - first) (omega (arith, low, high))) ∙ ap (is_mark a) at ∙ (and_parts (is_mark a word) (lies r (value_of start word)) hit).0)
 
           by : (word ≡ first) ⊎ (word ≡ first → ⊥) → (word ≡ first) ⊎ (word ≡ first + 1)
           by (inl same) = inl same
@@ -299,13 +295,13 @@ module _ (a : Layout) (r : Record) (start : Device) (wide : slot_words a.version
       counted : (b : Bool) (test : ℕ → Bool) → test slot ≡ b → count_below (slot + 1) test ≡ count_below slot test + cond b 1 0
       counted b test e = ap (λ (n : ℕ). count_below n test) (add-one slot) ∙ ap (λ (b : Bool). count_below slot test + cond b 1 0) e
 
-      gap-first : lies_in_gap (image_of start) 0 slot ≡ begun
+      pub gap-first : lies_in_gap (image_of start) 0 slot ≡ begun
       gap-first = gap-is 0 (omega arith) ∙ ap (λ (k : ℕ). lies r (value_of start k)) (zero_more first) ∙ sym begun-is
         where
           zero_more : (k : ℕ) → k + 0 ≡ k
           zero_more k = omega arith
 
-      gap-second : lies_in_gap (image_of start) 1 slot ≡ ended
+      pub gap-second : lies_in_gap (image_of start) 1 slot ≡ ended
       gap-second = gap-is 1 (omega arith) ∙ sym ended-is
 
       counts-by : (b e : Bool) → begun ≡ b → ended ≡ e
@@ -353,7 +349,7 @@ module _ (a : Layout) (r : Record) (start : Device) (wide : slot_words a.version
         made = subst (λ (d : Device). Makes (count_below (slot + 1) (lies_in_gap (image_of start) 0) + count_below (slot + 1) (lies_in_gap (image_of start) 1)) (count_below (slot + 1) (λ s. lies_in_gap (image_of start) 0 s || lies_in_gap (image_of start) 1 s)) 0 0 start d) (sym is) made-cleaned;
       }
         where
-          done' : (word : ℕ) → word < first + 8 → is_hit a r start word ≡ true → (word < first) ⊎ (first ≤ word) → (value_of new word ≡ 0) × IsReady new 0 word
+          done' : (word : ℕ) → word < first + slot_words a.version → is_hit a r start word ≡ true → (word < first) ⊎ (first ≤ word) → (value_of new word ≡ 0) × IsReady new 0 word
           done' word lt hit (inl earlier) =
               let on = spared word (inl (λ e. omega (arith, e, earlier))) (inl (λ e. omega (arith, e, earlier))) in
               let was = inv.done word earlier hit in
@@ -364,7 +360,7 @@ module _ (a : Layout) (r : Record) (start : Device) (wide : slot_words a.version
           ]
 
           others' : (word : ℕ) → (slot_start a (slot + 1) ≤ word) ⊎ (is_hit a r start word ≡ false) → OnlyShrinks start new word
-          others' word (inl past) = shrinks_trans (inv.others word (inl (omega (arith, past, next)))) (spared word (inl (λ e. omega (arith, e, past, next))) (inl (λ e. omega (arith, e, past, next))))
+          others' word (inl past) = shrinks_trans (inv.others word (inl (omega (arith, past, next)))) (spared word (inl (λ e. omega (arith, e, past, next, line-words a.version))) (inl (λ e. omega (arith, e, past, next, line-words a.version))))
           others' word (inr none) = shrinks_trans (inv.others word (inr none)) (spared word (one (cases_eq word first)) (two (cases_eq word (first + 1))))
             where
               one : (word ≡ first) ⊎ (word ≡ first → ⊥) → (word ≢ first) ⊎ (begun ≡ false)

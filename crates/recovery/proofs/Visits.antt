@@ -1,6 +1,6 @@
 -- Visiting the slots one after another.
 use Rattle.std.proofs.Common.{◌≡◌, ◌⊎◌, inl, inr, ℕ, zero, suc, ◌+◌, ◌<◌, ◌≤◌, Bool, true, false, cond, not, ◌&&◌, ◌||◌, [], ◌∷◌, ◌++◌, refl, sym, ◌∙◌, ap, subst, arith, add-one, nat_eq, nat_le, ◌*◌, ◌^◌, length, get_or, lit<}
-use Rattle.std.specs.Prelude.{Option, Some, None, is_some, IsSome, IfSome, IfNone, List}
+use Rattle.std.specs.Prelude.{Option, Some, None, is_some, List}
 use Rattle.std.specs.Option.{option_or, option_map}
 use Rattle.std.specs.declared.cmp.Ordering.{Ordering}
 use Rattle.std.specs.declared.cmp.Ordering.TheVariants.{Less, Equal, Greater}
@@ -15,10 +15,11 @@ use Rattle.base.specs.declared.key.Key.{Key}
 use Rattle.base.specs.declared.fault.Fault.{Fault}
 use Rattle.base.specs.declared.fault.Fault.TheVariants.{Damaged, OutOfMemory}
 use Rattle.base.specs.Keys.{key_eq}
-use Rattle.base.specs.Layout.{Layout, IsOneLine, slot_start, slot_words, total_words}
+use Rattle.base.specs.Layout.{Layout, slot_start, slot_words, total_words}
 use Rattle.base.specs.Records.{Record, is_committed}
 use Rattle.base.specs.Search.{first_below}
 use Rattle.base.specs.Images.{Image, layout_of, ruling, slot_word, begin_of, end_of, key_of, row_of, is_ahead, is_shown, is_misfit, is_bad_slot, is_second}
+use Rattle.base.proofs.Layouts.{line-words}
 use Rattle.pmem.specs.Device.{Device, IsOrderly}
 use Rattle.pmem.specs.Words.{value_of, image_of}
 use Rattle.version_slot.specs.declared.words.Slot.{Slot}
@@ -50,30 +51,30 @@ pub found-free : (image : Image) (slot : ℕ) → Free ≡ found_in image slot �
 unfolding found_in is_free is_bad
 found-free image slot found = by (is_ahead (ruling image) image slot) (is_shown (ruling image) image slot) (is_misfit image slot) found
   where
-    by : (ahead shown ill : Bool) → Free ≡ cond ahead Bad (cond shown (cond ill Bad (Live (key_of image slot))) Free)
+    by : (ahead shown ill : Bool) → Free ≡ cond ahead Bad (cond shown (cond ill Bad (Live (key_of image slot) (row_of image slot))) Free)
         → (not shown ≡ true) × ((ahead || (shown && (ill || is_second (ruling image) image slot))) ≡ false)
     by true shown ill found = absurd (cc found)
     by false true true found = absurd (cc found)
     by false true false found = absurd (cc found)
     by false false ill found = (refl, refl)
 
-pub found-live : (image : Image) (slot : ℕ) (key : Key) → Live key ≡ found_in image slot
-    → (is_free image slot ≡ false) × (is_shown (ruling image) image slot ≡ true) × (key ≡ key_of image slot) × (is_bad image slot ≡ is_second (ruling image) image slot)
+pub found-live : (image : Image) (slot : ℕ) (key : Key) (row : List ℕ) → Live key row ≡ found_in image slot
+    → (is_free image slot ≡ false) × (is_shown (ruling image) image slot ≡ true) × (key ≡ key_of image slot) × (is_bad image slot ≡ is_second (ruling image) image slot) × (row ≡ row_of image slot)
 unfolding found_in is_free is_bad
-found-live image slot key found = by (is_ahead (ruling image) image slot) (is_shown (ruling image) image slot) (is_misfit image slot) found
+found-live image slot key row found = by (is_ahead (ruling image) image slot) (is_shown (ruling image) image slot) (is_misfit image slot) found
   where
-    by : (ahead shown ill : Bool) → Live key ≡ cond ahead Bad (cond shown (cond ill Bad (Live (key_of image slot))) Free)
-        → (not shown ≡ false) × (shown ≡ true) × (key ≡ key_of image slot) × ((ahead || (shown && (ill || is_second (ruling image) image slot))) ≡ is_second (ruling image) image slot)
+    by : (ahead shown ill : Bool) → Live key row ≡ cond ahead Bad (cond shown (cond ill Bad (Live (key_of image slot) (row_of image slot))) Free)
+        → (not shown ≡ false) × (shown ≡ true) × (key ≡ key_of image slot) × ((ahead || (shown && (ill || is_second (ruling image) image slot))) ≡ is_second (ruling image) image slot) × (row ≡ row_of image slot)
     by true shown ill found = absurd (cc found)
     by false true true found = absurd (cc found)
-    by false true false found = (refl, refl, cc found, refl)
+    by false true false found = (refl, refl, cc found, refl, cc found)
     by false false ill found = absurd (cc found)
 
 pub found-bad : (image : Image) (slot : ℕ) → Bad ≡ found_in image slot → is_bad image slot ≡ true
 unfolding found_in is_bad
 found-bad image slot found = by (is_ahead (ruling image) image slot) (is_shown (ruling image) image slot) (is_misfit image slot) found
   where
-    by : (ahead shown ill : Bool) → Bad ≡ cond ahead Bad (cond shown (cond ill Bad (Live (key_of image slot))) Free)
+    by : (ahead shown ill : Bool) → Bad ≡ cond ahead Bad (cond shown (cond ill Bad (Live (key_of image slot) (row_of image slot))) Free)
         → (ahead || (shown && (ill || is_second (ruling image) image slot))) ≡ true
     by true shown ill found = refl
     by false true true found = refl
@@ -174,10 +175,6 @@ module _ (device : Device) (layout : Layout) (r : Record) (slot : ℕ) (size : d
   unfolding IsUnder
   laid-out = under.0
 
-  one : IsOneLine layout.version
-  unfolding IsUnder
-  one = under.2
-
   ruled : ruling (image_of device) ≡ r
   unfolding IsUnder
   ruled = under.1
@@ -188,20 +185,23 @@ module _ (device : Device) (layout : Layout) (r : Record) (slot : ℕ) (size : d
   word-at : (word : ℕ) → word < device.words → get_or (image_of device) word 0 ≡ value_of device word
   word-at word lt = get_or-map-range_with_len (value_of device) 0 device.words word word 0 lt (omega arith)
 
-  in-slot : (w : ℕ) → w < 8 → slot_start layout slot + w < device.words
+  in-slot : (w : ℕ) → w < slot_words layout.version → slot_start layout slot + w < device.words
   in-slot w lt =
-      let wide : slot_words layout.version ≡ 8 = one.words in
       let product : slot_words layout.version * (slot + 1) ≤ slot_words layout.version * layout.slots = mul-le-mul_left {m = slot + 1} {n = layout.slots} (slot_words layout.version) (omega arith) in
-      omega (arith, size, product, wide, lt)
+      omega (arith, size, product, lt)
 
+  each-word : (w : ℕ) → w < slot_words layout.version → slot_word (image_of device) slot w ≡ slot_at layout slot (value_of device) w
+  each-word w lt = ap (λ (l : Layout). get_or (image_of device) (slot_start l slot + w) 0) laid-out ∙ word-at (slot_start layout slot + w) (in-slot w lt)
+
+  -- of the first line
   pub word-same : (w : ℕ) → w < 8 → slot_word (image_of device) slot w ≡ slot_at layout slot (value_of device) w
-  word-same w lt = ap (λ (l : Layout). get_or (image_of device) (slot_start l slot + w) 0) laid-out ∙ word-at (slot_start layout slot + w) (in-slot w lt)
+  word-same w lt = each-word w (omega (arith, lt, line-words layout.version))
 
   abbrev of_image : ℕ → ℕ
   of_image = slot_word (image_of device) slot
 
-  wide-image : slot_words (layout_of (image_of device)).version ≡ 8
-  wide-image = ap (λ (l : Layout). slot_words l.version) laid-out ∙ one.words
+  same-width : slot_words (layout_of (image_of device)).version ≡ slot_words layout.version
+  same-width = ap (λ (l : Layout). slot_words l.version) laid-out
 
   within : slot < (layout_of (image_of device)).slots
   within = omega (arith, h, ap (λ (l : Layout). l.slots) laid-out)
@@ -213,8 +213,8 @@ module _ (device : Device) (layout : Layout) (r : Record) (slot : ℕ) (size : d
   pub held : (s : Slot) → IsSlot layout (slot_at layout slot (value_of device)) s → IsVersion (layout_of (image_of device)) (slot_word (image_of device) slot) s.version
   held s is = record {
     each = λ w low high.
-        let lt : w < 8 = omega (arith, high, wide-image) in
-        word-same w lt ∙ is.version.each w low (omega (arith, lt, one.words));
+        let lt : w < slot_words layout.version = omega (arith, high, same-width) in
+        each-word w lt ∙ is.version.each w low lt;
     fits = subst (λ (l : Layout). Fits l s.version) (sym laid-out) is.version.fits;
   }
 
@@ -233,45 +233,21 @@ module _ (device : Device) (layout : Layout) (r : Record) (slot : ℕ) (size : d
       by true is = is
       by false is =
           let image = image_of device in
-          let version = holds_version image slot within whole (subst (λ (l : Layout). IsOneLine l.version) (sym laid-out) one) (fits-words orderly) is in
+          let version = holds_version image slot within whole (fits-words orderly) is in
           absurd (none (record { begin = slot_at layout slot (value_of device) 0; end = slot_at layout slot (value_of device) 1; version = version_of image slot })
           (record {
             begin = refl;
             end = refl;
             version = record {
-              each = λ w low high.
-                  let lt : w < 8 = omega (arith, high, one.words) in
-                  sym (word-same w lt) ∙ version.each w low (omega (arith, lt, wide-image));
+              each = λ w low high. sym (each-word w high) ∙ version.each w low (omega (arith, high, same-width));
               fits = subst (λ (l : Layout). Fits l (version_of image slot)) laid-out version.fits;
             };
           }))
 
-  -- a live slot that isn't bad holds a version
-  pub read-some : IsOrderly device → (found : Option Slot) → IfNone found ((s : Slot) → IsSlot layout (slot_at layout slot (value_of device)) s → ⊥)
-      → is_free (image_of device) slot ≡ false → is_bad (image_of device) slot ≡ false → IsSome found
-  unfolding is_free is_bad
-  read-some orderly (Some s) none live good = refl
-  read-some orderly None none live good = by (is_ahead (ruling (image_of device)) (image_of device) slot) (is_shown (ruling (image_of device)) (image_of device) slot) (is_misfit (image_of device) slot) (none-held orderly none) live good
-    where
-      by : (ahead shown ill : Bool) → ill ≡ true → not shown ≡ false → (ahead || (shown && (ill || is_second (ruling (image_of device)) (image_of device) slot))) ≡ false → false ≡ true
-      by true shown ill is live good = sym good
-      by false false ill is live good = sym live
-      by false true false is live good = is
-      by false true true is live good = sym good
-
-  -- which is that of the image
-  pub read-row : (found : Option Slot) (s : Slot) → found ≡ Some s → IfSome found (IsSlot layout (slot_at layout slot (value_of device)))
-      → ◌≡◌ {A = Key × List ℕ} (s.version.key, s.version.row) (key_of (image_of device) slot, row_of (image_of device) slot)
-  read-row (Some other) s is some =
-      let same : other ≡ s = cc is in
-      let whose = held s (subst (IsSlot layout (slot_at layout slot (value_of device))) same some) in
-      λ i. (sym (key_is (image_of device) slot within whole s.version whose) i, sym (row_is_of (image_of device) slot within whole s.version whose) i)
-  read-row None s is some = absurd (cc is)
-
-  choose : (ahead shown ill : Bool) (key : Key) → is_ahead (ruling (image_of device)) (image_of device) slot ≡ ahead → is_shown (ruling (image_of device)) (image_of device) slot ≡ shown → is_misfit (image_of device) slot ≡ ill → key_of (image_of device) slot ≡ key
-      → found_in (image_of device) slot ≡ cond ahead Bad (cond shown (cond ill Bad (Live key)) Free)
+  choose : (ahead shown ill : Bool) (key : Key) (row : List ℕ) → is_ahead (ruling (image_of device)) (image_of device) slot ≡ ahead → is_shown (ruling (image_of device)) (image_of device) slot ≡ shown → is_misfit (image_of device) slot ≡ ill → key_of (image_of device) slot ≡ key → row_of (image_of device) slot ≡ row
+      → found_in (image_of device) slot ≡ cond ahead Bad (cond shown (cond ill Bad (Live key row)) Free)
   unfolding found_in
-  choose ahead shown ill key a s i k = λ j. cond (a j) Bad (cond (s j) (cond (i j) Bad (Live (k j))) Free)
+  choose ahead shown ill key row a s i k w = λ j. cond (a j) Bad (cond (s j) (cond (i j) Bad (Live (k j) (w j))) Free)
 
   module _ (begin end : ℕ) (begin-is : begin ≡ slot_at layout slot (value_of device) 0) (end-is : end ≡ slot_at layout slot (value_of device) 1) where
     begin-same : begin_of (image_of device) slot ≡ begin
@@ -287,7 +263,7 @@ module _ (device : Device) (layout : Layout) (r : Record) (slot : ℕ) (size : d
     shown-is = λ i. is_committed (ruled i) (begin-same i) && not (is_committed (ruled i) (end-same i))
 
     pub look-ahead : (r.dirty ≤ begin) ⊎ (r.dirty ≤ end) → Bad ≡ found_in (image_of device) slot
-    look-ahead far = sym (choose true _ _ _ (ahead-is ∙ by (nat_le r.dirty begin) (nat_le r.dirty end) far refl refl) refl refl refl)
+    look-ahead far = sym (choose true _ _ _ _ (ahead-is ∙ by (nat_le r.dirty begin) (nat_le r.dirty end) far refl refl) refl refl refl refl)
       where
         by : (a b : Bool) → (r.dirty ≤ begin) ⊎ (r.dirty ≤ end) → nat_le r.dirty begin ≡ a → nat_le r.dirty end ≡ b → (a || b) ≡ true
         by true b far ea eb = refl
@@ -299,11 +275,12 @@ module _ (device : Device) (layout : Layout) (r : Record) (slot : ℕ) (size : d
     near b e = ahead-is ∙ (λ i. lt-leb r.dirty begin b i || lt-leb r.dirty end e i)
 
     pub look-free : begin < r.dirty → end < r.dirty → (is_committed r begin && not (is_committed r end)) ≡ false → Free ≡ found_in (image_of device) slot
-    look-free b e not_shown = sym (choose false false _ _ (near b e) (shown-is ∙ not_shown) refl refl)
+    look-free b e not_shown = sym (choose false false _ _ _ (near b e) (shown-is ∙ not_shown) refl refl refl)
 
-    pub look-live : begin < r.dirty → end < r.dirty → (is_committed r begin && not (is_committed r end)) ≡ true → (s : Slot) → IsSlot layout (slot_at layout slot (value_of device)) s → Live s.version.key ≡ found_in (image_of device) slot
+    pub look-live : begin < r.dirty → end < r.dirty → (is_committed r begin && not (is_committed r end)) ≡ true → (s : Slot) → IsSlot layout (slot_at layout slot (value_of device)) s → Live s.version.key s.version.row ≡ found_in (image_of device) slot
     look-live b e shown s is =
-        sym (choose false true false s.version.key (near b e) (shown-is ∙ shown) (well_formed (image_of device) slot within whole s.version (held s is)) (key_is (image_of device) slot within whole s.version (held s is)))
+        sym (choose false true false s.version.key s.version.row (near b e) (shown-is ∙ shown) (well_formed (image_of device) slot within whole s.version (held s is)) (key_is (image_of device) slot within whole s.version (held s is))
+        (row_is_of (image_of device) slot within whole s.version (held s is)))
 
     pub look-bad : IsOrderly device → begin < r.dirty → end < r.dirty → (is_committed r begin && not (is_committed r end)) ≡ true → ((s : Slot) → IsSlot layout (slot_at layout slot (value_of device)) s → ⊥) → Bad ≡ found_in (image_of device) slot
-    look-bad orderly b e shown none = sym (choose false true true _ (near b e) (shown-is ∙ shown) (none-held orderly none) refl)
+    look-bad orderly b e shown none = sym (choose false true true _ _ (near b e) (shown-is ∙ shown) (none-held orderly none) refl refl)

@@ -38,7 +38,7 @@ refusal-log image fault is = inl (log-first image fault is)
 
 pub under-own : (layout : Layout) (r : Record) (image : Image) → IsUnder layout r image → IsUnder layout (ruling image) image
 unfolding IsUnder
-under-own layout r image under = (under.0, refl, under.2)
+under-own layout r image under = (under.0, refl)
 
 module _ (layout : Layout) (r : Record) (image : Image) (rules : IsRuledBy layout r image) where
   -- the same, with what stands at the end of the list

@@ -1,14 +1,30 @@
 -- What a sweep makes of a device, word by word.
-use Rattle.std.specs.Prelude.{◌≡◌, ℕ, ◌+◌, ◌/◌, Bool, ◌&&◌, ◌||◌, if◌then◌else◌, IsTrue}
+use Rattle.std.specs.Prelude.{◌≡◌, ℕ, ◌+◌, ◌/◌, Bool, ◌&&◌, ◌||◌, if◌then◌else◌, IsTrue, List, map, Option, None}
+use Rattle.std.specs.List.{range_with_len}
+use Rattle.base.specs.declared.gap.Gap.{Gap}
 use Rattle.base.specs.Layout.{Layout}
 use Rattle.base.specs.Records.{Record, is_in, opened_gaps}
-use Rattle.base.specs.Openings.{is_mark}
+use Rattle.base.specs.Images.{Image}
+use Rattle.base.specs.Openings.{is_mark, lies_in_gap}
 use Rattle.pmem.specs.Device.{Device, stored, flushed}
 use Rattle.pmem.specs.Words.{value_of}
+use Rattle.recovery.specs.declared.slots.Reading.{Reading}
 
 -- the timestamp lies in a gap with which an opening goes on after the record
 abbrev pub lies : Record → ℕ → Bool
 lies r t = is_in (opened_gaps r) t
+
+-- the begin or the end that was read lies in a gap
+abbrev pub is_hit_by : Record → Reading → Bool
+is_hit_by r reading = lies r reading.begin || lies r reading.end
+
+-- the slots below a number, each with a begin or an end in a gap or not
+unfoldable pub hits_below : Image → ℕ → List Bool
+hits_below image n = map (λ slot. lies_in_gap image 0 slot || lies_in_gap image 1 slot) (range_with_len 0 n)
+
+-- these are all slots so, where there are more gaps than a record holds
+unfoldable pub AreHits : Image → Layout → Option (List Gap) → List Bool → Type 0
+AreHits image layout gaps hits = gaps ≡ None → hits ≡ hits_below image layout.slots
 
 -- 0, stored over such a timestamp in this word
 pub record IsZeroed (r : Record) (at : ℕ) (old : Device) (word x : ℕ) : Type 0 where

@@ -6,7 +6,7 @@ ghost use Rattle.base.specs.Stands.{Stands};
 ghost use Rattle.base.specs.Openings.{StandsOpening, gaps_kept, opened_slots, record_counts, words_swept, lines_swept};
 ghost use Rattle.pmem.specs.Words.{LeavesOnly, IsAtRest, image_of, Keeps, OldOr, Makes, Spares, operations_of};
 ghost use Rattle.recovery.specs.Gaps.{few_gaps};
-ghost use Rattle.recovery.specs.Sweeping.{is_hit, IsSwept};
+ghost use Rattle.recovery.specs.Sweeping.{is_hit, AreHits, IsSwept};
 ghost use Rattle.recovery.specs.Opened.{Examined as IsExaminedAs, HasOpened, HasOpenedToday, IsCutBefore, IsCutShort, IsRefusal, sweep_operations, total};
 ghost use Rattle.recovery.specs.Read.{TellsLogFault};
 
@@ -60,7 +60,7 @@ pub fn open<R: Threads + Sync, D: Pmem + Drop + Send + Sync>(
         (λ e. LeavesOnly (D.state device) (D.state e.1) (StandsOpening (image_of (D.state device)) history next)) }
 {
     let mut device = device;
-    match open_device(alloc, &mut device) {
+    match open_device(rt, alloc, &mut device) {
         Ok(
             Life {
                 geometry,
@@ -92,7 +92,11 @@ pub struct Life {
 }
 
 /// The same, of a device that stays where it is.
-pub fn open_device<D: Pmem>(alloc: Global, device: &mut D) -> Result<Life, Fault>
+pub fn open_device<R: Threads + Sync, D: Pmem + Sync>(
+    rt: &R,
+    alloc: Global,
+    device: &mut D,
+) -> Result<Life, Fault>
     requires { IsAtRest (D.state device.old) }
     ensures ok { IfOk result (λ life. HasOpened (D.state device.old) (D.state device.new) life.geometry life.ruling life.next life.free.items life.live.items) }
     ensures fault { IfErr result (IsRefusal (opening_fault (image_of (D.state device.old))) (D.state device.old) (D.state device.new)) }
@@ -100,11 +104,21 @@ pub fn open_device<D: Pmem>(alloc: Global, device: &mut D) -> Result<Life, Fault
     ensures images { (history drawn : List Commit) (next : ℕ) → Stands (image_of (D.state device.old)) history drawn next
         → LeavesOnly (D.state device.old) (D.state device.new) (StandsOpening (image_of (D.state device.old)) history next) }
 {
-    let found = match examine(alloc, device) {
+    let found = match examine(rt, alloc, device) {
         Ok(found) => found,
-        Err(fault) => return Err(fault),
+        Err(fault) => return Err(left_as_found(device, fault)),
     };
     found.open(device)
+}
+
+// The fault for which a device at rest isn't opened: it leaves what it would have left.
+fn left_as_found<D: Pmem>(device: &D, fault: Fault) -> Fault
+    requires { IsAtRest (D.state device.now) }
+    ensures fault { result ≡ fault }
+    ensures images { (history drawn : List Commit) (next : ℕ) → Stands (image_of (D.state device.now)) history drawn next
+        → LeavesOnly (D.state device.now) (D.state device.now) (StandsOpening (image_of (D.state device.now)) history next) }
+{
+    fault
 }
 
 impl Examined {
@@ -112,6 +126,7 @@ impl Examined {
     pub fn open<D: Pmem>(self, device: &mut D) -> Result<Life, Fault>
         requires at_rest { IsAtRest (D.state device.old) }
         requires examined { IsExaminedAs (image_of (D.state device.old)) self.geometry self.ruling self.gaps self.free.items self.live.items }
+        requires hits { AreHits (image_of (D.state device.old)) self.geometry self.gaps self.hits.items }
         ensures ok { IfOk result (λ life. HasOpened (D.state device.old) (D.state device.new) life.geometry life.ruling life.next life.free.items life.live.items) }
         ensures fault { IfErr result (λ fault. fault ≡ Fault.Device) }
         ensures failed { OnErr result (IsCutShort (D.state device.old) (D.state device.new)) }
@@ -133,13 +148,15 @@ impl Examined {
     fn open_today<D: Pmem>(self, device: &mut D) -> Result<Life, Fault>
         requires at_rest { IsAtRest (D.state device.old) }
         requires examined { IsExaminedAs (image_of (D.state device.old)) self.geometry self.ruling self.gaps self.free.items self.live.items }
+        requires hits { AreHits (image_of (D.state device.old)) self.geometry self.gaps self.hits.items }
         ensures ok { IfOk result (λ life. HasOpenedToday (D.state device.old) (D.state device.new) life.geometry life.ruling life.next life.free.items life.live.items) }
         ensures fault { IfErr result (λ fault. fault ≡ Fault.Device) }
         ensures failed { OnErr result (IsCutBefore (total (record_counts (image_of (D.state device.old)))) (D.state device.old) (D.state device.new)) }
         ensures images { (history drawn : List Commit) (next : ℕ) → Stands (image_of (D.state device.old)) history drawn next
             → LeavesOnly (D.state device.old) (D.state device.new) (StandsOpening (image_of (D.state device.old)) history next) }
     {
-        let gaps = match keep_gaps(device, self.geometry, self.ruling, self.gaps) {
+        let hits = self.hits.as_slice();
+        let gaps = match keep_gaps(device, self.geometry, self.ruling, self.gaps, hits) {
             Ok(gaps) => gaps,
             Err(fault) => return Err(fault),
         };
@@ -157,10 +174,12 @@ fn keep_gaps<D: Pmem>(
     geometry: Geometry,
     ruling: Record,
     gaps: Option<Gaps>,
+    hits: &[bool],
 ) -> Result<Gaps, Fault>
     requires at_rest { IsAtRest (D.state device.old) }
     requires rules { IsRuledBy geometry ruling (image_of (D.state device.old)) }
     requires gaps { gaps ≡ few_gaps ruling }
+    requires hits { AreHits (image_of (D.state device.old)) geometry gaps hits.now }
     ensures fault { IfErr result (λ fault. fault ≡ Fault.Device) }
     ensures failed { OnErr result ((D.state device.new).failures ≡ (D.state device.old).failures + 1) }
     ensures few { OnErr result ((needs_sweep (image_of (D.state device.old)) ≡ true) × (operations_of (D.state device.new) < operations_of (D.state device.old) + sweep_operations (image_of (D.state device.old)))) }
@@ -175,7 +194,7 @@ fn keep_gaps<D: Pmem>(
 {
     match gaps {
         Some(few) => Ok(few),
-        None => match sweep(device, geometry, ruling) {
+        None => match sweep(device, geometry, ruling, hits) {
             Ok(()) => Ok(Gaps::none()),
             Err(fault) => Err(fault),
         },
@@ -192,6 +211,7 @@ fn begun(found: Examined, target: Record) -> Life
         gaps: _,
         free,
         live,
+        hits: _,
     } = found;
     Life {
         geometry,

@@ -3,7 +3,7 @@ ghost use Rattle.pmem.specs.Words.{image_of};
 ghost use Rattle.recovery.specs.Read.{IsRead, IsReadRefusal};
 
 use crate::rows::live_rows;
-use crate::slots::free_slots;
+use crate::slots::{free_slots, read_slots};
 use crate::still::Still;
 use base::fault::Fault;
 use base::geometry::Geometry;
@@ -25,14 +25,18 @@ pub struct Found {
 
 /// Reads an image without opening it, and so also one whose opening would find no timestamps left. It is refused for what
 /// is wrong with it.
-pub fn read_image<R: Threads + Sync>(_rt: &R, alloc: Global, words: &[u64]) -> Result<Found, Fault>
+pub fn read_image<R: Threads + Sync>(rt: &R, alloc: Global, words: &[u64]) -> Result<Found, Fault>
     ensures ok { IfOk result (λ found. IsRead words.now found.geometry found.ruling found.rows.items) }
     ensures fault { IfErr result (IsReadRefusal words.now) }
 {
-    read_device(alloc, &Still::of(words))
+    read_device(rt, alloc, &Still::of(words))
 }
 
-fn read_device<D: Pmem>(alloc: Global, device: &D) -> Result<Found, Fault>
+fn read_device<R: Threads + Sync, D: Pmem + Sync>(
+    rt: &R,
+    alloc: Global,
+    device: &D,
+) -> Result<Found, Fault>
     ensures ok { IfOk result (λ found. IsRead (image_of (D.state device.now)) found.geometry found.ruling found.rows.items) }
     ensures fault { IfErr result (IsReadRefusal (image_of (D.state device.now))) }
 {
@@ -40,11 +44,14 @@ fn read_device<D: Pmem>(alloc: Global, device: &D) -> Result<Found, Fault>
         Ok(found) => found,
         Err(fault) => return Err(fault),
     };
-    let free = match free_slots(alloc, device, found.geometry, found.target) {
-        Ok(free) => free,
-        Err(fault) => return Err(fault),
+    let readings = match read_slots(rt, alloc, device, found.geometry, found.target) {
+        Ok(readings) => readings,
+        Err(_) => return Err(Fault::OutOfMemory),
     };
-    match live_rows(alloc, device, found.geometry, free.as_slice()) {
+    if let Err(fault) = free_slots(alloc, found.geometry, readings.as_slice()) {
+        return Err(fault);
+    }
+    match live_rows(alloc, readings.as_slice()) {
         Ok(rows) => Ok(Found {
             geometry: found.geometry,
             ruling: found.target,

@@ -1,24 +1,48 @@
-ghost use Rattle.std.specs.Prelude.{◌≡◌, ◌+◌, ◌<◌, ◌≤◌, false, IfOk, IfErr, OnOk, OnErr, ◌||◌, if◌then◌else◌};
+ghost use Rattle.std.specs.Prelude.{◌≡◌, ◌+◌, ◌<◌, ◌≤◌, false, IfOk, IfErr, OnOk, OnErr, ◌||◌, if◌then◌else◌, map};
 ghost use Rattle.base.specs.Layout.{slot_start, total_words};
 ghost use Rattle.base.specs.Images.{IsRuledBy};
 ghost use Rattle.base.specs.Openings.{swept, words_swept, lines_swept};
 ghost use Rattle.pmem.specs.Words.{value_of, image_of, IsAtRest, Keeps, OldOr, Makes, Spares, operations_of};
 ghost use Rattle.recovery.specs.Gaps.{MayRule};
 ghost use Rattle.recovery.specs.Opened.{sweep_operations};
-ghost use Rattle.recovery.specs.Sweeping.{lies, is_hit, IsZeroed, IsSwept, zeroed, cleaned};
+ghost use Rattle.recovery.specs.Sweeping.{lies, is_hit, is_hit_by, hits_below, IsZeroed, IsSwept, zeroed, cleaned};
 
 use crate::gaps::lies_in_gap;
+use crate::slots::Reading;
 use base::actor::Actor;
 use base::fault::Fault;
 use base::geometry::Geometry;
 use log_area::Record;
 use pmem::Pmem;
+use std::alloc::{AllocError, Global};
 
-/// Stores 0 in each begin and each end that lies in a gap with which the image is opened, flushes the lines of these
-/// slots, and waits until that persists.
-pub fn sweep<D: Pmem>(device: &mut D, geometry: Geometry, ruling: Record) -> Result<(), Fault>
+// Whether a sweep stores 0 in each slot, by what was read of each.
+pub fn hit_slots(
+    alloc: Global,
+    ruling: Record,
+    readings: &[Reading],
+) -> Result<Vec<bool>, AllocError>
+    requires { MayRule ruling }
+    ensures { IfOk result (λ hits. hits.items ≡ map (is_hit_by ruling) readings.now) }
+{
+    let mut hits = Vec::new(alloc);
+    for reading in readings {
+        hits.push(lies_in_gap(ruling, reading.begin) || lies_in_gap(ruling, reading.end))?;
+    }
+    Ok(hits)
+}
+
+/// Stores 0 in each begin and each end that lies in a gap with which the image is opened, flushes the first lines of
+/// these slots, where both stand, and waits until that persists. It reads no slot but those.
+pub fn sweep<D: Pmem>(
+    device: &mut D,
+    geometry: Geometry,
+    ruling: Record,
+    hits: &[bool],
+) -> Result<(), Fault>
     requires at_rest { IsAtRest (D.state device.old) }
     requires rules { IsRuledBy geometry ruling (image_of (D.state device.old)) }
+    requires hits { hits.now ≡ hits_below (image_of (D.state device.old)) geometry.slots }
     ensures fault { IfErr result (λ fault. fault ≡ Fault.Device) }
     ensures failed { OnErr result ((D.state device.new).failures ≡ (D.state device.old).failures + 1) }
     ensures kept { Keeps (D.state device.old) (D.state device.new) (OldOr (D.state device.old) (IsSwept geometry ruling (D.state device.old))) }
@@ -29,13 +53,15 @@ pub fn sweep<D: Pmem>(device: &mut D, geometry: Geometry, ruling: Record) -> Res
     ensures made { OnOk result (Makes (words_swept (image_of (D.state device.old))) (lines_swept (image_of (D.state device.old))) 1 0 (D.state device.old) (D.state device.new)) }
 {
     for slot in 0..geometry.slots() {
-        sweep_slot(device, geometry, ruling, slot)?;
+        if hits[slot as usize] {
+            sweep_slot(device, geometry, ruling, slot)?;
+        }
     }
     device.fence(Actor::COMMITTER)?;
     Ok(())
 }
 
-// Stores 0 in the begin and in the end of a slot where they lie in a gap, and then flushes its line.
+// Stores 0 in the begin and in the end of a slot where they lie in a gap, and then flushes its first line.
 fn sweep_slot<D: Pmem>(
     device: &mut D,
     geometry: Geometry,

@@ -12,8 +12,8 @@ use base::geometry::Geometry;
 use log_area::update_version;
 use pmem::Pmem;
 
-/// Gives an image that opens the version of today, where it has another, and waits until that persists. Returns the layout
-/// that it has then.
+/// Gives an image that opens the version that it has once it is open, where it has another, and waits until that
+/// persists. Returns the layout that it has then.
 pub(crate) fn update<D: Pmem>(device: &mut D, geometry: Geometry) -> Result<Geometry, Fault>
     requires at_rest { IsAtRest (D.state device.old) }
     requires opens { opening_fault (image_of (D.state device.old)) ≡ None }

@@ -3,6 +3,7 @@ pub mod Chosen
 pub mod Choices
 pub mod Rooms
 pub mod Begun
+pub mod LiveIndex
 pub mod Runs
 pub mod Parts
 pub mod Ticked

@@ -6,6 +6,7 @@ mod collect;
 mod committer;
 mod ending;
 mod finishing;
+mod indexing;
 mod law;
 mod opening;
 mod persisting;

@@ -9,11 +9,12 @@ ghost use Rattle.recovery.specs.Read.{TellsLogFault};
 ghost use Rattle.room.specs.Opening.{HasBegun};
 
 use crate::committer::Committer;
+use crate::indexing::index_of;
 use crate::room::Room;
 use base::fault::Fault;
 use pmem::Pmem;
 use recovery::examine;
-use session_steps::{Sessions, index_slots};
+use session_steps::Sessions;
 use slot_alloc::SlotAlloc;
 use std::alloc::Global;
 use std::thread::Threads;
@@ -61,7 +62,7 @@ impl<D: Pmem + Drop + Send + Sync> Room<D> {
             (λ e. LeavesOnly (D.state device) (D.state e.1) (StandsOpening (image_of (D.state device)) history next)) }
     {
         let mut device = device;
-        match begin(alloc, &mut device) {
+        match begin(rt, alloc, &mut device) {
             Ok(committer) => Ok(Room {
                 alloc,
                 device,
@@ -74,7 +75,11 @@ impl<D: Pmem + Drop + Send + Sync> Room<D> {
 }
 
 // Opens the device where it is. All memory that this takes is taken before the device is changed.
-fn begin<D: Pmem>(alloc: Global, device: &mut D) -> Result<Committer, Fault>
+fn begin<R: Threads + Sync, D: Pmem + Sync>(
+    rt: &R,
+    alloc: Global,
+    device: &mut D,
+) -> Result<Committer, Fault>
     requires at_rest { IsAtRest (D.state device.old) }
     ensures ok { IfOk result (HasBegun (D.state device.old) (D.state device.new)) }
     ensures fault { IfErr result (IsRefusal (opening_fault (image_of (D.state device.old))) (D.state device.old) (D.state device.new)) }
@@ -82,11 +87,11 @@ fn begin<D: Pmem>(alloc: Global, device: &mut D) -> Result<Committer, Fault>
     ensures images { (history drawn : List Commit) (next : ℕ) → Stands (image_of (D.state device.old)) history drawn next
         → LeavesOnly (D.state device.old) (D.state device.new) (StandsOpening (image_of (D.state device.old)) history next) }
 {
-    let found = match examine(alloc, device) {
+    let found = match examine(rt, alloc, device) {
         Ok(found) => found,
         Err(fault) => return Err(fault),
     };
-    let index = match index_slots(alloc, device, found.geometry, found.free.as_slice()) {
+    let index = match index_of(alloc, found.live.as_slice()) {
         Ok(index) => index,
         Err(fault) => return Err(fault),
     };

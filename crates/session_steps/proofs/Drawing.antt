@@ -2,7 +2,7 @@
 use Rattle.std.proofs.Common.{◌≡◌, ◌⊎◌, inl, inr, ℕ, ◌+◌, ◌/◌, ◌<◌, ◌≤◌, Bool, true, false, ◌&&◌, ◌||◌, cond, not, List, [], ◌∷◌, ◌++◌, map, take, drop, refl, sym, ◌∙◌, ap, subst, arith, nat_eq, nat_lt, append_assoc, Contains, get_or}
 use Rattle.std.specs.Prelude.{Option, Some, None, is_some, is_none, find, All}
 use Rattle.std.specs.List.{list_any, list_all, flat_map, range_with_len}
-use Rattle.std.specs.Option.{option_map, option_or, option_to_list, option_and_then}
+use Rattle.std.specs.Option.{option_map, option_map_or, option_or, option_and_then}
 use Rattle.std.proofs.lemmas.Bool.{and_parts}
 use Rattle.std.proofs.lemmas.Bool.Decides.{nat_tests}
 use Rattle.std.proofs.lemmas.List.Elements.{All-append, All-cons, All-nil, All-head, All-tail, All-contains, All-contains_itself}
@@ -10,10 +10,10 @@ use Rattle.std.proofs.lemmas.List.{map-append}
 use Rattle.std.proofs.lemmas.List.Folds.{list_any-append}
 use Rattle.base.specs.declared.key.Key.{Key}
 use Rattle.base.specs.Commits.{Commit, writes_key, last_writer}
-use Rattle.base.specs.Layout.{slot_start}
+use Rattle.base.specs.Layout.{Layout, slot_start}
 use Rattle.base.specs.Records.{is_committed}
 use Rattle.base.specs.Stands.{has_timestamp}
-use Rattle.base.proofs.Layouts.{one-line as line-of}
+use Rattle.base.proofs.Layouts.{line-words, lines-words}
 use Rattle.base.specs.Machine.{State, Drawn as PlainDrawn, Version, Writer, BySession, ByCommit, is_by, by_commit, drawn_at, drawn_of, version_lines}
 use Rattle.snapshot.specs.Snapshots.{Seen, covers}
 use Rattle.txn.specs.declared.drawn.DrawnCommit.{DrawnCommit}
@@ -39,7 +39,7 @@ use Rattle.device_invariant.specs.Slots.{newest_of}
 use Rattle.device_invariant.specs.Log.{is_own, is_ended, line_at, line_number, lines_at, lines_in}
 use Rattle.step_invariant.specs.Moves.{IsSlotOf}
 use Rattle.session_steps.specs.declared.sessions.Sessions.{Sessions}
-use Rattle.session_steps.specs.Drawing.{touched_lines, drawn_entry}
+use Rattle.session_steps.specs.Drawing.{own_lines, ended_lines, touched_lines, drawn_entry}
 use Rattle.session_invariant.specs.Sees.{Sees, last_on}
 use Rattle.session_steps.specs.Shows.{Hidden, plain_of, plain_drawn, HasItsSlot, HoldsSession, HasVersionOf, HasDrawn, HoldsEntry, HoldsDrawn, HoldsLines, Agrees, has_drawn_by, line_numbers}
 use Rattle.session_steps.specs.Steps.{Holds}
@@ -49,7 +49,7 @@ use Rattle.session_steps.proofs.Lines.{or-left, or-right, both-ways, any-map, an
 use Rattle.session_steps.proofs.OneSet.{each-set}
 use Rattle.session_steps.proofs.Owned.{found-in, contained-found, rising-plain, own-is}
 use Rattle.session_steps.proofs.Quiet.{found}
-use Rattle.session_steps.proofs.Snapshots.{uncovered-above, version-known}
+use Rattle.session_steps.proofs.Snapshots.{uncovered-above}
 
 -- ---- lists
 
@@ -86,9 +86,23 @@ or-false false = refl
 plus-none : (n : ℕ) → n + 0 ≡ n
 plus-none n = omega arith
 
--- a version takes one line
-one-line : (s : Sessions) (h : Hidden) → Holds s h → version_lines s.numbers.geometry ≡ 1
-one-line s h holds = ap (λ (n : ℕ). cond (nat_eq n 16) 2 1) (line-of s.numbers.geometry.version (version-known s.numbers.geometry holds.keeps.numbers.layout)).words
+-- a version has a first line
+some-line : (a : Layout) → 0 < version_lines a
+some-line a = omega (arith, line-words a.version, lines-words a)
+
+-- what passes the second test passes the first
+absorb : (a b : Bool) → (b ≡ true → a ≡ true) → a ≡ (a || b)
+absorb true b within = refl
+absorb false true within = within refl
+absorb false false within = refl
+
+either-hits : (own ended a b : Bool) → (b ≡ true → a ≡ true) → (own && a || ended && b) ≡ true → a ≡ true
+either-hits own ended true b within some = refl
+either-hits own ended false true within some = within refl
+either-hits true true false false within some = some
+either-hits true false false false within some = some
+either-hits false true false false within some = some
+either-hits false false false false within some = some
 
 module _ (s : Sessions) (h : Hidden) (n : ℕ) (snapshot : Seen) (writes : List Write) (holds : Holds s h) (at : transaction_at s.transactions n ≡ Some (Active snapshot writes)) where
   -- the timestamp that is drawn
@@ -301,8 +315,13 @@ module _ (s : Sessions) (h : Hidden) (n : ℕ) (snapshot : Seen) (writes : List 
       abbrev hits : ℕ → Bool
       hits l = nat_eq l line
 
-      abbrev hits-slot : ℕ → Bool
-      hits-slot slot = nat_eq (slot_start s.numbers.geometry slot / 8) line
+      -- one of the lines of the slot
+      abbrev own-hits : ℕ → Bool
+      own-hits slot = list_any hits (own_lines s.numbers.geometry slot)
+
+      -- its first
+      abbrev first-hits : ℕ → Bool
+      first-hits slot = hits (slot_start s.numbers.geometry slot / 8)
 
       abbrev own-at : ℕ → Bool
       own-at slot = is_own (commit ∷ []) (by_commit n s.numbers.next (h.held slot))
@@ -310,12 +329,32 @@ module _ (s : Sessions) (h : Hidden) (n : ℕ) (snapshot : Seen) (writes : List 
       abbrev ended-at : ℕ → Bool
       ended-at slot = is_ended then (commit ∷ []) (by_commit n s.numbers.next (h.held slot))
 
+      -- a line by its number in the slot
+      abbrev part-hits : ℕ → ℕ → Bool
+      part-hits slot part = hits (slot_start s.numbers.geometry slot / 8 + part)
+
+      first-is : (slot : ℕ) → part-hits slot 0 ≡ first-hits slot
+      first-is slot = ap hits (plus-none (slot_start s.numbers.geometry slot / 8))
+
+      own-is-parts : (slot : ℕ) → own-hits slot ≡ list_any (part-hits slot) (range_with_len 0 (version_lines s.numbers.geometry))
+      own-is-parts slot = any-map hits (λ part. slot_start s.numbers.geometry slot / 8 + part) (range_with_len 0 (version_lines s.numbers.geometry))
+
+      -- the first line is one of all
+      first-own : (slot : ℕ) → first-hits slot ≡ true → own-hits slot ≡ true
+      first-own slot is = own-is-parts slot ∙ any-range (part-hits slot) 0 (version_lines s.numbers.geometry) 0 (omega arith) (omega (arith, some-line s.numbers.geometry)) (first-is slot ∙ is)
+
+      parts-are : (slot : ℕ) → list_any (λ l. hits (line_number s.numbers.geometry l)) (flat_map (λ part. line_at slot part ∷ []) (range_with_len 0 (version_lines s.numbers.geometry))) ≡ own-hits slot
+      parts-are slot =
+          any-flat_map (λ l. hits (line_number s.numbers.geometry l)) (λ part. line_at slot part ∷ []) (range_with_len 0 (version_lines s.numbers.geometry))
+          ∙ (λ i. list_any (λ part. or-false (part-hits slot part) i) (range_with_len 0 (version_lines s.numbers.geometry)))
+          ∙ sym (own-is-parts slot)
+
       -- what the lines of a slot come to
-      at-is : (slot : ℕ) (own ended : Bool) → list_any (λ l. hits (line_number s.numbers.geometry l)) (cond own (flat_map (λ part. line_at slot part ∷ []) (range_with_len 0 (version_lines s.numbers.geometry))) (cond ended (line_at slot 0 ∷ []) [])) ≡ ((own || ended) && hits-slot slot)
-      at-is slot true ended =
-          ap (λ (k : ℕ). list_any (λ l. hits (line_number s.numbers.geometry l)) (flat_map (λ part. line_at slot part ∷ []) (range_with_len 0 k))) (one-line s h holds)
-          ∙ or-false (hits (slot_start s.numbers.geometry slot / 8 + 0)) ∙ ap hits (plus-none (slot_start s.numbers.geometry slot / 8))
-      at-is slot false true = or-false (hits (slot_start s.numbers.geometry slot / 8 + 0)) ∙ ap hits (plus-none (slot_start s.numbers.geometry slot / 8))
+      at-is : (slot : ℕ) (own ended : Bool) → list_any (λ l. hits (line_number s.numbers.geometry l)) (cond own (flat_map (λ part. line_at slot part ∷ []) (range_with_len 0 (version_lines s.numbers.geometry))) (cond ended (line_at slot 0 ∷ []) []))
+          ≡ (own && own-hits slot || ended && first-hits slot)
+      at-is slot true true = parts-are slot ∙ absorb (own-hits slot) (first-hits slot) (first-own slot)
+      at-is slot true false = parts-are slot ∙ sym (or-false (own-hits slot))
+      at-is slot false true = or-false (part-hits slot 0) ∙ first-is slot
       at-is slot false false = refl
 
       abbrev at-slot : ℕ → Bool
@@ -327,13 +366,19 @@ module _ (s : Sessions) (h : Hidden) (n : ℕ) (snapshot : Seen) (writes : List 
       left-is : list_any hits (flat_map (touched_lines s.numbers.geometry s.index) writes) ≡ list_any (λ w. list_any hits (touched_lines s.numbers.geometry s.index w)) writes
       left-is = any-flat_map hits (touched_lines s.numbers.geometry s.index) writes
 
+      abbrev own-of : Option ℕ → Bool
+      own-of o = list_any hits (option_map_or (own_lines s.numbers.geometry) o [])
+
+      abbrev ended-of : Option ℕ → Bool
+      ended-of o = list_any hits (option_map_or (ended_lines s.numbers.geometry) o [])
+
       -- the lines of one write
-      write-is : (w : Write) → list_any hits (touched_lines s.numbers.geometry s.index w) ≡ (list_any hits-slot (option_to_list w.slot) || list_any hits-slot (option_to_list (live_of (entry_at s.index w.key))))
-      write-is w = any-map hits (λ slot. slot_start s.numbers.geometry slot / 8) (option_to_list w.slot ++ option_to_list (live_of (entry_at s.index w.key))) ∙ list_any-append hits-slot (option_to_list w.slot) (option_to_list (live_of (entry_at s.index w.key)))
+      write-is : (w : Write) → list_any hits (touched_lines s.numbers.geometry s.index w) ≡ (own-of w.slot || ended-of (live_of (entry_at s.index w.key)))
+      write-is w = list_any-append hits (option_map_or (own_lines s.numbers.geometry) w.slot []) (option_map_or (ended_lines s.numbers.geometry) (live_of (entry_at s.index w.key)) [])
 
       -- a slot that is the commit's, or that it ends
-      slot-there : (slot : ℕ) → slot < s.numbers.geometry.slots → (own-at slot || ended-at slot) ≡ true → hits-slot slot ≡ true → list_any at-slot (range_with_len 0 s.numbers.geometry.slots) ≡ true
-      slot-there slot lt is hit = any-range at-slot 0 s.numbers.geometry.slots slot (omega arith) (omega (arith, lt)) (at-is slot (own-at slot) (ended-at slot) ∙ (λ i. is i && hit i))
+      slot-there : (slot : ℕ) → slot < s.numbers.geometry.slots → (own-at slot && own-hits slot || ended-at slot && first-hits slot) ≡ true → list_any at-slot (range_with_len 0 s.numbers.geometry.slots) ≡ true
+      slot-there slot lt is = any-range at-slot 0 s.numbers.geometry.slots slot (omega arith) (omega (arith, lt)) (at-is slot (own-at slot) (ended-at slot) ∙ is)
 
       there : list_any hits (flat_map (touched_lines s.numbers.geometry s.index) writes) ≡ true → list_any hits (line_numbers then (commit ∷ [])) ≡ true
       there some = right-is ∙ any-each (Contains writes) (λ w. list_any hits (touched_lines s.numbers.geometry s.index w)) writes _ (All-contains_itself writes) each (sym left-is ∙ some)
@@ -356,48 +401,50 @@ module _ (s : Sessions) (h : Hidden) (n : ℕ) (snapshot : Seen) (writes : List 
                   wrote : writes_key w.key commit ≡ true
                   wrote = writes-plain w.key t writes ∙ ap (λ (o : Option Write). is_some o) (contained-found writes w (rising-plain h.origin old n (h.seen n) writes holds.keeps (found s h n _ at)) in_set)
 
-              end-hit : (e : Option ℕ) → IsSlotOf old (newest_of old w.key) e → list_any hits-slot (option_to_list e) ≡ true → list_any at-slot (range_with_len 0 s.numbers.geometry.slots) ≡ true
+              end-hit : (e : Option ℕ) → IsSlotOf old (newest_of old w.key) e → ended-of e ≡ true → list_any at-slot (range_with_len 0 s.numbers.geometry.slots) ≡ true
               end-hit None lives some = absurd (cc some)
-              end-hit (Some slot) lives some = slot-there slot lives.0 (or-right (own-at slot) (ended-at slot) (ended slot lives.1)) (sym (or-false (hits-slot slot)) ∙ some)
+              end-hit (Some slot) lives some =
+                  let hit : first-hits slot ≡ true = sym (or-false (first-hits slot)) ∙ some in
+                  slot-there slot lives.0 (or-right (own-at slot && own-hits slot) (ended-at slot && first-hits slot) (λ i. ended slot lives.1 i && hit i))
 
-              by : (o : Option ℕ) → IsSlotOf old (version_by w.key (BySession n)) o → (e : Option ℕ) → IsSlotOf old (newest_of old w.key) e → (list_any hits-slot (option_to_list o) || list_any hits-slot (option_to_list e)) ≡ true
-                  → list_any at-slot (range_with_len 0 s.numbers.geometry.slots) ≡ true
+              by : (o : Option ℕ) → IsSlotOf old (version_by w.key (BySession n)) o → (e : Option ℕ) → IsSlotOf old (newest_of old w.key) e → (own-of o || ended-of e) ≡ true → list_any at-slot (range_with_len 0 s.numbers.geometry.slots) ≡ true
               by None has e lives some = end-hit e lives some
-              by (Some slot) has e lives some = which (hits-slot slot) refl some
+              by (Some slot) has e lives some = which (own-hits slot) refl some
                 where
-                  which : (b : Bool) → hits-slot slot ≡ b → ((b || false) || list_any hits-slot (option_to_list e)) ≡ true → list_any at-slot (range_with_len 0 s.numbers.geometry.slots) ≡ true
-                  which true hit some = slot-there slot has.0 (or-left (own-at slot) (ended-at slot) (own slot has.1)) hit
+                  which : (b : Bool) → own-hits slot ≡ b → (b || ended-of e) ≡ true → list_any at-slot (range_with_len 0 s.numbers.geometry.slots) ≡ true
+                  which true hit some = slot-there slot has.0 (or-left (own-at slot && own-hits slot) (ended-at slot && first-hits slot) (λ i. own slot has.1 i && hit i))
                   which false hit some = end-hit e lives some
 
       -- a write with the slot
-      write-there : (key : Key) (w : Write) (slot : ℕ) → write_of key writes ≡ Some w → (w.slot ≡ Some slot) ⊎ (live_of (entry_at s.index key) ≡ Some slot) → hits-slot slot ≡ true → list_any hits (flat_map (touched_lines s.numbers.geometry s.index) writes) ≡ true
-      write-there key w slot wrote either hit =
+      write-there : (key : Key) (w : Write) (slot : ℕ) → write_of key writes ≡ Some w → ((w.slot ≡ Some slot) × (own-hits slot ≡ true)) ⊎ ((live_of (entry_at s.index key) ≡ Some slot) × (first-hits slot ≡ true))
+          → list_any hits (flat_map (touched_lines s.numbers.geometry s.index) writes) ≡ true
+      write-there key w slot wrote either =
           let in_set = found-in key writes w wrote in
           left-is ∙ any-at (λ w. list_any hits (touched_lines s.numbers.geometry s.index w)) writes w in_set.0 (write-is w ∙ by in_set.1 either)
         where
-          by : w.key ≡ key → (w.slot ≡ Some slot) ⊎ (live_of (entry_at s.index key) ≡ Some slot) → (list_any hits-slot (option_to_list w.slot) || list_any hits-slot (option_to_list (live_of (entry_at s.index w.key)))) ≡ true
-          by same (inl own) = or-left _ _ (ap (λ (o : Option ℕ). list_any hits-slot (option_to_list o)) own ∙ or-false (hits-slot slot) ∙ hit)
-          by same (inr lives) = or-right _ _ (ap (λ (k : Key). list_any hits-slot (option_to_list (live_of (entry_at s.index k)))) same ∙ ap (λ (o : Option ℕ). list_any hits-slot (option_to_list o)) lives ∙ or-false (hits-slot slot) ∙ hit)
+          by : w.key ≡ key → ((w.slot ≡ Some slot) × (own-hits slot ≡ true)) ⊎ ((live_of (entry_at s.index key) ≡ Some slot) × (first-hits slot ≡ true)) → (own-of w.slot || ended-of (live_of (entry_at s.index w.key))) ≡ true
+          by same (inl own) = or-left _ _ (ap own-of own.0 ∙ own.1)
+          by same (inr lives) = or-right _ _ (ap (λ (k : Key). ended-of (live_of (entry_at s.index k))) same ∙ ap ended-of lives.0 ∙ or-false (first-hits slot) ∙ lives.1)
 
       back : list_any hits (line_numbers then (commit ∷ [])) ≡ true → list_any hits (flat_map (touched_lines s.numbers.geometry s.index) writes) ≡ true
       back some = at-found (range-any at-slot 0 s.numbers.geometry.slots (sym right-is ∙ some))
         where
           -- the session held it
-          by-own : (slot : ℕ) → slot < s.numbers.geometry.slots → (key : Key) → h.held slot ≡ Some (version_by key (BySession n)) → hits-slot slot ≡ true → list_any hits (flat_map (touched_lines s.numbers.geometry s.index) writes) ≡ true
+          by-own : (slot : ℕ) → slot < s.numbers.geometry.slots → (key : Key) → h.held slot ≡ Some (version_by key (BySession n)) → own-hits slot ≡ true → list_any hits (flat_map (touched_lines s.numbers.geometry s.index) writes) ≡ true
           by-own slot lt key held-by hit = which (write_of key writes) refl (own-is h.origin old n (h.seen n) writes holds.keeps (found s h n _ at) session.1 key)
             where
               its : (w : Write) → write_of key writes ≡ Some w → (o : Option ℕ) → w.slot ≡ o → IsSlotOf old (version_by key (BySession n)) o → list_any hits (flat_map (touched_lines s.numbers.geometry s.index) writes) ≡ true
               its w wrote None is none = absurd (none slot lt held-by)
               its w wrote (Some own) is has =
                   let same : own ≡ slot = holds.keeps.owns.once own slot (version_by key (BySession n)) has.0 lt has.1 held-by in
-                  write-there key w slot wrote (inl (is ∙ ap (λ (k : ℕ). Some k) same)) hit
+                  write-there key w slot wrote (inl (is ∙ ap (λ (k : ℕ). Some k) same, hit))
 
               which : (o : Option Write) → write_of key writes ≡ o → IsSlotOf old (version_by key (BySession n)) (option_and_then (λ (w : Write). w.slot) o) → list_any hits (flat_map (touched_lines s.numbers.geometry s.index) writes) ≡ true
               which None wrote none = absurd (none slot lt held-by)
               which (Some w) wrote has = its w wrote w.slot refl has
 
           -- it holds the newest version of a key that is written
-          by-ended : (slot : ℕ) → slot < s.numbers.geometry.slots → (key : Key) → h.held slot ≡ Some (newest_of old key) → writes_key key commit ≡ true → hits-slot slot ≡ true → list_any hits (flat_map (touched_lines s.numbers.geometry s.index) writes) ≡ true
+          by-ended : (slot : ℕ) → slot < s.numbers.geometry.slots → (key : Key) → h.held slot ≡ Some (newest_of old key) → writes_key key commit ≡ true → first-hits slot ≡ true → list_any hits (flat_map (touched_lines s.numbers.geometry s.index) writes) ≡ true
           by-ended slot lt key held-by wrote hit = which (write_of key writes) refl (sym (writes-plain key t writes) ∙ wrote) (live_of (entry_at s.index key)) refl (holds.agrees.index key).live
             where
               which : (o : Option Write) → write_of key writes ≡ o → is_some (write_of key writes) ≡ true → (e : Option ℕ) → live_of (entry_at s.index key) ≡ e → IsSlotOf old (newest_of old key) e → list_any hits (flat_map (touched_lines s.numbers.geometry s.index) writes) ≡ true
@@ -405,40 +452,40 @@ module _ (s : Sessions) (h : Hidden) (n : ℕ) (snapshot : Seen) (writes : List 
               which (Some w) found some None is lives = absurd (lives slot lt held-by)
               which (Some w) found some (Some other) is lives =
                   let same : other ≡ slot = holds.keeps.owns.once other slot (newest_of old key) lives.0 lt lives.1 held-by in
-                  write-there key w slot found (inr (is ∙ ap (λ (k : ℕ). Some k) same)) hit
+                  write-there key w slot found (inr (is ∙ ap (λ (k : ℕ). Some k) same, hit))
 
-          by-holder : (slot : ℕ) → slot < s.numbers.geometry.slots → (o : Option Version) → h.held slot ≡ o → (is_own (commit ∷ []) (by_commit n t o) || is_ended then (commit ∷ []) (by_commit n t o)) ≡ true → hits-slot slot ≡ true
+          by-holder : (slot : ℕ) → slot < s.numbers.geometry.slots → (o : Option Version) → h.held slot ≡ o → (is_own (commit ∷ []) (by_commit n t o) && own-hits slot || is_ended then (commit ∷ []) (by_commit n t o) && first-hits slot) ≡ true
               → list_any hits (flat_map (touched_lines s.numbers.geometry s.index) writes) ≡ true
-          by-holder slot lt None is either hit = absurd (cc either)
-          by-holder slot lt (Some v) is either hit = by v.writer is either
+          by-holder slot lt None is either = absurd (cc either)
+          by-holder slot lt (Some v) is either = by v.writer is either
             where
               late : (u : ℕ) → u ≡ t → h.held slot ≡ Some (version_by v.key (ByCommit u)) → ⊥
               late u same held-by = absurd (omega (arith, same, holds.keeps.owns.before slot u v.key lt held-by))
 
               mine : (m : ℕ) (b : Bool) → nat_eq m n ≡ b → h.held slot ≡ Some (version_by v.key (BySession m))
-                  → (is_own (commit ∷ []) (Some (version_by v.key (cond b (ByCommit t) (BySession m)))) || is_ended then (commit ∷ []) (Some (version_by v.key (cond b (ByCommit t) (BySession m))))) ≡ true
+                  → (is_own (commit ∷ []) (Some (version_by v.key (cond b (ByCommit t) (BySession m)))) && own-hits slot || is_ended then (commit ∷ []) (Some (version_by v.key (cond b (ByCommit t) (BySession m)))) && first-hits slot) ≡ true
                   → list_any hits (flat_map (touched_lines s.numbers.geometry s.index) writes) ≡ true
-              mine m true same held-by either = let e : m ≡ n = grind (arith, nat_tests) in by-own slot lt v.key (held-by ∙ ap (λ (k : ℕ). Some (version_by v.key (BySession k))) e) hit
+              mine m true same held-by either =
+                  let e : m ≡ n = grind (arith, nat_tests) in
+                  by-own slot lt v.key (held-by ∙ ap (λ (k : ℕ). Some (version_by v.key (BySession k))) e) (either-hits _ _ (own-hits slot) (first-hits slot) (first-own slot) either)
               mine m false same held-by either = absurd (cc either)
 
               theirs : (u : ℕ) → h.held slot ≡ Some (version_by v.key (ByCommit u)) → (a : Bool) → nat_eq t u ≡ a → (b : Bool) → nat_eq (last_writer h.history v.key) u ≡ b → (c : Bool) → writes_key v.key commit ≡ c
-                  → ((a || false) || (b && (c || false))) ≡ true → list_any hits (flat_map (touched_lines s.numbers.geometry s.index) writes) ≡ true
+                  → ((a || false) && own-hits slot || b && (c || false) && first-hits slot) ≡ true → list_any hits (flat_map (touched_lines s.numbers.geometry s.index) writes) ≡ true
               theirs u held-by true now b last c wrote either = let e : u ≡ t = grind (arith, nat_tests) in absurd (late u e held-by)
               theirs u held-by false now true last true wrote either =
                   let e : u ≡ last_writer h.history v.key = grind (arith, nat_tests) in
-                  by-ended slot lt v.key (held-by ∙ ap (λ (k : ℕ). Some (version_by v.key (ByCommit k))) e) wrote hit
+                  by-ended slot lt v.key (held-by ∙ ap (λ (k : ℕ). Some (version_by v.key (ByCommit k))) e) wrote either
               theirs u held-by false now true last false wrote either = absurd (cc either)
               theirs u held-by false now false last c wrote either = absurd (cc either)
 
-              by : (w : Writer) → h.held slot ≡ Some (version_by v.key w) → (is_own (commit ∷ []) (by_commit n t (Some (version_by v.key w))) || is_ended then (commit ∷ []) (by_commit n t (Some (version_by v.key w)))) ≡ true
+              by : (w : Writer) → h.held slot ≡ Some (version_by v.key w) → (is_own (commit ∷ []) (by_commit n t (Some (version_by v.key w))) && own-hits slot || is_ended then (commit ∷ []) (by_commit n t (Some (version_by v.key w))) && first-hits slot) ≡ true
                   → list_any hits (flat_map (touched_lines s.numbers.geometry s.index) writes) ≡ true
               by (BySession m) held-by either = mine m (nat_eq m n) refl held-by either
               by (ByCommit u) held-by either = theirs u held-by (nat_eq t u) refl (nat_eq (last_writer h.history v.key) u) refl (writes_key v.key commit) refl either
 
           at-found : (slot : ℕ) × (0 ≤ slot) × (slot < 0 + s.numbers.geometry.slots) × (at-slot slot ≡ true) → list_any hits (flat_map (touched_lines s.numbers.geometry s.index) writes) ≡ true
-          at-found one =
-              let both = and_parts (own-at one.0 || ended-at one.0) (hits-slot one.0) (sym (at-is one.0 (own-at one.0) (ended-at one.0)) ∙ one.3) in
-              by-holder one.0 (omega (arith, one.2)) (h.held one.0) refl both.0 both.1
+          at-found one = by-holder one.0 (omega (arith, one.2)) (h.held one.0) refl (sym (at-is one.0 (own-at one.0) (ended-at one.0)) ∙ one.3)
 
       lines-new : list_any hits (flat_map (touched_lines s.numbers.geometry s.index) writes) ≡ list_any hits (line_numbers then (commit ∷ []))
       lines-new = both-ways _ _ there back

@@ -1,8 +1,8 @@
 -- Draw.
-use Rattle.std.proofs.Common.{◌≡◌, ◌≢◌, inl, ℕ, ◌+◌, ◌*◌, ◌/◌, ◌^◌, Bool, true, false, ◌&&◌, ◌||◌, cond, not, List, [], ◌∷◌, ◌++◌, map, refl, sym, ◌∙◌, ap, subst, nat_eq, nat_le}
+use Rattle.std.proofs.Common.{◌≡◌, ◌≢◌, inl, ℕ, ◌+◌, ◌*◌, ◌^◌, Bool, true, false, ◌&&◌, ◌||◌, cond, not, List, [], ◌∷◌, ◌++◌, refl, sym, ◌∙◌, ap, subst, nat_eq, nat_le}
 use Rattle.std.specs.Prelude.{Option, Some, None, All}
 use Rattle.std.specs.List.{flat_map}
-use Rattle.std.specs.Option.{option_map, option_to_list}
+use Rattle.std.specs.Option.{option_map, option_map_or}
 use Rattle.std.proofs.lemmas.List.{map-append}
 use Rattle.base.specs.declared.key.Key.{Key}
 use Rattle.base.specs.declared.fault.Fault.{Fault}
@@ -12,7 +12,6 @@ use Rattle.base.specs.declared.step.Reply.TheVariants as reply
 use Rattle.base.specs.declared.step.SessionStep.TheVariants.{Draw}
 use Rattle.base.specs.declared.step.SessionReply.TheVariants.{Done, Drawn as DrewAs, Refused}
 use Rattle.base.specs.Commits.{Writes}
-use Rattle.base.specs.Layout.{slot_start}
 use Rattle.base.specs.Search.{first_of as first_there, some_if}
 use Rattle.base.specs.Machine.{State, Session, Active as Reads, answered, memory_refused, refusal, conflict_of, writes_of, is_nil, state_drawn, is_too_long, overfills, lacks_slot, chooses, by_commit}
 use Rattle.snapshot.specs.Snapshots.{Seen}
@@ -29,7 +28,7 @@ use Rattle.index.specs.declared.entry.Entry.{Entry}
 use Rattle.index.specs.Entries.{entry_at, has_room, live_of, KeepsRoom}
 use Rattle.session_steps.specs.declared.numbers.Numbers.{Numbers}
 use Rattle.session_steps.specs.declared.sessions.Sessions.{Sessions}
-use Rattle.session_steps.specs.Drawing.{conflict_in, touched_lines, drawn_entry}
+use Rattle.session_steps.specs.Drawing.{conflict_in, own_lines, ended_lines, touched_lines, drawn_entry}
 use Rattle.session_steps.specs.Shows.{Hidden, plain_of, plain_session, plain_drawn, HoldsEntry, Agrees}
 use Rattle.session_steps.specs.Steps.{Holds, Goes}
 use Rattle.session_steps.proofs.Changing.{agrees-changed}
@@ -110,7 +109,7 @@ draws-plain s h n snapshot (write ∷ writes) holds at ts spare index dirty some
 
 -- the room and the lines by an index with the same entries
 lines-same : (s : Sessions) (index : List (Key × Entry)) (writes : List Write) → ((key : Key) → entry_at index key ≡ entry_at s.index key) → flat_map (touched_lines s.numbers.geometry index) writes ≡ flat_map (touched_lines s.numbers.geometry s.index) writes
-lines-same s index writes same = λ i. flat_map (λ write. map (λ slot. slot_start s.numbers.geometry slot / 8) (option_to_list write.slot ++ option_to_list (live_of (same write.key i)))) writes
+lines-same s index writes same = λ i. flat_map (λ write. option_map_or (own_lines s.numbers.geometry) write.slot [] ++ option_map_or (ended_lines s.numbers.geometry) (live_of (same write.key i)) []) writes
 
 -- so it is where the index has got room first
 pub draws : (s : Sessions) (h : Hidden) (n u : ℕ) (snapshot : Seen) (writes : List Write) (numbers : Numbers) (ts : List (Option Transaction)) (commits : InFlight) (grown index : List (Key × Entry)) (dirty : List Touch) (lines : List ℕ) → Holds s h

@@ -17,7 +17,6 @@ pub mod Freeing
 pub mod Filters
 pub mod CoveredIndex
 pub mod CoveredBatch
-pub mod OpenedIndex
 pub mod OpenedSlots
 pub mod OpenedStates
 pub mod Failing

@@ -17,7 +17,7 @@ use Rattle.base.specs.Commits.{Writes, with_write}
 use Rattle.base.specs.Keys.{key_eq, lookup_key}
 use Rattle.base.specs.Layout.{Layout, row_limit, slot_start, slot_words}
 use Rattle.base.specs.Search.{first_below, first_of as first_there, some_if}
-use Rattle.base.specs.Machine.{State, Session, Active as Reads, Version, BySession, answered, device_failed, refusal, next_state, begun_of, writes_of, replaced, held_at, held_with, held_after_put, own_slot, free_slot, lacks_slot, most_writes, StandsWithin}
+use Rattle.base.specs.Machine.{State, Session, Active as Reads, Version, BySession, answered, device_failed, refusal, next_state, begun_of, writes_of, replaced, held_at, held_with, held_after_put, own_slot, free_slot, lacks_slot, overfills, most_writes, StandsWithin}
 use Rattle.pmem.specs.Device.{Device, IsOrderly}
 use Rattle.pmem.specs.Trace.{Operation, store_op, failure}
 use Rattle.pmem.specs.Words.{LeavesOnly}
@@ -59,36 +59,47 @@ use Rattle.session_steps.proofs.Tests.{same-drawers}
 
 -- ---- what is asked of a put
 
--- a row of 32 bytes is never too long
-short : (version len : ℕ) → len ≤ 32 → nat_lt (row_limit version) len ≡ false
-short version len le = by (nat_eq version 3)
-  where
-    by : (b : Bool) → nat_lt (cond b 96 32) len ≡ false
-    by true = grind (arith, nat_tests)
-    by false = grind (arith, nat_tests)
+-- a row that a slot holds is not too long
+short : (limit len : ℕ) → len ≤ limit → nat_lt limit len ≡ false
+short limit len le = grind (arith, nat_tests)
 
-asks : (q : State) (n begun : ℕ) (key : Key) (row : List ℕ) (writes : Writes) (full lacks : Bool) → q.failed ≡ false → q.sessions n ≡ Some (Reads begun writes) → length row ≤ 32
+-- one that a slot doesn't hold is
+long : (limit len : ℕ) → limit < len → nat_lt limit len ≡ true
+long limit len lt = grind (arith, nat_tests)
+
+asks : (q : State) (n begun : ℕ) (key : Key) (row : List ℕ) (writes : Writes) (full lacks : Bool) → q.failed ≡ false → q.sessions n ≡ Some (Reads begun writes) → length row ≤ row_limit q.layout.version
     → (is_none (lookup_key writes key) && nat_le most_writes (length writes)) ≡ full → lacks_slot q (step.Put n key row) ≡ lacks
     → refusal q (step.Put n key row) ≡ first_there (some_if full WriteSetFull ∷ some_if lacks SlotsOut ∷ [])
 asks q n begun key row writes full lacks works found le is_full is_lacks =
     passes q (step.Put n key row) n (Reads begun writes) works refl found refl
     ∙ (λ i. first_there (
-    some_if (short q.layout.version (length row) le i) TooLong
+    some_if (short (row_limit q.layout.version) (length row) le i) TooLong
     ∷ some_if (is_none (lookup_key (writes_of (found i)) key) && nat_le most_writes (length (writes_of (found i)))) WriteSetFull
     ∷ some_if (is_lacks i) SlotsOut
     ∷ []))
     ∙ (λ i. first_there (some_if (is_full i) WriteSetFull ∷ some_if lacks SlotsOut ∷ []))
 
 pub put-asks : (s : Sessions) (h : Hidden) (n : ℕ) (key : Key) (row : List ℕ) (snapshot : Seen) (writes : List Write) (full lacks : Bool) → Holds s h → transaction_at s.transactions n ≡ Some (Active snapshot writes)
-    → length row ≤ 32 → is_full_of key writes ≡ full → lacks_slot (plain_of s h) (step.Put n key row) ≡ lacks
+    → length row ≤ row_limit s.numbers.geometry.version → is_full_of key writes ≡ full → lacks_slot (plain_of s h) (step.Put n key row) ≡ lacks
     → refusal (plain_of s h) (step.Put n key row) ≡ first_there (some_if full WriteSetFull ∷ some_if lacks SlotsOut ∷ [])
 put-asks s h n key row snapshot writes full lacks holds at le is_full is_lacks =
     asks (plain_of s h) n (h.seen n) key row (plain_writes writes) full lacks holds.works (ap (λ (t : Option Transaction). option_map (plain_session (h.seen n)) t) at) le (full-plain key writes ∙ is_full) is_lacks
 
 -- the session has written as many keys as it may
-pub full-refusal : (s : Sessions) (h : Hidden) (n : ℕ) (key : Key) (row : List ℕ) (snapshot : Seen) (writes : List Write) → Holds s h → transaction_at s.transactions n ≡ Some (Active snapshot writes) → length row ≤ 32 → is_full_of key writes ≡ true
-    → refusal (plain_of s h) (step.Put n key row) ≡ Some WriteSetFull
+pub full-refusal : (s : Sessions) (h : Hidden) (n : ℕ) (key : Key) (row : List ℕ) (snapshot : Seen) (writes : List Write) → Holds s h → transaction_at s.transactions n ≡ Some (Active snapshot writes)
+    → length row ≤ row_limit s.numbers.geometry.version → is_full_of key writes ≡ true → refusal (plain_of s h) (step.Put n key row) ≡ Some WriteSetFull
 full-refusal s h n key row snapshot writes holds at le full = put-asks s h n key row snapshot writes true (lacks_slot (plain_of s h) (step.Put n key row)) holds at le full refl
+
+-- the row is longer than a slot holds
+pub long-refusal : (s : Sessions) (h : Hidden) (n : ℕ) (key : Key) (row : List ℕ) (snapshot : Seen) (writes : List Write) → Holds s h → transaction_at s.transactions n ≡ Some (Active snapshot writes)
+    → row_limit s.numbers.geometry.version < length row → refusal (plain_of s h) (step.Put n key row) ≡ Some TooLong
+long-refusal s h n key row snapshot writes holds at lt =
+    passes (plain_of s h) (step.Put n key row) n (Reads (h.seen n) (plain_writes writes)) holds.works refl (ap (λ (t : Option Transaction). option_map (plain_session (h.seen n)) t) at) refl
+    ∙ (λ i. first_there (
+    some_if (long (row_limit s.numbers.geometry.version) (length row) lt i) TooLong
+    ∷ some_if (overfills (plain_of s h) (step.Put n key row)) WriteSetFull
+    ∷ some_if (lacks_slot (plain_of s h) (step.Put n key row)) SlotsOut
+    ∷ []))
 
 -- ---- the slot
 
@@ -142,7 +153,7 @@ fill-only n a slot v = stores-only n (slot_start a slot + 1) (λ k. filled_word 
 -- ---- the step
 
 module _ (s : Sessions) (h : Hidden) (n : ℕ) (snapshot : Seen) (writes : List Write) (v : Content) (slot : ℕ) (before now : Device) (holds : HoldsOn s h before) (at : transaction_at s.transactions n ≡ Some (Active snapshot writes))
-    (room : is_full_of v.key writes ≡ false) (short-row : length v.row ≤ 32) where
+    (room : is_full_of v.key writes ≡ false) (short-row : length v.row ≤ row_limit s.numbers.geometry.version) where
   abbrev q : State
   q = plain_of s h
 
@@ -382,7 +393,7 @@ given-again free slot lowest =
 
 -- none is free, or the device stopped
 pub puts-untaken : (s : Sessions) (h : Hidden) (n : ℕ) (snapshot : Seen) (writes : List Write) (v : Content) (slots : List Bool) (before now : Device) (fault : Fault) → IsOrderly before → HoldsOn s h before → transaction_at s.transactions n ≡ Some (Active snapshot writes)
-    → is_full_of v.key writes ≡ false → length v.row ≤ 32 → own_of v.key writes ≡ None → slots ≡ s.slots → (fault ≡ SlotsOut) ⊎ (fault ≡ DeviceFault) → (fault ≡ SlotsOut → lowest_free s.slots ≡ None) → (fault ≡ SlotsOut → now ≡ before)
+    → is_full_of v.key writes ≡ false → length v.row ≤ row_limit s.numbers.geometry.version → own_of v.key writes ≡ None → slots ≡ s.slots → (fault ≡ SlotsOut) ⊎ (fault ≡ DeviceFault) → (fault ≡ SlotsOut → lowest_free s.slots ≡ None) → (fault ≡ SlotsOut → now ≡ before)
     → (fault ≡ DeviceFault → (slot : ℕ) × (lowest_free s.slots ≡ Some slot) × StopsWithin (clear_operations s.numbers.geometry n slot) before now) → GoesOn s (record s { slots = slots }) before now (Put n v.key v.row) (Refused fault) h
 puts-untaken s h n snapshot writes v slots before now fault orderly holds at room short-row none same either out unmoved stops =
     subst (λ (xs : List Bool). GoesOn s (record s { slots = xs }) before now (Put n v.key v.row) (Refused fault) h) (sym same) (by either)
@@ -400,7 +411,7 @@ puts-untaken s h n snapshot writes v slots before now fault orderly holds at roo
 
 -- the device stopped in filling the slot, which is freed again
 pub puts-returned : (s : Sessions) (h : Hidden) (n : ℕ) (snapshot : Seen) (writes : List Write) (v : Content) (slot : ℕ) (slots : List Bool) (before mid now : Device) (fault : Fault) → HoldsOn s h before → transaction_at s.transactions n ≡ Some (Active snapshot writes)
-    → is_full_of v.key writes ≡ false → length v.row ≤ 32 → own_of v.key writes ≡ None → lowest_free s.slots ≡ Some slot → slots ≡ slice_set (slice_set s.slots slot false) slot true → fault ≡ DeviceFault
+    → is_full_of v.key writes ≡ false → length v.row ≤ row_limit s.numbers.geometry.version → own_of v.key writes ≡ None → lowest_free s.slots ≡ Some slot → slots ≡ slice_set (slice_set s.slots slot false) slot true → fault ≡ DeviceFault
     → Runs (clear_operations s.numbers.geometry n slot) before mid → StopsWithin (fill_operations s.numbers.geometry slot v) mid now → GoesOn s (record s { slots = slots }) before now (Put n v.key v.row) (Refused fault) h
 puts-returned s h n snapshot writes v slot slots before mid now fault holds at room short-row none lowest given is run stops =
     subst (λ (xs : List Bool). GoesOn s (record s { slots = xs }) before now (Put n v.key v.row) (Refused fault) h) (sym (given ∙ given-again s.slots slot lowest))

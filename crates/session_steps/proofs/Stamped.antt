@@ -17,7 +17,6 @@ use Rattle.base.specs.declared.step.SessionReply.{SessionReply}
 use Rattle.base.specs.declared.step.SessionReply.TheVariants.{Stamped, More, Refused}
 use Rattle.base.specs.SessionSteps.{as_reply}
 use Rattle.base.specs.Commits.{Commit, writes_key}
-use Rattle.base.specs.declared.key.Key.{Key}
 use Rattle.base.specs.Layout.{Layout}
 use Rattle.base.specs.Stands.{has_timestamp}
 use Rattle.base.specs.Machine.{State, Session, Drawn as PlainDrawn, ByCommit, Drew, IsCovered, IsStamped, IsDrawn, answered, device_failed, refusal, next_state, allows, standing_of, is_stamped, timestamp_of, counted, drawn_at, stamped_write, is_last_stamp, StandsWithin}

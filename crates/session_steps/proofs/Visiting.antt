@@ -345,7 +345,7 @@ module _ (s : Sessions) (h : Hidden) (before now : Device) (holds : HoldsOn s h 
 
       module _ (found : Content) (free : is_free slots place ≡ true) (read : IsSlot a (slot_at a place (value_of now)) found) where
         found-key : (g : IsGarbage q place) → found.version.key ≡ g.key
-        found-key g = sym (read-key now a place size u.keeps.numbers.layout lt laid found read) ∙ (spelt g).1.at
+        found-key g = sym (read-key now a place size lt laid found read) ∙ (spelt g).1.at
 
         held-none : is_garbage q place ≡ false → h.held place ≡ None
         held-none live = nothing (h.held place) (sym (ap (λ (o : Option Version). is_none o) (held-other place (λ same. live))) ∙ sym free-at ∙ free)
@@ -398,7 +398,7 @@ module _ (s : Sessions) (h : Hidden) (before now : Device) (holds : HoldsOn s h 
             where
               live : (b : Bool) → is_garbage q place ≡ b → b ≡ false
               live false is = refl
-              live true is = absurd (no-slot now a place size u.keeps.numbers.layout lt laid orderly' none (spelt (garbage-is h.origin q place u.keeps is)).1.fits)
+              live true is = absurd (no-slot now a place size lt laid orderly' none (spelt (garbage-is h.origin q place u.keeps is)).1.fits)
           by (gone found free read sets) = subst (HoldsEntry h.origin then key) (sym (sets key)) (which (key_eq found.version.key key) refl)
             where
               which : (b : Bool) → key_eq found.version.key key ≡ b → HoldsEntry h.origin then key (cond b (forgotten place (entry_at s.index found.version.key)) (entry_at s.index key))

@@ -1,9 +1,10 @@
 -- What a draw asks, and what it touches.
-use Rattle.std.specs.Prelude.{ℕ, ◌/◌, Bool, ◌&&◌, List, map, ◌++◌, find, Option, Some, None}
-use Rattle.std.specs.List.{list_all}
-use Rattle.std.specs.Option.{option_to_list}
+use Rattle.std.specs.Prelude.{ℕ, ◌+◌, ◌/◌, Bool, ◌&&◌, List, [], ◌∷◌, map, ◌++◌, find, Option, Some, None}
+use Rattle.std.specs.List.{list_all, range_with_len}
+use Rattle.std.specs.Option.{option_map_or}
 use Rattle.base.specs.declared.key.Key.{Key}
 use Rattle.base.specs.Layout.{Layout, slot_start}
+use Rattle.base.specs.Machine.{version_lines}
 use Rattle.snapshot.specs.Snapshots.{Seen}
 use Rattle.txn.specs.declared.write.Write.{Write}
 use Rattle.index.specs.declared.entry.Entry.{Entry}
@@ -15,15 +16,19 @@ use Rattle.session_steps.specs.Giving.{fits_slot}
 abbrev pub conflict_in : List (Key × Entry) → Seen → List Write → Option Key
 conflict_in entries snapshot writes = find (λ key. is_unseen snapshot (entry_at entries key).last) (map (λ write. write.key) writes)
 
--- the slots of the version that the write makes and of the one that it ends
-abbrev pub touched_slots : List (Key × Entry) → Write → List ℕ
-touched_slots entries write = option_to_list write.slot ++ option_to_list (live_of (entry_at entries write.key))
+-- the lines of a version that is made: all of its slot
+abbrev pub own_lines : Layout → ℕ → List ℕ
+own_lines a slot = map (λ part. slot_start a slot / 8 + part) (range_with_len 0 (version_lines a))
 
--- their first lines
+-- the line of a version that is ended: the first of its slot, where its end stands
+abbrev pub ended_lines : Layout → ℕ → List ℕ
+ended_lines a slot = slot_start a slot / 8 ∷ []
+
+-- the lines of the version that the write makes and of the one that it ends
 abbrev pub touched_lines : Layout → List (Key × Entry) → Write → List ℕ
-touched_lines a entries write = map (λ slot. slot_start a slot / 8) (touched_slots entries write)
+touched_lines a entries write = option_map_or (own_lines a) write.slot [] ++ option_map_or (ended_lines a) (live_of (entry_at entries write.key)) []
 
--- they are among the layout's
+-- their slots are among the layout's
 abbrev pub fits_touched : Layout → List (Key × Entry) → List Write → Bool
 fits_touched a entries writes = list_all (λ write. fits_slot a.slots write.slot && fits_slot a.slots (live_of (entry_at entries write.key))) writes
 

@@ -1,10 +1,14 @@
 -- Slots that are freed.
-use Rattle.std.specs.Prelude.{◌≡◌, ℕ, Bool, true, ◌&&◌, nat_lt, nat_le, is_none, List, length, slice_get, slice_set, Option, Some, None, Contains}
+use Rattle.std.specs.Prelude.{◌≡◌, ℕ, Bool, true, false, ◌&&◌, nat_lt, nat_le, is_none, List, length, slice_get, slice_set, Option, Some, None, Contains}
 use Rattle.std.specs.List.{list_all}
 use Rattle.std.specs.Option.{option_and_then}
 use Rattle.base.specs.declared.key.Key.{Key}
 use Rattle.txn.specs.declared.write.Write.{Write}
-use Rattle.txn.specs.WriteSets.{write_of}
+use Rattle.snapshot.specs.Snapshots.{Seen}
+use Rattle.txn.specs.declared.transaction.Transaction.{Transaction}
+use Rattle.txn.specs.declared.transaction.Transaction.TheVariants.{Active}
+use Rattle.txn.specs.Transactions.{transaction_at}
+use Rattle.txn.specs.WriteSets.{HasRoomFor, write_of}
 
 -- the slot, if there is one, is one of so many
 abbrev pub fits_slot : ℕ → Option ℕ → Bool
@@ -33,3 +37,12 @@ given (Some slot) free = slice_set free slot true
 -- the writes are as many as they may be, and none is of the key
 abbrev pub is_full_of : Key → List Write → Bool
 is_full_of key writes = is_none (write_of key writes) && nat_le 32 (length writes)
+
+-- the session is Active, may write the key, and has this slot for it, if any
+pub record IsReady (transactions : List (Option Transaction)) (session : ℕ) (key : Key) (own : Option ℕ) : Type 0 where
+  pub snapshot : Seen
+  pub writes : List Write
+  pub active : transaction_at transactions session ≡ Some (Active snapshot writes)
+  pub room : HasRoomFor key writes
+  pub fits : is_full_of key writes ≡ false
+  pub slot : own_of key writes ≡ own

@@ -1,5 +1,5 @@
 -- What an opening gives to the sessions.
-use Rattle.std.specs.Prelude.{◌≡◌, ◌⊎◌, ℕ, ◌<◌, Bool, true, false, List, [], slice_get, Some, None, is_none, is_some}
+use Rattle.std.specs.Prelude.{◌≡◌, ℕ, ◌<◌, Bool, true, false, List, [], slice_get, Some, None, is_none, is_some}
 use Rattle.base.specs.declared.key.Key.{Key}
 use Rattle.base.specs.Layout.{Layout}
 use Rattle.base.specs.Records.{Record}
@@ -7,7 +7,7 @@ use Rattle.base.specs.Images.{Image, key_of, is_misfit}
 use Rattle.base.specs.Machine.{State}
 use Rattle.pmem.specs.Device.{Device}
 use Rattle.index.specs.declared.entry.Entry.{Entry}
-use Rattle.index.specs.Entries.{blank, entry_at, Sets}
+use Rattle.index.specs.Entries.{blank, entry_at}
 use Rattle.state_invariant.specs.Kept.{origin_of}
 use Rattle.device_invariant.specs.Upholds.{Upholds}
 use Rattle.session_steps.specs.declared.sessions.Sessions.{Sessions}
@@ -32,11 +32,6 @@ abbrev pub ShowsOpened : Sessions → Device → Layout → Record → ℕ → L
 ShowsOpened s device a ruling next free = (q : State) → Begins a ruling next free q → Upholds (origin_of q) q device → Shows s device q
 
 -- ---- the index
-
--- the slot is indexed under its key; words that are no version's index nothing
-abbrev pub FindsAt : Image → ℕ → List (Key × Entry) → List (Key × Entry) → Type 0
-FindsAt image slot old new =
-    (is_misfit image slot ≡ true) × (new ≡ old) ⊎ Sets old new (key_of image slot) (record (entry_at old (key_of image slot)) { newest = Some slot; ended = false })
 
 -- Of the first so many slots those that aren't free are found: each key of such a slot has one of them, and nothing else is
 -- known of any key

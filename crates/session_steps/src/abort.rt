@@ -1,3 +1,4 @@
+use crate::active::active_in;
 use crate::giving::give_back;
 use crate::sessions::Sessions;
 use base::step::SessionReply;
@@ -11,9 +12,9 @@ impl Sessions {
         requires shown { ∥ HoldsSome self.old ∥₁ }
         ensures step { Takes self.old self.new (Abort session) result }
     {
-        match self.active(session) {
+        match active_in(&self.transactions, session) {
             Ok(active) => {
-                give_back(&mut self.slots, &active.writes);
+                give_back(&mut self.slots, active.writes);
                 self.transactions.end(session);
                 SessionReply::Done
             }

@@ -1,19 +1,21 @@
-ghost use Rattle.std.specs.Prelude.{◌≡◌};
+ghost use Rattle.std.specs.Prelude.{◌≡◌, ◌<◌, ◌≤◌, Some, IfOk, IfErr};
 ghost use Rattle.std.specs.Bool.{OnFalse};
+ghost use Rattle.txn.specs.Transactions.{transaction_at};
 ghost use Rattle.txn.specs.WriteSets.{HasRoomFor};
+ghost use Rattle.txn.specs.declared.transaction.Transaction.TheVariants.{Active as IsActiveWith};
 ghost use Rattle.session_steps.specs.Giving.{is_full_of};
+ghost use Rattle.session_steps.specs.Steps.{IsBarred, is_active};
 
-use crate::sessions::Sessions;
 use base::fault::Fault;
 use base::key::Key;
 use snapshot::Snapshot;
-use txn::{Transaction, WriteSet};
+use txn::{Transaction, Transactions, WriteSet};
 
 /// What an Active session reads and has written.
 #[derive(Clone, Copy)]
-pub struct Active {
-    pub snapshot: Snapshot,
-    pub writes: WriteSet,
+pub struct Active<'a> {
+    pub snapshot: &'a Snapshot,
+    pub writes: &'a WriteSet,
 }
 
 /// Whether the writes are as many as they may be, and none is of the key.
@@ -24,26 +26,16 @@ pub fn is_full_for(writes: &WriteSet, key: Key) -> bool
     writes.find(key).is_none() && writes.is_full()
 }
 
-impl Sessions {
-    ghost use Rattle.std.specs.Prelude.{◌<◌, ◌≤◌, Some, IfOk, IfErr};
-    ghost use Rattle.txn.specs.Transactions.{transaction_at};
-    ghost use Rattle.txn.specs.declared.transaction.Transaction.TheVariants.{Active as IsActiveWith};
-    ghost use Rattle.session_steps.specs.Steps.{IsBarred, is_active};
-
-    // The session of this number, where it is Active.
-    pub(crate) fn active(&self, session: u8) -> Result<Active, Fault>
-        ensures ok { IfOk result (λ found. transaction_at self.now.transactions session ≡ Some (IsActiveWith found.snapshot found.writes)) }
-        ensures within { IfOk result (λ found. (2 ≤ session) × (session < 64)) }
-        ensures fault { IfErr result (λ fault. IsBarred is_active (transaction_at self.now.transactions session) fault) }
-    {
-        match self.transactions.get(session) {
-            None => Err(Fault::NoSession),
-            Some(Transaction::Active { snapshot, writes }) => Ok(Active {
-                snapshot: *snapshot,
-                writes: *writes,
-            }),
-            Some(Transaction::Drawn(_)) => Err(Fault::WrongState),
-            Some(Transaction::ReadOnly) => Err(Fault::WrongState),
-        }
+/// The session of this number, where it is Active.
+pub fn active_in(transactions: &Transactions, session: u8) -> Result<Active<'_>, Fault>
+    ensures ok { IfOk result (λ found. transaction_at transactions.now session ≡ Some (IsActiveWith found.snapshot.now found.writes.now)) }
+    ensures within { IfOk result (λ found. (2 ≤ session) × (session < 64)) }
+    ensures fault { IfErr result (λ fault. IsBarred is_active (transaction_at transactions.now session) fault) }
+{
+    match transactions.get(session) {
+        None => Err(Fault::NoSession),
+        Some(Transaction::Active { snapshot, writes }) => Ok(Active { snapshot, writes }),
+        Some(Transaction::Drawn(_)) => Err(Fault::WrongState),
+        Some(Transaction::ReadOnly) => Err(Fault::WrongState),
     }
 }

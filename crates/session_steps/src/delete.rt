@@ -1,4 +1,4 @@
-use crate::active::is_full_for;
+use crate::active::{active_in, is_full_for};
 use crate::giving::{give, own_slot};
 use crate::sessions::Sessions;
 use base::fault::Fault;
@@ -15,14 +15,14 @@ impl Sessions {
         requires shown { ∥ HoldsSome self.old ∥₁ }
         ensures step { Takes self.old self.new (Delete session key) result }
     {
-        let active = match self.active(session) {
+        let active = match active_in(&self.transactions, session) {
             Ok(active) => active,
             Err(fault) => return SessionReply::Refused(fault),
         };
-        if is_full_for(&active.writes, key) {
+        if is_full_for(active.writes, key) {
             return SessionReply::Refused(Fault::WriteSetFull);
         }
-        give(&mut self.slots, own_slot(&active.writes, key));
+        give(&mut self.slots, own_slot(active.writes, key));
         let deletion = Write {
             key,
             row: None,

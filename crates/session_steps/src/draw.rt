@@ -1,28 +1,29 @@
-ghost use Rattle.std.specs.Prelude.{◌≡◌, ℕ, true, IsTrue, All, IfErr, IfOk, OnOk};
+ghost use Rattle.std.specs.Prelude.{◌≡◌, ◌<◌, ◌++◌, ℕ, true, IsTrue, All, IfErr, IfOk, OnOk};
 ghost use Rattle.std.specs.List.{flat_map};
 ghost use Rattle.base.specs.declared.fault.Fault.TheVariants.{OutOfMemory};
 ghost use Rattle.base.specs.declared.key.Key.{Key as KeyValue};
 ghost use Rattle.index.specs.Entries.{entry_at, has_room, KeepsRoom};
 ghost use Rattle.txn.specs.WriteSets.{write_of};
-ghost use Rattle.session_steps.specs.Drawing.{fits_touched, touched_lines, drawn_entry};
+ghost use Rattle.session_steps.specs.Drawing.{conflict_in, fits_touched, own_lines, touched_lines, drawn_entry};
 
-use crate::active::Active;
+use crate::active::active_in;
 use crate::sessions::Sessions;
-use base::Ts;
 use base::fault::Fault;
 use base::geometry::Geometry;
 use base::key::Key;
 use base::step::SessionReply;
+use base::{SlotNo, Ts};
 use index::Index;
+use snapshot::Snapshot;
 use std::alloc::{AllocError, Global};
 use txn::{DrawnCommit, Transaction, WriteSet};
 
 impl Sessions {
-    ghost use Rattle.std.specs.Prelude.{◌≢◌, ◌<◌, ◌+◌, ◌*◌, ◌^◌, nat_eq, nat_le, false, find, map, [], Some, None};
+    ghost use Rattle.std.specs.Prelude.{◌≢◌, ◌+◌, ◌*◌, ◌^◌, nat_eq, nat_le, false, find, map, [], Some, None};
     ghost use Rattle.base.specs.declared.step.SessionStep.TheVariants.{Draw};
+    ghost use Rattle.snapshot.specs.Snapshots.{Seen};
     ghost use Rattle.txn.specs.Transactions.{transaction_at};
     ghost use Rattle.txn.specs.declared.transaction.Transaction.TheVariants.{Active as IsActiveWith};
-    ghost use Rattle.session_steps.specs.Drawing.{conflict_in};
     ghost use Rattle.session_steps.specs.Steps.{HoldsSome, Takes};
 
     // Draws a timestamp for what a session has written.
@@ -30,7 +31,7 @@ impl Sessions {
         requires shown { ∥ HoldsSome self.old ∥₁ }
         ensures step { Takes self.old self.new (Draw session) result }
     {
-        let active = match self.active(session) {
+        let active = match active_in(&self.transactions, session) {
             Ok(active) => active,
             Err(fault) => return SessionReply::Refused(fault),
         };
@@ -38,7 +39,7 @@ impl Sessions {
             self.transactions.set(session, Transaction::ReadOnly);
             return SessionReply::Done;
         }
-        if let Some(key) = self.conflict(&active) {
+        if let Some(key) = conflict(&self.index, active.snapshot, active.writes) {
             return SessionReply::Refused(Fault::Conflict(key));
         }
         if self.numbers.is_window_full() {
@@ -47,35 +48,20 @@ impl Sessions {
         if self.numbers.is_near_limit() {
             return SessionReply::Refused(Fault::TimestampsOut);
         }
-        self.draw_next(session, active)
-    }
-
-    // The least of the keys that was last drawn by a commit which the snapshot doesn't cover.
-    fn conflict(&self, active: &Active) -> Option<Key>
-        ensures { result ≡ conflict_in self.now.index active.now.snapshot active.now.writes }
-    {
-        for write in active.writes.as_slice() {
-            if let Some(timestamp) = self.index.entry(write.key).last {
-                if !active.snapshot.covers(timestamp) {
-                    return Some(write.key);
-                }
-            }
-        }
-        None
+        let writes = *active.writes;
+        self.draw_next(session, writes)
     }
 
     // Draws the next timestamp, against which nothing stands but want of memory. The growths come before any change.
-    fn draw_next(&mut self, session: u8, active: Active) -> SessionReply
+    fn draw_next(&mut self, session: u8, writes: WriteSet) -> SessionReply
         requires shown { ∥ HoldsSome self.old ∥₁ }
-        requires active { transaction_at self.old.transactions session ≡ Some (IsActiveWith active.snapshot active.writes) }
+        requires active { (snapshot : Seen) × (transaction_at self.old.transactions session ≡ Some (IsActiveWith snapshot writes)) × (conflict_in self.old.index snapshot writes ≡ None) }
         requires numbered { session < 64 }
-        requires written { active.writes ≢ [] }
-        requires clear { conflict_in self.old.index active.snapshot active.writes ≡ None }
+        requires written { writes ≢ [] }
         requires window { nat_eq self.old.numbers.next self.old.numbers.record.dirty ≡ false }
         requires early { nat_le (2 ^ 62) (self.old.numbers.next + 2 * self.old.numbers.geometry.window) ≡ false }
         ensures step { Takes self.old self.new (Draw session) result }
     {
-        let writes = active.writes;
         match reserve_keys(&mut self.index, &writes) {
             Ok(()) => {}
             Err(fault) => return SessionReply::Refused(fault),
@@ -107,6 +93,20 @@ impl Sessions {
     }
 }
 
+// The least of the keys that was last drawn by a commit which the snapshot doesn't cover.
+fn conflict(index: &Index, snapshot: &Snapshot, writes: &WriteSet) -> Option<Key>
+    ensures { result ≡ conflict_in index.now snapshot.now writes.now }
+{
+    for write in writes.as_slice() {
+        if let Some(timestamp) = index.entry(write.key).last {
+            if !snapshot.covers(timestamp) {
+                return Some(write.key);
+            }
+        }
+    }
+    None
+}
+
 // Makes room in the index for each key that is written. All entries stay.
 fn reserve_keys(index: &mut Index, writes: &WriteSet) -> Result<(), Fault>
     ensures entries { (key : KeyValue) → entry_at index.new key ≡ entry_at index.old key }
@@ -123,7 +123,7 @@ fn reserve_keys(index: &mut Index, writes: &WriteSet) -> Result<(), Fault>
     Ok(())
 }
 
-// The first lines of the versions that the writes make and end.
+// The lines that the writes touch: all of each version that they make, and the first of each that they end.
 fn lines_of(
     alloc: Global,
     geometry: Geometry,
@@ -136,13 +136,25 @@ fn lines_of(
     let mut lines = Vec::new(alloc);
     for write in writes.as_slice() {
         if let Some(slot) = write.slot {
-            lines.push(geometry.slot_line(slot) as u64)?;
+            push_own(&mut lines, geometry, slot)?;
         }
         if let Some(slot) = index.live(write.key) {
             lines.push(geometry.slot_line(slot) as u64)?;
         }
     }
     Ok(lines)
+}
+
+// Adds the lines of a version in the slot.
+fn push_own(lines: &mut Vec<u64>, geometry: Geometry, slot: SlotNo) -> Result<(), AllocError>
+    requires { slot < geometry.slots }
+    ensures { OnOk result (lines.new.items ≡ lines.old.items ++ own_lines geometry slot) }
+{
+    let first = geometry.slot_line(slot) as u64;
+    for part in 0..geometry.slot_lines() {
+        lines.push(first + part as u64)?;
+    }
+    Ok(())
 }
 
 // Notes in the index that each of the keys was drawn with this timestamp.

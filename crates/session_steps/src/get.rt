@@ -1,3 +1,4 @@
+use crate::active::active_in;
 use crate::sessions::Sessions;
 use base::key::Key;
 use base::step::SessionReply;
@@ -13,7 +14,7 @@ impl Sessions {
         requires shown { ∥ HoldsSomeOn self.now (D.state device.now) ∥₁ }
         ensures step { (h : Hidden) → HoldsOn self.now h (D.state device.now) → Goes self.now self.now (Get session key) result h }
     {
-        let active = match self.active(session) {
+        let active = match active_in(&self.transactions, session) {
             Ok(active) => active,
             Err(fault) => return SessionReply::Refused(fault),
         };
@@ -21,7 +22,7 @@ impl Sessions {
             Some(write) => SessionReply::Row(write.row),
             None => {
                 let geometry = self.numbers.geometry;
-                match self.index.walk(device, geometry, key, &active.snapshot) {
+                match self.index.walk(device, geometry, key, active.snapshot) {
                     Some(found) => SessionReply::Row(Some(found.row)),
                     None => SessionReply::Row(None),
                 }

@@ -25,5 +25,4 @@ mod tables;
 
 pub use law::{sessions_show_any_hand, table_has_the_lines_of_a_batch};
 pub use numbers::Numbers;
-pub use opening::index_slots;
 pub use sessions::Sessions;

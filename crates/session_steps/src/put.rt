@@ -1,6 +1,6 @@
 ghost use Rattle.std.specs.Prelude.{◌≡◌, None, Some};
 
-use crate::active::{Active, is_full_for};
+use crate::active::{active_in, is_full_for};
 use crate::giving::own_slot;
 use crate::sessions::Sessions;
 use base::SlotNo;
@@ -15,19 +15,17 @@ use version_slot::{Version, fill};
 
 impl Sessions {
     ghost use Rattle.std.specs.Prelude.{◌≤◌, ◌<◌, ℕ, false, length};
+    ghost use Rattle.base.specs.Layout.{row_limit};
     ghost use Rattle.base.specs.declared.step.SessionReply.TheVariants.{Done};
     ghost use Rattle.base.specs.declared.step.SessionStep.TheVariants.{Put};
     ghost use Rattle.index.specs.Entries.{entry_at, head_of};
     ghost use Rattle.pmem.specs.Words.{value_of};
     ghost use Rattle.slot_alloc.specs.Free.{lowest_free};
-    ghost use Rattle.txn.specs.Transactions.{transaction_at};
-    ghost use Rattle.txn.specs.WriteSets.{HasRoomFor};
-    ghost use Rattle.txn.specs.declared.transaction.Transaction.TheVariants.{Active as IsActiveWith};
     ghost use Rattle.version_slot.specs.Words.{IsVersion, slot_at};
-    ghost use Rattle.session_steps.specs.Giving.{is_full_of, own_of};
+    ghost use Rattle.session_steps.specs.Giving.{IsReady};
     ghost use Rattle.session_steps.specs.Steps.{HoldsSomeOn, TakesOn};
 
-    // Writes a row: in the slot that the session has for the key, or else in the lowest free one.
+    // Writes a row that a slot holds: in the slot that the session has for the key, or else in the lowest free one.
     pub(crate) fn put<D: Pmem>(
         &mut self,
         device: &mut D,
@@ -38,18 +36,19 @@ impl Sessions {
         requires shown { ∥ HoldsSomeOn self.old (D.state device.old) ∥₁ }
         ensures step { TakesOn self.old self.new (D.state device.old) (D.state device.new) (Put session key row) result }
     {
-        let len = row.as_bytes().len();
-        prove!(len <= Row::LIMIT);
-        let active = match self.active(session) {
+        let active = match active_in(&self.transactions, session) {
             Ok(active) => active,
             Err(fault) => return SessionReply::Refused(fault),
         };
-        if is_full_for(&active.writes, key) {
+        if row.as_bytes().len() > self.numbers.geometry.row_limit() {
+            return SessionReply::Refused(Fault::TooLong);
+        }
+        if is_full_for(active.writes, key) {
             return SessionReply::Refused(Fault::WriteSetFull);
         }
-        match own_slot(&active.writes, key) {
-            Some(slot) => self.fill_own(device, session, active, slot, key, row),
-            None => self.fill_taken(device, session, active, key, row),
+        match own_slot(active.writes, key) {
+            Some(slot) => self.fill_own(device, session, slot, key, row),
+            None => self.fill_taken(device, session, key, row),
         }
     }
 
@@ -58,17 +57,13 @@ impl Sessions {
         &mut self,
         device: &mut D,
         session: u8,
-        active: Active,
         slot: SlotNo,
         key: Key,
         row: Row,
     ) -> SessionReply
         requires shown { ∥ HoldsSomeOn self.old (D.state device.old) ∥₁ }
-        requires active { transaction_at self.old.transactions session ≡ Some (IsActiveWith active.snapshot active.writes) }
-        requires room { HasRoomFor key active.writes }
-        requires fits { is_full_of key active.writes ≡ false }
-        requires row { length row ≤ 32 }
-        requires own { own_of key active.writes ≡ Some slot }
+        requires ready { IsReady self.old.transactions session key (Some slot) }
+        requires row { length row ≤ row_limit self.old.numbers.geometry.version }
         ensures step { TakesOn self.old self.new (D.state device.old) (D.state device.new) (Put session key row) result }
         ensures link { result ≡ Done → IsVersion self.old.numbers.geometry (slot_at self.old.numbers.geometry slot (value_of (D.state device.new)))
             (record { key = key; row = row; previous = head_of (entry_at self.old.index key) }) }
@@ -92,17 +87,13 @@ impl Sessions {
         &mut self,
         device: &mut D,
         session: u8,
-        active: Active,
         key: Key,
         row: Row,
     ) -> SessionReply
         requires shown { ∥ HoldsSomeOn self.old (D.state device.old) ∥₁ }
-        requires active { transaction_at self.old.transactions session ≡ Some (IsActiveWith active.snapshot active.writes) }
+        requires ready { IsReady self.old.transactions session key None }
         requires within { (2 ≤ session) × (session < 64) }
-        requires room { HasRoomFor key active.writes }
-        requires fits { is_full_of key active.writes ≡ false }
-        requires row { length row ≤ 32 }
-        requires unheld { own_of key active.writes ≡ None }
+        requires row { length row ≤ row_limit self.old.numbers.geometry.version }
         ensures step { TakesOn self.old self.new (D.state device.old) (D.state device.new) (Put session key row) result }
         ensures link { result ≡ Done → (slot : ℕ) × (lowest_free self.old.slots ≡ Some slot)
             × IsVersion self.old.numbers.geometry (slot_at self.old.numbers.geometry slot (value_of (D.state device.new)))

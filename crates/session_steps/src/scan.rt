@@ -11,7 +11,7 @@ ghost use Rattle.index.specs.Entries.{key_cmp};
 ghost use Rattle.index.specs.Walking.{AreLinked};
 ghost use Rattle.index.specs.Reading.{CountsAs, ShowsTables, HasRows, ranged};
 
-use crate::active::Active;
+use crate::active::active_in;
 use crate::sessions::Sessions;
 use base::fault::Fault;
 use base::key::Key;
@@ -20,6 +20,7 @@ use base::rows::Rows;
 use base::step::SessionReply;
 use index::{KeyRange, listed};
 use pmem::Pmem;
+use snapshot::Snapshot;
 use std::alloc::AllocError;
 use std::collections::BTreeMap;
 use txn::WriteSet;
@@ -41,12 +42,12 @@ impl Sessions {
         requires shown { ∥ HoldsSomeOn self.now (D.state device.now) ∥₁ }
         ensures step { (h : Hidden) → HoldsOn self.now h (D.state device.now) → Goes self.now self.now (Scan session table lo hi) result h }
     {
-        let active = match self.active(session) {
+        let active = match active_in(&self.transactions, session) {
             Ok(active) => active,
             Err(fault) => return SessionReply::Refused(fault),
         };
         let range = KeyRange::Within { table, lo, hi };
-        match self.seen_rows(device, &active, range) {
+        match self.seen_rows(device, active.snapshot, active.writes, range) {
             Ok(rows) => SessionReply::Rows(Rows::new(rows)),
             Err(_) => SessionReply::Refused(Fault::OutOfMemory),
         }
@@ -56,21 +57,22 @@ impl Sessions {
     fn seen_rows<D: Pmem>(
         &self,
         device: &D,
-        active: &Active,
+        snapshot: &Snapshot,
+        writes: &WriteSet,
         range: KeyRange,
     ) -> Result<Vec<(Key, Row)>, AllocError>
         requires device { (D.state device.now).words ≡ total_words self.now.numbers.geometry }
-        ensures { IfOk result (λ rows. (counts : ℕ → Bool) (tables : Tables) → CountsAs counts active.now.snapshot self.now.numbers.geometry (image_of (D.state device.now)) → AreLinked active.now.snapshot (image_of (D.state device.now)) self.now.index → ShowsTables counts self.now.numbers.geometry (image_of (D.state device.now)) tables → Lists rows.items (ranged range (overlaid (plain_writes active.now.writes) tables))) }
+        ensures { IfOk result (λ rows. (counts : ℕ → Bool) (tables : Tables) → CountsAs counts snapshot.now self.now.numbers.geometry (image_of (D.state device.now)) → AreLinked snapshot.now (image_of (D.state device.now)) self.now.index → ShowsTables counts self.now.numbers.geometry (image_of (D.state device.now)) tables → Lists rows.items (ranged range (overlaid (plain_writes writes.now) tables))) }
     {
         let geometry = self.numbers.geometry;
         let seen = self
             .index
-            .rows_by_key(self.alloc, device, geometry, &active.snapshot, range);
+            .rows_by_key(self.alloc, device, geometry, snapshot, range);
         let mut rows = match seen {
             Ok(rows) => rows,
             Err(fault) => return Err(fault),
         };
-        match lay_over(&mut rows, &active.writes, range) {
+        match lay_over(&mut rows, writes, range) {
             Ok(()) => {}
             Err(fault) => return Err(fault),
         }

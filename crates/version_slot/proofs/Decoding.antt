@@ -2,16 +2,16 @@
 use Rattle.std.proofs.Common.{◌≡◌, inl, inr, ℕ, zero, suc, ◌+◌, ◌-◌, ◌*◌, ◌/◌, ◌%◌, ◌^◌, ◌<◌, ◌≤◌, Bool, cond, eqb, IsTrue, List, length, get_or, set, take, drop, map, sym, ◌∙◌, ap, subst, arith, lit<}
 use Rattle.std.specs.Int.{byte_at, bytes_low_first, from_le_bytes, to_le_bytes, w64}
 use Rattle.std.specs.List.{range_with_len}
-use Rattle.std.proofs.lemmas.Bool.{and_parts, cases_eq, cases_lt, ne_eqb}
+use Rattle.std.proofs.lemmas.Bool.{cases_eq, cases_lt, ne_eqb}
 use Rattle.std.proofs.lemmas.Bool.Decides.{nat_tests}
 use Rattle.std.proofs.lemmas.List.{get_or-drop, get_or-take, get_or_past, length-drop, length-take-le}
 use Rattle.std.proofs.lemmas.List.Edits.{fill_by_more}
 use Rattle.std.proofs.lemmas.List.FromFn.{get_or-map-range_with_len, length-map-range_with_len}
 use Rattle.std.proofs.lemmas.Nat.{le_bytes_8, mod_below, from_le_bytes-to_le_bytes_8}
-use Rattle.base.specs.Layout.{Layout, IsOneLine, slot_words, row_limit, is_in_limits, is_known_version}
-use Rattle.base.proofs.Layouts.{one-line}
+use Rattle.base.specs.Layout.{Layout, slot_words, row_limit, is_in_limits}
+use Rattle.base.proofs.Layouts.{line-words, two-lines, row-fills}
 use Rattle.version_slot.specs.declared.words.Version.{Version}
-use Rattle.version_slot.specs.Words.{link_number, row_word, slot_byte, version_word, IsVersion}
+use Rattle.version_slot.specs.Words.{link_number, row_word, slot_byte, version_word, filled_word, IsVersion}
 
 -- eight bytes make the number
 pub same_word : (xs ys : List ℕ) → ((i : ℕ) → i < 8 → get_or xs i 0 ≡ get_or ys i 0) → from_le_bytes w64 xs ≡ from_le_bytes w64 ys
@@ -48,8 +48,8 @@ row_byte row words last i each small lt =
     ∙ ap (λ (k : ℕ). get_or row k 0) (let e : 8 * (i / 8) + i % 8 ≡ i = omega arith in e)
 
 -- what the limits of a layout say
-pub limits : (a : Layout) → IsTrue (is_in_limits a) → IsOneLine a.version × (a.slots ≤ 65536)
-limits a h = (one-line a.version (and_parts (is_known_version a.version) _ h).0, grind (arith, nat_tests))
+pub limits : (a : Layout) → IsTrue (is_in_limits a) → a.slots ≤ 65536
+limits a h = grind (arith, nat_tests)
 
 pub word_past : (v : Version) (k : ℕ) → version_word v (4 + k) ≡ row_word v.row k
 word_past v k =
@@ -83,43 +83,42 @@ module _ (layout : Layout) (words : ℕ → ℕ) (v : Version) (is : IsVersion l
 pub set_more : (f : ℕ → ℕ) (xs : List ℕ) (i x : ℕ) → i < length xs → x ≡ f i → ((k : ℕ) → k < i → get_or xs k 0 ≡ f k) → (k : ℕ) → k < i + 1 → get_or (set xs i x) k 0 ≡ f k
 set_more f xs i x lt is before k k_lt = ap (λ (y : ℕ). get_or (set xs i y) k 0) is ∙ fill_by_more f xs i 0 lt before k k_lt
 
-pub by_seven : (P : ℕ → Type 0) → P 1 → P 2 → P 3 → P 4 → P 5 → P 6 → P 7 → (w : ℕ) → 1 ≤ w → w < 8 → P w
-by_seven P a b c d e f g w from to = elim (cases_eq w 1) [
-  | inl is ↦ subst P (sym is) a
-  | inr n1 ↦ elim (cases_eq w 2) [
-    | inl is ↦ subst P (sym is) b
-    | inr n2 ↦ elim (cases_eq w 3) [
-      | inl is ↦ subst P (sym is) c
-      | inr n3 ↦ elim (cases_eq w 4) [
-        | inl is ↦ subst P (sym is) d
-        | inr n4 ↦ elim (cases_eq w 5) [
-          | inl is ↦ subst P (sym is) e
-          | inr n5 ↦ elim (cases_eq w 6) [
-            | inl is ↦ subst P (sym is) f
-            | inr n6 ↦ subst P (let is : 7 ≡ w = omega arith in is) g
-          ]
-        ]
-      ]
+-- a list whose words from 2 on were stored one after the other
+pub word-of : (v : Version) (words : List ℕ) → get_or words 1 0 ≡ 0 → get_or words 2 0 ≡ v.key.key → get_or words 3 0 ≡ v.key.table + 2 ^ 16 * length v.row + 2 ^ 32 * link_number v.previous
+    → ((k : ℕ) → k < 12 → get_or words (4 + k) 0 ≡ row_word v.row k) → (w : ℕ) → 1 ≤ w → w < 16 → get_or words w 0 ≡ filled_word v w
+word-of v words end key header row w from to = elim (cases_lt w 4) [
+  | inr high ↦
+      let is : 4 + (w - 4) ≡ w = omega arith in
+      subst (λ (i : ℕ). get_or words i 0 ≡ filled_word v i) is
+      (row (w - 4) (omega arith) ∙ sym (ap (λ (b : Bool). cond b 0 (version_word v (4 + (w - 4)))) (ne_eqb (4 + (w - 4)) 1 (λ e. absurd (omega arith))) ∙ word_past v (w - 4)))
+  | inl low ↦ elim (cases_eq w 1) [
+    | inl is ↦ subst (λ (i : ℕ). get_or words i 0 ≡ filled_word v i) (sym is) end
+    | inr n1 ↦ elim (cases_eq w 2) [
+      | inl is ↦ subst (λ (i : ℕ). get_or words i 0 ≡ filled_word v i) (sym is) key
+      | inr n2 ↦ subst (λ (i : ℕ). get_or words i 0 ≡ filled_word v i) (let is : 3 ≡ w = omega arith in is) header
     ]
   ]
 ]
 
 -- ---- words read
 
-module _ (words : ℕ → ℕ) (bytes : List ℕ) (n : ℕ) (size : length bytes ≡ 32) (read : (i : ℕ) → i < 32 → get_or bytes i 0 ≡ slot_byte words i) where
-  -- what a version leaves after its row is 0
-  pub zero_after : (layout : Layout) (v : Version) → IsVersion layout words v → 8 ≤ slot_words layout.version → n ≡ length v.row → (i : ℕ) → i < length (drop n bytes) → get_or (drop n bytes) i 0 ≡ 0
-  zero_after layout v is wide n_is i lt =
-      let within : n + i < 32 = omega (arith, length-drop {A = ℕ}, lt, size) in
-      get_or-drop n bytes i 0 ∙ read (n + i) within ∙ byte_is layout words v is wide (n + i) (omega arith) ∙ get_or_past v.row (n + i) 0 (omega arith)
+module _ (layout : Layout) (words : ℕ → ℕ) (bytes : List ℕ) (n : ℕ) (size : length bytes ≡ row_limit layout.version) (read : (i : ℕ) → i < row_limit layout.version → get_or bytes i 0 ≡ slot_byte words i) where
+  fills : row_limit layout.version ≡ 8 * (slot_words layout.version - 4)
+  fills = row-fills layout.version
 
-  module _ (layout : Layout) (one : IsOneLine layout.version) (v : Version) (fit : (w : ℕ) → words w < 2 ^ 64) (small : (i : ℕ) → get_or bytes i 0 < 2 ^ 8)
-      (n_is : n ≡ words 3 / 2 ^ 16 % 2 ^ 16) (short : n ≤ 32) (zeros : (i : ℕ) → i < length (drop n bytes) → get_or (drop n bytes) i 0 ≡ 0)
+  -- what a version leaves after its row is 0
+  pub zero_after : (v : Version) → IsVersion layout words v → n ≡ length v.row → (i : ℕ) → i < length (drop n bytes) → get_or (drop n bytes) i 0 ≡ 0
+  zero_after v is n_is i lt =
+      let within : n + i < row_limit layout.version = omega (arith, length-drop {A = ℕ}, lt, size) in
+      get_or-drop n bytes i 0 ∙ read (n + i) within ∙ byte_is layout words v is (line-words layout.version) (n + i) (omega (arith, within, fills)) ∙ get_or_past v.row (n + i) 0 (omega arith)
+
+  module _ (v : Version) (fit : (w : ℕ) → words w < 2 ^ 64) (small : (i : ℕ) → get_or bytes i 0 < 2 ^ 8)
+      (n_is : n ≡ words 3 / 2 ^ 16 % 2 ^ 16) (short : n ≤ row_limit layout.version) (zeros : (i : ℕ) → i < length (drop n bytes) → get_or (drop n bytes) i 0 ≡ 0)
       (key : v.key.key ≡ words 2) (table : v.key.table ≡ words 3 % 2 ^ 16) (row : v.row ≡ take n bytes) (link : link_number v.previous ≡ words 3 / 2 ^ 32) (linked : words 3 / 2 ^ 32 ≤ layout.slots) where
     row_size : length v.row ≡ n
     row_size = ap (length {A = ℕ}) row ∙ length-take-le n bytes (omega arith)
 
-    row_is : (i : ℕ) → i < 32 → get_or v.row i 0 ≡ get_or bytes i 0
+    row_is : (i : ℕ) → i < row_limit layout.version → get_or v.row i 0 ≡ get_or bytes i 0
     row_is i lt = elim (cases_lt i n) [
       | inl below ↦ ap (λ (l : List ℕ). get_or l i 0) row ∙ get_or-take n bytes i 0 below
       | inr above ↦
@@ -127,19 +126,19 @@ module _ (words : ℕ → ℕ) (bytes : List ℕ) (n : ℕ) (size : length bytes
           get_or_past v.row i 0 (omega (arith, row_size)) ∙ sym (zeros (i - n) (omega (arith, length-drop {A = ℕ}, size))) ∙ get_or-drop n bytes (i - n) 0 ∙ ap (λ (k : ℕ). get_or bytes k 0) at
     ]
 
-    word_is : (k : ℕ) → k < 4 → words (4 + k) ≡ row_word v.row k
+    word_is : (k : ℕ) → k + 4 < slot_words layout.version → words (4 + k) ≡ row_word v.row k
     word_is k lt =
         sym (from_le_bytes-to_le_bytes_8 (words (4 + k)) (fit (4 + k)))
         ∙ same_word (to_le_bytes w64 (words (4 + k))) (drop (8 * k) v.row) (λ i i_lt.
         let place : (8 * k + i) / 8 ≡ k = omega arith in
         let rest : (8 * k + i) % 8 ≡ i = omega arith in
         ap (λ (j : ℕ). get_or (to_le_bytes w64 (words (4 + k))) j 0) (sym rest) ∙ ap (λ (j : ℕ). get_or (to_le_bytes w64 (words (4 + j))) ((8 * k + i) % 8) 0) (sym place)
-        ∙ sym (read (8 * k + i) (omega arith)) ∙ sym (row_is (8 * k + i) (omega arith)) ∙ sym (get_or-drop (8 * k) v.row i 0))
+        ∙ sym (read (8 * k + i) (omega (arith, fills, lt, i_lt))) ∙ sym (row_is (8 * k + i) (omega (arith, fills, lt, i_lt))) ∙ sym (get_or-drop (8 * k) v.row i 0))
 
     header_is : words 3 ≡ v.key.table + 2 ^ 16 * length v.row + 2 ^ 32 * link_number v.previous
-    header_is = omega (arith, row_size, n_is, table, link, short)
+    header_is = omega (arith, row_size, n_is, table, link, short, fills, two-lines layout.version)
 
-    each : (w : ℕ) → 2 ≤ w → w < 8 → words w ≡ version_word v w
+    each : (w : ℕ) → 2 ≤ w → w < slot_words layout.version → words w ≡ version_word v w
     each w from to = elim (cases_lt w 4) [
       | inl low ↦ elim (cases_eq w 2) [
         | inl is ↦ subst (λ (i : ℕ). words i ≡ version_word v i) (sym is) (sym key)
@@ -150,20 +149,17 @@ module _ (words : ℕ → ℕ) (bytes : List ℕ) (n : ℕ) (size : length bytes
     ]
 
     row_small : (i : ℕ) → get_or v.row i 0 < 2 ^ 8
-    row_small i = elim (cases_lt i 32) [
+    row_small i = elim (cases_lt i (row_limit layout.version)) [
       | inl within ↦ subst (λ (x : ℕ). x < 2 ^ 8) (sym (row_is i within)) (small i)
       | inr past ↦ subst (λ (x : ℕ). x < 2 ^ 8) (sym (get_or_past v.row i 0 (omega (arith, row_size)))) (lit< tt)
     ]
 
-    limit_is : row_limit layout.version ≡ 32
-    limit_is = one.limit
-
     pub holds : IsVersion layout words v
     holds = record {
-      each = λ w from to. each w from (omega (arith, to, one.words));
+      each = each;
       fits = record {
         table = omega (arith, table);
-        row = omega (arith, row_size, limit_is);
+        row = omega (arith, row_size, short);
         bytes = row_small;
         previous = omega (arith, link, linked);
       };
@@ -183,8 +179,19 @@ low_small i (suc k) n (suc j) = low_small (suc i) k n j
 pub slot_byte_small : (words : ℕ → ℕ) (i : ℕ) → slot_byte words i < 256
 slot_byte_small words i = low_small 0 8 (words (4 + i / 8)) (i % 8)
 
-pub bytes_small : (words : ℕ → ℕ) (bytes : List ℕ) → length bytes ≡ 32 → ((i : ℕ) → i < 32 → get_or bytes i 0 ≡ slot_byte words i) → (i : ℕ) → get_or bytes i 0 < 2 ^ 8
-bytes_small words bytes size read i = elim (cases_lt i 32) [
+pub bytes_small : (words : ℕ → ℕ) (bytes : List ℕ) (size : ℕ) → length bytes ≡ size → ((i : ℕ) → i < size → get_or bytes i 0 ≡ slot_byte words i) → (i : ℕ) → get_or bytes i 0 < 2 ^ 8
+bytes_small words bytes size whole read i = elim (cases_lt i size) [
   | inl within ↦ subst (λ (x : ℕ). x < 2 ^ 8) (sym (read i within)) (slot_byte_small words i)
   | inr past ↦ subst (λ (x : ℕ). x < 2 ^ 8) (sym (get_or_past bytes i 0 (omega arith))) (lit< tt)
 ]
+
+-- the bytes that count of those of a slot of two lines
+module _ (version : ℕ) (bytes : List ℕ) (whole : length bytes ≡ 96) where
+  within : row_limit version ≤ 96
+  within = omega (arith, two-lines version, row-fills version)
+
+  pub used_size : length (take (row_limit version) bytes) ≡ row_limit version
+  used_size = length-take-le (row_limit version) bytes (omega (arith, whole, within))
+
+  pub used_read : (words : ℕ → ℕ) → ((i : ℕ) → i < 96 → get_or bytes i 0 ≡ slot_byte words i) → (i : ℕ) → i < row_limit version → get_or (take (row_limit version) bytes) i 0 ≡ slot_byte words i
+  used_read words read i lt = get_or-take (row_limit version) bytes i 0 lt ∙ read i (omega (arith, lt, within))

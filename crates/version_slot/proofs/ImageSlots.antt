@@ -6,7 +6,8 @@ use Rattle.std.specs.List.{list_all, flat_map, slice_range}
 use Rattle.std.proofs.lemmas.Bool.{eqb-true, ltb-false, le-ltb, eq-eqb}
 use Rattle.std.proofs.lemmas.List.{get_or-drop, get_or-take, get_or_past, length-drop, length-take-le, ext_get_or}
 use Rattle.std.proofs.lemmas.List.Concat.{get_or-flat_map}
-use Rattle.base.specs.Layout.{IsOneLine, row_limit, slot_start, slot_words, total_words}
+use Rattle.base.specs.Layout.{row_limit, slot_start, slot_words, total_words}
+use Rattle.base.proofs.Layouts.{row-fills}
 use Rattle.base.specs.Images.{Image, layout_of, slot_word, key_of, len_of, link_of, bytes_of, row_of, is_misfit}
 use Rattle.version_slot.specs.declared.words.Version.{Version}
 use Rattle.version_slot.specs.Words.{link_number, slot_byte, IsVersion}
@@ -147,7 +148,7 @@ link-previous_in : (n : ℕ) → link_number (previous_in n) ≡ n
 link-previous_in zero = refl
 link-previous_in (suc n) = omega arith
 
-module _ (image : Image) (slot : ℕ) (within : slot < (layout_of image).slots) (whole : total_words (layout_of image) ≤ length image) (one : IsOneLine (layout_of image).version)
+module _ (image : Image) (slot : ℕ) (within : slot < (layout_of image).slots) (whole : total_words (layout_of image) ≤ length image)
     (fit : (w : ℕ) → get_or image w 0 < 2 ^ 64) (well : is_misfit image slot ≡ false) where
   parts : (is_misfit image slot ≡ false) × (nat_lt (row_limit (layout_of image).version) (len_of image slot) ≡ false) × (not (nat_eq (slot_word image slot 3 / 2 ^ 24 % 2 ^ 8) 0) ≡ false)
       × (not (list_all (nat_eq 0) (drop (len_of image slot) (bytes_of image slot))) ≡ false) × (nat_lt (layout_of image).slots (link_of image slot) ≡ false)
@@ -159,13 +160,13 @@ module _ (image : Image) (slot : ℕ) (within : slot < (layout_of image).slots) 
 
   pub holds_version : IsVersion (layout_of image) (slot_word image slot) (version_of image slot)
   holds_version =
-      let limit : row_limit (layout_of image).version ≡ 32 = one.limit in
-      let short : len_of image slot ≤ 32 = omega (arith, ltb-false (row_limit (layout_of image).version) (len_of image slot) parts.1, limit) in
+      let limit : ℕ = row_limit (layout_of image).version in
+      let short : len_of image slot ≤ limit = ltb-false limit (len_of image slot) parts.1 in
       let unused : slot_word image slot 3 / 2 ^ 24 % 2 ^ 8 ≡ 0 = eqb-true (slot_word image slot 3 / 2 ^ 24 % 2 ^ 8) 0 (not_false _ parts.2) in
       let zeros = zero_all (drop (len_of image slot) (bytes_of image slot)) (not_false _ parts.3) in
       let linked : link_of image slot ≤ (layout_of image).slots = ltb-false (layout_of image).slots (link_of image slot) parts.4 in
-      let size : length (bytes_of image slot) ≡ 32 = bytes_length image slot within whole ∙ omega (arith, one.words) in
-      let count : slot_words (layout_of image).version ≡ 8 = one.words in
-      let read : (i : ℕ) → i < 32 → get_or (bytes_of image slot) i 0 ≡ slot_byte (slot_word image slot) i = λ i lt. byte_of image slot within whole i (omega (arith, lt, count)) in
-      holds (slot_word image slot) (bytes_of image slot) (len_of image slot) size read (layout_of image) one (version_of image slot) (λ w. fit (slot_start (layout_of image) slot + w)) (bytes_small (slot_word image slot) (bytes_of image slot) size read)
+      let fills : limit ≡ 8 * (slot_words (layout_of image).version - 4) = row-fills (layout_of image).version in
+      let size : length (bytes_of image slot) ≡ limit = bytes_length image slot within whole ∙ sym fills in
+      let read : (i : ℕ) → i < limit → get_or (bytes_of image slot) i 0 ≡ slot_byte (slot_word image slot) i = λ i lt. byte_of image slot within whole i (omega (arith, lt, fills)) in
+      holds (layout_of image) (slot_word image slot) (bytes_of image slot) (len_of image slot) size read (version_of image slot) (λ w. fit (slot_start (layout_of image) slot + w)) (bytes_small (slot_word image slot) (bytes_of image slot) limit size read)
       (omega (arith, unused)) short zeros refl refl refl (link-previous_in (link_of image slot)) linked

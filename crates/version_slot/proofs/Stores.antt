@@ -7,7 +7,8 @@ use Rattle.pmem.specs.Words.{value_of, Keeps, OldOr}
 use Rattle.pmem.proofs.Steps.{history-stored_other, value-stored_same, value-stored_other, survivors-stored_same}
 use Rattle.pmem.proofs.Counts.{makes_none, makes-stored, makes-failed}
 use Rattle.pmem.proofs.Runs.{keeps_none, keeps_weaken, keeps-stored, keeps-failed}
-use Rattle.base.specs.Layout.{Layout, IsOneLine, slot_start, slot_words}
+use Rattle.base.specs.Layout.{Layout, slot_start, slot_words}
+use Rattle.base.proofs.Layouts.{two-lines}
 use Rattle.version_slot.specs.declared.words.Version.{Version}
 use Rattle.version_slot.specs.Words.{filled_word, version_word, slot_at, Fits, IsVersion}
 use Rattle.version_slot.specs.Filling.{IsOfRun, IsFill, StoresRun, Fills}
@@ -87,37 +88,38 @@ pub either : {T E A B C : Type 0} (r : Result T E) → OnOk r A → OnErr r B �
 either (Ok x) a b f g = f a
 either (Err e) a b f g = g b
 
-module _ (layout : Layout) (one : IsOneLine layout.version) (slot first : ℕ) (at : first ≡ slot_start layout slot) (words : List ℕ) (v : Version) (size : length words ≡ 8)
-    (each : (w : ℕ) → 1 ≤ w → w < 8 → get_or words w 0 ≡ filled_word v w) (old new : Device) where
-  seven : slot_words layout.version - 1 ≡ 7
-  seven = omega (arith, one.words)
+module _ (layout : Layout) (slot first count : ℕ) (at : first ≡ slot_start layout slot) (count_is : count ≡ slot_words layout.version) (words : List ℕ) (v : Version) (size : length words ≡ 16)
+    (each : (w : ℕ) → 1 ≤ w → w < 16 → get_or words w 0 ≡ filled_word v w) (old new : Device) where
+  abbrev stores : ℕ
+  stores = slot_words layout.version - 1
 
-  all : length (take 7 (drop 1 words)) ≡ 7
-  all = omega (arith, length-take-le 7 (drop 1 words) (omega (arith, length-drop {A = ℕ} 1 words, size)))
+  abbrev stored_words : List ℕ
+  stored_words = take (count - 1) (drop 1 words)
 
-  value_is : (k : ℕ) → k < 7 → get_or (take 7 (drop 1 words)) k 0 ≡ filled_word v (k + 1)
+  all : length stored_words ≡ stores
+  all = length-take-le (count - 1) (drop 1 words) (omega (arith, length-drop {A = ℕ} 1 words, size, count_is, two-lines layout.version)) ∙ ap (λ (n : ℕ). n - 1) count_is
+
+  value_is : (k : ℕ) → k < stores → get_or stored_words k 0 ≡ filled_word v (k + 1)
   value_is k lt =
       let next : 1 + k ≡ k + 1 = omega arith in
-      get_or-take 7 (drop 1 words) k 0 lt ∙ get_or-drop 1 words k 0 ∙ each (1 + k) (omega arith) (omega arith) ∙ ap (filled_word v) next
+      get_or-take (count - 1) (drop 1 words) k 0 (omega (arith, lt, count_is)) ∙ get_or-drop 1 words k 0 ∙ each (1 + k) (omega arith) (omega (arith, lt, two-lines layout.version)) ∙ ap (filled_word v) next
 
-  pub fills : (n failed : ℕ) → n ≤ 7 → StoresRun (first + 1) (λ k. get_or (take 7 (drop 1 words)) k 0) n failed old new → Fills layout slot v n failed old new
+  pub fills : (n failed : ℕ) → n ≤ stores → StoresRun (first + 1) (λ k. get_or stored_words k 0) n failed old new → Fills layout slot v n failed old new
   fills n failed le run =
       subst (λ (f : ℕ). StoresRun (f + 1) (λ k. filled_word v (k + 1)) n failed old new) at
-      (run_same (first + 1) (λ k. get_or (take 7 (drop 1 words)) k 0) (λ k. filled_word v (k + 1)) n failed old new (λ k lt. value_is k (omega arith)) run)
+      (run_same (first + 1) (λ k. get_or stored_words k 0) (λ k. filled_word v (k + 1)) n failed old new (λ k lt. value_is k (omega arith)) run)
 
-  pub fills_all : StoresRun (first + 1) (λ k. get_or (take 7 (drop 1 words)) k 0) (length (take 7 (drop 1 words))) 0 old new → Fills layout slot v (slot_words layout.version - 1) 0 old new
-  fills_all run =
-      subst (λ (n : ℕ). Fills layout slot v n 0 old new) (sym seven)
-      (fills 7 0 (omega arith) (subst (λ (n : ℕ). StoresRun (first + 1) (λ k. get_or (take 7 (drop 1 words)) k 0) n 0 old new) all run))
+  pub fills_all : StoresRun (first + 1) (λ k. get_or stored_words k 0) (length stored_words) 0 old new → Fills layout slot v stores 0 old new
+  fills_all run = fills stores 0 (omega arith) (subst (λ (n : ℕ). StoresRun (first + 1) (λ k. get_or stored_words k 0) n 0 old new) all run)
 
-  pub fills_part : (n : ℕ) × (n < length (take 7 (drop 1 words))) × StoresRun (first + 1) (λ k. get_or (take 7 (drop 1 words)) k 0) n 1 old new → (n : ℕ) × (n < slot_words layout.version - 1) × Fills layout slot v n 1 old new
-  fills_part part = (part.0, omega (arith, part.1, all, seven), fills part.0 1 (omega (arith, part.1, all)) part.2)
+  pub fills_part : (n : ℕ) × (n < length stored_words) × StoresRun (first + 1) (λ k. get_or stored_words k 0) n 1 old new → (n : ℕ) × (n < stores) × Fills layout slot v n 1 old new
+  fills_part part = (part.0, omega (arith, part.1, all), fills part.0 1 (omega (arith, part.1, all)) part.2)
 
   -- the operations too
-  pub fills_by : store_operations (first + 1) (λ k. get_or (take 7 (drop 1 words)) k 0) (length (take 7 (drop 1 words))) ≡ fill_operations layout slot v
+  pub fills_by : store_operations (first + 1) (λ k. get_or stored_words k 0) (length stored_words) ≡ fill_operations layout slot v
   fills_by =
-      stores_same (first + 1) (λ k. get_or (take 7 (drop 1 words)) k 0) (λ k. filled_word v (k + 1)) (length (take 7 (drop 1 words))) (λ k lt. value_is k (omega (arith, lt, all)))
-      ∙ (λ i. store_operations (at i + 1) (λ k. filled_word v (k + 1)) ((all ∙ sym seven) i))
+      stores_same (first + 1) (λ k. get_or stored_words k 0) (λ k. filled_word v (k + 1)) (length stored_words) (λ k lt. value_is k (omega (arith, lt, all)))
+      ∙ (λ i. store_operations (at i + 1) (λ k. filled_word v (k + 1)) (all i))
 
 pub filled_version : (layout : Layout) (slot : ℕ) (v : Version) (failed : ℕ) (old new : Device) → Fits layout v → Fills layout slot v (slot_words layout.version - 1) failed old new → IsVersion layout (slot_at layout slot (value_of new)) v
 filled_version layout slot v failed old new fits run = record {

@@ -4,7 +4,7 @@ ghost use Rattle.version_slot.specs.Words.{link_number, slot_byte};
 
 // The eight bytes from one on as a number, the first lowest, with 0 past the end.
 pub fn word_at(bytes: &[u8], from: usize) -> u64
-    requires { from ≤ 32 }
+    requires { from ≤ 96 }
     ensures { result ≡ from_le_bytes w64 (drop from bytes.now) }
 {
     let mut eight = [0; 8];
@@ -20,13 +20,13 @@ fn byte_or_zero(bytes: &[u8], i: usize) -> u8
     if i < bytes.len() { bytes[i] } else { 0 }
 }
 
-// The bytes of a slot's row words, the lowest of each word first.
-pub fn row_bytes(words: &[u64; 8]) -> [u8; 32]
-    ensures size { length result ≡ 32 }
-    ensures bytes { (i : ℕ) → i < 32 → slice_index result i ≡ slot_byte (slice_index words.now) i }
+// The bytes of the row words of a slot of two lines, the lowest of each word first. In a slot of one line the first 32 count.
+pub fn row_bytes(words: &[u64; 16]) -> [u8; 96]
+    ensures size { length result ≡ 96 }
+    ensures bytes { (i : ℕ) → i < 96 → slice_index result i ≡ slot_byte (slice_index words.now) i }
 {
-    let mut bytes = [0; 32];
-    for i in 0..32 {
+    let mut bytes = [0; 96];
+    for i in 0..96 {
         bytes[i] = words[4 + i / 8].to_le_bytes()[i % 8];
     }
     bytes

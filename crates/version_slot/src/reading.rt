@@ -15,8 +15,8 @@ pub fn read<D: Pmem>(device: &D, geometry: Geometry, slot: u64) -> Option<Slot>
     ensures none { IfNone result ((found : Slot) → ¬ IsSlot geometry (slot_at geometry slot (value_of (D.state device.now))) found) }
 {
     let start = geometry.slot_start(slot);
-    let mut words = [0; 8];
-    for w in 0..8 {
+    let mut words = [0; 16];
+    for w in 0..geometry.slot_words() as usize {
         words[w] = device.load(start + w);
     }
     Slot::from_words(&words, geometry)

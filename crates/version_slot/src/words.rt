@@ -25,20 +25,20 @@ impl Slot {
     ghost use Rattle.std.specs.Prelude.{slice_index, IfSome, IfNone};
     ghost use Rattle.version_slot.specs.Words.{IsSlot};
 
-    /// What these words hold. They hold nothing where the row's length, an unused bit, a byte past the row's end or
-    /// the previous slot isn't as it should be.
-    pub fn from_words(words: &[u64; 8], geometry: Geometry) -> Option<Slot>
+    /// What these words hold, of which a slot of one line has the first eight. They hold nothing where the row's length,
+    /// an unused bit, a byte past the row's end or the previous slot isn't as it should be.
+    pub fn from_words(words: &[u64; 16], geometry: Geometry) -> Option<Slot>
         ensures some { IfSome result (IsSlot geometry (slice_index words.now)) }
         ensures none { IfNone result ((slot : Slot) → ¬ IsSlot geometry (slice_index words.now) slot) }
     {
         let header = words[3];
         let length = (header >> 16) % 65_536;
         let link = header >> 32;
-        if length > Row::LIMIT as u64 || link > geometry.slots() {
+        if length > geometry.row_limit() as u64 || link > geometry.slots() {
             return None;
         }
         let bytes = row_bytes(words);
-        let (row, padding) = bytes.split_at(length as usize);
+        let (row, padding) = bytes[..geometry.row_limit()].split_at(length as usize);
         if !are_zero(padding) {
             return None;
         }
@@ -61,25 +61,22 @@ impl Version {
     ghost use Rattle.std.specs.Prelude.{◌≡◌, ◌≤◌, ◌<◌, ◌^◌, ℕ, length, slice_index};
     ghost use Rattle.version_slot.specs.Words.{filled_word, link_number};
 
-    // The words of a slot that is filled with it, with 0 for the first.
-    pub fn words(&self) -> [u64; 8]
+    // The words of a slot of two lines that is filled with it, with 0 for the first. A slot of one line has the first eight.
+    pub fn words(&self) -> [u64; 16]
         requires { link_number self.now.previous < 2 ^ 32 }
-        ensures size { length result ≡ 8 }
-        ensures words { (w : ℕ) → 1 ≤ w → w < 8 → slice_index result w ≡ filled_word self.now w }
+        ensures size { length result ≡ 16 }
+        ensures words { (w : ℕ) → 1 ≤ w → w < 16 → slice_index result w ≡ filled_word self.now w }
         ensures table { self.now.key.table < 2 ^ 16 }
-        ensures row { length self.now.row ≤ 32 }
         ensures bytes { (i : ℕ) → slice_index self.now.row i < 2 ^ 8 }
     {
         let bytes = self.row.as_bytes();
-        [
-            0,
-            0,
-            self.key.key,
-            header(self.key.table, bytes.len(), link_of(self.previous)),
-            word_at(bytes, 0),
-            word_at(bytes, 8),
-            word_at(bytes, 16),
-            word_at(bytes, 24),
-        ]
+        let mut words = [0; 16];
+        let Key { table, key } = self.key;
+        words[2] = key;
+        words[3] = header(table, bytes.len(), link_of(self.previous));
+        for k in 0..12 {
+            words[4 + k] = word_at(bytes, 8 * k);
+        }
+        words
     }
 }

@@ -1,5 +1,5 @@
 ghost use Rattle.std.specs.Prelude.{◌≡◌, ◌+◌, ◌-◌, ◌^◌, ◌<◌, ◌≤◌, ℕ, length, slice_index, IfErr, OnErr, OnOk, Some};
-ghost use Rattle.base.specs.Layout.{slot_start, slot_words, total_words};
+ghost use Rattle.base.specs.Layout.{row_limit, slot_start, slot_words, total_words};
 ghost use Rattle.pmem.specs.Words.{Keeps, OldOr, value_of};
 ghost use Rattle.version_slot.specs.Filling.{Fills, IsFill, SameBeside, Stamps, StoresRun};
 ghost use Rattle.version_slot.specs.Operations.{Runs, StopsWithin, begin_operations, end_operations, fill_operations, store_operations};
@@ -10,7 +10,8 @@ use base::fault::Fault;
 use base::geometry::Geometry;
 use pmem::Pmem;
 
-/// Stores 0 in a slot's end and then a version in the words after it. The begin stays.
+/// Stores 0 in a slot's end and then a version in the words after it, to the slot's last: 7 stores, or 15 where a slot has
+/// two lines. The begin stays.
 pub fn fill<D: Pmem>(
     device: &mut D,
     geometry: Geometry,
@@ -18,6 +19,7 @@ pub fn fill<D: Pmem>(
     version: &Version,
 ) -> Result<(), Fault>
     requires slot { slot < geometry.slots }
+    requires row { length version.now.row ≤ row_limit geometry.version }
     requires previous { link_number version.now.previous ≤ geometry.slots }
     requires device { (D.state device.old).words ≡ total_words geometry }
     ensures ok { OnOk result (Fills geometry slot version.now (slot_words geometry.version - 1) 0 (D.state device.old) (D.state device.new)) }
@@ -31,7 +33,8 @@ pub fn fill<D: Pmem>(
     ensures stopped { OnErr result (StopsWithin (fill_operations geometry slot version.now) (D.state device.old) (D.state device.new)) }
 {
     let words = version.words();
-    store_all(device, geometry.slot_start(slot) + 1, &words[1..])
+    let count = geometry.slot_words() as usize;
+    store_all(device, geometry.slot_start(slot) + 1, &words[1..count])
 }
 
 /// Stores the timestamp of the commit that wrote the slot's version.

@@ -1,29 +1,26 @@
 //! The program wbl: the process round what the words ask for.
 #![tactic(auto)]
 
+use anyhow::Error;
 use program::{Told, run_words};
-use std::alloc::{Alloc, Global};
-use std::env::Env;
 use std::io::ErrorKind;
 use std::process::ExitCode;
 use std::{env, io};
 
-/// The exit status where the words can't be read.
-const FAILED: u8 = 1;
-
 /// The exit status of words that are no text.
 const NO_TEXT: u8 = 2;
 
-fn main(rt: HostRuntime) -> ExitCode {
+fn main(rt: HostRuntime) -> Result<ExitCode, Error> {
     let alloc = rt.alloc();
-    let words = match words_of(&rt) {
-        Ok(words) => words,
-        Err(reason) => return end_without_words(&rt, reason),
+    let words: Vec<String> = match env::args(&rt) {
+        Ok(words) => words.skip(1).collect(alloc)?,
+        Err(error) if matches!(error.kind(), ErrorKind::InvalidData) => {
+            let _ = eprint!(rt; "error: an argument is no text in UTF-8\n");
+            return Ok(ExitCode::from(NO_TEXT));
+        }
+        Err(error) => return Err(Error::from(error)),
     };
-    let words: Vec<&str> = match words.iter().map(|word| word.as_str()).collect(alloc) {
-        Ok(words) => words,
-        Err(_) => return end_without_words(&rt, ErrorKind::OutOfMemory),
-    };
+    let words: Vec<&str> = words.iter().map(|word| word.as_str()).collect(alloc)?;
     let exit = run_words(
         &rt,
         alloc,
@@ -32,28 +29,7 @@ fn main(rt: HostRuntime) -> ExitCode {
         &mut io::writer(&rt),
     );
     let _ = tell(&rt, &exit.told);
-    ExitCode::from(exit.status)
-}
-
-// The words after the program's name.
-fn words_of<H: Env + Alloc<A = Global>>(rt: &H) -> Result<Vec<String>, ErrorKind> {
-    match env::args(rt) {
-        Ok(words) => match words.skip(1).collect(rt.alloc()) {
-            Ok(words) => Ok(words),
-            Err(_) => Err(ErrorKind::OutOfMemory),
-        },
-        Err(error) => Err(error.kind()),
-    }
-}
-
-// Tells why the words can't be read. It takes no memory.
-fn end_without_words(rt: &impl Eprint, reason: ErrorKind) -> ExitCode {
-    if matches!(reason, ErrorKind::InvalidData) {
-        let _ = eprint!(rt; "error: an argument is no text in UTF-8\n");
-        return ExitCode::from(NO_TEXT);
-    }
-    let _ = tell(rt, &Told::Broken(reason));
-    ExitCode::from(FAILED)
+    Ok(ExitCode::from(exit.status))
 }
 
 // What standard error is told takes no memory.

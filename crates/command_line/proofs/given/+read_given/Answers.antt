@@ -1,6 +1,6 @@
 use Rattle.std.proofs.lemmas.Option.{IfSome_then}
-use Rattle.command_line.proofs.Parts.{spaced_words, joined_words, file_words}
-use Rattle.command_line.proofs.Complete.{agrees_name, agrees_option, file_rest, joined_rest, no_value, nothing_given, spaced_rest, without, without_file}
+use Rattle.command_line.proofs.Parts.{spaced_words, joined_words, file_words, wide_words}
+use Rattle.command_line.proofs.Complete.{agrees_name, agrees_option, agrees_width, file_rest, joined_rest, no_value, nothing_given, spaced_rest, wide_rest, without, without_file, without_wide}
 use Rattle.command_line.proofs.given.+read_given.Goals as goal
 
 pub returns-in_default-clause-all : goal.returns-in_default-clause-all
@@ -54,17 +54,36 @@ returns-in-Some-joined_choice-clause-all t c = λ given read.
 
 pub returns-in_err-read_given-3-clause-all : goal.returns-in_err-read_given-3-clause-all
 returns-in_err-read_given-3-clause-all t c = λ given read.
-    let f = file_rest c.args.words.now c.in-Some.rest.now c.in-Some.first.now given c.in-Some.ensures.cases.0 c.in_default-spaced_choice.ensures.none c.in_default-joined_choice.ensures.none read in
-    absurd (c.in_err-read_given-3.ensures.all (without_file given) f.rest)
+    let f = wide_rest c.args.words.now c.in-Some.rest.now c.in-Some.first.now given c.in-Some.ensures.cases.0 (c.is_wide_word.ensures.yes c.if-is_wide_word.true) read in
+    absurd (c.in_err-read_given-3.ensures.all (without_wide given) f.rest)
+
+pub returns-then-is_wide_word-clause-given : goal.returns-then-is_wide_word-clause-given
+returns-then-is_wide_word-clause-given t c =
+    IfSome_then c.with_wide.result c.with_wide.ensures.sets (λ new set.
+    wide_words c.args.words.now c.in-Some.rest.now c.in-Some.first.now c.in_ok-read_given-3.field-0 new
+    c.in-Some.ensures.cases.0 (c.is_wide_word.ensures.yes c.if-is_wide_word.true) c.in_ok-read_given-3.ensures.given set)
+
+pub returns-then-is_wide_word-clause-all : goal.returns-then-is_wide_word-clause-all
+returns-then-is_wide_word-clause-all t c = λ given read.
+    let f = wide_rest c.args.words.now c.in-Some.rest.now c.in-Some.first.now given c.in-Some.ensures.cases.0 (c.is_wide_word.ensures.yes c.if-is_wide_word.true) read in
+    agrees_width _ c.in_ok-read_given-3.field-0 given c.with_wide.result f
+    (c.in_ok-read_given-3.ensures.all (without_wide given) f.rest) c.with_wide.ensures.may c.with_wide.ensures.sets
+
+pub returns-in_err-read_given-4-clause-all : goal.returns-in_err-read_given-4-clause-all
+returns-in_err-read_given-4-clause-all t c = λ given read.
+    let f = file_rest c.args.words.now c.in-Some.rest.now c.in-Some.first.now given c.in-Some.ensures.cases.0 (c.is_wide_word.ensures.no c.if-is_wide_word.false)
+    c.in_default-spaced_choice.ensures.none c.in_default-joined_choice.ensures.none read in
+    absurd (c.in_err-read_given-4.ensures.all (without_file given) f.rest)
 
 pub returns-clause-given : goal.returns-clause-given
 returns-clause-given t c =
     IfSome_then c.with_file.result c.with_file.ensures.sets (λ new set.
-    file_words c.args.words.now c.in-Some.rest.now c.in-Some.first.now c.in_ok-read_given-3.field-0 new
-    c.in-Some.ensures.cases.0 c.in_ok-read_given-3.ensures.given set)
+    file_words c.args.words.now c.in-Some.rest.now c.in-Some.first.now c.in_ok-read_given-4.field-0 new
+    c.in-Some.ensures.cases.0 c.in_ok-read_given-4.ensures.given set)
 
 pub returns-clause-all : goal.returns-clause-all
 returns-clause-all t c = λ given read.
-    let f = file_rest c.args.words.now c.in-Some.rest.now c.in-Some.first.now given c.in-Some.ensures.cases.0 c.in_default-spaced_choice.ensures.none c.in_default-joined_choice.ensures.none read in
-    agrees_name c.in-Some.first.now.now _ c.in_ok-read_given-3.field-0 given c.with_file.result f
-    (c.in_ok-read_given-3.ensures.all (without_file given) f.rest) c.with_file.ensures.may c.with_file.ensures.sets
+    let f = file_rest c.args.words.now c.in-Some.rest.now c.in-Some.first.now given c.in-Some.ensures.cases.0 (c.is_wide_word.ensures.no c.if-is_wide_word.false)
+    c.in_default-spaced_choice.ensures.none c.in_default-joined_choice.ensures.none read in
+    agrees_name c.in-Some.first.now.now _ c.in_ok-read_given-4.field-0 given c.with_file.result f
+    (c.in_ok-read_given-4.ensures.all (without_file given) f.rest) c.with_file.ensures.may c.with_file.ensures.sets

@@ -1,10 +1,10 @@
-use Rattle.std.proofs.Common.{◌≡◌, ◌∙◌, arith, codes, refl, rules}
+use Rattle.std.proofs.Common.{◌≡◌, ◌∙◌, arith, codes, refl, rules, true}
 use Rattle.command_line.specs.Lines.{texts}
 use Rattle.command_line.specs.Words.{GivesNothingAfter}
 use Rattle.command_line.specs.declared.orders.Choice.TheVariants.{Slots, Places, Window, Sessions, Commits}
-use Rattle.command_line.proofs.Refused.{left_out, no_file, no_threads_found, no_threads_given, none_so, number_given, spells, taken, untaken}
+use Rattle.command_line.proofs.Refused.{left_out, narrow_given, no_file, no_threads_found, no_threads_given, none_so, number_given, spells, taken, untaken}
 use Rattle.command_line.proofs.given.spelled_threads.Goals as goal
-use Rattle.command_line.proofs.given.spelled_threads.Goals.{then-is_some-via-then-is_some, then-is_some-via-else-is_some+then-is_some-2, then-is_some-via-else-is_some+else-is_some-2+then-is_some-3}
+use Rattle.command_line.proofs.given.spelled_threads.Goals.{then-is_some-via-then-is_some, then-is_some-via-else-is_some+then-is_some-2, then-is_some-via-else-is_some+else-is_some-2+then-is_some-3, then-is_some-via-else-is_some+else-is_some-2+else-is_some-3+then-given}
 
 pub returns-in_err-given-clause-none : goal.returns-in_err-given-clause-none
 returns-in_err-given-clause-none c =
@@ -24,6 +24,8 @@ returns-then-is_some-clause-none c =
       | then-is_some-via-then-is_some w ↦ taken c.in_ok-given.given.slots (search rules) found.no_slots
       | then-is_some-via-else-is_some+then-is_some-2 w ↦ taken c.in_ok-given.given.places (search rules) found.no_places
       | then-is_some-via-else-is_some+else-is_some-2+then-is_some-3 w ↦ taken c.in_ok-given.given.window (search rules) found.no_window
+      | then-is_some-via-else-is_some+else-is_some-2+else-is_some-3+then-given w ↦
+          let wide : c.in_ok-given.given.wide ≡ true = search rules in cc (wide, found.narrow)
     ])
 
 pub returns-then-sessions-lt1-clause-none : goal.returns-then-sessions-lt1-clause-none
@@ -49,6 +51,7 @@ returns-clause-gives c =
           no_slots = left_out words found Slots given (untaken found.slots (search rules));
           no_places = left_out words found Places given (untaken found.places (search rules));
           no_window = left_out words found Window given (untaken found.window (search rules));
+          not_wide = narrow_given words found given (search rules);
           sessions_limits = (omega (arith, c.if-sessions-lt1.false), omega (arith, c.if-sessions-gt-MOST_SESSIONS.false));
           commits_limits = (omega (arith, c.if-commits-lt1.false), omega (arith, c.if-commits-gt-MOST_COMMITS.false));
         },

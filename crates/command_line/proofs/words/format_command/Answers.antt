@@ -3,7 +3,7 @@ use Rattle.std.proofs.lemmas.Result.{IfOk-weaker}
 use Rattle.clap.specs.Simple.{app_of_fields}
 use Rattle.clap.specs.Words.{App, app_of, rule_of}
 use Rattle.clap.specs.declared.builder.arg.Arg.{Arg}
-use Rattle.command_line.specs.Help.{name_rule, number_rule}
+use Rattle.command_line.specs.Help.{flag_rule, name_rule, number_rule}
 use Rattle.command_line.proofs.Help.{app_with, with-arg}
 use Rattle.command_line.proofs.words.format_command.Goals as goal
 
@@ -26,7 +26,10 @@ returns c =
     with-arg c.in_ok-arg-2.field-0 c.help-places.result c.in_ok-arg-3.field-0 (codes "format") (file ∷ slots ∷ []) places c.in_ok-arg-3.ensures
     (ap (λ (a : Arg). a.global) c.help-places.ensures ∙ c.number_option-2.ensures.global)
     (ap rule_of c.help-places.ensures ∙ c.number_option-2.ensures.rule) two in
-    IfOk-weaker c.arg-4.result _ _ (λ new adds. ap (λ (a : App). a.top)
-    (with-arg c.in_ok-arg-3.field-0 c.help-window.result new (codes "format") (file ∷ slots ∷ places ∷ []) window adds
+    let four : app_of c.in_ok-arg-4.field-0 ≡ app_with (codes "format") (file ∷ slots ∷ places ∷ window ∷ []) =
+    with-arg c.in_ok-arg-3.field-0 c.help-window.result c.in_ok-arg-4.field-0 (codes "format") (file ∷ slots ∷ places ∷ []) window c.in_ok-arg-4.ensures
     (ap (λ (a : Arg). a.global) c.help-window.ensures ∙ c.number_option-3.ensures.global)
-    (ap rule_of c.help-window.ensures ∙ c.number_option-3.ensures.rule) three)) c.arg-4.ensures
+    (ap rule_of c.help-window.ensures ∙ c.number_option-3.ensures.rule) three in
+    IfOk-weaker c.arg-5.result _ _ (λ new adds. ap (λ (a : App). a.top)
+    (with-arg c.in_ok-arg-4.field-0 c.wide_option-wide.result new (codes "format") (file ∷ slots ∷ places ∷ window ∷ []) (flag_rule (codes "wide")) adds
+    c.wide_option-wide.ensures.global c.wide_option-wide.ensures.rule four)) c.arg-5.ensures

@@ -1,22 +1,49 @@
-use Rattle.std.proofs.Common.{inl, sym, ◌∙◌}
+use Rattle.std.proofs.Common.{inl, length, sym, ◌∙◌, ap, subst}
+use Rattle.base.specs.Layout.{Layout}
+use Rattle.base.specs.Records.{Record}
 use Rattle.pmem.specs.Words.{image_of}
 use Rattle.log_area.proofs.AtRest.{fits_image}
 use Rattle.recovery.proofs.Lives.{refuses-log, may-rule, formed-parts, under, window-small, refuses-slots, refuses-limit, refuses-memory, examined, ruled-size}
-use Rattle.recovery.proofs.WhatIsRead.{tells-later, under-own}
+use Rattle.recovery.proofs.WhatIsRead.{tells-later}
+use Rattle.recovery.specs.Opened.{Examined}
+use Rattle.recovery.specs.Sweeping.{AreHits}
+use Rattle.recovery.proofs.Readings.{readings-size, all-live}
+use Rattle.recovery.proofs.Hits.{are-hits}
 use Rattle.recovery.proofs.examining.examine.Goals as goal
 
 pub returns-in-Err-clause-fault : goal.returns-in-Err-clause-fault
 returns-in-Err-clause-fault g c = refuses-log (image_of (g.D.Pmem.state c.args.device.now)) c.in-Err.fault c.in-Err.ensures.fault
 
-pub free_slots-requires-clause-size : goal.free_slots-requires-clause-size
-free_slots-requires-clause-size g c = ruled-size (g.D.Pmem.state c.args.device.now) c.in-Ok.found.geometry c.in-Ok.found.target c.in-Ok.ensures.ok
+pub returns-in-Err-clause-log : goal.returns-in-Err-clause-log
+returns-in-Err-clause-log g c = inl c.in-Err.ensures.fault
 
-pub free_slots-requires-clause-under : goal.free_slots-requires-clause-under
-free_slots-requires-clause-under g c = under c.in-Ok.found.geometry c.in-Ok.found.target (image_of (g.D.Pmem.state c.args.device.now)) c.in-Ok.ensures.ok
+-- ---- the slots
+
+pub read_slots-requires-clause-size : goal.read_slots-requires-clause-size
+read_slots-requires-clause-size g c κs within = ruled-size (g.D.Pmem.state c.args.device.now) c.in-Ok.found.geometry c.in-Ok.found.target c.in-Ok.ensures.ok
+
+pub read_slots-requires-clause-under : goal.read_slots-requires-clause-under
+read_slots-requires-clause-under g c κs within = under c.in-Ok.found.geometry c.in-Ok.found.target (image_of (g.D.Pmem.state c.args.device.now)) c.in-Ok.ensures.ok
+
+pub returns-in-Err-read_slots-clause-fault : goal.returns-in-Err-read_slots-clause-fault
+returns-in-Err-read_slots-clause-fault g c = refuses-memory c.in-Ok.found.geometry c.in-Ok.found.target (image_of (g.D.Pmem.state c.args.device.now)) c.in-Ok.ensures.ok
+
+pub returns-in-Err-read_slots-clause-log : goal.returns-in-Err-read_slots-clause-log
+returns-in-Err-read_slots-clause-log g c = tells-later c.in-Ok.found.geometry c.in-Ok.found.target (image_of (g.D.Pmem.state c.args.device.now)) c.in-Ok.ensures.ok _
+
+pub free_slots-requires : goal.free_slots-requires
+free_slots-requires g c =
+    ap length (c.as_slice.ensures.value ∙ c.in-Ok-read_slots.ensures) ∙ readings-size (image_of (g.D.Pmem.state c.args.device.now)) c.in-Ok.found.geometry.slots
 
 pub returns-in-Err-free_slots-clause-fault : goal.returns-in-Err-free_slots-clause-fault
 returns-in-Err-free_slots-clause-fault g c =
-    refuses-slots c.in-Ok.found.geometry c.in-Ok.found.target (image_of (g.D.Pmem.state c.args.device.now)) c.in-Ok.ensures.ok c.in-Err-free_slots.fault c.in-Err-free_slots.ensures.fault
+    let image = image_of (g.D.Pmem.state c.args.device.now) in
+    refuses-slots c.in-Ok.found.geometry c.in-Ok.found.target image c.in-Ok.ensures.ok c.in-Err-free_slots.fault (c.in-Err-free_slots.ensures.fault image (c.as_slice.ensures.value ∙ c.in-Ok-read_slots.ensures))
+
+pub returns-in-Err-free_slots-clause-log : goal.returns-in-Err-free_slots-clause-log
+returns-in-Err-free_slots-clause-log g c = tells-later c.in-Ok.found.geometry c.in-Ok.found.target (image_of (g.D.Pmem.state c.args.device.now)) c.in-Ok.ensures.ok c.in-Err-free_slots.fault
+
+-- ---- the limit
 
 pub is_near_limit-requires-clause-window : goal.is_near_limit-requires-clause-window
 is_near_limit-requires-clause-window g c = window-small c.in-Ok.found.geometry c.in-Ok.found.target (image_of (g.D.Pmem.state c.args.device.now)) c.in-Ok.ensures.ok
@@ -29,34 +56,42 @@ is_near_limit-requires-clause-gate g c = (fits_image c.in-Ok.found.geometry c.in
 
 pub returns-then-is_near_limit-clause-fault : goal.returns-then-is_near_limit-clause-fault
 returns-then-is_near_limit-clause-fault g c =
-    refuses-limit c.in-Ok.found.geometry c.in-Ok.found.target (image_of (g.D.Pmem.state c.args.device.now)) c.in-Ok.ensures.ok c.in-Ok-free_slots.ensures.good (sym c.is_near_limit.ensures ∙ c.if-is_near_limit.true)
-
-pub live_slots-requires-clause-size : goal.live_slots-requires-clause-size
-live_slots-requires-clause-size g c = ruled-size (g.D.Pmem.state c.args.device.now) c.in-Ok.found.geometry c.in-Ok.found.target c.in-Ok.ensures.ok
-
-pub live_slots-requires-clause-under : goal.live_slots-requires-clause-under
-live_slots-requires-clause-under g c =
-    under-own c.in-Ok.found.geometry c.in-Ok.found.target (image_of (g.D.Pmem.state c.args.device.now)) (under c.in-Ok.found.geometry c.in-Ok.found.target (image_of (g.D.Pmem.state c.args.device.now)) c.in-Ok.ensures.ok)
-
-pub returns-in-Err-live_slots-clause-fault : goal.returns-in-Err-live_slots-clause-fault
-returns-in-Err-live_slots-clause-fault g c = refuses-memory c.in-Ok.found.geometry c.in-Ok.found.target (image_of (g.D.Pmem.state c.args.device.now)) c.in-Ok.ensures.ok
-
-pub opened_gaps-requires : goal.opened_gaps-requires
-opened_gaps-requires g c = may-rule c.in-Ok.found.geometry c.in-Ok.found.target (image_of (g.D.Pmem.state c.args.device.now)) c.in-Ok.ensures.ok
-
-pub returns-clause-ok : goal.returns-clause-ok
-returns-clause-ok g c =
-    examined c.in-Ok.found.geometry c.in-Ok.found.target (image_of (g.D.Pmem.state c.args.device.now)) c.in-Ok.ensures.ok c.in-Ok-free_slots.ensures.good (sym c.is_near_limit.ensures ∙ c.if-is_near_limit.false)
-    c.opened_gaps.result c.opened_gaps.ensures c.in-Ok-free_slots.free.items c.in-Ok-free_slots.ensures.free c.in-Ok-live_slots.live.items c.in-Ok-live_slots.ensures
-
-pub returns-in-Err-clause-log : goal.returns-in-Err-clause-log
-returns-in-Err-clause-log g c = inl c.in-Err.ensures.fault
-
-pub returns-in-Err-free_slots-clause-log : goal.returns-in-Err-free_slots-clause-log
-returns-in-Err-free_slots-clause-log g c = tells-later c.in-Ok.found.geometry c.in-Ok.found.target (image_of (g.D.Pmem.state c.args.device.now)) c.in-Ok.ensures.ok c.in-Err-free_slots.fault
+    let image = image_of (g.D.Pmem.state c.args.device.now) in
+    refuses-limit c.in-Ok.found.geometry c.in-Ok.found.target image c.in-Ok.ensures.ok (c.in-Ok-free_slots.ensures.good image (c.as_slice.ensures.value ∙ c.in-Ok-read_slots.ensures)) (sym c.is_near_limit.ensures ∙ c.if-is_near_limit.true)
 
 pub returns-then-is_near_limit-clause-log : goal.returns-then-is_near_limit-clause-log
 returns-then-is_near_limit-clause-log g c = tells-later c.in-Ok.found.geometry c.in-Ok.found.target (image_of (g.D.Pmem.state c.args.device.now)) c.in-Ok.ensures.ok _
 
-pub returns-in-Err-live_slots-clause-log : goal.returns-in-Err-live_slots-clause-log
-returns-in-Err-live_slots-clause-log g c = tells-later c.in-Ok.found.geometry c.in-Ok.found.target (image_of (g.D.Pmem.state c.args.device.now)) c.in-Ok.ensures.ok _
+-- ---- what is told
+
+pub gather-requires : goal.gather-requires
+gather-requires g c = may-rule c.in-Ok.found.geometry c.in-Ok.found.target (image_of (g.D.Pmem.state c.args.device.now)) c.in-Ok.ensures.ok
+
+pub returns-in-Ok-gather-clause-ok : goal.returns-in-Ok-gather-clause-ok
+returns-in-Ok-gather-clause-ok g c =
+    let image = image_of (g.D.Pmem.state c.args.device.now) in
+    let found = c.in-Ok.found in
+    let tells = c.in-Ok-gather.ensures in
+    let e = c.in-Ok-gather.examined in
+    let are = c.as_slice.ensures.value ∙ c.in-Ok-read_slots.ensures in
+    let good = c.in-Ok-free_slots.ensures.good image are in
+    subst (λ (l : Layout). Examined image l e.ruling e.gaps e.free.items e.live.items) (sym tells.layout)
+    (subst (λ (r : Record). Examined image found.geometry r e.gaps e.free.items e.live.items) (sym tells.rules)
+    (examined found.geometry found.target image c.in-Ok.ensures.ok good (sym c.is_near_limit.ensures ∙ c.if-is_near_limit.false) e.gaps tells.gaps
+    e.free.items (tells.free ∙ c.in-Ok-free_slots.ensures.free image are)
+    e.live.items (all-live image found.geometry.slots c.as_slice-2.result.now e.live.items (c.as_slice-2.ensures.value ∙ c.in-Ok-read_slots.ensures) good tells.live)))
+
+pub returns-in-Ok-gather-clause-hits : goal.returns-in-Ok-gather-clause-hits
+returns-in-Ok-gather-clause-hits g c =
+    let image = image_of (g.D.Pmem.state c.args.device.now) in
+    let found = c.in-Ok.found in
+    let tells = c.in-Ok-gather.ensures in
+    let e = c.in-Ok-gather.examined in
+    subst (λ (l : Layout). AreHits image l e.gaps e.hits.items) (sym tells.layout)
+    (are-hits image found.geometry found.target e.gaps c.as_slice-2.result.now e.hits.items c.in-Ok.ensures.ok.by_record (c.as_slice-2.ensures.value ∙ c.in-Ok-read_slots.ensures) tells.hits)
+
+pub returns-clause-fault : goal.returns-clause-fault
+returns-clause-fault g c = refuses-memory c.in-Ok.found.geometry c.in-Ok.found.target (image_of (g.D.Pmem.state c.args.device.now)) c.in-Ok.ensures.ok
+
+pub returns-clause-log : goal.returns-clause-log
+returns-clause-log g c = tells-later c.in-Ok.found.geometry c.in-Ok.found.target (image_of (g.D.Pmem.state c.args.device.now)) c.in-Ok.ensures.ok _

@@ -5,7 +5,11 @@ use Rattle.pmem.specs.Words.{image_of}
 use Rattle.pmem.proofs.Spares.{spares_none}
 use Rattle.recovery.specs.Sweeping.{is_hit}
 use Rattle.recovery.proofs.Lives.{many-gaps, unswept-spared}
+use Rattle.recovery.proofs.Hits.{where-many}
 use Rattle.recovery.proofs.opening.keep_gaps.Goals as goal
+
+pub sweep-requires-clause-hits : goal.sweep-requires-clause-hits
+sweep-requires-clause-hits g c = where-many (image_of (g.D.Pmem.state c.args.device.now)) c.args.geometry c.args.gaps c.args.hits.now c.requires.hits c.in-None.is
 
 -- nothing is swept
 pub returns-in-Some-clause-others : goal.returns-in-Some-clause-others

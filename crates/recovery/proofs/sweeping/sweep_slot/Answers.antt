@@ -1,7 +1,7 @@
 use Rattle.std.proofs.Common.{ℕ, ◌+◌, ◌≤◌, ◌∙◌, ap, subst, arith}
 use Rattle.pmem.specs.Words.{operations_of}
 use Rattle.pmem.proofs.Runs.{keeps-flushed, keeps-failed}
-use Rattle.recovery.proofs.SweptSlots.{wide-limits, slot-kept-at, cleaned-late, cleaned-mid, cleaned-none}
+use Rattle.recovery.proofs.SweptSlots.{slot-kept-at, cleaned-late, cleaned-mid, cleaned-none}
 use Rattle.log_area.proofs.Whole.{on_err}
 use Rattle.recovery.specs.Sweeping.{zeroed, cleaned}
 use Rattle.recovery.proofs.sweeping.sweep_slot.Goals as goal
@@ -9,7 +9,7 @@ use Rattle.recovery.proofs.sweeping.sweep_slot.Goals as goal
 pub returns-in_err-ended-clause-kept : goal.returns-in_err-ended-clause-kept
 returns-in_err-ended-clause-kept g c =
     let state = g.D.Pmem.state in
-    slot-kept-at c.args.geometry c.args.ruling c.args.slot (wide-limits c.args.geometry c.slot_start-start.ensures.in_limits) c.slot_start-start.result c.slot_start-start.ensures.value (state c.args.device.now) (state c.sweep_word.new.device) (state c.sweep_word-2.new.device)
+    slot-kept-at c.args.geometry c.args.ruling c.args.slot c.slot_start-start.result c.slot_start-start.ensures.value (state c.args.device.now) (state c.sweep_word.new.device) (state c.sweep_word-2.new.device)
     c.in_ok-begun.ensures.ok c.in_ok-begun.ensures.kept c.in_err-ended.ensures.kept
 
 pub returns-in_err-begun-clause-few : goal.returns-in_err-begun-clause-few
@@ -33,7 +33,7 @@ pub returns-in_err-flush-clause-kept : goal.returns-in_err-flush-clause-kept
 returns-in_err-flush-clause-kept g c =
     let state = g.D.Pmem.state in
     let orderly = g.met.D.Pmem.orderly in
-    let kept = slot-kept-at c.args.geometry c.args.ruling c.args.slot (wide-limits c.args.geometry c.slot_start-start.ensures.in_limits) c.slot_start-start.result c.slot_start-start.ensures.value (state c.args.device.now) (state c.sweep_word.new.device) (state c.sweep_word-2.new.device)
+    let kept = slot-kept-at c.args.geometry c.args.ruling c.args.slot c.slot_start-start.result c.slot_start-start.ensures.value (state c.args.device.now) (state c.sweep_word.new.device) (state c.sweep_word-2.new.device)
     c.in_ok-begun.ensures.ok c.in_ok-begun.ensures.kept c.in_ok-ended.ensures.kept in
     keeps-failed (orderly c.sweep_word-2.new.device) (orderly c.flush.new.self) kept c.in_err-flush.ensures.err
 
@@ -42,6 +42,6 @@ returns-in_ok-flush-clause-kept g c =
     let state = g.D.Pmem.state in
     let orderly = g.met.D.Pmem.orderly in
     let line : ℕ = c.slot_line.result in
-    let kept = slot-kept-at c.args.geometry c.args.ruling c.args.slot (wide-limits c.args.geometry c.slot_start-start.ensures.in_limits) c.slot_start-start.result c.slot_start-start.ensures.value (state c.args.device.now) (state c.sweep_word.new.device) (state c.sweep_word-2.new.device)
+    let kept = slot-kept-at c.args.geometry c.args.ruling c.args.slot c.slot_start-start.result c.slot_start-start.ensures.value (state c.args.device.now) (state c.sweep_word.new.device) (state c.sweep_word-2.new.device)
     c.in_ok-begun.ensures.ok c.in_ok-begun.ensures.kept c.in_ok-ended.ensures.kept in
     keeps-flushed 0 line (orderly c.sweep_word-2.new.device) (orderly c.flush.new.self) kept c.in_ok-flush.ensures.ok

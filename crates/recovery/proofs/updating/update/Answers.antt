@@ -5,7 +5,7 @@ use Rattle.pmem.specs.Words.{image_of, IsSettledAt, IsStore, Keeps, OldOr}
 use Rattle.pmem.proofs.Spares.{spares_none}
 use Rattle.recovery.specs.Opened.{is_updated}
 use Rattle.recovery.proofs.Lives.{images-refused}
-use Rattle.recovery.proofs.Updates.{opened-size, image-updated, rest-updated, images-updating, others-spared}
+use Rattle.recovery.proofs.Updates.{opened-size, image-current, image-updated, rest-updated, images-updating, others-spared}
 use Rattle.recovery.proofs.updating.update.Goals as goal
 
 -- the version of today's layout
@@ -16,6 +16,16 @@ today-version found layout today laid_out is = ap (λ (l : Layout). l.version) (
 other-version : (found layout today : Layout) (x y : ℕ) → found ≡ layout → today ≡ opened_layout layout → x ≡ today.version → y ≡ layout.version → x ≢ y → found.version ≢ opened_version found.version
 other-version found layout today x y laid_out is x-is y-is differ same =
     differ (x-is ∙ today-version found layout today laid_out is ∙ sym same ∙ ap (λ (l : Layout). l.version) laid_out ∙ sym y-is)
+
+-- it is that of the image
+same-version : (found layout today : Layout) (x y : ℕ) → found ≡ layout → today ≡ opened_layout layout → x ≡ today.version → y ≡ layout.version → x ≡ y → found.version ≡ opened_version found.version
+same-version found layout today x y laid_out is x-is y-is same =
+    ap (λ (l : Layout). l.version) laid_out ∙ sym y-is ∙ sym same ∙ x-is ∙ today-version found layout today laid_out is
+
+pub returns-then-version-clause-image : goal.returns-then-version-clause-image
+returns-then-version-clause-image g c =
+    let old = g.D.Pmem.state c.args.device.now in
+    image-current old c.requires.opens (same-version (layout_of (image_of old)) c.args.geometry c.opened-today.result c.version.result c.version-2.result c.requires.laid_out c.opened-today.ensures c.version.ensures.value c.version-2.ensures.value c.if-version.true)
 
 pub returns-then-version-clause-others : goal.returns-then-version-clause-others
 returns-then-version-clause-others g c = let old = g.D.Pmem.state c.args.device.now in spares_none (λ word. is_updated old word ≡ false) old (g.met.D.Pmem.orderly c.args.device.now)

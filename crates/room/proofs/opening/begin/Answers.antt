@@ -1,11 +1,12 @@
 use Rattle.std.proofs.Common.{◌≡◌, ◌<◌, ◌^◌, List, Bool, length, sym, ◌∙◌, ap, subst}
 use Rattle.base.specs.declared.fault.Fault.TheVariants.{OutOfMemory}
 use Rattle.pmem.specs.Words.{image_of}
-use Rattle.recovery.proofs.Lives.{images-refused, refusal-examined, refusal-device}
+use Rattle.recovery.specs.Slots.{free_below}
+use Rattle.recovery.proofs.Lives.{is, images-refused, refusal-examined, refusal-device}
 use Rattle.recovery.proofs.WhatIsRead.{tells-examined}
 use Rattle.session_steps.specs.declared.sessions.Sessions.{Sessions}
 use Rattle.session_steps.specs.Opening.{HasFound, ShowsOpened}
-use Rattle.room.proofs.Begun.{free-counted, examined-size, examined-counted, examined-few, examined-free-now, examined-found}
+use Rattle.room.proofs.Begun.{free-counted, examined-few, examined-free-now, examined-found}
 use Rattle.room.proofs.opening.begin.Goals as goal
 
 pub returns-in-Err-clause-fault : goal.returns-in-Err-clause-fault
@@ -16,21 +17,12 @@ returns-in-Err-clause-images g c = images-refused (g.D.Pmem.state c.args.device.
 
 -- ---- the index
 
-pub index_slots-requires-clause-slots : goal.index_slots-requires-clause-slots
-index_slots-requires-clause-slots g c =
-    ap (λ (l : List Bool). length l) c.as_slice.ensures.value
-    ∙ examined-counted (g.D.Pmem.state c.args.device.now) c.in-Ok.found.geometry c.in-Ok.found.ruling c.in-Ok.found.gaps c.in-Ok.found.free.items c.in-Ok.found.live.items c.in-Ok.ensures.ok
+pub returns-in-Err-index_of-clause-log : goal.returns-in-Err-index_of-clause-log
+returns-in-Err-index_of-clause-log g c =
+    tells-examined (image_of (g.D.Pmem.state c.args.device.now)) c.in-Ok.found.geometry c.in-Ok.found.ruling c.in-Ok.found.gaps c.in-Ok.found.free.items c.in-Ok.found.live.items c.in-Ok.ensures.ok c.in-Err-index_of.fault
 
-pub index_slots-requires-clause-device : goal.index_slots-requires-clause-device
-index_slots-requires-clause-device g c =
-    examined-size (g.D.Pmem.state c.args.device.now) c.in-Ok.found.geometry c.in-Ok.found.ruling c.in-Ok.found.gaps c.in-Ok.found.free.items c.in-Ok.found.live.items c.in-Ok.ensures.ok
-
-pub returns-in-Err-index_slots-clause-log : goal.returns-in-Err-index_slots-clause-log
-returns-in-Err-index_slots-clause-log g c =
-    tells-examined (image_of (g.D.Pmem.state c.args.device.now)) c.in-Ok.found.geometry c.in-Ok.found.ruling c.in-Ok.found.gaps c.in-Ok.found.free.items c.in-Ok.found.live.items c.in-Ok.ensures.ok c.in-Err-index_slots.fault
-
-pub returns-in-Err-index_slots-clause-images : goal.returns-in-Err-index_slots-clause-images
-returns-in-Err-index_slots-clause-images g c = images-refused (g.D.Pmem.state c.args.device.now) (g.met.D.Pmem.orderly c.args.device.now) c.requires.at_rest
+pub returns-in-Err-index_of-clause-images : goal.returns-in-Err-index_of-clause-images
+returns-in-Err-index_of-clause-images g c = images-refused (g.D.Pmem.state c.args.device.now) (g.met.D.Pmem.orderly c.args.device.now) c.requires.at_rest
 
 -- ---- the free slots
 
@@ -80,13 +72,15 @@ returns-clause-ok g c =
       live = life.live.items;
       opened = c.in-Ok-open.ensures.ok;
       shows =
-          let found : HasFound (image_of new) life.free.items life.geometry.slots c.in-Ok-index_slots.index =
+          let known = is (image_of old) c.in-Ok.found.geometry c.in-Ok.found.ruling c.in-Ok.found.gaps c.in-Ok.found.free.items c.in-Ok.found.live.items c.in-Ok.ensures.ok in
+          let found : HasFound (image_of new) life.free.items life.geometry.slots c.in-Ok-index_of.index =
           examined-found old c.in-Ok.found.geometry c.in-Ok.found.ruling c.in-Ok.found.gaps c.in-Ok.found.free.items c.in-Ok.found.live.items c.in-Ok.ensures.ok new
-          life.geometry life.ruling life.next life.free.items life.live.items c.in-Ok-open.ensures.ok c.as_slice.result.now c.in-Ok-index_slots.index c.as_slice.ensures.value c.in-Ok-index_slots.ensures.ok in
+          life.geometry life.ruling life.next life.free.items life.live.items c.in-Ok-open.ensures.ok (free_below (image_of old) c.in-Ok.found.geometry.slots) c.in-Ok-index_of.index (sym known.free_are)
+          (λ laid. c.in-Ok-index_of.ensures.ok (image_of old) c.in-Ok.found.geometry.slots (c.as_slice.ensures.value ∙ known.live_are)) in
           let slots : c.in-Ok-new.slots ≡ life.free.items = c.in-Ok-new.ensures ∙ c.as_slice-2.ensures.value
           ∙ sym (examined-free-now old c.in-Ok.found.geometry c.in-Ok.found.ruling c.in-Ok.found.gaps c.in-Ok.found.free.items c.in-Ok.found.live.items c.in-Ok.ensures.ok new life.geometry life.ruling life.next life.free.items life.live.items c.in-Ok-open.ensures.ok) in
           let shown : ShowsOpened c.open-sessions.result new life.geometry life.ruling life.next c.in-Ok-new.slots =
-          c.open-sessions.ensures new (g.met.D.Pmem.orderly c.open.new.device) (subst (λ (l : List Bool). HasFound (image_of new) l life.geometry.slots c.in-Ok-index_slots.index) (sym slots) found) in
+          c.open-sessions.ensures new (g.met.D.Pmem.orderly c.open.new.device) (subst (λ (l : List Bool). HasFound (image_of new) l life.geometry.slots c.in-Ok-index_of.index) (sym slots) found) in
           subst (λ (s : Sessions). ShowsOpened s new life.geometry life.ruling life.next life.free.items) (sym c.new-2.ensures.sessions)
           (subst (λ (l : List Bool). ShowsOpened c.open-sessions.result new life.geometry life.ruling life.next l) slots shown);
       rests = c.new-2.ensures.rests;

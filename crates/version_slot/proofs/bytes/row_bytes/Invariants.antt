@@ -4,6 +4,6 @@ use Rattle.version_slot.proofs.bytes.row_bytes.Given as goal
 
 abbrev pub invariant-loop-i : goal.invariant-loop-i
 invariant-loop-i l = record {
-  size : length l.bytes ≡ 32;
+  size : length l.bytes ≡ 96;
   copied : (i : ℕ) → i < l.i → slice_index l.bytes i ≡ slot_byte (slice_index l.words) i;
 }

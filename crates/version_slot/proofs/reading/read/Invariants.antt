@@ -5,6 +5,6 @@ use Rattle.version_slot.proofs.reading.read.Given as goal
 
 abbrev pub invariant-loop-w : goal.invariant-loop-w
 invariant-loop-w g l = record {
-  size : length l.words ≡ 8;
+  size : length l.words ≡ 16;
   loaded : (w : ℕ) → w < l.w → slice_index l.words w ≡ slot_at l.geometry l.slot (value_of (g.D.Pmem.state l.device)) w;
 }

@@ -15,6 +15,7 @@ use Rattle.recovery.specs.Opened.{Examined, HasOpened, HasOpenedToday, IsCutBefo
 use Rattle.recovery.specs.declared.rows.LiveSlot.{LiveSlot}
 use Rattle.recovery.proofs.Lives.{is}
 use Rattle.recovery.proofs.Updates.{examined-updated, cut-after, images-after, has-opened-updated}
+use Rattle.recovery.proofs.Hits.{hits-now}
 use Rattle.recovery.proofs.examining.Examined.open.Goals as goal
 
 pub update-requires-clause-opens : goal.update-requires-clause-opens
@@ -33,6 +34,11 @@ examined-now before now layout today r gaps free live ex same is-today =
 pub open_today-requires-clause-examined : goal.open_today-requires-clause-examined
 open_today-requires-clause-examined g c =
     examined-now (image_of (g.D.Pmem.state c.args.device.now)) (image_of (g.D.Pmem.state c.update.new.device)) c.args.self.geometry c.in-Ok.geometry c.args.self.ruling c.args.self.gaps c.args.self.free.items c.args.self.live.items c.requires.examined c.in-Ok.ensures.image c.in-Ok.ensures.ok
+
+pub open_today-requires-clause-hits : goal.open_today-requires-clause-hits
+open_today-requires-clause-hits g c =
+    let image = image_of (g.D.Pmem.state c.args.device.now) in
+    hits-now image (image_of (g.D.Pmem.state c.update.new.device)) (updated-open image (is image c.args.self.geometry c.args.self.ruling c.args.self.gaps c.args.self.free.items c.args.self.live.items c.requires.examined).opens) c.args.self.geometry c.in-Ok.geometry c.args.self.gaps c.args.self.hits.items c.requires.hits c.in-Ok.ensures.image c.in-Ok.ensures.ok
 
 module _ (old mid new : Device) (opens : opening_fault (image_of old) ≡ None) (updated-is : image_of mid ≡ updated (image_of old)) (made : MakesAll (update_counts (image_of old)) old mid) where
   opened-then : Spares (λ word. is_updated old word ≡ false) old mid → (result : Result Life Fault) → IfOk result (λ life. HasOpenedToday mid new life.geometry life.ruling life.next life.free.items life.live.items)

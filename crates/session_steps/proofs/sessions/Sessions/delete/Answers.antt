@@ -21,7 +21,7 @@ pub give-requires : goal.give-requires
 give-requires c = ap (fits_slot (length c.args.self.now.slots)) c.own_slot.ensures ∙ ∥∥₁_elim c.requires.shown (Bool-set _ _) (λ shown. fits-own_of c.args.self.now c.args.session c.args.key _ _ shown.0 c.in-Ok.ensures.ok shown.1)
 
 pub write-requires : goal.write-requires
-write-requires c = (_, _, c.in-Ok.ensures.ok, subst (λ (b : Bool). OnFalse b (HasRoomFor c.args.key c.in-Ok.active.writes)) c.if-is_full_for.false c.is_full_for.ensures.room)
+write-requires c = (_, _, c.in-Ok.ensures.ok, subst (λ (b : Bool). OnFalse b (HasRoomFor c.args.key c.in-Ok.active.writes.now)) c.if-is_full_for.false c.is_full_for.ensures.room)
 
 pub returns : goal.returns
 returns c = record {

@@ -15,7 +15,7 @@ returns-in-Err c = record { step = λ h holds. inactive c.args.self.now (Draw c.
 
 pub returns-then-is_empty : goal.returns-then-is_empty
 returns-then-is_empty c = record {
-  step = λ h holds. draws-nothing c.args.self.now c.set.new.self c.args.session c.in-Ok.active.snapshot h (rw (← nothing-is _ _ c.is_empty.ensures c.if-is_empty.true) c.in-Ok.ensures.ok) c.set.ensures holds;
+  step = λ h holds. draws-nothing c.args.self.now c.set.new.self c.args.session c.in-Ok.active.snapshot.now h (rw (← nothing-is _ _ c.is_empty.ensures c.if-is_empty.true) c.in-Ok.ensures.ok) c.set.ensures holds;
 }
 
 pub returns-in-Some : goal.returns-in-Some

@@ -14,7 +14,7 @@ use Rattle.session_steps.proofs.Stepping.{held-on}
 use Rattle.session_steps.proofs.sessions.Sessions.fill_own.Goals as goal
 
 pub fill-requires-clause-slot : goal.fill-requires-clause-slot
-fill-requires-clause-slot g c = ∥∥₁_elim c.requires.shown le_prop (λ shown. own-within c.args.self.now shown.0 c.args.session _ _ c.args.key c.args.slot (held-on c.args.self.now shown.0 _ shown.1) c.requires.active c.requires.own)
+fill-requires-clause-slot g c = ∥∥₁_elim c.requires.shown le_prop (λ shown. own-within c.args.self.now shown.0 c.args.session _ _ c.args.key c.args.slot (held-on c.args.self.now shown.0 _ shown.1) c.requires.ready.active c.requires.ready.slot)
 
 pub fill-requires-clause-previous : goal.fill-requires-clause-previous
 fill-requires-clause-previous g c =
@@ -24,16 +24,16 @@ pub fill-requires-clause-device : goal.fill-requires-clause-device
 fill-requires-clause-device g c = ∥∥₁_elim c.requires.shown (ℕ_set _ _) (λ shown. words-are _ _ (g.D.Pmem.state c.args.device.now) (g.met.D.Pmem.orderly _) shown.1.upholds)
 
 pub write-requires : goal.write-requires
-write-requires g c = (_, _, c.requires.active, subst (λ (w : Write). HasRoomFor w.key c.args.active.writes) (sym c.row_write.ensures) c.requires.room)
+write-requires g c = (_, _, c.requires.ready.active, subst (λ (w : Write). HasRoomFor w.key c.requires.ready.writes) (sym c.row_write.ensures) c.requires.ready.room)
 
 pub returns-in-Ok-clause-step : goal.returns-in-Ok-clause-step
 returns-in-Ok-clause-step g c = λ h holds.
-    puts-own c.args.self.now h c.args.session c.args.active.snapshot c.args.active.writes (record { key = c.args.key; row = c.args.row; previous = c.link.result }) c.args.slot (g.D.Pmem.state c.args.device.now) (g.D.Pmem.state c.fill.new.device) holds
-    c.requires.active c.requires.fits c.requires.row c.requires.own c.write.new.self
-    (subst (λ (w : Write). Sets c.args.self.now.transactions c.write.new.self c.args.session (Some (Active c.args.active.snapshot (with_write_at w c.args.active.writes)))) c.row_write.ensures (c.write.ensures _ _ c.requires.active))
+    puts-own c.args.self.now h c.args.session c.requires.ready.snapshot c.requires.ready.writes (record { key = c.args.key; row = c.args.row; previous = c.link.result }) c.args.slot (g.D.Pmem.state c.args.device.now) (g.D.Pmem.state c.fill.new.device) holds
+    c.requires.ready.active c.requires.ready.fits c.requires.row c.requires.ready.slot c.write.new.self
+    (subst (λ (w : Write). Sets c.args.self.now.transactions c.write.new.self c.args.session (Some (Active c.requires.ready.snapshot (with_write_at w c.requires.ready.writes)))) c.row_write.ensures (c.write.ensures _ _ c.requires.ready.active))
     c.in-Ok.ensures.version.fits c.link.ensures c.in-Ok.ensures.run
 
 pub returns-in-Err-clause-step : goal.returns-in-Err-clause-step
 returns-in-Err-clause-step g c = λ h holds.
-    puts-own-stopped c.args.self.now h c.args.session c.args.active.snapshot c.args.active.writes (record { key = c.args.key; row = c.args.row; previous = c.link.result }) c.args.slot (g.D.Pmem.state c.args.device.now) (g.D.Pmem.state c.fill.new.device) holds
-    c.requires.active c.requires.fits c.requires.row c.requires.own c.in-Err.fault c.in-Err.ensures.fault c.in-Err.ensures.stopped
+    puts-own-stopped c.args.self.now h c.args.session c.requires.ready.snapshot c.requires.ready.writes (record { key = c.args.key; row = c.args.row; previous = c.link.result }) c.args.slot (g.D.Pmem.state c.args.device.now) (g.D.Pmem.state c.fill.new.device) holds
+    c.requires.ready.active c.requires.ready.fits c.requires.row c.requires.ready.slot c.in-Err.fault c.in-Err.ensures.fault c.in-Err.ensures.stopped

@@ -34,25 +34,25 @@ pub fill-requires-clause-device : goal.fill-requires-clause-device
 fill-requires-clause-device g c = c.take.ensures.size ∙ ∥∥₁_elim c.requires.shown (ℕ_set _ _) (λ shown. words-are _ _ (g.D.Pmem.state c.args.device.now) (g.met.D.Pmem.orderly _) shown.1.upholds)
 
 pub write-requires : goal.write-requires
-write-requires g c = (_, _, c.requires.active, subst (λ (w : Write). HasRoomFor w.key c.args.active.writes) (sym c.row_write.ensures) c.requires.room)
+write-requires g c = (_, _, c.requires.ready.active, subst (λ (w : Write). HasRoomFor w.key c.requires.ready.writes) (sym c.row_write.ensures) c.requires.ready.room)
 
 pub returns-in-Err-clause-step : goal.returns-in-Err-clause-step
 returns-in-Err-clause-step g c = λ h holds.
-    puts-untaken c.args.self.now h c.args.session c.args.active.snapshot c.args.active.writes (record { key = c.args.key; row = c.args.row; previous = c.link.result }) c.take.new.self (g.D.Pmem.state c.args.device.now) (g.D.Pmem.state c.take.new.device) c.in-Err.fault
-    (g.met.D.Pmem.orderly _) holds c.requires.active c.requires.fits c.requires.row c.requires.unheld c.in-Err.ensures.err c.in-Err.ensures.fault (λ is. c.take.ensures.out.0 (c.in-Err.is ∙ ap Err is)) (λ is. c.take.ensures.unmoved (c.in-Err.is ∙ ap Err is))
+    puts-untaken c.args.self.now h c.args.session c.requires.ready.snapshot c.requires.ready.writes (record { key = c.args.key; row = c.args.row; previous = c.link.result }) c.take.new.self (g.D.Pmem.state c.args.device.now) (g.D.Pmem.state c.take.new.device) c.in-Err.fault
+    (g.met.D.Pmem.orderly _) holds c.requires.ready.active c.requires.ready.fits c.requires.row c.requires.ready.slot c.in-Err.ensures.err c.in-Err.ensures.fault (λ is. c.take.ensures.out.0 (c.in-Err.is ∙ ap Err is)) (λ is. c.take.ensures.unmoved (c.in-Err.is ∙ ap Err is))
     (λ is. subst (λ (k : ℕ). (slot : ℕ) × (lowest_free c.args.self.now.slots ≡ Some slot) × StopsWithin (clear_operations c.args.self.now.numbers.geometry k slot) (g.D.Pmem.state c.args.device.now) (g.D.Pmem.state c.take.new.device)) c.session.ensures (c.take.ensures.stopped (c.in-Err.is ∙ ap Err is)))
 
 pub returns-in-Ok-fill-clause-step : goal.returns-in-Ok-fill-clause-step
 returns-in-Ok-fill-clause-step g c = λ h holds.
-    puts-taken c.args.self.now h c.args.session c.args.active.snapshot c.args.active.writes (record { key = c.args.key; row = c.args.row; previous = _ }) c.in-Ok.slot (g.D.Pmem.state c.args.device.now) (g.D.Pmem.state c.fill.new.device) holds
-    c.requires.active c.requires.fits c.requires.row c.requires.unheld c.in-Ok.ensures.lowest c.write.new.self c.take.new.self c.in-Ok.ensures.taken
-    (subst (λ (w : Write). Sets c.args.self.now.transactions c.write.new.self c.args.session (Some (Active c.args.active.snapshot (with_write_at w c.args.active.writes)))) c.row_write.ensures (c.write.ensures _ _ c.requires.active))
+    puts-taken c.args.self.now h c.args.session c.requires.ready.snapshot c.requires.ready.writes (record { key = c.args.key; row = c.args.row; previous = _ }) c.in-Ok.slot (g.D.Pmem.state c.args.device.now) (g.D.Pmem.state c.fill.new.device) holds
+    c.requires.ready.active c.requires.ready.fits c.requires.row c.requires.ready.slot c.in-Ok.ensures.lowest c.write.new.self c.take.new.self c.in-Ok.ensures.taken
+    (subst (λ (w : Write). Sets c.args.self.now.transactions c.write.new.self c.args.session (Some (Active c.requires.ready.snapshot (with_write_at w c.requires.ready.writes)))) c.row_write.ensures (c.write.ensures _ _ c.requires.ready.active))
     c.in-Ok-fill.ensures.version.fits c.link.ensures (runs-then (subst (λ (k : ℕ). Runs (clear_operations c.args.self.now.numbers.geometry k c.in-Ok.slot) (g.D.Pmem.state c.args.device.now) (g.D.Pmem.state c.take.new.device)) c.session.ensures c.in-Ok.ensures.operations) c.in-Ok-fill.ensures.run)
 
 pub returns-in-Err-fill-clause-step : goal.returns-in-Err-fill-clause-step
 returns-in-Err-fill-clause-step g c = λ h holds.
-    puts-returned c.args.self.now h c.args.session c.args.active.snapshot c.args.active.writes (record { key = c.args.key; row = c.args.row; previous = _ }) c.in-Ok.slot c.give.new.self (g.D.Pmem.state c.args.device.now) (g.D.Pmem.state c.take.new.device)
-    (g.D.Pmem.state c.fill.new.device) c.in-Err-fill.fault holds c.requires.active c.requires.fits c.requires.row c.requires.unheld c.in-Ok.ensures.lowest
+    puts-returned c.args.self.now h c.args.session c.requires.ready.snapshot c.requires.ready.writes (record { key = c.args.key; row = c.args.row; previous = _ }) c.in-Ok.slot c.give.new.self (g.D.Pmem.state c.args.device.now) (g.D.Pmem.state c.take.new.device)
+    (g.D.Pmem.state c.fill.new.device) c.in-Err-fill.fault holds c.requires.ready.active c.requires.ready.fits c.requires.row c.requires.ready.slot c.in-Ok.ensures.lowest
     (c.give.ensures ∙ ap (λ (xs : List Bool). slice_set xs c.in-Ok.slot true) c.in-Ok.ensures.taken) c.in-Err-fill.ensures.fault (subst (λ (k : ℕ). Runs (clear_operations c.args.self.now.numbers.geometry k c.in-Ok.slot) (g.D.Pmem.state c.args.device.now) (g.D.Pmem.state c.take.new.device)) c.session.ensures c.in-Ok.ensures.operations) c.in-Err-fill.ensures.stopped
 
 pub give-requires : goal.give-requires
