@@ -106,19 +106,9 @@ pub fn open_device<R: Threads + Sync, D: Pmem + Sync>(
 {
     let found = match examine(rt, alloc, device) {
         Ok(found) => found,
-        Err(fault) => return Err(left_as_found(device, fault)),
+        Err(fault) => return Err(fault),
     };
     found.open(device)
-}
-
-// The fault for which a device at rest isn't opened: it leaves what it would have left.
-fn left_as_found<D: Pmem>(device: &D, fault: Fault) -> Fault
-    requires { IsAtRest (D.state device.now) }
-    ensures fault { result ≡ fault }
-    ensures images { (history drawn : List Commit) (next : ℕ) → Stands (image_of (D.state device.now)) history drawn next
-        → LeavesOnly (D.state device.now) (D.state device.now) (StandsOpening (image_of (D.state device.now)) history next) }
-{
-    fault
 }
 
 impl Examined {

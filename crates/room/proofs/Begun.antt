@@ -10,7 +10,7 @@ use Rattle.base.specs.declared.gap.Gap.{Gap}
 use Rattle.base.specs.Commits.{Commit}
 use Rattle.base.specs.Layout.{Layout, slot_start, slot_words, total_words, is_between, is_known_version}
 use Rattle.base.specs.Records.{Record, opened_gaps}
-use Rattle.base.specs.Images.{Image, IsSound, layout_of, ruling, is_shown, needs_sweep, IsRuledBy}
+use Rattle.base.specs.Images.{Image, IsSound, layout_of, ruling, is_shown, IsRuledBy}
 use Rattle.base.specs.Stands.{Stands}
 use Rattle.base.specs.Openings.{OpensAs, IsOpenedGaps, opened as opened-state, opening_record, gaps_kept, opened_slots, updated}
 use Rattle.base.specs.Laws.{OpensUpdated}

@@ -1,4 +1,3 @@
-use Rattle.std.proofs.Common.{sym, subst}
 use Rattle.std.specs.Prelude.{◌≡◌, Bool, List, Option, IfErr, OnErr, Result, Ok, Err}
 use Rattle.base.specs.declared.gap.Gap.{Gap}
 use Rattle.base.specs.declared.fault.Fault.{Fault}
@@ -12,18 +11,19 @@ use Rattle.recovery.specs.Read.{TellsLogFault}
 use Rattle.recovery.specs.declared.rows.LiveSlot.{LiveSlot}
 use Rattle.recovery.specs.declared.opening.Life.{Life}
 use Rattle.recovery.specs.Opened.{Examined, IsCutShort, IsRefusal}
-use Rattle.recovery.proofs.Lives.{refusal-examined, refusal-device}
+use Rattle.recovery.proofs.Lives.{images-refused, refusal-examined, refusal-device}
 use Rattle.recovery.proofs.WhatIsRead.{tells-examined}
 use Rattle.recovery.proofs.opening.open_device.Goals as goal
 
 pub returns-in-Err-clause-fault : goal.returns-in-Err-clause-fault
-returns-in-Err-clause-fault g c = subst (IsRefusal (opening_fault (image_of (g.D.Pmem.state c.args.device.now))) (g.D.Pmem.state c.args.device.now) (g.D.Pmem.state c.args.device.now)) (sym c.left_as_found.ensures.fault) (refusal-examined (g.D.Pmem.state c.args.device.now) c.in-Err.fault c.in-Err.ensures.fault)
+returns-in-Err-clause-fault g c = refusal-examined (g.D.Pmem.state c.args.device.now) c.in-Err.fault c.in-Err.ensures.fault
 
+-- a bound beside `Sync` holds wherever a thread may run, and so here
 pub returns-in-Err-clause-images : goal.returns-in-Err-clause-images
-returns-in-Err-clause-images g c = c.left_as_found.ensures.images
+returns-in-Err-clause-images g c = images-refused (g.D.Pmem.state c.args.device.now) ((g.met.D.Pmem g.world.𝓛 g.world.𝓜 g.world.𝓡 ((λ s x. x), (λ x. x), (λ x. x), λ x. x)).orderly c.args.device.now) c.requires
 
 pub returns-in-Err-clause-log : goal.returns-in-Err-clause-log
-returns-in-Err-clause-log g c = subst (TellsLogFault (image_of (g.D.Pmem.state c.args.device.now))) (sym c.left_as_found.ensures.fault) c.in-Err.ensures.log
+returns-in-Err-clause-log g c = c.in-Err.ensures.log
 
 refused-later : (old new : Device) (result : Result Life Fault) (layout : Layout) (r : Record) (gaps : Option (List Gap)) (free : List Bool) (live : List LiveSlot) → Examined (image_of old) layout r gaps free live
     → IfErr result (λ fault. fault ≡ DeviceFault) → OnErr result (IsCutShort old new) → IfErr result (IsRefusal (opening_fault (image_of old)) old new)

@@ -12,8 +12,9 @@ use Rattle.room.proofs.opening.begin.Goals as goal
 pub returns-in-Err-clause-fault : goal.returns-in-Err-clause-fault
 returns-in-Err-clause-fault g c = refusal-examined (g.D.Pmem.state c.args.device.now) c.in-Err.fault c.in-Err.ensures.fault
 
+-- a bound beside `Sync` holds wherever a thread may run, and so here
 pub returns-in-Err-clause-images : goal.returns-in-Err-clause-images
-returns-in-Err-clause-images g c = images-refused (g.D.Pmem.state c.args.device.now) (g.met.D.Pmem.orderly c.args.device.now) c.requires.at_rest
+returns-in-Err-clause-images g c = images-refused (g.D.Pmem.state c.args.device.now) ((g.met.D.Pmem g.world.𝓛 g.world.𝓜 g.world.𝓡 ((λ s x. x), (λ x. x), (λ x. x), λ x. x)).orderly c.args.device.now) c.requires.at_rest
 
 -- ---- the index
 
@@ -22,7 +23,7 @@ returns-in-Err-index_of-clause-log g c =
     tells-examined (image_of (g.D.Pmem.state c.args.device.now)) c.in-Ok.found.geometry c.in-Ok.found.ruling c.in-Ok.found.gaps c.in-Ok.found.free.items c.in-Ok.found.live.items c.in-Ok.ensures.ok c.in-Err-index_of.fault
 
 pub returns-in-Err-index_of-clause-images : goal.returns-in-Err-index_of-clause-images
-returns-in-Err-index_of-clause-images g c = images-refused (g.D.Pmem.state c.args.device.now) (g.met.D.Pmem.orderly c.args.device.now) c.requires.at_rest
+returns-in-Err-index_of-clause-images g c = images-refused (g.D.Pmem.state c.args.device.now) ((g.met.D.Pmem g.world.𝓛 g.world.𝓜 g.world.𝓡 ((λ s x. x), (λ x. x), (λ x. x), λ x. x)).orderly c.args.device.now) c.requires.at_rest
 
 -- ---- the free slots
 
@@ -36,7 +37,7 @@ returns-in-Err-new-clause-log g c =
     tells-examined (image_of (g.D.Pmem.state c.args.device.now)) c.in-Ok.found.geometry c.in-Ok.found.ruling c.in-Ok.found.gaps c.in-Ok.found.free.items c.in-Ok.found.live.items c.in-Ok.ensures.ok OutOfMemory
 
 pub returns-in-Err-new-clause-images : goal.returns-in-Err-new-clause-images
-returns-in-Err-new-clause-images g c = images-refused (g.D.Pmem.state c.args.device.now) (g.met.D.Pmem.orderly c.args.device.now) c.requires.at_rest
+returns-in-Err-new-clause-images g c = images-refused (g.D.Pmem.state c.args.device.now) ((g.met.D.Pmem g.world.𝓛 g.world.𝓜 g.world.𝓡 ((λ s x. x), (λ x. x), (λ x. x), λ x. x)).orderly c.args.device.now) c.requires.at_rest
 
 -- ---- the operations
 
@@ -80,7 +81,7 @@ returns-clause-ok g c =
           let slots : c.in-Ok-new.slots ≡ life.free.items = c.in-Ok-new.ensures ∙ c.as_slice-2.ensures.value
           ∙ sym (examined-free-now old c.in-Ok.found.geometry c.in-Ok.found.ruling c.in-Ok.found.gaps c.in-Ok.found.free.items c.in-Ok.found.live.items c.in-Ok.ensures.ok new life.geometry life.ruling life.next life.free.items life.live.items c.in-Ok-open.ensures.ok) in
           let shown : ShowsOpened c.open-sessions.result new life.geometry life.ruling life.next c.in-Ok-new.slots =
-          c.open-sessions.ensures new (g.met.D.Pmem.orderly c.open.new.device) (subst (λ (l : List Bool). HasFound (image_of new) l life.geometry.slots c.in-Ok-index_of.index) (sym slots) found) in
+          c.open-sessions.ensures new ((g.met.D.Pmem g.world.𝓛 g.world.𝓜 g.world.𝓡 ((λ s x. x), (λ x. x), (λ x. x), λ x. x)).orderly c.open.new.device) (subst (λ (l : List Bool). HasFound (image_of new) l life.geometry.slots c.in-Ok-index_of.index) (sym slots) found) in
           subst (λ (s : Sessions). ShowsOpened s new life.geometry life.ruling life.next life.free.items) (sym c.new-2.ensures.sessions)
           (subst (λ (l : List Bool). ShowsOpened c.open-sessions.result new life.geometry life.ruling life.next l) slots shown);
       rests = c.new-2.ensures.rests;
