@@ -29,16 +29,13 @@ one-in x s (suc k, lt, is) = absurd (omega (arith, lt))
 in-one : (x : LiveSlot) → Contains (x ∷ []) x
 in-one x = (0, omega arith, refl)
 
--- what is in the list of the live slots
-pub live-in : (image : Image) (n : ℕ) (s : LiveSlot) → Contains (live_below image n) s → (s.slot < n) × (is_free image s.slot ≡ false) × (key_of image s.slot ≡ s.key)
-live-in image zero s c = absurd (none-in s (subst (λ (l : List LiveSlot). Contains l s) (live-none image) c))
-live-in image (suc n) s c = by (is_free image n) refl
+-- one more slot is in the list where it is live
+live-step : (image : Image) (n : ℕ) (s : LiveSlot) → (Contains (live_below image n) s → (s.slot < n) × (is_free image s.slot ≡ false) × (key_of image s.slot ≡ s.key)) → Contains (live_below image (n + 1)) s
+    → (s.slot < suc n) × (is_free image s.slot ≡ false) × (key_of image s.slot ≡ s.key)
+live-step image n s before here = by (is_free image n) refl
   where
-    here : Contains (live_below image (n + 1)) s
-    here = subst (λ (k : ℕ). Contains (live_below image k) s) (sym (add-one n)) c
-
     earlier : Contains (live_below image n) s → (s.slot < suc n) × (is_free image s.slot ≡ false) × (key_of image s.slot ≡ s.key)
-    earlier c' = let was = live-in image n s c' in (omega (arith, was.0), was.1, was.2)
+    earlier c = let was = before c in (omega (arith, was.0), was.1, was.2)
 
     by : (b : Bool) → is_free image n ≡ b → (s.slot < suc n) × (is_free image s.slot ≡ false) × (key_of image s.slot ≡ s.key)
     by true free = earlier (subst (λ (l : List LiveSlot). Contains l s) (live-free image n free) here)
@@ -47,20 +44,28 @@ live-in image (suc n) s c = by (is_free image n) refl
       | inr new ↦ subst (λ (x : LiveSlot). (x.slot < suc n) × (is_free image x.slot ≡ false) × (key_of image x.slot ≡ x.key)) (one-in (live_at image n) s new) (omega arith, free, refl)
     ]
 
-pub in-live : (image : Image) (n slot : ℕ) → slot < n → is_free image slot ≡ false → Contains (live_below image n) (live_at image slot)
-in-live image zero slot lt live = absurd (omega (arith, lt))
-in-live image (suc n) slot lt live = subst (λ (k : ℕ). Contains (live_below image k) (live_at image slot)) (add-one n) (by (is_free image n) refl (last slot n lt))
+-- what is in the list of the live slots
+pub live-in : (image : Image) (n : ℕ) (s : LiveSlot) → Contains (live_below image n) s → (s.slot < n) × (is_free image s.slot ≡ false) × (key_of image s.slot ≡ s.key)
+live-in image zero s c = absurd (none-in s (subst (λ (l : List LiveSlot). Contains l s) (live-none image) c))
+live-in image (suc n) s c = live-step image n s (live-in image n s) (subst (λ (k : ℕ). Contains (live_below image k) s) (sym (add-one n)) c)
+
+in-step : (image : Image) (n slot : ℕ) → (slot < n → Contains (live_below image n) (live_at image slot)) → slot < suc n → is_free image slot ≡ false → Contains (live_below image (n + 1)) (live_at image slot)
+in-step image n slot before lt live = by (is_free image n) refl (last slot n lt)
   where
     last : (slot n : ℕ) → slot < suc n → (slot ≡ n) ⊎ (slot < n)
     last slot n lt = grind arith
 
     by : (b : Bool) → is_free image n ≡ b → (slot ≡ n) ⊎ (slot < n) → Contains (live_below image (n + 1)) (live_at image slot)
     by true free (inl same) = absurd (true≢false (sym free ∙ sym (ap (is_free image) same) ∙ live))
-    by true free (inr less) = subst (λ (l : List LiveSlot). Contains l (live_at image slot)) (sym (live-free image n free)) (in-live image n slot less live)
+    by true free (inr less) = subst (λ (l : List LiveSlot). Contains l (live_at image slot)) (sym (live-free image n free)) (before less)
     by false free (inl same) = subst (λ (l : List LiveSlot). Contains l (live_at image slot)) (sym (live-live image n free))
         (Contains-append_right (live_below image n) (live_at image n ∷ []) (live_at image slot) (subst (λ (k : ℕ). Contains (live_at image k ∷ []) (live_at image slot)) same (in-one (live_at image slot))))
     by false free (inr less) = subst (λ (l : List LiveSlot). Contains l (live_at image slot)) (sym (live-live image n free))
-        (Contains-append_left (live_below image n) (live_at image n ∷ []) (live_at image slot) (in-live image n slot less live))
+        (Contains-append_left (live_below image n) (live_at image n ∷ []) (live_at image slot) (before less))
+
+pub in-live : (image : Image) (n slot : ℕ) → slot < n → is_free image slot ≡ false → Contains (live_below image n) (live_at image slot)
+in-live image zero slot lt live = absurd (omega (arith, lt))
+in-live image (suc n) slot lt live = subst (λ (k : ℕ). Contains (live_below image k) (live_at image slot)) (add-one n) (in-step image n slot (λ less. in-live image n slot less live) lt live)
 
 -- ---- one after the other
 

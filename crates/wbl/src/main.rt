@@ -1,8 +1,8 @@
 //! The program wbl: the process round what the words ask for.
 #![tactic(auto)]
 
-use anyhow::Error;
 use program::{Told, run_words};
+use std::alloc::Global;
 use std::io::ErrorKind;
 use std::process::ExitCode;
 use std::{env, io};
@@ -10,17 +10,22 @@ use std::{env, io};
 /// The exit status of words that are no text.
 const NO_TEXT: u8 = 2;
 
-fn main(rt: HostRuntime) -> Result<ExitCode, Error> {
+/// The exit status where there is no memory for the words.
+const FAILED: u8 = 1;
+
+fn main(rt: HostRuntime) -> ExitCode {
     let alloc = rt.alloc();
-    let words: Vec<String> = match env::args(&rt) {
-        Ok(words) => words.skip(1).collect(alloc)?,
-        Err(error) if matches!(error.kind(), ErrorKind::InvalidData) => {
-            let _ = eprint!(rt; "error: an argument is no text in UTF-8\n");
-            return Ok(ExitCode::from(NO_TEXT));
-        }
-        Err(error) => return Err(Error::from(error)),
+    let words = match words_given(&rt, alloc) {
+        Ok(words) => words,
+        Err(reason) => return fail(&rt, reason),
     };
-    let words: Vec<&str> = words.iter().map(|word| word.as_str()).collect(alloc)?;
+    let Ok(words) = words
+        .iter()
+        .map(|word| word.as_str())
+        .collect::<Vec<&str>>(alloc)
+    else {
+        return fail(&rt, ErrorKind::OutOfMemory);
+    };
     let exit = run_words(
         &rt,
         alloc,
@@ -29,7 +34,28 @@ fn main(rt: HostRuntime) -> Result<ExitCode, Error> {
         &mut io::writer(&rt),
     );
     let _ = tell(&rt, &exit.told);
-    Ok(ExitCode::from(exit.status))
+    ExitCode::from(exit.status)
+}
+
+// The words after the program's name, or why they can't be had.
+fn words_given(rt: &HostRuntime, alloc: Global) -> Result<Vec<String>, ErrorKind> {
+    match env::args(rt) {
+        Ok(words) => match words.skip(1).collect::<Vec<String>>(alloc) {
+            Ok(words) => Ok(words),
+            Err(_) => Err(ErrorKind::OutOfMemory),
+        },
+        Err(error) => Err(error.kind()),
+    }
+}
+
+// Tells why there are no words, which takes no memory, and how the process ends then.
+fn fail(rt: &impl Eprint, reason: ErrorKind) -> ExitCode {
+    if matches!(reason, ErrorKind::InvalidData) {
+        let _ = eprint!(rt; "error: an argument is no text in UTF-8\n");
+        return ExitCode::from(NO_TEXT);
+    }
+    let _ = eprint!(rt; "error: {reason}\n");
+    ExitCode::from(FAILED)
 }
 
 // What standard error is told takes no memory.
