@@ -122,7 +122,7 @@ fn say_rows<H: Print>(rt: &H, rows: &[(Key, Row)]) -> Result<(), Error> {
 fn make_each<H: Print>(rt: &H, room: &mut Room<SimPmem>, asks: &[Ask]) -> Result<bool, Error> {
     for ask in asks {
         let step = step_of(*ask)?;
-        if make_often(rt, room, *ask, step)? {
+        if make_often(rt, room, *ask, &step)? {
             println!(rt; "then: {:?}", room.step(Step::Begin))?;
             return Ok(true);
         }
@@ -135,7 +135,7 @@ fn make_often<H: Print>(
     rt: &H,
     room: &mut Room<SimPmem>,
     ask: Ask,
-    step: Step,
+    step: &Step,
 ) -> Result<bool, Error> {
     for _ in 0..count_of(ask) {
         let reply = make_twice(rt, room, ask, step)?;
@@ -152,13 +152,12 @@ fn make_twice<H: Print>(
     rt: &H,
     room: &mut Room<SimPmem>,
     ask: Ask,
-    step: Step,
+    step: &Step,
 ) -> Result<Reply, Error> {
-    let again = step;
-    let reply = room.step(step);
+    let reply = room.step(*step);
     if matches!(reply, Reply::Refused(Fault::OutOfMemory)) {
         say(rt, ask, &reply)?;
-        return Ok(room.step(again));
+        return Ok(room.step(*step));
     }
     Ok(reply)
 }
