@@ -5,15 +5,19 @@ use base::step::Step;
 use std::alloc::Global;
 
 /// What is asked of a room: all keys are of table 1, and each row is one byte, or 96 alike.
-#[derive(Clone, Copy)]
+#[derive(Clone, Copy, Debug)]
 pub enum Ask {
     Begin,
+    Get(u8, u64),
+    /// All keys.
+    Scan(u8),
     Put(u8, u64, u8),
     PutWide(u8, u64, u8),
     Delete(u8, u64),
     Draw(u8),
     Stamp(u8),
     Poll(u8),
+    Abort(u8),
     End(u8),
     /// So many ticks.
     Commit(u64),
@@ -39,8 +43,8 @@ fn push_each(steps: &mut Vec<Step>, step: &Step, count: u64) -> Result<(), Fault
     Ok(())
 }
 
-// How often the step is made: ticks and visits come in numbers.
-fn count_of(ask: Ask) -> u64 {
+/// How often the step is made: ticks and visits come in numbers.
+pub fn count_of(ask: Ask) -> u64 {
     match ask {
         Ask::Commit(ticks) => ticks,
         Ask::Collect(visits) => visits,
@@ -48,10 +52,21 @@ fn count_of(ask: Ask) -> u64 {
     }
 }
 
-fn step_of(ask: Ask) -> Result<Step, Fault> {
+/// The step that is asked for.
+pub fn step_of(ask: Ask) -> Result<Step, Fault> {
     let table = 1;
     Ok(match ask {
         Ask::Begin => Step::Begin,
+        Ask::Get(session, key) => Step::Get {
+            session,
+            key: Key { table, key },
+        },
+        Ask::Scan(session) => Step::Scan {
+            session,
+            table,
+            lo: 0,
+            hi: u64::MAX,
+        },
         Ask::Put(session, key, byte) => Step::Put {
             session,
             key: Key { table, key },
@@ -69,6 +84,7 @@ fn step_of(ask: Ask) -> Result<Step, Fault> {
         Ask::Draw(session) => Step::Draw { session },
         Ask::Stamp(session) => Step::Stamp { session },
         Ask::Poll(session) => Step::Poll { session },
+        Ask::Abort(session) => Step::Abort { session },
         Ask::End(session) => Step::End { session },
         Ask::Commit(_) => Step::Commit,
         Ask::Collect(_) => Step::Collect,

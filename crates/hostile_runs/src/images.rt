@@ -284,11 +284,23 @@ pub fn change_at_random<R: Threads + Sync>(
             return Err(Fault::OutOfMemory);
         };
         change_some(&mut words, &mut chance, most);
-        counts.images = counts.images.saturating_add(1);
-        counts.expect(are_alike(found_in(rt, alloc, &words)));
-        counts.expect(is_usable(rt, alloc, &words));
+        judge_words(rt, alloc, &words, counts);
     }
     Ok(())
+}
+
+/// Judges words: a check and an opening say the same of them, and what opens is used. Are they sound?
+pub fn judge_words<R: Threads + Sync>(
+    rt: &R,
+    alloc: Global,
+    words: &[u64],
+    counts: &mut Counts,
+) -> bool {
+    let found = found_in(rt, alloc, words);
+    counts.images = counts.images.saturating_add(1);
+    counts.expect(are_alike(found));
+    counts.expect(is_usable(rt, alloc, words));
+    found.0.is_none()
 }
 
 // Changes one word, or up to so many.

@@ -124,7 +124,11 @@ fn closed(room: Room<SimPmem>, acknowledged: usize) -> Left {
 
 /// The words of a fresh device of this version with so many slots, 2 places and a window of 8.
 pub fn formatted(alloc: Global, version: u64, slots: u64) -> Result<Vec<u64>, Fault> {
-    let geometry = Geometry::of_version(version, slots, 2, 8)?;
+    fresh_words(alloc, Geometry::of_version(version, slots, 2, 8)?)
+}
+
+/// The words of a fresh device of this geometry.
+pub fn fresh_words(alloc: Global, geometry: Geometry) -> Result<Vec<u64>, Fault> {
     let Ok(zeros) = vec![in alloc; 0; geometry.words() as usize] else {
         return Err(Fault::OutOfMemory);
     };

@@ -1,33 +1,85 @@
 //! Runs of the room on devices and images that are hostile to it. Of each kind it prints how many runs there were, and that
-//! nothing was lost and nothing wrong.
+//! nothing was lost and nothing wrong. Then it prints what lives and a board answer. `refused NAME` lives the run of that
+//! name alone, and `refused NAME reserved` on a device that has memory for its stores: for who refuses allocations.
 #![tactic(auto)]
 
 mod asks;
 mod images;
 mod judge;
 mod life;
+mod published;
+mod refused;
+mod runs;
+mod slots;
 mod stops;
 mod stories;
 
-use anyhow::Error;
+use anyhow::{Error, bail};
 use base::fault::Fault;
 use images::{change_at_random, change_each, cut_each, sound_words};
 use judge::Counts;
+use published::publish;
+use refused::live_run;
+use runs::RUNS;
+use slots::fill_at_random;
 use std::alloc::Global;
+use std::env;
+use std::sync::Wait;
 use std::thread::Threads;
 use stops::stop_each;
 use stories::{STORIES, Story};
 
 fn main(rt: HostRuntime) -> Result<(), Error> {
     let alloc = rt.alloc();
-    stop_stories(&rt, alloc)?;
+    let words: Vec<String> = env::args(&rt)?.skip(1).collect(alloc)?;
+    let words: Vec<&str> = words.iter().map(|word| word.as_str()).collect(alloc)?;
+    match words.as_slice() {
+        [] => run_all(&rt, alloc),
+        ["refused", "board"] => publish(&rt, alloc),
+        ["refused", name] => live_named(&rt, alloc, name, false),
+        ["refused", name, "reserved"] => live_named(&rt, alloc, name, true),
+        _ => bail!("the words are none, or refused NAME [reserved]"),
+    }
+}
+
+fn run_all<H: Print + Threads + Wait + Sync>(rt: &H, alloc: Global) -> Result<(), Error> {
+    stop_stories(rt, alloc)?;
+    run_images(rt, alloc)?;
+    for run in RUNS {
+        live_run(rt, alloc, run, true)?;
+    }
+    publish(rt, alloc)
+}
+
+fn run_images<H: Print + Threads + Sync>(rt: &H, alloc: Global) -> Result<(), Error> {
     let mut counts = Counts::none();
-    change_each(&rt, alloc, &mut counts)?;
-    print_images(&rt, "changed words", &counts)?;
+    change_each(rt, alloc, &mut counts)?;
+    print_images(rt, "changed words", &counts)?;
     let mut counts = Counts::none();
-    cut_each(&rt, alloc, &mut counts)?;
-    print_images(&rt, "cut images", &counts)?;
-    print_images(&rt, "changes at random", &at_random(&rt, alloc)?)
+    cut_each(rt, alloc, &mut counts)?;
+    print_images(rt, "cut images", &counts)?;
+    print_images(rt, "changes at random", &at_random(rt, alloc)?)?;
+    let (counts, sound) = fill_at_random(rt, alloc, 2_000)?;
+    println!(rt;
+        "slots at random: images {} sound {sound} wrong {}",
+        counts.images, counts.wrong
+    )?;
+    Ok(())
+}
+
+// Lives the run of this name.
+fn live_named<H: Print + Threads + Sync>(
+    rt: &H,
+    alloc: Global,
+    name: &str,
+    reserved: bool,
+) -> Result<(), Error> {
+    for run in RUNS {
+        if run.name == name {
+            return live_run(rt, alloc, run, reserved);
+        }
+    }
+    bail!("no run has this name")
 }
 
 // Images of which few words or many are changed at random.

@@ -62,6 +62,17 @@ pub fn row(number: u64) -> Result<Row, Fault> {
     Row::new(&number.to_be_bytes())
 }
 
+/// The number that the row holds: 0 where there is none.
+pub fn number_in(row: Option<Row>) -> Result<u64, Fault> {
+    let Some(row) = row else {
+        return Ok(0);
+    };
+    match <[u8; 8]>::try_from(row.as_bytes()) {
+        Ok(bytes) => Ok(u64::from_be_bytes(bytes)),
+        Err(_) => Err(Fault::TooLong),
+    }
+}
+
 /// The device, where it is at rest.
 pub fn at_rest(device: SimPmem) -> Result<SimPmem, Fault>
     ensures { IfOk result (λ device. IsAtRest (device_of device)) }
@@ -94,7 +105,7 @@ pub fn restarted(alloc: Global, device: &SimPmem) -> Result<SimPmem, Fault>
 }
 
 /// The device, opened.
-fn opened<D: Pmem + Drop + Send + Sync, R: Threads + Sync>(
+pub fn opened<D: Pmem + Drop + Send + Sync, R: Threads + Sync>(
     rt: &R,
     alloc: Global,
     device: D,

@@ -1,17 +1,17 @@
-//! While the committer is held within a cycle, another session works; and while that one is held within an operation of the
-//! device, and so has the room's lock, a reader reads. An engine that makes whole cycles under one lock, one that has its readers
-//! wait for a lock, or one that answers from another device than it was lent, fails this.
+//! While the committer is held within a cycle, after each of its ticks, another session works; and while that one is held within
+//! an operation of the device, and so has the room's lock, a reader reads. An engine that makes whole cycles under one lock, one
+//! that has its readers wait for a lock, or one that answers from another device than it was lent, fails this.
 ghost use Rattle.std.specs.Prelude.{◌≡◌, IfOk};
 ghost use Rattle.pmem.specs.Words.{IsAtRest, image_of};
 ghost use Rattle.pmem_model.specs.Sim.{device_of};
 
 use crate::counting::{Counting, SharedSignals, Signals};
 use crate::fixture::{Never, closed, fresh, granted, key, put, row, running};
+use crate::hold::Holding;
 use base::fault::Fault;
 use base::row::Row;
-use base::step::{Note, Stage};
 use board::{Board, History, Reader};
-use engine::{Engine, Gate, Go, Origin, Session};
+use engine::{Engine, Origin, Session};
 use pmem::Pmem;
 use pmem_model::SimPmem;
 use std::alloc::Global;
@@ -20,20 +20,8 @@ use std::sync::{Arc, Wait};
 use std::test::*;
 use std::thread::{Threads, join};
 
-/// Holds the committer once the record's body is fenced.
-#[derive(Drop)]
-struct Holding {
-    signals: SharedSignals,
-}
-
-impl Gate for Holding {
-    fn pass(&mut self, after: &Note) -> Go {
-        if matches!(after, Note::Ticked(Stage::BodyFenced)) {
-            self.signals.cycle.pass();
-        }
-        Go::Tick
-    }
-}
+/// A cycle of one line has so many ticks, and the last covers.
+const TICKS: u64 = 42;
 
 /// What the reader is answered while the room's lock is held.
 #[derive(Clone, Copy, Debug)]
@@ -165,19 +153,24 @@ fn work_together<
     Ok((sessions, (meanwhile, committed)))
 }
 
-// A life of the device in which the committer is held.
+// A life of the device in which the committer is held after so many ticks.
 fn hold<
     D: Pmem + Drop + Send + Sync + 'static,
     J: Origin + Send + Sync + 'static,
     R: Threads + Wait + Copy + Drop + Send + Sync + 'static,
->(rt: &R, alloc: Global, history: History, device: D, signals: SharedSignals) -> Result<Seen, Fault>
+>(
+    rt: &R,
+    alloc: Global,
+    history: History,
+    device: D,
+    signals: SharedSignals,
+    ticks: u64,
+) -> Result<Seen, Fault>
     requires name { history ≡ J.book }
     requires image { image_of (D.state device) ≡ J.image }
     requires at_rest { IsAtRest (D.state device) }
 {
-    let holding = Holding {
-        signals: granted(Arc::try_clone(&signals))?,
-    };
+    let holding = Holding::new(granted(Arc::try_clone(&signals))?, ticks);
     let engine = running::<D, J, R, Holding, Never>(rt, alloc, history, device, holding, Never)?;
     let opened = signals.made();
     let (sessions, (meanwhile, committed)) = work_together(rt, alloc, &engine, &signals)?;
@@ -192,18 +185,30 @@ fn hold<
     })
 }
 
+// What is seen while the committer of a fresh device is held after so many ticks.
+fn seen_after<R: Threads + Wait + Copy + Drop + Send + Sync + 'static>(
+    rt: &R,
+    alloc: Global,
+    ticks: u64,
+) -> Result<Seen, Fault> {
+    let signals = make_signals(alloc)?;
+    let device = counted(alloc, &signals)?;
+    hold::<_, Brand, R>(rt, alloc, History::new(), device, signals, ticks)
+}
+
+// An opening makes 39 operations, a put 10, the stamp one, and each tick but the first one.
 #[test]
 fn readers_and_writers_inside_a_cycle(rt: HostRuntime) -> Result<(), Fail> {
-    let signals = make_signals(rt.alloc())?;
-    let device = counted(rt.alloc(), &signals)?;
-    let seen = hold::<_, Brand, _>(&rt, rt.alloc(), History::new(), device, signals)?;
-    assert_eq!(rt; seen.opened, 39);
-    assert_eq!(rt; seen.meanwhile.own, Ok(Some(row(2)?)));
-    assert_eq!(rt; seen.meanwhile.read.row, Ok(None));
-    assert_eq!(rt; seen.meanwhile.read.bounds, Ok((2, 2)));
-    assert_eq!(rt; seen.meanwhile.made, 98);
-    assert_eq!(rt; seen.committed, Some(1));
-    assert_eq!(rt; seen.made, 101);
-    assert!(rt; !seen.late);
+    for ticks in 1..TICKS {
+        let seen = seen_after(&rt, rt.alloc(), ticks)?;
+        assert_eq!(rt; seen.opened, 39);
+        assert_eq!(rt; seen.meanwhile.own, Ok(Some(row(2)?)));
+        assert_eq!(rt; seen.meanwhile.read.row, Ok(None));
+        assert_eq!(rt; seen.meanwhile.read.bounds, Ok((2, 2)));
+        assert_eq!(rt; seen.meanwhile.made, 59 + ticks);
+        assert_eq!(rt; seen.committed, Some(1));
+        assert_eq!(rt; seen.made, 101);
+        assert!(rt; !seen.late);
+    }
     Ok(())
 }

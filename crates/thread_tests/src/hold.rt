@@ -1,3 +1,6 @@
+use crate::counting::SharedSignals;
+use base::step::Note;
+use engine::{Gate, Go};
 use std::sync::Wait;
 use std::sync::atomic::{AtomicBool, Ordering};
 use std::thread::yield_now;
@@ -58,5 +61,38 @@ impl Hold {
     /// Whether a thread was held for as long as it may be.
     pub fn was_late(&self) -> bool {
         self.late.load(Ordering::SeqCst)
+    }
+}
+
+/// Holds a worker where it has made so many ticks, or visits.
+#[derive(Drop)]
+pub struct Holding {
+    signals: SharedSignals,
+    ticks: u64,
+    made: u64,
+}
+
+impl Holding {
+    pub fn new(signals: SharedSignals, ticks: u64) -> Holding {
+        Holding {
+            signals,
+            ticks,
+            made: 0,
+        }
+    }
+}
+
+impl Gate for Holding {
+    fn pass(&mut self, after: &Note) -> Go {
+        if matches!(after, Note::Ticked(_) | Note::Visited(_)) {
+            self.made = self.made.saturating_add(1);
+            if self.made == self.ticks {
+                self.signals.cycle.pass();
+            }
+        }
+        if matches!(after, Note::Idle | Note::SweepEnd) {
+            yield_now();
+        }
+        Go::Tick
     }
 }

@@ -1,5 +1,6 @@
-//! The engine's threads at work: a cycle that is held within while another session works and a reader reads, many sessions
-//! that conflict, and a commit that a token tells to another thread.
+//! The engine's threads at work: a cycle that is held within while another session works and a reader reads, a committer that
+//! stops, a collector that is held, a device that fails, many sessions that conflict, and a commit that a token tells to
+//! another thread.
 #![tactic(auto)]
 
 #[cfg(test)]
@@ -7,11 +8,15 @@ mod calls;
 #[cfg(test)]
 mod counting;
 #[cfg(test)]
+mod failing;
+#[cfg(test)]
 mod fixture;
 #[cfg(test)]
 mod held;
 #[cfg(test)]
 mod hold;
+#[cfg(test)]
+mod stopped;
 #[cfg(test)]
 mod stress;
 #[cfg(test)]

@@ -3,7 +3,7 @@
 ghost use Rattle.std.specs.Prelude.{◌≡◌};
 ghost use Rattle.pmem.specs.Words.{IsAtRest, image_of};
 
-use crate::fixture::{Always, closed, fresh, granted, key, restarted, row, running};
+use crate::fixture::{Always, closed, fresh, granted, key, number_in, restarted, row, running};
 use audited::Audited;
 use base::fault::Fault;
 use base::key::Key;
@@ -52,17 +52,6 @@ struct Life<D: Pmem> {
     acknowledged: Counts,
     /// What the rows hold at its end.
     held: Counts,
-}
-
-// The number that the row holds: 0 where there is none.
-fn number_in(row: Option<Row>) -> Result<u64, Fault> {
-    let Some(row) = row else {
-        return Ok(0);
-    };
-    match <[u8; 8]>::try_from(row.as_bytes()) {
-        Ok(bytes) => Ok(u64::from_be_bytes(bytes)),
-        Err(_) => Err(Fault::TooLong),
-    }
 }
 
 // The number at the key, which is the same at each read of the transaction.

@@ -1,6 +1,6 @@
 use Rattle.pmem.specs.Words.{image_of}
 use Rattle.pmem_model.specs.Sim.{device_of}
-use Rattle.thread_tests.proofs.held.readers_and_writers_inside_a_cycle.Given as goal
+use Rattle.thread_tests.proofs.held.seen_after.Given as goal
 
 -- the book of the new history
 abbrev pub ghosts-hold-J-Naming : goal.ghosts-hold-J-Naming

@@ -1,0 +1,169 @@
+//! A board that says what its writer and a reader are answered. Where an allocation is refused, by who runs the program, the
+//! call is made once more.
+ghost use Rattle.std.specs.Prelude.{◌≡◌};
+
+use anyhow::Error;
+use base::batch::{Batch, Commit};
+use base::fault::Fault;
+use base::key::Key;
+use base::longs::Longs;
+use base::row::Row;
+use board::{Board, History, Naming, Reader};
+use std::alloc::{AllocError, Global};
+use std::marker::Brand;
+use std::sync::Wait;
+
+const KEY: Key = Key { table: 1, key: 7 };
+
+/// Opens a board, where memory is wanting once more, and publishes two commits on it.
+pub fn publish<H: Print + Wait>(rt: &H, alloc: Global) -> Result<(), Error> {
+    println!(rt; "run board")?;
+    if publish_on::<Brand, H>(rt, alloc, History::new())? {
+        return Ok(());
+    }
+    println!(rt; "open: OutOfMemory")?;
+    publish_again(rt, alloc)
+}
+
+fn publish_again<H: Print + Wait>(rt: &H, alloc: Global) -> Result<(), Error> {
+    if !publish_on::<Brand, H>(rt, alloc, History::new())? {
+        println!(rt; "open: OutOfMemory")?;
+    }
+    Ok(())
+}
+
+// Publishes on a new board. Was there memory for it?
+fn publish_on<J: Naming, H: Print + Wait>(
+    rt: &H,
+    alloc: Global,
+    history: History,
+) -> Result<bool, Error>
+    requires { history ≡ J.book }
+{
+    match Board::<J, &H>::open(rt, alloc, history, 2, 0, Longs::none(), &[], 1) {
+        Ok((board, readers)) => {
+            publish_two(rt, alloc, board, readers)?;
+            Ok(true)
+        }
+        Err(_) => Ok(false),
+    }
+}
+
+// Publishes two commits, prunes to the first, and reads before and after it.
+fn publish_two<J: Naming, H: Print + Wait>(
+    rt: &H,
+    alloc: Global,
+    board: Board<J, &H>,
+    readers: Vec<Reader<J>>,
+) -> Result<(), Error> {
+    let (mut board, mut readers) = (board, readers);
+    let Some(reader) = readers.first_mut() else {
+        return Ok(());
+    };
+    publish_next(rt, alloc, &mut board, 1)?;
+    say_token(rt, &board)?;
+    reader.learn(board.token());
+    read_all(rt, reader)?;
+    prune(rt, &mut board)?;
+    reader.learn(board.token());
+    read_all(rt, reader)?;
+    publish_next(rt, alloc, &mut board, 2)?;
+    reader.learn(board.token());
+    read_all(rt, reader)
+}
+
+fn say_token<J: Naming, H: Print + Wait>(rt: &H, board: &Board<J, &H>) -> Result<(), Error> {
+    let token = board.token();
+    println!(rt;
+        "token {} covers {} {}",
+        token.stamp(),
+        token.covers(1),
+        token.covers(2)
+    )?;
+    Ok(())
+}
+
+fn read_all<J: Naming, H: Print>(rt: &H, reader: &mut Reader<J>) -> Result<(), Error> {
+    for stamp in 1..5 {
+        match reader.read(stamp, KEY) {
+            Ok(Some(row)) => println!(rt; "read {stamp}: row {:?}", row.as_bytes())?,
+            other => println!(rt; "read {stamp}: {other:?}")?,
+        }
+    }
+    Ok(())
+}
+
+// The batch of one more commit, which writes this byte.
+fn next_batch<J: Naming, H: Wait>(
+    alloc: Global,
+    board: &Board<J, &H>,
+    byte: u8,
+) -> Result<Batch, Fault> {
+    let (stamp, persisted, longs) = board.last();
+    if stamp > 100 || persisted > 100 {
+        return Err(Fault::TimestampsOut);
+    }
+    match commits(alloc, persisted + 1, Row::new(&[byte])?) {
+        Ok(commits) => Ok(Batch::new(stamp, stamp + 1, persisted + 1, longs, commits)),
+        Err(_) => Err(Fault::OutOfMemory),
+    }
+}
+
+fn commits(alloc: Global, timestamp: u64, row: Row) -> Result<Vec<Commit>, AllocError> {
+    let writes = Vec::from_array(alloc, [(KEY, Some(row))])?;
+    Ok(Vec::from_array(alloc, [Commit::new(timestamp, writes)])?)
+}
+
+// Publishes one more commit. Where memory is wanting it is published again, or flushed where it waits.
+fn publish_next<J: Naming, H: Print + Wait>(
+    rt: &H,
+    alloc: Global,
+    board: &mut Board<J, &H>,
+    byte: u8,
+) -> Result<(), Error> {
+    let batch = next_batch(alloc, board, byte)?;
+    let waits = match offer(board, batch)? {
+        None => return say_published(rt, board),
+        Some(None) => true,
+        Some(Some(batch)) => {
+            println!(rt; "publish: OutOfMemory")?;
+            offer(board, batch)?.is_some()
+        }
+    };
+    if waits {
+        println!(rt; "publish: waits")?;
+        board.flush()?;
+    }
+    say_published(rt, board)
+}
+
+fn say_published<J: Naming, H: Print + Wait>(rt: &H, board: &Board<J, &H>) -> Result<(), Error> {
+    println!(rt; "published {}", board.token().stamp())?;
+    Ok(())
+}
+
+// Publishes the batch. Where memory is wanting it comes back, unless it waits.
+fn offer<J: Naming, H: Wait>(
+    board: &mut Board<J, &H>,
+    batch: Batch,
+) -> Result<Option<Option<Batch>>, Fault> {
+    if !board.fits(&batch) {
+        return Err(Fault::WrongState);
+    }
+    match board.publish(batch) {
+        Ok(()) => Ok(None),
+        Err((_, batch)) => Ok(Some(batch)),
+    }
+}
+
+// Prunes to what is published last. Where memory is wanting it does so once more.
+fn prune<J: Naming, H: Print + Wait>(rt: &H, board: &mut Board<J, &H>) -> Result<(), Error> {
+    let stamp = board.token().stamp();
+    if board.prune(stamp).is_err() {
+        println!(rt; "prune: OutOfMemory")?;
+        let stamp = board.token().stamp();
+        board.prune(stamp)?;
+    }
+    println!(rt; "pruned {stamp}")?;
+    Ok(())
+}

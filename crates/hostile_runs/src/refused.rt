@@ -1,0 +1,185 @@
+//! Runs of lives that say each reply. Where an allocation is refused, by who runs the program, the call is made once more.
+use crate::asks::{Ask, count_of, step_of};
+use crate::life::{crashed_words, fresh_words, opened};
+use crate::runs::Run;
+use anyhow::Error;
+use base::fault::Fault;
+use base::geometry::Geometry;
+use base::key::Key;
+use base::row::Row;
+use base::step::{Reply, Stage, Step};
+use pmem_model::{Choice, SimPmem};
+use room::Room;
+use std::alloc::Global;
+use std::thread::Threads;
+
+/// What all stores of a life need at most.
+const STORES: u64 = 1_000;
+
+type Opened = Result<Room<SimPmem>, (Fault, SimPmem)>;
+
+/// Lives the lives of the run, and says what each opening shows and each step is answered. The device has the memory for its
+/// stores where that is asked; else one that finds none fails, and the run ends with what an opening finds then.
+pub fn live_run<H: Print + Threads + Sync>(
+    rt: &H,
+    alloc: Global,
+    run: &Run,
+    reserved: bool,
+) -> Result<(), Error> {
+    println!(rt; "run {}", run.name)?;
+    let mut words = fresh_words(alloc, Geometry::new(run.slots, 2, run.window)?)?;
+    for (asks, newest) in run.lives {
+        let device = device_of(alloc, &words, reserved)?;
+        let (device, failed) = live_once(rt, alloc, device, asks)?;
+        words = crashed_words(&device, &choice_of(*newest))?;
+        if failed {
+            break;
+        }
+    }
+    let (_device, _failed) = live_once(rt, alloc, device_of(alloc, &words, reserved)?, &[])?;
+    Ok(())
+}
+
+fn choice_of(newest: bool) -> Choice {
+    if newest {
+        Choice::Newest
+    } else {
+        Choice::Oldest
+    }
+}
+
+fn device_of(alloc: Global, words: &[u64], reserved: bool) -> Result<SimPmem, Fault> {
+    let mut device = SimPmem::from_words(alloc, words)?;
+    if reserved {
+        device.reserve(STORES)?;
+    }
+    Ok(device)
+}
+
+// A life of the device, up to a step in which it fails. What is left of it, and whether it failed.
+fn live_once<H: Print + Threads + Sync>(
+    rt: &H,
+    alloc: Global,
+    device: SimPmem,
+    asks: &[Ask],
+) -> Result<(SimPmem, bool), Error> {
+    match open_twice(rt, alloc, device)? {
+        Ok(room) => {
+            let mut room = room;
+            say_opened(rt, &room)?;
+            let failed = make_each(rt, &mut room, asks)?;
+            Ok((room.into_device(), failed))
+        }
+        Err((fault, device)) => {
+            println!(rt; "opening: {fault:?}")?;
+            Ok((device, true))
+        }
+    }
+}
+
+// Opens the device, and where memory is wanting once more.
+fn open_twice<H: Print + Threads + Sync>(
+    rt: &H,
+    alloc: Global,
+    device: SimPmem,
+) -> Result<Opened, Error> {
+    match opened(rt, alloc, device) {
+        Err((Fault::OutOfMemory, device)) => {
+            println!(rt; "opening: OutOfMemory")?;
+            Ok(opened(rt, alloc, device))
+        }
+        found => Ok(found),
+    }
+}
+
+fn say_opened<H: Print>(rt: &H, room: &Room<SimPmem>) -> Result<(), Error> {
+    let status = room.status();
+    println!(rt;
+        "opened gate {} p {} d {} next {} gaps {}",
+        status.gate,
+        status.persisted,
+        status.dirty,
+        status.next,
+        status.gaps.as_slice().len()
+    )?;
+    match room.tables() {
+        Ok(rows) => say_rows(rt, &rows),
+        Err(fault) => {
+            println!(rt; "tables: {fault:?}")?;
+            say_rows(rt, &room.tables()?)
+        }
+    }
+}
+
+fn say_rows<H: Print>(rt: &H, rows: &[(Key, Row)]) -> Result<(), Error> {
+    for (key, row) in rows {
+        println!(rt; "has {} {:?}", key.key, row.as_bytes())?;
+    }
+    Ok(())
+}
+
+// Makes what is asked for, up to what finds the device failing: did it fail?
+fn make_each<H: Print>(rt: &H, room: &mut Room<SimPmem>, asks: &[Ask]) -> Result<bool, Error> {
+    for ask in asks {
+        let step = step_of(*ask)?;
+        if make_often(rt, room, *ask, &step)? {
+            println!(rt; "then: {:?}", room.step(Step::Begin))?;
+            return Ok(true);
+        }
+    }
+    Ok(false)
+}
+
+// Makes the step as often as is asked for, up to where the device fails: did it fail?
+fn make_often<H: Print>(
+    rt: &H,
+    room: &mut Room<SimPmem>,
+    ask: Ask,
+    step: &Step,
+) -> Result<bool, Error> {
+    for _ in 0..count_of(ask) {
+        let reply = make_twice(rt, room, ask, step)?;
+        say(rt, ask, &reply)?;
+        if reply.is_failure() {
+            return Ok(true);
+        }
+    }
+    Ok(false)
+}
+
+// Makes the step, and where memory is wanting once more.
+fn make_twice<H: Print>(
+    rt: &H,
+    room: &mut Room<SimPmem>,
+    ask: Ask,
+    step: &Step,
+) -> Result<Reply, Error> {
+    let reply = room.step(*step);
+    if matches!(reply, Reply::Refused(Fault::OutOfMemory)) {
+        say(rt, ask, &reply)?;
+        return Ok(room.step(*step));
+    }
+    Ok(reply)
+}
+
+// Says what is answered. Of the ticks of a cycle the first and the last alone are told.
+fn say<H: Print>(rt: &H, ask: Ask, reply: &Reply) -> Result<(), Error> {
+    match reply {
+        Reply::Row(Some(row)) => println!(rt; "{ask:?}: row {:?}", row.as_bytes())?,
+        Reply::Rows(rows) => {
+            println!(rt; "{ask:?}: rows {}", rows.as_slice().len())?;
+            say_rows(rt, rows.as_slice())?;
+        }
+        Reply::Covered(batch) => {
+            println!(rt;
+                "{ask:?}: covered {} p {}",
+                batch.stamp(),
+                batch.persisted()
+            )?;
+        }
+        Reply::Ticked(Stage::Chosen) => println!(rt; "{ask:?}: chosen")?,
+        Reply::Ticked(_) => {}
+        _ => println!(rt; "{ask:?}: {reply:?}")?,
+    }
+    Ok(())
+}
