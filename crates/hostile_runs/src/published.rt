@@ -122,19 +122,33 @@ fn publish_next<J: Naming, H: Print + Wait>(
     byte: u8,
 ) -> Result<(), Error> {
     let batch = next_batch(alloc, board, byte)?;
-    let waits = match offer(board, batch)? {
-        None => return say_published(rt, board),
-        Some(None) => true,
-        Some(Some(batch)) => {
-            println!(rt; "publish: OutOfMemory")?;
-            offer(board, batch)?.is_some()
-        }
-    };
-    if waits {
+    if !is_published(rt, board, batch)? {
         println!(rt; "publish: waits")?;
         board.flush()?;
     }
     say_published(rt, board)
+}
+
+// Offers the batch, and where memory is wanting once more. Is it published? Else it waits.
+fn is_published<J: Naming, H: Print + Wait>(
+    rt: &H,
+    board: &mut Board<J, &H>,
+    batch: Batch,
+) -> Result<bool, Error> {
+    match offer(board, batch)? {
+        None => Ok(true),
+        Some(None) => Ok(false),
+        Some(Some(batch)) => is_published_now(rt, board, batch),
+    }
+}
+
+fn is_published_now<J: Naming, H: Print + Wait>(
+    rt: &H,
+    board: &mut Board<J, &H>,
+    batch: Batch,
+) -> Result<bool, Error> {
+    println!(rt; "publish: OutOfMemory")?;
+    Ok(offer(board, batch)?.is_none())
 }
 
 fn say_published<J: Naming, H: Print + Wait>(rt: &H, board: &Board<J, &H>) -> Result<(), Error> {

@@ -89,7 +89,7 @@ fn meta(chance: &mut Pcg32, length: u64) -> u64 {
     let any = any(chance);
     match any % 64 {
         0 => any,
-        1 => length + 1 << 16 | 1,
+        1 => length.saturating_add(1) << 16 | 1,
         _ => any / 64 % 9 << 32 | length << 16 | any / 1_024 % 3,
     }
 }
