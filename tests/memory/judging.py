@@ -1,7 +1,8 @@
 """Judges what a run printed of which a request for memory was refused, beside a run of which none was."""
 import re
 
-WANTING = "refused 16 OutOfMemory"
+# what a refused request is told by: a thread that there is no memory for isn't started, and a file isn't read or written
+WANTING = ("refused 16 OutOfMemory", "refused 21 NoThread", "file fault")
 
 
 class Wrong(Exception):
@@ -51,11 +52,11 @@ def judge_wbl(ended, whole, known):
     judge_rows(ended.lines, known | set(read_in(whole.lines)))
     for mine, other in zip(ended.lines, whole.lines):
         if mine != other:
-            if mine not in (WANTING, "file fault"):
+            if mine not in WANTING:
                 raise Wrong(f"{mine!r} where nothing was refused before, for {other!r}")
             return False
     if len(ended.lines) > len(whole.lines):
-        if ended.lines[len(whole.lines)] not in (WANTING, "file fault"):
+        if ended.lines[len(whole.lines)] not in WANTING:
             raise Wrong(f"a line more: {ended.lines[len(whole.lines)]!r}")
         return False
     if ended.status == whole.status and len(ended.lines) < len(whole.lines):
