@@ -231,7 +231,7 @@ fn load_in(slots: u64, keys: u64) -> Load {
 
 // How many nanoseconds one of these took.
 fn print_each<H: Print>(rt: &H, name: &str, count: u64, took: u128) -> Result<(), Error> {
-    let each = took / u128::from(count.max(1));
+    let each = took / u128::from(count).max(1);
     println!(rt; "{name} {each} ns")?;
     Ok(())
 }
