@@ -42,9 +42,21 @@ pub fn load_keys<H: Threads + Sync>(
     alloc: Global,
     load: &Load,
 ) -> Result<Room<SimPmem>, Error> {
+    Ok(open(rt, alloc, &image_of_keys(rt, alloc, load)?)?)
+}
+
+/// The words that a close leaves of a room in whose tables each key has a row.
+pub fn image_of_keys<H: Threads + Sync>(
+    rt: &H,
+    alloc: Global,
+    load: &Load,
+) -> Result<Vec<u64>, Error> {
     let mut room = open(rt, alloc, &formatted(alloc, load)?)?;
     put_each_key(&mut room, load)?;
-    Ok(reopened(rt, alloc, room)?)
+    match room.close() {
+        Ok(device) => Ok(device.image()?),
+        Err((fault, _device)) => Err(Error::from(fault)),
+    }
 }
 
 // The words of an empty image with so many slots.
@@ -53,17 +65,6 @@ fn formatted(alloc: Global, load: &Load) -> Result<Vec<u64>, Error> {
     let mut device = SimPmem::from_words(alloc, &vec![in alloc; 0; geometry.words() as usize]?)?;
     format(&mut device, geometry)?;
     Ok(device.image()?)
-}
-
-fn reopened<H: Threads + Sync>(
-    rt: &H,
-    alloc: Global,
-    room: Room<SimPmem>,
-) -> Result<Room<SimPmem>, Fault> {
-    match room.close() {
-        Ok(device) => open(rt, alloc, &device.image()?),
-        Err((fault, _device)) => Err(fault),
-    }
 }
 
 fn open<H: Threads + Sync>(rt: &H, alloc: Global, words: &[u64]) -> Result<Room<SimPmem>, Fault> {
@@ -195,9 +196,14 @@ fn commit_batch<D: Pmem + Drop>(room: &mut Room<D>, load: &Load, cycle: u64) -> 
 }
 
 fn key_of(number: u64, load: &Load) -> Key {
+    key_in(1, number, load.keys)
+}
+
+/// Of so many keys of the table the one whose turn it is.
+pub fn key_in(table: u16, number: u64, keys: u64) -> Key {
     Key {
-        table: 1,
-        key: number % load.keys.max(1),
+        table,
+        key: number % keys.max(1),
     }
 }
 

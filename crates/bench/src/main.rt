@@ -2,20 +2,25 @@
 //! stores on the device; commits and reads of the engine; reads on a board beside a writer that publishes.
 //! `engine SLOTS KEYS COMMITS BATCH READS` runs the engine alone, `plain` with the same words the engine over a device that keeps
 //! no history, `file NAME` with them the engine over a device whose lines lie in that file, and `readers N` the reads of N
-//! readers, each in a thread of its own.
+//! readers, each in a thread of its own. `open SLOTS` times the opening of an image that is full, `steps SLOTS` each kind of call
+//! by itself, and `reads SLOTS` reads of keys that have rows, of keys that have none, and of old versions.
 #![tactic(auto)]
 
 ghost use Rattle.std.specs.Prelude.{◌≤◌, IfOk};
 ghost use Rattle.pmem_model.specs.Sim.{device_of};
 
+mod calls;
 mod engine;
+mod opening;
 mod readers;
 mod rounds;
 mod slow;
 
 use anyhow::{Error, bail, ensure};
 use base::geometry::Geometry;
-use engine::{Load, Made, load_file, load_keys, load_plain, run_load};
+use calls::{TOGETHER, time_reads, time_steps};
+use engine::{Load, Made, image_of_keys, load_file, load_keys, load_plain, run_load};
+use opening::time_opening;
 use pmem::Pmem;
 use pmem_model::SimPmem;
 use readers::read_beside_a_writer;
@@ -47,6 +52,16 @@ const READS: u64 = 100_000;
 
 const TIMED_READS: u64 = 10_000_000;
 
+// How many cycles and how many reads of a kind are timed.
+const CYCLES: u64 = 1_000;
+
+const READS_OF_A_KIND: u64 = 1_000_000;
+
+// How many keys are updated, and how many slots are left for newer versions of the keys that are read.
+const UPDATED_KEYS: u64 = 256;
+
+const LEFT_SLOTS: u64 = 128;
+
 fn main(rt: HostRuntime) -> Result<(), Error> {
     let alloc = rt.alloc();
     let words: Vec<String> = env::args(&rt)?.skip(1).collect(alloc)?;
@@ -59,6 +74,9 @@ fn main(rt: HostRuntime) -> Result<(), Error> {
         ["engine", load @ ..] => measure_engine(&rt, alloc, &load_of(load)?, timed),
         ["plain", load @ ..] => measure_plain(&rt, alloc, &load_of(load)?, timed),
         ["file", name, load @ ..] => measure_file(&rt, alloc, name, &load_of(load)?, timed),
+        ["open", slots] => measure_opening(&rt, alloc, slots.parse::<u64>()?),
+        ["steps", slots] => measure_steps(&rt, alloc, slots.parse::<u64>()?),
+        ["reads", slots] => measure_reads(&rt, alloc, slots.parse::<u64>()?),
         ["readers", readers] => measure_readers(&rt, alloc, readers.parse::<usize>()?, timed),
         _ => {
             measure_rounds(&rt, alloc, timed)?;
@@ -156,6 +174,65 @@ fn print_rates<H: Print>(rt: &H, load: &Load, made: &Made, timed: bool) -> Resul
         print_rate(rt, "commits", load.commits, made.committing)?;
         print_rate(rt, "reads", load.reads, made.reading)?;
     }
+    Ok(())
+}
+
+// Each slot holds the row of a key.
+fn measure_opening<H: Print + Clock + Threads + Sync>(
+    rt: &H,
+    alloc: Global,
+    slots: u64,
+) -> Result<(), Error> {
+    let words = image_of_keys(rt, alloc, &load_in(slots, slots))?;
+    let took = time_opening(rt, alloc, words.as_slice())?;
+    print_each(rt, "opening", 1, took)
+}
+
+// By sessions that update a key each, over a device that keeps no history.
+fn measure_steps<H: Print + Clock + Threads + Sync>(
+    rt: &H,
+    alloc: Global,
+    slots: u64,
+) -> Result<(), Error> {
+    let mut room = load_plain(rt, alloc, &load_in(slots, UPDATED_KEYS))?;
+    let spent = time_steps(rt, &mut room, UPDATED_KEYS, CYCLES)?;
+    let calls = CYCLES * u64::from(TOGETHER);
+    print_each(rt, "put", calls, spent.puts)?;
+    print_each(rt, "draw", calls, spent.draws)?;
+    print_each(rt, "stamp", calls, spent.stamps)?;
+    print_each(rt, "poll", calls, spent.polls)?;
+    print_each(rt, "tick", spent.ticked, spent.ticks)
+}
+
+// Over a device that keeps no history.
+fn measure_reads<H: Print + Clock + Threads + Sync>(
+    rt: &H,
+    alloc: Global,
+    slots: u64,
+) -> Result<(), Error> {
+    let keys = slots.saturating_sub(LEFT_SLOTS);
+    let mut room = load_plain(rt, alloc, &load_in(slots, keys))?;
+    let took = time_reads(rt, &mut room, keys, READS_OF_A_KIND)?;
+    print_each(rt, "present", READS_OF_A_KIND, took.present)?;
+    print_each(rt, "absent", READS_OF_A_KIND, took.absent)?;
+    print_each(rt, "old", READS_OF_A_KIND, took.old)
+}
+
+// So many slots, and so many keys that have rows.
+fn load_in(slots: u64, keys: u64) -> Load {
+    Load {
+        slots,
+        keys,
+        commits: 0,
+        batch: 1,
+        reads: 0,
+    }
+}
+
+// How many nanoseconds one of these took.
+fn print_each<H: Print>(rt: &H, name: &str, count: u64, took: u128) -> Result<(), Error> {
+    let each = took / u128::from(count).max(1);
+    println!(rt; "{name} {each} ns")?;
     Ok(())
 }
 

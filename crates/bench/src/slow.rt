@@ -26,8 +26,8 @@ pub fn covered_beside_a_slow_one<D: Pmem + Drop>(
     Ok(commits)
 }
 
-// Updates one of eight keys, and lets the committer cover what it can.
-fn is_covered<D: Pmem + Drop>(room: &mut Room<D>, number: u64) -> Result<bool, Fault> {
+/// Updates one of eight keys, and lets the committer cover what it can. Whether it has.
+pub fn is_covered<D: Pmem + Drop>(room: &mut Room<D>, number: u64) -> Result<bool, Fault> {
     let session = begin(room)?;
     let key = Key {
         table: 1,

@@ -1,0 +1,199 @@
+use crate::engine::{key_in, step};
+use crate::slow::is_covered;
+use anyhow::Error;
+use base::fault::Fault;
+use base::row::Row;
+use base::step::{Reply, Step};
+use pmem::Pmem;
+use room::Room;
+use std::rt::Clock;
+use std::time::Instant;
+
+/// So many commits are stamped before each cycle.
+pub const TOGETHER: u8 = 32;
+
+// The number of the first session.
+const FIRST: u8 = 2;
+
+// So many newer versions of its key an old one has.
+const NEWER: u64 = 8;
+
+// How many keys have old versions.
+const OLD_KEYS: u64 = 8;
+
+/// What the calls of each kind took together, in nanoseconds, and how often the committer ticked.
+#[derive(Clone, Copy)]
+pub struct Spent {
+    pub puts: u128,
+    pub draws: u128,
+    pub stamps: u128,
+    pub polls: u128,
+    pub ticks: u128,
+    pub ticked: u64,
+}
+
+/// What reads of each kind took together, in nanoseconds.
+#[derive(Clone, Copy)]
+pub struct Reading {
+    pub present: u128,
+    pub absent: u128,
+    pub old: u128,
+}
+
+// What is asked of each session in turn.
+#[derive(Clone, Copy)]
+enum Asked {
+    Begin,
+    /// One of so many keys, counted from this number on.
+    Put { first: u64, keys: u64 },
+    Draw,
+    Stamp,
+    Poll,
+    End,
+}
+
+impl Asked {
+    fn step_in(self, session: u8) -> Result<Step, Fault> {
+        match self {
+            Asked::Begin => Ok(Step::Begin),
+            Asked::Put { first, keys } => {
+                let number = first.saturating_add(u64::from(session));
+                let row = Row::new(&number.to_le_bytes())?;
+                let key = key_in(1, number, keys);
+                Ok(Step::Put { session, key, row })
+            }
+            Asked::Draw => Ok(Step::Draw { session }),
+            Asked::Stamp => Ok(Step::Stamp { session }),
+            Asked::Poll => Ok(Step::Poll { session }),
+            Asked::End => Ok(Step::End { session }),
+        }
+    }
+}
+
+/// Makes so many cycles, in each of which each session updates a key of its own.
+pub fn time_steps<H: Clock, D: Pmem + Drop>(
+    rt: &H,
+    room: &mut Room<D>,
+    keys: u64,
+    cycles: u64,
+) -> Result<Spent, Error> {
+    let mut spent = Spent {
+        puts: 0,
+        draws: 0,
+        stamps: 0,
+        polls: 0,
+        ticks: 0,
+        ticked: 0,
+    };
+    for cycle in 0..cycles {
+        let first = cycle.saturating_mul(u64::from(TOGETHER));
+        spent.write(rt, room, Asked::Put { first, keys })?;
+        spent.cover(rt, room)?;
+    }
+    Ok(spent)
+}
+
+impl Spent {
+    // Lets each session put, draw and stamp.
+    fn write<H: Clock, D: Pmem + Drop>(
+        &mut self,
+        rt: &H,
+        room: &mut Room<D>,
+        put: Asked,
+    ) -> Result<(), Error> {
+        ask_each(rt, room, Asked::Begin)?;
+        self.puts = self.puts.saturating_add(ask_each(rt, room, put)?);
+        self.draws = self.draws.saturating_add(ask_each(rt, room, Asked::Draw)?);
+        self.stamps = self
+            .stamps
+            .saturating_add(ask_each(rt, room, Asked::Stamp)?);
+        Ok(())
+    }
+
+    // Lets each session poll, covers the batch, and ends the sessions. The collector makes a visit for each tick.
+    fn cover<H: Clock, D: Pmem + Drop>(&mut self, rt: &H, room: &mut Room<D>) -> Result<(), Error> {
+        self.polls = self.polls.saturating_add(ask_each(rt, room, Asked::Poll)?);
+        let start = Instant::now(rt)?;
+        let ticked = tick(room)?;
+        let took = start.elapsed(rt)?.as_nanos();
+        self.ticks = self.ticks.saturating_add(took);
+        self.ticked = self.ticked.saturating_add(ticked);
+        collect(room, ticked)?;
+        ask_each(rt, room, Asked::End)?;
+        Ok(())
+    }
+}
+
+// How long a step in each session takes.
+fn ask_each<H: Clock, D: Pmem + Drop>(
+    rt: &H,
+    room: &mut Room<D>,
+    asked: Asked,
+) -> Result<u128, Error> {
+    let start = Instant::now(rt)?;
+    for session in FIRST..FIRST + TOGETHER {
+        step(room, asked.step_in(session)?)?;
+    }
+    Ok(start.elapsed(rt)?.as_nanos())
+}
+
+// Ticks the committer until it has covered a batch, or has nothing to do. How often.
+fn tick<D: Pmem + Drop>(room: &mut Room<D>) -> Result<u64, Fault> {
+    for ticks in 1..u64::MAX {
+        if !matches!(step(room, Step::Commit)?, Reply::Ticked(_)) {
+            return Ok(ticks);
+        }
+    }
+    Ok(u64::MAX)
+}
+
+fn collect<D: Pmem + Drop>(room: &mut Room<D>, visits: u64) -> Result<(), Fault> {
+    for _ in 0..visits {
+        step(room, Step::Collect)?;
+    }
+    Ok(())
+}
+
+/// Makes so many reads of each kind, in one session: of keys that have rows, of keys that have none, and of keys that have
+/// newer versions than the session sees.
+pub fn time_reads<H: Clock, D: Pmem + Drop>(
+    rt: &H,
+    room: &mut Room<D>,
+    keys: u64,
+    reads: u64,
+) -> Result<Reading, Error> {
+    step(room, Step::Begin)?;
+    let present = read_in_turn(rt, room, 1, keys, reads)?;
+    let absent = read_in_turn(rt, room, 2, keys, reads)?;
+    for number in 0..NEWER * OLD_KEYS {
+        is_covered(room, number)?;
+    }
+    let old = read_in_turn(rt, room, 1, OLD_KEYS, reads)?;
+    Ok(Reading {
+        present,
+        absent,
+        old,
+    })
+}
+
+// How long it takes to read so many times, of so many keys of the table in turn.
+fn read_in_turn<H: Clock, D: Pmem + Drop>(
+    rt: &H,
+    room: &mut Room<D>,
+    table: u16,
+    keys: u64,
+    reads: u64,
+) -> Result<u128, Error> {
+    let start = Instant::now(rt)?;
+    for number in 0..reads {
+        let key = key_in(table, number, keys);
+        step(
+            room,
+            Step::Get {
+                session: FIRST,
+                key,
+            },
+        )?;
+    }
+    Ok(start.elapsed(rt)?.as_nanos())
+}
