@@ -3,7 +3,7 @@
 usage: ./memory [--wbl FILE] [--runs FILE] [--jobs N] [--short]
 
 It runs `wbl lives` over the scripts of crates/life_scripts/data; the commands of wbl over one file that those of
-crates/program_scripts/data name; `wbl threads`; and the lives and the board of hostile_runs, with memory for all stores of the
+crates/program_scripts/data name; `wbl threads`; and the lives and the board of test_hostile_lives, with memory for all stores of the
 device and without. Of each it refuses the first request, then the second alone, and so on to the last; then, of wbl, the first
 and all later ones, and so on. It fails at a crash, a run that doesn't end, a row that was never put, a first line that differs
 and isn't OutOfMemory, a file that changed where the status isn't 0 or that isn't sound, a refusal of what takes no memory, and a
@@ -205,7 +205,7 @@ def tests(programs, part):
 def main():
     parser = argparse.ArgumentParser(description=__doc__, formatter_class=argparse.RawDescriptionHelpFormatter)
     parser.add_argument("--wbl", default=os.path.join(TOP, "crates/wbl/out/wbl"), help="the program, as rt run builds it")
-    parser.add_argument("--runs", default=os.path.join(TOP, "crates/hostile_runs/out/hostile_runs"), help="hostile_runs, the same")
+    parser.add_argument("--runs", default=os.path.join(TOP, "crates/test_hostile_lives/out/test_hostile_lives"), help="test_hostile_lives, the same")
     parser.add_argument("--jobs", type=int, default=max(1, (os.cpu_count() or 2) // 2), help="runs at a time")
     parser.add_argument("--short", action="store_true")
     words = parser.parse_args()

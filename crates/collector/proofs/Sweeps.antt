@@ -7,7 +7,7 @@ use Rattle.base.specs.Records.{is_in}
 use Rattle.pmem.specs.Device.{Device, IsOrderly, flushed, failed}
 use Rattle.pmem.specs.Words.{value_of}
 use Rattle.pmem.specs.Trace.{Operation, store_op, flush_op}
-use Rattle.pmem.proofs.Steps.{value-stored_other}
+use Rattle.pmem.proofs.OperationEffects.{value-stored_other}
 use Rattle.version_slot.specs.Operations.{Runs, StopsWithin}
 use Rattle.version_slot.proofs.Operations.{runs-then, runs-more, stops-first, stops-then}
 use Rattle.collector.specs.Sweeping.{zero_operations, sweep_operations}

@@ -10,7 +10,7 @@ use Rattle.command_line.specs.Given.{Agrees, AreGiven, IsNamed, Shows, SetsFile,
 use Rattle.command_line.specs.declared.given.Given.{Given}
 use Rattle.command_line.specs.declared.orders.Choice.{Choice}
 use Rattle.command_line.specs.declared.orders.Choice.TheVariants.{Slots, Places, Window, Sessions, Commits}
-use Rattle.command_line.proofs.Parts.{file_kept, number_other, number_same, numbers_by-wide, numbers_kept, same_or_not, value_other, value_same, wide_kept}
+use Rattle.command_line.proofs.OptionParts.{file_kept, number_other, number_same, numbers_by-wide, numbers_kept, same_or_not, value_other, value_same, wide_kept}
 
 -- ---- lists of words
 

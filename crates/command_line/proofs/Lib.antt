@@ -1,7 +1,7 @@
 pub mod Numbers
 pub mod Lines
 pub mod ImageFiles
-pub mod Parts
+pub mod OptionParts
 pub mod Rows
 pub mod Complete
 pub mod Refused

@@ -12,7 +12,7 @@ use Rattle.command_line.specs.declared.orders.Choice.{Choice}
 use Rattle.command_line.specs.declared.orders.Choice.TheVariants.{Slots, Places, Window, Sessions, Commits}
 use Rattle.command_line.specs.declared.orders.Order.{Order}
 use Rattle.command_line.specs.declared.orders.Order.TheVariants.{Format, Run, Check, Lives, Threads}
-use Rattle.command_line.proofs.Parts.{each_choice, has_number}
+use Rattle.command_line.proofs.OptionParts.{each_choice, has_number}
 use Rattle.command_line.proofs.Complete.{empty-of, no_cons, same_head, same_tail}
 
 -- ---- the subcommands

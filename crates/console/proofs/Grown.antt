@@ -19,7 +19,7 @@ use Rattle.console.specs.declared.lines.Outcome.{Outcome}
 use Rattle.console.specs.declared.lines.Outcome.TheVariants.{Replied, Crashed}
 use Rattle.console.specs.Kept.{Extends}
 use Rattle.console.specs.Obeyed.{Ticks, Puts, Answers, ComesTo, ObeysRead, ObeysLine, ObeysLines}
-use Rattle.console.proofs.Kept.{extends-none, extends-trans}
+use Rattle.console.proofs.KeptHistory.{extends-none, extends-trans}
 
 -- the history of the second begins with that of the first, and their layout is one
 abbrev pub Grows : State → State → Type 0

@@ -1,10 +1,10 @@
-mod Kept
+mod KeptHistory
 mod Files
 mod Rows
 mod Grown
 mod Obeyed
 mod Repeating
-mod Quiet
+mod IdleTicks
 mod Lives
 mod Input
 mod Crash

@@ -22,7 +22,7 @@ use Rattle.console.specs.Kept.{Extends, HasClosed, IsFileWith, KeepsHistories, L
 use Rattle.console.specs.Lives.{Ends, IsBegun, IsLife, Lives, opened_text}
 use Rattle.console.specs.Obeyed.{ObeysLines}
 use Rattle.console.proofs.Grown.{grows-lines}
-use Rattle.console.proofs.Kept.{keeps-at, keeps-closed}
+use Rattle.console.proofs.KeptHistory.{keeps-at, keeps-closed}
 use Rattle.console.proofs.Files.{one_image}
 
 pub opened-so : (q : State) (gate persisted dirty next : ℕ) (gaps : List Gap) → gate ≡ q.ruling.gate → persisted ≡ q.ruling.persisted → dirty ≡ q.ruling.dirty → next ≡ q.next → gaps ≡ q.ruling.gaps

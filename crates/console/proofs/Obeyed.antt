@@ -18,7 +18,7 @@ use Rattle.console.specs.declared.lines.Outcome.{Outcome}
 use Rattle.console.specs.declared.lines.Outcome.TheVariants.{Replied, Crashed}
 use Rattle.console.specs.Kept.{Leads}
 use Rattle.console.specs.Obeyed.{Ticks, Commits, Cycles, Answers, ComesTo, Obeys, ObeysRead, ObeysLine, ObeysLines, is_busy, is_tick, reply_text}
-use Rattle.console.proofs.Kept.{leads-nowhere, leads-by, leads-trans}
+use Rattle.console.proofs.KeptHistory.{leads-nowhere, leads-by, leads-trans}
 
 -- ---- ticks
 

@@ -28,7 +28,7 @@ use Rattle.console.specs.Refusals.{IsClosingFault, IsFileFault}
 use Rattle.console.specs.Threads.{IsOther, IsThreadsFault}
 use Rattle.console.proofs.Files.{one_image}
 use Rattle.console.proofs.Grown.{Grows, grows-same, grows-stepped, grows-trans}
-use Rattle.console.proofs.Kept.{keeps-closed}
+use Rattle.console.proofs.KeptHistory.{keeps-closed}
 use Rattle.console.proofs.Lives.{opens-history, opens-layout}
 use Rattle.console.proofs.Obeyed.{appends-none}
 use Rattle.console.proofs.Refusals.{never-device}

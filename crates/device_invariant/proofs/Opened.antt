@@ -30,7 +30,7 @@ use Rattle.device_invariant.specs.Log.{HoldsHand}
 use Rattle.device_invariant.specs.Laws.{OpenedUpholds}
 use Rattle.pmem.proofs.Changes.{each-settled, each-weaken}
 use Rattle.device_invariant.proofs.Words.{within-slot}
-use Rattle.device_invariant.proofs.Says.{says-newest, last-committed}
+use Rattle.device_invariant.proofs.PresentValues.{says-newest, last-committed}
 use Rattle.device_invariant.proofs.Showing.{shows-same}
 
 -- ---- lists

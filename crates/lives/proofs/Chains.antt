@@ -19,7 +19,7 @@ use Rattle.base.proofs.Returns.{lives-lived}
 use Rattle.base.proofs.Adding.{lives-add, lives-acknowledge}
 use Rattle.pmem.specs.Device.{Device, MayLeave, IsOrderly}
 use Rattle.pmem.specs.Words.{LeavesOnly, IsAtRest, image_of}
-use Rattle.pmem.proofs.Rest.{left_at_rest}
+use Rattle.pmem.proofs.AtRest.{left_at_rest}
 use Rattle.recovery.specs.Opened.{IsRefusal}
 use Rattle.recovery.specs.Read.{TellsLogFault}
 use Rattle.image_check.specs.Checked.{ListsTables}

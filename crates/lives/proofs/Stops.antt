@@ -24,7 +24,7 @@ use Rattle.recovery.specs.Opened.{IsRefusal, MakesOpening}
 use Rattle.room.specs.Closing.{IsClosingRefusal}
 use Rattle.room.specs.Committing.{Shows}
 use Rattle.room.specs.Steps.{StepsTo}
-use Rattle.room.specs.declared.committer.Committer.{Committer}
+use Rattle.room.specs.declared.volatile.VolatileState.{VolatileState}
 use Rattle.lives.specs.declared.life.Life.{Life}
 use Rattle.lives.specs.declared.life.LifeReport.{LifeReport}
 use Rattle.lives.specs.declared.life.Numbers.{Numbers}
@@ -92,18 +92,18 @@ goes-before reply replies first then =
     (λ has. has-first reply replies has)
 
 -- a step
-step-goes : (committer : Committer) (device next : Device) (step : Step) (reply : Reply) (q q' : State) → StepsTo committer device next step reply q q'
+step-goes : (volatile : VolatileState) (device next : Device) (step : Step) (reply : Reply) (q q' : State) → StepsTo volatile device next step reply q q'
     → GoesOn device next (reply ≡ Refused DeviceFault)
-step-goes committer device next step reply q q' taken = record { continues = taken.images.continues; cause = taken.failure.cause; shown = taken.failure.shown }
+step-goes volatile device next step reply q q' taken = record { continues = taken.images.continues; cause = taken.failure.cause; shown = taken.failure.shown }
 
 -- steps
 steps-go : (q : State) (device : Device) (steps : List Step) (replies : List Reply) (last : State) (end : Device) → StepsOn q device steps replies last end
     → GoesOn device end (Contains replies (Refused DeviceFault))
 steps-go q device [] [] last end (same, is) = goes-silent device end [] is refl
-steps-go q device (step ∷ steps) (reply ∷ replies) last end (q', next, committer, taken, inl (fails, none, same, is)) =
-    goes-before reply replies (step-goes committer device next step reply q q' taken) (goes-silent next end replies is none)
-steps-go q device (step ∷ steps) (reply ∷ replies) last end (q', next, committer, taken, inr (works, rest)) =
-    goes-before reply replies (step-goes committer device next step reply q q' taken) (steps-go q' next steps replies last end rest)
+steps-go q device (step ∷ steps) (reply ∷ replies) last end (q', next, volatile, taken, inl (fails, none, same, is)) =
+    goes-before reply replies (step-goes volatile device next step reply q q' taken) (goes-silent next end replies is none)
+steps-go q device (step ∷ steps) (reply ∷ replies) last end (q', next, volatile, taken, inr (works, rest)) =
+    goes-before reply replies (step-goes volatile device next step reply q q' taken) (steps-go q' next steps replies last end rest)
 steps-go q device [] (reply ∷ replies) last end none = absurd none
 steps-go q device (step ∷ steps) [] last end none = absurd none
 
@@ -232,13 +232,13 @@ fails-on old new image before report fault fails same refusal images = record {
   images = subst (λ (i : Image). LeavesOnly old new (StandsOpening i before.history before.next)) (sym same) images;
 }
 
-pub opens-on : (old new : Device) (image : Image) (before : World) (q : State) (committer : Committer) → before.image ≡ image → OpensAs image before.history before.lost q
-    → MakesOpening image old new → LeavesOnly old new (StandsOpening image before.history before.next) → Shows committer new q → OpensOn old before q new
-opens-on old new image before q committer same opens made images shows = record {
+pub opens-on : (old new : Device) (image : Image) (before : World) (q : State) (volatile : VolatileState) → before.image ≡ image → OpensAs image before.history before.lost q
+    → MakesOpening image old new → LeavesOnly old new (StandsOpening image before.history before.next) → Shows volatile new q → OpensOn old before q new
+opens-on old new image before q volatile same opens made images shows = record {
   opens = subst (λ (i : Image). OpensAs i before.history before.lost q) (sym same) opens;
   made = subst (λ (i : Image). MakesOpening i old new) (sym same) made;
   images = subst (λ (i : Image). LeavesOnly old new (StandsOpening i before.history before.next)) (sym same) images;
-  committer = committer;
+  volatile = volatile;
   shows = shows;
 }
 

@@ -9,7 +9,7 @@ use Rattle.pmem.specs.Device.{Device}
 use Rattle.pmem.specs.declared.device.Pmem.{Ghosts}
 use Rattle.room.specs.Room.{Shows, StepsTo as RoomStepsTo, device_of as device_in}
 use Rattle.room.specs.Steps.{StepsTo}
-use Rattle.room.specs.declared.committer.Committer.{Committer}
+use Rattle.room.specs.declared.volatile.VolatileState.{VolatileState}
 use Rattle.room.specs.declared.room.Room.{Room}
 use Rattle.lives.specs.Parts.{HasObeyed}
 use Rattle.lives.specs.Stops.{StepsOn}
@@ -18,7 +18,7 @@ use Rattle.lives.specs.Stops.{StepsOn}
 
 -- from any state of which the first holds the step leads to one of which the other does
 abbrev pub Takes : (State → Type 0) → Device → Step → Reply → Device → (State → Type 0) → Type 0
-Takes P device step reply next P' = (q : State) → P q → (q' : State) × (committer : Committer) × StepsTo committer device next step reply q q' × P' q'
+Takes P device step reply next P' = (q : State) → P q → (q' : State) × (volatile : VolatileState) × StepsTo volatile device next step reply q q' × P' q'
 
 -- a step of the room does
 pub room-takes : {D : Type 0} {G : Ghosts D} (state : D → Device) (old new : Room D G) (step : Step) (reply : Reply)
@@ -28,7 +28,7 @@ room-takes state old new step reply taken q shows =
     let made = taken q shows in
     let s = made.1 in (
       made.0,
-      new.committer,
+      new.volatile,
       record { stepped = s.stepped; shows = s.shows.agrees.shown; images = s.images; failure = s.failure; operations = s.operations; actor = s.actor; declined = s.declined },
       s.shows,
     )
@@ -89,9 +89,9 @@ obeyed-failed q device now next steps replies P P' step reply unread fails so_fa
 pub runs-up : (q : State) (device : Device) (steps : List Step) (replies : List Reply) (last : State) (end : Device) → StepsOn q device steps replies last end
     → (states : List State) × RunsUp q steps replies states × (final q states ≡ last)
 runs-up q device [] [] last end (same, is) = ([], tt, sym same)
-runs-up q device (step ∷ steps) (reply ∷ replies) last end (q', next, committer, taken, inl (fails, none, same, is)) =
+runs-up q device (step ∷ steps) (reply ∷ replies) last end (q', next, volatile, taken, inl (fails, none, same, is)) =
     (q' ∷ [], (taken.stepped, inl (fails, none, refl)), sym same)
-runs-up q device (step ∷ steps) (reply ∷ replies) last end (q', next, committer, taken, inr (works, rest)) =
+runs-up q device (step ∷ steps) (reply ∷ replies) last end (q', next, volatile, taken, inr (works, rest)) =
     let later = runs-up q' next steps replies last end rest in (q' ∷ later.0, (taken.stepped, inr (works, later.1)), later.2)
 runs-up q device [] (reply ∷ replies) last end none = absurd none
 runs-up q device (step ∷ steps) [] last end none = absurd none

@@ -18,7 +18,7 @@ use Rattle.recovery.specs.Opened.{IsRefusal, MakesOpening}
 use Rattle.room.specs.Closing.{IsClosingRefusal}
 use Rattle.room.specs.Committing.{Shows}
 use Rattle.room.specs.Steps.{StepsTo}
-use Rattle.room.specs.declared.committer.Committer.{Committer}
+use Rattle.room.specs.declared.volatile.VolatileState.{VolatileState}
 use Rattle.lives.specs.declared.life.Life.{Life}
 use Rattle.lives.specs.declared.life.LifeReport.{LifeReport}
 use Rattle.lives.specs.declared.life.Numbers.{Numbers}
@@ -33,15 +33,15 @@ pub record OpensOn (begun : Device) (before : World) (q : State) (opened : Devic
   pub opens : OpensAs before.image before.history before.lost q
   pub made : MakesOpening before.image begun opened
   pub images : LeavesOnly begun opened (StandsOpening before.image before.history before.next)
-  pub committer : Committer
-  pub shows : Shows committer opened q
+  pub volatile : VolatileState
+  pub shows : Shows volatile opened q
 
 -- The steps lead from a state and its device to the last ones, up to the first step in which the device fails: each by
 -- operations of its own, no more than it may make, and then the device shows the state
 abbrev pub StepsOn : State → Device → List Step → List Reply → State → Device → Type 0
 StepsOn q device [] [] last end = (last ≡ q) × (end ≡ device)
 StepsOn q device (step ∷ steps) (reply ∷ replies) last end =
-    (q' : State) × (next : Device) × (committer : Committer) × StepsTo committer device next step reply q q'
+    (q' : State) × (next : Device) × (volatile : VolatileState) × StepsTo volatile device next step reply q q'
     × (((is_failure reply ≡ true) × (replies ≡ []) × (last ≡ q') × (end ≡ next)) ⊎ ((is_failure reply ≡ false) × StepsOn q' next steps replies last end))
 StepsOn q device _ _ last end = ⊥
 

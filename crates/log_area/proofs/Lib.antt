@@ -1,6 +1,6 @@
 pub mod Codec
 pub mod Rulings
-pub mod Kept
+pub mod UntouchedWords
 pub mod Ticks
 pub mod Replacing
 pub mod Whole

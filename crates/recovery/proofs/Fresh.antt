@@ -11,7 +11,7 @@ use Rattle.base.specs.Images.{Image, is_formatted, superblock_word}
 use Rattle.pmem.specs.Device.{Device}
 use Rattle.pmem.specs.Words.{Survives, value_of, image_of, LeavesOnly, Keeps, IsSettledAt, Makes, Spares, OldOr, IsStore}
 use Rattle.pmem.proofs.Images.{leaves_trans, leaves_weaken}
-use Rattle.pmem.proofs.Steps.{only-settled}
+use Rattle.pmem.proofs.OperationEffects.{only-settled}
 use Rattle.log_area.specs.Rulings.{gate_word}
 use Rattle.log_area.specs.Writings.{IsWriting, IsOutside, begun, finished}
 use Rattle.log_area.proofs.Rulings.{some_places, log_within}

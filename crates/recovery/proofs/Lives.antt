@@ -22,9 +22,9 @@ use Rattle.base.proofs.Sweeps.{unmarked-low, swept-unmarked}
 use Rattle.pmem.specs.Device.{Device, IsOrderly}
 use Rattle.pmem.specs.Words.{value_of, IsAtRest, LeavesOnly, image_of, Keeps, OldOr, Spares, Makes, HasOldWords, operations_of}
 use Rattle.pmem.proofs.Images.{leaves_refl, leaves_trans, leaves_weaken, leaves_both}
-use Rattle.pmem.proofs.Rest.{left_at_rest}
+use Rattle.pmem.proofs.AtRest.{left_at_rest}
 use Rattle.pmem.proofs.Spares.{spares_fewer, spares_trans}
-use Rattle.pmem.proofs.Steps.{only-settled}
+use Rattle.pmem.proofs.OperationEffects.{only-settled}
 use Rattle.pmem.proofs.Changes.{settled_at-shrinks}
 use Rattle.log_area.specs.Rulings.{IsRecordFor, HoldsRecord}
 use Rattle.log_area.specs.Writings.{IsNextRecord, IsRuledByEither, IsOutside, begun}

@@ -17,7 +17,7 @@ use Rattle.base.proofs.Layouts.{line-words}
 use Rattle.base.proofs.Sweeps.{mark-of, unmarked-low}
 use Rattle.pmem.specs.Device.{Device}
 use Rattle.pmem.specs.Words.{value_of, image_of, Survives, IsAtRest, IsSettledAt, IsWithin, OldOr, Keeps, LeavesOnly}
-use Rattle.pmem.proofs.Steps.{only-settled}
+use Rattle.pmem.proofs.OperationEffects.{only-settled}
 use Rattle.log_area.specs.Rulings.{HoldsRecord, IsEarlierGate, gate_word}
 use Rattle.log_area.proofs.AtRest.{laid, rest_holds}
 use Rattle.log_area.proofs.Heads.{laid_size}

@@ -17,7 +17,7 @@ use Rattle.pmem.proofs.Images.{leaves_trans, leaves_weaken}
 use Rattle.pmem.proofs.Runs.{keeps_none, keeps-stored, keeps-failed, keeps_weaken}
 use Rattle.pmem.proofs.Changes.{shrinks_refl, shrinks_trans, stored-shrinks, flushed-shrinks, fenced-shrinks, stored-value, fenced-settles}
 use Rattle.pmem.proofs.Counts.{makes_none, makes-fenced}
-use Rattle.pmem.proofs.Steps.{history-flushed_same, history-stored_other, survivors-stored_same}
+use Rattle.pmem.proofs.OperationEffects.{history-flushed_same, history-stored_other, survivors-stored_same}
 use Rattle.pmem.proofs.Words.{ready-marked}
 use Rattle.base.proofs.Layouts.{line-words, lines-words}
 use Rattle.recovery.specs.Opened.{sweep_operations}

@@ -21,7 +21,7 @@ use Rattle.pmem.specs.Device.{Device}
 use Rattle.pmem.specs.Words.{value_of, IsAtRest, IsSettled, IsSettledAt, IsStore, IsWithin, LeavesOnly, image_of, Keeps, Makes, OldOr, Spares, operations_of}
 use Rattle.pmem.proofs.Images.{leaves_trans, leaves_weaken}
 use Rattle.pmem.proofs.Spares.{spares_fewer, spares_trans}
-use Rattle.pmem.proofs.Steps.{only-settled}
+use Rattle.pmem.proofs.OperationEffects.{only-settled}
 use Rattle.log_area.proofs.Rulings.{log_within}
 use Rattle.recovery.specs.Slots.{free_below}
 use Rattle.recovery.specs.Live.{live_at, live_below}

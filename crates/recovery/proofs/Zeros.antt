@@ -3,7 +3,7 @@ use Rattle.std.proofs.Common.{◌≡◌, ◌⊎◌, inl, inr, ℕ, ◌+◌, ◌-
 use Rattle.std.proofs.lemmas.Bool.{cases_lt, cases_eq}
 use Rattle.pmem.specs.Device.{Device, IsOrderly, stored, flushed, fenced}
 use Rattle.pmem.specs.Words.{IsReady, IsSettled, value_of, IsSettledAt, Makes}
-use Rattle.pmem.proofs.Steps.{value-stored_same, value-flushed, settled-ready, ready-flushed, ready-flushed_by}
+use Rattle.pmem.proofs.OperationEffects.{value-stored_same, value-flushed, settled-ready, ready-flushed, ready-flushed_by}
 use Rattle.pmem.proofs.Changes.{stored-shrinks, fenced-shrinks}
 
 pub zero_more : (word : ℕ) (old new : Device) → new ≡ stored word 0 old → ((w : ℕ) → 8 ≤ w → w < word → value_of old w ≡ 0) → (w : ℕ) → 8 ≤ w → w < word + 1 → value_of new w ≡ 0

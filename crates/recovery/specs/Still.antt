@@ -2,7 +2,7 @@
 use Rattle.std.proofs.Common.{◌≡◌, inl, inr, ℕ, ◌^◌, ◌<◌, Bool, true, false, cond, List, [], ◌∷◌, Some, length, get_or, refl, subst, sym, nat_lt}
 use Rattle.std.proofs.lemmas.Bool.{lt-ltb}
 use Rattle.pmem.specs.Device.{Device, Entry, newest, survivors_in, survivors_at, IsAmong, IsOrderly, restarted}
-use Rattle.tally.specs.Tallies.{number_of}
+use Rattle.pmem.specs.Tallies.{number_of}
 use Rattle.recovery.specs.Words.{AreWords}
 use Rattle.recovery.specs.declared.still.Still.{Still}
 

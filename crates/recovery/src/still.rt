@@ -3,7 +3,7 @@ ghost use Rattle.recovery.specs.Words.{AreWords};
 use base::actor::Actor;
 use base::fault::Fault;
 use pmem::Pmem;
-use tally::Tally;
+use pmem::Tally;
 
 /// The words of an image, read where they lie, as a device on which every operation fails.
 #[derive(Drop)]
@@ -39,7 +39,7 @@ impl<'a> Still<'a> {
 }
 
 impl<'a> Pmem for Still<'a> {
-    ghost use Rattle.tally.specs.Tallies.{number_of};
+    ghost use Rattle.pmem.specs.Tallies.{number_of};
     ghost use Rattle.recovery.specs.Still.{device_of, orderly_still};
 
     ghost state = { device_of };

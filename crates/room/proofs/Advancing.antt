@@ -36,19 +36,19 @@ use Rattle.state_invariant.specs.Kept.{Origin, Keeps}
 use Rattle.device_invariant.specs.Log.{Line, lines_in, line_number, writing_at}
 use Rattle.device_invariant.specs.Laws.{one_tick_on}
 use Rattle.device_invariant.specs.Upholds.{Upholds}
-use Rattle.cycle_invariant.specs.Leads.{Ticks, FailsTick}
-use Rattle.cycle_invariant.specs.Laws.{HasInHand}
-use Rattle.cycle_invariant.proofs.Rising.{lines-are_in_order, lines-within}
-use Rattle.cycle_invariant.proofs.Stages.{more_left}
-use Rattle.cycle_invariant.proofs.Ticks.{line-ticks, fence-ticks, operation-ticks, covering-ticks, failing-ticks}
-use Rattle.session_invariant.proofs.Batches.{covers-batch}
+use Rattle.cycle_simulation.specs.Leads.{Ticks, FailsTick}
+use Rattle.cycle_simulation.specs.Laws.{HasInHand}
+use Rattle.cycle_simulation.proofs.Rising.{lines-are_in_order, lines-within}
+use Rattle.cycle_simulation.proofs.Stages.{more_left}
+use Rattle.cycle_simulation.proofs.Ticks.{line-ticks, fence-ticks, operation-ticks, covering-ticks, failing-ticks}
+use Rattle.session_laws.proofs.Batches.{covers-batch}
 use Rattle.session_steps.specs.declared.sessions.Sessions.{Sessions}
 use Rattle.session_steps.specs.Shows.{plain_drawn, line_numbers, Agrees}
 use Rattle.session_steps.specs.Steps.{is_by_actor, RunsBy}
 use Rattle.session_steps.specs.Covering.{IsOf, MayCoverSome, ShowsCovered}
 use Rattle.session_steps.proofs.Filters.{filter-map}
 use Rattle.session_steps.proofs.BatchLines.{member, table-lines}
-use Rattle.session_steps.proofs.Hands.{shows-hand, shows-failed}
+use Rattle.session_steps.proofs.AnyHand.{shows-hand, shows-failed}
 use Rattle.session_steps.proofs.Reading.{words-are}
 use Rattle.room.specs.Committing.{HoldsHand, HoldsCycle, ShowsIn}
 use Rattle.room.specs.Steps.{StepsToIn}

@@ -40,7 +40,7 @@ use Rattle.recovery.specs.Opened.{HasOpened, Examined, free_in}
 use Rattle.recovery.specs.Slots.{free_below}
 use Rattle.recovery.proofs.Lives.{is, ruled-size}
 use Rattle.recovery.specs.declared.rows.LiveSlot.{LiveSlot}
-use Rattle.room.specs.declared.committer.Committer.{Committer}
+use Rattle.room.specs.declared.volatile.VolatileState.{VolatileState}
 use Rattle.room.specs.declared.room.Room.{Room}
 use Rattle.room.specs.Committing.{HoldsCycle, Shows as CommitterShows}
 use Rattle.room.specs.Steps.{ShowsAs}
@@ -268,7 +268,7 @@ module _ (old : Device) (layout : Layout) (r : Record) (gaps : Option (List Gap)
 -- ---- what is shown then
 
 -- the committer shows the state that the image opens as
-pub begun-shows : (old new : Device) (c : Committer) (begun : HasBegun old new c) (history drawn : List Commit) (before : ℕ) (lost : List ℕ) → Stands (image_of old) history drawn before
+pub begun-shows : (old new : Device) (c : VolatileState) (begun : HasBegun old new c) (history drawn : List Commit) (before : ℕ) (lost : List ℕ) → Stands (image_of old) history drawn before
     → (q : State) × OpensAs (image_of old) history lost q × CommitterShows c new q × (q.failed ≡ false)
 begun-shows old new c begun history drawn before lost stands =
     let q : State = state_opened old new begun.layout begun.ruling begun.next begun.free begun.live begun.opened history drawn before lost stands in (
@@ -283,16 +283,16 @@ begun-shows old new c begun history drawn before lost stands =
     )
 
 -- so it shows some state: each image that opens stands for some history
-pub begun-shows-some : (old new : Device) (c : Committer) (begun : HasBegun old new c) → ∥ ShowsAs c new false ∥₁
+pub begun-shows-some : (old new : Device) (c : VolatileState) (begun : HasBegun old new c) → ∥ ShowsAs c new false ∥₁
 begun-shows-some old new c begun =
     let shown = begun-shows old new c begun (history_in (image_of old)) [] (ruling (image_of old)).dirty [] (sound-stands (image_of old) (opens-sound (image_of old) begun.opened.opens)) in ∣ (shown.0, shown.2, shown.3) ∣₁
 
--- a room with that committer shows it
-pub opened-shows : {D : Type 0} {G : Ghosts D} (state : D → Device) (old : Device) (room : Room D G) → HasBegun old (state room.device) room.committer → room.failed ≡ false
+-- a room with that volatile state shows it
+pub opened-shows : {D : Type 0} {G : Ghosts D} (state : D → Device) (old : Device) (room : Room D G) → HasBegun old (state room.device) room.volatile → room.failed ≡ false
     → (history drawn : List Commit) (before : ℕ) (lost : List ℕ) → Stands (image_of old) history drawn before → (q : State) × OpensAs (image_of old) history lost q × Shows state room q
 opened-shows state old room begun works history drawn before lost stands =
-    let shown = begun-shows old (state room.device) room.committer begun history drawn before lost stands in (
+    let shown = begun-shows old (state room.device) room.volatile begun history drawn before lost stands in (
       shown.0,
       shown.1,
-      record { stands = shown-stands room.committer (state room.device) shown.0 shown.2; swept = shown-clear room.committer (state room.device) shown.0 shown.2; agrees = record { shown = shown.2; failed = shown.3 ∙ sym works } },
+      record { stands = shown-stands room.volatile (state room.device) shown.0 shown.2; swept = shown-clear room.volatile (state room.device) shown.0 shown.2; agrees = record { shown = shown.2; failed = shown.3 ∙ sym works } },
     )

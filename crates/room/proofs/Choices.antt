@@ -28,11 +28,11 @@ use Rattle.state_invariant.specs.Kept.{Origin, Keeps}
 use Rattle.state_invariant.proofs.Choosing.{keeps-chosen}
 use Rattle.device_invariant.specs.Log.{HoldsHand as LogHoldsHand}
 use Rattle.device_invariant.specs.Upholds.{Upholds}
-use Rattle.cycle_invariant.specs.Leads.{Ticks}
-use Rattle.cycle_invariant.proofs.Ticks.{idle-ticks, choosing-ticks, refused-ticks}
+use Rattle.cycle_simulation.specs.Leads.{Ticks}
+use Rattle.cycle_simulation.proofs.Ticks.{idle-ticks, choosing-ticks, refused-ticks}
 use Rattle.session_steps.specs.declared.sessions.Sessions.{Sessions}
 use Rattle.session_steps.specs.Shows.{plain_drawn, line_numbers}
-use Rattle.session_steps.proofs.Hands.{shows-hand}
+use Rattle.session_steps.proofs.AnyHand.{shows-hand}
 use Rattle.room.specs.Committing.{HoldsHand, HoldsCycle, ShowsIn}
 use Rattle.room.specs.Steps.{StepsToIn}
 use Rattle.room.proofs.Chosen.{reach-same, commits-same, longs-same, idle-same}

@@ -15,8 +15,8 @@ use Rattle.txn.specs.WriteSets.{plain_write}
 use Rattle.group_commit.specs.Choosing.{reach_of, longs_of, commit_of}
 use Rattle.group_commit.specs.Choosing as group
 use Rattle.state_invariant.specs.Kept.{Origin, Keeps}
-use Rattle.cycle_invariant.specs.Batches.{reach_from}
-use Rattle.cycle_invariant.proofs.Passes.{pass-finds}
+use Rattle.cycle_simulation.specs.Batches.{reach_from}
+use Rattle.cycle_simulation.proofs.Passes.{pass-finds}
 use Rattle.session_steps.specs.Shows.{plain_drawn}
 use Rattle.session_steps.proofs.Filters.{filter-map}
 

@@ -16,28 +16,28 @@ use Rattle.pmem.specs.Words.{LeavesOnly}
 use Rattle.pmem.proofs.Images.{leaves_refl}
 use Rattle.device_invariant.specs.Log.{HoldsHand}
 use Rattle.group_commit.specs.Cycles.{Cycling}
-use Rattle.room.specs.declared.committer.Committer.{Committer}
+use Rattle.room.specs.declared.volatile.VolatileState.{VolatileState}
 use Rattle.room.specs.Committing.{HoldsCycle, Shows}
 use Rattle.room.specs.Steps.{ShowsSome}
 use Rattle.room.specs.Closing.{IsClosingRefusal, IsDonePart, IsFailedPart, IsLastPart}
-use Rattle.room.proofs.Parts.{stands-closing, failed_after, last_after}
+use Rattle.room.proofs.CloseParts.{stands-closing, failed_after, last_after}
 
 -- ---- the number of the last record
 
 -- a cycle and a batch in hand go together
-hand-is : (q : State) (c : Committer) (h : Option Hand) (o : Option Cycling) → HoldsCycle q c.sessions.drawn.commits h o → is_some h ≡ is_some o
+hand-is : (q : State) (c : VolatileState) (h : Option Hand) (o : Option Cycling) → HoldsCycle q c.sessions.drawn.commits h o → is_some h ≡ is_some o
 hand-is q c None None holds = refl
 hand-is q c (Some hand) (Some cycle) holds = refl
 hand-is q c None (Some cycle) holds = absurd holds
 hand-is q c (Some hand) None holds = absurd holds
 
-pub gate-is : (c : Committer) (device : Device) (q : State) → Shows c device q → closing_gate q ≡ c.sessions.numbers.record.gate + (if is_some c.cycle then 2 else 1)
+pub gate-is : (c : VolatileState) (device : Device) (q : State) → Shows c device q → closing_gate q ≡ c.sessions.numbers.record.gate + (if is_some c.cycle then 2 else 1)
 gate-is c device q shown =
     ap (λ (b : Bool). q.ruling.gate + (if b then 2 else 1)) (hand-is q c q.hand c.cycle shown.cycle_is)
     ∙ ap (λ (p : State). p.ruling.gate + (if is_some c.cycle then 2 else 1)) shown.shown.plain
 
 -- there are numbers after that of the record that rules
-pub ruling-below : (c : Committer) (device : Device) (q : State) → Shows c device q → c.sessions.numbers.record.gate < 2 ^ 62
+pub ruling-below : (c : VolatileState) (device : Device) (q : State) → Shows c device q → c.sessions.numbers.record.gate < 2 ^ 62
 ruling-below c device q shown = subst (λ (r : Record). r.gate < 2 ^ 62) (ap (λ (p : State). p.ruling) shown.shown.plain) (by q.hand shown.shown.upholds.holds.log)
   where
     by : (h : Option Hand) → HoldsHand q device h → q.ruling.gate < 2 ^ 62
@@ -45,7 +45,7 @@ ruling-below c device q shown = subst (λ (r : Record). r.gate < 2 ^ 62) (ap (λ
     by (Some hand) (inl flushing) = flushing.follows.holds.stands.fits.in_range
     by (Some hand) (inr recording) = recording.replaces.stands.fits.in_range
 
-pub some-below : (c : Committer) (device : Device) → ∥ ShowsSome c device ∥₁ → c.sessions.numbers.record.gate < 2 ^ 62
+pub some-below : (c : VolatileState) (device : Device) → ∥ ShowsSome c device ∥₁ → c.sessions.numbers.record.gate < 2 ^ 62
 some-below c device some = ∥∥₁_elim some le_prop (λ shown. ruling-below c device shown.0 shown.1)
 
 -- ---- why a close is refused
@@ -68,7 +68,7 @@ not-past n less = by_test (nat_le (2 ^ 62) n) refl
 fault-none : (q : State) → q.failed ≡ false → closing_gate q < 2 ^ 62 → closing_fault q ≡ None
 fault-none q works below = fault-of q.failed (nat_le (2 ^ 62) (closing_gate q)) works ∙ ap (λ (b : Bool). cond b (Some TimestampsOut) None) (not-past (closing_gate q) below)
 
-module _ (c : Committer) (before : Device) (gate : ℕ) (is : gate ≡ c.sessions.numbers.record.gate + (if is_some c.cycle then 2 else 1)) where
+module _ (c : VolatileState) (before : Device) (gate : ℕ) (is : gate ≡ c.sessions.numbers.record.gate + (if is_some c.cycle then 2 else 1)) where
   -- nothing is done
   pub unmoved : IsOrderly before → (q : State) → Shows c before q → q.failed ≡ false → LeavesOnly before before (StandsClosing q)
   unmoved orderly q shown works = leaves_refl before (StandsClosing q) orderly (stands-closing c before q shown)
@@ -87,7 +87,7 @@ module _ (c : Committer) (before : Device) (gate : ℕ) (is : gate ≡ c.session
 
     -- ---- the close as a whole
 
-    module _ (new : Committer) (between : Device) (done : IsDonePart c new before between) where
+    module _ (new : VolatileState) (between : Device) (done : IsDonePart c new before between) where
       pub numbered-last : new.cycle ≡ None → ∥ ShowsSome c before ∥₁ → new.sessions.numbers.record.gate + 1 < 2 ^ 62
       numbered-last rests some = ∥∥₁_elim some le_prop (λ shown.
           let at = done.goes_on shown.0 shown.1 shown.2 in

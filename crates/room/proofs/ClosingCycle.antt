@@ -41,26 +41,26 @@ use Rattle.group_commit.specs.Choosing.{closing_record as record_of_close}
 use Rattle.group_commit.specs.Cycles.{Cycling, line_from, flush_or_fence, operation_at, operation_in, next_at, ticked_at, ticked_in}
 use Rattle.group_commit.specs.Laws.{IsCut}
 use Rattle.group_commit.proofs.Counting.{find-cut, cut-next, cut-whole, staged-next}
-use Rattle.cycle_invariant.specs.Batches.{line_numbers}
-use Rattle.cycle_invariant.specs.Closing.{closing_record, IsClosing, AreFlushed, HasPersisted}
-use Rattle.cycle_invariant.proofs.Lasts.{closing-flushes, closing-writes}
-use Rattle.cycle_invariant.proofs.Rising.{lines-within}
+use Rattle.cycle_simulation.specs.Batches.{line_numbers}
+use Rattle.cycle_simulation.specs.Closing.{closing_record, IsClosing, AreFlushed, HasPersisted}
+use Rattle.cycle_simulation.proofs.Lasts.{closing-flushes, closing-writes}
+use Rattle.cycle_simulation.proofs.Rising.{lines-within}
 use Rattle.session_steps.specs.Shows.{plain_drawn}
 use Rattle.session_steps.proofs.BatchLines.{member, table-lines}
 use Rattle.session_steps.proofs.Filters.{any-filter, filter-whole}
 use Rattle.session_steps.proofs.Reading.{words-are}
-use Rattle.room.specs.declared.committer.Committer.{Committer}
+use Rattle.room.specs.declared.volatile.VolatileState.{VolatileState}
 use Rattle.room.specs.Committing.{HoldsCycle, Shows}
 use Rattle.room.specs.Steps.{ShowsSome}
 use Rattle.room.specs.Closing.{IsFailedPart, IsLastPart, left_at, ticks_left}
 use Rattle.room.proofs.Advancing.{found-any, any-has}
 use Rattle.room.proofs.Closes.{gate-is}
-use Rattle.room.proofs.Parts.{stands-closing}
+use Rattle.room.proofs.CloseParts.{stands-closing}
 
 -- ---- what a close goes on from
 
 -- the state is shown on another device that upholds it
-moved : (c : Committer) (old new : Device) (q : State) (shown : Shows c old q) → Upholds shown.shown.hidden.origin q new → Shows c new q
+moved : (c : VolatileState) (old new : Device) (q : State) (shown : Shows c old q) → Upholds shown.shown.hidden.origin q new → Shows c new q
 moved c old new q shown upholds = record {
   shown = record { hidden = shown.shown.hidden; plain = shown.shown.plain; upholds = upholds; agrees = shown.shown.agrees };
   cycle_is = shown.cycle_is;
@@ -70,7 +70,7 @@ no-hand : (q : State) (drawn : List DrawnCommit) (h : Option Hand) → HoldsCycl
 no-hand q drawn None holds = refl
 no-hand q drawn (Some hand) holds = absurd holds
 
-is-closing : (c : Committer) (device : Device) (q : State) (shown : Shows c device q) → q.failed ≡ false → c.cycle ≡ None → list_all is_stamped_whole c.sessions.drawn.commits ≡ true → IsClosing shown.shown.hidden.origin q device
+is-closing : (c : VolatileState) (device : Device) (q : State) (shown : Shows c device q) → q.failed ≡ false → c.cycle ≡ None → list_all is_stamped_whole c.sessions.drawn.commits ≡ true → IsClosing shown.shown.hidden.origin q device
 is-closing c device q shown works rests stamped = record {
   works = works;
   rests = no-hand q c.sessions.drawn.commits q.hand (subst (HoldsCycle q c.sessions.drawn.commits q.hand) rests shown.cycle_is);
@@ -81,20 +81,20 @@ is-closing c device q shown works rests stamped = record {
 }
 
 -- the size of the device
-words-of : (c : Committer) (device : Device) → ∥ ShowsSome c device ∥₁ → IsOrderly device → device.words ≡ total_words c.sessions.numbers.geometry
+words-of : (c : VolatileState) (device : Device) → ∥ ShowsSome c device ∥₁ → IsOrderly device → device.words ≡ total_words c.sessions.numbers.geometry
 words-of c device some orderly = ∥∥₁_elim some (ℕ_set _ _) (λ shown.
     words-are shown.1.shown.hidden.origin shown.0 device orderly shown.1.shown.upholds ∙ ap (λ (p : State). total_words p.layout) shown.1.shown.plain)
 
 -- ---- the lines
 
 -- the sessions are all that drew
-abbrev pub HaveDrawn : Committer → List Bool → Type 0
+abbrev pub HaveDrawn : VolatileState → List Bool → Type 0
 HaveDrawn c sessions = (n : ℕ) → has sessions n ≡ list_any (λ d. nat_eq d.session n) c.sessions.drawn.commits
 
 any-whole : (p : DrawnCommit → Bool) (ds : List DrawnCommit) → list_any p ds ≡ list_any (λ d. p d && true) ds
 any-whole p ds = sym (any-filter p (λ d. true) ds ∙ ap (list_any p) (filter-whole ds))
 
-module _ (c : Committer) (device : Device) (q : State) (sessions : List Bool) (shown : Shows c device q) (drew : HaveDrawn c sessions) where
+module _ (c : VolatileState) (device : Device) (q : State) (sessions : List Bool) (shown : Shows c device q) (drew : HaveDrawn c sessions) where
   drawn-by : (n : ℕ) → has sessions n ≡ list_any (λ d. nat_eq d.session n && true) c.sessions.drawn.commits
   drawn-by n = drew n ∙ any-whole (λ d. nat_eq d.session n) c.sessions.drawn.commits
 
@@ -116,10 +116,10 @@ module _ (c : Committer) (device : Device) (q : State) (sessions : List Bool) (s
 -- ---- the record
 
 -- the record that the cycle writes
-abbrev pub last_record : Committer → Record
+abbrev pub last_record : VolatileState → Record
 last_record c = record_of_close c.sessions.numbers.record c.sessions.numbers.next c.sessions.collector.swept
 
-module _ (c : Committer) (before now : Device) (rests : c.cycle ≡ None) (stamped : list_all is_stamped_whole c.sessions.drawn.commits ≡ true) (numbered : c.sessions.numbers.record.gate + 1 < 2 ^ 62)
+module _ (c : VolatileState) (before now : Device) (rests : c.cycle ≡ None) (stamped : list_all is_stamped_whole c.sessions.drawn.commits ≡ true) (numbered : c.sessions.numbers.record.gate + 1 < 2 ^ 62)
     (q : State) (shown : Shows c before q) (works : q.failed ≡ false) (persisted : HasPersisted q before) (spares : Spares (IsOutside (begun c.sessions.numbers.geometry (last_record c))) before now) where
   closing : IsClosing shown.shown.hidden.origin q before
   closing = is-closing c before q shown works rests stamped
@@ -155,37 +155,37 @@ run-on layout target p old mid new run orderly orderly' staged un made =
 -- ---- how far the cycle has come
 
 -- so many lines are flushed, as far as this state goes
-pub record IsFlushedTo (c : Committer) (before now : Device) (q : State) (count : ℕ) : Type 0 where
+pub record IsFlushedTo (c : VolatileState) (before now : Device) (q : State) (count : ℕ) : Type 0 where
   pub shown : Shows c now q
   pub flushed : AreFlushed q now count
   pub images : LeavesOnly before now (StandsClosing q)
 
 -- what is drawn persists
-pub record IsPersisted (c : Committer) (before now : Device) (q : State) : Type 0 where
+pub record IsPersisted (c : VolatileState) (before now : Device) (q : State) : Type 0 where
   pub shown : Shows c now q
   pub persisted : HasPersisted q now
   pub images : LeavesOnly before now (StandsClosing q)
 
 -- what is drawn persists since some device, and so much of the record is written since
-pub record IsRecording (c : Committer) (before now : Device) (writing : Progress) : Type 0 where
+pub record IsRecording (c : VolatileState) (before now : Device) (writing : Progress) : Type 0 where
   pub between : Device
   pub persists : (q : State) → Shows c before q → q.failed ≡ false → IsPersisted c before between q
   pub run : IsRun c.sessions.numbers.geometry (last_record c) writing between now
   pub staged : IsStage writing.stage
 
-abbrev pub HasCome : Committer → List ℕ → Device → Device → Progress → CycleStage → Type 0
+abbrev pub HasCome : VolatileState → List ℕ → Device → Device → Progress → CycleStage → Type 0
 HasCome c lines before now writing (FlushLines count from) = IsCut lines count from × (writing ≡ begun c.sessions.numbers.geometry (last_record c)) × ((q : State) → Shows c before q → q.failed ≡ false → IsFlushedTo c before now q count)
 HasCome c lines before now writing WriteRecord = IsRecording c before now writing
 
 -- the cycle of a close, on its way
-pub record IsCovering (c : Committer) (before now : Device) (cycle : Cycling) : Type 0 where
+pub record IsCovering (c : VolatileState) (before now : Device) (cycle : Cycling) : Type 0 where
   pub drew : HaveDrawn c cycle.sessions
   pub layout : cycle.writing.layout ≡ c.sessions.numbers.geometry
   pub no_failure : HasNoFailure before now
   pub words : now.words ≡ before.words
   pub come : HasCome c (lines_touched (has cycle.sessions) c.sessions.dirty) before now cycle.writing cycle.stage
 
-pub begins : (c : Committer) (device : Device) (cycle : Cycling) → IsOrderly device → HaveDrawn c cycle.sessions → cycle.writing ≡ begun c.sessions.numbers.geometry (last_record c) → cycle.stage ≡ FlushLines 0 0 → IsCovering c device device cycle
+pub begins : (c : VolatileState) (device : Device) (cycle : Cycling) → IsOrderly device → HaveDrawn c cycle.sessions → cycle.writing ≡ begun c.sessions.numbers.geometry (last_record c) → cycle.stage ≡ FlushLines 0 0 → IsCovering c device device cycle
 begins c device cycle orderly drew writing stage = record {
   drew = drew;
   layout = ap (λ (p : Progress). p.layout) writing;
@@ -198,7 +198,7 @@ begins c device cycle orderly drew writing stage = record {
   );
 }
 
-module _ (c : Committer) (before now : Device) (cycle : Cycling) (so_far : IsCovering c before now cycle) (rests : c.cycle ≡ None) (stamped : list_all is_stamped_whole c.sessions.drawn.commits ≡ true) (numbered : c.sessions.numbers.record.gate + 1 < 2 ^ 62) where
+module _ (c : VolatileState) (before now : Device) (cycle : Cycling) (so_far : IsCovering c before now cycle) (rests : c.cycle ≡ None) (stamped : list_all is_stamped_whole c.sessions.drawn.commits ≡ true) (numbered : c.sessions.numbers.record.gate + 1 < 2 ^ 62) where
   abbrev lines : List ℕ
   lines = lines_touched (has cycle.sessions) c.sessions.dirty
 

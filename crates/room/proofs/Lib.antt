@@ -5,7 +5,7 @@ pub mod Rooms
 pub mod Begun
 pub mod LiveIndex
 pub mod Runs
-pub mod Parts
+pub mod CloseParts
 pub mod Ticked
 pub mod Stamps
 pub mod ClosingCycle

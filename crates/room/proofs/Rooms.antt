@@ -1,4 +1,4 @@
--- What a step makes of a room, from what it makes of its committer.
+-- What a step makes of a room, from what it makes of its volatile state.
 use Rattle.std.proofs.Common.{◌≡◌, inl, inr, Bool, true, false, [], refl, sym, ◌∙◌, subst, arith}
 use Rattle.std.specs.Prelude.{Option, Some, None, slice_index}
 use Rattle.std.proofs.Math.Logic.{∥∥₁_map}
@@ -20,14 +20,14 @@ use Rattle.device_invariant.specs.Log.{HoldsHand as LogHoldsHand}
 use Rattle.device_invariant.proofs.Words.{slots-survive, within-slot}
 use Rattle.device_invariant.proofs.Upheld.{every-image-stands}
 use Rattle.session_steps.specs.Shows.{ShowsAny}
-use Rattle.room.specs.declared.committer.Committer.{Committer}
+use Rattle.room.specs.declared.volatile.VolatileState.{VolatileState}
 use Rattle.room.specs.declared.room.Room.{Room}
 use Rattle.room.specs.Committing.{Shows as CommitterShows}
 use Rattle.room.specs.Steps.{Steps, ShowsSome, ShowsAs}
 use Rattle.room.specs.Room.{Shows, StepsTo, IsClear}
 
--- what a committer shows stands in each image that its device may leave
-pub shown-stands : (c : Committer) (device : Device) (q : State) → CommitterShows c device q → (image : Image) → MayLeave device image → StandsAt q image
+-- what a volatile state shows stands in each image that its device may leave
+pub shown-stands : (c : VolatileState) (device : Device) (q : State) → CommitterShows c device q → (image : Image) → MayLeave device image → StandsAt q image
 shown-stands c device q shows image left = every-image-stands shows.shown.hidden.origin q device image shows.shown.upholds left
 
 -- the device has the words of the layout
@@ -37,16 +37,16 @@ words-of q device (Some hand) (inl flushing) = flushing.follows.holds.stands.siz
 words-of q device (Some hand) (inr recording) = recording.replaces.stands.size
 
 -- and once the gaps are swept it is clear of them
-pub shown-clear : (c : Committer) (device : Device) (q : State) → CommitterShows c device q → q.swept ≡ true → (image : Image) → MayLeave device image → IsClear q image
+pub shown-clear : (c : VolatileState) (device : Device) (q : State) → CommitterShows c device q → q.swept ≡ true → (image : Image) → MayLeave device image → IsClear q image
 shown-clear c device q shows swept image left slot w lt two =
     let holds = shows.shown.upholds.holds in
     let survives = (slots-survive {a = q.layout} {device = device} (words-of q device q.hand holds.log) left).each slot w lt (within-slot q.layout.version w (omega (arith, two))) in
     (holds.sweeping.over swept slot w lt two).each (slice_index image (word_of q.layout slot w)) survives
 
 module _ {D : Type 0} {G : Ghosts D} (state : D → Device) where
-  -- a room whose device doesn't fail steps as its committer does
+  -- a room whose device doesn't fail steps as its volatile state does
   pub step-on : (old new : Room D G) (step : Step) (reply : Reply) → old.failed ≡ false → new.failed ≡ is_failure reply
-      → Steps old.committer new.committer (state old.device) (state new.device) step reply → (q : State) → Shows state old q → (q' : State) × StepsTo state old new step reply q q'
+      → Steps old.volatile new.volatile (state old.device) (state new.device) step reply → (q : State) → Shows state old q → (q' : State) × StepsTo state old new step reply q q'
   step-on old new step reply works tells steps q shows =
       let agrees = shows.agrees in
       let here : q.failed ≡ false = agrees.failed ∙ works in
@@ -55,8 +55,8 @@ module _ {D : Type 0} {G : Ghosts D} (state : D → Device) where
         record {
           stepped = one.1.stepped;
           shows = record {
-            stands = shown-stands new.committer (state new.device) one.0 one.1.shows;
-            swept = shown-clear new.committer (state new.device) one.0 one.1.shows;
+            stands = shown-stands new.volatile (state new.device) one.0 one.1.shows;
+            swept = shown-clear new.volatile (state new.device) one.0 one.1.shows;
             agrees = record { shown = one.1.shows; failed = failed-after q step reply one.0 one.1.stepped here ∙ sym tells };
           };
           images = one.1.images;
@@ -88,14 +88,14 @@ module _ {D : Type 0} {G : Ghosts D} (state : D → Device) where
 -- ---- that some state is shown
 
 -- one that hasn't failed, where the room says so
-pub shows-some : (c : Committer) (device : Device) (failed : Bool) → failed ≡ false → ∥ ShowsAs c device failed ∥₁ → ∥ ShowsSome c device ∥₁
+pub shows-some : (c : VolatileState) (device : Device) (failed : Bool) → failed ≡ false → ∥ ShowsAs c device failed ∥₁ → ∥ ShowsSome c device ∥₁
 shows-some c device failed works some = subst (λ (b : Bool). ∥ ShowsAs c device b ∥₁) works some
 
 -- and after a step, failed where the step reports it
-pub shows-then : (old new : Committer) (before now : Device) (step : Step) (reply : Reply) (failed : Bool) → failed ≡ is_failure reply → Steps old new before now step reply → ∥ ShowsSome old before ∥₁ → ∥ ShowsAs new now failed ∥₁
+pub shows-then : (old new : VolatileState) (before now : Device) (step : Step) (reply : Reply) (failed : Bool) → failed ≡ is_failure reply → Steps old new before now step reply → ∥ ShowsSome old before ∥₁ → ∥ ShowsAs new now failed ∥₁
 shows-then old new before now step reply failed tells steps some =
     ∥∥₁_map some (λ shown. let one = steps shown.0 shown.1 shown.2 in (one.0, one.1.shows, failed-after shown.0 step reply one.0 one.1.stepped shown.2 ∙ sym tells))
 
 -- the sessions show it
-pub sessions-show : (c : Committer) (device : Device) (failed : Bool) → ∥ ShowsAs c device failed ∥₁ → ∥ ShowsAny c.sessions device ∥₁
+pub sessions-show : (c : VolatileState) (device : Device) (failed : Bool) → ∥ ShowsAs c device failed ∥₁ → ∥ ShowsAny c.sessions device ∥₁
 sessions-show c device failed some = ∥∥₁_map some (λ shown. (shown.0, shown.1.shown))

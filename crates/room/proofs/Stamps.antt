@@ -27,19 +27,19 @@ use Rattle.txn.specs.Transactions.{transaction_at}
 use Rattle.txn.proofs.Plain.{length-plain_writes}
 use Rattle.state_invariant.proofs.Choosing.{any-by_timestamp}
 use Rattle.state_invariant.proofs.Lists.{find-any, find-map}
-use Rattle.cycle_invariant.specs.Closing.{ClosesAs}
-use Rattle.cycle_invariant.proofs.Closings.{closes-on}
+use Rattle.cycle_simulation.specs.Closing.{ClosesAs}
+use Rattle.cycle_simulation.proofs.Closings.{closes-on}
 use Rattle.session_steps.specs.declared.sessions.Sessions.{Sessions}
 use Rattle.session_steps.specs.Shows.{plain_drawn, HoldsDrawn, Shows as SessionsShow}
 use Rattle.session_steps.specs.Steps.{Steps, ShowsSome as SessionsShowSome}
-use Rattle.session_steps.proofs.Quiet.{found, not-both}
+use Rattle.session_steps.proofs.OneTransaction.{found, not-both}
 use Rattle.session_steps.proofs.Refusals.{passes}
 use Rattle.session_steps.proofs.Stamped.{found-all, one-at}
-use Rattle.room.specs.declared.committer.Committer.{Committer}
+use Rattle.room.specs.declared.volatile.VolatileState.{VolatileState}
 use Rattle.room.specs.Committing.{HoldsCycle, Shows}
 use Rattle.room.specs.Steps.{ShowsSome}
 use Rattle.room.specs.Closing.{IsDonePart, IsFailedPart, unstamped_session}
-use Rattle.room.proofs.Parts.{device-fault}
+use Rattle.room.proofs.CloseParts.{device-fault}
 
 -- ---- how many writes are left
 
@@ -198,12 +198,12 @@ still-none : (q q' : State) (ds ds' : List DrawnCommit) (h : Option Hand) → Ho
 still-none q q' ds ds' None none = tt
 still-none q q' ds ds' (Some hand) none = none
 
-pub sessions-shown : (c : Committer) (device : Device) → ∥ ShowsSome c device ∥₁ → ∥ SessionsShowSome c.sessions device ∥₁
+pub sessions-shown : (c : VolatileState) (device : Device) → ∥ ShowsSome c device ∥₁ → ∥ SessionsShowSome c.sessions device ∥₁
 sessions-shown c device some = ∥∥₁_map some (λ shown. (shown.0, shown.1.shown, shown.2))
 
-module _ (old : Committer) (new : Sessions) (before now : Device) (n : ℕ) (r : SessionReply) (rests : old.cycle ≡ None) (some : ∥ ShowsSome old before ∥₁) (is : unstamped_session old.sessions.drawn.commits ≡ Some n)
+module _ (old : VolatileState) (new : Sessions) (before now : Device) (n : ℕ) (r : SessionReply) (rests : old.cycle ≡ None) (some : ∥ ShowsSome old before ∥₁) (is : unstamped_session old.sessions.drawn.commits ≡ Some n)
     (steps : Steps old.sessions new before now (Stamp n) r) where
-  abbrev after : Committer
+  abbrev after : VolatileState
   after = record { sessions = new; cycle = old.cycle }
 
   next : IsNext old.sessions n

@@ -32,13 +32,13 @@ use Rattle.group_commit.specs.Laws.{IsAfter}
 use Rattle.device_invariant.specs.Log.{Line, line_number, lines_in}
 use Rattle.state_invariant.specs.Kept.{Origin, Keeps}
 use Rattle.state_invariant.proofs.Commits.{uncommitted-above}
-use Rattle.cycle_invariant.proofs.Staying.{lines-stay}
+use Rattle.cycle_simulation.proofs.Staying.{lines-stay}
 use Rattle.session_steps.specs.declared.sessions.Sessions.{Sessions}
 use Rattle.session_steps.specs.Shows.{plain_drawn, line_numbers, Shows as SessionsShow}
 use Rattle.session_steps.specs.Steps.{RunsBy, Drawers, Steps as SessionSteps}
 use Rattle.session_steps.specs.Collecting.{Collects}
 use Rattle.session_steps.specs.Collecting as visit
-use Rattle.room.specs.declared.committer.Committer.{Committer}
+use Rattle.room.specs.declared.volatile.VolatileState.{VolatileState}
 use Rattle.room.specs.Committing.{HoldsHand, HoldsCycle, ShowsIn}
 use Rattle.room.specs.Steps.{actor_of, StepsToIn, StepsIn}
 
@@ -254,7 +254,7 @@ session-steps old new cycle before now s r steps q shows works =
     )
 
 -- the same, under the names of the machine
-pub steps-named : (old : Sessions) (new : Committer) (before now : Device) (s : SessionStep) (step : Step) (r : SessionReply) (reply : Reply) → as_step s ≡ step → reply ≡ as_reply r
+pub steps-named : (old : Sessions) (new : VolatileState) (before now : Device) (s : SessionStep) (step : Step) (r : SessionReply) (reply : Reply) → as_step s ≡ step → reply ≡ as_reply r
     → SessionSteps old new.sessions before now s r → StepsIn old new.cycle new before now step reply
 steps-named old new before now s step r reply is told steps = λ q shows works.
     subst (λ (x : Step). (q' : State) × StepsToIn new.sessions new.cycle before now x reply q q') is
@@ -284,6 +284,6 @@ visit-steps old new cycle before now r steps q shows works =
     )
 
 -- the same, under the reply of the machine
-pub visits-named : (old : Sessions) (new : Committer) (before now : Device) (r : Result Visit Fault) (reply : Reply) → visit.as_reply r ≡ reply → Collects old new.sessions before now r → StepsIn old new.cycle new before now Collect reply
+pub visits-named : (old : Sessions) (new : VolatileState) (before now : Device) (r : Result Visit Fault) (reply : Reply) → visit.as_reply r ≡ reply → Collects old new.sessions before now r → StepsIn old new.cycle new before now Collect reply
 visits-named old new before now r reply is steps = λ q shows works.
     subst (λ (x : Reply). (q' : State) × StepsToIn new.sessions new.cycle before now Collect x q q') is (visit-steps old new.sessions new.cycle before now r steps q shows works)

@@ -16,13 +16,13 @@ use Rattle.pmem.specs.Device.{Device}
 use Rattle.pmem.specs.Words.{LeavesOnly}
 use Rattle.pmem.proofs.Images.{leaves_weaken}
 use Rattle.group_commit.specs.Cycles.{Cycling}
-use Rattle.cycle_invariant.proofs.Closings.{closes-on}
-use Rattle.cycle_invariant.proofs.Ticks.{refusal-in_hand}
-use Rattle.room.specs.declared.committer.Committer.{Committer}
+use Rattle.cycle_simulation.proofs.Closings.{closes-on}
+use Rattle.cycle_simulation.proofs.Ticks.{refusal-in_hand}
+use Rattle.room.specs.declared.volatile.VolatileState.{VolatileState}
 use Rattle.room.specs.Committing.{HoldsCycle, ShowsIn, Shows}
 use Rattle.room.specs.Steps.{StepsIn, ShowsSome, ShowsSomeIn}
 use Rattle.room.specs.Closing.{IsDonePart, IsFailedPart}
-use Rattle.room.proofs.Parts.{device-fault}
+use Rattle.room.proofs.CloseParts.{device-fault}
 
 -- ---- what a tick of a cycle comes to
 
@@ -64,10 +64,10 @@ module _ (q q' : State) (hand : Hand) (reply : Reply) (in_hand : q.hand ≡ Some
 -- ---- a part
 
 -- the committer's cycle is this one
-pub shown-with : (old : Committer) (cycle : Cycling) (device : Device) → old.cycle ≡ Some cycle → ∥ ShowsSome old device ∥₁ → ∥ ShowsSomeIn old.sessions (Some cycle) device ∥₁
+pub shown-with : (old : VolatileState) (cycle : Cycling) (device : Device) → old.cycle ≡ Some cycle → ∥ ShowsSome old device ∥₁ → ∥ ShowsSomeIn old.sessions (Some cycle) device ∥₁
 shown-with old cycle device in_hand some = subst (λ (o : Option Cycling). ∥ ShowsSomeIn old.sessions o device ∥₁) in_hand some
 
-module _ (old : Committer) (cycle : Cycling) (new : Committer) (before now : Device) (reply : Reply) (in_hand : old.cycle ≡ Some cycle) (some : ∥ ShowsSome old before ∥₁)
+module _ (old : VolatileState) (cycle : Cycling) (new : VolatileState) (before now : Device) (reply : Reply) (in_hand : old.cycle ≡ Some cycle) (some : ∥ ShowsSome old before ∥₁)
     (steps : StepsIn old.sessions (Some cycle) new before now CommitTick reply) where
   with-cycle : (q : State) → Shows old before q → ShowsIn old.sessions (Some cycle) before q
   with-cycle q shown = subst (λ (o : Option Cycling). ShowsIn old.sessions o before q) in_hand shown

@@ -1,4 +1,4 @@
--- What the parts of a close make of a committer and its device.
+-- What the parts of a close make of the volatile state and its device.
 use Rattle.std.specs.Prelude.{◌≡◌, ◌⊎◌, ℕ, ◌+◌, ◌-◌, ◌<◌, false, not, List, length, find, Option, None, Some}
 use Rattle.std.specs.Option.{option_map}
 use Rattle.base.specs.declared.fault.Fault.{Fault}
@@ -16,8 +16,8 @@ use Rattle.group_commit.specs.declared.stage.CycleStage.TheVariants.{FlushLines,
 use Rattle.group_commit.specs.Cycles.{Cycling}
 use Rattle.txn.specs.declared.drawn.DrawnCommit.{DrawnCommit}
 use Rattle.txn.specs.DrawnCommits.{is_stamped}
-use Rattle.cycle_invariant.specs.Closing.{ClosesAs}
-use Rattle.room.specs.declared.committer.Committer.{Committer}
+use Rattle.cycle_simulation.specs.Closing.{ClosesAs}
+use Rattle.room.specs.declared.volatile.VolatileState.{VolatileState}
 use Rattle.room.specs.Committing.{Shows}
 
 -- The fault is why the close is refused, and then nothing was done to the device; or it is Device, where the close is not
@@ -28,25 +28,25 @@ IsClosingRefusal q old new fault =
     ⊎ ((closing_fault q ≡ None) × (fault ≡ DeviceFault) × (old.failures < new.failures))
 
 -- a state is shown from which the close goes on
-pub record GoesOnFrom (new : Committer) (before now : Device) (q q' : State) : Type 0 where
+pub record GoesOnFrom (new : VolatileState) (before now : Device) (q q' : State) : Type 0 where
   pub shows : Shows new now q'
   pub works : q'.failed ≡ false
   pub closes : ClosesAs q q'
   pub images : LeavesOnly before now (StandsClosing q)
 
 -- part of a close is done, and nothing failed
-pub record IsDonePart (old new : Committer) (before now : Device) : Type 0 where
+pub record IsDonePart (old new : VolatileState) (before now : Device) : Type 0 where
   pub no_failure : HasNoFailure before now
   pub goes_on : (q : State) → Shows old before q → q.failed ≡ false → (q' : State) × GoesOnFrom new before now q q'
 
 -- an operation failed in it
-pub record IsFailedPart (old : Committer) (before now : Device) (fault : Fault) : Type 0 where
+pub record IsFailedPart (old : VolatileState) (before now : Device) (fault : Fault) : Type 0 where
   pub fault_is : fault ≡ DeviceFault
   pub failure : before.failures < now.failures
   pub images : (q : State) → Shows old before q → q.failed ≡ false → LeavesOnly before now (StandsClosing q)
 
 -- all that was drawn is covered: a crash meanwhile left what a close may leave, and now leaves what one leaves
-pub record IsLastPart (old : Committer) (before now : Device) : Type 0 where
+pub record IsLastPart (old : VolatileState) (before now : Device) : Type 0 where
   pub no_failure : HasNoFailure before now
   pub images : (q : State) → Shows old before q → q.failed ≡ false → LeavesOnly before now (StandsClosing q)
   pub closed : (q : State) → Shows old before q → q.failed ≡ false → (image : Image) → MayLeave now image → StandsClosed q image

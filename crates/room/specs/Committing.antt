@@ -1,4 +1,4 @@
--- Which plain states a committer shows on a device.
+-- Which plain states a room's volatile state shows on a device.
 use Rattle.std.specs.Prelude.{◌≡◌, ◌≢◌, ℕ, ◌&&◌, nat_eq, List, Option, Some, None}
 use Rattle.std.specs.List.{list_any}
 use Rattle.base.specs.Machine.{State, Hand, batch_of}
@@ -11,7 +11,7 @@ use Rattle.group_commit.specs.Cycles.{Cycling}
 use Rattle.group_commit.specs.Laws.{IsAfter}
 use Rattle.session_steps.specs.Shows.{line_numbers, Shows as SessionsShow}
 use Rattle.session_steps.specs.declared.sessions.Sessions.{Sessions}
-use Rattle.room.specs.declared.committer.Committer.{Committer}
+use Rattle.room.specs.declared.volatile.VolatileState.{VolatileState}
 
 -- The cycle is that of the batch in hand, after the ticks that were made for it: the cycle's sessions drew the commits that its
 -- record commits, and its last operation isn't made
@@ -35,5 +35,5 @@ pub record ShowsIn (sessions : Sessions) (cycle : Option Cycling) (device : Devi
   pub shown : SessionsShow sessions device q
   pub cycle_is : HoldsCycle q sessions.drawn.commits q.hand cycle
 
-abbrev pub Shows : Committer → Device → State → Type 0
+abbrev pub Shows : VolatileState → Device → State → Type 0
 Shows c device q = ShowsIn c.sessions c.cycle device q

@@ -1,4 +1,4 @@
--- What an opening makes of a device and its committer.
+-- What an opening makes of a device and its volatile state.
 use Rattle.std.specs.Prelude.{◌≡◌, ℕ, Bool, List, None}
 use Rattle.base.specs.Layout.{Layout}
 use Rattle.base.specs.Records.{Record}
@@ -6,10 +6,10 @@ use Rattle.pmem.specs.Device.{Device}
 use Rattle.recovery.specs.Opened.{HasOpened}
 use Rattle.recovery.specs.declared.rows.LiveSlot.{LiveSlot}
 use Rattle.session_steps.specs.Opening.{ShowsOpened}
-use Rattle.room.specs.declared.committer.Committer.{Committer}
+use Rattle.room.specs.declared.volatile.VolatileState.{VolatileState}
 
--- the device was opened, the committer's sessions show each state in which a life begins on it so, and nothing is in hand
-pub record HasBegun (old new : Device) (c : Committer) : Type 0 where
+-- the device was opened, the sessions show each state in which a life begins on it so, and nothing is in hand
+pub record HasBegun (old new : Device) (c : VolatileState) : Type 0 where
   pub layout : Layout
   pub ruling : Record
   pub next : ℕ

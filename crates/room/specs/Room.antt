@@ -21,9 +21,9 @@ use Rattle.room.specs.declared.status.Status.{Status}
 abbrev pub device_of : {D : Type 0} → {G : Ghosts D} → (D → Device) → Room D G → Device
 device_of state room = state room.device
 
--- the committer shows the state on the room's device, and the mark says whether the device failed
+-- the volatile state shows the state on the room's device, and the mark says whether the device failed
 pub record Agrees {D : Type 0} {G : Ghosts D} (state : D → Device) (room : Room D G) (q : State) : Type 0 where
-  pub shown : CommitterShows room.committer (device_of state room) q
+  pub shown : CommitterShows room.volatile (device_of state room) q
   pub failed : q.failed ≡ room.failed
 
 -- no begin and no end of a slot lies in a gap of the state's record

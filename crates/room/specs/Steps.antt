@@ -1,4 +1,4 @@
--- What a step makes of a committer and its device.
+-- What a step makes of the volatile state and its device.
 use Rattle.std.specs.Prelude.{◌≡◌, ℕ, ◌+◌, ◌≤◌, Bool, false, Option, Some}
 use Rattle.base.specs.declared.fault.Fault.TheVariants.{Device as DeviceFault}
 use Rattle.base.specs.declared.step.Step.{Step}
@@ -12,7 +12,7 @@ use Rattle.pmem.specs.Words.{LeavesOnly, operations_of}
 use Rattle.group_commit.specs.Cycles.{Cycling}
 use Rattle.session_steps.specs.declared.sessions.Sessions.{Sessions}
 use Rattle.session_steps.specs.Steps.{TellsFailure, Declines, RunsBy}
-use Rattle.room.specs.declared.committer.Committer.{Committer}
+use Rattle.room.specs.declared.volatile.VolatileState.{VolatileState}
 use Rattle.room.specs.Committing.{ShowsIn}
 
 -- who flushes and fences for a step: its session, for a tick the committer, and for a visit the collector
@@ -31,23 +31,23 @@ pub record StepsToIn (sessions : Sessions) (cycle : Option Cycling) (before now 
   pub actor : RunsBy (actor_of step) before now
   pub declined : Declines before now (λ fault. reply ≡ Refused fault)
 
-abbrev pub StepsTo : Committer → Device → Device → Step → Reply → State → State → Type 0
+abbrev pub StepsTo : VolatileState → Device → Device → Step → Reply → State → State → Type 0
 StepsTo new before now step reply q q' = StepsToIn new.sessions new.cycle before now step reply q q'
 
 -- so it does from every state that was shown and that hadn't failed
-abbrev pub StepsIn : Sessions → Option Cycling → Committer → Device → Device → Step → Reply → Type 0
+abbrev pub StepsIn : Sessions → Option Cycling → VolatileState → Device → Device → Step → Reply → Type 0
 StepsIn sessions cycle new before now step reply = (q : State) → ShowsIn sessions cycle before q → q.failed ≡ false → (q' : State) × StepsTo new before now step reply q q'
 
-abbrev pub Steps : Committer → Committer → Device → Device → Step → Reply → Type 0
+abbrev pub Steps : VolatileState → VolatileState → Device → Device → Step → Reply → Type 0
 Steps old new before now step reply = StepsIn old.sessions old.cycle new before now step reply
 
 -- some state is shown that hasn't failed
 abbrev pub ShowsSomeIn : Sessions → Option Cycling → Device → Type 0
 ShowsSomeIn sessions cycle device = (q : State) × ShowsIn sessions cycle device q × (q.failed ≡ false)
 
-abbrev pub ShowsSome : Committer → Device → Type 0
+abbrev pub ShowsSome : VolatileState → Device → Type 0
 ShowsSome c device = ShowsSomeIn c.sessions c.cycle device
 
 -- some state is shown, failed or not as this says
-abbrev pub ShowsAs : Committer → Device → Bool → Type 0
+abbrev pub ShowsAs : VolatileState → Device → Bool → Type 0
 ShowsAs c device failed = (q : State) × ShowsIn c.sessions c.cycle device q × (q.failed ≡ failed)

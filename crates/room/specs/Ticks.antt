@@ -1,10 +1,10 @@
--- What a tick that chooses a batch asks, and what it makes of a committer.
+-- What a tick that chooses a batch asks, and what it makes of a room's volatile state.
 use Rattle.std.specs.Prelude.{None}
 use Rattle.base.specs.declared.step.Step.TheVariants.{Commit as CommitTick}
 use Rattle.base.specs.declared.step.Reply.{Reply}
 use Rattle.pmem.specs.Device.{Device, IsOrderly}
 use Rattle.session_steps.specs.declared.sessions.Sessions.{Sessions}
-use Rattle.room.specs.declared.committer.Committer.{Committer}
+use Rattle.room.specs.declared.volatile.VolatileState.{VolatileState}
 use Rattle.room.specs.Steps.{ShowsSomeIn, StepsIn}
 
 -- with nothing in hand, some state that hasn't failed is shown on some device
@@ -12,5 +12,5 @@ abbrev pub ShowsResting : Sessions → Type 0
 ShowsResting sessions = (device : Device) × ShowsSomeIn sessions None device
 
 -- the tick is one that makes no operation, on whatever device
-abbrev pub TicksQuietly : Sessions → Committer → Reply → Type 0
+abbrev pub TicksQuietly : Sessions → VolatileState → Reply → Type 0
 TicksQuietly old new reply = (device : Device) → IsOrderly device → StepsIn old None new device device CommitTick reply

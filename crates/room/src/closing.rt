@@ -28,13 +28,13 @@ impl<D: Pmem + Drop> Room<D> {
         let Room {
             alloc,
             mut device,
-            mut committer,
+            mut volatile,
             failed,
         } = self;
         if failed {
             return Err((Fault::Failed, device));
         }
-        match committer.close(alloc, &mut device) {
+        match volatile.close(alloc, &mut device) {
             Ok(()) => Ok(device),
             Err(fault) => Err((fault, device)),
         }

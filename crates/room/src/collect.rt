@@ -1,9 +1,9 @@
-use crate::committer::Committer;
+use crate::volatile::VolatileState;
 use base::step::Reply;
 use collector::Visit;
 use pmem::Pmem;
 
-impl Committer {
+impl VolatileState {
     ghost use Rattle.base.specs.declared.step.Step.TheVariants.{Collect};
     ghost use Rattle.room.specs.Steps.{ShowsSome, Steps};
 

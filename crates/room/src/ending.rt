@@ -1,11 +1,11 @@
-use crate::committer::Committer;
+use crate::volatile::VolatileState;
 use base::NUMBER_LIMIT;
 use base::fault::Fault;
 use group_commit::Cycle;
 use pmem::Pmem;
 use std::alloc::Global;
 
-impl Committer {
+impl VolatileState {
     ghost use Rattle.std.specs.Prelude.{◌≡◌, ◌+◌, ◌^◌, ◌<◌, false, None, IfErr, OnOk, IsTrue};
     ghost use Rattle.std.specs.List.{list_all};
     ghost use Rattle.base.specs.Images.{Image};

@@ -1,9 +1,9 @@
-use crate::committer::Committer;
+use crate::volatile::VolatileState;
 use base::fault::Fault;
 use base::step::Reply;
 use pmem::Pmem;
 
-impl Committer {
+impl VolatileState {
     ghost use Rattle.std.specs.Prelude.{◌≡◌, None, IfErr, OnOk};
     ghost use Rattle.room.specs.Steps.{ShowsSome};
     ghost use Rattle.room.specs.Closing.{IsDonePart, IsFailedPart};

@@ -3,7 +3,6 @@
 
 mod closing;
 mod collect;
-mod committer;
 mod ending;
 mod finishing;
 mod indexing;
@@ -15,6 +14,7 @@ mod status;
 mod step;
 mod tables;
 mod tick;
+mod volatile;
 
 pub use law::steps_run;
 pub use room::Room;

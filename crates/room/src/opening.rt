@@ -8,7 +8,7 @@ ghost use Rattle.recovery.specs.Opened.{IsRefusal, MakesOpening};
 ghost use Rattle.recovery.specs.Read.{TellsLogFault};
 ghost use Rattle.room.specs.Opening.{HasBegun};
 
-use crate::committer::Committer;
+use crate::volatile::VolatileState;
 use crate::indexing::index_of;
 use crate::room::Room;
 use base::fault::Fault;
@@ -63,10 +63,10 @@ impl<D: Pmem + Drop + Send + Sync> Room<D> {
     {
         let mut device = device;
         match begin(rt, alloc, &mut device) {
-            Ok(committer) => Ok(Room {
+            Ok(volatile) => Ok(Room {
                 alloc,
                 device,
-                committer,
+                volatile,
                 failed: false,
             }),
             Err(fault) => Err((fault, device)),
@@ -79,7 +79,7 @@ fn begin<R: Threads + Sync, D: Pmem + Sync>(
     rt: &R,
     alloc: Global,
     device: &mut D,
-) -> Result<Committer, Fault>
+) -> Result<VolatileState, Fault>
     requires at_rest { IsAtRest (D.state device.old) }
     ensures ok { IfOk result (HasBegun (D.state device.old) (D.state device.new)) }
     ensures fault { IfErr result (IsRefusal (opening_fault (image_of (D.state device.old))) (D.state device.old) (D.state device.new)) }
@@ -104,5 +104,5 @@ fn begin<R: Threads + Sync, D: Pmem + Sync>(
         Err(fault) => return Err(fault),
     };
     let sessions = Sessions::open(alloc, index, slots, life.geometry, life.ruling, life.next);
-    Ok(Committer::new(sessions))
+    Ok(VolatileState::new(sessions))
 }

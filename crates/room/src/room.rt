@@ -1,7 +1,7 @@
 ghost use Rattle.std.specs.Prelude.{◌≡◌, false};
 ghost use Rattle.room.specs.Steps.{ShowsAs};
 
-use crate::committer::Committer;
+use crate::volatile::VolatileState;
 use crate::status::Status;
 use base::fault::Fault;
 use base::geometry::Geometry;
@@ -16,9 +16,9 @@ use std::alloc::Global;
 pub struct Room<D: Pmem> {
     pub(crate) alloc: Global,
     pub(crate) device: D,
-    pub(crate) committer: Committer,
+    pub(crate) volatile: VolatileState,
     pub(crate) failed: bool,
-    ghost shown: { ∥ ShowsAs committer (D.state device) failed ∥₁ },
+    ghost shown: { ∥ ShowsAs volatile (D.state device) failed ∥₁ },
 }
 
 impl<D: Pmem + Drop> Room<D> {
@@ -35,7 +35,7 @@ impl<D: Pmem + Drop> Room<D> {
         if self.failed {
             return Reply::Refused(Fault::Failed);
         }
-        let reply = self.committer.step(self.alloc, &mut self.device, step);
+        let reply = self.volatile.step(self.alloc, &mut self.device, step);
         self.failed = reply.is_failure();
         reply
     }
@@ -60,7 +60,7 @@ impl<D: Pmem + Drop> Room<D> {
     pub fn closing_gate(&self) -> u64
         ensures { (q : State) → Shows D.state self.now q → q.failed ≡ false → result ≡ closing_gate q }
     {
-        self.committer.closing_gate()
+        self.volatile.closing_gate()
     }
 
     /// The covered rows by rising key, also once the device has failed.
@@ -68,7 +68,7 @@ impl<D: Pmem + Drop> Room<D> {
         ensures ok { IfOk result (λ rows. (q : State) → Shows D.state self.now q → Lists rows.items (after q.history)) }
         ensures fault { IfErr result (λ fault. fault ≡ OutOfMemory) }
     {
-        self.committer.tables(self.alloc, &self.device)
+        self.volatile.tables(self.alloc, &self.device)
     }
 
     /// The device as it is.
@@ -82,14 +82,14 @@ impl<D: Pmem + Drop> Room<D> {
     pub fn geometry(&self) -> Geometry
         ensures { (q : State) → Shows D.state self.now q → result ≡ q.layout }
     {
-        self.committer.numbers().geometry
+        self.volatile.numbers().geometry
     }
 
     /// The numbers. It takes no memory.
     pub fn status(&self) -> Status
         ensures { (q : State) → Shows D.state self.now q → ShowsStatus q result }
     {
-        let numbers = self.committer.numbers();
+        let numbers = self.volatile.numbers();
         Status {
             gate: numbers.record.gate(),
             persisted: numbers.record.persisted(),

@@ -1,9 +1,9 @@
-use crate::committer::Committer;
+use crate::volatile::VolatileState;
 use base::fault::Fault;
 use base::step::{SessionReply, SessionStep};
 use pmem::Pmem;
 
-impl Committer {
+impl VolatileState {
     ghost use Rattle.std.specs.Prelude.{◌≡◌, None, IfErr, OnOk, IsTrue};
     ghost use Rattle.std.specs.List.{list_all};
     ghost use Rattle.txn.specs.DrawnCommits.{is_stamped};

@@ -1,11 +1,11 @@
-use crate::committer::Committer;
+use crate::volatile::VolatileState;
 use base::fault::Fault;
 use base::key::Key;
 use base::row::Row;
 use pmem::Pmem;
 use std::alloc::Global;
 
-impl Committer {
+impl VolatileState {
     ghost use Rattle.std.specs.Prelude.{◌≡◌, IfOk, IfErr};
     ghost use Rattle.base.specs.Commits.{after, Lists};
     ghost use Rattle.base.specs.Machine.{State};
@@ -13,7 +13,7 @@ impl Committer {
     ghost use Rattle.session_steps.specs.Shows.{ShowsAny};
     ghost use Rattle.room.specs.Committing.{Shows};
 
-    // The covered rows by rising key, on the device on which the committer shows a plain state, a failed one too.
+    // The covered rows by rising key, on the device on which the volatile state shows a plain state, a failed one too.
     pub(crate) fn tables<D: Pmem>(
         &self,
         alloc: Global,

@@ -1,11 +1,11 @@
-use crate::committer::Committer;
+use crate::volatile::VolatileState;
 use base::fault::Fault;
 use base::step::{Reply, Stage};
 use group_commit::{Covered, Cycle, is_idle};
 use pmem::Pmem;
 use std::alloc::Global;
 
-impl Committer {
+impl VolatileState {
     ghost use Rattle.std.specs.Prelude.{◌≡◌, ◌≢◌, ◌<◌, Some, None};
     ghost use Rattle.base.specs.declared.step.Step.TheVariants.{Commit};
     ghost use Rattle.log_area.specs.declared.stage.WritingStage.TheVariants.{Done};

@@ -11,10 +11,10 @@ use Rattle.base.specs.Records.{are_rising}
 use Rattle.dirty_table.specs.declared.touches.Touch.{Touch}
 use Rattle.dirty_table.specs.Touches.{has, is_touched, lines_touched}
 use Rattle.dirty_table.proofs.Tables.{lines_touched-any}
-use Rattle.cycle_invariant.specs.Batches.{line_numbers, is_line_of}
+use Rattle.cycle_simulation.specs.Batches.{line_numbers, is_line_of}
 use Rattle.txn.specs.declared.drawn.DrawnCommit.{DrawnCommit}
 use Rattle.session_steps.specs.Shows.{plain_drawn, HoldsLines}
-use Rattle.cycle_invariant.proofs.Rising.{lines-are_in_order}
+use Rattle.cycle_simulation.proofs.Rising.{lines-are_in_order}
 use Rattle.session_steps.proofs.Filters.{filter-map, any-filter}
 
 map-map : {X Y Z : Type 0} (f : X → Y) (g : Y → Z) (xs : List X) → map g (map f xs) ≡ map (λ x. g (f x)) xs

@@ -11,10 +11,10 @@ use Rattle.index.specs.Entries.{entry_at, live_of}
 use Rattle.state_invariant.specs.Kept.{Origin}
 use Rattle.device_invariant.specs.Slots.{newest_of}
 use Rattle.session_steps.specs.declared.sessions.Sessions.{Sessions}
-use Rattle.session_invariant.specs.Sees.{Sees}
+use Rattle.session_laws.specs.Sees.{Sees}
 use Rattle.session_steps.specs.Shows.{Hidden, plain_of, HoldsSession, HoldsDrawn, Agrees}
 use Rattle.session_steps.proofs.OneSet.{each-set}
-use Rattle.session_steps.proofs.Kept.{SameBut, Moves, slot-kept, version-kept, version-before, writes-kept, table-kept}
+use Rattle.session_steps.proofs.HeldSlots.{SameBut, Moves, slot-kept, version-kept, version-before, writes-kept, table-kept}
 
 -- what holds of a session that isn't the one
 pub session-kept : (o : Origin) (n m : ℕ) (q q' : State) (seen : ℕ) (t : Option Transaction) → SameBut n q q' → ((snapshot : _) → Sees o q snapshot seen → Sees o q' snapshot seen) → nat_eq m n ≡ false

@@ -32,14 +32,14 @@ use Rattle.state_invariant.proofs.Covering.{batch-drawn, found-left}
 use Rattle.state_invariant.proofs.Lists.{rising-above, rising-rest}
 use Rattle.device_invariant.specs.Slots.{newest_of}
 use Rattle.device_invariant.specs.Log.{is_ended}
-use Rattle.session_invariant.specs.Laws.{is_covered_by, CoversByRecord}
-use Rattle.session_invariant.proofs.Batches.{covers-batch}
-use Rattle.step_invariant.specs.Moves.{IsSlotOf}
+use Rattle.session_laws.specs.Laws.{is_covered_by, CoversByRecord}
+use Rattle.session_laws.proofs.Batches.{covers-batch}
+use Rattle.step_simulation.specs.Moves.{IsSlotOf}
 use Rattle.session_steps.specs.declared.sessions.Sessions.{Sessions}
-use Rattle.session_invariant.specs.Sees.{Sees, last_on}
+use Rattle.session_laws.specs.Sees.{Sees, last_on}
 use Rattle.session_steps.specs.Shows.{Hidden, plain_of, plain_session, plain_drawn, HasItsSlot, HoldsSession, HasDrawn, HoldsEntry, HoldsDrawn, HoldsLines, has_drawn_by, line_numbers, Agrees}
 use Rattle.session_steps.specs.Covering.{covered_by_commits, committed_by, left_by, CoversCommits, IsOf, MayCover, hidden_covered, HasCovered, ShowsCovered}
-use Rattle.session_steps.proofs.Kept.{numbers-by-tests}
+use Rattle.session_steps.proofs.HeldSlots.{numbers-by-tests}
 use Rattle.session_steps.proofs.Filters.{filter-map, filter-at, any-split}
 use Rattle.session_steps.proofs.CoveredIndex.{any-at, has_key, written-plain, written-commits, Within, IsOwn, within-commits, live-commits, none-commits, stays-commits, newest-after}
 

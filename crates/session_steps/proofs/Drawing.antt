@@ -37,18 +37,18 @@ use Rattle.state_invariant.proofs.Lists.{all-drop, all-take}
 use Rattle.state_invariant.proofs.Log.{writer-bounded}
 use Rattle.device_invariant.specs.Slots.{newest_of}
 use Rattle.device_invariant.specs.Log.{is_own, is_ended, line_at, line_number, lines_at, lines_in}
-use Rattle.step_invariant.specs.Moves.{IsSlotOf}
+use Rattle.step_simulation.specs.Moves.{IsSlotOf}
 use Rattle.session_steps.specs.declared.sessions.Sessions.{Sessions}
 use Rattle.session_steps.specs.Drawing.{own_lines, ended_lines, touched_lines, drawn_entry}
-use Rattle.session_invariant.specs.Sees.{Sees, last_on}
+use Rattle.session_laws.specs.Sees.{Sees, last_on}
 use Rattle.session_steps.specs.Shows.{Hidden, plain_of, plain_drawn, HasItsSlot, HoldsSession, HasVersionOf, HasDrawn, HoldsEntry, HoldsDrawn, HoldsLines, Agrees, has_drawn_by, line_numbers}
 use Rattle.session_steps.specs.Steps.{Holds}
-use Rattle.session_steps.proofs.Kept.{numbers-by-tests}
-use Rattle.session_invariant.proofs.Conflicts.{last_on-append}
+use Rattle.session_steps.proofs.HeldSlots.{numbers-by-tests}
+use Rattle.session_laws.proofs.Conflicts.{last_on-append}
 use Rattle.session_steps.proofs.Lines.{or-left, or-right, both-ways, any-map, any-flat_map, any-each, any-at, any-range, range-any}
 use Rattle.session_steps.proofs.OneSet.{each-set}
 use Rattle.session_steps.proofs.Owned.{found-in, contained-found, rising-plain, own-is}
-use Rattle.session_steps.proofs.Quiet.{found}
+use Rattle.session_steps.proofs.OneTransaction.{found}
 use Rattle.session_steps.proofs.Snapshots.{uncovered-above}
 
 -- ---- lists

@@ -36,7 +36,7 @@ use Rattle.session_steps.proofs.Drawing.{agrees-drawn}
 use Rattle.session_steps.proofs.LastDrawn.{conflict-is}
 use Rattle.session_steps.proofs.OneSet.{sessions-kept}
 use Rattle.session_steps.proofs.Refusals.{passes}
-use Rattle.session_steps.proofs.Tests.{same-drawers}
+use Rattle.session_steps.proofs.CodeTests.{same-drawers}
 
 -- ---- what is asked of a draw
 

@@ -19,11 +19,11 @@ use Rattle.state_invariant.proofs.Garbage.{IsGarbage, garbage-undrawn, garbage-r
 use Rattle.state_invariant.proofs.Collecting.{OnlyFrees, stays, frees}
 use Rattle.device_invariant.specs.Slots.{newest_of}
 use Rattle.device_invariant.specs.Log.{is_own, is_ended}
-use Rattle.step_invariant.specs.Moves.{IsSlotOf}
+use Rattle.step_simulation.specs.Moves.{IsSlotOf}
 use Rattle.session_steps.specs.declared.sessions.Sessions.{Sessions}
 use Rattle.session_steps.specs.Shows.{Hidden, plain_of, plain_drawn, HoldsSession, HoldsEntry, HoldsDrawn, Agrees, line_numbers}
 use Rattle.session_steps.proofs.CoveredBatch.{found}
-use Rattle.session_steps.proofs.Kept.{numbers-by-tests}
+use Rattle.session_steps.proofs.HeldSlots.{numbers-by-tests}
 
 module _ (s : Sessions) (h : Hidden) (keeps : Keeps h.origin (plain_of s h)) (agrees : Agrees s h.origin h.seen (plain_of s h)) (collector : Collector) (slots : List Bool) (index : List (Key × Entry)) (held : ℕ → Option Version)
     (still : s.collector.swept ≡ true → collector.swept ≡ true) (only : (slot : ℕ) → OnlyFrees (plain_of s h) held slot) where

@@ -26,17 +26,17 @@ use Rattle.state_invariant.proofs.Lookups.{apart-keys}
 use Rattle.state_invariant.proofs.Writing.{version-parts, own-at}
 use Rattle.session_steps.specs.declared.sessions.Sessions.{Sessions}
 use Rattle.session_steps.specs.Giving.{fits_slot, fits_writes, GivesBack, own_of, given, is_full_of}
-use Rattle.step_invariant.specs.Moves.{IsSlotOf}
+use Rattle.step_simulation.specs.Moves.{IsSlotOf}
 use Rattle.session_steps.specs.Shows.{Hidden, plain_of, plain_session, HasItsSlot, HoldsSession}
 use Rattle.session_steps.specs.Steps.{Holds, Goes}
 use Rattle.session_steps.proofs.Changing.{agrees-changed}
 use Rattle.session_steps.proofs.GivenBack.{given-same, given-other}
-use Rattle.session_steps.proofs.Kept.{is_nobodys_or}
+use Rattle.session_steps.proofs.HeldSlots.{is_nobodys_or}
 use Rattle.session_steps.proofs.OneSet.{sessions-kept}
 use Rattle.session_steps.proofs.Owned.{found-in, fits-all, own-is, own-test, rising-plain}
-use Rattle.session_steps.proofs.Quiet.{found}
+use Rattle.session_steps.proofs.OneTransaction.{found}
 use Rattle.session_steps.proofs.Refusals.{passes}
-use Rattle.session_steps.proofs.Tests.{same-drawers}
+use Rattle.session_steps.proofs.CodeTests.{same-drawers}
 
 -- the slots of an Active session's writes fit
 pub fits-held : (s : Sessions) (n : ℕ) (snapshot : Seen) (writes : List Write) (h : Hidden) → transaction_at s.transactions n ≡ Some (Active snapshot writes) → Holds s h → fits_writes (length s.slots) writes ≡ true

@@ -11,14 +11,14 @@ use Rattle.txn.specs.declared.transaction.Transaction.TheVariants.{Active}
 use Rattle.txn.specs.declared.write.Write.{Write}
 use Rattle.txn.specs.Transactions.{transaction_at}
 use Rattle.txn.specs.WriteSets.{plain_writes}
-use Rattle.session_invariant.specs.Sees.{Sees, is_unseen}
-use Rattle.session_invariant.proofs.Conflicts.{conflicts}
+use Rattle.session_laws.specs.Sees.{Sees, is_unseen}
+use Rattle.session_laws.proofs.Conflicts.{conflicts}
 use Rattle.session_steps.specs.declared.sessions.Sessions.{Sessions}
 use Rattle.session_steps.specs.Drawing.{conflict_in}
 use Rattle.session_steps.specs.Shows.{Hidden, plain_of, plain_session, HoldsSession}
 use Rattle.session_steps.specs.Steps.{Holds}
 use Rattle.session_steps.proofs.Owned.{keys-plain}
-use Rattle.session_steps.proofs.Quiet.{found}
+use Rattle.session_steps.proofs.OneTransaction.{found}
 
 -- the test of the code is the machine's
 pub conflict-is : (s : Sessions) (h : Hidden) (n : ℕ) (snapshot : Seen) (writes : List Write) → transaction_at s.transactions n ≡ Some (Active snapshot writes) → Holds s h → conflict_of (plain_of s h) n ≡ conflict_in s.index snapshot writes

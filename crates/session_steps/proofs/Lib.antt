@@ -1,13 +1,13 @@
-pub mod Tests
+pub mod CodeTests
 pub mod Snapshots
 pub mod Refusals
 pub mod OneSet
-pub mod Kept
+pub mod HeldSlots
 pub mod Changing
 pub mod GivenBack
 pub mod Owned
 pub mod Limits
-pub mod Quiet
+pub mod OneTransaction
 pub mod LastDrawn
 pub mod Noted
 pub mod Lines
@@ -25,7 +25,7 @@ pub mod Stamped
 pub mod Puts
 pub mod Reading
 pub mod Scanning
-pub mod Hands
+pub mod AnyHand
 pub mod BatchLines
 pub mod CoveredRows
 pub mod Readers

@@ -28,12 +28,12 @@ use Rattle.state_invariant.specs.Shown.{word_of, HasVersion}
 use Rattle.device_invariant.specs.Slots.{newest_of}
 use Rattle.device_invariant.specs.Upholds.{Upholds}
 use Rattle.device_invariant.proofs.Words.{word-within}
-use Rattle.device_invariant.proofs.Says.{says-newest}
+use Rattle.device_invariant.proofs.PresentValues.{says-newest}
 use Rattle.device_invariant.proofs.Reading.{ruled-image}
-use Rattle.step_invariant.specs.Moves.{IsSlotOf}
+use Rattle.step_simulation.specs.Moves.{IsSlotOf}
 use Rattle.collector.specs.declared.rounds.Collector.{Collector}
 use Rattle.session_steps.specs.declared.sessions.Sessions.{Sessions}
-use Rattle.session_invariant.specs.Sees.{last_on}
+use Rattle.session_laws.specs.Sees.{last_on}
 use Rattle.session_steps.specs.Shows.{Hidden, plain_of, plain_session, plain_drawn, HoldsSession, HoldsEntry, HoldsDrawn, HoldsLines, line_numbers, Shows}
 use Rattle.session_steps.specs.Opening.{Begins, HasFound}
 

@@ -17,7 +17,7 @@ use Rattle.state_invariant.specs.Kept.{Origin, Keeps, version_by}
 use Rattle.state_invariant.proofs.Lookups.{same-keys, key_eq-refl, first_below-lowest, first_below-nowhere}
 use Rattle.state_invariant.proofs.Writing.{own-at}
 use Rattle.session_steps.specs.Giving.{fits_slot, fits_writes, own_of}
-use Rattle.step_invariant.specs.Moves.{IsSlotOf}
+use Rattle.step_simulation.specs.Moves.{IsSlotOf}
 use Rattle.session_steps.specs.Shows.{HasItsSlot}
 
 -- a version is its session's for its key

@@ -39,9 +39,9 @@ use Rattle.state_invariant.specs.Kept.{version_by}
 use Rattle.state_invariant.proofs.Lookups.{apart-keys, first_below-some}
 use Rattle.state_invariant.proofs.Writing.{version-parts, free_slot-some}
 use Rattle.device_invariant.specs.Upholds.{Upholds}
-use Rattle.step_invariant.specs.Moves.{IsSlotOf, unless_own, put_operations, LinksNewest}
-use Rattle.step_invariant.proofs.Counting.{puts-count}
-use Rattle.step_invariant.proofs.Putting.{puts-lead}
+use Rattle.step_simulation.specs.Moves.{IsSlotOf, unless_own, put_operations, LinksNewest}
+use Rattle.step_simulation.proofs.Counting.{puts-count}
+use Rattle.step_simulation.proofs.Putting.{puts-lead}
 use Rattle.session_steps.specs.declared.sessions.Sessions.{Sessions}
 use Rattle.session_steps.specs.Giving.{own_of, is_full_of}
 use Rattle.session_steps.specs.Shows.{Hidden, plain_of, plain_session, HasItsSlot, HoldsSession, HoldsEntry, Agrees}
@@ -49,13 +49,13 @@ use Rattle.session_steps.specs.Steps.{Holds, HoldsOn, GoesOn, is_by_actor}
 use Rattle.session_steps.proofs.Changing.{agrees-changed}
 use Rattle.session_steps.proofs.Failing.{failed-agrees}
 use Rattle.session_steps.proofs.Freeing.{full-plain}
-use Rattle.session_steps.proofs.Kept.{is_nobodys_or, Moves}
+use Rattle.session_steps.proofs.HeldSlots.{is_nobodys_or, Moves}
 use Rattle.session_steps.proofs.OneSet.{sessions-kept, replaced-same}
 use Rattle.session_steps.proofs.Owned.{own-is, own_slot-is, rising-plain}
-use Rattle.session_steps.proofs.Quiet.{found}
+use Rattle.session_steps.proofs.OneTransaction.{found}
 use Rattle.session_steps.proofs.Refusals.{passes}
 use Rattle.session_steps.proofs.Stepping.{held-on, take-only, refused-on}
-use Rattle.session_steps.proofs.Tests.{same-drawers}
+use Rattle.session_steps.proofs.CodeTests.{same-drawers}
 
 -- ---- what is asked of a put
 

@@ -27,16 +27,16 @@ use Rattle.index.specs.declared.ranges.KeyRange.TheVariants.{Within}
 use Rattle.index.specs.Entries.{key_cmp, entry_at}
 use Rattle.index.specs.Walking.{AreLinked}
 use Rattle.index.specs.Reading.{CountsAs, ShowsTables, HasRows, contains, ranged}
-use Rattle.session_invariant.specs.Sees.{ReadsBy}
-use Rattle.session_invariant.proofs.Reading.{reads}
-use Rattle.session_invariant.proofs.Chains.{links-lead}
+use Rattle.session_laws.specs.Sees.{ReadsBy}
+use Rattle.session_laws.proofs.Reading.{reads}
+use Rattle.session_laws.proofs.Chains.{links-lead}
 use Rattle.session_steps.specs.declared.sessions.Sessions.{Sessions}
 use Rattle.session_steps.specs.Shows.{Hidden, plain_of, plain_session, HoldsSession}
 use Rattle.session_steps.specs.Steps.{Holds, HoldsOn, Goes}
-use Rattle.session_steps.proofs.Quiet.{found}
+use Rattle.session_steps.proofs.OneTransaction.{found}
 use Rattle.session_steps.proofs.Reading.{laid-out}
 use Rattle.session_steps.proofs.Refusals.{passes}
-use Rattle.session_steps.proofs.Tests.{same-drawers}
+use Rattle.session_steps.proofs.CodeTests.{same-drawers}
 
 -- ---- writes, one after another
 

@@ -41,21 +41,21 @@ use Rattle.state_invariant.proofs.Lists.{find-any}
 use Rattle.state_invariant.proofs.Lookups.{find-all, find-passes}
 use Rattle.device_invariant.specs.Slots.{newest_of}
 use Rattle.device_invariant.specs.Upholds.{Upholds}
-use Rattle.step_invariant.specs.Moves.{IsSlotOf, stamp_operations}
-use Rattle.step_invariant.proofs.Counting.{stamps-count}
-use Rattle.step_invariant.proofs.Operating.{stamps-operate}
-use Rattle.step_invariant.proofs.Stamping.{stamps-lead}
+use Rattle.step_simulation.specs.Moves.{IsSlotOf, stamp_operations}
+use Rattle.step_simulation.proofs.Counting.{stamps-count}
+use Rattle.step_simulation.proofs.Operating.{stamps-operate}
+use Rattle.step_simulation.proofs.Stamping.{stamps-lead}
 use Rattle.session_steps.specs.declared.sessions.Sessions.{Sessions}
 use Rattle.session_steps.specs.declared.stamp.Unstamped.{Unstamped}
 use Rattle.session_steps.specs.Stamping.{IsNextOf, has_left, is_unstamped}
-use Rattle.session_invariant.specs.Sees.{last_on}
+use Rattle.session_laws.specs.Sees.{last_on}
 use Rattle.session_steps.specs.Shows.{Hidden, plain_of, plain_session, plain_drawn, HoldsSession, HoldsDrawn, Agrees, has_drawn_by, line_numbers}
 use Rattle.session_steps.specs.Steps.{Holds, HoldsOn, GoesOn, IsBarred, is_by_actor}
-use Rattle.session_steps.proofs.Quiet.{found, barred-refusal, covered-or-drawn, drawn-plain}
+use Rattle.session_steps.proofs.OneTransaction.{found, barred-refusal, covered-or-drawn, drawn-plain}
 use Rattle.session_steps.proofs.Refusals.{passes}
 use Rattle.session_steps.proofs.Failing.{failed-agrees}
 use Rattle.session_steps.proofs.Stepping.{held-on, take-only}
-use Rattle.session_steps.proofs.Tests.{same-drawers}
+use Rattle.session_steps.proofs.CodeTests.{same-drawers}
 
 -- ---- a stamp changes nothing but the count
 

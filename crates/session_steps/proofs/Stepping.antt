@@ -22,10 +22,10 @@ use Rattle.pmem.specs.Device.{Device, IsOrderly}
 use Rattle.pmem.specs.Trace.{Operation, failure}
 use Rattle.state_invariant.specs.Kept.{Origin}
 use Rattle.device_invariant.specs.Upholds.{Upholds}
-use Rattle.step_invariant.specs.Moves.{is_quiet}
-use Rattle.step_invariant.specs.Laws.{QuietStepsLead}
-use Rattle.step_invariant.proofs.Quiet.{refusals-lead}
-use Rattle.session_steps.proofs.Tests.{same-drawers}
+use Rattle.step_simulation.specs.Moves.{is_quiet}
+use Rattle.step_simulation.specs.Laws.{QuietStepsLead}
+use Rattle.step_simulation.proofs.StepsWithoutStores.{refusals-lead}
+use Rattle.session_steps.proofs.CodeTests.{same-drawers}
 use Rattle.session_steps.specs.declared.sessions.Sessions.{Sessions}
 use Rattle.session_steps.specs.Shows.{Hidden, plain_of, Agrees, Shows}
 use Rattle.session_steps.specs.Steps.{is_by_actor, Holds, HoldsOn, Goes, GoesOn, Takes, TakesOn, StepsTo, Steps, HoldsSome, HoldsSomeOn, ShowsSome}

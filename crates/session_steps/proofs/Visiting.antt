@@ -24,7 +24,7 @@ use Rattle.base.specs.Collecting.{is_garbage, is_at_slot, is_sweeping, held_afte
 use Rattle.pmem.specs.Device.{Device, IsOrderly}
 use Rattle.pmem.specs.Trace.{Operation, store_op, flush_op, fence_op, failure, after}
 use Rattle.pmem.specs.Words.{LeavesOnly, value_of, image_of}
-use Rattle.pmem.proofs.Steps.{value-stored_other, value-flushed}
+use Rattle.pmem.proofs.OperationEffects.{value-stored_other, value-flushed}
 use Rattle.log_area.proofs.Heads.{image_size, image_word}
 use Rattle.snapshot.specs.Snapshots.{Seen, covers, seen_by}
 use Rattle.txn.specs.declared.transaction.Transaction.{Transaction}
@@ -50,12 +50,12 @@ use Rattle.state_invariant.proofs.Garbage.{IsGarbage, garbage-is, garbage-undraw
 use Rattle.state_invariant.proofs.Collecting.{visit-frees, stays}
 use Rattle.device_invariant.specs.Upholds.{Upholds}
 use Rattle.device_invariant.proofs.Words.{word-within}
-use Rattle.session_invariant.specs.Sees.{Sees}
-use Rattle.collect_invariant.specs.Garbage.{is_covered_for}
-use Rattle.collect_invariant.specs.Visits.{visit_operations}
-use Rattle.collect_invariant.proofs.Visits.{visits-lead}
-use Rattle.collect_invariant.proofs.Counting.{visits-count}
-use Rattle.collect_invariant.proofs.Garbage.{ends-tell-garbage}
+use Rattle.session_laws.specs.Sees.{Sees}
+use Rattle.collect_simulation.specs.Garbage.{is_covered_for}
+use Rattle.collect_simulation.specs.Visits.{visit_operations}
+use Rattle.collect_simulation.proofs.Visits.{visits-lead}
+use Rattle.collect_simulation.proofs.Counting.{visits-count}
+use Rattle.collect_simulation.proofs.Garbage.{ends-tell-garbage}
 use Rattle.session_steps.specs.declared.sessions.Sessions.{Sessions}
 use Rattle.session_steps.specs.Shows.{Hidden, plain_of, plain_session, HoldsSession, HoldsEntry, Agrees, ShowsAny}
 use Rattle.session_steps.specs.Steps.{is_by_actor, HoldsOn, ShowsSome}
@@ -66,7 +66,7 @@ use Rattle.session_steps.proofs.GivenBack.{given-same, given-other}
 use Rattle.session_steps.proofs.OpenedSlots.{read-key}
 use Rattle.session_steps.proofs.Reading.{laid-out, words-are}
 use Rattle.session_steps.proofs.Stepping.{take-only}
-use Rattle.session_steps.proofs.Tests.{same-drawers}
+use Rattle.session_steps.proofs.CodeTests.{same-drawers}
 
 -- ---- whose operations they are, and what they leave
 

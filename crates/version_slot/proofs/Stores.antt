@@ -4,7 +4,7 @@ use Rattle.std.proofs.lemmas.Bool.{cases_eq, ne_eqb}
 use Rattle.std.proofs.lemmas.List.{get_or-drop, get_or-take, length-drop, length-take-le}
 use Rattle.pmem.specs.Device.{Entry, Device, survivors_in, stored, failed, IsOrderly}
 use Rattle.pmem.specs.Words.{value_of, Keeps, OldOr}
-use Rattle.pmem.proofs.Steps.{history-stored_other, value-stored_same, value-stored_other, survivors-stored_same}
+use Rattle.pmem.proofs.OperationEffects.{history-stored_other, value-stored_same, value-stored_other, survivors-stored_same}
 use Rattle.pmem.proofs.Counts.{makes_none, makes-stored, makes-failed}
 use Rattle.pmem.proofs.Runs.{keeps_none, keeps_weaken, keeps-stored, keeps-failed}
 use Rattle.base.specs.Layout.{Layout, slot_start, slot_words}

@@ -1,5 +1,5 @@
 use Rattle.std.proofs.lemmas.Option.{IfSome_then}
-use Rattle.command_line.proofs.Parts.{spaced_words, joined_words, file_words, wide_words}
+use Rattle.command_line.proofs.OptionParts.{spaced_words, joined_words, file_words, wide_words}
 use Rattle.command_line.proofs.Complete.{agrees_name, agrees_option, agrees_width, file_rest, joined_rest, no_value, nothing_given, spaced_rest, wide_rest, without, without_file, without_wide}
 use Rattle.command_line.proofs.given.+read_given.Goals as goal
 

@@ -1,4 +1,4 @@
-use Rattle.console.proofs.Kept.{keeps-both}
+use Rattle.console.proofs.KeptHistory.{keeps-both}
 use Rattle.console.proofs.law.runs_compose.Goals as goal
 
 pub returns : goal.returns

@@ -2,7 +2,7 @@ use Rattle.std.proofs.Common.{List, ℕ, subst}
 use Rattle.base.specs.Machine.{State}
 use Rattle.command_line.specs.declared.command.Command.TheVariants.{Begin, Get, Scan, Put, Delete, Draw, Stamp, Poll, Abort, End, Commit, Collect, Cycle}
 use Rattle.console.specs.Obeyed.{Puts}
-use Rattle.console.proofs.Kept.{leads-by}
+use Rattle.console.proofs.KeptHistory.{leads-by}
 use Rattle.console.proofs.Obeyed.{comes-as}
 use Rattle.console.proofs.lines.perform.Goals as goal
 

@@ -2,7 +2,7 @@ use Rattle.std.proofs.Common.{List, ℕ, subst, refl, inl}
 use Rattle.base.specs.declared.step.Step.TheVariants as step
 use Rattle.base.specs.Machine.{State, Stepped}
 use Rattle.console.specs.Obeyed.{Puts}
-use Rattle.console.proofs.Kept.{leads-by}
+use Rattle.console.proofs.KeptHistory.{leads-by}
 use Rattle.console.proofs.lines.put.Goals as goal
 
 pub returns-in-Ok : goal.returns-in-Ok

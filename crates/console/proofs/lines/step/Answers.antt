@@ -1,4 +1,4 @@
-use Rattle.console.proofs.Kept.{leads-step}
+use Rattle.console.proofs.KeptHistory.{leads-step}
 use Rattle.console.proofs.lines.step.Goals as goal
 
 pub returns : goal.returns

@@ -1,7 +1,7 @@
 use Rattle.std.proofs.Common.{◌∷◌, ◌++◌, [], rules}
 use Rattle.pmem_model.specs.Sim.{device_of}
 use Rattle.command_line.specs.Texts.{closed_line}
-use Rattle.console.proofs.Kept.{file-restarted}
+use Rattle.console.proofs.KeptHistory.{file-restarted}
 use Rattle.console.proofs.Lives.{ends-closed}
 use Rattle.console.proofs.run.close.Goals as goal
 

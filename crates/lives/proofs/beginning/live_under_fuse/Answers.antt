@@ -46,7 +46,7 @@ returns-in-Ok-checked-clause-stopped g c =
     let stands : Stands (image_of old) before.history before.drawn before.next = subst (λ (i : Image). Stands i before.history before.drawn before.next) same w in
     let opened = c.in-Ok.ensures.ok before.history before.drawn before.next before.lost stands in
     opened-stops c.args.life.now played.0 before opened.0 old mid (image_of (device_of played.1))
-    (opens-on old mid (image_of old) before opened.0 c.in-Ok.room.committer same opened.1 c.in-Ok.ensures.made
+    (opens-on old mid (image_of old) before opened.0 c.in-Ok.room.volatile same opened.1 c.in-Ok.ensures.made
     (c.in-Ok.ensures.images before.history before.drawn before.next stands) opened.2.agrees.shown)
     c.in-Ok.ensures.no_failure (stops opened.0 opened.2))
     c.play.ensures.stopped

@@ -5,7 +5,7 @@ use Rattle.base.specs.Images.{Image}
 use Rattle.base.specs.Stands.{Stands}
 use Rattle.pmem.specs.Device.{MayLeave}
 use Rattle.pmem.specs.Words.{image_of}
-use Rattle.pmem.proofs.Rest.{left_at_rest}
+use Rattle.pmem.proofs.AtRest.{left_at_rest}
 use Rattle.pmem_model.specs.Sim.{device_of}
 use Rattle.lives.proofs.running.formatted.Goals as goal
 

@@ -1,4 +1,4 @@
-use Rattle.session_steps.proofs.Hands.{shows-hand, shows-failed}
+use Rattle.session_steps.proofs.AnyHand.{shows-hand, shows-failed}
 use Rattle.session_steps.proofs.law.sessions_show_any_hand.Goals as goal
 
 pub returns : goal.returns

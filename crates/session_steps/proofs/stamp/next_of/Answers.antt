@@ -1,6 +1,6 @@
 use Rattle.std.proofs.Common.{sym, arith}
 use Rattle.std.proofs.lemmas.Option.{slice_get_within}
-use Rattle.session_steps.proofs.Tests.{none-left}
+use Rattle.session_steps.proofs.CodeTests.{none-left}
 use Rattle.session_steps.proofs.stamp.next_of.Goals as goal
 
 pub overflow_add-result : goal.overflow_add-result

@@ -1,7 +1,7 @@
 use Rattle.std.proofs.Common.{subst}
 use Rattle.pmem.specs.Words.{LeavesOnly}
 use Rattle.log_area.specs.Writings.{Progress, IsWriting, IsReplacing, IsRuledMeanwhile, IsOutside}
-use Rattle.log_area.proofs.Kept.{replacing_failed}
+use Rattle.log_area.proofs.UntouchedWords.{replacing_failed}
 use Rattle.pmem.proofs.Spares.{spares-failed}
 use Rattle.log_area.proofs.Ticks.{moved, staged_too, writing_next}
 use Rattle.log_area.proofs.Replacing.{replacing_next, replacing_done, images_next, spares_next, images_failed}

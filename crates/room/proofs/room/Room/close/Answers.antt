@@ -10,7 +10,7 @@ returns-then-failed-clause-images g c = λ q shows.
     leaves_refl (g.D.Pmem.state c.args.self.device) (StandsClosing q) (g.met.D.Pmem.orderly c.args.self.device) (λ image left. StandsAt-closing q image (shows.stands image left))
 
 pub close-requires : goal.close-requires
-close-requires g c = record { shown = shows-some c.args.self.committer (g.D.Pmem.state c.args.self.device) c.args.self.failed c.if-failed.false c.args.self.shown }
+close-requires g c = record { shown = shows-some c.args.self.volatile (g.D.Pmem.state c.args.self.device) c.args.self.failed c.if-failed.false c.args.self.shown }
 
 pub returns-in-Ok-clause-images : goal.returns-in-Ok-clause-images
 returns-in-Ok-clause-images g c = λ q shows. c.in-Ok.ensures.images q shows.agrees.shown (shows.agrees.failed ∙ c.if-failed.false)

@@ -4,7 +4,7 @@ use Rattle.room.proofs.Begun.{no-failure, begun-shows-some, opened-shows}
 use Rattle.room.proofs.room.Room.open.Goals as goal
 
 pub invariant_of-result : goal.invariant_of-result
-invariant_of-result g c = record { shown = begun-shows-some (g.D.Pmem.state c.args.device) (g.D.Pmem.state c.begin.new.device) c.in-Ok.committer c.in-Ok.ensures.ok }
+invariant_of-result g c = record { shown = begun-shows-some (g.D.Pmem.state c.args.device) (g.D.Pmem.state c.begin.new.device) c.in-Ok.volatile c.in-Ok.ensures.ok }
 
 pub returns-in-Ok-clause-ok : goal.returns-in-Ok-clause-ok
 returns-in-Ok-clause-ok g c = λ history drawn next lost stands. opened-shows g.D.Pmem.state (g.D.Pmem.state c.args.device) _ c.in-Ok.ensures.ok refl history drawn next lost stands

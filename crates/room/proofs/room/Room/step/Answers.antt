@@ -5,12 +5,12 @@ pub returns-then-self : goal.returns-then-self
 returns-then-self g c = record { step = step-refused g.D.Pmem.state c.args.self.now c.args.step (g.met.D.Pmem.orderly c.args.self.now.device) c.if-self.true }
 
 pub step-reply-requires : goal.step-reply-requires
-step-reply-requires g c = record { shown = shows-some c.args.self.now.committer _ c.args.self.now.failed c.if-self.false c.args.self.now.shown }
+step-reply-requires g c = record { shown = shows-some c.args.self.now.volatile _ c.args.self.now.failed c.if-self.false c.args.self.now.shown }
 
 pub invariant_of-self : goal.invariant_of-self
 invariant_of-self g c = record {
-  shown = shows-then c.args.self.now.committer c.step-reply.new.self (g.D.Pmem.state c.args.self.now.device) (g.D.Pmem.state c.step-reply.new.device) c.args.step c.step-reply.result
-      c.is_failure-self.result c.is_failure-self.ensures c.step-reply.ensures.step (shows-some c.args.self.now.committer _ c.args.self.now.failed c.if-self.false c.args.self.now.shown);
+  shown = shows-then c.args.self.now.volatile c.step-reply.new.self (g.D.Pmem.state c.args.self.now.device) (g.D.Pmem.state c.step-reply.new.device) c.args.step c.step-reply.result
+      c.is_failure-self.result c.is_failure-self.ensures c.step-reply.ensures.step (shows-some c.args.self.now.volatile _ c.args.self.now.failed c.if-self.false c.args.self.now.shown);
 }
 
 pub returns : goal.returns

@@ -8,7 +8,7 @@ use Rattle.session_steps.specs.Giving.{fits_slot, given}
 use Rattle.base.specs.declared.fault.Fault.TheVariants.{WriteSetFull}
 use Rattle.base.specs.declared.step.SessionStep.TheVariants.{Delete}
 use Rattle.session_steps.proofs.Freeing.{deletes, delete-asks, fits-own_of}
-use Rattle.session_steps.proofs.Quiet.{inactive, refuses}
+use Rattle.session_steps.proofs.OneTransaction.{inactive, refuses}
 use Rattle.session_steps.proofs.sessions.Sessions.delete.Goals as goal
 
 pub returns-in-Err : goal.returns-in-Err

@@ -6,8 +6,8 @@ use Rattle.std.specs.Prelude.{Some, None}
 use Rattle.base.specs.declared.fault.Fault.TheVariants.{Conflict, WindowFull, TimestampsOut}
 use Rattle.base.specs.declared.step.SessionStep.TheVariants.{Draw}
 use Rattle.session_steps.proofs.Draws.{draw-asks, draws-nothing}
-use Rattle.session_steps.proofs.Quiet.{inactive, refuses}
-use Rattle.session_steps.proofs.Tests.{nothing-is, some-is}
+use Rattle.session_steps.proofs.OneTransaction.{inactive, refuses}
+use Rattle.session_steps.proofs.CodeTests.{nothing-is, some-is}
 use Rattle.session_steps.proofs.sessions.Sessions.draw.Goals as goal
 
 pub returns-in-Err : goal.returns-in-Err

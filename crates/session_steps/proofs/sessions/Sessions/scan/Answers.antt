@@ -5,7 +5,7 @@ use Rattle.base.specs.declared.key.Key.{Key}
 use Rattle.base.specs.declared.step.SessionStep.TheVariants.{Scan}
 use Rattle.base.specs.declared.step.SessionReply.TheVariants.{Rows}
 use Rattle.session_steps.specs.Steps.{Goes}
-use Rattle.session_steps.proofs.Quiet.{inactive}
+use Rattle.session_steps.proofs.OneTransaction.{inactive}
 use Rattle.session_steps.proofs.Reading.{words-are}
 use Rattle.session_steps.proofs.Scanning.{scans-nothing, scans-seen}
 use Rattle.session_steps.proofs.Stepping.{held-on}

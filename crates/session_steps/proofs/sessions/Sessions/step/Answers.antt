@@ -1,6 +1,6 @@
 use Rattle.std.proofs.Common.{refl}
 use Rattle.session_steps.proofs.Stepping.{steps-as, on-device, quietly, goes-quietly, shown-held, shown-held-on}
-use Rattle.step_invariant.proofs.Quiet.{quiet-steps-lead}
+use Rattle.step_simulation.proofs.StepsWithoutStores.{quiet-steps-lead}
 use Rattle.session_steps.proofs.sessions.Sessions.step.Goals as goal
 
 pub begin-requires : goal.begin-requires

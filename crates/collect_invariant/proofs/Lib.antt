@@ -1,4 +1,0 @@
-pub mod Moving
-pub mod Visits
-pub mod Counting
-pub mod Garbage

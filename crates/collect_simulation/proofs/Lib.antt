@@ -1,0 +1,4 @@
+pub mod WithoutOperations
+pub mod Visits
+pub mod Counting
+pub mod Garbage

@@ -1,0 +1,5 @@
+use Rattle.cycle_simulation.proofs.Lasts.{closing-flushes}
+use Rattle.cycle_simulation.proofs.law.closing_flushes.Goals as goal
+
+pub returns : goal.returns
+returns c = closing-flushes

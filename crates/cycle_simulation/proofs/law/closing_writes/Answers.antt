@@ -1,0 +1,5 @@
+use Rattle.cycle_simulation.proofs.Lasts.{closing-writes}
+use Rattle.cycle_simulation.proofs.law.closing_writes.Goals as goal
+
+pub returns : goal.returns
+returns c = closing-writes

@@ -1,0 +1,5 @@
+use Rattle.cycle_simulation.proofs.Ticks.{covering-ticks}
+use Rattle.cycle_simulation.proofs.law.covering_ticks.Goals as goal
+
+pub returns : goal.returns
+returns c = covering-ticks

@@ -1,0 +1,5 @@
+use Rattle.cycle_simulation.proofs.Ticks.{fence-ticks}
+use Rattle.cycle_simulation.proofs.law.fence_ticks.Goals as goal
+
+pub returns : goal.returns
+returns c = fence-ticks

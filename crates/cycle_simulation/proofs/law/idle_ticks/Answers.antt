@@ -1,0 +1,5 @@
+use Rattle.cycle_simulation.proofs.Ticks.{idle-ticks}
+use Rattle.cycle_simulation.proofs.law.idle_ticks.Goals as goal
+
+pub returns : goal.returns
+returns c = idle-ticks

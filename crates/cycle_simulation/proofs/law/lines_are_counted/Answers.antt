@@ -1,0 +1,5 @@
+use Rattle.cycle_simulation.proofs.Lines.{lines-are_counted}
+use Rattle.cycle_simulation.proofs.law.lines_are_counted.Goals as goal
+
+pub returns : goal.returns
+returns c = lines-are_counted

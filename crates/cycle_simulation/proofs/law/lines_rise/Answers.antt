@@ -1,0 +1,5 @@
+use Rattle.cycle_simulation.proofs.Rising.{lines-are_in_order}
+use Rattle.cycle_simulation.proofs.law.lines_rise.Goals as goal
+
+pub returns : goal.returns
+returns c = lines-are_in_order

@@ -1,0 +1,5 @@
+use Rattle.cycle_simulation.proofs.Staying.{lines-stay}
+use Rattle.cycle_simulation.proofs.law.lines_stay.Goals as goal
+
+pub returns : goal.returns
+returns c = lines-stay

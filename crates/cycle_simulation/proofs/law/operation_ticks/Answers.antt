@@ -1,0 +1,5 @@
+use Rattle.cycle_simulation.proofs.Ticks.{operation-ticks}
+use Rattle.cycle_simulation.proofs.law.operation_ticks.Goals as goal
+
+pub returns : goal.returns
+returns c = operation-ticks

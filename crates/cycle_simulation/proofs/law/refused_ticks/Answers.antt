@@ -1,0 +1,5 @@
+use Rattle.cycle_simulation.proofs.Ticks.{refused-ticks}
+use Rattle.cycle_simulation.proofs.law.refused_ticks.Goals as goal
+
+pub returns : goal.returns
+returns c = refused-ticks

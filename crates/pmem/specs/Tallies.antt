@@ -1,0 +1,7 @@
+-- The number that a tally stands for.
+use Rattle.std.specs.Prelude.{ℕ, ◌+◌}
+use Rattle.pmem.specs.declared.tally.Tally.{Tally, Zero, More'}
+
+abbrev pub number_of : Tally → ℕ
+number_of Zero = 0
+number_of (More' marker before) = number_of before + 1

@@ -1,0 +1,21 @@
+use std::snapshot::Snapshot;
+
+/// A number without bound, which clauses alone can read. It takes one byte.
+#[derive(Drop)]
+pub enum Tally {
+    Zero,
+    More(Snapshot<Tally>),
+}
+
+impl Tally {
+    ghost use Rattle.std.specs.Prelude.{◌≡◌, ◌+◌};
+    ghost use Rattle.pmem.specs.Tallies.{number_of};
+
+    /// Adds one.
+    pub fn add(&mut self)
+        ensures { number_of self.new ≡ number_of self.old + 1 }
+    {
+        let before = Snapshot::of(&*self);
+        *self = Tally::More(before);
+    }
+}

@@ -1,0 +1,122 @@
+-- What the holders of slots say stays, where one session takes slots and gives them back.
+use Rattle.std.proofs.Common.{◌≡◌, ◌⊎◌, inl, inr, ℕ, ◌<◌, Bool, true, false, ◌&&◌, cond, List, [], ◌∷◌, map, refl, sym, ◌∙◌, ap, subst, nat_eq, get_or}
+use Rattle.std.specs.Prelude.{Option, Some, None, All}
+use Rattle.std.specs.List.{list_any, range_with_len, flat_map}
+use Rattle.base.specs.declared.key.Key.{Key}
+use Rattle.base.specs.Commits.{Commit, last_writer, writes_key}
+use Rattle.base.specs.Layout.{Layout}
+use Rattle.base.specs.Machine.{State, Version, Writer, BySession, ByCommit, is_by, version_lines}
+use Rattle.txn.specs.declared.drawn.DrawnCommit.{DrawnCommit}
+use Rattle.txn.specs.declared.write.Write.{Write}
+use Rattle.dirty_table.specs.declared.touches.Touch.{Touch}
+use Rattle.state_invariant.specs.Kept.{version_by}
+use Rattle.device_invariant.specs.Log.{Line, is_own, is_ended, lines_in, line_at, line_number}
+use Rattle.step_simulation.specs.Moves.{IsSlotOf}
+use Rattle.session_steps.specs.Shows.{HasItsSlot, HasVersionOf, HoldsLines, line_numbers, plain_drawn}
+
+-- nobody holds it, or this session does
+abbrev pub is_nobodys_or : ℕ → Option Version → Bool
+is_nobodys_or n None = true
+is_nobodys_or n (Some v) = is_by n v.writer
+
+-- the holder of each slot stays, but where it is and was this session, or nobody
+abbrev pub Moves : ℕ → (ℕ → Option Version) → (ℕ → Option Version) → Type 0
+Moves n held new = (slot : ℕ) → (new slot ≡ held slot) ⊎ ((is_nobodys_or n (held slot) ≡ true) × (is_nobodys_or n (new slot) ≡ true))
+
+-- one state is another with other holders
+pub record SameBut (n : ℕ) (q q' : State) : Type 0 where
+  pub layout : q'.layout ≡ q.layout
+  pub history : q'.history ≡ q.history
+  pub held : Moves n q.held q'.held
+
+by-other : (n : ℕ) (o : Option Version) (v : Version) → o ≡ Some v → is_nobodys_or n o ≡ true → is_by n v.writer ≡ false → ⊥
+by-other n o v at own other = absurd (cc (sym (ap (is_nobodys_or n) at) ∙ own, other))
+
+-- a version that isn't of the session keeps its slot
+pub slot-kept : (n : ℕ) (q q' : State) (v : Version) (o : Option ℕ) → SameBut n q q' → is_by n v.writer ≡ false → IsSlotOf q v o → IsSlotOf q' v o
+slot-kept n q q' v (Some slot) same other is = (subst (λ (a : Layout). slot < a.slots) (sym same.layout) is.0, by (same.held slot))
+  where
+    by : (q'.held slot ≡ q.held slot) ⊎ ((is_nobodys_or n (q.held slot) ≡ true) × (is_nobodys_or n (q'.held slot) ≡ true)) → q'.held slot ≡ Some v
+    by (inl stays) = stays ∙ is.1
+    by (inr own) = absurd (by-other n (q.held slot) v is.1 own.0 other)
+slot-kept n q q' v None same other is = λ slot lt at. by slot (subst (λ (a : Layout). slot < a.slots) same.layout lt) at (same.held slot)
+  where
+    by : (slot : ℕ) → slot < q.layout.slots → q'.held slot ≡ Some v → (q'.held slot ≡ q.held slot) ⊎ ((is_nobodys_or n (q.held slot) ≡ true) × (is_nobodys_or n (q'.held slot) ≡ true)) → ⊥
+    by slot lt at (inl stays) = is slot lt (sym stays ∙ at)
+    by slot lt at (inr own) = by-other n (q'.held slot) v at own.1 other
+
+-- a commit's version stays in its slot
+pub version-kept : (n : ℕ) (q q' : State) (key : Key) (slot : ℕ) → SameBut n q q' → HasVersionOf q key slot → HasVersionOf q' key slot
+version-kept n q q' key slot same has =
+    let is = slot-kept n q q' (version_by key (ByCommit has.timestamp)) (Some slot) same refl (has.within, has.held) in
+    record { within = is.0; timestamp = has.timestamp; held = is.1 }
+
+-- and was in it before
+pub version-before : (n : ℕ) (q q' : State) (key : Key) (slot t : ℕ) → SameBut n q q' → q'.held slot ≡ Some (version_by key (ByCommit t)) → q.held slot ≡ Some (version_by key (ByCommit t))
+version-before n q q' key slot t same at = by (same.held slot)
+  where
+    by : (q'.held slot ≡ q.held slot) ⊎ ((is_nobodys_or n (q.held slot) ≡ true) × (is_nobodys_or n (q'.held slot) ≡ true)) → q.held slot ≡ Some (version_by key (ByCommit t))
+    by (inl stays) = sym stays ∙ at
+    by (inr own) = absurd (by-other n (q'.held slot) (version_by key (ByCommit t)) at own.1 refl)
+
+pub write-kept : (n : ℕ) (q q' : State) (writer : Writer) (write : Write) → SameBut n q q' → is_by n writer ≡ false → HasItsSlot q writer write → HasItsSlot q' writer write
+write-kept n q q' writer write same other has = record { slot = slot-kept n q q' (version_by write.key writer) write.slot same other has.slot; row = has.row }
+
+pub writes-kept : (n : ℕ) (q q' : State) (writer : Writer) (writes : List Write) → SameBut n q q' → is_by n writer ≡ false → All (HasItsSlot q writer) writes → All (HasItsSlot q' writer) writes
+writes-kept n q q' writer writes same other all = λ k d lt. write-kept n q q' writer _ same other (all k d lt)
+
+-- ---- the lines of drawn commits
+
+own-no-batch : (n : ℕ) (commits : List Commit) (o : Option Version) → is_nobodys_or n o ≡ true → is_own commits o ≡ false
+own-no-batch n commits None own = refl
+own-no-batch n commits (Some v) own = by v.writer own
+  where
+    by : (w : Writer) → is_by n w ≡ true → is_own commits (Some (version_by v.key w)) ≡ false
+    by (BySession m) own = refl
+    by (ByCommit t) own = absurd (cc own)
+
+own-not-ended : (n : ℕ) (q : State) (commits : List Commit) (o : Option Version) → is_nobodys_or n o ≡ true → is_ended q commits o ≡ false
+own-not-ended n q commits None own = refl
+own-not-ended n q commits (Some v) own = by v.writer own
+  where
+    by : (w : Writer) → is_by n w ≡ true → is_ended q commits (Some (version_by v.key w)) ≡ false
+    by (BySession m) own = refl
+    by (ByCommit t) own = absurd (cc own)
+
+-- the tests of a slot for a batch
+abbrev pub tests-at : State → Bool → Bool → ℕ → List Line
+tests-at q own ended slot = cond own (flat_map (λ part. line_at slot part ∷ []) (range_with_len 0 (version_lines q.layout))) (cond ended (line_at slot 0 ∷ []) [])
+
+-- where the tests of each slot are the same, so are the lines
+pub lines-by-tests : (q q' : State) (commits : List Commit) → q'.layout ≡ q.layout → ((slot : ℕ) → is_own commits (q'.held slot) ≡ is_own commits (q.held slot))
+    → ((slot : ℕ) → is_ended q' commits (q'.held slot) ≡ is_ended q commits (q.held slot)) → lines_in q' commits ≡ lines_in q commits
+lines-by-tests q q' commits layout own ended = λ i. flat_map (λ slot. cond (own slot i) (flat_map (λ part. line_at slot part ∷ []) (range_with_len 0 (version_lines (layout i)))) (cond (ended slot i) (line_at slot 0 ∷ []) [])) (range_with_len 0 (layout i).slots)
+
+pub numbers-by-tests : (q q' : State) (commits : List Commit) → q'.layout ≡ q.layout → ((slot : ℕ) → is_own commits (q'.held slot) ≡ is_own commits (q.held slot))
+    → ((slot : ℕ) → is_ended q' commits (q'.held slot) ≡ is_ended q commits (q.held slot)) → line_numbers q' commits ≡ line_numbers q commits
+numbers-by-tests q q' commits layout own ended = λ i. map (line_number (layout i)) (lines-by-tests q q' commits layout own ended i)
+
+pub lines-kept : (n : ℕ) (q q' : State) (commits : List Commit) → SameBut n q q' → line_numbers q' commits ≡ line_numbers q commits
+lines-kept n q q' commits same = numbers-by-tests q q' commits same.layout (λ slot. own slot (same.held slot)) (λ slot. ended slot (same.held slot))
+  where
+    own : (slot : ℕ) → (q'.held slot ≡ q.held slot) ⊎ ((is_nobodys_or n (q.held slot) ≡ true) × (is_nobodys_or n (q'.held slot) ≡ true)) → is_own commits (q'.held slot) ≡ is_own commits (q.held slot)
+    own slot (inl stays) = ap (is_own commits) stays
+    own slot (inr both) = own-no-batch n commits (q'.held slot) both.1 ∙ sym (own-no-batch n commits (q.held slot) both.0)
+
+    ended : (slot : ℕ) → (q'.held slot ≡ q.held slot) ⊎ ((is_nobodys_or n (q.held slot) ≡ true) × (is_nobodys_or n (q'.held slot) ≡ true)) → is_ended q' commits (q'.held slot) ≡ is_ended q commits (q.held slot)
+    ended slot (inl stays) = by-history (q'.held slot) ∙ ap (is_ended q commits) stays
+      where
+        by-history : (o : Option Version) → is_ended q' commits o ≡ is_ended q commits o
+        by-history None = refl
+        by-history (Some v) = by v.writer
+          where
+            by : (w : Writer) → is_ended q' commits (Some (version_by v.key w)) ≡ is_ended q commits (Some (version_by v.key w))
+            by (BySession m) = refl
+            by (ByCommit t) = λ i. nat_eq (last_writer (same.history i) v.key) t && list_any (writes_key v.key) commits
+    ended slot (inr both) = own-not-ended n q' commits (q'.held slot) both.1 ∙ sym (own-not-ended n q commits (q.held slot) both.0)
+
+pub table-kept : (n : ℕ) (q q' : State) (drawn : List DrawnCommit) (dirty : List Touch) → SameBut n q q' → HoldsLines q drawn dirty → HoldsLines q' drawn dirty
+table-kept n q q' drawn dirty same holds = record {
+  own = λ k d lt line. holds.own k d lt line ∙ ap (λ (ls : List ℕ). list_any (λ l. nat_eq l line) ls) (sym (lines-kept n q q' ((plain_drawn (get_or drawn k d)).commit ∷ []) same));
+  none = holds.none;
+}

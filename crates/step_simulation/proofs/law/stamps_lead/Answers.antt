@@ -1,0 +1,5 @@
+use Rattle.step_simulation.proofs.Stamping.{stamps-lead}
+use Rattle.step_simulation.proofs.law.stamps_lead.Goals as goal
+
+pub returns : goal.returns
+returns c = stamps-lead

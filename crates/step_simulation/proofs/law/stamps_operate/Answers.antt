@@ -1,0 +1,5 @@
+use Rattle.step_simulation.proofs.Operating.{stamps-operate}
+use Rattle.step_simulation.proofs.law.stamps_operate.Goals as goal
+
+pub returns : goal.returns
+returns c = stamps-operate

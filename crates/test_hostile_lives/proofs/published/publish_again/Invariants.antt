@@ -1,0 +1,5 @@
+use Rattle.test_hostile_lives.proofs.published.publish_again.Given as goal
+
+-- the book of the new history
+abbrev pub ghosts-publish_on : goal.ghosts-publish_on
+ghosts-publish_on g a = record { book = a.history }
