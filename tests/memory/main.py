@@ -2,9 +2,8 @@
 
 usage: ./memory [--wbl FILE] [--runs FILE] [--jobs N] [--short]
 
-It runs `wbl lives` over the scripts of crates/life_scripts/data; the commands of wbl over one file that those of
-crates/program_scripts/data name; `wbl threads`; and the lives and the board of test_hostile_lives, with memory for all stores of the
-device and without. Of each it refuses the first request, then the second alone, and so on to the last; then, of wbl, the first
+It runs `wbl lives` over the scripts of lives in crates/test_scripts/data; the commands of wbl over one file that the other scripts
+there name; `wbl threads`; and the lives and the board of test_hostile_lives, with memory for all stores of the device and without. Of each it refuses the first request, then the second alone, and so on to the last; then, of wbl, the first
 and all later ones, and so on. It fails at a crash, a run that doesn't end, a row that was never put, a first line that differs
 and isn't OutOfMemory, a file that changed where the status isn't 0 or that isn't sound, a refusal of what takes no memory, and a
 call that doesn't go on when it is asked again. --short takes every twelfth script.
@@ -21,6 +20,7 @@ import judging
 import refusing
 
 TOP = os.path.dirname(os.path.dirname(os.path.dirname(os.path.abspath(__file__))))
+SCRIPTS = os.path.join(TOP, "crates/test_scripts/data")
 RUNS = ("one_commit", "updates_lost_twice", "conflict", "old_snapshot", "window", "scans_and_deletions", "board")
 THREADS = ("format db.img", "threads db.img --sessions 2 --commits 3")
 
@@ -48,10 +48,10 @@ def blame(name, number, for_good, wrong):
     raise judging.Wrong(f"{name}, request {number}{' and all later ones' if for_good else ''}: {wrong}")
 
 
-def test_lives(programs, name, folder):
+def refuse_lives(programs, name, folder):
     """A script of lives. It writes no file."""
     counts = Counter()
-    script = os.path.join(TOP, "crates/life_scripts/data", name)
+    script = os.path.join(SCRIPTS, name)
     with open(script, encoding="utf-8") as it:
         known = judging.put_by(it.read().splitlines())
     words = [programs.wbl, "lives", script]
@@ -68,7 +68,7 @@ def test_lives(programs, name, folder):
 
 def commands_in(name):
     """The commands of wbl in a script over one file, each with its lines. None: it has others too."""
-    with open(os.path.join(TOP, "crates/program_scripts/data", name), encoding="utf-8") as it:
+    with open(os.path.join(SCRIPTS, name), encoding="utf-8") as it:
         parts = it.read().split("$ ")[1:]
     commands = [part.partition("\n") for part in parts]
     if not all(command.startswith("wbl ") for command, _, _ in commands):
@@ -76,12 +76,12 @@ def commands_in(name):
     return [(command.split()[1:], lines) for command, _, lines in commands if command.split()[1:2] != ["threads"]]
 
 
-def test_commands(programs, name, commands, folder):
+def refuse_commands(programs, name, commands, folder):
     """Commands over one file, of which each is refused its memory in turn and then is granted it."""
     counts = Counter()
     known = judging.put_by(line for _, lines in commands for line in lines.splitlines())
     for words, lines in commands:
-        test_command(programs, f"{name}: {' '.join(words)}", words, lines.encode(), known, folder, counts)
+        refuse_command(programs, f"{name}: {' '.join(words)}", words, lines.encode(), known, folder, counts)
     return counts
 
 
@@ -102,7 +102,7 @@ def put_back(file, before):
             it.write(before)
 
 
-def test_command(programs, name, words, given, known, folder, counts):
+def refuse_command(programs, name, words, given, known, folder, counts):
     file = os.path.join(folder, "db.img")
     before = bytes_of(file)
     words = [programs.wbl, *words]
@@ -139,7 +139,7 @@ def judge_file(programs, file, known):
     judging.judge_rows(found.lines, known)
 
 
-def test_threads(programs, folder):
+def refuse_threads(programs, folder):
     """Threads ask in any order, so that the number names another request in each run; what is printed is always the same."""
     counts = Counter()
     file = os.path.join(folder, "db.img")
@@ -162,7 +162,7 @@ def test_threads(programs, folder):
     return counts
 
 
-def test_run(programs, name, reserved, folder):
+def refuse_run(programs, name, reserved, folder):
     """Lives, or a board, that ask again what is refused."""
     counts = Counter()
     words = [programs.runs, "refused", name, *(["reserved"] if reserved else [])]
@@ -192,14 +192,14 @@ def in_folder(test, *given):
 
 def tests(programs, part):
     """Each kind of test, and its tests."""
-    scripts = sorted(os.listdir(os.path.join(TOP, "crates/life_scripts/data")))[::part]
-    yield "lives", [(test_lives, programs, name) for name in scripts]
-    files = sorted(os.listdir(os.path.join(TOP, "crates/program_scripts/data")))
+    scripts = sorted(it for it in os.listdir(SCRIPTS) if it.endswith(".lives"))[::part]
+    yield "lives", [(refuse_lives, programs, name) for name in scripts]
+    files = sorted(it for it in os.listdir(SCRIPTS) if it.endswith(".script"))
     found = [(name, commands_in(name)) for name in files]
-    yield "commands over a file", [(test_commands, programs, name, it) for name, it in found if it][:: min(part, 4)]
-    yield "threads", [(test_threads, programs)]
-    yield "asked again, with memory for stores", [(test_run, programs, name, True) for name in RUNS if name != "board"]
-    yield "asked again", [(test_run, programs, name, False) for name in RUNS]
+    yield "commands over a file", [(refuse_commands, programs, name, it) for name, it in found if it][:: min(part, 4)]
+    yield "threads", [(refuse_threads, programs)]
+    yield "asked again, with memory for stores", [(refuse_run, programs, name, True) for name in RUNS if name != "board"]
+    yield "asked again", [(refuse_run, programs, name, False) for name in RUNS]
 
 
 def main():
