@@ -32,7 +32,8 @@ fn main(rt: HostRuntime) -> Result<(), Error> {
     for name in names.as_slice() {
         println!(rt; "== {name}")?;
         if name.as_str().ends_with(".lives") {
-            play_lives(&rt, alloc, name.as_str())?;
+            let text = fs::read(&rt, name.as_str())?;
+            play_lives(&rt, alloc, name.as_str(), text.as_slice());
             continue;
         }
         let script = fs::read_to_string(&rt, name.as_str())?;
@@ -46,23 +47,15 @@ fn main(rt: HostRuntime) -> Result<(), Error> {
 }
 
 // Plays the lives of a script, as the subcommand does.
-fn play_lives<H: Files + Print + Threads + Wait + Copy + Drop + Send + Sync + 'static>(
+fn play_lives<H: Print + Threads + Wait + Copy + Drop + Send + Sync + 'static>(
     rt: &H,
     alloc: Global,
     name: &str,
-) -> Result<(), Error> {
-    let text = fs::read(rt, name)?;
+    text: &[u8],
+) {
     let order = Order::Lives { file: name };
     let mut input: &[u8] = &[];
-    execute(
-        rt,
-        alloc,
-        &order,
-        text.as_slice(),
-        &mut input,
-        &mut io::writer(rt),
-    );
-    Ok(())
+    execute(rt, alloc, &order, text, &mut input, &mut io::writer(rt));
 }
 
 // Obeys a command with its input.
