@@ -1,0 +1,36 @@
+-- Lines that are touched one after another.
+use Rattle.std.proofs.Common.{◌≡◌, ℕ, ◌+◌, ◌*◌, ◌<◌, ◌≤◌, Bool, true, false, ◌&&◌, ◌||◌, cond, List, [], ◌∷◌, ◌++◌, length, take, get_or, refl, sym, ◌∙◌, ap, subst, arith, nat_eq}
+use Rattle.std.specs.List.{list_any, list_all, flat_map}
+use Rattle.std.proofs.lemmas.List.{take_more}
+use Rattle.std.proofs.lemmas.List.Folds.{list_any-append}
+use Rattle.std.proofs.lemmas.Grind.{flat_map-append}
+use Rattle.dirty_table.specs.Touches.{Table, Touches, TouchesPromised, is_touched, lines_touched, promised_to}
+use Rattle.session_steps.specs.Drawing.{TouchesLines}
+
+pub touches-none : (n : ℕ) (t : Table) → TouchesLines n [] t t
+touches-none n t = record { touches = record { touched = λ m line. by (is_touched t.touches m line) (nat_eq n m); others = λ which apart. refl }; others = λ m apart. refl }
+  where
+    by : (a b : Bool) → a ≡ (a || (b && false))
+    by true b = refl
+    by false true = refl
+    by false false = refl
+
+pub touches-one : (n line : ℕ) (old new : Table) → TouchesPromised n line old new → TouchesLines n (line ∷ []) old new
+touches-one n line old new touches = record { touches = touches.touches; others = λ m apart. touches.promised m ∙ ap (λ (b : Bool). cond b _ (promised_to old m)) apart }
+
+pub touches-then : (n : ℕ) (one two : List ℕ) (old mid new : Table) → TouchesLines n one old mid → TouchesLines n two mid new → TouchesLines n (one ++ two) old new
+touches-then n one two old mid new first second = record {
+  touches = record {
+    touched = λ m line.
+        second.touches.touched m line ∙ ap (λ (b : Bool). b || (nat_eq n m && list_any (λ l. nat_eq l line) two)) (first.touches.touched m line)
+        ∙ by (is_touched old.touches m line) (nat_eq n m) (list_any (λ l. nat_eq l line) one) (list_any (λ l. nat_eq l line) two)
+        ∙ ap (λ (b : Bool). is_touched old.touches m line || (nat_eq n m && b)) (sym (list_any-append (λ l. nat_eq l line) one two));
+    others = λ which apart. second.touches.others which apart ∙ first.touches.others which apart;
+  };
+  others = λ m apart. second.others m apart ∙ first.others m apart;
+}
+  where
+    by : (x s a b : Bool) → ((x || (s && a)) || (s && b)) ≡ (x || (s && (a || b)))
+    by true s a b = refl
+    by false true a b = refl
+    by false false a b = refl
