@@ -1,18 +1,17 @@
 -- Room for the lines of writes, which is promised before a key is written.
-use Rattle.std.proofs.Common.{◌≡◌, ℕ, ◌+◌, ◌*◌, ◌≤◌, Bool, true, false, cond, List, length, refl, sym, ◌∙◌, ap, subst, arith, nat_eq}
+use Rattle.std.proofs.Common.{◌≡◌, ℕ, ◌+◌, ◌*◌, ◌≤◌, Bool, true, false, cond, List, length, refl, sym, ap, subst, arith, nat_eq}
 use Rattle.std.specs.Prelude.{Option, Some, None, is_none, max}
 use Rattle.std.proofs.lemmas.Bool.Decides.{nat_tests}
 use Rattle.base.specs.declared.key.Key.{Key}
 use Rattle.base.specs.declared.fault.Fault.{Fault}
-use Rattle.base.specs.declared.fault.Fault.TheVariants.{OutOfMemory, Device as DeviceFault}
+use Rattle.base.specs.declared.fault.Fault.TheVariants.{OutOfMemory}
 use Rattle.base.specs.declared.step.Reply.TheVariants as reply
 use Rattle.base.specs.declared.step.SessionStep.{SessionStep}
 use Rattle.base.specs.declared.step.SessionReply.{SessionReply}
 use Rattle.base.specs.declared.step.SessionReply.TheVariants.{Refused}
-use Rattle.base.specs.Machine.{State, refusal, takes_memory, memory_refused}
+use Rattle.base.specs.Machine.{refusal, takes_memory, memory_refused}
 use Rattle.base.specs.SessionSteps.{as_step, SessionStepped}
 use Rattle.pmem.specs.Device.{Device, IsOrderly}
-use Rattle.snapshot.specs.Snapshots.{Seen}
 use Rattle.txn.specs.declared.transaction.Transaction.{Transaction}
 use Rattle.txn.specs.declared.transaction.Transaction.TheVariants.{Active, Drawn, ReadOnly}
 use Rattle.txn.specs.declared.write.Write.{Write}

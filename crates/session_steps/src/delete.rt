@@ -22,10 +22,7 @@ impl Sessions {
         if is_full_for(active.writes, key) {
             return SessionReply::Refused(Fault::WriteSetFull);
         }
-        match self
-            .dirty
-            .promise(session, lines_with(active.writes, key))
-        {
+        match self.dirty.promise(session, lines_with(active.writes, key)) {
             Ok(()) => {}
             Err(fault) => return SessionReply::Refused(fault),
         }

@@ -1,4 +1,4 @@
-ghost use Rattle.std.specs.Prelude.{◌≡◌, ℕ, true, All, IfErr, OnOk};
+ghost use Rattle.std.specs.Prelude.{◌≡◌, ◌<◌, ℕ, true, All, IfErr, OnOk};
 ghost use Rattle.base.specs.declared.fault.Fault.TheVariants.{OutOfMemory};
 ghost use Rattle.base.specs.declared.key.Key.{Key as KeyValue};
 ghost use Rattle.index.specs.Entries.{entry_at, has_room, KeepsRoom};
@@ -8,10 +8,10 @@ ghost use Rattle.session_steps.specs.Drawing.{conflict_in, drawn_entry};
 use crate::active::active_in;
 use crate::sessions::Sessions;
 use crate::touching::touch_lines;
+use base::Ts;
 use base::fault::Fault;
 use base::key::Key;
 use base::step::SessionReply;
-use base::Ts;
 use index::Index;
 use snapshot::Snapshot;
 use txn::{DrawnCommit, Transaction, WriteSet};
