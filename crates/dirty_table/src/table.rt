@@ -109,13 +109,13 @@ mod tests {
     fn lines_of_a_batch_come_each_once_by_rising_line(rt: HostRuntime) -> Result<(), Fail> {
         let mut table = DirtyTable::new(rt.alloc());
         table.promise(2, 2)?;
-        table.promise(3, 2)?;
-        table.promise(4, 1)?;
         table.touch(2, 12);
-        table.touch(3, 9);
         table.touch(2, 9);
-        table.touch(4, 11);
+        table.promise(3, 2)?;
+        table.touch(3, 9);
         table.touch(3, 10);
+        table.promise(4, 1)?;
+        table.touch(4, 11);
         let mut batch = SessionSet::none();
         batch.insert(2);
         batch.insert(3);
