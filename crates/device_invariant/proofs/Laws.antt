@@ -14,6 +14,7 @@ use Rattle.state_invariant.specs.Kept.{Origin, Keeps, KeepsHand}
 use Rattle.state_invariant.specs.Shown.{word_of, is_drawn_on, SlotsShow, SlotShows, ShowsAs, class_of_version}
 use Rattle.state_invariant.proofs.Covering.{keeps-covered}
 use Rattle.state_invariant.proofs.ShownCovering.{shows-covered}
+use Rattle.state_invariant.proofs.ShownSteps.{shows-hand, shows-failed}
 use Rattle.state_invariant.proofs.LinkedCovers.{links-covered}
 use Rattle.state_invariant.proofs.LinkedSteps.{links-failed, links-hand}
 use Rattle.state_invariant.proofs.Stepping.{keeps-with_hand, keeps-failed}
@@ -26,7 +27,7 @@ use Rattle.device_invariant.proofs.Words.{within-slot}
 use Rattle.device_invariant.proofs.Shrinking.{ShrinksSlots}
 use Rattle.device_invariant.proofs.Ticking.{holds-flushed, holds-fenced, holds-fails, holds-failed, holds-chosen, holds-line, holds-lines}
 use Rattle.device_invariant.proofs.Recording.{holds-operation, holds-covered, operation-shrinks}
-use Rattle.device_invariant.proofs.Showing.{shows-shrink, shows-same, shows-with_hand, shows-failed}
+use Rattle.device_invariant.proofs.Showing.{shows-shrink, shows-same}
 use Rattle.device_invariant.proofs.Filling.{holds-cleared, holds-filled, zero-facts}
 use Rattle.device_invariant.proofs.Storing.{others-stored}
 use Rattle.device_invariant.proofs.Linking.{links-shrink, links-but_one}
@@ -65,35 +66,17 @@ failing-keeps o q device u = record { keeps = keeps-failed o q u.keeps; shows = 
 
 -- ---- ticks
 
--- the batch with a tick more keeps what it kept
-ticked-hand : (q : State) (hand : Hand) → KeepsHand q hand → KeepsHand q (record hand { ticks = hand.ticks + 1 })
-ticked-hand q hand k = record {
-  gate = k.gate;
-  formed = k.formed;
-  longs = k.longs;
-  persisted = k.persisted;
-  further = k.further;
-  reserved = k.reserved;
-  window = k.window;
-  gaps = k.gaps;
-  still = k.still;
-  batch = k.batch;
-  only = k.only;
-  drawn = k.drawn;
-  rising = k.rising;
-}
-
 some-hand : (q : State) (hand : Hand) → KeepsHand q hand → (h : Hand) → Some hand ≡ Some h → KeepsHand q h
 some-hand q hand k h is = let same : hand ≡ h = cc is in subst (KeepsHand q) same k
 
 keeps-ticked : (o : Origin) (q : State) (hand : Hand) → q.hand ≡ Some hand → Keeps o q → Keeps o (one_tick_on q hand)
 keeps-ticked o q hand in_hand kept =
-    keeps-with_hand o q (Some (record hand { ticks = hand.ticks + 1 })) q.failed kept (some-hand q (record hand { ticks = hand.ticks + 1 }) (ticked-hand q hand (kept.numbers.hand hand in_hand)))
+    keeps-with_hand o q (Some (record hand { ticks = hand.ticks + 1 })) q.failed kept (some-hand q (record hand { ticks = hand.ticks + 1 }) (kept.numbers.hand hand in_hand))
 
 upholds-ticked : (o : Origin) (q : State) (hand : Hand) (old new : Device) → q.hand ≡ Some hand → ShrinksSlots q.layout old new → HoldsState (one_tick_on q hand) new → Upholds o q old → Upholds o (one_tick_on q hand) new
 upholds-ticked o q hand old new in_hand shrinks holds u = record {
   keeps = keeps-ticked o q hand in_hand u.keeps;
-  shows = shows-with_hand o q (Some (record hand { ticks = hand.ticks + 1 })) (value_of new) (shows-shrink o q old new (same-values q old new shrinks) u.shows);
+  shows = shows-hand o q (Some (record hand { ticks = hand.ticks + 1 })) (value_of new) (shows-shrink o q old new (same-values q old new shrinks) u.shows);
   links = links-hand o q (Some (record hand { ticks = hand.ticks + 1 })) (value_of new) (links-shrink o q old new (same-values q old new shrinks) u.links);
   holds = holds;
 }
@@ -103,7 +86,7 @@ choosing-keeps o q hand device none first k numbered u =
     let kept : Keeps o (record q { hand = Some hand }) = keeps-with_hand o q (Some hand) q.failed u.keeps (some-hand q hand k) in
     record {
       keeps = kept;
-      shows = shows-with_hand o q (Some hand) (value_of device) u.shows;
+      shows = shows-hand o q (Some hand) (value_of device) u.shows;
       links = links-hand o q (Some hand) (value_of device) u.links;
       holds = holds-chosen o q hand device none first kept numbered u.holds;
     }

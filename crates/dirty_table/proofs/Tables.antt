@@ -7,7 +7,7 @@ use Rattle.std.proofs.lemmas.Bool.{and_parts, and_from, le-leb, leb-true, leb-fa
 use Rattle.std.proofs.lemmas.Bool.Decides.{nat_tests}
 use Rattle.base.specs.Records.{are_rising}
 use Rattle.dirty_table.specs.declared.touches.Touch.{Touch}
-use Rattle.dirty_table.specs.Touches.{has, is_touched, lines_touched, are_from, are_in_order, put_in, with_touch, with_touches, Touches, Forgets}
+use Rattle.dirty_table.specs.Touches.{has, is_touched, lines_touched, are_from, are_in_order, put_in, with_touch, Touches, Forgets}
 
 abbrev is_it : Touch → ℕ → ℕ → Bool
 is_it touch n line = nat_eq touch.session n && nat_eq touch.line line
@@ -53,25 +53,6 @@ with_touch-touched new touches n line = by (is_touched touches new.session new.l
     by true is = there (is_it new n line) refl is
     by false is = put_in-touched new touches n line
 
-with_touches-touched : (session : ℕ) (lines : List ℕ) (touches : List Touch) (n line : ℕ)
-    → is_touched (with_touches session lines touches) n line ≡ (is_touched touches n line || (nat_eq session n && list_any (λ l. nat_eq l line) lines))
-with_touches-touched session [] touches n line = none (is_touched touches n line) (nat_eq session n)
-  where
-    none : (x s : Bool) → x ≡ (x || (s && false))
-    none true s = refl
-    none false true = refl
-    none false false = refl
-with_touches-touched session (first ∷ lines) touches n line =
-    let new : Touch = record { line = first; session = session } in
-    with_touches-touched session lines (with_touch new touches) n line
-    ∙ ap (λ (x : Bool). x || (nat_eq session n && list_any (λ l. nat_eq l line) lines)) (with_touch-touched new touches n line)
-    ∙ both (is_touched touches n line) (nat_eq session n) (nat_eq first line) (list_any (λ l. nat_eq l line) lines)
-  where
-    both : (x s a b : Bool) → ((x || (s && a)) || (s && b)) ≡ (x || (s && (a || b)))
-    both true s a b = refl
-    both false true a b = refl
-    both false false a b = refl
-
 abbrev of : (ℕ → Bool) → Touch → Bool
 of which touch = which touch.session
 
@@ -90,19 +71,13 @@ with_touch-others which new touches other = by (is_touched touches new.session n
     by true = refl
     by false = put_in-others which new touches other
 
-with_touches-others : (which : ℕ → Bool) (session : ℕ) (lines : List ℕ) (touches : List Touch) → which session ≡ false → filter (of which) (with_touches session lines touches) ≡ filter (of which) touches
-with_touches-others which session [] touches other = refl
-with_touches-others which session (line ∷ lines) touches other =
-    let new : Touch = record { line = line; session = session } in
-    with_touches-others which session lines (with_touch new touches) other ∙ with_touch-others which new touches other
-
 abbrev lines_of : List Touch → List ℕ
 lines_of touches = dedup nat_eq (map (λ touch. touch.line) touches)
 
-pub touches_from : (session : ℕ) (lines : List ℕ) (old new : List Touch) → new ≡ with_touches session lines old → Touches session lines old new
-touches_from session lines old new e = subst (λ (ts : List Touch). Touches session lines old ts) (sym e) (record {
-  touched = with_touches-touched session lines old;
-  others = λ which other. ap lines_of (with_touches-others which session lines old other);
+pub touches_from : (new : Touch) (old touches : List Touch) → touches ≡ with_touch new old → Touches new.session (new.line ∷ []) old touches
+touches_from new old touches e = subst (λ (ts : List Touch). Touches new.session (new.line ∷ []) old ts) (sym e) (record {
+  touched = λ n line. with_touch-touched new old n line ∙ ap (λ (x : Bool). is_touched old n line || (nat_eq new.session n && x)) (sym (or_none (nat_eq new.line line)));
+  others = λ which other. ap lines_of (with_touch-others which new old other);
 })
 
 -- ---- order
@@ -125,18 +100,12 @@ put_in-from low new (touch ∷ touches) le o =
     by true is first more rest = and_from _ _ (le-leb low new.line le) (and_from _ _ is more)
     by false is first more rest = and_from _ _ first (rest (omega (arith, leb-false new.line touch.line is)) more)
 
-with_touch-ordered : (new : Touch) (touches : List Touch) → are_in_order touches ≡ true → are_in_order (with_touch new touches) ≡ true
+pub with_touch-ordered : (new : Touch) (touches : List Touch) → are_in_order touches ≡ true → are_in_order (with_touch new touches) ≡ true
 with_touch-ordered new touches o = by (is_touched touches new.session new.line)
   where
     by : (b : Bool) → are_in_order (cond b touches (put_in new touches)) ≡ true
     by true = o
     by false = put_in-from 0 new touches (omega arith) o
-
-pub with_touches-ordered : (session : ℕ) (lines : List ℕ) (touches : List Touch) → are_in_order touches ≡ true → are_in_order (with_touches session lines touches) ≡ true
-with_touches-ordered session [] touches o = o
-with_touches-ordered session (line ∷ lines) touches o =
-    let new : Touch = record { line = line; session = session } in
-    with_touches-ordered session lines (with_touch new touches) (with_touch-ordered new touches o)
 
 filter-from : (p : Touch → Bool) (low : ℕ) (touches : List Touch) → are_from low touches ≡ true → are_from low (filter p touches) ≡ true
 filter-from p low [] o = refl

@@ -1,5 +1,5 @@
 -- Which sessions touch which lines.
-use Rattle.std.specs.Prelude.{ℕ, ◌≡◌, Bool, true, false, ◌&&◌, ◌||◌, not, nat_eq, nat_le, if◌then◌else◌, List, [], ◌∷◌, map, filter, slice_index_or}
+use Rattle.std.specs.Prelude.{ℕ, ◌≡◌, ◌-◌, Bool, true, false, ◌&&◌, ◌||◌, not, max, nat_eq, nat_le, if◌then◌else◌, List, [], ◌∷◌, map, filter, slice_index_or}
 use Rattle.std.specs.List.{list_any, dedup}
 use Rattle.dirty_table.specs.declared.touches.Touch.{Touch}
 
@@ -33,11 +33,6 @@ put_in new (touch ∷ touches) = if nat_le new.line touch.line then new ∷ touc
 abbrev pub with_touch : Touch → List Touch → List Touch
 with_touch new touches = if is_touched touches new.session new.line then touches else put_in new touches
 
--- with one more for each of the lines
-abbrev pub with_touches : ℕ → List ℕ → List Touch → List Touch
-with_touches session [] touches = touches
-with_touches session (line ∷ lines) touches = with_touches session lines (with_touch (record { line = line; session = session }) touches)
-
 -- the session touches these lines too, and what others touch stays
 pub record Touches (session : ℕ) (lines : List ℕ) (old new : List Touch) : Type 0 where
   pub touched : (n line : ℕ) → is_touched new n line ≡ (is_touched old n line || (nat_eq session n && list_any (λ l. nat_eq l line) lines))
@@ -47,3 +42,22 @@ pub record Touches (session : ℕ) (lines : List ℕ) (old new : List Touch) : T
 pub record Forgets (sessions : List Bool) (old new : List Touch) : Type 0 where
   pub touched : (n line : ℕ) → is_touched new n line ≡ (is_touched old n line && not (has sessions n))
   pub others : (which : ℕ → Bool) → ((n : ℕ) → which n ≡ true → has sessions n ≡ false) → lines_touched which new ≡ lines_touched which old
+
+-- which lines the sessions touch, by rising line, and how many more the session of each number has room for
+pub record Table : Type 0 where
+  pub touches : List Touch
+  pub promised : List ℕ
+
+-- how many more lines the session has room for
+abbrev pub promised_to : Table → ℕ → ℕ
+promised_to table n = slice_index_or table.promised n 0
+
+-- the session has room for so many more lines, and all else stays
+pub record Promises (session lines : ℕ) (old new : Table) : Type 0 where
+  pub touches : new.touches ≡ old.touches
+  pub promised : (n : ℕ) → promised_to new n ≡ (if nat_eq n session then max lines (promised_to old n) else promised_to old n)
+
+-- the session touches the line too, in room that it had, and all else stays
+pub record TouchesPromised (session line : ℕ) (old new : Table) : Type 0 where
+  pub touches : Touches session (line ∷ []) old.touches new.touches
+  pub promised : (n : ℕ) → promised_to new n ≡ (if nat_eq n session then promised_to old n - 1 else promised_to old n)

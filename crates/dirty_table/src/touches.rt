@@ -1,6 +1,6 @@
-ghost use Rattle.std.specs.Prelude.{◌≡◌, ◌+◌, ◌<◌, ◌≤◌, nat_le, length, vec_len, vec_capacity, ◌&&◌, find};
+ghost use Rattle.std.specs.Prelude.{◌≡◌, ◌+◌, ◌<◌, ◌≤◌, nat_le, vec_len, vec_capacity, ◌&&◌, find};
 ghost use Rattle.std.specs.List.{position_or_len};
-ghost use Rattle.dirty_table.specs.Touches.{has, is_touched, with_touch, with_touches};
+ghost use Rattle.dirty_table.specs.Touches.{has, is_touched, with_touch};
 
 use crate::sessions::SessionSet;
 
@@ -30,8 +30,8 @@ fn place(touches: &[Touch], line: u64) -> usize
         .unwrap_or(touches.len())
 }
 
-// Puts one in, where there is room, unless it is there.
-fn add(touches: &mut Vec<Touch>, touch: Touch)
+/// Puts one in, where there is room, unless it is there.
+pub(crate) fn add(touches: &mut Vec<Touch>, touch: Touch)
     requires { vec_len touches.old < vec_capacity touches.old }
     ensures items { touches.new.items ≡ with_touch touch touches.old.items }
     ensures len { vec_len touches.new ≤ vec_len touches.old + 1 }
@@ -42,22 +42,6 @@ fn add(touches: &mut Vec<Touch>, touch: Touch)
     }
     let place = place(touches.as_slice(), touch.line);
     let _ = touches.insert(place, touch);
-}
-
-/// Puts in that the session touches these lines, where there is room for them.
-pub(crate) fn add_all(touches: &mut Vec<Touch>, session: u8, lines: &[u64])
-    requires { vec_len touches.old + length lines.now ≤ vec_capacity touches.old }
-    ensures { touches.new.items ≡ with_touches session lines.now touches.old.items }
-{
-    for line in lines {
-        add(
-            touches,
-            Touch {
-                line: *line,
-                session,
-            },
-        );
-    }
 }
 
 /// The first, from this line on, of one of the sessions.

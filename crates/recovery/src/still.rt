@@ -2,8 +2,7 @@ ghost use Rattle.recovery.specs.Words.{AreWords};
 
 use base::actor::Actor;
 use base::fault::Fault;
-use pmem::Pmem;
-use pmem::Tally;
+use pmem::{Pmem, Tally};
 
 /// The words of an image, read where they lie, as a device on which every operation fails.
 #[derive(Drop)]

@@ -102,15 +102,15 @@ module _ (c : VolatileState) (device : Device) (q : State) (sessions : List Bool
   drawn-is = ap (λ (p : State). p.drawn) shown.shown.plain
 
   -- the table's lines of these sessions are those that all drawn commits touch
-  lines-are : are_rising (lines_touched (has sessions) c.sessions.dirty) ≡ true → lines_touched (has sessions) c.sessions.dirty ≡ line_numbers q (drawn_of q)
+  lines-are : are_rising (lines_touched (has sessions) c.sessions.dirty.touches) ≡ true → lines_touched (has sessions) c.sessions.dirty.touches ≡ line_numbers q (drawn_of q)
   lines-are rising =
-      table-lines q c.sessions.drawn.commits c.sessions.dirty sessions (λ t. true) drawn-is shown.shown.agrees.lines drawn-by rising
+      table-lines q c.sessions.drawn.commits c.sessions.dirty.touches sessions (λ t. true) drawn-is shown.shown.agrees.lines drawn-by rising
       ∙ ap (line_numbers q) (filter-whole (drawn_of q))
 
   -- and lines of the device
-  line-below : (from line : ℕ) → find (nat_le from) (lines_touched (has sessions) c.sessions.dirty) ≡ Some line → line < total_words q.layout / 8
+  line-below : (from line : ℕ) → find (nat_le from) (lines_touched (has sessions) c.sessions.dirty.touches) ≡ Some line → line < total_words q.layout / 8
   line-below from line found =
-      let any = sym (member q c.sessions.drawn.commits c.sessions.dirty sessions (λ t. true) drawn-is shown.shown.agrees.lines drawn-by line) ∙ found-any (nat_le from) line (lines_touched (has sessions) c.sessions.dirty) found in
+      let any = sym (member q c.sessions.drawn.commits c.sessions.dirty.touches sessions (λ t. true) drawn-is shown.shown.agrees.lines drawn-by line) ∙ found-any (nat_le from) line (lines_touched (has sessions) c.sessions.dirty.touches) found in
       ltb-true line (total_words q.layout / 8) (any-has (λ x. nat_lt x (total_words q.layout / 8)) line _ any (lines-within q _))
 
 -- ---- the record
@@ -183,7 +183,7 @@ pub record IsCovering (c : VolatileState) (before now : Device) (cycle : Cycling
   pub layout : cycle.writing.layout ≡ c.sessions.numbers.geometry
   pub no_failure : HasNoFailure before now
   pub words : now.words ≡ before.words
-  pub come : HasCome c (lines_touched (has cycle.sessions) c.sessions.dirty) before now cycle.writing cycle.stage
+  pub come : HasCome c (lines_touched (has cycle.sessions) c.sessions.dirty.touches) before now cycle.writing cycle.stage
 
 pub begins : (c : VolatileState) (device : Device) (cycle : Cycling) → IsOrderly device → HaveDrawn c cycle.sessions → cycle.writing ≡ begun c.sessions.numbers.geometry (last_record c) → cycle.stage ≡ FlushLines 0 0 → IsCovering c device device cycle
 begins c device cycle orderly drew writing stage = record {
@@ -191,7 +191,7 @@ begins c device cycle orderly drew writing stage = record {
   layout = ap (λ (p : Progress). p.layout) writing;
   no_failure = refl;
   words = refl;
-  come = subst (HasCome c (lines_touched (has cycle.sessions) c.sessions.dirty) device device cycle.writing) (sym stage) (
+  come = subst (HasCome c (lines_touched (has cycle.sessions) c.sessions.dirty.touches) device device cycle.writing) (sym stage) (
     record { within = omega arith; below = λ i line less at. absurd (omega (arith, less)); others = λ i line le at. omega arith },
     writing,
     λ q shown works. record { shown = shown; flushed = closing-flushes.begins q device; images = leaves_refl device (StandsClosing q) orderly (stands-closing c device q shown) },
@@ -200,7 +200,7 @@ begins c device cycle orderly drew writing stage = record {
 
 module _ (c : VolatileState) (before now : Device) (cycle : Cycling) (so_far : IsCovering c before now cycle) (rests : c.cycle ≡ None) (stamped : list_all is_stamped_whole c.sessions.drawn.commits ≡ true) (numbered : c.sessions.numbers.record.gate + 1 < 2 ^ 62) where
   abbrev lines : List ℕ
-  lines = lines_touched (has cycle.sessions) c.sessions.dirty
+  lines = lines_touched (has cycle.sessions) c.sessions.dirty.touches
 
   -- ---- what a tick asks
 
@@ -296,12 +296,12 @@ module _ (c : VolatileState) (before now : Device) (cycle : Cycling) (so_far : I
           by WriteRecord at come done = subst (λ (s : CycleStage). IsCovering c before new (record cycle { writing = advanced cycle.writing; stage = s })) (sym at) (writes-on come done)
 
       -- fewer are left
-      pub comes-closer : (after : Cycling) → after ≡ ticked_in lines cycle → ticks_left c.sessions.dirty (Some after) < ticks_left c.sessions.dirty (Some cycle)
+      pub comes-closer : (after : Cycling) → after ≡ ticked_in lines cycle → ticks_left c.sessions.dirty.touches (Some after) < ticks_left c.sessions.dirty.touches (Some cycle)
       comes-closer after is =
-          subst (λ (a : Cycling). ticks_left c.sessions.dirty (Some a) < ticks_left c.sessions.dirty (Some cycle)) (sym is)
+          subst (λ (a : Cycling). ticks_left c.sessions.dirty.touches (Some a) < ticks_left c.sessions.dirty.touches (Some cycle)) (sym is)
           (by cycle.stage refl so_far.come)
         where
-          by : (stage : CycleStage) → cycle.stage ≡ stage → HasCome c lines before now cycle.writing stage → ticks_left c.sessions.dirty (Some (ticked_at lines cycle stage)) < left_at (length lines) cycle.writing.stage stage
+          by : (stage : CycleStage) → cycle.stage ≡ stage → HasCome c lines before now cycle.writing stage → ticks_left c.sessions.dirty.touches (Some (ticked_at lines cycle stage)) < left_at (length lines) cycle.writing.stage stage
           by (FlushLines count from) at come = flushes (find (nat_le from) lines) refl
             where
               flushes : (o : Option ℕ) → find (nat_le from) lines ≡ o → left_at (length lines) cycle.writing.stage (next_at count o) < 41 + (length lines - count)

@@ -8,9 +8,9 @@ ghost use Rattle.recovery.specs.Opened.{IsRefusal, MakesOpening};
 ghost use Rattle.recovery.specs.Read.{TellsLogFault};
 ghost use Rattle.room.specs.Opening.{HasBegun};
 
-use crate::volatile::VolatileState;
 use crate::indexing::index_of;
 use crate::room::Room;
+use crate::volatile::VolatileState;
 use base::fault::Fault;
 use pmem::Pmem;
 use recovery::examine;

@@ -1,8 +1,8 @@
 ghost use Rattle.std.specs.Prelude.{◌≡◌, false};
 ghost use Rattle.room.specs.Steps.{ShowsAs};
 
-use crate::volatile::VolatileState;
 use crate::status::Status;
+use crate::volatile::VolatileState;
 use base::fault::Fault;
 use base::geometry::Geometry;
 use base::key::Key;

@@ -60,7 +60,7 @@ impl VolatileState {
         requires rests { self.old.cycle ≡ None }
         requires shown { ∥ ShowsSomeIn self.old.sessions (Some cycle) (D.state device.old) ∥₁ }
         ensures step { StepsIn self.old.sessions (Some cycle) self.new (D.state device.old) (D.state device.new) Commit result }
-        ensures closer { ((fault : Fault) → result ≢ Refused fault) → ticks_left self.new.sessions.dirty self.new.cycle < ticks_left self.old.sessions.dirty (Some cycle) }
+        ensures closer { ((fault : Fault) → result ≢ Refused fault) → ticks_left self.new.sessions.dirty.touches self.new.cycle < ticks_left self.old.sessions.dirty.touches (Some cycle) }
     {
         let mut cycle = cycle;
         match cycle.tick(device, self.sessions.dirty()) {

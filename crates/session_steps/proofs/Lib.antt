@@ -11,6 +11,7 @@ pub mod OneTransaction
 pub mod LastDrawn
 pub mod Noted
 pub mod Lines
+pub mod TouchedLines
 pub mod Drawing
 pub mod Draws
 pub mod Freeing
@@ -21,6 +22,7 @@ pub mod OpenedSlots
 pub mod OpenedStates
 pub mod Failing
 pub mod Stepping
+pub mod LineRoom
 pub mod Stamped
 pub mod Puts
 pub mod Reading

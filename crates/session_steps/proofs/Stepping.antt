@@ -126,14 +126,15 @@ goes-quietly law old new device s r orderly quiet h holds goes =
       drawers = goes.drawers;
     }
 
--- a refusal
-pub refused-on : (s : Sessions) (device : Device) (step : SessionStep) (fault : Fault) (h : Hidden) → IsOrderly device → HoldsOn s h device → refusal (plain_of s h) (as_step step) ≡ Some fault → GoesOn s s device device step (Refused fault) h
-refused-on s device step fault h orderly holds is =
+-- nothing changes where a step is refused, for another reason than a failing device
+pub unmoved-on : (s : Sessions) (device : Device) (step : SessionStep) (fault : Fault) (h : Hidden) → IsOrderly device → HoldsOn s h device → SessionStepped (plain_of s h) step (Refused fault) (plain_of s h) → (fault ≡ DeviceFault → ⊥)
+    → GoesOn s s device device step (Refused fault) h
+unmoved-on s device step fault h orderly holds stepped other =
     let leads = refusals-lead h.origin (plain_of s h) device orderly holds.upholds in
     record {
       next = h;
       origin = refl;
-      stepped = refused fault is refl refl;
+      stepped = stepped;
       upholds = holds.upholds;
       agrees = holds.agrees;
       images = leads.images;
@@ -145,7 +146,11 @@ refused-on s device step fault h orderly holds is =
     }
   where
     untold : ◌≡◌ {A = SessionReply} (Refused fault) (Refused DeviceFault) → ⊥
-    untold told = let same : fault ≡ DeviceFault = cc told in undevice (plain_of s h) (as_step step) (is ∙ ap (λ (f : Fault). Some f) same)
+    untold told = let same : fault ≡ DeviceFault = cc told in other same
+
+-- a refusal
+pub refused-on : (s : Sessions) (device : Device) (step : SessionStep) (fault : Fault) (h : Hidden) → IsOrderly device → HoldsOn s h device → refusal (plain_of s h) (as_step step) ≡ Some fault → GoesOn s s device device step (Refused fault) h
+refused-on s device step fault h orderly holds is = unmoved-on s device step fault h orderly holds (refused fault is refl refl) (λ same. undevice (plain_of s h) (as_step step) (is ∙ ap (λ (f : Fault). Some f) same))
 
 -- what holds on a device holds
 pub held-on : (s : Sessions) (h : Hidden) (device : Device) → HoldsOn s h device → Holds s h

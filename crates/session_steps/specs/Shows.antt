@@ -1,5 +1,5 @@
 -- Which plain states the sessions show on a device.
-use Rattle.std.specs.Prelude.{◌≡◌, ℕ, ◌<◌, Bool, true, false, nat_eq, List, [], ◌∷◌, length, map, slice_get, Option, Some, is_some, is_none, All}
+use Rattle.std.specs.Prelude.{◌≡◌, ℕ, ◌*◌, ◌<◌, ◌≤◌, Bool, true, false, nat_eq, List, [], ◌∷◌, length, map, slice_get, Option, Some, is_some, is_none, All}
 use Rattle.std.specs.List.{list_any}
 use Rattle.std.specs.Option.{option_map}
 use Rattle.base.specs.declared.key.Key.{Key}
@@ -13,7 +13,7 @@ use Rattle.txn.specs.declared.write.Write.{Write}
 use Rattle.txn.specs.Transactions.{transaction_at}
 use Rattle.txn.specs.WriteSets.{plain_writes}
 use Rattle.dirty_table.specs.declared.touches.Touch.{Touch}
-use Rattle.dirty_table.specs.Touches.{is_touched}
+use Rattle.dirty_table.specs.Touches.{is_touched, promised_to}
 use Rattle.index.specs.declared.entry.Entry.{Entry}
 use Rattle.index.specs.Entries.{entry_at, has_room, live_of}
 use Rattle.state_invariant.specs.Kept.{Origin, commits_of_life, version_by}
@@ -108,6 +108,11 @@ pub record HoldsLines (q : State) (drawn : List DrawnCommit) (dirty : List Touch
   pub own : All (λ d. (line : ℕ) → is_touched dirty d.session line ≡ list_any (λ l. nat_eq l line) (line_numbers q ((plain_drawn d).commit ∷ []))) drawn
   pub none : (n line : ℕ) → has_drawn_by drawn n ≡ false → is_touched dirty n line ≡ false
 
+-- there is room for the lines of each write: two of the version that it makes, and one of that which it ends
+abbrev pub HasLines : ℕ → Option Transaction → Type 0
+HasLines room (Some (Active snapshot writes)) = 3 * length writes ≤ room
+HasLines room _ = Unit {0}
+
 -- a drawn commit is its session's, and its writes have their slots, and their keys room in the index
 pub record HoldsDrawn (s : Sessions) (q : State) (d : DrawnCommit) : Type 0 where
   pub session : transaction_at s.transactions d.session ≡ Some (Drawn d.timestamp)
@@ -121,7 +126,8 @@ pub record Agrees (s : Sessions) (o : Origin) (seen : ℕ → ℕ) (q : State) :
   pub free : (slot : ℕ) → slot < q.layout.slots → slice_get s.slots slot ≡ Some (is_none (q.held slot))
   pub counted : length s.slots ≡ q.layout.slots
   pub index : (key : Key) → HoldsEntry o q key (entry_at s.index key)
-  pub lines : HoldsLines q s.drawn.commits s.dirty
+  pub lines : HoldsLines q s.drawn.commits s.dirty.touches
+  pub room : (n : ℕ) → HasLines (promised_to s.dirty n) (transaction_at s.transactions n)
 
 -- the sessions show the state on the device
 pub record Shows (s : Sessions) (device : Device) (q : State) : Type 0 where

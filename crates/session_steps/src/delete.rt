@@ -1,5 +1,5 @@
 use crate::active::{active_in, is_full_for};
-use crate::giving::{give, own_slot};
+use crate::giving::{give, lines_with, own_slot};
 use crate::sessions::Sessions;
 use base::fault::Fault;
 use base::key::Key;
@@ -21,6 +21,10 @@ impl Sessions {
         };
         if is_full_for(active.writes, key) {
             return SessionReply::Refused(Fault::WriteSetFull);
+        }
+        match self.dirty.promise(session, lines_with(active.writes, key)) {
+            Ok(()) => {}
+            Err(fault) => return SessionReply::Refused(fault),
         }
         give(&mut self.slots, own_slot(active.writes, key));
         let deletion = Write {

@@ -1,21 +1,19 @@
-ghost use Rattle.std.specs.Prelude.{◌≡◌, ◌<◌, ◌++◌, ℕ, true, IsTrue, All, IfErr, IfOk, OnOk};
-ghost use Rattle.std.specs.List.{flat_map};
+ghost use Rattle.std.specs.Prelude.{◌≡◌, ◌<◌, ℕ, true, All, IfErr, OnOk};
 ghost use Rattle.base.specs.declared.fault.Fault.TheVariants.{OutOfMemory};
 ghost use Rattle.base.specs.declared.key.Key.{Key as KeyValue};
 ghost use Rattle.index.specs.Entries.{entry_at, has_room, KeepsRoom};
 ghost use Rattle.txn.specs.WriteSets.{write_of};
-ghost use Rattle.session_steps.specs.Drawing.{conflict_in, fits_touched, own_lines, touched_lines, drawn_entry};
+ghost use Rattle.session_steps.specs.Drawing.{conflict_in, drawn_entry};
 
 use crate::active::active_in;
 use crate::sessions::Sessions;
+use crate::touching::touch_lines;
+use base::Ts;
 use base::fault::Fault;
-use base::geometry::Geometry;
 use base::key::Key;
 use base::step::SessionReply;
-use base::{SlotNo, Ts};
 use index::Index;
 use snapshot::Snapshot;
-use std::alloc::{AllocError, Global};
 use txn::{DrawnCommit, Transaction, WriteSet};
 
 impl Sessions {
@@ -52,7 +50,8 @@ impl Sessions {
         self.draw_next(session, writes)
     }
 
-    // Draws the next timestamp, against which nothing stands but want of memory. The growths come before any change.
+    // Draws the next timestamp, against which nothing stands but want of memory. The growths come before any change: room for the
+    // keys in the index, and for the commit among those that are drawn. There is room for the lines since the writes were put.
     fn draw_next(&mut self, session: u8, writes: WriteSet) -> SessionReply
         requires shown { ∥ HoldsSome self.old ∥₁ }
         requires active { (snapshot : Seen) × (transaction_at self.old.transactions session ≡ Some (IsActiveWith snapshot writes)) × (conflict_in self.old.index snapshot writes ≡ None) }
@@ -70,26 +69,24 @@ impl Sessions {
             Ok(()) => {}
             Err(fault) => return SessionReply::Refused(fault),
         }
-        let lines = match lines_of(self.alloc, self.numbers.geometry, &self.index, &writes) {
-            Ok(lines) => lines,
-            Err(_) => return SessionReply::Refused(Fault::OutOfMemory),
-        };
-        match self.dirty.touch(session, lines.as_slice()) {
-            Ok(()) => {
-                let timestamp = self.numbers.draw();
-                note_draws(&mut self.index, &writes, timestamp);
-                self.transactions
-                    .set(session, Transaction::Drawn(timestamp));
-                self.drawn.push(DrawnCommit {
-                    session,
-                    timestamp,
-                    writes,
-                    stamped: 0,
-                });
-                SessionReply::Drawn(timestamp)
-            }
-            Err(fault) => SessionReply::Refused(fault),
-        }
+        touch_lines(
+            &mut self.dirty,
+            session,
+            self.numbers.geometry,
+            &self.index,
+            &writes,
+        );
+        let timestamp = self.numbers.draw();
+        note_draws(&mut self.index, &writes, timestamp);
+        self.transactions
+            .set(session, Transaction::Drawn(timestamp));
+        self.drawn.push(DrawnCommit {
+            session,
+            timestamp,
+            writes,
+            stamped: 0,
+        });
+        SessionReply::Drawn(timestamp)
     }
 }
 
@@ -119,40 +116,6 @@ fn reserve_keys(index: &mut Index, writes: &WriteSet) -> Result<(), Fault>
             Ok(()) => {}
             Err(fault) => return Err(fault),
         }
-    }
-    Ok(())
-}
-
-// The lines that the writes touch: all of each version that they make, and the first of each that they end.
-fn lines_of(
-    alloc: Global,
-    geometry: Geometry,
-    index: &Index,
-    writes: &WriteSet,
-) -> Result<Vec<u64>, AllocError>
-    requires { IsTrue (fits_touched geometry index.now writes.now) }
-    ensures { IfOk result (λ lines. lines.items ≡ flat_map (touched_lines geometry index.now) writes.now) }
-{
-    let mut lines = Vec::new(alloc);
-    for write in writes.as_slice() {
-        if let Some(slot) = write.slot {
-            push_own(&mut lines, geometry, slot)?;
-        }
-        if let Some(slot) = index.live(write.key) {
-            lines.push(geometry.slot_line(slot) as u64)?;
-        }
-    }
-    Ok(lines)
-}
-
-// Adds the lines of a version in the slot.
-fn push_own(lines: &mut Vec<u64>, geometry: Geometry, slot: SlotNo) -> Result<(), AllocError>
-    requires { slot < geometry.slots }
-    ensures { OnOk result (lines.new.items ≡ lines.old.items ++ own_lines geometry slot) }
-{
-    let first = geometry.slot_line(slot) as u64;
-    for part in 0..geometry.slot_lines() {
-        lines.push(first + part as u64)?;
     }
     Ok(())
 }

@@ -22,6 +22,7 @@ mod sessions;
 mod stamp;
 mod step;
 mod tables;
+mod touching;
 
 pub use law::{sessions_show_any_hand, table_has_the_lines_of_a_batch};
 pub use numbers::Numbers;

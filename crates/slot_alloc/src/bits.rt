@@ -25,7 +25,7 @@ impl Model for FreeBits {
 }
 
 impl FreeBits {
-    ghost use Rattle.std.specs.Prelude.{◌≡◌, ◌≤◌, ◌<◌, ◌^◌, ℕ, Bool, true, false, List, length, slice_set, Some, IfOk};
+    ghost use Rattle.std.specs.Prelude.{◌≡◌, ◌≤◌, ◌<◌, ◌^◌, ℕ, Bool, true, false, List, length, slice_set, Some, is_some, IfOk};
     ghost use Rattle.slot_alloc.specs.Free.{free_count, is_free, lowest_free};
 
     // No slot is free.
@@ -66,6 +66,13 @@ impl FreeBits {
         } else {
             false
         }
+    }
+
+    /// Whether some slot is free.
+    pub fn has_some(&self) -> bool
+        ensures { result ≡ is_some (lowest_free self.now) }
+    {
+        first_set(self.words.as_slice(), self.first).is_some()
     }
 
     /// How many slots are free.

@@ -25,7 +25,7 @@ impl Model for SlotAlloc {
 }
 
 impl SlotAlloc {
-    ghost use Rattle.std.specs.Prelude.{◌≡◌, ◌≢◌, ◌⊎◌, ◌↔◌, ◌+◌, ◌/◌, ◌<◌, ◌≤◌, ◌^◌, true, false, ℕ, length, slice_set, Err, None, Some, IfErr, IfOk, IsErrOf, OnErr, OnOk};
+    ghost use Rattle.std.specs.Prelude.{◌≡◌, ◌≢◌, ◌⊎◌, ◌↔◌, ◌+◌, ◌/◌, ◌<◌, ◌≤◌, ◌^◌, true, false, ℕ, length, slice_set, Err, None, Some, is_some, IfErr, IfOk, IsErrOf, OnErr, OnOk};
     ghost use Rattle.base.specs.Layout.{slot_start, total_words};
     ghost use Rattle.pmem.specs.Device.{fenced, flushed, stored};
     ghost use Rattle.pmem.specs.Words.{IsSettledAt, Keeps, Makes, OldOr, OnlyShrinks};
@@ -47,6 +47,13 @@ impl SlotAlloc {
         ensures { result ≡ is_free self.now slot }
     {
         self.free.is_free(slot)
+    }
+
+    /// Whether some slot is free.
+    pub fn has_free(&self) -> bool
+        ensures { result ≡ is_some (lowest_free self.now) }
+    {
+        self.free.has_some()
     }
 
     /// How many slots are free.
@@ -132,6 +139,7 @@ mod tests {
     #[test]
     fn a_slot_that_is_given_is_free(rt: HostRuntime) -> Result<(), Fail> {
         let mut slots = SlotAlloc::new(rt.alloc(), &[false, true, false])?;
+        assert!(rt; slots.has_free());
         assert!(rt; slots.free_count() == 1);
         assert!(rt; !slots.is_free(0));
         assert!(rt; slots.is_free(1));

@@ -512,23 +512,25 @@ module _ (o : Origin) (q : State) (kept : Keeps o q) where
 
   pub keeps-chosen : KeepsHand q (taken_in_hand q)
   keeps-chosen = record {
-    gate = refl;
-    formed = formed-target;
+    extends = record {
+      gate = refl;
+      formed = formed-target;
+      further = reach-persisted;
+      reserved = kept.numbers.window;
+      still = λ t counts. let b = committed-parts q.ruling t counts in
+          committed-from (target_of q) t b.0 (omega (arith, b.1, reach-persisted)) (out-of_gaps t q.swept b.2)
+          (false_from_ne_true (list_any (nat_eq t) (passed_over q)) (λ any. let f = passed-found t any in true≢false (sym counts ∙ (bounds t f.0 f.1).3)));
+      batch = all-by_timestamp (is_committed (target_of q)) (chosen q) (λ t has. let f = chosen-found t has in let b = bounds t f.0 f.1 in
+          committed-from (target_of q) t (omega (arith, b.1)) f.3 (out-of_gaps t q.swept (no_gap-above o q t kept.numbers.origin b.1))
+          (false_from_ne_true (list_any (nat_eq t) (passed_over q)) (λ any. apart t has any)));
+      only = λ t counts out. only t counts out (cases_lt o.ruling.persisted t);
+      rising = ap are_rising (times-of (filter (is_chosen q) q.drawn)) ∙ rising-filter time_of (is_chosen q) q.drawn rising;
+    };
     persisted = reach-next;
-    further = reach-persisted;
-    reserved = kept.numbers.window;
     window = omega arith;
     gaps = gaps-of q.swept refl;
-    still = λ t counts. let b = committed-parts q.ruling t counts in
-        committed-from (target_of q) t b.0 (omega (arith, b.1, reach-persisted)) (out-of_gaps t q.swept b.2)
-        (false_from_ne_true (list_any (nat_eq t) (passed_over q)) (λ any. let f = passed-found t any in true≢false (sym counts ∙ (bounds t f.0 f.1).3)));
-    batch = all-by_timestamp (is_committed (target_of q)) (chosen q) (λ t has. let f = chosen-found t has in let b = bounds t f.0 f.1 in
-        committed-from (target_of q) t (omega (arith, b.1)) f.3 (out-of_gaps t q.swept (no_gap-above o q t kept.numbers.origin b.1))
-        (false_from_ne_true (list_any (nat_eq t) (passed_over q)) (λ any. apart t has any)));
-    only = λ t counts out. only t counts out (cases_lt o.ruling.persisted t);
     longs = λ t any. let f = passed-found t any in (drawn-has t f.0 f.1, false_from_ne_true (has_timestamp (chosen q) t) (λ has. apart t has any));
     drawn = λ t c found. let d = chosen-drawn t c found in (d.0, d.1, d.2, d.3);
-    rising = ap are_rising (times-of (filter (is_chosen q) q.drawn)) ∙ rising-filter time_of (is_chosen q) q.drawn rising;
   }
     where
       by_stamped : (t : ℕ) (d : Drawn) → drawn_at q t ≡ Some d → t ≤ reach q → list_any (nat_eq t) (passed_over q) ≡ false → (b : Bool) → is_stamped d ≡ b → has_timestamp (chosen q) t ≡ true

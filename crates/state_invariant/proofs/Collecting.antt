@@ -8,7 +8,7 @@ use Rattle.base.specs.Commits.{Commit, last_writer}
 use Rattle.base.specs.Records.{is_committed}
 use Rattle.base.specs.Machine.{State, Drawn, Hand, Version, BySession, ByCommit, drawn_at, replaced}
 use Rattle.base.specs.Collecting.{is_garbage, is_at_slot, held_after_visit, slot_visited, sweep_ended, visited}
-use Rattle.state_invariant.specs.Kept.{Origin, KeepsHand, KeepsOrigin, Keeps, IsInUse, HasSlot, version_by, last_of}
+use Rattle.state_invariant.specs.Kept.{Origin, KeepsHand, Keeps, IsInUse, HasSlot, version_by, last_of}
 use Rattle.state_invariant.specs.Shown.{word_of, IsNever, is_drawn_on, Class, Free, Waiting, Begun, Newest, Replaced, class_of, class_of_version, ShowsAs, SlotShows, SlotsShow}
 use Rattle.state_invariant.proofs.Lookups.{replaced-same, replaced-other}
 use Rattle.state_invariant.proofs.Commits.{committed-bounds}
@@ -51,36 +51,7 @@ module _ (o : Origin) (q : State) (kept : Keeps o q) (held : ℕ → Option Vers
   gaps-stand (inr (over, none)) = inr (still over, none)
 
   hand-then : (hand : Hand) → KeepsHand q hand → KeepsHand then hand
-  hand-then hand k = record {
-    gate = k.gate;
-    formed = k.formed;
-    longs = k.longs;
-    persisted = k.persisted;
-    further = k.further;
-    reserved = k.reserved;
-    window = k.window;
-    gaps = gaps-stand k.gaps;
-    still = k.still;
-    batch = k.batch;
-    only = k.only;
-    drawn = k.drawn;
-    rising = k.rising;
-  }
-
-  origin-then : KeepsOrigin o then
-  origin-then = let k = kept.numbers.origin in record {
-    formed = k.formed;
-    whole = k.whole;
-    opened = k.opened;
-    further = k.further;
-    before = k.before;
-    since = k.since;
-    drawn = k.drawn;
-    distinct = k.distinct;
-    each = k.each;
-    still = k.still;
-    gaps = gaps-stand k.gaps;
-  }
+  hand-then hand k = record { extends = k.extends; persisted = k.persisted; window = k.window; gaps = gaps-stand k.gaps; longs = k.longs; drawn = k.drawn }
 
   was : (slot : ℕ) (v : Version) → held slot ≡ Some v → q.held slot ≡ Some v
   was slot v at = by (only slot)
@@ -143,25 +114,18 @@ module _ (o : Origin) (q : State) (kept : Keeps o q) (held : ℕ → Option Vers
   pub keeps-moved : Keeps o then
   keeps-moved =
       let n = kept.numbers in
-      let d = kept.draws in
       let w = kept.owns in
       record {
         numbers = record {
-          layout = n.layout;
-          longs = n.longs;
-          formed = n.formed;
-          persisted = n.persisted;
-          reserved = n.reserved;
-          window = n.window;
-          room = n.room;
-          covered = n.covered;
+          ruling = n.ruling;
           drawn = n.drawn;
+          longs = n.longs;
           hand = λ hand is. hand-then hand (n.hand hand is);
-          origin = origin-then;
+          origin = let k = n.origin in record { covered = k.covered; drawn = k.drawn; each = k.each; gaps = gaps-stand k.gaps };
           snapshots = n.snapshots;
           numbered = n.numbered;
         };
-        draws = record { rising = d.rising; apart = d.apart; counted = d.counted; in_order = d.in_order; sorted = d.sorted; drew = d.drew; rises = record { covered = d.rises.covered; drawn = d.rises.drawn } };
+        draws = kept.draws;
         owns = record {
           once = λ a b v lt_a lt_b at_a at_b. w.once a b v lt_a lt_b (was a v at_a) (was b v at_b);
           has = λ slot v lt at. w.has slot v lt (was slot v at);

@@ -161,33 +161,19 @@ module _ (o : Origin) (q : State) (n : ℕ) (write : Key × Option (List ℕ)) (
 
   hand-drawn : (hand : Hand) → KeepsHand q hand → KeepsHand then hand
   hand-drawn hand k = record {
-    gate = k.gate;
-    formed = k.formed;
-    longs = λ t any. let l = k.longs t any in (drawn-more t l.0, l.1);
+    extends = k.extends;
     persisted = omega (arith, k.persisted);
-    further = k.further;
-    reserved = k.reserved;
     window = omega (arith, k.window);
     gaps = k.gaps;
-    still = k.still;
-    batch = k.batch;
-    only = k.only;
+    longs = λ t any. let l = k.longs t any in (drawn-more t l.0, l.1);
     drawn = λ t commit found. let d = k.drawn t commit found in (d.0, found-old_still t d.0 d.1, d.2, d.3);
-    rising = k.rising;
   }
 
   origin-drawn : KeepsOrigin o then
   origin-drawn = let k = kept.numbers.origin in record {
-    formed = k.formed;
-    whole = k.whole;
-    opened = k.opened;
-    further = k.further;
-    before = k.before;
-    since = k.since;
+    covered = k.covered;
     drawn = all-one_more (λ d. nat_lt o.ruling.persisted d.commit.timestamp) q.drawn newest k.drawn (lt-ltb o.ruling.persisted q.next (omega (arith, k.further, kept.numbers.persisted)));
-    distinct = k.distinct;
     each = λ t above below. each t above below (cases_eq t q.next);
-    still = k.still;
     gaps = k.gaps;
   }
     where
@@ -199,14 +185,16 @@ module _ (o : Origin) (q : State) (n : ℕ) (write : Key × Option (List ℕ)) (
 
   numbers-drawn : KeepsNumbers o then
   numbers-drawn = let k = kept.numbers in record {
-    layout = k.layout;
-    formed = k.formed;
+    ruling = record {
+      layout = k.layout;
+      formed = k.formed;
+      persisted = omega (arith, k.persisted);
+      reserved = omega (arith, below);
+      window = omega (arith, k.window);
+      room = omega (arith, room);
+      covered = k.covered;
+    };
     longs = λ t any. drawn-more t (k.longs t any);
-    persisted = omega (arith, k.persisted);
-    reserved = omega (arith, below);
-    window = omega (arith, k.window);
-    room = omega (arith, room);
-    covered = k.covered;
     drawn = all-one_more (λ d. not (is_committed q.ruling d.commit.timestamp) && nat_lt d.commit.timestamp (q.next + 1)) q.drawn newest
         (all-weaken (λ d. not (is_committed q.ruling d.commit.timestamp) && nat_lt d.commit.timestamp q.next) (λ d. not (is_committed q.ruling d.commit.timestamp) && nat_lt d.commit.timestamp (q.next + 1)) q.drawn further k.drawn)
         (and_from (not (is_committed q.ruling q.next)) (nat_lt q.next (q.next + 1)) (not_from_false (is_committed q.ruling q.next) (uncommitted-above q.ruling q.next k.persisted)) (lt-ltb q.next (q.next + 1) (omega arith)));

@@ -189,27 +189,31 @@ module _ (a : Layout) (r : Record) (image : Image) (history : List Commit) (lost
   opened-keeps : Keeps begins start
   opened-keeps = record {
     numbers = record {
-      layout = opening.limits;
-      formed = formed-over a.version a r gaps opening.formed opening.gaps_cover opening.few (has-window a opening.limits) (narrower r.dirty a.window (2 ^ 62) opening.room);
-      longs = λ t any. absurd (cc any);
-      persisted = omega (arith, less);
-      reserved = omega arith;
-      window = omega arith;
-      room = omega (arith, opening.room);
-      covered = covered-over a r gaps history opening.gaps_cover less opening.covered;
+      ruling = record {
+        layout = opening.limits;
+        formed = formed-over a.version a r gaps opening.formed opening.gaps_cover opening.few (has-window a opening.limits) (narrower r.dirty a.window (2 ^ 62) opening.room);
+        persisted = omega (arith, less);
+        reserved = omega arith;
+        window = omega arith;
+        room = omega (arith, opening.room);
+        covered = covered-over a r gaps history opening.gaps_cover less opening.covered;
+      };
       drawn = refl;
+      longs = λ t any. absurd (cc any);
       hand = λ hand is. absurd (none-some hand is);
       origin = record {
-        formed = formed-over a.version a r gaps opening.formed opening.gaps_cover opening.few (has-window a opening.limits) (narrower r.dirty a.window (2 ^ 62) opening.room);
-        whole = refl;
-        opened = omega arith;
-        further = omega arith;
-        before = ap (λ (cs : List Commit). list_all (λ commit. is_committed (opening_record a r gaps) commit.timestamp) cs) all-taken ∙ covered-over a r gaps history opening.gaps_cover less opening.covered;
-        since = ap (λ (cs : List Commit). list_all (λ commit. nat_lt (r.dirty - 1) commit.timestamp) cs) none-since;
+        covered = record {
+          formed = formed-over a.version a r gaps opening.formed opening.gaps_cover opening.few (has-window a opening.limits) (narrower r.dirty a.window (2 ^ 62) opening.room);
+          whole = refl;
+          opened = omega arith;
+          further = omega arith;
+          before = ap (λ (cs : List Commit). list_all (λ commit. is_committed (opening_record a r gaps) commit.timestamp) cs) all-taken ∙ covered-over a r gaps history opening.gaps_cover less opening.covered;
+          since = ap (λ (cs : List Commit). list_all (λ commit. nat_lt (r.dirty - 1) commit.timestamp) cs) none-since;
+          distinct = ap are_distinct none-since;
+          still = λ t counts. counts;
+        };
         drawn = refl;
-        distinct = ap are_distinct none-since;
         each = λ t above below. absurd (omega (arith, above, below));
-        still = λ t counts. counts;
         gaps = inl refl;
       };
       snapshots = λ n begun writes is. absurd (none-some _ is);

@@ -6,8 +6,8 @@ use Rattle.base.specs.declared.key.Key.{Key}
 use Rattle.base.specs.Keys.{key_eq, key_lt, lookup_key, is_rising}
 use Rattle.base.specs.Commits.{Writes, with_write}
 use Rattle.base.specs.Stands.{has_timestamp}
-use Rattle.base.specs.Machine.{State, Session, Active, Drew, Drawn, Hand, Version, Writer, BySession, ByCommit, drawn_at, writes_of, replaced, with_session}
-use Rattle.state_invariant.specs.Kept.{Origin, IsSessionNumber, KeepsHand, KeepsOrigin, KeepsNumbers, DrawsInOrder, Owns, Keeps, IsInUse, wanted, row_in, version_by}
+use Rattle.base.specs.Machine.{State, Session, Active, Drew, Drawn, Version, Writer, BySession, ByCommit, drawn_at, writes_of, replaced, with_session}
+use Rattle.state_invariant.specs.Kept.{Origin, IsSessionNumber, KeepsNumbers, DrawsInOrder, Owns, Keeps, IsInUse, wanted, row_in, version_by}
 use Rattle.state_invariant.proofs.Lookups.{replaced-same, replaced-other, same-keys}
 
 -- the state with these sessions and with this in the slots
@@ -38,51 +38,13 @@ module _ (o : Origin) (q : State) (sessions : ℕ → Option Session) (held : �
   abbrev then : State
   then = with_held q sessions held
 
-  hand-held : (hand : Hand) → KeepsHand q hand → KeepsHand then hand
-  hand-held hand k = record {
-    gate = k.gate;
-    formed = k.formed;
-    longs = k.longs;
-    persisted = k.persisted;
-    further = k.further;
-    reserved = k.reserved;
-    window = k.window;
-    gaps = k.gaps;
-    still = k.still;
-    batch = k.batch;
-    only = k.only;
-    drawn = k.drawn;
-    rising = k.rising;
-  }
-
-  origin-held : KeepsOrigin o then
-  origin-held = let k = kept.numbers.origin in record {
-    formed = k.formed;
-    whole = k.whole;
-    opened = k.opened;
-    further = k.further;
-    before = k.before;
-    since = k.since;
-    drawn = k.drawn;
-    distinct = k.distinct;
-    each = k.each;
-    still = k.still;
-    gaps = k.gaps;
-  }
-
   numbers-held : KeepsNumbers o then
   numbers-held = let k = kept.numbers in record {
-    layout = k.layout;
-    formed = k.formed;
-    longs = k.longs;
-    persisted = k.persisted;
-    reserved = k.reserved;
-    window = k.window;
-    room = k.room;
-    covered = k.covered;
+    ruling = k.ruling;
     drawn = k.drawn;
-    hand = λ hand is. hand-held hand (k.hand hand is);
-    origin = origin-held;
+    longs = k.longs;
+    hand = k.hand;
+    origin = k.origin;
     snapshots = λ n begun writes is. let s = (each n).snapshot begun writes is in (s.0, s.1);
     numbered = numbered;
   }
@@ -95,7 +57,7 @@ module _ (o : Origin) (q : State) (sessions : ℕ → Option Session) (held : �
     in_order = k.in_order;
     sorted = λ n. (each n).sorted;
     drew = λ n t is. (each n).drew t is;
-    rises = record { covered = k.rises.covered; drawn = k.rises.drawn };
+    rises = k.rises;
   }
 
   owns-held : HeldKeeps q sessions held → Owns o then

@@ -114,19 +114,12 @@ module _ (o : Origin) (q : State) (t : ℕ) (unfinished : list_any (λ d. nat_eq
 
   hand-stamped : (hand : Hand) → KeepsHand q hand → KeepsHand then hand
   hand-stamped hand k = record {
-    gate = k.gate;
-    formed = k.formed;
-    longs = λ u any. let l = k.longs u any in (ap (λ (cs : List Commit). has_timestamp cs u) life-stamped ∙ l.0, l.1);
+    extends = k.extends;
     persisted = k.persisted;
-    further = k.further;
-    reserved = k.reserved;
     window = k.window;
     gaps = k.gaps;
-    still = k.still;
-    batch = k.batch;
-    only = k.only;
+    longs = λ u any. let l = k.longs u any in (ap (λ (cs : List Commit). has_timestamp cs u) life-stamped ∙ l.0, l.1);
     drawn = λ u commit found. drawn u commit (k.drawn u commit found);
-    rising = k.rising;
   }
     where
       drawn : (u : ℕ) (commit : Commit) → (d : Drawn) × (drawn_at q u ≡ Some d) × (d.commit ≡ commit) × (is_stamped d ≡ true) → (d : Drawn) × (drawn_at then u ≡ Some d) × (d.commit ≡ commit) × (is_stamped d ≡ true)
@@ -134,16 +127,9 @@ module _ (o : Origin) (q : State) (t : ℕ) (unfinished : list_any (λ d. nat_eq
 
   origin-stamped : KeepsOrigin o then
   origin-stamped = let k = kept.numbers.origin in record {
-    formed = k.formed;
-    whole = k.whole;
-    opened = k.opened;
-    further = k.further;
-    before = k.before;
-    since = k.since;
+    covered = k.covered;
     drawn = all-counted t (λ (c : Commit). nat_lt o.ruling.persisted c.timestamp) q.drawn ∙ k.drawn;
-    distinct = k.distinct;
     each = λ u above below. ap (λ (cs : List Commit). has_timestamp (covered_since o q ++ cs) u) life-stamped ∙ k.each u above below;
-    still = k.still;
     gaps = k.gaps;
   }
 
@@ -161,15 +147,9 @@ module _ (o : Origin) (q : State) (t : ℕ) (unfinished : list_any (λ d. nat_eq
   pub keeps-stamped : Keeps o then
   keeps-stamped = let n = kept.numbers in let k = kept.draws in record {
     numbers = record {
-      layout = n.layout;
-      longs = λ u any. ap (λ (cs : List Commit). has_timestamp cs u) life-stamped ∙ n.longs u any;
-      formed = n.formed;
-      persisted = n.persisted;
-      reserved = n.reserved;
-      window = n.window;
-      room = n.room;
-      covered = n.covered;
+      ruling = n.ruling;
       drawn = all-counted t (λ (c : Commit). not (is_committed q.ruling c.timestamp) && nat_lt c.timestamp q.next) q.drawn ∙ n.drawn;
+      longs = λ u any. ap (λ (cs : List Commit). has_timestamp cs u) life-stamped ∙ n.longs u any;
       hand = λ hand is. hand-stamped hand (n.hand hand is);
       origin = origin-stamped;
       snapshots = n.snapshots;

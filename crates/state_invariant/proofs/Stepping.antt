@@ -18,66 +18,15 @@ use Rattle.state_invariant.proofs.Writing.{keeps-begin, keeps-put, keeps-delete,
 abbrev pub with_hand : State → Option Hand → Bool → State
 with_hand q hand failed = record q { hand = hand; failed = failed }
 
-hand-as : (q : State) (other : Option Hand) (failed : Bool) (hand : Hand) → KeepsHand q hand → KeepsHand (with_hand q other failed) hand
-hand-as q other failed hand k = record {
-  gate = k.gate;
-  formed = k.formed;
-  longs = k.longs;
-  persisted = k.persisted;
-  further = k.further;
-  reserved = k.reserved;
-  window = k.window;
-  gaps = k.gaps;
-  still = k.still;
-  batch = k.batch;
-  only = k.only;
-  drawn = k.drawn;
-  rising = k.rising;
-}
-
 pub keeps-with_hand : (o : Origin) (q : State) (hand : Option Hand) (failed : Bool) → Keeps o q → ((h : Hand) → hand ≡ Some h → KeepsHand q h) → Keeps o (with_hand q hand failed)
 keeps-with_hand o q hand failed kept keeps =
     let n = kept.numbers in
-    let p = kept.numbers.origin in
-    let d = kept.draws in
     let w = kept.owns in
     record {
-      numbers = record {
-        layout = n.layout;
-        longs = n.longs;
-        formed = n.formed;
-        persisted = n.persisted;
-        reserved = n.reserved;
-        window = n.window;
-        room = n.room;
-        covered = n.covered;
-        drawn = n.drawn;
-        hand = λ h is. hand-as q hand failed h (keeps h is);
-        origin = record { formed = p.formed; whole = p.whole; opened = p.opened; further = p.further; before = p.before; since = p.since; drawn = p.drawn; distinct = p.distinct; each = p.each; still = p.still; gaps = p.gaps };
-        snapshots = n.snapshots;
-        numbered = n.numbered;
-      };
-      draws = record { rising = d.rising; apart = d.apart; counted = d.counted; in_order = d.in_order; sorted = d.sorted; drew = d.drew; rises = record { covered = d.rises.covered; drawn = d.rises.drawn } };
+      numbers = record { ruling = n.ruling; drawn = n.drawn; longs = n.longs; hand = keeps; origin = n.origin; snapshots = n.snapshots; numbered = n.numbered };
+      draws = kept.draws;
       owns = record { once = w.once; has = w.has; before = w.before; by_session = w.by_session; by_draw = w.by_draw; since_snapshot = w.since_snapshot };
     }
-
--- a batch goes on
-hand-ticked : (q : State) (hand : Hand) → KeepsHand q hand → KeepsHand q (record hand { ticks = hand.ticks + 1 })
-hand-ticked q hand k = record {
-  gate = k.gate;
-  formed = k.formed;
-  longs = k.longs;
-  persisted = k.persisted;
-  further = k.further;
-  reserved = k.reserved;
-  window = k.window;
-  gaps = k.gaps;
-  still = k.still;
-  batch = k.batch;
-  only = k.only;
-  drawn = k.drawn;
-  rising = k.rising;
-}
 
 -- ---- the committer's ticks
 
@@ -87,7 +36,7 @@ same-some x y e = cc e
 keeps-ticked_on : (o : Origin) (q : State) (hand : Hand) (stage : Option Stage) → Keeps o q → q.hand ≡ Some hand → Keeps o (state_ticked_on q hand stage)
 keeps-ticked_on o q hand (Some stage) kept is =
     keeps-with_hand o q (Some (record hand { ticks = hand.ticks + 1 })) q.failed kept
-    (λ h same. subst (KeepsHand q) (same-some (record hand { ticks = hand.ticks + 1 }) h same) (hand-ticked q hand (kept.numbers.hand hand is)))
+    (λ h same. subst (KeepsHand q) (same-some (record hand { ticks = hand.ticks + 1 }) h same) (kept.numbers.hand hand is))
 keeps-ticked_on o q hand None kept is = keeps-covered o q hand kept (kept.numbers.hand hand is)
 
 keeps-ticked : (o : Origin) (q : State) (hand : Option Hand) → Keeps o q → q.hand ≡ hand → Keeps o (state_ticked q hand)

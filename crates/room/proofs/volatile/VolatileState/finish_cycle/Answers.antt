@@ -25,7 +25,7 @@ returns-in-Refused-clause-err g c =
 
 pub loop-cycle-smaller-in_default-advance : goal.loop-cycle-smaller-in_default-advance
 loop-cycle-smaller-in_default-advance g c =
-    subst (λ (o : Option Cycling). ticks_left c.advance.new.self.sessions.dirty c.advance.new.self.cycle < ticks_left c.loop-cycle.self.sessions.dirty o) (sym (sym c.take.ensures.value ∙ c.in-Some.is))
+    subst (λ (o : Option Cycling). ticks_left c.advance.new.self.sessions.dirty.touches c.advance.new.self.cycle < ticks_left c.loop-cycle.self.sessions.dirty.touches o) (sym (sym c.take.ensures.value ∙ c.in-Some.is))
     (c.advance.ensures.closer c.in_default-advance.not-Refused)
 
 pub loop-cycle-preserved-in_default-advance : goal.loop-cycle-preserved-in_default-advance
@@ -39,7 +39,7 @@ loop-cycle-preserved-in_default-advance g c =
 
 pub loop-cycle-smaller : goal.loop-cycle-smaller
 loop-cycle-smaller g c =
-    subst (λ (o : Option Cycling). ticks_left c.advance.new.self.sessions.dirty c.advance.new.self.cycle < ticks_left c.loop-cycle.self.sessions.dirty o) (sym (sym c.take.ensures.value ∙ c.in-Some.is))
+    subst (λ (o : Option Cycling). ticks_left c.advance.new.self.sessions.dirty.touches c.advance.new.self.cycle < ticks_left c.loop-cycle.self.sessions.dirty.touches o) (sym (sym c.take.ensures.value ∙ c.in-Some.is))
     (c.advance.ensures.closer c.in_default-advance.not-Refused)
 
 pub loop-cycle-preserved : goal.loop-cycle-preserved

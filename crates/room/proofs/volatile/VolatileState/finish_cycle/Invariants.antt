@@ -5,4 +5,4 @@ abbrev pub invariant-loop-cycle : goal.invariant-loop-cycle
 invariant-loop-cycle g l = IsDonePart l.fn.self l.self (g.D.Pmem.state l.fn.device) (g.D.Pmem.state l.device)
 
 abbrev pub decreases-loop-cycle : goal.decreases-loop-cycle
-decreases-loop-cycle g l = ticks_left l.self.sessions.dirty l.self.cycle
+decreases-loop-cycle g l = ticks_left l.self.sessions.dirty.touches l.self.cycle
