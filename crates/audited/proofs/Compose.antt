@@ -88,9 +88,9 @@ Stays-step {D} {G} state room room' step reply steps nothing q shown =
     let same : s.0 ≡ q = nothing.same q s.0 step s.1.stepped in
     record {
       shows = subst (λ (m : State). Shows state room' m) same s.1.shows;
-      images = leaves_weaken (StandsWithin-at q) (subst (λ (m : State). LeavesOnly (device_of state room) (device_of state room') (StandsWithin q m)) same s.1.images);
-      no_failure = not_failed s.1.failure.no_fewer (λ less. nothing.works (s.1.failure.shown less));
-      operations = s.1.operations;
+      images = leaves_weaken (StandsWithin-at q) (subst (λ (m : State). LeavesOnly (device_of state room) (device_of state room') (StandsWithin q m)) same s.1.effect.images);
+      no_failure = not_failed s.1.effect.failure.no_fewer (λ less. nothing.works (s.1.effect.failure.shown less));
+      operations = s.1.effect.operations;
     }
   where
     not_failed : (device_of state room).failures ≤ (device_of state room').failures → ((device_of state room).failures < (device_of state room').failures → ⊥)

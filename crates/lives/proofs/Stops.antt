@@ -94,7 +94,7 @@ goes-before reply replies first then =
 -- a step
 step-goes : (volatile : VolatileState) (device next : Device) (step : Step) (reply : Reply) (q q' : State) → StepsTo volatile device next step reply q q'
     → GoesOn device next (reply ≡ Refused DeviceFault)
-step-goes volatile device next step reply q q' taken = record { continues = taken.images.continues; cause = taken.failure.cause; shown = taken.failure.shown }
+step-goes volatile device next step reply q q' taken = record { continues = taken.effect.images.continues; cause = taken.effect.failure.cause; shown = taken.effect.failure.shown }
 
 -- steps
 steps-go : (q : State) (device : Device) (steps : List Step) (replies : List Reply) (last : State) (end : Device) → StepsOn q device steps replies last end

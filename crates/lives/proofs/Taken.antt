@@ -29,7 +29,7 @@ room-takes state old new step reply taken q shows =
     let s = made.1 in (
       made.0,
       new.volatile,
-      record { stepped = s.stepped; shows = s.shows.agrees.shown; images = s.images; failure = s.failure; operations = s.operations; actor = s.actor; declined = s.declined },
+      record { stepped = s.stepped; shows = s.shows.agrees.shown; effect = s.effect },
       s.shows,
     )
 

@@ -49,6 +49,7 @@ use Rattle.session_steps.specs.Covering.{IsOf, MayCoverSome, ShowsCovered}
 use Rattle.session_steps.proofs.Filters.{filter-map}
 use Rattle.session_steps.proofs.BatchLines.{member, table-lines}
 use Rattle.session_steps.proofs.AnyHand.{shows-hand, shows-failed}
+use Rattle.session_steps.proofs.Effects.{all-made, last-failed}
 use Rattle.session_steps.proofs.Reading.{words-are}
 use Rattle.room.specs.Committing.{HoldsHand, HoldsCycle, ShowsIn}
 use Rattle.room.specs.Steps.{StepsToIn}
@@ -320,11 +321,7 @@ module _ (s : Sessions) (cycle : Cycling) (before : Device) (orderly : IsOrderly
             record {
               stepped = ticks.stepped;
               shows = record { shown = shows-hand s before now q (Some (record hand { ticks = hand.ticks + 1 })) shows.shown ticks.leads.upholds; cycle_is = holds-on };
-              images = ticks.leads.images;
-              failure = record { no_fewer = omega (arith, ticks.no_failure); cause = λ told. absurd (cc told); shown = λ more. absurd (omega (arith, more, ticks.no_failure)) };
-              operations = ticks.operations;
-              actor = runs;
-              declined = λ fault other told. absurd (cc told);
+              effect = all-made ticks.leads.images ticks.no_failure ticks.operations runs (λ fault told. absurd (cc told));
             },
           )
 
@@ -392,11 +389,7 @@ module _ (s : Sessions) (cycle : Cycling) (before : Device) (orderly : IsOrderly
           record {
             stepped = subst (λ (r : Reply). Stepped q CommitTick r (state_covered q hand)) (sym (is ∙ ap (λ (b : Batch). Covered b) whole)) covering.stepped;
             shows = record { shown = shown before now q hand shows.shown of-batch covering.leads.upholds; cycle_is = subst (λ (o : Option Cycling). HoldsCycle (state_covered q hand) after.drawn.commits None o) (sym none) tt };
-            images = covering.leads.images;
-            failure = record { no_fewer = omega (arith, covering.no_failure); cause = λ told. absurd (cc (is, told)); shown = λ more. absurd (omega (arith, more, covering.no_failure)) };
-            operations = covering.operations;
-            actor = runs;
-            declined = λ fault other told. absurd (cc (is, told));
+            effect = all-made covering.leads.images covering.no_failure covering.operations runs (λ fault told. absurd (cc (is, told)));
           },
         )
 
@@ -418,10 +411,6 @@ module _ (s : Sessions) (cycle : Cycling) (before : Device) (orderly : IsOrderly
           shown = shows-failed s before now q true shows.shown failing.leads.upholds;
           cycle_is = subst (λ (c : Cycling). HoldsCycle (record q { failed = true }) ds q.hand (Some c)) (sym stays) (subst (λ (o : Option Hand). HoldsCycle (record q { failed = true }) ds o (Some cycle)) (sym in-hand.in_hand) holds-failed);
         };
-        images = failing.leads.images;
-        failure = record { no_fewer = omega (arith, failing.failure); cause = λ told. omega (arith, failing.failure); shown = λ more. ap (λ (f : Fault). let r : Reply = Refused f in r) is };
-        operations = failing.operations;
-        actor = record { operations = failure ∷ []; made = fails; by_actor = refl };
-        declined = λ told other is_told. absurd (other (let same : fault ≡ told = cc is_told in sym same ∙ is));
+        effect = last-failed fault is refl (λ told same. cc same) failing.leads.images failing.failure failing.operations record { operations = failure ∷ []; made = fails; by_actor = refl };
       },
     )

@@ -33,6 +33,7 @@ use Rattle.cycle_simulation.proofs.Ticks.{idle-ticks, choosing-ticks, refused-ti
 use Rattle.session_steps.specs.declared.sessions.Sessions.{Sessions}
 use Rattle.session_steps.specs.Shows.{plain_drawn, line_numbers}
 use Rattle.session_steps.proofs.AnyHand.{shows-hand}
+use Rattle.session_steps.proofs.Effects.{nothing-done}
 use Rattle.room.specs.Committing.{HoldsHand, HoldsCycle, ShowsIn}
 use Rattle.room.specs.Steps.{StepsToIn}
 use Rattle.room.proofs.Chosen.{reach-same, commits-same, longs-same, idle-same}
@@ -71,15 +72,7 @@ few-passed s device q shows =
 -- a tick without an operation, whose reply isn't the device's
 quietly : (o : Origin) (q q' : State) (reply : Reply) (device : Device) (sessions : Sessions) (cycle : Option Cycling) → Ticks o q q' reply device device → ShowsIn sessions cycle device q' → (reply ≡ Refused DeviceFault → ⊥)
     → StepsToIn sessions cycle device device CommitTick reply q q'
-quietly o q q' reply device sessions cycle ticks shows untold = record {
-  stepped = ticks.stepped;
-  shows = shows;
-  images = ticks.leads.images;
-  failure = record { no_fewer = omega arith; cause = λ told. absurd (untold told); shown = λ more. absurd (omega (arith, more)) };
-  operations = omega arith;
-  actor = record { operations = []; made = refl; by_actor = refl };
-  declined = λ fault other told. refl;
-}
+quietly o q q' reply device sessions cycle ticks shows untold = record { stepped = ticks.stepped; shows = shows; effect = nothing-done ticks.leads.images untold }
 
 module _ (s : Sessions) (device : Device) (orderly : IsOrderly device) (q : State) (shows : ShowsIn s None device q) (works : q.failed ≡ false) where
   abbrev ds : List DrawnCommit

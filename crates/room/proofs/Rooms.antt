@@ -1,8 +1,8 @@
 -- What a step makes of a room, from what it makes of its volatile state.
-use Rattle.std.proofs.Common.{◌≡◌, inl, inr, Bool, true, false, [], refl, sym, ◌∙◌, subst, arith}
+use Rattle.std.proofs.Common.{◌≡◌, inl, inr, Bool, true, false, refl, sym, ◌∙◌, subst, arith}
 use Rattle.std.specs.Prelude.{Option, Some, None, slice_index}
 use Rattle.std.proofs.Math.Logic.{∥∥₁_map}
-use Rattle.base.specs.declared.fault.Fault.TheVariants.{Failed, Device as DeviceFault}
+use Rattle.base.specs.declared.fault.Fault.TheVariants.{Failed}
 use Rattle.base.specs.declared.step.Step.{Step}
 use Rattle.base.specs.declared.step.Reply.{Reply}
 use Rattle.base.specs.declared.step.Reply.TheVariants.{Refused}
@@ -20,6 +20,7 @@ use Rattle.device_invariant.specs.Log.{HoldsHand as LogHoldsHand}
 use Rattle.device_invariant.proofs.Words.{slots-survive, within-slot}
 use Rattle.device_invariant.proofs.Upheld.{every-image-stands}
 use Rattle.session_steps.specs.Shows.{ShowsAny}
+use Rattle.session_steps.proofs.Effects.{nothing-done}
 use Rattle.room.specs.declared.volatile.VolatileState.{VolatileState}
 use Rattle.room.specs.declared.room.Room.{Room}
 use Rattle.room.specs.Committing.{Shows as CommitterShows}
@@ -59,11 +60,7 @@ module _ {D : Type 0} {G : Ghosts D} (state : D → Device) where
             swept = shown-clear new.volatile (state new.device) one.0 one.1.shows;
             agrees = record { shown = one.1.shows; failed = failed-after q step reply one.0 one.1.stepped here ∙ sym tells };
           };
-          images = one.1.images;
-          failure = one.1.failure;
-          operations = one.1.operations;
-          actor = one.1.actor;
-          declined = one.1.declined;
+          effect = one.1.effect;
         },
       )
 
@@ -74,16 +71,9 @@ module _ {D : Type 0} {G : Ghosts D} (state : D → Device) where
     record {
       stepped = refused Failed (failed-refuses q step (shows.agrees.failed ∙ failed)) refl refl;
       shows = shows;
-      images = leaves_refl (state room.device) (StandsWithin q q) orderly (λ image left. StandsAt-within q q image (shows.stands image left));
-      failure = record { no_fewer = omega arith; cause = λ told. absurd (apart told); shown = λ more. absurd (omega (arith, more)) };
-      operations = omega arith;
-      actor = record { operations = []; made = refl; by_actor = refl };
-      declined = λ fault other told. refl;
+      effect = nothing-done (leaves_refl (state room.device) (StandsWithin q q) orderly (λ image left. StandsAt-within q q image (shows.stands image left))) (λ told. absurd (cc told));
     },
   )
-    where
-      apart : ◌≡◌ {A = Reply} (Refused Failed) (Refused DeviceFault) → ⊥
-      apart told = cc told
 
 -- ---- that some state is shown
 

@@ -30,18 +30,18 @@ pub run-more : {D : Type 0} {G : Ghosts D} (state : D → Device) (first next la
 run-more state first next last step reply steps replies q q' states one more = record {
   run = (one.stepped, more.run);
   shows = more.shows;
-  images = leaves_trans (leaves_weaken (λ image s. inl s) one.images) (leaves_weaken (λ image s. inr s) more.images);
-  failure = record { no_fewer = omega (arith, one.failure.no_fewer, more.failure.no_fewer); cause = cause; shown = λ less. shown less (cases_lt (state first.device).failures (state next.device).failures) };
-  operations = omega (arith, one.operations, more.operations);
+  images = leaves_trans (leaves_weaken (λ image s. inl s) one.effect.images) (leaves_weaken (λ image s. inr s) more.images);
+  failure = record { no_fewer = omega (arith, one.effect.failure.no_fewer, more.failure.no_fewer); cause = cause; shown = λ less. shown less (cases_lt (state first.device).failures (state next.device).failures) };
+  operations = omega (arith, one.effect.operations, more.operations);
 }
   where
     cause : Contains (reply ∷ replies) (Refused DeviceFault) → (state first.device).failures < (state last.device).failures
-    cause (zero, within, is) = omega (arith, one.failure.cause is, more.failure.no_fewer)
-    cause (suc k, within, is) = omega (arith, more.failure.cause (k, omega (arith, within), is), one.failure.no_fewer)
+    cause (zero, within, is) = omega (arith, one.effect.failure.cause is, more.failure.no_fewer)
+    cause (suc k, within, is) = omega (arith, more.failure.cause (k, omega (arith, within), is), one.effect.failure.no_fewer)
 
     shown : (state first.device).failures < (state last.device).failures → ((state first.device).failures < (state next.device).failures) ⊎ ((state next.device).failures ≤ (state first.device).failures)
         → Contains (reply ∷ replies) (Refused DeviceFault)
-    shown less (inl early) = (0, omega arith, one.failure.shown early)
+    shown less (inl early) = (0, omega arith, one.effect.failure.shown early)
     shown less (inr late) = let rest = more.failure.shown (omega (arith, less, late)) in (suc rest.0, omega (arith, rest.1), rest.2)
 
 -- the operations of one step more
@@ -60,20 +60,20 @@ pub run-then : {D : Type 0} {G : Ghosts D} (state : D → Device) (first next la
 run-then state first next last steps replies step reply q states q' runs one = record {
   run = Run-append q steps replies states step reply q' runs.run one.stepped;
   shows = subst (λ (x : State). Shows state last x) (sym (final-append q states q')) one.shows;
-  images = leaves_trans (leaves_weaken (StandsAlong-before q states q') runs.images) (leaves_weaken (StandsAlong-last q states q') one.images);
+  images = leaves_trans (leaves_weaken (StandsAlong-before q states q') runs.images) (leaves_weaken (StandsAlong-last q states q') one.effect.images);
   failure = record {
-    no_fewer = omega (arith, runs.failure.no_fewer, one.failure.no_fewer);
+    no_fewer = omega (arith, runs.failure.no_fewer, one.effect.failure.no_fewer);
     cause = λ told. cause (Contains-push_cases replies reply (Refused DeviceFault) told);
     shown = λ less. shown less (cases_lt (state first.device).failures (state next.device).failures);
   };
-  operations = omega (arith, runs.operations, one.operations, operations-after q steps replies states step q' runs.run);
+  operations = omega (arith, runs.operations, one.effect.operations, operations-after q steps replies states step q' runs.run);
 }
   where
     cause : Contains replies (Refused DeviceFault) ⊎ (reply ≡ Refused DeviceFault) → (state first.device).failures < (state last.device).failures
-    cause (inl before) = omega (arith, runs.failure.cause before, one.failure.no_fewer)
-    cause (inr is) = omega (arith, one.failure.cause is, runs.failure.no_fewer)
+    cause (inl before) = omega (arith, runs.failure.cause before, one.effect.failure.no_fewer)
+    cause (inr is) = omega (arith, one.effect.failure.cause is, runs.failure.no_fewer)
 
     shown : (state first.device).failures < (state last.device).failures → ((state first.device).failures < (state next.device).failures) ⊎ ((state next.device).failures ≤ (state first.device).failures)
         → Contains (replies ++ reply ∷ []) (Refused DeviceFault)
     shown less (inl early) = Contains-append_left replies (reply ∷ []) (Refused DeviceFault) (runs.failure.shown early)
-    shown less (inr late) = subst (λ (r : Reply). Contains (replies ++ reply ∷ []) r) (one.failure.shown (omega (arith, less, late))) (Contains-push replies reply)
+    shown less (inr late) = subst (λ (r : Reply). Contains (replies ++ reply ∷ []) r) (one.effect.failure.shown (omega (arith, less, late))) (Contains-push replies reply)

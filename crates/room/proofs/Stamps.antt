@@ -32,6 +32,7 @@ use Rattle.cycle_simulation.proofs.Closings.{closes-on}
 use Rattle.session_steps.specs.declared.sessions.Sessions.{Sessions}
 use Rattle.session_steps.specs.Shows.{plain_drawn, HoldsDrawn, Shows as SessionsShow}
 use Rattle.session_steps.specs.Steps.{Steps, ShowsSome as SessionsShowSome}
+use Rattle.session_steps.proofs.Effects.{none-failed}
 use Rattle.session_steps.proofs.OneTransaction.{found, not-both}
 use Rattle.session_steps.proofs.Refusals.{passes}
 use Rattle.session_steps.proofs.Stamped.{found-all, one-at}
@@ -214,12 +215,7 @@ module _ (old : VolatileState) (new : Sessions) (before now : Device) (n : ℕ) 
 
   pub stamp-done : ((fault : Fault) → r ≢ Refused fault) → IsDonePart old after before now
   stamp-done un = record {
-    no_failure = ∥∥₁_elim some (ℕ_set _ _) (λ shown.
-        let told = (steps shown.0 shown.1.shown shown.2).1.failure in
-        elim (cases_lt before.failures now.failures) [
-          | inl more ↦ absurd (un DeviceFault (told.shown more))
-          | inr least ↦ omega (arith, least, told.no_fewer)
-        ]);
+    no_failure = ∥∥₁_elim some (ℕ_set _ _) (λ shown. none-failed (steps shown.0 shown.1.shown shown.2).1.effect (un DeviceFault));
     goes_on = λ q shown works.
         let to = steps q shown.shown works in
         let same : to.0 ≡ next_state q (step.Stamp n) = stamps q to.0 n r (may q shown works) to.1.stepped un in (
@@ -235,7 +231,7 @@ module _ (old : VolatileState) (new : Sessions) (before now : Device) (n : ℕ) 
             };
             works = ap (λ (p : State). p.failed) same ∙ works;
             closes = subst (λ (p : State). ClosesAs q p) (sym same) (closes-on.stamp q n);
-            images = leaves_weaken (λ image s. closes-on.stamping q n image (subst (λ (p : State). StandsWithin q p image) same s)) to.1.images;
+            images = leaves_weaken (λ image s. closes-on.stamping q n image (subst (λ (p : State). StandsWithin q p image) same s)) to.1.effect.images;
           },
         );
   }
@@ -243,11 +239,11 @@ module _ (old : VolatileState) (new : Sessions) (before now : Device) (n : ℕ) 
   pub stamp-failed : (fault : Fault) → r ≡ Refused fault → IsFailedPart old before now fault
   stamp-failed fault told = record {
     fault_is = is_device;
-    failure = ∥∥₁_elim some le_prop (λ shown. (steps shown.0 shown.1.shown shown.2).1.failure.cause (told ∙ ap (λ (f : Fault). Refused f) is_device));
+    failure = ∥∥₁_elim some le_prop (λ shown. (steps shown.0 shown.1.shown shown.2).1.effect.failure.cause (told ∙ ap (λ (f : Fault). Refused f) is_device));
     images = λ q shown works.
         let to = steps q shown.shown works in
         let same = (fails q to.0 n r (may q shown works) to.1.stepped fault told).1 in
-        leaves_weaken (λ image s. closes-on.failing q image (subst (λ (p : State). StandsWithin q p image) same s)) to.1.images;
+        leaves_weaken (λ image s. closes-on.failing q image (subst (λ (p : State). StandsWithin q p image) same s)) to.1.effect.images;
   }
     where
       is_device : fault ≡ DeviceFault

@@ -6,7 +6,6 @@ use Rattle.std.specs.List.{list_any, list_all}
 use Rattle.std.proofs.lemmas.Bool.{and_parts, and_from, le-leb, leb-true}
 use Rattle.std.proofs.lemmas.List.{append-nil, map-append, length-map}
 use Rattle.base.specs.declared.fault.Fault.{Fault}
-use Rattle.base.specs.declared.fault.Fault.TheVariants.{Device as DeviceFault}
 use Rattle.base.specs.declared.step.Step.{Step}
 use Rattle.base.specs.declared.step.Step.TheVariants.{Begin, Get, Scan, Put, Delete, Draw, Stamp, Poll, Abort, End, Commit as CommitTick, Collect}
 use Rattle.base.specs.declared.step.Reply.{Reply}
@@ -35,9 +34,10 @@ use Rattle.state_invariant.proofs.Commits.{uncommitted-above}
 use Rattle.cycle_simulation.proofs.Staying.{lines-stay}
 use Rattle.session_steps.specs.declared.sessions.Sessions.{Sessions}
 use Rattle.session_steps.specs.Shows.{plain_drawn, line_numbers, Shows as SessionsShow}
-use Rattle.session_steps.specs.Steps.{RunsBy, Drawers, Steps as SessionSteps}
+use Rattle.session_steps.specs.Steps.{Drawers, Steps as SessionSteps}
 use Rattle.session_steps.specs.Collecting.{Collects}
 use Rattle.session_steps.specs.Collecting as visit
+use Rattle.session_steps.proofs.Effects.{effect-as}
 use Rattle.room.specs.declared.volatile.VolatileState.{VolatileState}
 use Rattle.room.specs.Committing.{HoldsHand, HoldsCycle, ShowsIn}
 use Rattle.room.specs.Steps.{actor_of, StepsToIn, StepsIn}
@@ -245,11 +245,7 @@ session-steps old new cycle before now s r steps q shows works =
       record {
         stepped = went.1.stepped;
         shows = shows-after old new cycle before now (as_step s) (as_reply r) q went.0 (no-tick s) shows went.1.stepped went.1.shows went.1.drawers;
-        images = went.1.images;
-        failure = record { no_fewer = went.1.failure.no_fewer; cause = λ told. went.1.failure.cause (told-back r DeviceFault told); shown = λ more. ap as_reply (went.1.failure.shown more) };
-        operations = went.1.operations;
-        actor = subst (λ (a : Option ℕ). RunsBy a before now) (its-actor s) went.1.actor;
-        declined = λ fault other told. went.1.declined fault other (told-back r fault told);
+        effect = effect-as (its-actor s) (λ fault told. ap as_reply told) (told-back r) went.1.effect;
       },
     )
 
@@ -275,11 +271,7 @@ visit-steps old new cycle before now r steps q shows works =
       record {
         stepped = went.1.stepped;
         shows = shows-after old new cycle before now Collect (visit.as_reply r) q went.0 refl shows went.1.stepped went.1.shows went.1.drawers;
-        images = went.1.images;
-        failure = record { no_fewer = went.1.failure.no_fewer; cause = λ told. went.1.failure.cause (visit-told-back r DeviceFault told); shown = λ more. ap visit.as_reply (went.1.failure.shown more) };
-        operations = went.1.operations;
-        actor = went.1.actor;
-        declined = λ fault other told. went.1.declined fault other (visit-told-back r fault told);
+        effect = effect-as refl (λ fault told. ap visit.as_reply told) (visit-told-back r) went.1.effect;
       },
     )
 

@@ -1,9 +1,8 @@
 -- A tick for the batch in hand, as a part of a close.
-use Rattle.std.proofs.Common.{◌≡◌, ◌≢◌, inl, inr, false, ◌&&◌, not, refl, sym, ◌∙◌, ap, subst, arith, true≢false}
+use Rattle.std.proofs.Common.{◌≡◌, ◌≢◌, false, ◌&&◌, not, refl, sym, ◌∙◌, ap, subst, true≢false}
 use Rattle.std.proofs.Math.Bridge.{le_prop}
 use Rattle.std.proofs.Math.Logic.{∥∥₁_elim}
 use Rattle.std.proofs.Math.Nat.{ℕ_set}
-use Rattle.std.proofs.lemmas.Bool.{cases_lt}
 use Rattle.std.specs.Prelude.{Option, Some, None, is_none, IsTrue}
 use Rattle.base.specs.declared.fault.Fault.{Fault}
 use Rattle.base.specs.declared.fault.Fault.TheVariants.{Device as DeviceFault, OutOfMemory}
@@ -18,6 +17,7 @@ use Rattle.pmem.proofs.Images.{leaves_weaken}
 use Rattle.group_commit.specs.Cycles.{Cycling}
 use Rattle.cycle_simulation.proofs.Closings.{closes-on}
 use Rattle.cycle_simulation.proofs.Ticks.{refusal-in_hand}
+use Rattle.session_steps.proofs.Effects.{none-failed}
 use Rattle.room.specs.declared.volatile.VolatileState.{VolatileState}
 use Rattle.room.specs.Committing.{HoldsCycle, ShowsIn, Shows}
 use Rattle.room.specs.Steps.{StepsIn, ShowsSome, ShowsSomeIn}
@@ -83,16 +83,11 @@ module _ (old : VolatileState) (cycle : Cycling) (new : VolatileState) (before n
   images-of q shown works =
       let to = steps q (with-cycle q shown) works in
       let hand = hand-of q shown in
-      leaves_weaken (λ image s. closes-on.ticking q to.0 hand.0 reply image hand.1 works to.1.stepped s) to.1.images
+      leaves_weaken (λ image s. closes-on.ticking q to.0 hand.0 reply image hand.1 works to.1.stepped s) to.1.effect.images
 
   pub tick-done : ((fault : Fault) → reply ≢ Refused fault) → IsDonePart old new before now
   tick-done un = record {
-    no_failure = ∥∥₁_elim some (ℕ_set _ _) (λ shown.
-        let told = (steps shown.0 (with-cycle shown.0 shown.1) shown.2).1.failure in
-        elim (cases_lt before.failures now.failures) [
-          | inl more ↦ absurd (un DeviceFault (told.shown more))
-          | inr least ↦ omega (arith, least, told.no_fewer)
-        ]);
+    no_failure = ∥∥₁_elim some (ℕ_set _ _) (λ shown. none-failed (steps shown.0 (with-cycle shown.0 shown.1) shown.2).1.effect (un DeviceFault));
     goes_on = λ q shown works.
         let to = steps q (with-cycle q shown) works in
         let hand = hand-of q shown in
@@ -110,7 +105,7 @@ module _ (old : VolatileState) (cycle : Cycling) (new : VolatileState) (before n
   pub tick-failed : (fault : Fault) → reply ≡ Refused fault → IsFailedPart old before now fault
   tick-failed fault is = record {
     fault_is = told;
-    failure = ∥∥₁_elim some le_prop (λ shown. (steps shown.0 (with-cycle shown.0 shown.1) shown.2).1.failure.cause (is ∙ ap (λ (f : Fault). Refused f) told));
+    failure = ∥∥₁_elim some le_prop (λ shown. (steps shown.0 (with-cycle shown.0 shown.1) shown.2).1.effect.failure.cause (is ∙ ap (λ (f : Fault). Refused f) told));
     images = images-of;
   }
     where

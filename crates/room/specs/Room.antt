@@ -11,7 +11,7 @@ use Rattle.base.specs.Machine.{State, Stepped, most_operations, most_operations_
 use Rattle.pmem.specs.Device.{Device, MayLeave}
 use Rattle.pmem.specs.Words.{LeavesOnly, operations_of}
 use Rattle.pmem.specs.declared.device.Pmem.{Ghosts}
-use Rattle.session_steps.specs.Steps.{TellsFailure, Declines, RunsBy}
+use Rattle.session_steps.specs.Steps.{TellsFailure, HasEffect}
 use Rattle.room.specs.Committing.{Shows as CommitterShows}
 use Rattle.room.specs.Steps.{actor_of}
 use Rattle.room.specs.declared.room.Room.{Room}
@@ -43,11 +43,7 @@ pub record Shows {D : Type 0} {G : Ghosts D} (state : D → Device) (room : Room
 pub record StepsTo {D : Type 0} {G : Ghosts D} (state : D → Device) (old new : Room D G) (step : Step) (reply : Reply) (q q' : State) : Type 0 where
   pub stepped : Stepped q step reply q'
   pub shows : Shows state new q'
-  pub images : LeavesOnly (device_of state old) (device_of state new) (StandsWithin q q')
-  pub failure : TellsFailure (device_of state old) (device_of state new) (reply ≡ Refused DeviceFault)
-  pub operations : operations_of (device_of state new) ≤ operations_of (device_of state old) + most_operations q step
-  pub actor : RunsBy (actor_of step) (device_of state old) (device_of state new)
-  pub declined : Declines (device_of state old) (device_of state new) (λ fault. reply ≡ Refused fault)
+  pub effect : HasEffect (device_of state old) (device_of state new) (StandsWithin q q') (most_operations q step) (actor_of step) (λ fault. reply ≡ Refused fault)
 
 -- the steps lead from q through these states, of which the room shows the last
 pub record RunsTo {D : Type 0} {G : Ghosts D} (state : D → Device) (old new : Room D G) (steps : List Step) (replies : List Reply) (q : State) (states : List State) : Type 0 where

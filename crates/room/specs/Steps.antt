@@ -1,6 +1,5 @@
 -- What a step makes of the volatile state and its device.
-use Rattle.std.specs.Prelude.{◌≡◌, ℕ, ◌+◌, ◌≤◌, Bool, false, Option, Some}
-use Rattle.base.specs.declared.fault.Fault.TheVariants.{Device as DeviceFault}
+use Rattle.std.specs.Prelude.{◌≡◌, ℕ, Bool, false, Option, Some}
 use Rattle.base.specs.declared.step.Step.{Step}
 use Rattle.base.specs.declared.step.Step.TheVariants.{Commit as CommitTick, Collect}
 use Rattle.base.specs.declared.step.Reply.{Reply}
@@ -8,10 +7,9 @@ use Rattle.base.specs.declared.step.Reply.TheVariants.{Refused}
 use Rattle.base.specs.Actors.{committer, collector}
 use Rattle.base.specs.Machine.{State, Stepped, session_of, most_operations, StandsWithin}
 use Rattle.pmem.specs.Device.{Device}
-use Rattle.pmem.specs.Words.{LeavesOnly, operations_of}
 use Rattle.group_commit.specs.Cycles.{Cycling}
 use Rattle.session_steps.specs.declared.sessions.Sessions.{Sessions}
-use Rattle.session_steps.specs.Steps.{TellsFailure, Declines, RunsBy}
+use Rattle.session_steps.specs.Steps.{HasEffect}
 use Rattle.room.specs.declared.volatile.VolatileState.{VolatileState}
 use Rattle.room.specs.Committing.{ShowsIn}
 
@@ -25,11 +23,7 @@ actor_of step = session_of step
 pub record StepsToIn (sessions : Sessions) (cycle : Option Cycling) (before now : Device) (step : Step) (reply : Reply) (q q' : State) : Type 0 where
   pub stepped : Stepped q step reply q'
   pub shows : ShowsIn sessions cycle now q'
-  pub images : LeavesOnly before now (StandsWithin q q')
-  pub failure : TellsFailure before now (reply ≡ Refused DeviceFault)
-  pub operations : operations_of now ≤ operations_of before + most_operations q step
-  pub actor : RunsBy (actor_of step) before now
-  pub declined : Declines before now (λ fault. reply ≡ Refused fault)
+  pub effect : HasEffect before now (StandsWithin q q') (most_operations q step) (actor_of step) (λ fault. reply ≡ Refused fault)
 
 abbrev pub StepsTo : VolatileState → Device → Device → Step → Reply → State → State → Type 0
 StepsTo new before now step reply q q' = StepsToIn new.sessions new.cycle before now step reply q q'

@@ -21,6 +21,7 @@ pub mod CoveredBatch
 pub mod OpenedSlots
 pub mod OpenedStates
 pub mod Failing
+pub mod Effects
 pub mod Stepping
 pub mod LineRoom
 pub mod Stamped

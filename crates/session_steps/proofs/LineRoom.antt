@@ -102,18 +102,10 @@ pub goes-from : (s new : Sessions) (h : Hidden) (dirty : Table) (step : SessionS
 goes-from s new h dirty step answer goes = record { next = goes.next; origin = goes.origin; stepped = goes.stepped; agrees = goes.agrees; drawers = goes.drawers }
 
 pub goes-from-on : (s new : Sessions) (h : Hidden) (dirty : Table) (before now : Device) (step : SessionStep) (answer : SessionReply) → GoesOn (record s { dirty = dirty }) new before now step answer h → GoesOn s new before now step answer h
-goes-from-on s new h dirty before now step answer goes = record {
-  next = goes.next;
-  origin = goes.origin;
-  stepped = goes.stepped;
-  upholds = goes.upholds;
-  agrees = goes.agrees;
-  images = goes.images;
-  failure = goes.failure;
-  operations = goes.operations;
-  actor = goes.actor;
-  declined = goes.declined;
-  drawers = goes.drawers;
+goes-from-on s new h dirty before now step answer on = let goes = on.goes in record {
+  goes = record { next = goes.next; origin = goes.origin; stepped = goes.stepped; agrees = goes.agrees; drawers = goes.drawers };
+  upholds = on.upholds;
+  effect = on.effect;
 }
 
 -- ---- where memory is wanted

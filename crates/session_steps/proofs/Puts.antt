@@ -1,5 +1,5 @@
 -- Put.
-use Rattle.std.proofs.Common.{◌≡◌, ◌≢◌, ◌⊎◌, inl, inr, ℕ, zero, suc, ◌+◌, ◌-◌, ◌*◌, ◌<◌, ◌≤◌, Bool, true, false, ◌&&◌, not, cond, List, [], ◌∷◌, ◌++◌, length, map, take, set, refl, sym, ◌∙◌, ap, subst, arith, nat_eq, nat_lt, nat_le, length-set}
+use Rattle.std.proofs.Common.{◌≡◌, ◌≢◌, ◌⊎◌, inl, inr, ℕ, zero, suc, ◌+◌, ◌-◌, ◌*◌, ◌<◌, ◌≤◌, Bool, true, false, ◌&&◌, not, cond, List, [], ◌∷◌, ◌++◌, length, map, set, refl, sym, ◌∙◌, ap, subst, arith, nat_eq, nat_lt, nat_le, length-set}
 use Rattle.std.specs.Prelude.{Option, Some, None, is_none, is_some, slice_get, slice_set}
 use Rattle.std.specs.List.{list_all, range_with_len}
 use Rattle.std.specs.Option.{option_map, option_or, option_and_then}
@@ -19,7 +19,7 @@ use Rattle.base.specs.Layout.{Layout, row_limit, slot_start, slot_words}
 use Rattle.base.specs.Search.{first_below, first_of as first_there, some_if}
 use Rattle.base.specs.Machine.{State, Session, Active as Reads, Version, BySession, answered, device_failed, refusal, next_state, begun_of, writes_of, replaced, held_at, held_with, held_after_put, own_slot, free_slot, lacks_slot, overfills, most_writes, StandsWithin}
 use Rattle.pmem.specs.Device.{Device, IsOrderly}
-use Rattle.pmem.specs.Trace.{Operation, store_op, failure}
+use Rattle.pmem.specs.Trace.{Operation, store_op}
 use Rattle.pmem.specs.Words.{LeavesOnly}
 use Rattle.snapshot.specs.Snapshots.{Seen}
 use Rattle.txn.specs.declared.transaction.Transaction.{Transaction}
@@ -56,7 +56,8 @@ use Rattle.session_steps.proofs.OneSet.{sessions-kept, replaced-same}
 use Rattle.session_steps.proofs.Owned.{own-is, own_slot-is, rising-plain}
 use Rattle.session_steps.proofs.OneTransaction.{found}
 use Rattle.session_steps.proofs.Refusals.{passes}
-use Rattle.session_steps.proofs.Stepping.{held-on, take-only, refused-on}
+use Rattle.session_steps.proofs.Effects.{stopped-by, all-made, last-failed}
+use Rattle.session_steps.proofs.Stepping.{held-on, refused-on}
 use Rattle.session_steps.proofs.CodeTests.{same-drawers}
 
 -- ---- what is asked of a put
@@ -217,17 +218,10 @@ module _ (s : Sessions) (h : Hidden) (n : ℕ) (snapshot : Seen) (writes : List 
         let leads = puts-lead.stored h.origin q n n slot v before now fits allowed lt its (link-newest s h n v held linked) run holds.upholds in
         let counts = puts-count.stored q n n slot v before now run in
         record {
-          next = hidden;
-          origin = refl;
-          stepped = answered allowed refl then-is;
+          goes = record { next = hidden; origin = refl; stepped = answered allowed refl then-is; agrees = agrees; drawers = same-drawers s.drawn.commits };
           upholds = subst (λ (p : State). Upholds h.origin p now) (sym then-is) leads.upholds;
-          agrees = agrees;
-          images = subst (λ (p : State). LeavesOnly before now (StandsWithin q p)) (sym then-is) leads.images;
-          failure = let same = counts.failed in record { no_fewer = omega (arith, same); cause = λ told. absurd (cc told); shown = λ more. absurd (omega (arith, same, more)) };
-          operations = counts.operations;
-          actor = record { operations = put_operations q n n slot v; made = run.made; by_actor = by-actor };
-          declined = λ fault other told. absurd (cc told);
-          drawers = same-drawers s.drawn.commits;
+          effect = all-made (subst (λ (p : State). LeavesOnly before now (StandsWithin q p)) (sym then-is) leads.images) (omega (arith, counts.failed)) counts.operations
+              record { operations = put_operations q n n slot v; made = run.made; by_actor = by-actor } (λ fault told. absurd (cc told));
         }
 
   -- the device stopped it
@@ -237,17 +231,9 @@ module _ (s : Sessions) (h : Hidden) (n : ℕ) (snapshot : Seen) (writes : List 
       let leads = puts-lead.stopped h.origin q n n slot v before now allowed lt its stops holds.upholds in
       let counts = puts-count.stopped q n n slot v before now stops in
       record {
-        next = record h { failed = true };
-        origin = refl;
-        stepped = device_failed allowed refl (ap (λ (f : Fault). reply.Refused f) is) refl;
+        goes = record { next = record h { failed = true }; origin = refl; stepped = device_failed allowed refl (ap (λ (f : Fault). reply.Refused f) is) refl; agrees = failed-agrees s h holds.agrees; drawers = same-drawers s.drawn.commits };
         upholds = leads.upholds;
-        agrees = failed-agrees s h holds.agrees;
-        images = leads.images;
-        failure = let more = counts.failed in record { no_fewer = omega (arith, more); cause = λ told. omega (arith, more); shown = λ less. ap (λ (f : Fault). Refused f) is };
-        operations = counts.operations;
-        actor = record { operations = take stops.0 (put_operations q n n slot v) ++ failure ∷ []; made = stops.2.made; by_actor = take-only n (put_operations q n n slot v) stops.0 by-actor };
-        declined = λ told other is_told. absurd (other (let same : fault ≡ told = cc is_told in sym same ∙ is));
-        drawers = same-drawers s.drawn.commits;
+        effect = last-failed fault is refl (λ told same. cc same) leads.images counts.failed counts.operations (stopped-by n (put_operations q n n slot v) stops by-actor);
       }
 
   -- ---- in the session's own slot

@@ -1,5 +1,5 @@
 -- Stamp.
-use Rattle.std.proofs.Common.{◌≡◌, ℕ, ◌+◌, ◌<◌, Bool, true, false, ◌&&◌, ◌||◌, cond, not, List, [], ◌∷◌, ◌++◌, length, map, take, refl, sym, ◌∙◌, ap, subst, arith, nat_eq, nat_lt, nat_le, get_or}
+use Rattle.std.proofs.Common.{◌≡◌, ℕ, ◌+◌, ◌<◌, Bool, true, false, ◌&&◌, ◌||◌, cond, not, List, [], ◌∷◌, ◌++◌, length, map, refl, sym, ◌∙◌, ap, subst, arith, nat_eq, nat_lt, nat_le, get_or}
 use Rattle.std.specs.Prelude.{Option, Some, None, is_none, All, slice_get, find}
 use Rattle.std.specs.List.{list_any, list_all}
 use Rattle.std.specs.Option.{option_map, option_and_then}
@@ -21,7 +21,6 @@ use Rattle.base.specs.Layout.{Layout}
 use Rattle.base.specs.Stands.{has_timestamp}
 use Rattle.base.specs.Machine.{State, Session, Drawn as PlainDrawn, ByCommit, Drew, IsCovered, IsStamped, IsDrawn, answered, device_failed, refusal, next_state, allows, standing_of, is_stamped, timestamp_of, counted, drawn_at, stamped_write, is_last_stamp, StandsWithin}
 use Rattle.pmem.specs.Device.{Device}
-use Rattle.pmem.specs.Trace.{failure}
 use Rattle.pmem.specs.Words.{LeavesOnly}
 use Rattle.txn.specs.InFlight.{InFlight}
 use Rattle.txn.specs.DrawnCommits.{drawn_at as commit_at, with_stamp}
@@ -54,7 +53,8 @@ use Rattle.session_steps.specs.Steps.{Holds, HoldsOn, GoesOn, IsBarred, is_by_ac
 use Rattle.session_steps.proofs.OneTransaction.{found, barred-refusal, covered-or-drawn, drawn-plain}
 use Rattle.session_steps.proofs.Refusals.{passes}
 use Rattle.session_steps.proofs.Failing.{failed-agrees}
-use Rattle.session_steps.proofs.Stepping.{held-on, take-only}
+use Rattle.session_steps.proofs.Effects.{stopped-by, all-made, last-failed}
+use Rattle.session_steps.proofs.Stepping.{held-on}
 use Rattle.session_steps.proofs.CodeTests.{same-drawers}
 
 -- ---- a stamp changes nothing but the count
@@ -307,17 +307,16 @@ module _ (s : Sessions) (h : Hidden) (n : ℕ) (next : Unstamped) (before now : 
       let leads = stamps-lead.stored h.origin q n next.write.key next.write.row next.write.slot ended before now allowed deals own-by ended-slot (as-run (timestamp_of (q.sessions n)) run stamp-time) holds.upholds in
       let counts = stamps-count.stored q n next.timestamp next.write.slot ended before now run in
       record {
-        next = h;
-        origin = refl;
-        stepped = answered allowed (replied ∙ ap (λ (b : Bool). cond b reply.Stamped reply.More) (sym last-is)) (then-is spare);
+        goes = record {
+          next = h;
+          origin = refl;
+          stepped = answered allowed (replied ∙ ap (λ (b : Bool). cond b reply.Stamped reply.More) (sym last-is)) (then-is spare);
+          agrees = agrees-stamped s h next.timestamp spare holds.agrees;
+          drawers = ([], sessions-stamped next.timestamp s.drawn.commits ∙ sym (append-nil (map (λ (d : DrawnCommit). d.session) s.drawn.commits)));
+        };
         upholds = subst (λ (p : State). Upholds h.origin p now) (sym (then-is spare)) leads.upholds;
-        agrees = agrees-stamped s h next.timestamp spare holds.agrees;
-        images = subst (λ (p : State). LeavesOnly before now (StandsWithin q p)) (sym (then-is spare)) leads.images;
-        failure = let same = counts.failed in record { no_fewer = omega (arith, same); cause = λ told. absurd (untold DeviceFault told); shown = λ more. absurd (omega (arith, same, more)) };
-        operations = counts.operations;
-        actor = record { operations = stamp_operations q next.write.slot ended next.timestamp; made = run.made; by_actor = stores-only q.layout next.write.slot ended next.timestamp };
-        declined = λ fault other told. absurd (untold fault told);
-        drawers = ([], sessions-stamped next.timestamp s.drawn.commits ∙ sym (append-nil (map (λ (d : DrawnCommit). d.session) s.drawn.commits)));
+        effect = all-made (subst (λ (p : State). LeavesOnly before now (StandsWithin q p)) (sym (then-is spare)) leads.images) (omega (arith, counts.failed)) counts.operations
+            record { operations = stamp_operations q next.write.slot ended next.timestamp; made = run.made; by_actor = stores-only q.layout next.write.slot ended next.timestamp } untold;
       }
 
   pub stamps-last : (commits : InFlight) → next.is_last ≡ true → commits.commits ≡ map (with_stamp next.timestamp) s.drawn.commits → Runs (stamp_operations q next.write.slot ended next.timestamp) before now → GoesOn s (record s { drawn = commits }) before now (Stamp n) Stamped h
@@ -338,15 +337,14 @@ module _ (s : Sessions) (h : Hidden) (n : ℕ) (next : Unstamped) (before now : 
       let counts = stamps-count.stopped q n next.timestamp next.write.slot ended before now stops in
       let some : 0 < length (stamp_operations q next.write.slot ended (timestamp_of (q.sessions n))) = let lt = by-time.1 in omega (arith, lt) in
       record {
-        next = record h { failed = true };
-        origin = refl;
-        stepped = device_failed allowed (stamps-operate h.origin q n next.write.key next.write.row next.write.slot ended holds.upholds.keeps deals own-by ended-slot some) (ap (λ (f : Fault). reply.Refused f) is) refl;
+        goes = record {
+          next = record h { failed = true };
+          origin = refl;
+          stepped = device_failed allowed (stamps-operate h.origin q n next.write.key next.write.row next.write.slot ended holds.upholds.keeps deals own-by ended-slot some) (ap (λ (f : Fault). reply.Refused f) is) refl;
+          agrees = failed-agrees s h holds.agrees;
+          drawers = same-drawers s.drawn.commits;
+        };
         upholds = leads.upholds;
-        agrees = failed-agrees s h holds.agrees;
-        images = leads.images;
-        failure = let more = counts.failed in record { no_fewer = omega (arith, more); cause = λ told. omega (arith, more); shown = λ less. ap (λ (f : Fault). Refused f) is };
-        operations = counts.operations;
-        actor = record { operations = take stops.0 (stamp_operations q next.write.slot ended next.timestamp) ++ failure ∷ []; made = stops.2.made; by_actor = take-only n (stamp_operations q next.write.slot ended next.timestamp) stops.0 (stores-only q.layout next.write.slot ended next.timestamp) };
-        declined = λ told other is_told. absurd (other (let same : fault ≡ told = cc is_told in sym same ∙ is));
-        drawers = same-drawers s.drawn.commits;
+        effect = last-failed fault is refl (λ told same. cc same) leads.images counts.failed counts.operations
+            (stopped-by n (stamp_operations q next.write.slot ended next.timestamp) stops (stores-only q.layout next.write.slot ended next.timestamp));
       }

@@ -1,8 +1,6 @@
 -- From what is hidden to the plain states that are shown.
-use Rattle.std.proofs.Common.{◌≡◌, ℕ, zero, suc, true, false, ◌&&◌, List, [], ◌∷◌, ◌++◌, take, refl, sym, ◌∙◌, ap, subst, arith}
+use Rattle.std.proofs.Common.{◌≡◌, true, false, refl, sym, ◌∙◌, ap, subst}
 use Rattle.std.specs.Prelude.{Some}
-use Rattle.std.specs.List.{list_all}
-use Rattle.std.proofs.lemmas.Bool.{and_parts}
 use Rattle.std.proofs.Math.Logic.{∥∥₁_map}
 use Rattle.base.specs.declared.fault.Fault.{Fault}
 use Rattle.base.specs.declared.fault.Fault.TheVariants.{OutOfMemory, Device as DeviceFault}
@@ -19,7 +17,6 @@ use Rattle.base.specs.Lives.{is_failure}
 use Rattle.base.proofs.Failures.{refusal-quiet, answer-quiet}
 use Rattle.base.proofs.Runs.{Answers-answer}
 use Rattle.pmem.specs.Device.{Device, IsOrderly}
-use Rattle.pmem.specs.Trace.{Operation, failure}
 use Rattle.state_invariant.specs.Kept.{Origin}
 use Rattle.device_invariant.specs.Upholds.{Upholds}
 use Rattle.step_simulation.specs.Moves.{is_quiet}
@@ -28,7 +25,8 @@ use Rattle.step_simulation.proofs.StepsWithoutStores.{refusals-lead}
 use Rattle.session_steps.proofs.CodeTests.{same-drawers}
 use Rattle.session_steps.specs.declared.sessions.Sessions.{Sessions}
 use Rattle.session_steps.specs.Shows.{Hidden, plain_of, Agrees, Shows}
-use Rattle.session_steps.specs.Steps.{is_by_actor, Holds, HoldsOn, Goes, GoesOn, Takes, TakesOn, StepsTo, Steps, HoldsSome, HoldsSomeOn, ShowsSome}
+use Rattle.session_steps.specs.Steps.{Holds, HoldsOn, Goes, GoesOn, Takes, TakesOn, StepsTo, Steps, HoldsSome, HoldsSomeOn, ShowsSome}
+use Rattle.session_steps.proofs.Effects.{nothing-done}
 
 -- ---- who tells of the device
 
@@ -67,17 +65,6 @@ never-told q q' s r quiet (memory_refused nothing takes replied same) told =
     absurd (cc both)
 never-told q q' s r quiet (device_failed nothing operates replied same) told = absurd (cc (operates, quiet-idle q s quiet))
 
--- ---- whose operations they are
-
--- those that were made before one failed
-pub take-only : (n : ℕ) (ops : List Operation) (k : ℕ) → list_all (is_by_actor (Some n)) ops ≡ true → list_all (is_by_actor (Some n)) (take k ops ++ failure ∷ []) ≡ true
-take-only n [] zero all = refl
-take-only n [] (suc k) all = refl
-take-only n (op ∷ ops) zero all = refl
-take-only n (op ∷ ops) (suc k) all =
-    let both = and_parts (is_by_actor (Some n) op) (list_all (is_by_actor (Some n)) ops) all in
-    λ i. both.0 i && take-only n ops k both.1 i
-
 -- ---- steps
 
 module _ (old new : Sessions) (before now : Device) (s : SessionStep) (r : SessionReply) where
@@ -93,16 +80,12 @@ module _ (old new : Sessions) (before now : Device) (s : SessionStep) (r : Sessi
 
   -- a step on the device
   pub on-device : TakesOn old new before now s r → Steps old new before now s r
-  on-device takes = steps-shown (λ h holds. let goes = takes h holds in (
+  on-device takes = steps-shown (λ h holds. let on = takes h holds in let goes = on.goes in (
     plain_of new goes.next,
     record {
       stepped = goes.stepped;
-      shows = record { hidden = goes.next; plain = refl; upholds = subst (λ (o : Origin). Upholds o (plain_of new goes.next) now) (sym goes.origin) goes.upholds; agrees = subst (λ (o : Origin). Agrees new o goes.next.seen (plain_of new goes.next)) (sym goes.origin) goes.agrees };
-      images = goes.images;
-      failure = goes.failure;
-      operations = goes.operations;
-      actor = goes.actor;
-      declined = goes.declined;
+      shows = record { hidden = goes.next; plain = refl; upholds = subst (λ (o : Origin). Upholds o (plain_of new goes.next) now) (sym goes.origin) on.upholds; agrees = subst (λ (o : Origin). Agrees new o goes.next.seen (plain_of new goes.next)) (sym goes.origin) goes.agrees };
+      effect = on.effect;
       drawers = goes.drawers;
     },
   ))
@@ -112,19 +95,7 @@ pub goes-quietly : QuietStepsLead → (old new : Sessions) (device : Device) (s 
     → GoesOn old new device device s r h
 goes-quietly law old new device s r orderly quiet h holds goes =
     let leads = law h.origin (plain_of old h) (as_step s) (as_reply r) (plain_of new goes.next) device orderly quiet goes.stepped holds.upholds in
-    record {
-      next = goes.next;
-      origin = goes.origin;
-      stepped = goes.stepped;
-      upholds = leads.upholds;
-      agrees = goes.agrees;
-      images = leads.images;
-      failure = record { no_fewer = omega arith; cause = λ told. absurd (never-told (plain_of old h) (plain_of new goes.next) s r quiet goes.stepped told); shown = λ more. absurd (omega (arith, more)) };
-      operations = omega arith;
-      actor = record { operations = []; made = refl; by_actor = refl };
-      declined = λ fault other told. refl;
-      drawers = goes.drawers;
-    }
+    record { goes = goes; upholds = leads.upholds; effect = nothing-done leads.images (never-told (plain_of old h) (plain_of new goes.next) s r quiet goes.stepped) }
 
 -- nothing changes where a step is refused, for another reason than a failing device
 pub unmoved-on : (s : Sessions) (device : Device) (step : SessionStep) (fault : Fault) (h : Hidden) → IsOrderly device → HoldsOn s h device → SessionStepped (plain_of s h) step (Refused fault) (plain_of s h) → (fault ≡ DeviceFault → ⊥)
@@ -132,21 +103,10 @@ pub unmoved-on : (s : Sessions) (device : Device) (step : SessionStep) (fault : 
 unmoved-on s device step fault h orderly holds stepped other =
     let leads = refusals-lead h.origin (plain_of s h) device orderly holds.upholds in
     record {
-      next = h;
-      origin = refl;
-      stepped = stepped;
+      goes = record { next = h; origin = refl; stepped = stepped; agrees = holds.agrees; drawers = same-drawers s.drawn.commits };
       upholds = holds.upholds;
-      agrees = holds.agrees;
-      images = leads.images;
-      failure = record { no_fewer = omega arith; cause = λ told. absurd (untold told); shown = λ more. absurd (omega (arith, more)) };
-      operations = omega arith;
-      actor = record { operations = []; made = refl; by_actor = refl };
-      declined = λ fault other told. refl;
-      drawers = same-drawers s.drawn.commits;
+      effect = nothing-done leads.images (λ told. let same : fault ≡ DeviceFault = cc told in other same);
     }
-  where
-    untold : ◌≡◌ {A = SessionReply} (Refused fault) (Refused DeviceFault) → ⊥
-    untold told = let same : fault ≡ DeviceFault = cc told in other same
 
 -- a refusal
 pub refused-on : (s : Sessions) (device : Device) (step : SessionStep) (fault : Fault) (h : Hidden) → IsOrderly device → HoldsOn s h device → refusal (plain_of s h) (as_step step) ≡ Some fault → GoesOn s s device device step (Refused fault) h

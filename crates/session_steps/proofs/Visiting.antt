@@ -1,5 +1,5 @@
 -- A visit of the collector leads from each state that the sessions show to the machine's next.
-use Rattle.std.proofs.Common.{◌≡◌, ◌≢◌, ◌⊎◌, inl, inr, ℕ, ◌+◌, ◌/◌, ◌<◌, ◌≤◌, Bool, true, false, ◌&&◌, not, cond, List, [], ◌∷◌, ◌++◌, length, take, refl, sym, ◌∙◌, ap, subst, arith, nat_eq, nat_lt, Option, Some, None, length-set}
+use Rattle.std.proofs.Common.{◌≡◌, ◌≢◌, ◌⊎◌, inl, inr, ℕ, ◌+◌, ◌/◌, ◌<◌, ◌≤◌, Bool, true, false, ◌&&◌, not, cond, List, [], ◌∷◌, ◌++◌, length, refl, sym, ◌∙◌, ap, subst, arith, nat_eq, nat_lt, Option, Some, None, length-set}
 use Rattle.std.specs.Prelude.{is_none, slice_get, slice_set, unwrap_or, Result, Ok, Err}
 use Rattle.std.specs.List.{list_all}
 use Rattle.std.specs.Option.{option_map, option_eq}
@@ -22,7 +22,7 @@ use Rattle.base.specs.Images.{layout_of}
 use Rattle.base.specs.Machine.{State, Active as Reads, Drawn as PlainDrawn, Version, ByCommit, answered, device_failed, refusal, replaced, is_nil, session_numbers, StandsWithin}
 use Rattle.base.specs.Collecting.{is_garbage, is_at_slot, is_sweeping, held_after_visit, slot_visited, sweep_ended, visited, collected, replace, sees_replaced}
 use Rattle.pmem.specs.Device.{Device, IsOrderly}
-use Rattle.pmem.specs.Trace.{Operation, store_op, flush_op, fence_op, failure, after}
+use Rattle.pmem.specs.Trace.{Operation, store_op, flush_op, fence_op, after}
 use Rattle.pmem.specs.Words.{LeavesOnly, value_of, image_of}
 use Rattle.pmem.proofs.OperationEffects.{value-stored_other, value-flushed}
 use Rattle.log_area.proofs.Heads.{image_size, image_word}
@@ -65,7 +65,7 @@ use Rattle.session_steps.proofs.Freed.{agrees-freed, entry-left, entry-forgotten
 use Rattle.session_steps.proofs.GivenBack.{given-same, given-other}
 use Rattle.session_steps.proofs.OpenedSlots.{read-key}
 use Rattle.session_steps.proofs.Reading.{laid-out, words-are}
-use Rattle.session_steps.proofs.Stepping.{take-only}
+use Rattle.session_steps.proofs.Effects.{stopped-by, all-made, last-failed}
 use Rattle.session_steps.proofs.CodeTests.{same-drawers}
 
 -- ---- whose operations they are, and what they leave
@@ -165,11 +165,8 @@ module _ (s : Sessions) (h : Hidden) (before now : Device) (holds : HoldsOn s h 
         record {
           stepped = answered allowed replied plain;
           shows = record { hidden = next; plain = refl; upholds = subst (λ (p : State). Upholds h.origin p now) (sym plain) leads.upholds; agrees = agrees };
-          images = subst (λ (p : State). LeavesOnly before now (StandsWithin q p)) (sym plain) leads.images;
-          failure = let same = counts.failed in record { no_fewer = omega (arith, same); cause = λ told. absurd (cc told); shown = λ more. absurd (omega (arith, same, more)) };
-          operations = counts.operations;
-          actor = record { operations = ops; made = run.made; by_actor = own-ops };
-          declined = λ fault other told. absurd (cc told);
+          effect = all-made (subst (λ (p : State). LeavesOnly before now (StandsWithin q p)) (sym plain) leads.images) (omega (arith, counts.failed)) counts.operations
+              record { operations = ops; made = run.made; by_actor = own-ops } (λ fault told. absurd (cc told));
           drawers = same-drawers s.drawn.commits;
         },
       )
@@ -185,11 +182,7 @@ module _ (s : Sessions) (h : Hidden) (before now : Device) (holds : HoldsOn s h 
         record {
           stepped = device_failed allowed (visits-count.operates q (value_of before) some) (ap (λ (f : Fault). reply.Refused f) is) refl;
           shows = record { hidden = next; plain = refl; upholds = leads.upholds; agrees = failed-agrees s h holds.agrees };
-          images = leads.images;
-          failure = let more = counts.failed in record { no_fewer = omega (arith, more); cause = λ told. omega (arith, more); shown = λ less. ap (λ (f : Fault). Err f) is };
-          operations = counts.operations;
-          actor = record { operations = take stops.0 ops ++ failure ∷ []; made = stops.2.made; by_actor = take-only actor ops stops.0 own-ops };
-          declined = λ told other is_told. absurd (other (let same : fault ≡ told = cc is_told in sym same ∙ is));
+          effect = last-failed fault is refl (λ told same. cc same) leads.images counts.failed counts.operations (stopped-by actor ops stops own-ops);
           drawers = same-drawers s.drawn.commits;
         },
       )

@@ -1,17 +1,15 @@
 -- What a visit of the collector leads to, and who may still read a version.
-use Rattle.std.specs.Prelude.{◌≡◌, ℕ, ◌+◌, ◌≤◌, Bool, true, false, ◌&&◌, List, Option, Some, None, Result, Ok, Err}
+use Rattle.std.specs.Prelude.{◌≡◌, ℕ, Bool, true, false, ◌&&◌, List, Option, Some, None, Result, Ok, Err}
 use Rattle.std.specs.List.{list_all}
 use Rattle.base.specs.Actors.{collector}
 use Rattle.base.specs.Layout.{Layout}
 use Rattle.base.specs.declared.key.Key.{Key}
 use Rattle.base.specs.declared.fault.Fault.{Fault}
-use Rattle.base.specs.declared.fault.Fault.TheVariants.{Device as DeviceFault}
 use Rattle.base.specs.declared.step.Step.TheVariants.{Collect}
 use Rattle.base.specs.declared.step.Reply.{Reply}
 use Rattle.base.specs.declared.step.Reply.TheVariants.{Visited, SweepEnd as SweepEnded, Refused}
 use Rattle.base.specs.Machine.{State, Stepped, session_numbers, most_operations, StandsWithin}
 use Rattle.pmem.specs.Device.{Device}
-use Rattle.pmem.specs.Words.{LeavesOnly, operations_of}
 use Rattle.snapshot.specs.Snapshots.{Seen, covers}
 use Rattle.txn.specs.declared.transaction.Transaction.{Transaction}
 use Rattle.txn.specs.declared.transaction.Transaction.TheVariants.{Active, Drawn, ReadOnly}
@@ -25,7 +23,7 @@ use Rattle.collector.specs.declared.visit.Visit.{Visit}
 use Rattle.collector.specs.declared.visit.Visit.TheVariants.{Slot, SweepEnd}
 use Rattle.session_steps.specs.declared.sessions.Sessions.{Sessions}
 use Rattle.session_steps.specs.Shows.{Shows}
-use Rattle.session_steps.specs.Steps.{TellsFailure, Declines, RunsBy, Drawers}
+use Rattle.session_steps.specs.Steps.{HasEffect, Drawers}
 
 -- ---- who may still read
 
@@ -56,11 +54,7 @@ as_reply (Err fault) = Refused fault
 pub record CollectsTo (old new : Sessions) (before now : Device) (result : Result Visit Fault) (q q' : State) : Type 0 where
   pub stepped : Stepped q Collect (as_reply result) q'
   pub shows : Shows new now q'
-  pub images : LeavesOnly before now (StandsWithin q q')
-  pub failure : TellsFailure before now (result ≡ Err DeviceFault)
-  pub operations : operations_of now ≤ operations_of before + most_operations q Collect
-  pub actor : RunsBy (Some collector) before now
-  pub declined : Declines before now (λ fault. result ≡ Err fault)
+  pub effect : HasEffect before now (StandsWithin q q') (most_operations q Collect) (Some collector) (λ fault. result ≡ Err fault)
   pub drawers : Drawers old new
 
 -- so it does from every state that the sessions showed and that hadn't failed

@@ -7,6 +7,7 @@ use Rattle.base.specs.declared.step.SessionStep.{SessionStep}
 use Rattle.base.specs.declared.step.SessionReply.{SessionReply}
 use Rattle.base.specs.declared.step.SessionReply.TheVariants.{Refused}
 use Rattle.base.specs.Machine.{State, session_of, most_operations, StandsWithin}
+use Rattle.base.specs.Images.{Image}
 use Rattle.base.specs.SessionSteps.{as_step, SessionStepped}
 use Rattle.pmem.specs.Device.{Device}
 use Rattle.pmem.specs.Trace.{Operation, store_op, flush_op, fence_op, failure, after}
@@ -20,7 +21,7 @@ use Rattle.device_invariant.specs.Upholds.{Upholds}
 use Rattle.session_steps.specs.declared.sessions.Sessions.{Sessions}
 use Rattle.session_steps.specs.Shows.{Hidden, plain_of, Agrees, Shows}
 
--- ---- a step
+-- ---- what a step did to its device
 
 -- a failing device is reported exactly where an operation failed
 pub record TellsFailure (old new : Device) (told : Type 0) : Type 0 where
@@ -47,6 +48,18 @@ pub record RunsBy (actor : Option ℕ) (old new : Device) : Type 0 where
   pub made : new ≡ after operations old
   pub by_actor : IsTrue (list_all (is_by_actor actor) operations)
 
+-- What a step did to its device: a crash within it leaves only such images, at most so many operations succeeded, and each flush
+-- and fence was this actor's. The faults that it is refused for: the device's exactly where an operation failed, and any other
+-- only where the device is as it was
+pub record HasEffect (before now : Device) (Within : Image → Type 0) (most : ℕ) (by : Option ℕ) (Refuses : Fault → Type 0) : Type 0 where
+  pub images : LeavesOnly before now Within
+  pub failure : TellsFailure before now (Refuses DeviceFault)
+  pub operations : operations_of now ≤ operations_of before + most
+  pub actor : RunsBy by before now
+  pub declined : Declines before now Refuses
+
+-- ---- a step
+
 -- the sessions whose commits are drawn stay, in their order; more may come after them
 abbrev pub Drawers : Sessions → Sessions → Type 0
 Drawers old new = (more : List ℕ) × (map (λ d. d.session) new.drawn.commits ≡ map (λ d. d.session) old.drawn.commits ++ more)
@@ -55,11 +68,7 @@ Drawers old new = (more : List ℕ) × (map (λ d. d.session) new.drawn.commits 
 pub record StepsTo (old new : Sessions) (before now : Device) (step : SessionStep) (reply : SessionReply) (q q' : State) : Type 0 where
   pub stepped : SessionStepped q step reply q'
   pub shows : Shows new now q'
-  pub images : LeavesOnly before now (StandsWithin q q')
-  pub failure : TellsFailure before now (reply ≡ Refused DeviceFault)
-  pub operations : operations_of now ≤ operations_of before + most_operations q (as_step step)
-  pub actor : RunsBy (session_of (as_step step)) before now
-  pub declined : Declines before now (λ fault. reply ≡ Refused fault)
+  pub effect : HasEffect before now (StandsWithin q q') (most_operations q (as_step step)) (session_of (as_step step)) (λ fault. reply ≡ Refused fault)
   pub drawers : Drawers old new
 
 -- so it does from every state that the sessions showed and that hadn't failed
@@ -82,7 +91,7 @@ pub record Holds (s : Sessions) (h : Hidden) : Type 0 where
 abbrev pub HoldsSome : Sessions → Type 0
 HoldsSome s = (h : Hidden) × Holds s h
 
--- a step that makes no operation leads to a state that agrees with the sessions then
+-- a step leads to a state that agrees with the sessions then: all that there is to say of one that makes no operation
 pub record Goes (old new : Sessions) (step : SessionStep) (reply : SessionReply) (h : Hidden) : Type 0 where
   pub next : Hidden
   pub origin : next.origin ≡ h.origin
@@ -103,19 +112,11 @@ pub record HoldsOn (s : Sessions) (h : Hidden) (device : Device) : Type 0 where
 abbrev pub HoldsSomeOn : Sessions → Device → Type 0
 HoldsSomeOn s device = (h : Hidden) × HoldsOn s h device
 
--- a step leads to a state that the sessions show then on the device
+-- a step on a device goes so, to a state that the device upholds then
 pub record GoesOn (old new : Sessions) (before now : Device) (step : SessionStep) (reply : SessionReply) (h : Hidden) : Type 0 where
-  pub next : Hidden
-  pub origin : next.origin ≡ h.origin
-  pub stepped : SessionStepped (plain_of old h) step reply (plain_of new next)
-  pub upholds : Upholds h.origin (plain_of new next) now
-  pub agrees : Agrees new h.origin next.seen (plain_of new next)
-  pub images : LeavesOnly before now (StandsWithin (plain_of old h) (plain_of new next))
-  pub failure : TellsFailure before now (reply ≡ Refused DeviceFault)
-  pub operations : operations_of now ≤ operations_of before + most_operations (plain_of old h) (as_step step)
-  pub actor : RunsBy (session_of (as_step step)) before now
-  pub declined : Declines before now (λ fault. reply ≡ Refused fault)
-  pub drawers : Drawers old new
+  pub goes : Goes old new step reply h
+  pub upholds : Upholds h.origin (plain_of new goes.next) now
+  pub effect : HasEffect before now (StandsWithin (plain_of old h) (plain_of new goes.next)) (most_operations (plain_of old h) (as_step step)) (session_of (as_step step)) (λ fault. reply ≡ Refused fault)
 
 -- so it does whatever is hidden
 abbrev pub TakesOn : Sessions → Sessions → Device → Device → SessionStep → SessionReply → Type 0
