@@ -1,16 +1,13 @@
 -- Word counts that no command has.
-use Rattle.std.proofs.Common.{◌≡◌, ◌<◌, ◌≤◌, ◌^◌, ℕ, nat_le, Bool, true, false, List, [], ◌∷◌, length, take, codes, Option, Some, None, is_some, refl, sym, ap, ◌∙◌, arith, if◌then◌else◌}
+use Rattle.std.proofs.Common.{◌≡◌, ◌<◌, ◌≤◌, ◌^◌, ℕ, Bool, true, false, List, [], ◌∷◌, length, take, codes, Option, Some, None, is_some, refl, sym, ap, ◌∙◌, arith, if◌then◌else◌}
 use Rattle.command_line.specs.Numbers.{Text, number_below}
 use Rattle.std.specs.Prelude.{option_map, option_and_then}
 use Rattle.base.specs.declared.key.Key.{Key}
 use Rattle.command_line.specs.Lines.{IsPut, command_of, has_outer_space, is_skipped, is_word, key_of, line_of, put_command, put_of, words_of}
 use Rattle.command_line.specs.Rows.{row_of}
-use Rattle.command_line.specs.Scripts.{IsScriptPut, command_line_of, line_of_command, line_of_words, own_line, script_line_of}
+use Rattle.command_line.specs.Scripts.{line_of_words, own_line, script_line_of}
 use Rattle.command_line.specs.declared.command.Command.{Command}
-use Rattle.base.specs.declared.step.SessionStep.TheVariants.{Put}
-use Rattle.command_line.specs.declared.command.Command.TheVariants.{Step, LongRow}
 use Rattle.command_line.specs.declared.script_line.ScriptLine.{ScriptLine}
-use Rattle.command_line.specs.declared.script_line.ScriptLine.TheVariants as script
 
 pub command_of-no_words : (words : List Text) → length words < 1 → command_of words ≡ None
 command_of-no_words [] h = refl
@@ -97,11 +94,3 @@ put-by false session key row s k n es ek er = cc n
 pub put-so : (name session table key row : Text) (s : ℕ) (k : Key) → is_word name (codes "put") ≡ true → number_below (2 ^ 8) session ≡ Some s → key_of table key ≡ Some k
     → is_some (row_of row) ≡ true → IsPut (put_command name session table key row)
 put-so name session table key row s k n es ek er = put-by (is_word name (codes "put")) (number_below (2 ^ 8) session) (key_of table key) (row_of row) s k n es ek er
-
-put-line : (fits : Bool) (s : ℕ) (k : Key) (r : List ℕ) → line_of_command (if fits then Step (Put s k r) else LongRow) ≡ Some (script.Command (if fits then Step (Put s k r) else LongRow))
-put-line true s k r = refl
-put-line false s k r = refl
-
--- a put is a line of a script
-pub script-put : (words : List Text) → IsPut (command_of words) → IsScriptPut (command_line_of words)
-script-put words (s, k, r, is) = (s, k, r, ap (option_and_then line_of_command) is ∙ put-line (nat_le (length r) 96) s k r)

@@ -63,7 +63,7 @@ one_word_command name word =
     if is_word name (codes "commit") then option_map Commit (count_of word)
     else if is_word name (codes "collect") then option_map Collect (count_of word)
     else if is_word name (codes "crash") then crash_of word
-    else option_and_then (λ s. option_map Step (session_step name s)) (number_below (2 ^ 8) word)
+    else option_map Step (option_and_then (session_step name) (number_below (2 ^ 8) word))
 
 -- `get` or `delete` of a session and a key
 abbrev pub key_step : Text → ℕ → Key → Option SessionStep
@@ -73,9 +73,9 @@ key_step name session key =
     else None
 
 -- the same, of a session, a table and a key that are spelled
-abbrev pub spelled_key_command : Text → Text → Text → Text → Option Command
-spelled_key_command name session table key =
-    option_and_then (λ s. option_and_then (λ k. option_map Step (key_step name s k)) (key_of table key)) (number_below (2 ^ 8) session)
+abbrev pub spelled_key_step : Text → Text → Text → Text → Option SessionStep
+spelled_key_step name session table key =
+    option_and_then (λ s. option_and_then (key_step name s) (key_of table key)) (number_below (2 ^ 8) session)
 
 -- a put of this row. One that is longer than any row may be makes no step
 abbrev pub put_of : ℕ → Key → List ℕ → Command
@@ -89,14 +89,14 @@ put_command name session table key row =
     else None
 
 -- `scan` of a session, a table and the first and the last key of a range
-abbrev pub scan_command : Text → Text → Text → Text → Option Command
-scan_command session table lo hi =
-    option_and_then (λ s. option_and_then (λ t. option_and_then (λ l. option_map (λ h. Step (Scan s t l h)) (number_below (2 ^ 64) hi)) (number_below (2 ^ 64) lo)) (number_below (2 ^ 16) table)) (number_below (2 ^ 8) session)
+abbrev pub scan_step : Text → Text → Text → Text → Option SessionStep
+scan_step session table lo hi =
+    option_and_then (λ s. option_and_then (λ t. option_and_then (λ l. option_map (Scan s t l) (number_below (2 ^ 64) hi)) (number_below (2 ^ 64) lo)) (number_below (2 ^ 16) table)) (number_below (2 ^ 8) session)
 
 -- a command with four words after its name
 abbrev pub four_word_command : Text → Text → Text → Text → Text → Option Command
 four_word_command name session table key last =
-    if is_word name (codes "scan") then scan_command session table key last
+    if is_word name (codes "scan") then option_map Step (scan_step session table key last)
     else put_command name session table key last
 
 -- the command that some words spell, where they spell one
@@ -105,7 +105,7 @@ command_of [] = None
 command_of (name ∷ []) = bare_command name
 command_of (name ∷ word ∷ []) = one_word_command name word
 command_of (name ∷ a ∷ b ∷ []) = None
-command_of (name ∷ session ∷ table ∷ key ∷ []) = spelled_key_command name session table key
+command_of (name ∷ session ∷ table ∷ key ∷ []) = option_map Step (spelled_key_step name session table key)
 command_of (name ∷ session ∷ table ∷ key ∷ last ∷ []) = four_word_command name session table key last
 command_of (name ∷ a ∷ b ∷ c ∷ d ∷ e ∷ more) = None
 

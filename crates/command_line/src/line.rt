@@ -1,5 +1,5 @@
 ghost use Rattle.std.specs.Prelude.{◌≡◌, ◌^◌, ◌<◌, ◌≤◌, IfOk, IfErr, length, take, option_and_then};
-ghost use Rattle.command_line.specs.Lines.{bare_command, command_of, key_step, spelled_key_command, line_of, count_of, crash_of, key_of, one_word_command, put_command, put_of, scan_command, four_word_command, session_step, texts, words_of, is_skipped, has_outer_space, IsPut, SpellsPut};
+ghost use Rattle.command_line.specs.Lines.{bare_command, command_of, key_step, spelled_key_step, line_of, count_of, crash_of, key_of, one_word_command, put_command, put_of, scan_step, four_word_command, session_step, texts, words_of, is_skipped, has_outer_space, IsPut, SpellsPut};
 ghost use Rattle.command_line.specs.Numbers.{number_below};
 ghost use Rattle.command_line.specs.declared.line.LineFault.TheVariants.{NotACommand, OutOfMemory};
 
@@ -94,7 +94,8 @@ pub(crate) fn command(alloc: Global, words: &[&[u8]]) -> Result<Command, LineFau
         [name, argument] => with_one_word(name, argument).ok_or(LineFault::NotACommand),
         [_, _, _] => Err(LineFault::NotACommand),
         [name, session, table, key] => {
-            with_key(name, session, table, key).ok_or(LineFault::NotACommand)
+            let step = with_key(name, session, table, key).ok_or(LineFault::NotACommand)?;
+            Ok(Command::Step(step))
         }
         [name, session, table, key, last] => {
             with_four_words(alloc, name, session, table, key, last)
@@ -184,13 +185,12 @@ fn key_of(table: &[u8], key: &[u8]) -> Option<Key>
     Some(Key { table, key })
 }
 
-fn with_key(name: &[u8], session: &[u8], table: &[u8], key: &[u8]) -> Option<Command>
-    ensures { result ≡ spelled_key_command name.now session.now table.now key.now }
+fn with_key(name: &[u8], session: &[u8], table: &[u8], key: &[u8]) -> Option<SessionStep>
+    ensures { result ≡ spelled_key_step name.now session.now table.now key.now }
 {
     let session = small_number(session)?;
     let key = key_of(table, key)?;
-    let step = of_key(name, session, key)?;
-    Some(Command::Step(step))
+    of_key(name, session, key)
 }
 
 fn of_key(name: &[u8], session: u8, key: Key) -> Option<SessionStep>
@@ -218,24 +218,25 @@ fn with_four_words(
     ensures memory { IfErr result (λ fault. fault ≡ OutOfMemory → IsPut (four_word_command name.now session.now table.now key.now last.now)) }
 {
     if name == b"scan".as_slice() {
-        return scan(session, table, key, last).ok_or(LineFault::NotACommand);
+        let step = scan(session, table, key, last).ok_or(LineFault::NotACommand)?;
+        return Ok(Command::Step(step));
     }
     put(alloc, name, session, table, key, last)
 }
 
-fn scan(session: &[u8], table: &[u8], lo: &[u8], hi: &[u8]) -> Option<Command>
-    ensures { result ≡ scan_command session.now table.now lo.now hi.now }
+fn scan(session: &[u8], table: &[u8], lo: &[u8], hi: &[u8]) -> Option<SessionStep>
+    ensures { result ≡ scan_step session.now table.now lo.now hi.now }
 {
     let session = small_number(session)?;
     let table = middle_number(table)?;
     let lo = number(lo)?;
     let hi = number(hi)?;
-    Some(Command::Step(SessionStep::Scan {
+    Some(SessionStep::Scan {
         session,
         table,
         lo,
         hi,
-    }))
+    })
 }
 
 fn put(

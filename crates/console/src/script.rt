@@ -127,7 +127,7 @@ fn add_steps(geometry: Geometry, command: &Command, steps: &mut Vec<Step>) -> Re
     ensures { OnOk result (steps.new.items ≡ steps.old.items ++ steps_of geometry command.now) }
 {
     match command {
-        Command::Step(asked) => steps.push(Step::from(*asked)),
+        Command::Step(asked) => Ok(steps.push(Step::from(*asked))?),
         Command::Commit { ticks } => add_each(&Step::Commit, ticks_made(*ticks), steps),
         Command::Collect { visits } => {
             add_each(&Step::Collect, visits_needed(geometry, *visits), steps)
