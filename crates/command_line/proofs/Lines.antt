@@ -3,11 +3,10 @@ use Rattle.std.proofs.Common.{◌≡◌, ◌<◌, ◌≤◌, ◌^◌, ℕ, Bool,
 use Rattle.command_line.specs.Numbers.{Text, number_below}
 use Rattle.std.specs.Prelude.{option_map, option_and_then}
 use Rattle.base.specs.declared.key.Key.{Key}
-use Rattle.command_line.specs.Lines.{IsPut, command_of, has_outer_space, is_skipped, is_word, key_of, line_of, put_command, words_of}
+use Rattle.command_line.specs.Lines.{IsPut, command_of, has_outer_space, is_skipped, is_word, key_of, line_of, put_command, put_of, words_of}
 use Rattle.command_line.specs.Rows.{row_of}
 use Rattle.command_line.specs.Scripts.{line_of_words, own_line, script_line_of}
 use Rattle.command_line.specs.declared.command.Command.{Command}
-use Rattle.command_line.specs.declared.command.Command.TheVariants.{Put}
 use Rattle.command_line.specs.declared.script_line.ScriptLine.{ScriptLine}
 
 pub command_of-no_words : (words : List Text) → length words < 1 → command_of words ≡ None
@@ -87,7 +86,7 @@ script-line-so line words spelled skipped outer first is =
 -- ---- a put
 
 put-by : (named : Bool) (session : Option ℕ) (key : Option Key) (row : Option (List ℕ)) (s : ℕ) (k : Key) → named ≡ true → session ≡ Some s → key ≡ Some k → is_some row ≡ true
-    → IsPut (if named then option_and_then (λ s'. option_and_then (λ k'. option_map (Put s' k') row) key) session else None)
+    → IsPut (if named then option_and_then (λ s'. option_and_then (λ k'. option_map (put_of s' k') row) key) session else None)
 put-by true session key (Some r) s k n es ek er = (s, k, r, rw (es, ek) refl)
 put-by true session key None s k n es ek er = cc er
 put-by false session key row s k n es ek er = cc n

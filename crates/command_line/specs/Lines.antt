@@ -1,13 +1,15 @@
 -- Which command a line spells.
-use Rattle.std.specs.Prelude.{◌≡◌, ℕ, List, [], ◌∷◌, Bool, not, Option, Some, None, length, ◌==◌, ◌||◌, ◌-◌, ◌^◌, slice_index, codes, map, if◌then◌else◌, option_map, option_and_then}
+use Rattle.std.specs.Prelude.{◌≡◌, ℕ, List, [], ◌∷◌, Bool, not, Option, Some, None, length, ◌==◌, ◌||◌, ◌-◌, ◌^◌, nat_le, slice_index, codes, map, if◌then◌else◌, option_map, option_and_then}
 use Rattle.std.specs.Borrow.{Bor}
 use Rattle.std.specs.List.{slice_split, filter}
 use Rattle.std.specs.Str.{bytes_eq}
 use Rattle.base.specs.declared.key.Key.{Key}
+use Rattle.base.specs.declared.step.SessionStep.{SessionStep}
+use Rattle.base.specs.declared.step.SessionStep.TheVariants.{Begin, Get, Scan, Put, Delete, Draw, Stamp, Poll, Abort, End}
 use Rattle.command_line.specs.Numbers.{Text, number_below}
 use Rattle.command_line.specs.Rows.{row_of}
 use Rattle.command_line.specs.declared.command.Command.{Command}
-use Rattle.command_line.specs.declared.command.Command.TheVariants.{Begin, Get, Scan, Put, Delete, Draw, Stamp, Poll, Abort, End, Commit, Collect, Cycle, Crash}
+use Rattle.command_line.specs.declared.command.Command.TheVariants.{Step, LongRow, Commit, Collect, Cycle, Crash}
 use Rattle.command_line.specs.declared.command.Survivor.TheVariants.{Oldest, Newest}
 
 -- the texts behind references
@@ -30,13 +32,13 @@ key_of table key =
 -- `begin` or `cycle`
 abbrev pub bare_command : Text → Option Command
 bare_command name =
-    if is_word name (codes "begin") then Some Begin
+    if is_word name (codes "begin") then Some (Step Begin)
     else if is_word name (codes "cycle") then Some Cycle
     else None
 
 -- `draw`, `stamp`, `poll`, `abort` or `end` of a session
-abbrev pub session_command : Text → ℕ → Option Command
-session_command name session =
+abbrev pub session_step : Text → ℕ → Option SessionStep
+session_step name session =
     if is_word name (codes "draw") then Some (Draw session)
     else if is_word name (codes "stamp") then Some (Stamp session)
     else if is_word name (codes "poll") then Some (Poll session)
@@ -61,36 +63,40 @@ one_word_command name word =
     if is_word name (codes "commit") then option_map Commit (count_of word)
     else if is_word name (codes "collect") then option_map Collect (count_of word)
     else if is_word name (codes "crash") then crash_of word
-    else option_and_then (session_command name) (number_below (2 ^ 8) word)
+    else option_map Step (option_and_then (session_step name) (number_below (2 ^ 8) word))
 
 -- `get` or `delete` of a session and a key
-abbrev pub key_command : Text → ℕ → Key → Option Command
-key_command name session key =
+abbrev pub key_step : Text → ℕ → Key → Option SessionStep
+key_step name session key =
     if is_word name (codes "get") then Some (Get session key)
     else if is_word name (codes "delete") then Some (Delete session key)
     else None
 
 -- the same, of a session, a table and a key that are spelled
-abbrev pub spelled_key_command : Text → Text → Text → Text → Option Command
-spelled_key_command name session table key =
-    option_and_then (λ s. option_and_then (key_command name s) (key_of table key)) (number_below (2 ^ 8) session)
+abbrev pub spelled_key_step : Text → Text → Text → Text → Option SessionStep
+spelled_key_step name session table key =
+    option_and_then (λ s. option_and_then (key_step name s) (key_of table key)) (number_below (2 ^ 8) session)
+
+-- a put of this row. One that is longer than any row may be makes no step
+abbrev pub put_of : ℕ → Key → List ℕ → Command
+put_of session key row = if nat_le (length row) 96 then Step (Put session key row) else LongRow
 
 -- `put` of a session, a table, a key and a row
 abbrev pub put_command : Text → Text → Text → Text → Text → Option Command
 put_command name session table key row =
     if is_word name (codes "put")
-    then option_and_then (λ s. option_and_then (λ k. option_map (Put s k) (row_of row)) (key_of table key)) (number_below (2 ^ 8) session)
+    then option_and_then (λ s. option_and_then (λ k. option_map (put_of s k) (row_of row)) (key_of table key)) (number_below (2 ^ 8) session)
     else None
 
 -- `scan` of a session, a table and the first and the last key of a range
-abbrev pub scan_command : Text → Text → Text → Text → Option Command
-scan_command session table lo hi =
+abbrev pub scan_step : Text → Text → Text → Text → Option SessionStep
+scan_step session table lo hi =
     option_and_then (λ s. option_and_then (λ t. option_and_then (λ l. option_map (Scan s t l) (number_below (2 ^ 64) hi)) (number_below (2 ^ 64) lo)) (number_below (2 ^ 16) table)) (number_below (2 ^ 8) session)
 
 -- a command with four words after its name
 abbrev pub four_word_command : Text → Text → Text → Text → Text → Option Command
 four_word_command name session table key last =
-    if is_word name (codes "scan") then scan_command session table key last
+    if is_word name (codes "scan") then option_map Step (scan_step session table key last)
     else put_command name session table key last
 
 -- the command that some words spell, where they spell one
@@ -99,7 +105,7 @@ command_of [] = None
 command_of (name ∷ []) = bare_command name
 command_of (name ∷ word ∷ []) = one_word_command name word
 command_of (name ∷ a ∷ b ∷ []) = None
-command_of (name ∷ session ∷ table ∷ key ∷ []) = spelled_key_command name session table key
+command_of (name ∷ session ∷ table ∷ key ∷ []) = option_map Step (spelled_key_step name session table key)
 command_of (name ∷ session ∷ table ∷ key ∷ last ∷ []) = four_word_command name session table key last
 command_of (name ∷ a ∷ b ∷ c ∷ d ∷ e ∷ more) = None
 
@@ -120,8 +126,8 @@ line_of line =
 
 -- the command is a put
 abbrev pub IsPut : Option Command → Type 0
-IsPut read = (session : ℕ) × (key : Key) × (row : List ℕ) × (read ≡ Some (Put session key row))
+IsPut read = (session : ℕ) × (key : Key) × (row : List ℕ) × (read ≡ Some (put_of session key row))
 
 -- the line spells a put
 abbrev pub SpellsPut : Text → Type 0
-SpellsPut line = (session : ℕ) × (key : Key) × (row : List ℕ) × (line_of line ≡ Some (Some (Put session key row)))
+SpellsPut line = (session : ℕ) × (key : Key) × (row : List ℕ) × (line_of line ≡ Some (Some (put_of session key row)))

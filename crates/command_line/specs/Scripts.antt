@@ -4,7 +4,7 @@ use Rattle.std.specs.List.{flat_map, slice_split}
 use Rattle.std.specs.Option.{option_to_list}
 use Rattle.base.specs.Layout.{Layout, is_in_limits, layout_with, plain_version}
 use Rattle.base.specs.declared.key.Key.{Key}
-use Rattle.command_line.specs.Lines.{command_of, has_outer_space, is_skipped, is_word, words_of}
+use Rattle.command_line.specs.Lines.{command_of, has_outer_space, is_skipped, is_word, put_of, words_of}
 use Rattle.command_line.specs.Numbers.{Text, number_below}
 use Rattle.command_line.specs.declared.command.Command.{Command}
 use Rattle.command_line.specs.declared.command.Command.TheVariants as command
@@ -81,11 +81,11 @@ script_line_of text =
 
 -- the line is a put
 abbrev pub IsScriptPut : Option ScriptLine → Type 0
-IsScriptPut read = (session : ℕ) × (key : Key) × (row : List ℕ) × (read ≡ Some (line.Command (command.Put session key row)))
+IsScriptPut read = (session : ℕ) × (key : Key) × (row : List ℕ) × (read ≡ Some (line.Command (put_of session key row)))
 
 -- the text spells a put
 abbrev pub SpellsScriptPut : Text → Type 0
-SpellsScriptPut text = (session : ℕ) × (key : Key) × (row : List ℕ) × (script_line_of text ≡ Some (Some (line.Command (command.Put session key row))))
+SpellsScriptPut text = (session : ℕ) × (key : Key) × (row : List ℕ) × (script_line_of text ≡ Some (Some (line.Command (put_of session key row))))
 
 -- ---- the whole
 

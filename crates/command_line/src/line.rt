@@ -1,5 +1,5 @@
 ghost use Rattle.std.specs.Prelude.{◌≡◌, ◌^◌, ◌<◌, ◌≤◌, IfOk, IfErr, length, take, option_and_then};
-ghost use Rattle.command_line.specs.Lines.{bare_command, command_of, key_command, spelled_key_command, line_of, count_of, crash_of, key_of, one_word_command, put_command, scan_command, four_word_command, session_command, texts, words_of, is_skipped, has_outer_space, IsPut, SpellsPut};
+ghost use Rattle.command_line.specs.Lines.{bare_command, command_of, key_step, spelled_key_step, line_of, count_of, crash_of, key_of, one_word_command, put_command, put_of, scan_step, four_word_command, session_step, texts, words_of, is_skipped, has_outer_space, IsPut, SpellsPut};
 ghost use Rattle.command_line.specs.Numbers.{number_below};
 ghost use Rattle.command_line.specs.declared.line.LineFault.TheVariants.{NotACommand, OutOfMemory};
 
@@ -7,6 +7,8 @@ use crate::command::{Command, Survivor};
 use crate::number::{middle_number, number, small_number};
 use crate::row_text::row;
 use base::key::Key;
+use base::row::Row;
+use base::step::SessionStep;
 use std::alloc::Global;
 use thiserror::Error;
 
@@ -92,7 +94,8 @@ pub(crate) fn command(alloc: Global, words: &[&[u8]]) -> Result<Command, LineFau
         [name, argument] => with_one_word(name, argument).ok_or(LineFault::NotACommand),
         [_, _, _] => Err(LineFault::NotACommand),
         [name, session, table, key] => {
-            with_key(name, session, table, key).ok_or(LineFault::NotACommand)
+            let step = with_key(name, session, table, key).ok_or(LineFault::NotACommand)?;
+            Ok(Command::Step(step))
         }
         [name, session, table, key, last] => {
             with_four_words(alloc, name, session, table, key, last)
@@ -105,7 +108,7 @@ fn bare(name: &[u8]) -> Option<Command>
     ensures { result ≡ bare_command name.now }
 {
     if name == b"begin".as_slice() {
-        Some(Command::Begin)
+        Some(Command::Step(SessionStep::Begin))
     } else if name == b"cycle".as_slice() {
         Some(Command::Cycle)
     } else {
@@ -125,23 +128,24 @@ fn with_one_word(name: &[u8], argument: &[u8]) -> Option<Command>
     } else if name == b"crash".as_slice() {
         crash(argument)
     } else {
-        of_session(name, small_number(argument)?)
+        let step = of_session(name, small_number(argument)?)?;
+        Some(Command::Step(step))
     }
 }
 
-fn of_session(name: &[u8], session: u8) -> Option<Command>
-    ensures { result ≡ session_command name.now session }
+fn of_session(name: &[u8], session: u8) -> Option<SessionStep>
+    ensures { result ≡ session_step name.now session }
 {
     if name == b"draw".as_slice() {
-        Some(Command::Draw { session })
+        Some(SessionStep::Draw { session })
     } else if name == b"stamp".as_slice() {
-        Some(Command::Stamp { session })
+        Some(SessionStep::Stamp { session })
     } else if name == b"poll".as_slice() {
-        Some(Command::Poll { session })
+        Some(SessionStep::Poll { session })
     } else if name == b"abort".as_slice() {
-        Some(Command::Abort { session })
+        Some(SessionStep::Abort { session })
     } else if name == b"end".as_slice() {
-        Some(Command::End { session })
+        Some(SessionStep::End { session })
     } else {
         None
     }
@@ -181,21 +185,21 @@ fn key_of(table: &[u8], key: &[u8]) -> Option<Key>
     Some(Key { table, key })
 }
 
-fn with_key(name: &[u8], session: &[u8], table: &[u8], key: &[u8]) -> Option<Command>
-    ensures { result ≡ spelled_key_command name.now session.now table.now key.now }
+fn with_key(name: &[u8], session: &[u8], table: &[u8], key: &[u8]) -> Option<SessionStep>
+    ensures { result ≡ spelled_key_step name.now session.now table.now key.now }
 {
     let session = small_number(session)?;
     let key = key_of(table, key)?;
     of_key(name, session, key)
 }
 
-fn of_key(name: &[u8], session: u8, key: Key) -> Option<Command>
-    ensures { result ≡ key_command name.now session key }
+fn of_key(name: &[u8], session: u8, key: Key) -> Option<SessionStep>
+    ensures { result ≡ key_step name.now session key }
 {
     if name == b"get".as_slice() {
-        Some(Command::Get { session, key })
+        Some(SessionStep::Get { session, key })
     } else if name == b"delete".as_slice() {
-        Some(Command::Delete { session, key })
+        Some(SessionStep::Delete { session, key })
     } else {
         None
     }
@@ -214,19 +218,20 @@ fn with_four_words(
     ensures memory { IfErr result (λ fault. fault ≡ OutOfMemory → IsPut (four_word_command name.now session.now table.now key.now last.now)) }
 {
     if name == b"scan".as_slice() {
-        return scan(session, table, key, last).ok_or(LineFault::NotACommand);
+        let step = scan(session, table, key, last).ok_or(LineFault::NotACommand)?;
+        return Ok(Command::Step(step));
     }
     put(alloc, name, session, table, key, last)
 }
 
-fn scan(session: &[u8], table: &[u8], lo: &[u8], hi: &[u8]) -> Option<Command>
-    ensures { result ≡ scan_command session.now table.now lo.now hi.now }
+fn scan(session: &[u8], table: &[u8], lo: &[u8], hi: &[u8]) -> Option<SessionStep>
+    ensures { result ≡ scan_step session.now table.now lo.now hi.now }
 {
     let session = small_number(session)?;
     let table = middle_number(table)?;
     let lo = number(lo)?;
     let hi = number(hi)?;
-    Some(Command::Scan {
+    Some(SessionStep::Scan {
         session,
         table,
         lo,
@@ -252,7 +257,17 @@ fn put(
     let session = small_number(session).ok_or(LineFault::NotACommand)?;
     let key = key_of(table, key).ok_or(LineFault::NotACommand)?;
     match row(alloc, bytes) {
-        Ok(row) => Ok(Command::Put { session, key, row }),
+        Ok(row) => Ok(put_of(session, key, row.as_slice())),
         Err(fault) => Err(fault),
+    }
+}
+
+// A put of these bytes.
+fn put_of(session: u8, key: Key, bytes: &[u8]) -> Command
+    ensures { result ≡ put_of session key bytes.now }
+{
+    match Row::new(bytes) {
+        Ok(row) => Command::Step(SessionStep::Put { session, key, row }),
+        Err(_) => Command::LongRow,
     }
 }

@@ -4,14 +4,13 @@ ghost use Rattle.std.specs.List.{list_all, list_any};
 ghost use Rattle.command_line.specs.Rows.{IsNoRow, row_of, row_text};
 ghost use Rattle.command_line.specs.declared.line.LineFault.TheVariants.{NotACommand, OutOfMemory};
 
-use crate::command::RowBytes;
 use crate::line::LineFault;
 use std::alloc::Global;
 
 /// The bytes of a row, written as two lower case hex digits each, or as `-` where there are none.
-pub fn row(alloc: Global, word: &[u8]) -> Result<RowBytes, LineFault>
-    ensures value { IfOk result (λ row. row_of word.now ≡ Some row) }
-    ensures spelled { IfOk result (λ row. word.now ≡ row_text row) }
+pub fn row(alloc: Global, word: &[u8]) -> Result<Vec<u8>, LineFault>
+    ensures value { IfOk result (λ row. row_of word.now ≡ Some row.items) }
+    ensures spelled { IfOk result (λ row. word.now ≡ row_text row.items) }
 
     // No row is written so.
     ensures refused { IfErr result (λ fault. fault ≡ NotACommand → row_of word.now ≡ None) }
@@ -23,19 +22,19 @@ pub fn row(alloc: Global, word: &[u8]) -> Result<RowBytes, LineFault>
     decoded(alloc, word)
 }
 
-fn decoded(alloc: Global, word: &[u8]) -> Result<RowBytes, LineFault>
-    ensures value { IfOk result (λ row. row_of word.now ≡ Some row) }
+fn decoded(alloc: Global, word: &[u8]) -> Result<Vec<u8>, LineFault>
+    ensures value { IfOk result (λ row. row_of word.now ≡ Some row.items) }
     ensures refused { IfErr result (λ fault. fault ≡ NotACommand → row_of word.now ≡ None) }
     ensures memory { IfErr result (λ fault. fault ≡ OutOfMemory → IsSome (row_of word.now)) }
 {
     if word == b"-".as_slice() {
-        return Ok(RowBytes::new(Vec::new(alloc)));
+        return Ok(Vec::new(alloc));
     }
     if word.is_empty() || has_upper_case(word) || !is_hex(word) {
         return Err(LineFault::NotACommand);
     }
     match hex::decode(alloc, word) {
-        Ok(bytes) => Ok(RowBytes::new(bytes)),
+        Ok(bytes) => Ok(bytes),
         Err(_) => Err(LineFault::OutOfMemory),
     }
 }

@@ -1,4 +1,4 @@
-ghost use Rattle.std.specs.Prelude.{◌≡◌, ◌++◌, ◌∷◌, [], false, IfOk, IfErr, IfSome, IfNone};
+ghost use Rattle.std.specs.Prelude.{◌≡◌, ◌++◌, ◌∷◌, [], false, IfOk, IfErr, IfSome, IfNone, OnOk};
 ghost use Rattle.std.specs.List.{flat_map};
 ghost use Rattle.base.specs.Layout.{is_in_limits, layout_with, plain_version};
 ghost use Rattle.command_line.specs.Scripts.{HasBadGeometry, IfBadGeometry, IfWrongLine, IsNoLineOf, IsOutOfPlace, IsShut, IsWrongAfter, IsWrongLine, SpellsScript, TakesLine, lines_in, lines_of, lines_of_life, lines_so_far};
@@ -235,10 +235,22 @@ fn add_command(
     let Some(mut life) = take_open_life(&mut lives) else {
         return Err(ScriptFault::WrongLine(number));
     };
-    if life.commands.push(command).is_err() || lives.push(life).is_err() {
+    if push_command(&mut life.commands, command).is_err() || lives.push(life).is_err() {
         return Err(ScriptFault::OutOfMemory);
     }
     Ok(lives)
+}
+
+// Adds a command to others. Its step is named, since the prover finds the type of a value that goes into a list only where the
+// function names it.
+fn push_command(commands: &mut Vec<Command>, command: Command) -> Result<(), AllocError>
+    ensures { OnOk result (commands.new.items ≡ commands.old.items ++ command ∷ []) }
+{
+    match command {
+        Command::Step(step) => commands.push(Command::Step(step))?,
+        other => commands.push(other)?,
+    }
+    Ok(())
 }
 
 fn close_life(mut lives: Vec<ScriptLife>, number: u64) -> Result<Vec<ScriptLife>, ScriptFault>

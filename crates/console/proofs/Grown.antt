@@ -1,7 +1,6 @@
 -- The history only grows by commands and lines, and the layout stays.
-use Rattle.std.proofs.Common.{◌≡◌, ℕ, suc, zero, List, [], ◌∷◌, inl, inr, Bool, true, false, refl, sym, ◌∙◌, ap, subst}
+use Rattle.std.proofs.Common.{◌≡◌, ℕ, suc, zero, List, [], ◌∷◌, Bool, true, false, refl, sym, ◌∙◌, ap, subst}
 use Rattle.std.specs.Prelude.{Option, Some, None, if◌then◌else◌}
-use Rattle.base.specs.declared.key.Key.{Key}
 use Rattle.base.specs.declared.step.Step.{Step}
 use Rattle.base.specs.declared.step.Step.TheVariants as step
 use Rattle.base.specs.declared.step.Reply.{Reply}
@@ -9,16 +8,17 @@ use Rattle.base.specs.declared.step.Stage.{Stage}
 use Rattle.base.specs.Commits.{Writes}
 use Rattle.base.specs.Collecting.{is_at_slot, slot_visited, sweep_ended}
 use Rattle.base.specs.Machine.{State, Hand, Stepped, refused, answered, memory_refused, device_failed, next_state, next_stage, is_idle, writes_of, state_drawn, state_ticked, state_ticked_on}
+use Rattle.base.specs.SessionSteps.{as_step}
 use Rattle.base.proofs.Growth.{extends-stepped}
 use Rattle.command_line.specs.Lines.{line_of}
 use Rattle.command_line.specs.Numbers.{Text}
 use Rattle.command_line.specs.declared.command.Command.{Command}
-use Rattle.command_line.specs.declared.command.Command.TheVariants.{Begin, Get, Scan, Put, Delete, Draw, Stamp, Poll, Abort, End, Commit as CommitTicks, Collect as CollectVisits, Cycle, Crash}
+use Rattle.command_line.specs.declared.command.Command.TheVariants as asks
 use Rattle.command_line.specs.declared.command.Survivor.{Survivor}
 use Rattle.console.specs.declared.lines.Outcome.{Outcome}
 use Rattle.console.specs.declared.lines.Outcome.TheVariants.{Replied, Crashed}
 use Rattle.console.specs.Kept.{Extends}
-use Rattle.console.specs.Obeyed.{Ticks, Puts, Answers, ComesTo, ObeysRead, ObeysLine, ObeysLines}
+use Rattle.console.specs.Obeyed.{Ticks, Answers, ComesTo, ObeysRead, ObeysLine, ObeysLines}
 use Rattle.console.proofs.KeptHistory.{extends-none, extends-trans}
 
 -- the history of the second begins with that of the first, and their layout is one
@@ -79,25 +79,13 @@ grows-ticks tick goes_on zero q answer q' t = grows-stepped q tick answer q' t
 grows-ticks tick goes_on (suc more) q answer q' (before, mid, earlier, goes, last) =
     grows-trans q mid q' (grows-ticks tick goes_on more q before mid earlier) (grows-stepped mid tick answer q' last)
 
-grows-puts : (q : State) (n : ℕ) (key : Key) (row : List ℕ) (answer : Reply) (q' : State) → Puts q n key row answer q' → Grows q q'
-grows-puts q n key row answer q' (inl (few, made)) = grows-stepped q (step.Put n key row) answer q' made
-grows-puts q n key row answer q' (inr (many, is, same)) = grows-same q q' same
-
 grows-answers : (q : State) (command : Command) (answer : Reply) (q' : State) → Answers q command answer q' → Grows q q'
-grows-answers q Begin answer q' s = grows-stepped q step.Begin answer q' s
-grows-answers q (Get n key) answer q' s = grows-stepped q (step.Get n key) answer q' s
-grows-answers q (Scan n table lo hi) answer q' s = grows-stepped q (step.Scan n table lo hi) answer q' s
-grows-answers q (Put n key row) answer q' s = grows-puts q n key row answer q' s
-grows-answers q (Delete n key) answer q' s = grows-stepped q (step.Delete n key) answer q' s
-grows-answers q (Draw n) answer q' s = grows-stepped q (step.Draw n) answer q' s
-grows-answers q (Stamp n) answer q' s = grows-stepped q (step.Stamp n) answer q' s
-grows-answers q (Poll n) answer q' s = grows-stepped q (step.Poll n) answer q' s
-grows-answers q (Abort n) answer q' s = grows-stepped q (step.Abort n) answer q' s
-grows-answers q (End n) answer q' s = grows-stepped q (step.End n) answer q' s
-grows-answers q (CommitTicks ticks) answer q' s = grows-ticks step.Commit _ s.0 q answer q' s.1
-grows-answers q (CollectVisits visits) answer q' s = grows-ticks step.Collect _ s.0 q answer q' s.1
-grows-answers q Cycle answer q' s = grows-ticks step.Commit _ s.0 q answer q' s.1
-grows-answers q (Crash keeps) answer q' s = absurd s
+grows-answers q (asks.Step asked) answer q' s = grows-stepped q (as_step asked) answer q' s
+grows-answers q asks.LongRow answer q' s = grows-same q q' s.1
+grows-answers q (asks.Commit ticks) answer q' s = grows-ticks step.Commit _ s.0 q answer q' s.1
+grows-answers q (asks.Collect visits) answer q' s = grows-ticks step.Collect _ s.0 q answer q' s.1
+grows-answers q asks.Cycle answer q' s = grows-ticks step.Commit _ s.0 q answer q' s.1
+grows-answers q (asks.Crash keeps) answer q' s = absurd s
 
 grows-comes : (q : State) (command : Command) (outcome : Outcome) (q' : State) → ComesTo q command outcome q' → Grows q q'
 grows-comes q command (Replied answer) q' s = grows-answers q command answer q' s

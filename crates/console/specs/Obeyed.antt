@@ -1,6 +1,5 @@
 -- What the program makes of a plain state by commands and lines, and what it prints.
-use Rattle.std.specs.Prelude.{suc, zero, ◌≡◌, ◌⊎◌, ℕ, ◌-◌, ◌^◌, ◌<◌, ◌≤◌, Bool, true, false, List, [], ◌∷◌, ◌++◌, length, codes, decimal, Option, Some, None}
-use Rattle.base.specs.declared.key.Key.{Key}
+use Rattle.std.specs.Prelude.{suc, zero, ◌≡◌, ◌⊎◌, ℕ, ◌-◌, ◌^◌, ◌≤◌, Bool, true, false, List, [], ◌∷◌, ◌++◌, codes, decimal, Option, Some, None}
 use Rattle.base.specs.declared.fault.Fault.TheVariants.{TooLong}
 use Rattle.base.specs.declared.step.Step.{Step}
 use Rattle.base.specs.declared.step.Step.TheVariants as step
@@ -8,12 +7,13 @@ use Rattle.base.specs.declared.step.Reply.{Reply}
 use Rattle.base.specs.declared.step.Reply.TheVariants as reply
 use Rattle.base.specs.Lives.{is_failure}
 use Rattle.base.specs.Machine.{State, Stepped}
+use Rattle.base.specs.SessionSteps.{as_step}
 use Rattle.command_line.specs.Lines.{line_of}
 use Rattle.command_line.specs.Numbers.{Text}
 use Rattle.command_line.specs.Rows.{row_text}
 use Rattle.command_line.specs.Texts.{refused_text, rows_text}
 use Rattle.command_line.specs.declared.command.Command.{Command}
-use Rattle.command_line.specs.declared.command.Command.TheVariants.{Begin, Get, Scan, Put, Delete, Draw, Stamp, Poll, Abort, End, Commit, Collect, Cycle, Crash}
+use Rattle.command_line.specs.declared.command.Command.TheVariants as asks
 use Rattle.command_line.specs.declared.command.Survivor.{Survivor}
 use Rattle.console.specs.declared.lines.Outcome.{Outcome}
 use Rattle.console.specs.declared.lines.Outcome.TheVariants.{Replied, Crashed}
@@ -57,34 +57,20 @@ abbrev pub Collects : State → ℕ → Reply → State → Type 0
 Collects q visits answer q' =
     (more : ℕ) × Ticks step.Collect is_answered more q answer q' × (more ≤ visits - 1) × ((more ≡ visits - 1) ⊎ (is_answered answer ≡ false))
 
--- `put`: a row that is too long for any slot is refused before anything else is. One that is too long for the slots of this image
--- is refused by the step
-abbrev pub Puts : State → ℕ → Key → List ℕ → Reply → State → Type 0
-Puts q session key row answer q' =
-    ((length row ≤ 96) × Stepped q (step.Put session key row) answer q')
-    ⊎ ((96 < length row) × (answer ≡ reply.Refused TooLong) × (q' ≡ q))
-
--- what a command that isn't a crash answers, and the state then
+-- What a command that isn't a crash answers, and the state then. A row that is too long for any slot is refused before anything else
+-- is. One that is too long for the slots of this image is refused by the step
 abbrev pub Answers : State → Command → Reply → State → Type 0
-Answers q Begin answer q' = Stepped q step.Begin answer q'
-Answers q (Get n key) answer q' = Stepped q (step.Get n key) answer q'
-Answers q (Scan n table lo hi) answer q' = Stepped q (step.Scan n table lo hi) answer q'
-Answers q (Put n key row) answer q' = Puts q n key row answer q'
-Answers q (Delete n key) answer q' = Stepped q (step.Delete n key) answer q'
-Answers q (Draw n) answer q' = Stepped q (step.Draw n) answer q'
-Answers q (Stamp n) answer q' = Stepped q (step.Stamp n) answer q'
-Answers q (Poll n) answer q' = Stepped q (step.Poll n) answer q'
-Answers q (Abort n) answer q' = Stepped q (step.Abort n) answer q'
-Answers q (End n) answer q' = Stepped q (step.End n) answer q'
-Answers q (Commit ticks) answer q' = Commits q ticks answer q'
-Answers q (Collect visits) answer q' = Collects q visits answer q'
-Answers q Cycle answer q' = Cycles q answer q'
-Answers q (Crash keeps) answer q' = ⊥
+Answers q (asks.Step s) answer q' = Stepped q (as_step s) answer q'
+Answers q asks.LongRow answer q' = (answer ≡ reply.Refused TooLong) × (q' ≡ q)
+Answers q (asks.Commit ticks) answer q' = Commits q ticks answer q'
+Answers q (asks.Collect visits) answer q' = Collects q visits answer q'
+Answers q asks.Cycle answer q' = Cycles q answer q'
+Answers q (asks.Crash keeps) answer q' = ⊥
 
 -- what a command comes to. A crash is left to the end of the life
 abbrev pub ComesTo : State → Command → Outcome → State → Type 0
 ComesTo q command (Replied answer) q' = Answers q command answer q'
-ComesTo q command (Crashed keeps) q' = (command ≡ Crash keeps) × (q' ≡ q)
+ComesTo q command (Crashed keeps) q' = (command ≡ asks.Crash keeps) × (q' ≡ q)
 
 -- ---- what is printed
 

@@ -1,6 +1,6 @@
 -- What the lives of a script are asked, and what is printed of their reports.
 use Rattle.std.specs.Prelude.{◌≡◌, ℕ, ◌+◌, ◌-◌, ◌^◌, slice_get, Bool, true, false, not, ◌&&◌, ◌||◌, nat_le, List, [], ◌∷◌, ◌++◌, length, map, take, drop, find, flat_map, replicate, codes, decimal, Option, Some, None, Result, Ok, Err, if◌then◌else◌}
-use Rattle.std.specs.Option.{option_or, option_to_list}
+use Rattle.std.specs.Option.{option_or}
 use Rattle.std.specs.Io.KnownBytes.{Appends}
 use Rattle.base.specs.declared.fault.Fault.{Fault}
 use Rattle.base.specs.declared.fault.Fault.TheVariants.{BadGeometry, OutOfMemory, TooLong}
@@ -10,12 +10,13 @@ use Rattle.base.specs.declared.step.Reply.{Reply}
 use Rattle.base.specs.declared.step.Reply.TheVariants as replied
 use Rattle.base.specs.Layout.{Layout}
 use Rattle.base.specs.Lives.{is_failure}
+use Rattle.base.specs.SessionSteps.{as_step}
 use Rattle.pmem_model.specs.declared.choice.Choice.{Choice}
 use Rattle.command_line.specs.Numbers.{Text}
 use Rattle.command_line.specs.Scripts.{SpellsScript}
 use Rattle.command_line.specs.Texts.{closed_line, opened_line, refused_text}
 use Rattle.command_line.specs.declared.command.Command.{Command}
-use Rattle.command_line.specs.declared.command.Command.TheVariants.{Begin, Get, Scan, Put, Delete, Draw, Stamp, Poll, Abort, End, Commit, Collect, Cycle, Crash}
+use Rattle.command_line.specs.declared.command.Command.TheVariants as asks
 use Rattle.command_line.specs.declared.script.ScriptFault.{ScriptFault}
 use Rattle.command_line.specs.declared.script.ScriptFault.TheVariants as script
 use Rattle.command_line.specs.declared.script.ScriptLife.{ScriptLife}
@@ -38,26 +39,14 @@ stop_of script.OutOfMemory = Refused OutOfMemory
 
 -- ---- what is asked
 
--- the step of a command that has one. A row that is too long for any slot has none, and is refused before anything else is
-abbrev pub step_of : Command → Option Step
-step_of Begin = Some step.Begin
-step_of (Get n key) = Some (step.Get n key)
-step_of (Scan n table lo hi) = Some (step.Scan n table lo hi)
-step_of (Put n key row) = if nat_le (length row) 96 then Some (step.Put n key row) else None
-step_of (Delete n key) = Some (step.Delete n key)
-step_of (Draw n) = Some (step.Draw n)
-step_of (Stamp n) = Some (step.Stamp n)
-step_of (Poll n) = Some (step.Poll n)
-step_of (Abort n) = Some (step.Abort n)
-step_of (End n) = Some (step.End n)
-step_of _ = None
-
 -- the steps of a command in a life on an image of this layout: of `commit` as many ticks as it asks for, but no more than are made in
--- a life, and of `collect` as many visits as its visits come to
+-- a life, and of `collect` as many visits as its visits come to. A row that is too long for any slot has none, and is refused before
+-- anything else is
 abbrev pub steps_of : Layout → Command → List Step
-steps_of layout (Commit ticks) = replicate (ticks_made ticks) step.Commit
-steps_of layout (Collect visits) = replicate (visits_needed layout visits) step.Collect
-steps_of layout command = option_to_list (step_of command)
+steps_of layout (asks.Step s) = as_step s ∷ []
+steps_of layout (asks.Commit ticks) = replicate (ticks_made ticks) step.Commit
+steps_of layout (asks.Collect visits) = replicate (visits_needed layout visits) step.Collect
+steps_of layout _ = []
 
 -- what is asked of a life: its steps, a close, a fuse, and which survivors its stop leaves
 pub record Wish : Type 0 where
@@ -118,7 +107,7 @@ is_quiet (Some reply) = not (is_busy reply)
 
 -- the command has made all ticks that it asks for, or the last that was made leaves nothing to do
 abbrev pub is_enough : Command → List Reply → Bool
-is_enough (Commit ticks) replies = nat_le ticks most_ticks || is_quiet (last_of replies)
+is_enough (asks.Commit ticks) replies = nat_le ticks most_ticks || is_quiet (last_of replies)
 is_enough _ replies = true
 
 -- so each of these commands has

@@ -7,14 +7,12 @@ ghost use Rattle.console.specs.BadLine.{BlamesNoLine, IfBadLine, MeetsBadLine, k
 ghost use Rattle.console.specs.Input.{Reads};
 ghost use Rattle.console.specs.Kept.{Leads};
 ghost use Rattle.console.specs.Refusals.{WantsMemory};
-ghost use Rattle.console.specs.Obeyed.{Puts, Commits, Collects, Cycles, ComesTo, Obeys, ObeysLine, ObeysLines, is_answered, is_busy, is_tick, reply_text};
+ghost use Rattle.console.specs.Obeyed.{Commits, Collects, Cycles, ComesTo, Obeys, ObeysLine, ObeysLines, is_answered, is_busy, is_tick, reply_text};
 
 use crate::replies::show;
 use crate::rounds::visits_needed;
 use crate::stop::Stop;
 use base::fault::Fault;
-use base::key::Key;
-use base::row::Row;
 use base::step::{Reply, Step};
 use command_line::command::{Command, Survivor};
 use command_line::line::{LineFault, parse_line};
@@ -127,69 +125,12 @@ fn perform<D: Pmem + Drop>(room: &mut Room<D>, command: &Command) -> Outcome
     ensures kept { kept_of result ≡ kept_by command.now }
 {
     match command {
-        Command::Begin => Outcome::Replied(step(room, Step::Begin)),
-        Command::Get { session, key } => {
-            let (session, key) = (*session, *key);
-            Outcome::Replied(step(room, Step::Get { session, key }))
-        }
-        Command::Scan {
-            session,
-            table,
-            lo,
-            hi,
-        } => {
-            let (session, table, lo, hi) = (*session, *table, *lo, *hi);
-            Outcome::Replied(step(
-                room,
-                Step::Scan {
-                    session,
-                    table,
-                    lo,
-                    hi,
-                },
-            ))
-        }
-        Command::Put { session, key, row } => {
-            Outcome::Replied(put(room, *session, *key, row.as_slice()))
-        }
-        Command::Delete { session, key } => {
-            Outcome::Replied(step(
-                room,
-                Step::Delete {
-                    session: *session,
-                    key: *key,
-                },
-            ))
-        }
-        Command::Draw { session } => {
-            Outcome::Replied(step(room, Step::Draw { session: *session }))
-        }
-        Command::Stamp { session } => {
-            Outcome::Replied(step(room, Step::Stamp { session: *session }))
-        }
-        Command::Poll { session } => {
-            Outcome::Replied(step(room, Step::Poll { session: *session }))
-        }
-        Command::Abort { session } => {
-            Outcome::Replied(step(room, Step::Abort { session: *session }))
-        }
-        Command::End { session } => {
-            Outcome::Replied(step(room, Step::End { session: *session }))
-        }
+        Command::Step(asked) => Outcome::Replied(step(room, Step::from(*asked))),
+        Command::LongRow => Outcome::Replied(Reply::Refused(Fault::TooLong)),
         Command::Commit { ticks } => Outcome::Replied(tick(room, *ticks)),
         Command::Collect { visits } => Outcome::Replied(collect(room, *visits)),
         Command::Cycle => Outcome::Replied(cycle(room)),
         Command::Crash { keeps } => Outcome::Crashed(*keeps),
-    }
-}
-
-// A row that is too long is refused before anything else is.
-fn put<D: Pmem + Drop>(room: &mut Room<D>, session: u8, key: Key, bytes: &[u8]) -> Reply
-    ensures { Leads D.state room.old room.new (λ q q'. Puts q session key bytes.now result q') }
-{
-    match Row::new(bytes) {
-        Ok(row) => step(room, Step::Put { session, key, row }),
-        Err(fault) => Reply::Refused(fault),
     }
 }
 

@@ -1,11 +1,10 @@
 ghost use Rattle.std.specs.Prelude.{◌≡◌, ◌⊎◌, ◌++◌, ◌∷◌, [], IfErr, IfOk, OnOk, find, length, map, option_copied, replicate};
 ghost use Rattle.std.specs.Io.KnownBytes.{Appends};
 ghost use Rattle.base.specs.declared.fault.Fault.TheVariants.{BadGeometry, OutOfMemory};
-ghost use Rattle.base.specs.Lives.{is_failure};
 ghost use Rattle.command_line.specs.Scripts.{HasBadGeometry, IsWrongLine};
 ghost use Rattle.console.specs.BadLine.{BlamesNoLine, IfBadLine};
 ghost use Rattle.console.specs.Refusals.{IfRefused, WantsMemory};
-ghost use Rattle.console.specs.Scripts.{PrintsLives, PrintsReports, answer_text, asked_by, asked_of, closed_text, has_failed, is_refused, life_text, lived_text, lives_text, opened_text, printed_of, replies_text, report_text, step_of, steps_of, stop_of};
+ghost use Rattle.console.specs.Scripts.{PrintsLives, PrintsReports, answer_text, asked_by, asked_of, closed_text, has_failed, is_refused, life_text, lived_text, lives_text, opened_text, printed_of, replies_text, report_text, steps_of, stop_of};
 ghost use Rattle.console.specs.Crash.{choice_of};
 
 use crate::enough::all_enough;
@@ -14,7 +13,6 @@ use crate::rounds::{ticks_made, visits_needed};
 use crate::stop::Stop;
 use base::fault::Fault;
 use base::geometry::Geometry;
-use base::row::Row;
 use base::step::{Reply, Step};
 use command_line::command::{Command, Survivor};
 use command_line::printed::{Printed, print};
@@ -124,20 +122,18 @@ fn choice_of(keeps: Survivor) -> Choice
     }
 }
 
-// Adds the steps of a command. A row that is too long has none, since it is refused before anything else is.
+// Adds the steps of a command.
 fn add_steps(geometry: Geometry, command: &Command, steps: &mut Vec<Step>) -> Result<(), AllocError>
     ensures { OnOk result (steps.new.items ≡ steps.old.items ++ steps_of geometry command.now) }
 {
-    if let Command::Commit { ticks } = command {
-        return add_each(&Step::Commit, ticks_made(*ticks), steps);
+    match command {
+        Command::Step(asked) => Ok(steps.push(Step::from(*asked))?),
+        Command::Commit { ticks } => add_each(&Step::Commit, ticks_made(*ticks), steps),
+        Command::Collect { visits } => {
+            add_each(&Step::Collect, visits_needed(geometry, *visits), steps)
+        }
+        Command::LongRow | Command::Cycle | Command::Crash { .. } => Ok(()),
     }
-    if let Command::Collect { visits } = command {
-        return add_each(&Step::Collect, visits_needed(geometry, *visits), steps);
-    }
-    if let Some(step) = step_of(command) {
-        steps.push(step)?;
-    }
-    Ok(())
 }
 
 fn add_each(step: &Step, count: u64, steps: &mut Vec<Step>) -> Result<(), AllocError>
@@ -147,48 +143,6 @@ fn add_each(step: &Step, count: u64, steps: &mut Vec<Step>) -> Result<(), AllocE
         steps.push(*step)?;
     }
     Ok(())
-}
-
-// The step of a command that has one.
-fn step_of(command: &Command) -> Option<Step>
-    ensures { result ≡ step_of command.now }
-{
-    match command {
-        Command::Begin => Some(Step::Begin),
-        Command::Get { session, key } => Some(Step::Get {
-            session: *session,
-            key: *key,
-        }),
-        Command::Scan {
-            session,
-            table,
-            lo,
-            hi,
-        } => Some(Step::Scan {
-            session: *session,
-            table: *table,
-            lo: *lo,
-            hi: *hi,
-        }),
-        Command::Put { session, key, row } => {
-            let row = Row::new(row.as_slice()).ok()?;
-            Some(Step::Put {
-                session: *session,
-                key: *key,
-                row,
-            })
-        }
-        Command::Delete { session, key } => Some(Step::Delete {
-            session: *session,
-            key: *key,
-        }),
-        Command::Draw { session } => Some(Step::Draw { session: *session }),
-        Command::Stamp { session } => Some(Step::Stamp { session: *session }),
-        Command::Poll { session } => Some(Step::Poll { session: *session }),
-        Command::Abort { session } => Some(Step::Abort { session: *session }),
-        Command::End { session } => Some(Step::End { session: *session }),
-        _ => None,
-    }
 }
 
 fn print_lives<W: Write>(
@@ -325,11 +279,10 @@ pub fn step_count(geometry: Geometry, command: &Command) -> usize
     ensures { result ≡ length (steps_of geometry command.now) }
 {
     match command {
-        Command::Put { row, .. } if row.as_slice().len() > Row::LIMIT => 0,
+        Command::Step(_) => 1,
         Command::Commit { ticks } => ticks_made(*ticks) as usize,
         Command::Collect { visits } => visits_needed(geometry, *visits) as usize,
-        Command::Cycle | Command::Crash { .. } => 0,
-        _ => 1,
+        Command::LongRow | Command::Cycle | Command::Crash { .. } => 0,
     }
 }
 
@@ -365,13 +318,7 @@ fn has_failed(replies: &[Reply]) -> bool
     ensures { result ≡ has_failed replies.now }
 {
     match replies.last() {
-        Some(reply) => is_failure(reply),
+        Some(reply) => reply.is_failure(),
         None => false,
     }
-}
-
-fn is_failure(reply: &Reply) -> bool
-    ensures { result ≡ is_failure reply.now }
-{
-    matches!(reply, Reply::Refused(Fault::Device))
 }

@@ -1,5 +1,5 @@
 use Rattle.std.proofs.Common.{◌∙◌, sym, Some, None}
-use Rattle.command_line.specs.declared.command.Command.TheVariants.{Put}
+use Rattle.command_line.specs.Lines.{put_of}
 use Rattle.command_line.proofs.Lines.{line-so}
 use Rattle.command_line.proofs.line.parse_line.Goals as goal
 
@@ -19,6 +19,6 @@ returns-in-Err-clause-memory c = λ wanted.
       put.0,
       put.1,
       put.2,
-      line-so c.args.line.now _ (Some (Put put.0 put.1 put.2)) (sym c.is_skipped.ensures ∙ c.if-is_skipped.false) (sym c.has_outer_space.ensures ∙ c.if-has_outer_space.false)
+      line-so c.args.line.now _ (Some (put_of put.0 put.1 put.2)) (sym c.is_skipped.ensures ∙ c.if-is_skipped.false) (sym c.has_outer_space.ensures ∙ c.if-has_outer_space.false)
           c.first_words-count.ensures.words put.3,
     )
