@@ -10,11 +10,10 @@ use Rattle.base.specs.Machine.{State, Hand, is_nil}
 use Rattle.base.specs.Collecting.{is_at_slot, is_sweeping, held_after_visit, slot_visited, sweep_ended, visited}
 use Rattle.pmem.specs.Device.{Entry, Device, IsOrderly, IsAmong, survivors_in, newest, IsReadyIn, stored, flushed, fenced}
 use Rattle.pmem.specs.Words.{Survives, value_of, IsReady}
-use Rattle.pmem.specs.Trace.{Operation, store_op, flush_op, fence_op, failure, after}
+use Rattle.pmem.specs.Trace.{Operation, store_op, flush_op, fence_op, failure, after, Along, Runs, StopsWithin}
 use Rattle.pmem.proofs.Words.{ready-marked}
 use Rattle.pmem.proofs.OperationEffects.{only-settled, value-flushed, value-fenced, value-stored_same, value-stored_other, history-stored_same, history-stored_other, history-flushed_same, settled-ready}
-use Rattle.version_slot.specs.Operations.{Along, Runs, StopsWithin}
-use Rattle.version_slot.proofs.Operations.{along-append, along-last, along-first, after-append}
+use Rattle.pmem.proofs.Traces.{along-append, along-last, along-first, after-append}
 use Rattle.state_invariant.specs.Kept.{Origin}
 use Rattle.state_invariant.specs.Shown.{word_of, IsNever}
 use Rattle.state_invariant.proofs.Collecting.{keeps-visited, visit-frees, stays}

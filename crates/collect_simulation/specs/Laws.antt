@@ -5,7 +5,7 @@ use Rattle.base.specs.Machine.{State, Active, Version}
 use Rattle.base.specs.Collecting.{is_garbage, is_at_slot, is_sweeping, visited, most_operations_of_visit}
 use Rattle.pmem.specs.Device.{Device, IsOrderly}
 use Rattle.pmem.specs.Words.{value_of}
-use Rattle.version_slot.specs.Operations.{Runs, StopsWithin}
+use Rattle.pmem.specs.Trace.{Runs, StopsWithin}
 use Rattle.snapshot.specs.Snapshots.{Seen}
 use Rattle.state_invariant.specs.Kept.{Origin, Keeps}
 use Rattle.state_invariant.specs.Shown.{word_of}

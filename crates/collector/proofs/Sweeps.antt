@@ -6,19 +6,14 @@ use Rattle.base.specs.Layout.{Layout, slot_start}
 use Rattle.base.specs.Records.{is_in}
 use Rattle.pmem.specs.Device.{Device, IsOrderly, flushed, failed}
 use Rattle.pmem.specs.Words.{value_of}
-use Rattle.pmem.specs.Trace.{Operation, store_op, flush_op}
+use Rattle.pmem.specs.Trace.{Operation, store_op, flush_op, Runs, StopsWithin}
 use Rattle.pmem.proofs.OperationEffects.{value-stored_other}
-use Rattle.version_slot.specs.Operations.{Runs, StopsWithin}
-use Rattle.version_slot.proofs.Operations.{runs-then, runs-more, stops-first, stops-then}
+use Rattle.pmem.proofs.Traces.{runs-then, runs-more, stops-one, stops-first, stops-then}
 use Rattle.collector.specs.Sweeping.{zero_operations, sweep_operations}
 
 pub on_err : {T E P : Type 0} (r : Result T E) → P → OnErr r P
 on_err (Ok x) p = tt
 on_err (Err e) p = p
-
--- the one operation fails
-pub stops-one : (op : Operation) (old new : Device) → IsOrderly old → IsOrderly new → new ≡ failed old → StopsWithin (op ∷ []) old new
-stops-one op old new orderly orderly' is = (0, omega arith, record { made = is; orderly = (orderly, subst IsOrderly is orderly') })
 
 pub zero-stops : (gaps : List Gap) (word value : ℕ) (old new : Device) → is_in gaps value ≡ true → IsOrderly old → IsOrderly new → new ≡ failed old → StopsWithin (zero_operations gaps word value) old new
 zero-stops gaps word value old new gap orderly orderly' is =

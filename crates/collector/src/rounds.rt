@@ -22,7 +22,7 @@ impl Collector {
     ghost use Rattle.std.specs.Prelude.{◌+◌, ◌<◌, length, true, false, IfOk};
     ghost use Rattle.base.specs.Layout.{total_words};
     ghost use Rattle.pmem.specs.Words.{value_of};
-    ghost use Rattle.version_slot.specs.Operations.{Runs, StopsWithin};
+    ghost use Rattle.pmem.specs.Trace.{Runs, StopsWithin};
     ghost use Rattle.collector.specs.declared.visit.Visit.TheVariants.{Slot, SweepEnd};
     ghost use Rattle.collector.specs.Sweeping.{is_due, slot_operations, end_operations, tick_operations};
     ghost use Rattle.collector.specs.Ticks.{visit_at, moved_on, freed, freed_at};

@@ -1,7 +1,7 @@
 ghost use Rattle.std.specs.Prelude.{◌≡◌, ◌<◌, ◌+◌, IfErr, OnErr, OnOk};
 ghost use Rattle.base.specs.Layout.{slot_start, total_words};
 ghost use Rattle.pmem.specs.Words.{value_of};
-ghost use Rattle.version_slot.specs.Operations.{Runs, StopsWithin};
+ghost use Rattle.pmem.specs.Trace.{Runs, StopsWithin};
 ghost use Rattle.collector.specs.Sweeping.{zero_operations, sweep_operations};
 
 use base::SlotNo;

@@ -19,7 +19,7 @@ use Rattle.base.specs.Layout.{Layout, row_limit, slot_start, slot_words}
 use Rattle.base.specs.Search.{first_below, first_of as first_there, some_if}
 use Rattle.base.specs.Machine.{State, Session, Active as Reads, Version, BySession, answered, device_failed, refusal, next_state, begun_of, writes_of, replaced, held_at, held_with, held_after_put, own_slot, free_slot, lacks_slot, overfills, most_writes, StandsWithin}
 use Rattle.pmem.specs.Device.{Device, IsOrderly}
-use Rattle.pmem.specs.Trace.{Operation, store_op}
+use Rattle.pmem.specs.Trace.{Operation, store_op, Runs, StopsWithin}
 use Rattle.pmem.specs.Words.{LeavesOnly}
 use Rattle.snapshot.specs.Snapshots.{Seen}
 use Rattle.txn.specs.declared.transaction.Transaction.{Transaction}
@@ -34,8 +34,8 @@ use Rattle.index.specs.Entries.{entry_at, head_of}
 use Rattle.slot_alloc.specs.Free.{is_free, lowest_free}
 use Rattle.version_slot.specs.declared.words.Version.{Version as Content}
 use Rattle.version_slot.specs.Words.{Fits, filled_word, link_number}
-use Rattle.version_slot.specs.Operations.{Runs, StopsWithin, clear_operations, fill_operations}
-use Rattle.version_slot.proofs.Operations.{stops-first, stops-then}
+use Rattle.version_slot.specs.Operations.{clear_operations, fill_operations}
+use Rattle.pmem.proofs.Traces.{stops-first, stops-then}
 use Rattle.state_invariant.specs.Kept.{version_by}
 use Rattle.state_invariant.proofs.Lookups.{apart-keys, first_below-some}
 use Rattle.state_invariant.proofs.Writing.{version-parts, free_slot-some}

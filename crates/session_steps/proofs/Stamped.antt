@@ -21,6 +21,7 @@ use Rattle.base.specs.Layout.{Layout}
 use Rattle.base.specs.Stands.{has_timestamp}
 use Rattle.base.specs.Machine.{State, Session, Drawn as PlainDrawn, ByCommit, Drew, IsCovered, IsStamped, IsDrawn, answered, device_failed, refusal, next_state, allows, standing_of, is_stamped, timestamp_of, counted, drawn_at, stamped_write, is_last_stamp, StandsWithin}
 use Rattle.pmem.specs.Device.{Device}
+use Rattle.pmem.specs.Trace.{Runs, StopsWithin}
 use Rattle.pmem.specs.Words.{LeavesOnly}
 use Rattle.txn.specs.InFlight.{InFlight}
 use Rattle.txn.specs.DrawnCommits.{drawn_at as commit_at, with_stamp}
@@ -33,7 +34,7 @@ use Rattle.txn.specs.WriteSets.{plain_write, plain_writes}
 use Rattle.txn.proofs.Plain.{length-plain_writes, slice_get-plain_writes}
 use Rattle.dirty_table.specs.Touches.{is_touched}
 use Rattle.index.specs.Entries.{entry_at, live_of}
-use Rattle.version_slot.specs.Operations.{Runs, StopsWithin, begin_operations, end_operations}
+use Rattle.version_slot.specs.Operations.{begin_operations, end_operations}
 use Rattle.state_invariant.specs.Kept.{Origin, Keeps, version_by, covered_since}
 use Rattle.state_invariant.proofs.Choosing.{any-by_timestamp}
 use Rattle.state_invariant.proofs.Lists.{find-any}

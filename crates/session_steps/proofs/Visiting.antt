@@ -22,7 +22,7 @@ use Rattle.base.specs.Images.{layout_of}
 use Rattle.base.specs.Machine.{State, Active as Reads, Drawn as PlainDrawn, Version, ByCommit, answered, device_failed, refusal, replaced, is_nil, session_numbers, StandsWithin}
 use Rattle.base.specs.Collecting.{is_garbage, is_at_slot, is_sweeping, held_after_visit, slot_visited, sweep_ended, visited, collected, replace, sees_replaced}
 use Rattle.pmem.specs.Device.{Device, IsOrderly}
-use Rattle.pmem.specs.Trace.{Operation, store_op, flush_op, fence_op, after}
+use Rattle.pmem.specs.Trace.{Operation, store_op, flush_op, fence_op, after, Runs, StopsWithin}
 use Rattle.pmem.specs.Words.{LeavesOnly, value_of, image_of}
 use Rattle.pmem.proofs.OperationEffects.{value-stored_other, value-flushed}
 use Rattle.log_area.proofs.Heads.{image_size, image_word}
@@ -32,8 +32,7 @@ use Rattle.txn.specs.declared.transaction.Transaction.TheVariants.{Active, Drawn
 use Rattle.txn.specs.Transactions.{transaction_at}
 use Rattle.version_slot.specs.declared.words.Slot.{Slot as Content}
 use Rattle.version_slot.specs.Words.{IsSlot, slot_at}
-use Rattle.version_slot.specs.Operations.{Runs, StopsWithin}
-use Rattle.version_slot.proofs.Operations.{after-append}
+use Rattle.pmem.proofs.Traces.{after-append}
 use Rattle.slot_alloc.specs.Free.{is_free}
 use Rattle.index.specs.declared.entry.Entry.{Entry}
 use Rattle.index.specs.Entries.{entry_at, forgotten, KeepsRoom}

@@ -1,7 +1,8 @@
 ghost use Rattle.std.specs.Prelude.{◌≡◌, ◌++◌, false, nat_lt, length, IsTrue, IfErr, IfOk, OnErr, OnOk};
 ghost use Rattle.base.specs.Layout.{total_words};
 ghost use Rattle.base.specs.declared.fault.Fault.TheVariants.{Device as DeviceFault, WrongState};
-ghost use Rattle.version_slot.specs.Operations.{Runs, StopsWithin, begin_operations, end_operations};
+ghost use Rattle.pmem.specs.Trace.{Runs, StopsWithin};
+ghost use Rattle.version_slot.specs.Operations.{begin_operations, end_operations};
 ghost use Rattle.session_steps.specs.Giving.{fits_slot};
 ghost use Rattle.session_steps.specs.Stamping.{IsNextIn};
 

@@ -1,6 +1,7 @@
 ghost use Rattle.std.specs.Prelude.{◌≡◌, ◌<◌, IfErr, OnErr, OnOk};
 ghost use Rattle.base.specs.Layout.{total_words};
-ghost use Rattle.version_slot.specs.Operations.{Runs, StopsWithin, clear_operations};
+ghost use Rattle.pmem.specs.Trace.{Runs, StopsWithin};
+ghost use Rattle.version_slot.specs.Operations.{clear_operations};
 
 use crate::bits::FreeBits;
 use base::actor::Actor;
@@ -25,12 +26,12 @@ impl Model for SlotAlloc {
 }
 
 impl SlotAlloc {
-    ghost use Rattle.std.specs.Prelude.{◌≡◌, ◌≢◌, ◌⊎◌, ◌↔◌, ◌+◌, ◌/◌, ◌<◌, ◌≤◌, ◌^◌, true, false, ℕ, length, slice_set, Err, None, Some, is_some, IfErr, IfOk, IsErrOf, OnErr, OnOk};
+    ghost use Rattle.std.specs.Prelude.{◌≡◌, ◌⊎◌, ◌↔◌, ◌<◌, ◌^◌, true, false, ℕ, length, slice_set, Err, None, Some, is_some, IfErr, IfOk, OnErr};
     ghost use Rattle.base.specs.Layout.{slot_start, total_words};
-    ghost use Rattle.pmem.specs.Device.{fenced, flushed, stored};
-    ghost use Rattle.pmem.specs.Words.{IsSettledAt, Keeps, Makes, OldOr, OnlyShrinks};
-    ghost use Rattle.slot_alloc.specs.Free.{free_count, is_free, lowest_free, IsBeginOfLowest, IsClear};
-    ghost use Rattle.version_slot.specs.Operations.{Runs, StopsWithin, clear_operations};
+    ghost use Rattle.pmem.specs.Words.{IsSettledAt};
+    ghost use Rattle.slot_alloc.specs.Free.{free_count, is_free, lowest_free};
+    ghost use Rattle.pmem.specs.Trace.{Runs, StopsWithin};
+    ghost use Rattle.version_slot.specs.Operations.{clear_operations};
     ghost use Rattle.base.specs.declared.fault.Fault.TheVariants.{Device, SlotsOut};
 
     /// The slots that are free, by their numbers.
@@ -84,23 +85,16 @@ impl SlotAlloc {
         ensures lowest { IfOk result (λ slot. lowest_free self.old ≡ Some slot) }
         ensures taken { IfOk result (λ slot. self.new ≡ slice_set self.old slot false) }
         ensures cleared { IfOk result (λ slot. IsSettledAt (D.state device.new) (slot_start geometry slot) 0) }
-        ensures run { IfOk result (λ slot. D.state device.new
-            ≡ fenced actor.number (flushed actor.number (slot_start geometry slot / 8) (stored (slot_start geometry slot) 0 (D.state device.old)))) }
-        ensures made { OnOk result (Makes 1 1 1 0 (D.state device.old) (D.state device.new)) }
 
         // At an error the free slots are as before. With no free slot nothing is done.
         ensures err { OnErr result (self.new ≡ self.old) }
         ensures out { (result ≡ Err SlotsOut) ↔ (lowest_free self.old ≡ None) }
         ensures unmoved { result ≡ Err SlotsOut → D.state device.new ≡ D.state device.old }
         ensures fault { IfErr result (λ fault. (fault ≡ SlotsOut) ⊎ (fault ≡ Device)) }
-        ensures failed { result ≡ Err Device → (stores : ℕ) × (flushes : ℕ) × (stores ≤ 1) × (flushes ≤ stores) × Makes stores flushes 0 1 (D.state device.old) (D.state device.new) }
 
-        // No word but the begin of the lowest free slot is stored.
+        // A store in the begin of the lowest free slot, a flush of its line, a fence; at a failing device the first few of them.
         ensures size { (D.state device.new).words ≡ (D.state device.old).words }
-        ensures others { (word : ℕ) → ¬ IsBeginOfLowest geometry self.old word → OnlyShrinks (D.state device.old) (D.state device.new) word }
-        ensures keeps { Keeps (D.state device.old) (D.state device.new) (OldOr (D.state device.old) (IsClear geometry self.old)) }
-
-        ensures operations { IfOk result (λ slot. Runs (clear_operations geometry actor.number slot) (D.state device.old) (D.state device.new)) }
+        ensures run { IfOk result (λ slot. Runs (clear_operations geometry actor.number slot) (D.state device.old) (D.state device.new)) }
         ensures stopped { result ≡ Err Device → (slot : ℕ) × (lowest_free self.old ≡ Some slot) × StopsWithin (clear_operations geometry actor.number slot) (D.state device.old) (D.state device.new) }
     {
         let slot = match self.free.lowest() {

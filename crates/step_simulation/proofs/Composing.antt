@@ -3,8 +3,9 @@ use Rattle.std.proofs.Common.{◌≡◌, ℕ, ◌++◌, sym, subst, Option, Some
 use Rattle.base.specs.Machine.{State, own_slot}
 use Rattle.pmem.specs.Device.{Device}
 use Rattle.version_slot.specs.declared.words.Version.{Version as Content}
-use Rattle.version_slot.specs.Operations.{Runs, StopsWithin, clear_operations, fill_operations}
-use Rattle.version_slot.proofs.Operations.{runs-then, stops-first, stops-then}
+use Rattle.pmem.specs.Trace.{Runs, StopsWithin}
+use Rattle.version_slot.specs.Operations.{clear_operations, fill_operations}
+use Rattle.pmem.proofs.Traces.{runs-then, stops-first, stops-then}
 use Rattle.step_simulation.specs.Moves.{unless_own, put_operations}
 
 module _ (q : State) (n actor slot : ℕ) (v : Content) where

@@ -6,10 +6,10 @@ use Rattle.std.proofs.lemmas.List.FromFn.{length-map-range_with_len}
 use Rattle.base.specs.Layout.{slot_start, slot_words}
 use Rattle.base.specs.Machine.{State, own_slot}
 use Rattle.pmem.specs.Device.{Device}
-use Rattle.pmem.specs.Trace.{Operation, store_op, flush_op, fence_op, failure}
+use Rattle.pmem.specs.Trace.{Operation, store_op, flush_op, fence_op, failure, Runs, StopsWithin}
 use Rattle.version_slot.specs.declared.words.Version.{Version as Content}
 use Rattle.version_slot.specs.Words.{filled_word}
-use Rattle.version_slot.specs.Operations.{Runs, StopsWithin, clear_operations, fill_operations}
+use Rattle.version_slot.specs.Operations.{clear_operations, fill_operations}
 use Rattle.device_invariant.proofs.Words.{some_words}
 use Rattle.step_simulation.specs.Moves.{Takes, all_succeed, unless_own, put_operations, stamp_operations}
 use Rattle.step_simulation.specs.Laws.{PutsCount, StampsCount}

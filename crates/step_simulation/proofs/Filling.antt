@@ -8,11 +8,11 @@ use Rattle.base.specs.Machine.{State}
 use Rattle.base.specs.Records.{is_in}
 use Rattle.pmem.specs.Device.{Device, IsReadyIn, stored, flushed, marked}
 use Rattle.pmem.specs.Words.{value_of, IsReady, IsSettledAt}
-use Rattle.pmem.specs.Trace.{Operation, store_op, after}
+use Rattle.pmem.specs.Trace.{Operation, store_op, after, Along}
 use Rattle.pmem.proofs.OperationEffects.{history-stored_same, history-flushed_same, value-stored_same, value-stored_other}
 use Rattle.version_slot.specs.declared.words.Version.{Version as Content}
 use Rattle.version_slot.specs.Words.{Fits, IsVersion, filled_word, version_word, link_number}
-use Rattle.version_slot.specs.Operations.{Along, fill_operations}
+use Rattle.version_slot.specs.Operations.{fill_operations}
 use Rattle.version_slot.proofs.ImageSlots.{key_is, row_is_of, link_of_is, well_formed}
 use Rattle.state_invariant.specs.Links.{LinksTo}
 use Rattle.state_invariant.specs.Shown.{word_of, SameWords, Spells}

@@ -2,9 +2,8 @@
 use Rattle.std.proofs.Common.{zero, suc, ℕ, true, List, [], ◌∷◌, ◌++◌, take, refl, sym, subst}
 use Rattle.base.specs.Machine.{State, StandsWithin}
 use Rattle.pmem.specs.Device.{Device, MayLeave, failed}
-use Rattle.pmem.specs.Trace.{Operation, failure, applied}
-use Rattle.version_slot.specs.Operations.{Along, Runs, StopsWithin}
-use Rattle.version_slot.proofs.Operations.{along-last, along-first}
+use Rattle.pmem.specs.Trace.{Operation, failure, applied, Along, Runs, StopsWithin}
+use Rattle.pmem.proofs.Traces.{along-last, along-first}
 use Rattle.state_invariant.specs.Kept.{Origin}
 use Rattle.device_invariant.specs.Upholds.{Upholds}
 use Rattle.device_invariant.proofs.Laws.{failures-keep}

@@ -8,12 +8,12 @@ use Rattle.base.specs.Layout.{slot_start, slot_words}
 use Rattle.base.specs.Machine.{State, Active, BySession, replaced, held_at, held_with, held_after_put, own_slot, free_slot, writes_of, begun_of, next_state, refusal}
 use Rattle.pmem.specs.Device.{Device, stored, flushed, fenced}
 use Rattle.pmem.specs.Words.{value_of, IsSettledAt}
-use Rattle.pmem.specs.Trace.{Operation, after}
+use Rattle.pmem.specs.Trace.{Operation, after, Along, Runs}
 use Rattle.pmem.proofs.Changes.{flushed-shrinks, fenced-shrinks, stored-value, fenced-settled_at}
 use Rattle.version_slot.specs.declared.words.Version.{Version as Content}
 use Rattle.version_slot.specs.Words.{Fits, link_number}
-use Rattle.version_slot.specs.Operations.{Along, Runs, clear_operations, fill_operations}
-use Rattle.version_slot.proofs.Operations.{along-append, along-last, after-append}
+use Rattle.version_slot.specs.Operations.{clear_operations, fill_operations}
+use Rattle.pmem.proofs.Traces.{along-append, along-last, after-append}
 use Rattle.state_invariant.specs.Kept.{Origin, version_by}
 use Rattle.state_invariant.specs.Links.{LinksTo, NamesNewest}
 use Rattle.state_invariant.specs.Shown.{word_of, SameWords, StoresPut, StopsPut}

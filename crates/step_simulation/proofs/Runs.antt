@@ -2,10 +2,9 @@
 use Rattle.std.proofs.Common.{◌≡◌, ℕ, zero, suc, ◌+◌, ◌<◌, true, List, [], ◌∷◌, ◌++◌, length, take, refl, sym, ◌∙◌, ap, subst, arith}
 use Rattle.pmem.specs.Device.{Device, IsOrderly, MayLeave}
 use Rattle.pmem.specs.Words.{LeavesOnly, operations_of}
-use Rattle.pmem.specs.Trace.{Operation, store_op, flush_op, fence_op, failure, applied, after}
+use Rattle.pmem.specs.Trace.{Operation, store_op, flush_op, fence_op, failure, applied, after, Along, Runs}
 use Rattle.pmem.proofs.Images.{leaves_refl, leaves_trans, leaves-stored, leaves-flushed, leaves-fenced, leaves-failed}
-use Rattle.version_slot.specs.Operations.{Along, Runs}
-use Rattle.version_slot.proofs.Operations.{along-first}
+use Rattle.pmem.proofs.Traces.{along-first}
 use Rattle.step_simulation.specs.Moves.{all_succeed}
 use Rattle.step_simulation.specs.Laws.{RunsCount, StopsCount}
 

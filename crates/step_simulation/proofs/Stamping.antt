@@ -12,10 +12,10 @@ use Rattle.base.specs.Layout.{slot_start, slot_words}
 use Rattle.base.specs.Machine.{State, Drawn, Hand, Version, BySession, ByCommit, drawn_at, is_stamped, counted, timestamp_of, stamped_write, next_state, refusal}
 use Rattle.pmem.specs.Device.{Device, stored}
 use Rattle.pmem.specs.Words.{value_of, IsSettledAt, OnlyShrinks}
-use Rattle.pmem.specs.Trace.{Operation, after}
+use Rattle.pmem.specs.Trace.{Operation, after, Along, Runs}
 use Rattle.pmem.proofs.Changes.{shrinks_refl, shrinks_trans, stored-shrinks, stored-value, settled_at-shrinks, each-weaken}
-use Rattle.version_slot.specs.Operations.{Along, Runs, begin_operations, end_operations}
-use Rattle.version_slot.proofs.Operations.{along-append, along-last, after-append}
+use Rattle.version_slot.specs.Operations.{begin_operations, end_operations}
+use Rattle.pmem.proofs.Traces.{along-append, along-last, after-append}
 use Rattle.state_invariant.specs.Kept.{Origin, Keeps, version_by, last_of}
 use Rattle.state_invariant.specs.Links.{SameRows}
 use Rattle.state_invariant.specs.Shown.{word_of, is_drawn_on, is_key_stamped, StoresStamp}

@@ -8,10 +8,9 @@ use Rattle.base.specs.declared.step.Reply.{Reply}
 use Rattle.base.specs.Machine.{State, BySession, ByCommit, Stepped, refusal, next_state, held_after_put, stamped_write, timestamp_of, operates, most_operations}
 use Rattle.pmem.specs.Device.{Device, IsOrderly}
 use Rattle.pmem.specs.Words.{operations_of}
-use Rattle.pmem.specs.Trace.{Operation}
+use Rattle.pmem.specs.Trace.{Operation, Runs, StopsWithin}
 use Rattle.version_slot.specs.declared.words.Version.{Version as Content}
 use Rattle.version_slot.specs.Words.{Fits}
-use Rattle.version_slot.specs.Operations.{Runs, StopsWithin}
 use Rattle.state_invariant.specs.Kept.{Origin, Keeps, version_by}
 use Rattle.device_invariant.specs.Slots.{newest_of}
 use Rattle.device_invariant.specs.Upholds.{Upholds}

@@ -1,4 +1,3 @@
-pub mod Stores
 pub mod Decoding
 pub mod ImageSlots
 pub mod Operations

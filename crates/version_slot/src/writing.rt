@@ -1,8 +1,8 @@
-ghost use Rattle.std.specs.Prelude.{◌≡◌, ◌+◌, ◌-◌, ◌^◌, ◌<◌, ◌≤◌, ℕ, length, slice_index, IfErr, OnErr, OnOk, Some};
-ghost use Rattle.base.specs.Layout.{row_limit, slot_start, slot_words, total_words};
-ghost use Rattle.pmem.specs.Words.{Keeps, OldOr, value_of};
-ghost use Rattle.version_slot.specs.Filling.{Fills, IsFill, SameBeside, Stamps, StoresRun};
-ghost use Rattle.version_slot.specs.Operations.{Runs, StopsWithin, begin_operations, end_operations, fill_operations, store_operations};
+ghost use Rattle.std.specs.Prelude.{◌≡◌, ◌+◌, ◌^◌, ◌<◌, ◌≤◌, length, slice_index, IfErr, OnErr, OnOk, Some};
+ghost use Rattle.base.specs.Layout.{row_limit, total_words};
+ghost use Rattle.pmem.specs.Words.{value_of};
+ghost use Rattle.pmem.specs.Trace.{Runs, StopsWithin};
+ghost use Rattle.version_slot.specs.Operations.{begin_operations, end_operations, fill_operations, store_operations};
 ghost use Rattle.version_slot.specs.Words.{IsVersion, link_number, slot_at};
 
 use crate::words::Version;
@@ -22,13 +22,9 @@ pub fn fill<D: Pmem>(
     requires row { length version.now.row ≤ row_limit geometry.version }
     requires previous { link_number version.now.previous ≤ geometry.slots }
     requires device { (D.state device.old).words ≡ total_words geometry }
-    ensures ok { OnOk result (Fills geometry slot version.now (slot_words geometry.version - 1) 0 (D.state device.old) (D.state device.new)) }
     ensures version { OnOk result (IsVersion geometry (slot_at geometry slot (value_of (D.state device.new))) version.now) }
-    ensures err { OnErr result ((n : ℕ) × (n < slot_words geometry.version - 1) × Fills geometry slot version.now n 1 (D.state device.old) (D.state device.new)) }
     ensures fault { IfErr result (λ fault. fault ≡ Fault.Device) }
     ensures size { (D.state device.new).words ≡ (D.state device.old).words }
-    ensures others { SameBeside geometry slot (D.state device.old) (D.state device.new) }
-    ensures keeps { Keeps (D.state device.old) (D.state device.new) (OldOr (D.state device.old) (IsFill geometry slot version.now)) }
     ensures run { OnOk result (Runs (fill_operations geometry slot version.now) (D.state device.old) (D.state device.new)) }
     ensures stopped { OnErr result (StopsWithin (fill_operations geometry slot version.now) (D.state device.old) (D.state device.new)) }
 {
@@ -46,8 +42,6 @@ pub fn stamp_begin<D: Pmem>(
 ) -> Result<(), Fault>
     requires slot { slot < geometry.slots }
     requires device { (D.state device.old).words ≡ total_words geometry }
-    ensures ok { OnOk result (Stamps (slot_start geometry slot) timestamp 1 0 (D.state device.old) (D.state device.new)) }
-    ensures err { OnErr result (Stamps (slot_start geometry slot) timestamp 0 1 (D.state device.old) (D.state device.new)) }
     ensures fault { IfErr result (λ fault. fault ≡ Fault.Device) }
     ensures size { (D.state device.new).words ≡ (D.state device.old).words }
     ensures run { OnOk result (Runs (begin_operations geometry (Some slot) timestamp) (D.state device.old) (D.state device.new)) }
@@ -65,8 +59,6 @@ pub fn stamp_end<D: Pmem>(
 ) -> Result<(), Fault>
     requires slot { slot < geometry.slots }
     requires device { (D.state device.old).words ≡ total_words geometry }
-    ensures ok { OnOk result (Stamps (slot_start geometry slot + 1) timestamp 1 0 (D.state device.old) (D.state device.new)) }
-    ensures err { OnErr result (Stamps (slot_start geometry slot + 1) timestamp 0 1 (D.state device.old) (D.state device.new)) }
     ensures fault { IfErr result (λ fault. fault ≡ Fault.Device) }
     ensures size { (D.state device.new).words ≡ (D.state device.old).words }
     ensures run { OnOk result (Runs (end_operations geometry (Some slot) timestamp) (D.state device.old) (D.state device.new)) }
@@ -79,8 +71,6 @@ pub fn stamp_end<D: Pmem>(
 fn store_all<D: Pmem>(device: &mut D, first: usize, values: &[u64]) -> Result<(), Fault>
     requires fits { first + length values.now < 2 ^ 64 }
     requires device { first + length values.now ≤ (D.state device.old).words }
-    ensures ok { OnOk result (StoresRun first (slice_index values.now) (length values.now) 0 (D.state device.old) (D.state device.new)) }
-    ensures err { OnErr result ((n : ℕ) × (n < length values.now) × StoresRun first (slice_index values.now) n 1 (D.state device.old) (D.state device.new)) }
     ensures fault { IfErr result (λ fault. fault ≡ Fault.Device) }
     ensures size { (D.state device.new).words ≡ (D.state device.old).words }
     ensures run { OnOk result (Runs (store_operations first (slice_index values.now) (length values.now)) (D.state device.old) (D.state device.new)) }

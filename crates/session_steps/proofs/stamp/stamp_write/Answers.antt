@@ -1,4 +1,4 @@
-use Rattle.version_slot.proofs.Operations.{stops-then}
+use Rattle.pmem.proofs.Traces.{stops-then}
 use Rattle.session_steps.proofs.stamp.stamp_write.Goals as goal
 
 pub returns-in-Err-stamp_ended-clause-err : goal.returns-in-Err-stamp_ended-clause-err

@@ -1,5 +1,5 @@
 use Rattle.std.proofs.Common.{ℕ, subst}
-use Rattle.version_slot.specs.Operations.{StopsWithin}
+use Rattle.pmem.specs.Trace.{StopsWithin}
 use Rattle.slot_alloc.proofs.Clearing.{on_err, operations, stops-flush, stops-fence}
 use Rattle.slot_alloc.proofs.free.clear.Goals as goal
 

@@ -1,7 +1,7 @@
 use Rattle.std.proofs.Common.{◌<◌, ◌≤◌, Bool, cond, OnErr, sym, subst, arith}
 use Rattle.std.proofs.lemmas.Bool.{le-ltb, lt-ltb}
 use Rattle.pmem.specs.Words.{value_of}
-use Rattle.version_slot.specs.Operations.{StopsWithin}
+use Rattle.pmem.specs.Trace.{StopsWithin}
 use Rattle.collector.specs.Sweeping.{slot_operations, end_operations}
 use Rattle.collector.proofs.rounds.Collector.tick.Goals as goal
 

@@ -5,7 +5,7 @@ use Rattle.std.proofs.Math.Logic.{∥∥₁_elim}
 use Rattle.base.specs.declared.gap.Gap.{Gap}
 use Rattle.pmem.specs.Words.{value_of}
 use Rattle.collector.specs.Sweeping.{tick_operations}
-use Rattle.version_slot.specs.Operations.{Runs, StopsWithin}
+use Rattle.pmem.specs.Trace.{Runs, StopsWithin}
 use Rattle.session_steps.specs.Collecting.{all_cover}
 use Rattle.session_steps.proofs.CoveredRows.{gaps-shown, words-shown}
 use Rattle.session_steps.proofs.Visiting.{collects-at, collects-end, collects-stopped, collects-shown, shown-any, words-kept, counted-shown}

@@ -4,7 +4,8 @@ use Rattle.std.proofs.Math.Nat.{ℕ_set}
 use Rattle.std.proofs.Math.Logic.{∥∥₁_elim}
 use Rattle.std.specs.Prelude.{Option, ◌++◌}
 use Rattle.base.specs.declared.step.SessionStep.TheVariants.{Stamp}
-use Rattle.version_slot.specs.Operations.{Runs, StopsWithin, begin_operations, end_operations}
+use Rattle.pmem.specs.Trace.{Runs, StopsWithin}
+use Rattle.version_slot.specs.Operations.{begin_operations, end_operations}
 use Rattle.base.specs.Machine.{ByCommit}
 use Rattle.index.specs.Entries.{entry_at, live_of}
 use Rattle.state_invariant.specs.Kept.{version_by}
