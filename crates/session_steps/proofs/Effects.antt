@@ -7,9 +7,8 @@ use Rattle.base.specs.declared.fault.Fault.{Fault}
 use Rattle.base.specs.declared.fault.Fault.TheVariants.{Device as DeviceFault}
 use Rattle.base.specs.Images.{Image}
 use Rattle.pmem.specs.Device.{Device}
-use Rattle.pmem.specs.Trace.{Operation, failure}
+use Rattle.pmem.specs.Trace.{Operation, failure, StopsWithin}
 use Rattle.pmem.specs.Words.{LeavesOnly, HasNoFailure, HasOneFailure, operations_of}
-use Rattle.version_slot.specs.Operations.{StopsWithin}
 use Rattle.session_steps.specs.Steps.{HasEffect, RunsBy, is_by_actor}
 
 -- ---- whose operations they are
