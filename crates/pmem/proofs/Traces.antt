@@ -83,4 +83,4 @@ pub words-run : {ops : List Operation} {old new : Device} → Runs ops old new �
 words-run {ops} {old} run = ap (λ (d : Device). d.words) run.made ∙ words-after ops old
 
 pub words-stopped : (ops : List Operation) {old new : Device} → StopsWithin ops old new → new.words ≡ old.words
-words-stopped ops stop = words-run stop.2.2
+words-stopped ops stop = words-run stop.2

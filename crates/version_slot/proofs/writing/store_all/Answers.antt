@@ -1,6 +1,6 @@
-use Rattle.std.proofs.Common.{ℕ, ◌+◌, get_or, List, sym, subst}
+use Rattle.std.proofs.Common.{ℕ, ◌+◌, get_or, List, sym, subst, arith}
 use Rattle.pmem.specs.Trace.{Operation, store_op, Runs}
-use Rattle.pmem.proofs.Traces.{runs_none, runs-more}
+use Rattle.pmem.proofs.Traces.{runs_none, runs-more, words-run, words-stopped}
 use Rattle.version_slot.specs.Operations.{store_operations}
 use Rattle.version_slot.proofs.Operations.{stores_more, stops-at}
 use Rattle.version_slot.proofs.writing.store_all.Goals as goal
@@ -20,3 +20,12 @@ loop-k-preserved g c =
 pub returns-in-Err-clause-stopped : goal.returns-in-Err-clause-stopped
 returns-in-Err-clause-stopped g c =
     stops-at c.args.first (λ i. get_or c.args.values.now i 0) c.loop-k.k _ (g.D.Pmem.state c.args.device.now) (g.D.Pmem.state c.loop-k.device) (g.D.Pmem.state c.store.new.self) c.loop-k-test.true (g.met.D.Pmem.orderly c.store.new.self) c.in-Err.ensures.err c.loop-k.invariant
+
+pub returns-in-Err-clause-size : goal.returns-in-Err-clause-size
+returns-in-Err-clause-size g c = words-stopped _ (returns-in-Err-clause-stopped g c)
+
+pub returns-clause-size : goal.returns-clause-size
+returns-clause-size g c = words-run c.loop-k.invariant
+
+pub store-requires : goal.store-requires
+store-requires g c = omega (arith, c.requires.device, words-run c.loop-k.invariant, c.loop-k-test.true)
