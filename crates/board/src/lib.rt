@@ -17,6 +17,3 @@ pub use history::{History, Naming};
 pub use reader::Reader;
 pub use shelf::{Shelf, Step};
 pub use token::Token;
-
-#[cfg(test)]
-mod tests;

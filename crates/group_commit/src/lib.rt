@@ -6,8 +6,6 @@ mod batch;
 mod cycle;
 mod law;
 mod stage;
-#[cfg(test)]
-mod tests;
 
 pub use batch::is_idle;
 pub use cycle::{Covered, Cycle};

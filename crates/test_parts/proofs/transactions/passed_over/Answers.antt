@@ -3,7 +3,7 @@ use Rattle.std.proofs.lemmas.List.{length-map}
 use Rattle.txn.specs.declared.drawn.DrawnCommit.{DrawnCommit}
 use Rattle.txn.specs.DrawnCommits.{is_passed}
 use Rattle.txn.proofs.Passed.{few-filtered}
-use Rattle.txn.proofs.drawn.tests.passed_over.Goals as goal
+use Rattle.test_parts.proofs.transactions.passed_over.Goals as goal
 
 pub passed_over-requires : goal.passed_over-requires
 passed_over-requires c =

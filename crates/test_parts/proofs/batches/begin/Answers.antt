@@ -4,7 +4,7 @@ use Rattle.txn.specs.declared.drawn.DrawnCommit.{DrawnCommit}
 use Rattle.txn.specs.DrawnCommits.{is_passed}
 use Rattle.txn.proofs.Passed.{few-filtered}
 use Rattle.group_commit.specs.Choosing.{reach_of}
-use Rattle.group_commit.proofs.tests.begin.Goals as goal
+use Rattle.test_parts.proofs.batches.begin.Goals as goal
 
 pub begin-requires-clause-few : goal.begin-requires-clause-few
 begin-requires-clause-few c =

@@ -1,4 +1,4 @@
-use Rattle.board.proofs.tests.readers_beside_a_running_writer.Given as goal
+use Rattle.test_parts.proofs.boards.readers_beside_a_running_writer.Given as goal
 
 -- the book of the new history
 abbrev pub ghosts-busy : goal.ghosts-busy

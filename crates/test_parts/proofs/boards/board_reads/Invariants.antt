@@ -1,4 +1,4 @@
-use Rattle.board.proofs.tests.board_reads.Given as goal
+use Rattle.test_parts.proofs.boards.board_reads.Given as goal
 
 -- the book of the new history
 abbrev pub ghosts-one_commit : goal.ghosts-one_commit

@@ -1,12 +1,13 @@
+//! What readers of a board answer, to whoever learns a token, also beside a running writer.
 ghost use Rattle.std.specs.Prelude.{◌≡◌};
 
-use crate::{Board, History, Naming, Reader, Token};
 use base::Ts;
 use base::batch::{Batch, Commit};
 use base::fault::Fault;
 use base::key::Key;
 use base::longs::Longs;
 use base::row::Row;
+use board::{Board, History, Naming, Reader, Token};
 use std::alloc::{AllocError, Global};
 use std::marker::Brand;
 use std::sync::atomic::{AtomicBool, Ordering};

@@ -1,4 +1,4 @@
-use Rattle.board.proofs.tests.another_thread_reads_a_told_commit.Given as goal
+use Rattle.test_parts.proofs.boards.another_thread_reads_a_told_commit.Given as goal
 
 -- the book of the new history
 abbrev pub ghosts-told_across : goal.ghosts-told_across

@@ -1,12 +1,13 @@
+//! Which drawn commits a batch takes, what its record says, and what a close takes.
 ghost use Rattle.std.specs.Prelude.{◌≡◌, ◌<◌, ◌≤◌, ◌^◌, length};
 
-use crate::Cycle;
 use base::Ts;
 use base::fault::Fault;
 use base::gap::Gaps;
 use base::geometry::Geometry;
 use base::key::Key;
 use base::longs::Longs;
+use group_commit::{Cycle, is_idle};
 use log_area::Record;
 use std::alloc::Global;
 use std::test::Fail;
@@ -55,14 +56,14 @@ fn a_batch_takes_the_stamped_commits(rt: HostRuntime) -> Result<(), Fail> {
     let geometry = Geometry::new(4, 2, 4)?;
     let ruling = Record::new(1, 4, 12, Gaps::none(), Longs::none());
     let mut drawn = DrawnCommits::new(rt.alloc());
-    assert!(rt; crate::is_idle(geometry, ruling, 8, false, &drawn));
+    assert!(rt; is_idle(geometry, ruling, 8, false, &drawn));
     drawn.reserve()?;
     drawn.push(deletion(2, 5, 1));
     drawn.reserve()?;
     drawn.push(deletion(3, 6, 0));
     drawn.reserve()?;
     drawn.push(deletion(4, 7, 0));
-    assert!(rt; !crate::is_idle(geometry, ruling, 8, false, &drawn));
+    assert!(rt; !is_idle(geometry, ruling, 8, false, &drawn));
     let cycle = begin(rt.alloc(), geometry, ruling, 8, &drawn)?;
     assert!(rt; !cycle.is_done());
     let covered = cycle.finish();
@@ -131,9 +132,9 @@ fn a_commit_above_thirteen_unstamped_ones_waits(rt: HostRuntime) -> Result<(), F
         drawn.push(deletion(session, Ts::from(session) - 1, 0));
     }
     drawn.stamp(14);
-    assert!(rt; crate::is_idle(geometry, ruling, 15, false, &drawn));
+    assert!(rt; is_idle(geometry, ruling, 15, false, &drawn));
     drawn.stamp(13);
-    assert!(rt; !crate::is_idle(geometry, ruling, 15, false, &drawn));
+    assert!(rt; !is_idle(geometry, ruling, 15, false, &drawn));
     Ok(())
 }
 
@@ -146,12 +147,12 @@ fn a_long_commit_is_named_until_it_is_stamped(rt: HostRuntime) -> Result<(), Fai
     let mut drawn = DrawnCommits::new(rt.alloc());
     drawn.reserve()?;
     drawn.push(deletion(2, 1, 0));
-    assert!(rt; crate::is_idle(geometry, ruling, 4, false, &drawn));
+    assert!(rt; is_idle(geometry, ruling, 4, false, &drawn));
     let again = begin(rt.alloc(), geometry, ruling, 4, &drawn)?.finish();
     assert_eq!(rt; again.batch.commits().len(), 0);
     assert_eq!(rt; again.record.longs().as_slice(), [1].as_slice());
     drawn.stamp(1);
-    assert!(rt; !crate::is_idle(geometry, ruling, 4, false, &drawn));
+    assert!(rt; !is_idle(geometry, ruling, 4, false, &drawn));
     let covered = begin(rt.alloc(), geometry, ruling, 4, &drawn)?.finish();
     assert_eq!(rt; covered.batch.from(), 4);
     assert_eq!(rt; covered.batch.commits().len(), 1);

@@ -1,0 +1,85 @@
+//! Open transactions by the numbers of their sessions, and drawn commits until a record covers them.
+use base::Ts;
+use base::key::Key;
+use base::longs::Longs;
+use gap_list::GapList;
+use snapshot::Snapshot;
+use std::test::Fail;
+use txn::{DrawnCommit, DrawnCommits, Transaction, Transactions, Write, WriteSet};
+
+#[test]
+fn a_session_takes_the_lowest_number_that_is_free(rt: HostRuntime) -> Result<(), Fail> {
+    let mut transactions = Transactions::new(rt.alloc());
+    let snapshot = Snapshot::new(7, GapList::none(), Longs::none());
+    let first = transactions.begin(Transaction::Active {
+        snapshot,
+        writes: WriteSet::new(),
+    })?;
+    let second = transactions.begin(Transaction::ReadOnly)?;
+    assert_eq!(rt; first, 2);
+    assert_eq!(rt; second, 3);
+    transactions.write(
+        first,
+        Write {
+            key: Key { table: 1, key: 5 },
+            row: None,
+            slot: None,
+        },
+    );
+    match transactions.get(first) {
+        Some(Transaction::Active { snapshot, writes }) => {
+            assert_eq!(rt; snapshot.persisted(), 7);
+            assert_eq!(rt; writes.len(), 1);
+        }
+        _ => assert!(rt; false),
+    }
+    transactions.set(first, Transaction::Drawn(8));
+    assert!(rt; matches!(transactions.get(first), Some(Transaction::Drawn(8))));
+    transactions.end(first);
+    assert!(rt; transactions.get(first).is_none());
+    assert_eq!(rt; transactions.begin(Transaction::ReadOnly)?, 2);
+    Ok(())
+}
+
+// What a record that reaches up to there passes over, where few commits are drawn.
+fn passed_over(drawn: &DrawnCommits, reach: Ts) -> Longs {
+    if drawn.as_slice().len() <= Longs::LIMIT {
+        drawn.passed_over(reach)
+    } else {
+        Longs::none()
+    }
+}
+
+#[test]
+fn commits_are_covered_as_far_as_they_are_stamped(rt: HostRuntime) -> Result<(), Fail> {
+    let mut writes = WriteSet::new();
+    writes.put(Write {
+        key: Key { table: 1, key: 5 },
+        row: None,
+        slot: None,
+    });
+    let mut drawn = DrawnCommits::new(rt.alloc());
+    for (session, timestamp) in [(2, 8), (3, 9)] {
+        drawn.reserve()?;
+        drawn.push(DrawnCommit {
+            session,
+            timestamp,
+            writes,
+            stamped: 0,
+        });
+    }
+    assert_eq!(rt; drawn.reach(7, 0), 7);
+    drawn.stamp(9);
+    assert_eq!(rt; drawn.reach(7, 0), 7);
+    assert_eq!(rt; drawn.reach(7, 1), 9);
+    assert_eq!(rt; passed_over(&drawn, 9).as_slice(), [8].as_slice());
+    assert!(rt; passed_over(&drawn, 7).as_slice().is_empty());
+    drawn.stamp(8);
+    assert_eq!(rt; drawn.reach(7, 0), 9);
+    assert!(rt; drawn.as_slice()[0].is_stamped());
+    drawn.cover(&Snapshot::new(8, GapList::none(), Longs::none()));
+    assert!(rt; drawn.get(8).is_none());
+    assert!(rt; drawn.get(9).is_some());
+    assert_eq!(rt; drawn.reach(8, 0), 9);
+    Ok(())
+}
