@@ -1,5 +1,5 @@
 -- The operations of a sweep, from those of its parts.
-use Rattle.std.proofs.Common.{◌≡◌, ◌≢◌, ℕ, ◌+◌, ◌/◌, Bool, true, false, cond, List, [], ◌∷◌, ◌++◌, Result, Ok, Err, OnErr, sym, ◌∙◌, ap, subst, arith}
+use Rattle.std.proofs.Common.{◌≡◌, ◌≢◌, ℕ, ◌+◌, ◌/◌, Bool, true, false, cond, List, [], ◌∷◌, ◌++◌, sym, ◌∙◌, ap, subst, arith}
 use Rattle.base.specs.declared.gap.Gap.{Gap}
 use Rattle.base.specs.Actors.{collector}
 use Rattle.base.specs.Layout.{Layout, slot_start}
@@ -11,10 +11,6 @@ use Rattle.pmem.proofs.OperationEffects.{value-stored_other}
 use Rattle.version_slot.specs.Operations.{Runs, StopsWithin}
 use Rattle.version_slot.proofs.Operations.{runs-then, runs-more, stops-first, stops-then}
 use Rattle.collector.specs.Sweeping.{zero_operations, sweep_operations}
-
-pub on_err : {T E P : Type 0} (r : Result T E) → P → OnErr r P
-on_err (Ok x) p = tt
-on_err (Err e) p = p
 
 -- the one operation fails
 pub stops-one : (op : Operation) (old new : Device) → IsOrderly old → IsOrderly new → new ≡ failed old → StopsWithin (op ∷ []) old new

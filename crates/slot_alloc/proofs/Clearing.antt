@@ -1,5 +1,5 @@
 -- The operations that clear a slot's begin.
-use Rattle.std.proofs.Common.{◌≡◌, ◌≢◌, inl, inr, ℕ, zero, suc, ◌/◌, ◌≤◌, List, [], ◌∷◌, ◌++◌, take, Bool, Some, Result, Ok, Err, OnErr, refl, sym, ◌∙◌, ap, subst, arith}
+use Rattle.std.proofs.Common.{◌≡◌, ◌≢◌, inl, inr, ℕ, zero, suc, ◌/◌, ◌≤◌, List, [], ◌∷◌, ◌++◌, take, Bool, Some, refl, sym, ◌∙◌, ap, subst, arith}
 use Rattle.pmem.specs.Device.{Device, IsOrderly, stored, flushed, failed}
 use Rattle.pmem.specs.Words.{Keeps, Makes, OldOr, OnlyShrinks, IsStore}
 use Rattle.pmem.specs.Trace.{Operation, store_op, flush_op, fence_op, failure}
@@ -9,10 +9,6 @@ use Rattle.base.specs.Layout.{Layout, slot_start}
 use Rattle.slot_alloc.specs.Free.{lowest_free, IsClear}
 use Rattle.version_slot.specs.Operations.{Runs, StopsWithin}
 use Rattle.version_slot.proofs.Operations.{OnlyStores, only-stopped, keeps-after, shrinks-after}
-
-pub on_err : {T E P : Type 0} (r : Result T E) → P → OnErr r P
-on_err (Ok x) p = tt
-on_err (Err e) p = p
 
 -- 0 is stored in the word, and made to persist
 abbrev pub operations : ℕ → ℕ → List Operation
