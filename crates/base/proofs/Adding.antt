@@ -1,5 +1,5 @@
 -- What the replies of a run say of the commits that it draws and covers.
-use Rattle.std.proofs.Common.{◌≡◌, ◌⊎◌, inl, inr, ℕ, ◌+◌, Bool, true, false, cond, not, ◌||◌, nat_eq, List, [], ◌∷◌, ◌++◌, refl, sym, ◌∙◌, ap, subst, append-nil, append_assoc, map}
+use Rattle.std.proofs.Common.{◌≡◌, ◌⊎◌, inl, inr, ℕ, Bool, true, false, cond, not, ◌||◌, nat_eq, List, [], ◌∷◌, ◌++◌, refl, sym, ◌∙◌, ap, subst, append-nil, append_assoc, map}
 use Rattle.std.specs.Prelude.{Option, Some, None, All, Contains, IsTrue, Result, Ok, Err, filter, flat_map, if◌then◌else◌}
 use Rattle.std.specs.Option.{option_map_or}
 use Rattle.std.proofs.lemmas.Bool.{eqb-true, eq-eqb}
@@ -14,7 +14,7 @@ use Rattle.base.specs.declared.step.Reply.{Reply}
 use Rattle.base.specs.declared.step.Reply.TheVariants.{Rows, Done, Drawn as DrewAs, More, Stamped, Waiting, Committed, Idle, Ticked, Covered, Visited, SweepEnd}
 use Rattle.base.specs.Commits.{Commit, Writes}
 use Rattle.base.specs.Stands.{has_timestamp}
-use Rattle.base.specs.Machine.{State, Session, Active, Drew, WroteNothing, Drawn, Hand, Stepped, refused, answered, memory_refused, device_failed, Answers, Run, final, next_state, state_ticked, state_ticked_on, state_drawn, state_covered, next_stage, is_idle, is_nil, is_last_stamp, is_chosen, writes_of, counted, timestamp_of, polled, ticked, ticked_on, chosen, taken_in_hand, batch_of, drawn_of, in_hand, uncovered, Cover, present, of_hand, covers_at, covers_closing, closed}
+use Rattle.base.specs.Machine.{State, Session, Active, Drew, WroteNothing, Drawn, Hand, Stepped, refused, answered, memory_refused, device_failed, Answers, Run, final, next_state, state_ticked, state_ticked_on, state_drawn, state_covered, next_stage, is_idle, is_nil, is_last_stamp, is_chosen, writes_of, timestamp_of, polled, ticked, ticked_on, chosen, taken_in_hand, batch_of, drawn_of, in_hand, uncovered, Cover, present, of_hand, covers_at, covers_closing, closed}
 use Rattle.base.specs.Lives.{World, IsWorld, Opening, Opens, Fails, Numbers, Asked, Report, StopsAt, EndsAs, LifeAs, Lives, RunsUp}
 use Rattle.base.specs.Openings.{OpensAs}
 use Rattle.base.specs.Laws.{drawn_by, drawn_in, covered_by, covered_in, acknowledged_by, acknowledged_in, has_closed, AddsDrawn, LifeAdds, LivesAdd}
@@ -23,6 +23,7 @@ use Rattle.base.proofs.Growth.{any-append, extends-run}
 use Rattle.base.proofs.Visiting.{visit-changes}
 use Rattle.base.proofs.Returns.{runs-up}
 use Rattle.base.proofs.LivesLaws.{life-stands}
+use Rattle.base.proofs.Counted.{counted-commits}
 
 -- ---- lists of commits
 
@@ -72,17 +73,6 @@ kept-drawn : (batch : List Commit) (ds : List Drawn)
     → map (λ (d : Drawn). d.commit) (filter (λ d. not (has_timestamp batch d.commit.timestamp)) ds) ≡ filter (λ c. not (has_timestamp batch c.timestamp)) (map (λ (d : Drawn). d.commit) ds)
 kept-drawn batch [] = refl
 kept-drawn batch (d ∷ ds) = kept-if (not (has_timestamp batch d.commit.timestamp)) d _ _ (kept-drawn batch ds)
-
-counted-if : (b : Bool) (d : Drawn) → (let e : Drawn = cond b (record { commit = d.commit; stamped = d.stamped + 1 }) d in e).commit ≡ d.commit
-counted-if true d = refl
-counted-if false d = refl
-
-counted-commits : (t : ℕ) (ds : List Drawn) → map (λ (d : Drawn). d.commit) (map (counted t) ds) ≡ map (λ (d : Drawn). d.commit) ds
-counted-commits t [] = refl
-counted-commits t (d ∷ ds) =
-    let here : (counted t d).commit ≡ d.commit = counted-if (nat_eq d.commit.timestamp t) d in
-    let rest = counted-commits t ds in
-    λ i. here i ∷ rest i
 
 -- ---- what the replies so far say
 

@@ -4,7 +4,7 @@ use Rattle.std.specs.Prelude.{Option, Some, None, slice_get, is_none, IsTrue, no
 use Rattle.std.specs.List.{range_with_len}
 use Rattle.std.proofs.Math.ListN.{length-append}
 use Rattle.std.proofs.Math.Seq.{get_or-append_seam}
-use Rattle.std.proofs.lemmas.Bool.{and_parts}
+use Rattle.std.proofs.lemmas.Bool.{and_parts, not-true}
 use Rattle.std.proofs.lemmas.List.FromFn.{length-map-range_with_len}
 use Rattle.std.proofs.lemmas.Option.{slice_get-get_or, slice_get_past}
 use Rattle.base.specs.declared.fault.Fault.{Fault}
@@ -88,10 +88,6 @@ later-length lines =
     let c : List Stage = map BodyFlushed (range_with_len 0 4) in
     let d : List Stage = BodyFenced ∷ GateStored ∷ GateFlushed ∷ [] in
     omega (arith, length-append (a ++ b ++ c) d, length-append (a ++ b) c, length-append a b, length-map-range_with_len LineFlushed 0 lines, length-map-range_with_len BodyStored 1 31, length-map-range_with_len BodyFlushed 0 4)
-
-not-true : (b : Bool) → not b ≡ true → b ≡ false
-not-true true e = cc
-not-true false e = refl
 
 pub cycle-whole : (q : State) → q.hand ≡ None → IsTrue (chooses q CommitTick) → refusal q CommitTick ≡ None → CycleIsWhole q
 cycle-whole q none chooses_now ok =

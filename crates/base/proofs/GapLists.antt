@@ -3,51 +3,14 @@ use Rattle.std.proofs.Common.{◌≡◌, ◌⊎◌, inl, inr, ℕ, ◌+◌, ◌-
 use Rattle.std.specs.Prelude.{fold}
 use Rattle.std.specs.List.{list_any, list_all}
 use Rattle.std.proofs.lemmas.Bool.{ltb-true, ltb-false, leb-true, lt-ltb, le-leb, eqb-true, eq-eqb, and_parts, and_from, or_cases, or_left, or_right, cases_lt}
+use Rattle.std.specs.Cmp.{both_ways}
 use Rattle.base.specs.declared.gap.Gap.{Gap}
 use Rattle.base.specs.Records.{Record, is_in, are_apart, is_well_formed, with_gap, with_skipped, opened_gaps}
 use Rattle.base.specs.Openings.{IsOpenedGaps}
 use Rattle.base.proofs.WellFormed.{well_formed-parts}
-
-abbrev Within : Gap → ℕ → Type 0
-Within gap t = (gap.first ≤ t) × (t ≤ gap.last)
-
-abbrev In : List Gap → ℕ → Type 0
-In [] t = ⊥
-In (gap ∷ gaps) t = Within gap t ⊎ In gaps t
-
--- from a bound on, each gap holds something and begins apart from the one before it
-abbrev Tidy : ℕ → List Gap → Type 0
-Tidy low [] = Unit {0}
-Tidy low (gap ∷ gaps) = (low ≤ gap.first) × (gap.first ≤ gap.last) × Tidy (gap.last + 2) gaps
-
-tidy-lower : (low high : ℕ) (gaps : List Gap) → low ≤ high → Tidy high gaps → Tidy low gaps
-tidy-lower low high [] le t = tt
-tidy-lower low high (gap ∷ gaps) le (a, b, rest) = (omega (arith, le, a), b, rest)
-
-in-low : (low : ℕ) (gaps : List Gap) (t : ℕ) → Tidy low gaps → In gaps t → low ≤ t
-in-low low [] t tidy none = absurd none
-in-low low (gap ∷ gaps) t (a, b, rest) (inl w) = omega (arith, a, w.0)
-in-low low (gap ∷ gaps) t (a, b, rest) (inr more) = omega (arith, a, b, in-low (gap.last + 2) gaps t rest more)
+use Rattle.base.proofs.GapSets.{Within, In, Tidy, tidy-lower, in-low, in-from, in-test}
 
 -- Tests and facts
-
-in-from : (gaps : List Gap) (t : ℕ) → is_in gaps t ≡ true → In gaps t
-in-from [] t e = cc
-in-from (gap ∷ gaps) t e = by (or_cases (nat_le gap.first t && nat_le t gap.last) (is_in gaps t) e) (λ f. in-from gaps t f)
-  where
-    by : ((nat_le gap.first t && nat_le t gap.last) ≡ true) ⊎ (is_in gaps t ≡ true) → (is_in gaps t ≡ true → In gaps t) → In (gap ∷ gaps) t
-    by (inl here) rest = let both = and_parts (nat_le gap.first t) (nat_le t gap.last) here in inl (leb-true gap.first t both.0, leb-true t gap.last both.1)
-    by (inr more) rest = inr (rest more)
-
-in-test : (gaps : List Gap) (t : ℕ) → In gaps t → is_in gaps t ≡ true
-in-test [] t none = absurd none
-in-test (gap ∷ gaps) t (inl w) = or_left (nat_le gap.first t && nat_le t gap.last) (is_in gaps t) (and_from (nat_le gap.first t) (nat_le t gap.last) (le-leb gap.first t w.0) (le-leb t gap.last w.1))
-in-test (gap ∷ gaps) t (inr more) = or_right (nat_le gap.first t && nat_le t gap.last) (is_in gaps t) (in-test gaps t more)
-
-same_tests : (a b : Bool) → (a ≡ true → b ≡ true) → (b ≡ true → a ≡ true) → a ≡ b
-same_tests true b f g = sym (f refl)
-same_tests false true f g = g refl
-same_tests false false f g = refl
 
 -- a list that passes the tests is tidy
 tidy-from : (test : Gap → Bool) → ((gap : Gap) → test gap ≡ true → gap.first ≤ gap.last) → (low : ℕ) (gap : Gap) (gaps : List Gap) → low ≤ gap.first
@@ -235,7 +198,7 @@ opened-gaps version r formed =
     record {
       ordered = tidy-ordered 0 (opened_gaps r) tidy'';
       apart = tidy-apart 0 (opened_gaps r) tidy'';
-      same = λ t. same_tests (is_in (opened_gaps r) t) (is_in r.gaps t || list_any (nat_eq t) r.longs || (nat_lt r.persisted t && nat_lt t r.dirty))
+      same = λ t. both_ways (is_in (opened_gaps r) t) (is_in r.gaps t || list_any (nat_eq t) r.longs || (nat_lt r.persisted t && nat_lt t r.dirty))
           (λ e. forth t tidy tidy' (in-from (opened_gaps r) t e)) (λ e. in-test (opened_gaps r) t (back t (or_cases (is_in r.gaps t || list_any (nat_eq t) r.longs) (nat_lt r.persisted t && nat_lt t r.dirty) e)));
     }
   where

@@ -1,16 +1,14 @@
 -- What an opening finds, and the state that it gives: with a sweep it is that of the image as swept, under a record
 -- without gaps.
 use Rattle.std.proofs.Common.{◌≡◌, ℕ, ◌+◌, ◌-◌, ◌*◌, ◌^◌, ◌<◌, ◌≤◌, Bool, true, false, cond, not, ◌&&◌, ◌||◌, List, [], ◌∷◌, length, refl, sym, ◌∙◌, ap, arith, nat_eq, nat_lt, nat_le}
-use Rattle.std.specs.Prelude.{Option, Some, None, slice_index, ◌↔◌}
+use Rattle.std.specs.Prelude.{Some, None, slice_index, ◌↔◌}
 use Rattle.std.specs.List.{list_all, range_with_len}
-use Rattle.std.specs.Option.{option_map, option_or}
 use Rattle.std.proofs.lemmas.Bool.{and_parts, and_from, or_parts, leb-true, leb-false, ltb-true, ltb-false, lt-ltb, le-leb, eqb-true, not-false}
 use Rattle.std.proofs.lemmas.Bool.Decides.{nat_tests}
 use Rattle.base.specs.declared.key.Key.{Key}
 use Rattle.base.specs.declared.gap.Gap.{Gap}
-use Rattle.base.specs.declared.fault.Fault.{Fault}
 use Rattle.base.specs.declared.fault.Fault.TheVariants.{Damaged, TimestampsOut}
-use Rattle.base.specs.Search.{first_below, some_if}
+use Rattle.base.specs.Search.{first_below}
 use Rattle.base.specs.Commits.{Commit, after, last_writer}
 use Rattle.base.specs.Layout.{Layout, most_longs, slot_words, total_words, is_in_limits, is_known_version}
 use Rattle.base.specs.Records.{Record, record_word, record_in, is_record, is_in, is_committed, is_well_formed, opened_gaps}
@@ -25,6 +23,7 @@ use Rattle.base.proofs.GapLists.{opened-gaps, one_gap_list}
 use Rattle.base.proofs.Alike.{HasRowsOf, CountsAlike, key-same, shown-same, good-same, tables-same}
 use Rattle.base.proofs.OpenedRecords.{same-committed, swept-committed, uncommitted-in}
 use Rattle.base.proofs.Sweeps.{swept_record, swept-size, swept-layout, swept-rows, swept-counts}
+use Rattle.base.proofs.Options.{or-none, map-none, some_if-none}
 
 -- what an opening finds, by this record and with these gaps
 pub record IsOpening (a : Layout) (r : Record) (image : Image) (history : List Commit) (gaps : List Gap) : Type 0 where
@@ -40,18 +39,6 @@ pub record IsOpening (a : Layout) (r : Record) (image : Image) (history : List C
   pub few : length gaps ≤ 8
 
 -- ---- what a sound image says
-
-or-none : {X : Type 0} → (a b : Option X) → option_or a b ≡ None → (a ≡ None) × (b ≡ None)
-or-none None b e = (refl, e)
-or-none (Some x) b e = absurd (cc e)
-
-some_if-none : (b : Bool) (fault : Fault) → some_if b fault ≡ None → b ≡ false
-some_if-none true fault e = absurd (cc e)
-some_if-none false fault e = refl
-
-map-none : (o : Option ℕ) → option_map Damaged o ≡ None → o ≡ None
-map-none None e = refl
-map-none (Some n) e = absurd (cc e)
 
 pub record IsWhole (image : Image) : Type 0 where
   pub formatted : is_formatted image ≡ true
@@ -69,7 +56,7 @@ whole-of image sound =
     let e = or-none _ _ d.1 in
     record {
       formatted = not-false (is_formatted image) (some_if-none (not (is_formatted image)) _ a.0);
-      gates = map-none (first_below (layout_of image).places (is_wrong_gate image)) d.0;
+      gates = map-none Damaged (first_below (layout_of image).places (is_wrong_gate image)) d.0;
       known = not-false (is_known_version (layout_of image).version) (some_if-none (not (is_known_version (layout_of image).version)) _ b.0);
       geometry = not-false (has_good_geometry image) (some_if-none (not (has_good_geometry image)) _ c.0);
       ruled = not-false (is_ruled image) (some_if-none (not (is_ruled image)) _ e.0);

@@ -2,7 +2,7 @@
 use Rattle.std.proofs.Common.{◌≡◌, ℕ, ◌+◌, ◌<◌, ◌≤◌, Bool, true, false, cond, not, ◌||◌, nat_eq, List, [], ◌∷◌, ◌++◌, refl, sym, ◌∙◌, ap, subst, append-nil, append_assoc, arith, inl, inr, get_or}
 use Rattle.std.specs.Prelude.{Option, Some, None, All, Result, Ok, Err, filter}
 use Rattle.std.specs.Option.{option_map_or}
-use Rattle.std.proofs.lemmas.Bool.{ne_eqb}
+use Rattle.std.proofs.lemmas.Bool.{ne_eqb, not-true}
 use Rattle.std.proofs.lemmas.List.Elements.{All-nil, All-cons, All-append, All-map, All-filter, All-weaker, All-contains, All-same, All-head, All-tail, filter_passes}
 use Rattle.base.specs.declared.fault.Fault.{Fault}
 use Rattle.base.specs.declared.step.Step.{Step}
@@ -237,10 +237,6 @@ none-within from to t (c ∷ commits) less all =
     or_none true b e f = cc
     or_none false b e f = f
 
-not_true : (b : Bool) → not b ≡ true → b ≡ false
-not_true true e = cc
-not_true false e = refl
-
 -- a stop leaves out only what stays out
 out-stopped : (from : ℕ) (before : World) (q : State) (more : List Commit) (after : World) → before.next ≤ from → from ≤ q.next → q.history ≡ before.history ++ more → All (Within from q.next) more
     → Fresh from q → StayOut before → Stopped from q before.lost after → StayOut after
@@ -262,7 +258,7 @@ out-stopped from before q more after le le' e within f o s =
     (All-filter out_test (λ c. c.timestamp < after.next) after.drawn (All-weaker (Within from q.next) (λ c. c.timestamp < after.next) (λ c w. omega (arith, w.high, s.next)) after.drawn all_drawn)) in
     let new_out : All Out new =
     All-map Out (λ c. c.timestamp) (filter out_test after.drawn)
-    (All-weaker (λ c. out_test c ≡ true) (λ c. has_timestamp after.history c.timestamp ≡ false) (λ c e. not_true (has_timestamp after.history c.timestamp) e) (filter out_test after.drawn) (filter_passes out_test after.drawn)) in
+    (All-weaker (λ c. out_test c ≡ true) (λ c. has_timestamp after.history c.timestamp ≡ false) (λ c e. not-true (has_timestamp after.history c.timestamp) e) (filter out_test after.drawn) (filter_passes out_test after.drawn)) in
     record {
       below = All-same Below after.lost (before.lost ++ new) s.loses (All-append Below before.lost new (All-weaker (λ t. t < before.next) Below (λ t l. omega (arith, l, le, le', s.next)) before.lost o.below) new_below);
       out = All-same Out after.lost (before.lost ++ new) s.loses (All-append Out before.lost new old_out new_out);

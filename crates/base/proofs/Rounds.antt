@@ -15,17 +15,17 @@ use Rattle.base.proofs.Visiting.{visit-changes}
 
 -- ---- visits, one after another
 
-visits-add : (m n : ℕ) (q : State) → visits (m + n) q ≡ visits n (visits m q)
+pub visits-add : (m n : ℕ) (q : State) → visits (m + n) q ≡ visits n (visits m q)
 visits-add zero n q = let e : zero + n ≡ n = omega arith in ap (λ (k : ℕ). visits k q) e
 visits-add (suc m) n q = let e : suc m + n ≡ suc (m + n) = omega arith in ap (λ (k : ℕ). visits k q) e ∙ visits-add m n (visited q)
 
-visits-split : (all m n : ℕ) (q : State) → all ≡ m + n → visits all q ≡ visits n (visits m q)
+pub visits-split : (all m n : ℕ) (q : State) → all ≡ m + n → visits all q ≡ visits n (visits m q)
 visits-split all m n q e = ap (λ (k : ℕ). visits k q) e ∙ visits-add m n q
 
 layout-visited : (q : State) → (visited q).layout ≡ q.layout
 layout-visited q = (visit-changes q).layout
 
-layout-visits : (n : ℕ) (q : State) → (visits n q).layout ≡ q.layout
+pub layout-visits : (n : ℕ) (q : State) → (visits n q).layout ≡ q.layout
 layout-visits zero q = refl
 layout-visits (suc n) q = layout-visits n (visited q) ∙ layout-visited q
 

@@ -1,35 +1,15 @@
 -- The rows of a scan: there is one list of them, and it lists the tables that the session sees.
-use Rattle.std.proofs.Common.{◌≡◌, ℕ, Bool, true, false, cond, nat_eq, List, [], ◌∷◌, map, take, filter, refl, sym, ◌∙◌, ap, subst, arith, true≢false}
+use Rattle.std.proofs.Common.{◌≡◌, ℕ, Bool, true, false, cond, List, [], ◌∷◌, map, take, filter, refl, sym, ◌∙◌, ap, subst, arith, true≢false}
 use Rattle.std.specs.Prelude.{Option, Some, None, unwrap_or}
 use Rattle.std.specs.List.{list_all}
-use Rattle.std.proofs.lemmas.Bool.{and_parts, and_from, eqb-true}
+use Rattle.std.proofs.lemmas.Bool.{and_parts, and_from}
 use Rattle.std.proofs.lemmas.Bool.Decides.{nat_tests}
 use Rattle.base.specs.declared.key.Key.{Key}
 use Rattle.base.specs.Keys.{key_eq, key_lt, is_rising, lookup_key, is_in_range}
 use Rattle.base.specs.Commits.{Commit, Writes, Tables, overlaid, laid, after, in_range, Lists, with_write}
 use Rattle.base.specs.Machine.{State, writes_of, begun_of, seen_by}
 use Rattle.base.specs.Replay.{merged, written, with_row, rows_among, written_for, scanned}
-
--- ---- keys
-
-key_eq-is : (a b : Key) → key_eq a b ≡ true → a ≡ b
-key_eq-is a b e =
-    let both = and_parts (nat_eq a.table b.table) (nat_eq a.key b.key) e in
-    let table : a.table ≡ b.table = eqb-true a.table b.table both.0 in
-    let number : a.key ≡ b.key = eqb-true a.key b.key both.1 in
-    λ i. record { table = table i; key = number i }
-
-key_eq-refl : (a : Key) → key_eq a a ≡ true
-key_eq-refl a = grind (arith, nat_tests)
-
-key_lt-trans : (a b c : Key) → key_lt a b ≡ true → key_lt b c ≡ true → key_lt a c ≡ true
-key_lt-trans a b c ab bc = grind (arith, nat_tests)
-
-key_lt-apart : (a b : Key) → key_lt a b ≡ true → key_eq a b ≡ false
-key_lt-apart a b less = grind (arith, nat_tests)
-
-key_lt-swap : (a b : Key) → key_eq a b ≡ false → key_lt a b ≡ false → key_lt b a ≡ true
-key_lt-swap a b apart less = grind (arith, nat_tests)
+use Rattle.base.proofs.Keys.{key_eq-true, key_eq-same, key_lt-trans, key_lt-swap}
 
 -- ---- lists by rising key
 
@@ -77,7 +57,7 @@ module _ {X : Type 0} where
       and_from _ _ (and_parts (key_lt pair.0 next.0) (list_all (λ (p : Key × X). key_lt pair.0 p.0) pairs) all).0 r
 
   head-found : (pair : Key × X) (pairs : List (Key × X)) → lookup_key (pair ∷ pairs) pair.0 ≡ Some pair.1
-  head-found pair pairs = ap (λ (b : Bool). cond b (Some pair.1) (lookup_key pairs pair.0)) (key_eq-refl pair.0)
+  head-found pair pairs = ap (λ (b : Bool). cond b (Some pair.1) (lookup_key pairs pair.0)) (key_eq-same pair.0)
 
   none-some : (x : X) → ◌≡◌ {A = Option X} None (Some x) → ⊥
   none-some x e = cc
@@ -92,7 +72,7 @@ module _ {X : Type 0} where
     where
       by : (b : Bool) → key_eq pair.0 key ≡ b → cond b (Some pair.1) (lookup_key xs key) ≡ cond b (Some pair.1) (lookup_key ys key) → lookup_key xs key ≡ lookup_key ys key
       by true is e =
-          let at : pair.0 ≡ key = key_eq-is pair.0 key is in
+          let at : pair.0 ≡ key = key_eq-true pair.0 key is in
           subst (λ (k : Key). lookup_key xs k ≡ lookup_key ys k) at (absent pair.0 xs above_xs ∙ sym (absent pair.0 ys above_ys))
       by false is e = e
 
@@ -109,7 +89,7 @@ module _ {X : Type 0} where
 
       heads : key_eq x.0 y.0 ≡ true → x ≡ y
       heads is =
-          let at : x.0 ≡ y.0 = key_eq-is x.0 y.0 is in
+          let at : x.0 ≡ y.0 = key_eq-true x.0 y.0 is in
           let value : x.1 ≡ y.1 = some-is x.1 y.1 (sym (head-found x xs) ∙ (same x.0 ∙ (ap (lookup_key (y ∷ ys)) at ∙ head-found y ys))) in
           λ i. (at i, value i)
 
@@ -138,11 +118,11 @@ module _ {X : Type 0} where
       by : (t : Bool) → test pair.0 ≡ t → (b : Bool) → key_eq pair.0 key ≡ b → lookup_key rest key ≡ cond (test key) (lookup_key pairs key) None
           → lookup_key (cond t (pair ∷ rest) rest) key ≡ cond (test key) (cond b (Some pair.1) (lookup_key pairs key)) None
       by true passes true is more =
-          let here : test key ≡ true = subst (λ (k : Key). test k ≡ true) (key_eq-is pair.0 key is) passes in
+          let here : test key ≡ true = subst (λ (k : Key). test k ≡ true) (key_eq-true pair.0 key is) passes in
           ap (λ (b : Bool). cond b (Some pair.1) (lookup_key rest key)) is ∙ sym (ap (λ (b : Bool). cond b (Some pair.1) None) here)
       by true passes false is more = ap (λ (b : Bool). cond b (Some pair.1) (lookup_key rest key)) is ∙ more
       by false fails true is more =
-          let here : test key ≡ false = subst (λ (k : Key). test k ≡ false) (key_eq-is pair.0 key is) fails in
+          let here : test key ≡ false = subst (λ (k : Key). test k ≡ false) (key_eq-true pair.0 key is) fails in
           more ∙ (ap (λ (b : Bool). cond b (lookup_key pairs key) None) here ∙ sym (ap (λ (b : Bool). cond b (Some pair.1) None) here))
       by false fails false is more = more
 
@@ -182,10 +162,10 @@ with-lookup key value [] other = refl
 with-lookup key value (write ∷ writes) other = by (key_eq key write.0) refl (key_lt key write.0) (with-lookup key value writes other)
   where
     same_key : key_eq key write.0 ≡ true → key_eq write.0 other ≡ key_eq key other
-    same_key is = ap (λ (k : Key). key_eq k other) (sym (key_eq-is key write.0 is))
+    same_key is = ap (λ (k : Key). key_eq k other) (sym (key_eq-true key write.0 is))
 
     apart : key_eq key write.0 ≡ false → key_eq write.0 other ≡ true → key_eq key other ≡ false
-    apart not_it there = subst (λ (k : Key). key_eq key k ≡ false) (key_eq-is write.0 other there) not_it
+    apart not_it there = subst (λ (k : Key). key_eq key k ≡ false) (key_eq-true write.0 other there) not_it
 
     later : key_eq key write.0 ≡ false → (b : Bool) → key_eq write.0 other ≡ b → lookup_key (with_write key value writes) other ≡ cond (key_eq key other) (Some value) (lookup_key writes other)
         → cond b (Some write.1) (lookup_key (with_write key value writes) other) ≡ cond (key_eq key other) (Some value) (cond b (Some write.1) (lookup_key writes other))
@@ -233,7 +213,7 @@ with-rising key value (write ∷ writes) r =
     by : (e : Bool) → key_eq key write.0 ≡ e → (l : Bool) → key_lt key write.0 ≡ l → above write.0 writes ≡ true → rising writes ≡ true → rising (with_write key value writes) ≡ true
         → rising (cond e ((key, value) ∷ writes) (cond l ((key, value) ∷ write ∷ writes) (write ∷ with_write key value writes))) ≡ true
     by true is l less low rest more =
-        rising-with (key, value) writes (subst (λ (k : Key). above k writes ≡ true) (sym (key_eq-is key write.0 is)) low) rest
+        rising-with (key, value) writes (subst (λ (k : Key). above k writes ≡ true) (sym (key_eq-true key write.0 is)) low) rest
     by false is true less low rest more = rising-with (key, value) (write ∷ writes) (whole less low) (rising-with write writes low rest)
     by false is false less low rest more =
         rising-with write (with_write key value writes) (with-above write.0 key value writes (key_lt-swap key write.0 is less) low) more
@@ -274,7 +254,7 @@ rows-lookup (write ∷ writes) key r = by write.1 (key_eq write.0 key) refl (row
   where
     gone : key_eq write.0 key ≡ true → lookup_key (rows_among writes) key ≡ tables_in writes key → lookup_key (rows_among writes) key ≡ None
     gone is more =
-        let nothing : lookup_key writes key ≡ None = subst (λ (k : Key). lookup_key writes k ≡ None) (key_eq-is write.0 key is) (absent write.0 writes (rising-above write writes r)) in
+        let nothing : lookup_key writes key ≡ None = subst (λ (k : Key). lookup_key writes k ≡ None) (key_eq-true write.0 key is) (absent write.0 writes (rising-above write writes r)) in
         more ∙ ap (λ (o : Option (Option (List ℕ))). unwrap_or o None) nothing
 
     by : (value : Option (List ℕ)) (b : Bool) → key_eq write.0 key ≡ b → lookup_key (rows_among writes) key ≡ tables_in writes key

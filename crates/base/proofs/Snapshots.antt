@@ -1,6 +1,6 @@
 -- What an Active session sees stays the same.
 use Rattle.std.proofs.Common.{◌≡◌, ℕ, ◌≤◌, Bool, true, false, cond, List, [], ◌∷◌, length, take, refl, sym, ◌∙◌, ap, subst, arith, nat_eq}
-use Rattle.std.specs.Prelude.{Option, Some, None, is_none, unwrap_or, find}
+use Rattle.std.specs.Prelude.{Option, Some, None, is_none, unwrap_or}
 use Rattle.std.proofs.lemmas.Bool.{ne_eqb}
 use Rattle.std.proofs.lemmas.List.{take-append-le, length-append}
 use Rattle.base.specs.declared.fault.Fault.{Fault}
@@ -15,6 +15,7 @@ use Rattle.base.specs.Openings.{OpensAs}
 use Rattle.base.specs.Laws.{SeesCovered, SeesTheSame}
 use Rattle.base.proofs.Growth.{Extends, extends-stepped}
 use Rattle.base.proofs.Visiting.{visit-changes}
+use Rattle.base.proofs.Lists.{find-passes}
 
 -- ---- sessions after a step
 
@@ -99,14 +100,6 @@ pub sees-opened : (image : Image) (history : List Commit) (lost : List ℕ) (q :
 sees-opened image history lost q opens n = omega (arith, ap (λ (p : State). begun_of (p.sessions n)) opens.2)
 
 -- ---- a session that the step doesn't name
-
-passes-if : {X : Type 0} (test : X → Bool) (y x : X) (rest : Option X) → (rest ≡ Some x → test x ≡ true) → (b : Bool) → test y ≡ b → cond b (Some y) rest ≡ Some x → test x ≡ true
-passes-if test y x rest more true is f = let same : y ≡ x = cc in subst (λ z. test z ≡ true) same is
-passes-if test y x rest more false is f = more f
-
-find-passes : {X : Type 0} (test : X → Bool) (xs : List X) (x : X) → find test xs ≡ Some x → test x ≡ true
-find-passes test [] x e = cc
-find-passes test (y ∷ ys) x e = passes-if test y x (find test ys) (find-passes test ys x) (test y) refl e
 
 -- where no number is free, none begins
 refuses-full : (q : State) → is_none (free_session q) ≡ true → is_none (refusal q Begin) ≡ false

@@ -21,6 +21,7 @@ use Rattle.base.proofs.Sweeps.{swept-at}
 use Rattle.base.specs.Machine.{State, ByCommit}
 use Rattle.base.specs.Laws.{OpensUpdated, UpdatedOpen}
 use Rattle.base.proofs.WellFormed.{well_formed-parts, well_formed-from}
+use Rattle.base.proofs.Options.{or-none, some_if_not-none}
 
 -- ---- versions
 
@@ -54,16 +55,8 @@ formed-more r e =
 
 -- ---- choices of faults
 
-or-none : {X : Type 0} → (a b : Option X) → option_or a b ≡ None → (a ≡ None) × (b ≡ None)
-or-none None b e = (refl, e)
-or-none (Some x) b e = absurd (cc e)
-
 none-or : {X : Type 0} → (a b : Option X) → a ≡ None → b ≡ None → option_or a b ≡ None
 none-or a b is more = ap (λ x. option_or x b) is ∙ more
-
-some_if-none : (b : Bool) (fault : Fault) → some_if (not b) fault ≡ None → b ≡ true
-some_if-none true fault e = refl
-some_if-none false fault e = absurd (cc e)
 
 six : (a b c d e f : Option Fault) → option_or a (option_or b (option_or c (option_or d (option_or e (option_or f None))))) ≡ None → (a ≡ None) × (b ≡ None) × (c ≡ None) × (d ≡ None) × (e ≡ None) × (f ≡ None)
 six a b c d e f is =
@@ -204,7 +197,7 @@ module _ (first : ℕ) (words : List ℕ) where
 
     ruled-new : is_ruled new ≡ true
     ruled-new =
-        let both = and_parts (not (nat_eq (greatest_gate old) 0)) (is_record 1 (place_words old (ruling_place old))) (some_if-none (is_ruled old) (Damaged (ruling_place old)) f.4) in
+        let both = and_parts (not (nat_eq (greatest_gate old) 0)) (is_record 1 (place_words old (ruling_place old))) (some_if_not-none (is_ruled old) (Damaged (ruling_place old)) f.4) in
         and_from (not (nat_eq (greatest_gate new) 0)) (is_record 2 (place_words new (ruling_place new)))
         (ap (λ (g : ℕ). not (nat_eq g 0)) greatest-same ∙ both.0) (ap (is_record 2) ruled-words ∙ more (place_words old (ruling_place old)) both.1)
       where
@@ -292,7 +285,7 @@ module _ (first : ℕ) (words : List ℕ) where
 known-of : (first version : ℕ) (words : List ℕ) → opening_fault (first ∷ version ∷ words) ≡ None → is_known_version version ≡ true
 known-of first version words opens =
     let image : Image = first ∷ version ∷ words in
-    some_if-none (is_known_version version) (Version version)
+    some_if_not-none (is_known_version version) (Version version)
     (six (some_if (not (is_formatted image)) NotFormatted) (some_if (not (is_known_version version)) (Version version)) (some_if (not (has_good_geometry image)) BadGeometry)
     (option_map Damaged (first_below (layout_of image).places (is_wrong_gate image))) (some_if (not (is_ruled image)) (Damaged (ruling_place image)))
     (option_map (λ slot. Damaged ((layout_of image).places + slot)) (first_below (layout_of image).slots (is_bad_slot (ruling image) image)))

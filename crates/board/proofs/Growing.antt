@@ -92,10 +92,6 @@ one_more log waits front c is some =
     let n : 0 < length front = omega (arith, ap length is, length-append log waits, some) in
     list_on front (c ∷ []) n ∙ ap (λ (l : Published). changed l c) (ap list_of is ∙ list_on log waits some)
 
-pub map_push : {A B : Type 0} (f : A → B) (xs : List A) (x : A) → map f (xs ++ x ∷ []) ≡ map f xs ++ f x ∷ []
-map_push f [] x = refl
-map_push f (y ∷ xs) x = ap (λ l. f y ∷ l) (map_push f xs x)
-
 pub assoc : (xs ys : List Change) (c : Change) → (xs ++ ys) ++ c ∷ [] ≡ xs ++ (ys ++ c ∷ [])
 assoc xs ys c = append_assoc xs ys (c ∷ [])
 
@@ -104,11 +100,6 @@ nil_end xs = append-nil xs
 
 pub some_more : (xs ys : List Change) → 0 < length xs → 0 < length (xs ++ ys)
 some_more xs ys some = omega (arith, length-append xs ys, some)
-
--- where nothing is kept, nothing of it is there
-pub none_kept : {A : Type 0} (kept : Option A) → is_some kept ≡ false → kept ≡ None
-none_kept None e = refl
-none_kept (Some x) e = absurd (cc e)
 
 -- what waits may be followed by a floor that is published
 pub raises : (list : Published) (waits : List Change) (stamp : ℕ) → stamp ≤ last_stamp list → IsPublished (fold changed list waits) → IsPublished (changed (fold changed list waits) (Raise stamp))

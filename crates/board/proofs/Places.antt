@@ -12,13 +12,16 @@ use Rattle.std.specs.declared.ops.Bound.{Bound}
 use Rattle.std.specs.declared.ops.Bound.TheVariants.{Included}
 use Rattle.std.proofs.lemmas.Map.Keys.{le_from_not_gt}
 use Rattle.std.specs.Map.{lookup}
+use Rattle.std.proofs.lemmas.Cmp.{nat_eq_equiv}
 use Rattle.base.specs.declared.key.Key.{Key}
 use Rattle.base.specs.Keys.{key_eq, lookup_key}
 use Rattle.base.specs.Commits.{Commit, writes_key}
+use Rattle.base.proofs.Keys.{key_eq-swap}
+use Rattle.base.proofs.KeyOrder.{is_at-key, is_eq-then, is_eq-nat, key_cmp}
 use Rattle.board.specs.declared.versions.Place.{Place}
 use Rattle.board.specs.Cells.{is_written}
 use Rattle.board.specs.Versions.{lookup_version, version_after, IsLatest}
-use Rattle.board.proofs.Puts.{key_cmp, is_at-key, key_eq-swap, is_eq-then, is_eq-nat, unwritten_first}
+use Rattle.board.proofs.Puts.{unwritten_first}
 
 -- the order of places
 abbrev pub place_cmp : Place → Place → Ordering
@@ -28,15 +31,12 @@ place_cmp a b = ordering_then (key_cmp a.key b.key) (nat_cmp a.stamp b.stamp)
 pub is_at-place : (p q : Place) → is_at (place_cmp p) q ≡ (key_eq p.key q.key && nat_eq p.stamp q.stamp)
 is_at-place p q = is_eq-then (key_cmp p.key q.key) (nat_cmp p.stamp q.stamp) ∙ (λ i. is_at-key p.key q.key i && is_eq-nat p.stamp q.stamp i)
 
-stamps-swap : (a b : ℕ) → nat_eq a b ≡ nat_eq b a
-stamps-swap a b = grind (arith, nat_tests)
-
 -- a map finds the first entry at the place
 pub found_version : (es : List (Place × Option (List ℕ))) (p : Place) → lookup (is_at (place_cmp p)) es ≡ lookup_version es p.key p.stamp
 found_version [] p = refl
 found_version (e ∷ es) p =
     let here : is_at (place_cmp p) e.0 ≡ (key_eq e.0.key p.key && nat_eq e.0.stamp p.stamp) =
-    is_at-place p e.0 ∙ (λ i. key_eq-swap p.key e.0.key i && stamps-swap p.stamp e.0.stamp i) in
+    is_at-place p e.0 ∙ (λ i. key_eq-swap p.key e.0.key i && nat_eq_equiv.symm p.stamp e.0.stamp i) in
     ap (λ (b : Bool). if b then Some e.1 else lookup (is_at (place_cmp p)) es) here
     ∙ ap (λ (r : Option (Option (List ℕ))). if key_eq e.0.key p.key && nat_eq e.0.stamp p.stamp then Some e.1 else r) (found_version es p)
 

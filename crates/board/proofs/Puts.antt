@@ -1,43 +1,16 @@
 -- What a map has at a key, and what is found there after a change.
-use Rattle.std.proofs.Common.{◌≡◌, ℕ, zero, suc, ◌&&◌, ◌||◌, Bool, true, false, cond, List, [], ◌∷◌, drop, take, Option, Some, None, is_some, if◌then◌else◌, get_or, length, ◌<◌, refl, sym, ap, ◌∙◌, subst, rules, arith, nat_eq}
-use Rattle.std.proofs.lemmas.Bool.Decides.{nat_tests}
-use Rattle.std.specs.declared.cmp.Ordering.{Ordering}
-use Rattle.std.specs.declared.cmp.Ordering.TheVariants.{Less, Equal, Greater}
-use Rattle.std.specs.Ordering.{nat_cmp, ordering_then, is_eq}
+use Rattle.std.proofs.Common.{◌≡◌, ℕ, zero, suc, ◌||◌, Bool, true, false, cond, List, [], ◌∷◌, drop, take, Option, Some, None, is_some, if◌then◌else◌, get_or, length, ◌<◌, refl, sym, ap, ◌∙◌, subst, rules, arith}
 use Rattle.std.specs.BTreeMap.{is_at}
 use Rattle.std.specs.Map.{lookup}
 use Rattle.base.specs.declared.key.Key.{Key}
 use Rattle.base.specs.Keys.{key_eq, lookup_key}
 use Rattle.base.specs.Commits.{Commit, writes_key}
+use Rattle.base.proofs.KeyOrder.{is_at-key, key_cmp, looked-up}
 use Rattle.board.specs.Cells.{after_commits, is_written}
-
--- the order of keys
-abbrev pub key_cmp : Key → Key → Ordering
-key_cmp a b = ordering_then (nat_cmp a.table b.table) (nat_cmp a.key b.key)
-
-pub is_eq-then : (o p : Ordering) → is_eq (ordering_then o p) ≡ (is_eq o && is_eq p)
-is_eq-then Less p = refl
-is_eq-then Equal p = refl
-is_eq-then Greater p = refl
-
-pub is_eq-nat : (a b : ℕ) → is_eq (nat_cmp a b) ≡ nat_eq a b
-is_eq-nat a b = grind (arith, nat_tests)
-
--- the order tells two keys apart exactly where they differ
-pub is_at-key : (key other : Key) → is_at (key_cmp key) other ≡ key_eq key other
-is_at-key key other =
-    is_eq-then (nat_cmp key.table other.table) (nat_cmp key.key other.key)
-    ∙ (λ i. is_eq-nat key.table other.table i && is_eq-nat key.key other.key i)
-
-pub key_eq-swap : (a b : Key) → key_eq a b ≡ key_eq b a
-key_eq-swap a b = grind (arith, nat_tests)
 
 -- a map finds the first entry with the key
 pub found : (es : List (Key × List ℕ)) (key : Key) → lookup (is_at (key_cmp key)) es ≡ lookup_key es key
-found [] key = refl
-found (e ∷ es) key =
-    ap (λ (b : Bool). if b then Some e.1 else lookup (is_at (key_cmp key)) es) (is_at-key key e.0 ∙ key_eq-swap key e.0)
-    ∙ ap (λ (r : Option (List ℕ)). if key_eq e.0 key then Some e.1 else r) (found es key)
+found es key = sym (looked-up es key)
 
 -- what is found after a change of one key
 pub changed_at : (es fs : List (Key × List ℕ)) (key : Key) (row : Option (List ℕ))

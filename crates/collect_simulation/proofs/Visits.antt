@@ -1,7 +1,7 @@
 -- Where a visit leads.
 use Rattle.std.proofs.Common.{◌≡◌, ◌≢◌, ◌⊎◌, inl, inr, ℕ, suc, zero, ◌+◌, ◌*◌, ◌/◌, ◌<◌, ◌≤◌, Bool, true, false, cond, not, ◌&&◌, List, [], ◌∷◌, ◌++◌, take, refl, sym, ◌∙◌, ap, subst, arith, true≢false}
 use Rattle.std.specs.Prelude.{nat_eq, Option, Some, None}
-use Rattle.std.proofs.lemmas.Bool.{cases_eq, and_parts, ltb-true, ltb-false}
+use Rattle.std.proofs.lemmas.Bool.{cases_eq, and_parts, ltb-true, ltb-false, not-true}
 use Rattle.base.specs.declared.gap.Gap.{Gap}
 use Rattle.base.specs.Actors.{collector}
 use Rattle.base.specs.Layout.{Layout, slot_start, total_words}
@@ -33,10 +33,6 @@ use Rattle.collect_simulation.proofs.WithoutOperations.{upholds-moved}
 
 -- ---- whether a sweep is due
 
-not-false : (b : Bool) → not b ≡ true → b ≡ false
-not-false true e = cc e
-not-false false e = refl
-
 -- no gap stands, or they are swept
 not-sweeping : (q : State) → is_sweeping q ≡ false → (q.swept ≡ true) ⊎ (q.ruling.gaps ≡ [])
 not-sweeping q is = by q.swept refl q.ruling.gaps refl is
@@ -47,7 +43,7 @@ not-sweeping q is = by q.swept refl q.ruling.gaps refl is
     by false swept (gap ∷ gaps) same e = absurd (true≢false e)
 
 unswept-of : (q : State) → is_sweeping q ≡ true → q.swept ≡ false
-unswept-of q is = not-false q.swept (and_parts (not q.swept) (not (is_nil q.ruling.gaps)) is).0
+unswept-of q is = not-true q.swept (and_parts (not q.swept) (not (is_nil q.ruling.gaps)) is).0
 
 -- ---- the state after a visit
 

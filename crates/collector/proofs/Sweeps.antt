@@ -1,5 +1,5 @@
 -- The operations of a sweep, from those of its parts.
-use Rattle.std.proofs.Common.{◌≡◌, ◌≢◌, ℕ, ◌+◌, ◌/◌, Bool, true, false, cond, List, [], ◌∷◌, ◌++◌, Result, Ok, Err, OnErr, sym, ◌∙◌, ap, subst, arith}
+use Rattle.std.proofs.Common.{◌≡◌, ◌≢◌, ℕ, ◌+◌, ◌/◌, Bool, true, false, cond, List, [], ◌∷◌, ◌++◌, sym, ◌∙◌, ap, subst, arith}
 use Rattle.base.specs.declared.gap.Gap.{Gap}
 use Rattle.base.specs.Actors.{collector}
 use Rattle.base.specs.Layout.{Layout, slot_start}
@@ -10,10 +10,6 @@ use Rattle.pmem.specs.Trace.{Operation, store_op, flush_op, Runs, StopsWithin}
 use Rattle.pmem.proofs.OperationEffects.{value-stored_other}
 use Rattle.pmem.proofs.Traces.{runs-then, runs-more, stops-one, stops-first, stops-then}
 use Rattle.collector.specs.Sweeping.{zero_operations, sweep_operations}
-
-pub on_err : {T E P : Type 0} (r : Result T E) → P → OnErr r P
-on_err (Ok x) p = tt
-on_err (Err e) p = p
 
 pub zero-stops : (gaps : List Gap) (word value : ℕ) (old new : Device) → is_in gaps value ≡ true → IsOrderly old → IsOrderly new → new ≡ failed old → StopsWithin (zero_operations gaps word value) old new
 zero-stops gaps word value old new gap orderly orderly' is =

@@ -1,6 +1,6 @@
 -- Words that give an order are read: what each part of them leaves to be given by the others.
 use Rattle.std.proofs.Common.{◌≡◌, ◌≢◌, ℕ, suc, ◌+◌, ◌^◌, Bool, List, [], ◌∷◌, ◌++◌, true, false, Option, Some, None, refl, sym, inl, inr, ◌∙◌, ap, subst, is_some, length, drop, slice_index, arith, Bor}
-use Rattle.std.proofs.lemmas.List.{length-append}
+use Rattle.std.proofs.lemmas.List.{length-append, nil_from_length}
 use Rattle.std.specs.Prelude.{IsSomeAnd, IfSome}
 use Rattle.std.specs.List.{flat_map}
 use Rattle.command_line.specs.Lines.{texts}
@@ -19,10 +19,6 @@ cons_not_nil x xs h = let e : suc (length xs) ≡ 0 = ap length h in absurd (ome
 
 pub no_cons : {A : Type 0} (x : A) (xs : List A) → [] ≡ x ∷ xs → ⊥
 no_cons x xs h = cons_not_nil x xs (sym h)
-
-pub empty-of : {A : Type 0} (xs : List A) → length xs ≡ 0 → xs ≡ []
-empty-of [] h = refl
-empty-of (x ∷ xs) h = absurd (omega (arith, h))
 
 pub same_head : {A : Type 0} (x y : A) (xs ys : List A) → x ∷ xs ≡ y ∷ ys → x ≡ y
 same_head x y xs ys h = cc h
@@ -392,7 +388,7 @@ no_number _ = refl
 
 pub nothing_given : (words : List (Bor Text)) (given : Given) → length words ≡ 0 → AreGiven (texts words) given → Agrees nothing given
 nothing_given words given none (parts, spelled, shown) =
-    let empty : flat_map words_of_part parts ≡ [] = spelled ∙ ap texts (empty-of words none) in
+    let empty : flat_map words_of_part parts ≡ [] = spelled ∙ ap texts (nil_from_length words none) in
     nothing-by parts given nothing empty shown (record { file = refl; numbers = no_number; narrow = refl })
 
 -- an option and its value in the next word
@@ -417,7 +413,7 @@ pub no_value : (words rest : List (Bor Text)) (first : Bor Text) (choice : Choic
 no_value words rest first choice given e1 e2 name (parts, spelled, shown) =
     let all : texts words ≡ option_word choice ∷ texts rest = ap texts e1 ∙ ap (λ w. w ∷ texts rest) name in
     let s : Spaced choice (texts rest) given = as_spaced choice (texts rest) parts given (spelled ∙ all) shown in
-    no_cons s.value s.more (sym (ap texts (empty-of rest e2)) ∙ s.spelled)
+    no_cons s.value s.more (sym (ap texts (nil_from_length rest e2)) ∙ s.spelled)
 
 -- an option and its value in one word
 pub joined_rest : (words rest : List (Bor Text)) (first : Bor Text) (value : Text) (choice : Choice) (given : Given)

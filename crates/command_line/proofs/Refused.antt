@@ -2,6 +2,7 @@
 use Rattle.std.proofs.Common.{◌≡◌, ◌≢◌, ◌≤◌, ℕ, Bool, List, [], ◌∷◌, true, false, Option, Some, None, refl, sym, ◌∙◌, ap, subst, inl, inr, unwrap_or, codes, length, is_some, slice_index, arith, Bor}
 use Rattle.std.specs.Prelude.{IfNone, IfSome, IsOk, Result, Ok, Err, is_err, ◌↔◌}
 use Rattle.std.specs.List.{flat_map}
+use Rattle.std.proofs.lemmas.List.{nil_from_length}
 use Rattle.base.specs.Layout.{is_in_limits}
 use Rattle.command_line.specs.Lines.{texts}
 use Rattle.command_line.specs.Numbers.{Text}
@@ -13,7 +14,7 @@ use Rattle.command_line.specs.declared.orders.Choice.TheVariants.{Slots, Places,
 use Rattle.command_line.specs.declared.orders.Order.{Order}
 use Rattle.command_line.specs.declared.orders.Order.TheVariants.{Format, Run, Check, Lives, Threads}
 use Rattle.command_line.proofs.OptionParts.{each_choice, has_number}
-use Rattle.command_line.proofs.Complete.{empty-of, no_cons, same_head, same_tail}
+use Rattle.command_line.proofs.Complete.{no_cons, same_head, same_tail}
 
 -- ---- the subcommands
 
@@ -230,10 +231,6 @@ narrow_given words found given narrow = width_given words found given ∙ ap fla
 pub taken : (o : Option ℕ) → is_some o ≡ true → o ≡ None → ⊥
 taken o some none = let never : is_some o ≡ false = ap is_some none in cc (some, never)
 
-pub untaken : (o : Option ℕ) → is_some o ≡ false → o ≡ None
-untaken None is = refl
-untaken (Some n) is = cc is
-
 pub none_so : (o : Option Order) (P : Type 0) → o ≡ None → P → IfNone o P
 none_so None P e p = p
 none_so (Some order) P e p = tt
@@ -241,7 +238,7 @@ none_so (Some order) P e p = tt
 -- ---- the subcommand
 
 pub no_words : (words : List (Bor Text)) → length words ≡ 0 → GivesNothing (texts words)
-no_words words none order (rest, e, g) = no_cons _ rest (sym (ap texts (empty-of words none)) ∙ e)
+no_words words none order (rest, e, g) = no_cons _ rest (sym (ap texts (nil_from_length words none)) ∙ e)
 
 -- the words begin with this one
 named : (words rest : List (Bor Text)) (first : Bor Text) (other : Text) (more : List Text) → words ≡ first ∷ rest → texts words ≡ other ∷ more

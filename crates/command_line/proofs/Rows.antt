@@ -1,6 +1,6 @@
 -- A row's text reads as the row, and no other text does.
 use Rattle.std.proofs.Common.{◌≡◌, ◌≢◌, ℕ, zero, suc, nat_le, ◌-◌, ◌+◌, ◌*◌, ◌/◌, ◌%◌, ◌<◌, Bool, true, false, not, ◌&&◌, ◌||◌, ◌==◌, List, [], ◌∷◌, Option, Some, None, Result, Ok, Err, length, slice_index, codes, refl, sym, ◌∙◌, ap, arith, inl, inr, is_some, unwrap_or, if◌then◌else◌}
-use Rattle.std.proofs.lemmas.Bool.{cases_eq, eqb-true}
+use Rattle.std.proofs.lemmas.Bool.{cases_eq, eqb-true, not-true, or_parts, and_parts, false_from_ne_true}
 use Rattle.std.proofs.lemmas.Slice.Eq.{bytes_eq-Decides}
 use Rattle.std.proofs.lemmas.List.Sums.{AllPass-from_list_all, list_all-from_AllPass}
 use Rattle.std.specs.Char.{is_ascii_hexdigit, is_ascii_uppercase}
@@ -18,14 +18,10 @@ abbrev all_below : ℕ → (ℕ → Bool) → Bool
 all_below zero p = true
 all_below (suc n) p = p n && all_below n p
 
-both : (a b : Bool) → (a && b) ≡ true → (a ≡ true) × (b ≡ true)
-both true b h = (refl, h)
-both false b h = cc h
-
 all_below-at : (n : ℕ) (p : ℕ → Bool) (k : ℕ) → k < n → all_below n p ≡ true → p k ≡ true
 all_below-at zero p k lt h = absurd (omega arith)
 all_below-at (suc n) p k lt h =
-    let parts = both (p n) (all_below n p) h in
+    let parts = and_parts (p n) (all_below n p) h in
     elim (cases_eq k n) [
       | inl same ↦ rw same parts.0
       | inr other ↦ all_below-at n p k (omega arith) parts.1
@@ -48,12 +44,8 @@ digit_back c v h low =
 abbrev is_lower_digit_at : ℕ → Bool
 is_lower_digit_at d = not (is_ascii_uppercase (slice_index lower_digits d))
 
-not_true : (b : Bool) → not b ≡ true → b ≡ false
-not_true false h = refl
-not_true true h = cc h
-
 digit_is_lower : (d : ℕ) → d < 16 → is_ascii_uppercase (slice_index lower_digits d) ≡ false
-digit_is_lower d lt = not_true _ (all_below-at 16 is_lower_digit_at d lt refl)
+digit_is_lower d lt = not-true _ (all_below-at 16 is_lower_digit_at d lt refl)
 
 bind_ok : {A B : Type 0} (r : Result A FromHexError) (f : A → Result B FromHexError) (y : B)
     → (r >>= f) ≡ Ok y → (x : A) × (r ≡ Ok x) × (f x ≡ Ok y)
@@ -66,10 +58,6 @@ digit_read c i None v h = cc h
 
 digit-small : (c v : ℕ) → hex_digit_value c ≡ Some v → v < 16
 digit-small c v h = grind (arith)
-
-neither : (a b : Bool) → (a || b) ≡ false → (a ≡ false) × (b ≡ false)
-neither false b h = (refl, h)
-neither true b h = cc h
 
 -- lower case digits are those of the bytes that they decode to
 encode-decode_pairs : (i : ℕ) (s bytes : List ℕ) → decode_pairs i s ≡ Ok bytes → list_any is_ascii_uppercase s ≡ false → encode_lower bytes ≡ s
@@ -84,8 +72,8 @@ encode-decode_pairs i (a ∷ b ∷ rest) bytes h low =
     let p2 = bind_ok (value_at b (i + 1)) _ p0.0 p1.2 in
     let p3 = bind_ok (decode_pairs (i + 2) rest) _ bytes p0.2 in
     let e : p0.0 ∷ p3.0 ≡ bytes = ap (λ (r : Result (List ℕ) FromHexError). result_unwrap_or r []) p3.2 in
-    let l0 = neither (is_ascii_uppercase a) _ low in
-    let l1 = neither (is_ascii_uppercase b) _ l0.1 in
+    let l0 = or_parts (is_ascii_uppercase a) _ low in
+    let l1 = or_parts (is_ascii_uppercase b) _ l0.1 in
     let ih = encode-decode_pairs (i + 2) rest p3.0 p3.1 l1.1 in
     let va = digit_read a i (hex_digit_value a) p1.0 p1.1 in
     let vb = digit_read b (i + 1) (hex_digit_value b) p2.0 p2.1 in
@@ -126,7 +114,7 @@ pub row_of-spelled : (text bytes : List ℕ) → row_of text ≡ Some bytes → 
 row_of-spelled text bytes h =
     spelled_by text bytes (bytes_eq text (codes "-")) (length text == 0 || list_any is_ascii_uppercase text)
     (bytes_eq-Decides text (codes "-")).0
-    (λ n. let parts = neither (length text == 0) (list_any is_ascii_uppercase text) n in
+    (λ n. let parts = or_parts (length text == 0) (list_any is_ascii_uppercase text) n in
     (λ zero_length. let yes : (length text == 0) ≡ true = rw zero_length refl in cc (yes, parts.0), parts.1))
     h
 
@@ -140,18 +128,14 @@ no_upper_case (b ∷ rest) h =
     let ih = no_upper_case rest (λ k. h (suc k)) in
     rw (high, low, ih) refl
 
-never_true : (b : Bool) → (b ≡ true → ⊥) → b ≡ false
-never_true false h = refl
-never_true true h = absurd (h refl)
-
 -- the text of a row is read as the row
 pub row_of-row_text : (bytes : List ℕ) → IsBytes bytes → row_of (row_text bytes) ≡ Some bytes
 row_of-row_text [] h = refl
 row_of-row_text (b ∷ rest) h =
     let t : Text = encode_lower (b ∷ rest) in
     let size : length t ≡ 2 * length (b ∷ rest) = length-encode_with lower_digits (b ∷ rest) in
-    let dash : bytes_eq t (codes "-") ≡ false = never_true _ (λ yes. let e = ap length ((bytes_eq-Decides t (codes "-")).0 yes) in omega (arith, e, size)) in
-    let some : (length t == 0) ≡ false = never_true _ (λ yes. let e = eqb-true (length t) 0 yes in omega (arith, e, size)) in
+    let dash : bytes_eq t (codes "-") ≡ false = false_from_ne_true _ (λ yes. let e = ap length ((bytes_eq-Decides t (codes "-")).0 yes) in omega (arith, e, size)) in
+    let some : (length t == 0) ≡ false = false_from_ne_true _ (λ yes. let e = eqb-true (length t) 0 yes in omega (arith, e, size)) in
     let low : list_any is_ascii_uppercase t ≡ false = no_upper_case (b ∷ rest) h in
     let read : decode_of t ≡ Ok (b ∷ rest) = decode_of-encode_lower (b ∷ rest) h in
     rw (dash, some, low, read) refl
@@ -186,7 +170,7 @@ is_hex text = length text % 2 == 0 && list_all is_ascii_hexdigit text
 
 decodes : (text : Text) → is_hex text ≡ true → (bytes : List ℕ) × (decode_of text ≡ Ok bytes)
 decodes text h =
-    let parts = both (length text % 2 == 0) (list_all is_ascii_hexdigit text) h in
+    let parts = and_parts (length text % 2 == 0) (list_all is_ascii_hexdigit text) h in
     decode_of-digits text (eqb-true (length text % 2) 0 parts.0)
     (AllPass-from_list_all is_hex_digit text (all-same is_hex_digit is_ascii_hexdigit hex_digit-same text ∙ parts.1))
 

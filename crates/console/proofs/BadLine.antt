@@ -6,6 +6,7 @@ use Rattle.base.specs.Commits.{Commit}
 use Rattle.base.specs.Machine.{State}
 use Rattle.base.specs.Openings.{OpensAs}
 use Rattle.base.specs.Stands.{Stands}
+use Rattle.base.proofs.Options.{is_some-none}
 use Rattle.pmem.specs.Device.{Device}
 use Rattle.pmem.specs.declared.device.Pmem.{Ghosts}
 use Rattle.room.specs.Room.{Shows}
@@ -28,7 +29,7 @@ use Rattle.console.specs.Obeyed.{ObeysLines}
 use Rattle.console.specs.declared.stop.Stop.{Stop}
 use Rattle.console.specs.declared.stop.Stop.TheVariants.{Refused, NotACommand, Broken}
 use Rattle.console.proofs.Lives.{begun-of}
-use Rattle.console.proofs.Obeyed.{appends-more, appends-none, none-of}
+use Rattle.console.proofs.Obeyed.{appends-more, appends-none}
 
 -- ---- what a line keeps
 
@@ -40,7 +41,7 @@ pub skipped-so : (line : Text) → line_of line ≡ Some None → kept_in line �
 skipped-so line is = ap (λ (read : Option (Option Command)). option_map (option_and_then kept_by) read) is
 
 pub passed-so : (line : Text) (keeps : Option Survivor) → is_some keeps ≡ false → kept_in line ≡ Some keeps → IsPassed line
-passed-so line keeps none is = is ∙ ap (λ (k : Option Survivor). Some k) (none-of keeps none)
+passed-so line keeps none is = is ∙ ap (λ (k : Option Survivor). Some k) (is_some-none keeps none)
 
 -- ---- who is to blame
 

@@ -1,6 +1,8 @@
 -- Ticks of the committer after which there is nothing to do.
 use Rattle.std.proofs.Common.{◌≡◌, Bool, true, false, cond, refl, sym, ◌∙◌, ap, subst}
 use Rattle.std.specs.Prelude.{Option, Some, None, is_none, is_some, not, ◌&&◌}
+use Rattle.std.proofs.lemmas.Option.{none-some}
+use Rattle.std.proofs.lemmas.Bool.{true≢false}
 use Rattle.base.specs.declared.fault.Fault.{Fault}
 use Rattle.base.specs.declared.step.Step.TheVariants as step
 use Rattle.base.specs.declared.step.Stage.{Stage}
@@ -12,9 +14,6 @@ use Rattle.base.specs.Machine.{State, Hand, Stepped, refused, answered, memory_r
 use Rattle.console.specs.Obeyed.{is_busy}
 use Rattle.console.specs.Rounds.{QuietTicks}
 
-never : true ≡ false → ⊥
-never e = cc e
-
 -- ---- what a tick answers
 
 -- of those that aren't refused, Idle alone leaves nothing to do
@@ -23,12 +22,12 @@ idle-by q None e = by (is_idle q) e
   where
     by : (b : Bool) → is_busy (cond b reply.Idle (reply.Ticked Chosen)) ≡ false → cond b reply.Idle (reply.Ticked Chosen) ≡ reply.Idle
     by true e = refl
-    by false e = absurd (never e)
+    by false e = absurd (true≢false e)
 idle-by q (Some hand) e = by _ e
   where
     by : (stage : Option Stage) → is_busy (ticked_on q hand stage) ≡ false → ticked_on q hand stage ≡ reply.Idle
-    by None e = absurd (never e)
-    by (Some stage) e = absurd (never e)
+    by None e = absurd (true≢false e)
+    by (Some stage) e = absurd (true≢false e)
 
 -- no batch is in hand, and there is nothing to choose
 record IsQuiet (q : State) (hand : Option Hand) : Type 0 where
@@ -41,31 +40,28 @@ quiet-of q None e = record { none = refl; idle = by (is_idle q) e; still = so (i
   where
     by : (b : Bool) → cond b reply.Idle (reply.Ticked Chosen) ≡ reply.Idle → b ≡ true
     by true e = refl
-    by false e = absurd (never (ap is_busy e))
+    by false e = absurd (true≢false (ap is_busy e))
 
     so : (b : Bool) → cond b reply.Idle (reply.Ticked Chosen) ≡ reply.Idle → cond b q (record q { hand = Some (taken_in_hand q) }) ≡ q
     so true e = refl
-    so false e = absurd (never (ap is_busy e))
+    so false e = absurd (true≢false (ap is_busy e))
 quiet-of q (Some hand) e = absurd (by _ e)
   where
     by : (stage : Option Stage) → ticked_on q hand stage ≡ reply.Idle → ⊥
-    by None e = never (ap is_busy e)
-    by (Some stage) e = never (ap is_busy e)
+    by None e = true≢false (ap is_busy e)
+    by (Some stage) e = true≢false (ap is_busy e)
 
 -- ---- steps
 
 refused-not : (fault : Fault) → reply.Idle ≡ reply.Refused fault → ⊥
 refused-not fault e = cc e
 
-none-not : (fault : Fault) (r : Option Fault) → r ≡ None → r ≡ Some fault → ⊥
-none-not fault r a b = cc
-
 stay : (q q' : State) (answer : Reply) → Stepped q step.Commit answer q' → is_busy answer ≡ false → is_failure answer ≡ false → q' ≡ q
 stay q q' answer (refused fault why is same) quiet works = same
 stay q q' answer (answered none says is) quiet works =
     is ∙ (quiet-of q q.hand (idle-by q q.hand (ap is_busy (sym says) ∙ quiet))).still
 stay q q' answer (memory_refused none takes is same) quiet works = same
-stay q q' answer (device_failed none operates is fails) quiet works = absurd (never (ap is_failure (sym is) ∙ works))
+stay q q' answer (device_failed none operates is fails) quiet works = absurd (true≢false (ap is_failure (sym is) ∙ works))
 
 -- where a tick answered Idle, it was allowed, and changed nothing
 record WasIdle (q q' : State) : Type 0 where
@@ -82,15 +78,15 @@ was-idle q q' (memory_refused none takes is same) = absurd (refused-not _ is)
 was-idle q q' (device_failed none operates is fails) = absurd (refused-not _ is)
 
 again : (q q' after : State) (answer : Reply) → WasIdle q q' → Stepped q step.Commit answer after → answer ≡ reply.Idle
-again q q' after answer was (refused fault why is same) = absurd (none-not fault _ was.allowed why)
+again q q' after answer was (refused fault why is same) = absurd (none-some fault (sym was.allowed ∙ why))
 again q q' after answer was (answered none says is) = says ∙ was.answers
 again q q' after answer was (memory_refused none takes is same) =
-    absurd (never (sym takes ∙ ap (λ (idle : Bool). is_none q.hand && not idle) was.quiet.idle ∙ none-chosen (is_none q.hand)))
+    absurd (true≢false (sym takes ∙ ap (λ (idle : Bool). is_none q.hand && not idle) was.quiet.idle ∙ none-chosen (is_none q.hand)))
   where
     none-chosen : (b : Bool) → (b && false) ≡ false
     none-chosen true = refl
     none-chosen false = refl
-again q q' after answer was (device_failed none operates is fails) = absurd (never (sym operates ∙ ap (λ (hand : Option Hand). is_some hand) was.quiet.none))
+again q q' after answer was (device_failed none operates is fails) = absurd (true≢false (sym operates ∙ ap (λ (hand : Option Hand). is_some hand) was.quiet.none))
 
 pub quiet : QuietTicks
 quiet = record {

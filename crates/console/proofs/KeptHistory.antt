@@ -11,11 +11,11 @@ use Rattle.base.specs.Machine.{State, Stepped, Hand, Cover, StandsUnder, StandsA
 use Rattle.pmem.specs.Device.{Device, restarted}
 use Rattle.pmem.specs.Words.{image_of}
 use Rattle.pmem.specs.declared.device.Pmem.{Ghosts}
+use Rattle.pmem.proofs.Restarted.{image-restarted}
 use Rattle.room.specs.Room.{Shows, StepsTo}
 use Rattle.room.specs.declared.room.Room.{Room}
 use Rattle.command_line.specs.ImageFile.{IsFileOf}
 use Rattle.console.specs.Kept.{Extends, Leads, KeepsHistory, KeepsHistories}
-use Rattle.recovery.proofs.Restarted.{image-restarted}
 
 pub extends-none : (history : List Commit) → Extends history history
 extends-none history = ([], sym (append-nil history))

@@ -1,6 +1,6 @@
 -- How ticks, commands and lines add up.
 use Rattle.std.proofs.Common.{◌≡◌, ℕ, ◌-◌, ◌≤◌, ◌^◌, suc, List, [], ◌∷◌, ◌++◌, ◌⊎◌, Bool, true, false, refl, sym, ◌∙◌, ap, subst, append_assoc, append-nil}
-use Rattle.std.specs.Prelude.{Option, Some, None, is_some}
+use Rattle.std.specs.Prelude.{Option, Some, None}
 use Rattle.std.specs.Io.KnownBytes.{Appends}
 use Rattle.base.specs.declared.step.Step.{Step}
 use Rattle.base.specs.declared.step.Step.TheVariants as step
@@ -94,7 +94,3 @@ appends-more None mid new a b first second = tt
 appends-more (Some xs) None new a b first second = absurd first
 appends-more (Some xs) (Some ys) None a b first second = absurd second
 appends-more (Some xs) (Some ys) (Some zs) a b first second = second ∙ (ap (λ (l : List ℕ). l ++ b) first ∙ append_assoc xs a b)
-
-pub none-of : (keeps : Option Survivor) → is_some keeps ≡ false → keeps ≡ None
-none-of None e = refl
-none-of (Some survivor) e = cc

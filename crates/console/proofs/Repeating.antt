@@ -1,6 +1,6 @@
 -- Visits of the collector that nothing comes between.
 use Rattle.std.proofs.Common.{◌≡◌, ◌⊎◌, inl, inr, ℕ, zero, suc, ◌+◌, ◌-◌, ◌*◌, ◌/◌, ◌%◌, ◌<◌, ◌≤◌, ◌&&◌, Bool, true, false, cond, nat_le, refl, sym, ◌∙◌, ap, subst, arith}
-use Rattle.std.specs.Prelude.{IsTrue, Option, Some, None}
+use Rattle.std.specs.Prelude.{Option, Some, None}
 use Rattle.std.specs.Option.{option_or}
 use Rattle.std.proofs.lemmas.Bool.{leb-false, leb-true, and_parts}
 use Rattle.std.proofs.lemmas.Nat.{div-add-mod'}
@@ -9,16 +9,15 @@ use Rattle.base.specs.declared.fault.Fault.TheVariants.{Failed}
 use Rattle.base.specs.declared.step.Step.TheVariants as step
 use Rattle.base.specs.declared.step.Reply.{Reply}
 use Rattle.base.specs.declared.step.Reply.TheVariants as reply
-use Rattle.base.specs.Layout.{Layout, is_in_limits, is_known_version, is_between}
+use Rattle.base.specs.Layout.{Layout, is_known_version, is_between}
 use Rattle.base.specs.Search.{some_if}
 use Rattle.base.specs.Machine.{State, Stepped, refused, answered, memory_refused, device_failed, refusal}
 use Rattle.base.specs.Collecting.{is_at_slot, visited, collected}
 use Rattle.base.specs.Rounds.{visits, round_of}
 use Rattle.base.proofs.Visiting.{visit-changes}
-use Rattle.base.proofs.Rounds.{rounds-repeat}
+use Rattle.base.proofs.Rounds.{rounds-repeat, visits-add, visits-split, layout-visits}
 use Rattle.pmem.specs.Device.{Device}
 use Rattle.pmem.specs.declared.device.Pmem.{Ghosts}
-use Rattle.workload.proofs.Slots.{few_slots as few}
 use Rattle.room.specs.Room.{Shows}
 use Rattle.room.specs.declared.room.Room.{Room}
 use Rattle.console.specs.Kept.{Leads}
@@ -27,19 +26,8 @@ use Rattle.console.specs.Rounds.{visits_needed, NeededAreEnough}
 
 -- ---- visits, one after another
 
-visits-after : (m n : ℕ) (q : State) → visits (m + n) q ≡ visits n (visits m q)
-visits-after zero n q = let e : zero + n ≡ n = omega arith in ap (λ (k : ℕ). visits k q) e
-visits-after (suc m) n q = let e : suc m + n ≡ suc (m + n) = omega arith in ap (λ (k : ℕ). visits k q) e ∙ visits-after m n (visited q)
-
-visits-in : (all m n : ℕ) (q : State) → all ≡ m + n → visits all q ≡ visits n (visits m q)
-visits-in all m n q e = ap (λ (k : ℕ). visits k q) e ∙ visits-after m n q
-
 one-more : (n : ℕ) (q : State) → visited (visits n q) ≡ visits (suc n) q
-one-more n q = sym (visits-in (suc n) n 1 q (omega arith))
-
-layout-stays : (n : ℕ) (q : State) → (visits n q).layout ≡ q.layout
-layout-stays zero q = refl
-layout-stays (suc n) q = layout-stays n (visited q) ∙ (visit-changes q).layout
+one-more n q = sym (visits-split (suc n) n 1 q (omega arith))
 
 works-still : (n : ℕ) (q : State) → q.failed ≡ false → (visits n q).failed ≡ false
 works-still zero q works = works
@@ -54,14 +42,14 @@ round layout = layout.slots + 1
 rounds-after : (q : State) (more : ℕ) → visits (round q.layout + more) q ≡ visits (round q.layout + more % round q.layout) q
 rounds-after q more =
     let settled = round_of q in
-    let same : round settled.layout ≡ round q.layout = ap round (layout-stays (round q.layout) q) in
+    let same : round settled.layout ≡ round q.layout = ap round (layout-visits (round q.layout) q) in
     let rounds = more / round q.layout in
     let rest = more % round q.layout in
     let parts : more ≡ rounds * round settled.layout + rest = sym (div-add-mod' more (round q.layout)) ∙ ap (λ (k : ℕ). rounds * k + rest) (sym same) in
-    visits-after (round q.layout) more q
+    visits-add (round q.layout) more q
     ∙ ap (λ (k : ℕ). visits k settled) parts
     ∙ rounds-repeat.repeat settled rounds rest (rounds-repeat.settle q)
-    ∙ sym (visits-after (round q.layout) rest q)
+    ∙ sym (visits-add (round q.layout) rest q)
 
 enough : (q : State) (all : ℕ) (few : Bool) → nat_le all (round q.layout) ≡ few
     → visits (cond few all (round q.layout + 1 + (all - round q.layout - 1) % round q.layout) - 1) q ≡ visits (all - 1) q
@@ -194,8 +182,3 @@ collects-so state old new layout all more answer laid few done made = record {
         one.2,
       );
 }
-
--- ---- the number of slots
-
-pub few_slots : (a : Layout) → IsTrue (is_in_limits a) → a.slots ≤ 65536
-few_slots a limits = few a limits

@@ -1,4 +1,5 @@
 -- What the steps that threads made of an image keep of it.
+use mathlib.Core.HLevel.{⊥_prop}
 use Rattle.std.proofs.Common.{◌≡◌, ◌≢◌, ◌⊎◌, ℕ, ◌*◌, Bool, true, false, List, [], ◌∷◌, ◌++◌, length, inl, inr, sym, ◌∙◌, ap, subst}
 use Rattle.std.proofs.Math.Logic.{∥∥₁_elim, ∥∥₁_map}
 use Rattle.std.specs.Prelude.{None, Option, Some}
@@ -71,9 +72,6 @@ load-fault file words slice sessions old fault size holds same (inl memory) = in
 load-fault file words slice sessions old fault size holds same (inr is) =
     inr (inr (record { size = size; image = words; holds = holds; is = subst (λ (i : Image). IsThreadsFault sessions i fault) same is }), appends-none old)
 
-no-fact : (a b : ⊥) → a ≡ b
-no-fact a b = absurd a
-
 -- what is told of a load on a device without a fuse
 pub load-told : (image : Image) (sessions : ℕ) (fault told : Fault) → (fault ≡ DeviceFault → told ≡ OutOfMemory) → (told ≡ OutOfMemory) ⊎ (told ≡ fault)
     → IsLoadFault image sessions fault → (told ≡ OutOfMemory) ⊎ IsThreadsFault sessions image told
@@ -102,8 +100,8 @@ not-slots state room words sessions fault free run other = record {
         (
           made.2,
           record {
-            slots = λ e. ∥∥₁_elim run no-fact (λ h. let r = h.2.runs history drawn next [] stands in (other r.now r.shows).slots e);
-            device = λ e. ∥∥₁_elim run no-fact (λ h. let r = h.2.runs history drawn next [] stands in (other r.now r.shows).device e);
+            slots = λ e. ∥∥₁_elim run ⊥_prop (λ h. let r = h.2.runs history drawn next [] stands in (other r.now r.shows).slots e);
+            device = λ e. ∥∥₁_elim run ⊥_prop (λ h. let r = h.2.runs history drawn next [] stands in (other r.now r.shows).device e);
           },
         ),
       );

@@ -15,7 +15,7 @@ pub fn ticks_made(all: u64) -> u64
 
 /// How many visits of the collector come to what so many come to: a round visits each slot and the closing place, and after
 /// a whole one further rounds change nothing.
-#[tactic(auto, using(crate::proofs::Repeating::few_slots))]
+#[tactic(auto, using(base::proofs::Layouts::few_slots))]
 pub fn visits_needed(geometry: Geometry, all: u64) -> u64
     ensures { result ≡ visits_needed geometry all }
 {

@@ -1,8 +1,7 @@
 -- From which state a close goes on, after a tick or a stamp.
 use Rattle.std.proofs.Common.{◌≡◌, ◌⊎◌, inl, inr, ℕ, ◌+◌, ◌-◌, Bool, true, false, cond, not, ◌&&◌, ◌||◌, List, [], ◌∷◌, ◌++◌, map, filter, refl, sym, ◌∙◌, ap, subst, arith, append_assoc, true≢false}
 use Rattle.std.specs.Prelude.{Option, Some, None, is_none, nat_eq, IsTrue, Contains, if◌then◌else◌}
-use Rattle.std.specs.List.{list_all}
-use Rattle.std.proofs.lemmas.Bool.{and_parts, and_from, or_left, or_right}
+use Rattle.std.proofs.lemmas.Bool.{or_left, or_right}
 use Rattle.std.proofs.lemmas.List.Folds.{list_any-append}
 use Rattle.std.proofs.lemmas.List.Elements.{Contains-append_cases}
 use Rattle.base.specs.declared.fault.Fault.{Fault}
@@ -14,8 +13,11 @@ use Rattle.base.specs.Commits.{Commit}
 use Rattle.base.specs.Images.{Image, ruling}
 use Rattle.base.specs.Records.{is_committed}
 use Rattle.base.specs.Stands.{Stands, has_timestamp}
-use Rattle.base.specs.Machine.{State, Cover, Drawn, Hand, Stepped, refused, answered, memory_refused, device_failed, refusal, is_idle, next_stage, next_state, state_ticked, state_ticked_on, state_covered, present, covers_at, closed, uncovered, in_hand, drawn_of, counted, timestamp_of, StandsUnder, StandsWithin, StandsClosing}
+use Rattle.base.specs.Machine.{State, Cover, Drawn, Hand, Stepped, refused, answered, memory_refused, device_failed, refusal, is_idle, next_stage, next_state, state_ticked, state_ticked_on, state_covered, present, covers_at, closed, uncovered, in_hand, drawn_of, timestamp_of, StandsUnder, StandsWithin, StandsClosing}
+use Rattle.base.proofs.Lists.{filter-all}
+use Rattle.base.proofs.Counted.{counted-commits}
 use Rattle.state_invariant.specs.Kept.{KeepsHand}
+use Rattle.state_invariant.proofs.Lists.{all-filtered}
 use Rattle.device_invariant.specs.Laws.{one_tick_on}
 use Rattle.device_invariant.proofs.Upheld.{stands-in_hand}
 use Rattle.cycle_simulation.specs.Closing.{ClosesAs}
@@ -54,10 +56,6 @@ tick-on_within q hand in_hand = within-closing q (one_tick_on q hand) (λ cover 
 tick-covers_within : (q : State) (hand : Hand) → q.hand ≡ Some hand → (image : Image) → StandsWithin q (state_covered q hand) image → StandsClosing q image
 tick-covers_within q hand in_hand = within-closing q (state_covered q hand) (λ cover c. absurd (omega (arith, c.1))) (second-at q hand in_hand)
 
-filter-all : (cs : List Commit) → filter (λ (c : Commit). true) cs ≡ cs
-filter-all [] = refl
-filter-all (c ∷ cs) = ap (λ (rest : List Commit). c ∷ rest) (filter-all cs)
-
 filter-drawn : (p : Commit → Bool) (ds : List Drawn) → map (λ (d : Drawn). d.commit) (filter (λ (d : Drawn). p d.commit) ds) ≡ filter p (map (λ (d : Drawn). d.commit) ds)
 filter-drawn p [] = refl
 filter-drawn p (d ∷ ds) = by (p d.commit) (filter-drawn p ds)
@@ -88,19 +86,6 @@ closed-covered q hand k = λ i. record {
     listed : (q.history ++ hand.commits) ++ uncovered (state_covered q hand) ≡ q.history ++ (hand.commits ++ filter (λ (c : Commit). not (has_timestamp hand.commits c.timestamp)) (drawn_of q))
     listed = ap (λ (cs : List Commit). (q.history ++ hand.commits) ++ cs) rest ∙ append_assoc q.history hand.commits (filter (λ (c : Commit). not (has_timestamp hand.commits c.timestamp)) (drawn_of q))
 
--- what all have that a filter leaves, and each that it drops, all have
-all-filtered : (p : Commit → Bool) (drop : Drawn → Bool) (ds : List Drawn) → ((d : Drawn) → drop d ≡ true → p d.commit ≡ true) → list_all p (map (λ d. d.commit) (filter (λ d. not (drop d)) ds)) ≡ true → list_all p (map (λ d. d.commit) ds) ≡ true
-all-filtered p drop [] dropped all = refl
-all-filtered p drop (d ∷ ds) dropped all = by_test (drop d) refl all (all-filtered p drop ds dropped)
-  where
-    by_test : (b : Bool) → drop d ≡ b → list_all p (map (λ (d : Drawn). d.commit) (cond (not b) (d ∷ filter (λ d. not (drop d)) ds) (filter (λ d. not (drop d)) ds))) ≡ true
-        → (list_all p (map (λ (d : Drawn). d.commit) (filter (λ d. not (drop d)) ds)) ≡ true → list_all p (map (λ d. d.commit) ds) ≡ true)
-        → (p d.commit && list_all p (map (λ d. d.commit) ds)) ≡ true
-    by_test true is all rest = and_from (p d.commit) (list_all p (map (λ (d : Drawn). d.commit) ds)) (dropped d is) (rest all)
-    by_test false is all rest =
-        let both = and_parts (p d.commit) (list_all p (map (λ (d : Drawn). d.commit) (filter (λ d. not (drop d)) ds))) all in
-        and_from (p d.commit) (list_all p (map (λ (d : Drawn). d.commit) ds)) both.0 (rest both.1)
-
 -- where the batch's commits are covered, the state before may say so too
 under-covered : (q : State) (hand : Hand) (more : List Commit) (cover : Cover) (image : Image) → cover.commits ≡ (q.history ++ hand.commits) ++ more → StandsUnder (state_covered q hand) cover image → StandsUnder q cover image
 under-covered q hand more cover image is s = record {
@@ -108,7 +93,7 @@ under-covered q hand more cover image is s = record {
     sound = s.stands.sound;
     tables = s.stands.tables;
     covered = s.stands.covered;
-    left_out = all-filtered (λ (c : Commit). has_timestamp cover.commits c.timestamp || not (is_committed (ruling image) c.timestamp)) (λ (d : Drawn). has_timestamp hand.commits d.commit.timestamp) q.drawn
+    left_out = all-filtered (λ (c : Commit). has_timestamp cover.commits c.timestamp || not (is_committed (ruling image) c.timestamp)) (λ (d : Drawn). d.commit) (λ (d : Drawn). has_timestamp hand.commits d.commit.timestamp) q.drawn
         (λ d in_batch. or_left (has_timestamp cover.commits d.commit.timestamp) (not (is_committed (ruling image) d.commit.timestamp)) (has d.commit.timestamp in_batch))
         s.stands.left_out;
     reserved = s.stands.reserved;
@@ -185,18 +170,9 @@ module _ (q q' : State) (hand : Hand) (reply : Reply) (in_hand : q.hand ≡ Some
 
 -- ---- a stamp
 
-drawn-counted : (t : ℕ) (ds : List Drawn) → map (λ (d : Drawn). d.commit) (map (counted t) ds) ≡ map (λ (d : Drawn). d.commit) ds
-drawn-counted t [] = refl
-drawn-counted t (d ∷ ds) = by (nat_eq d.commit.timestamp t) (drawn-counted t ds)
-  where
-    by : (b : Bool) → map (λ (d : Drawn). d.commit) (map (counted t) ds) ≡ map (λ (d : Drawn). d.commit) ds
-        → (cond b (record { commit = d.commit; stamped = d.stamped + 1 }) d).commit ∷ map (λ (d : Drawn). d.commit) (map (counted t) ds) ≡ d.commit ∷ map (λ (d : Drawn). d.commit) ds
-    by true rest = ap (λ (cs : List Commit). d.commit ∷ cs) rest
-    by false rest = ap (λ (cs : List Commit). d.commit ∷ cs) rest
-
 stamp-closes : (q : State) (n : ℕ) → ClosesAs q (next_state q (Stamp n))
 stamp-closes q n =
-    let drawn : drawn_of (next_state q (Stamp n)) ≡ drawn_of q = drawn-counted (timestamp_of (q.sessions n)) q.drawn in
+    let drawn : drawn_of (next_state q (Stamp n)) ≡ drawn_of q = counted-commits (timestamp_of (q.sessions n)) q.drawn in
     closes-same q (next_state q (Stamp n)) refl drawn refl refl
     (ap (λ (ds : List Commit). let c : Cover = record { ruled_by = (closed q).ruled_by; commits = q.history ++ (in_hand q ++ filter (λ (c : Commit). not (has_timestamp (in_hand q) c.timestamp)) ds) } in c) drawn)
 

@@ -1,5 +1,5 @@
 -- The last part of a close: what is drawn is made to persist, and the record that covers it is written.
-use Rattle.std.proofs.Common.{◌≡◌, inl, inr, ℕ, zero, suc, ◌+◌, ◌-◌, ◌^◌, ◌<◌, ◌≤◌, true, cond, ◌||◌, List, [], ◌∷◌, ◌++◌, length, filter, take, refl, sym, ◌∙◌, ap, subst, arith}
+use Rattle.std.proofs.Common.{◌≡◌, inl, inr, ℕ, zero, suc, ◌+◌, ◌-◌, ◌^◌, ◌<◌, ◌≤◌, true, cond, ◌||◌, List, [], ◌∷◌, ◌++◌, length, take, refl, sym, ◌∙◌, ap, subst, arith}
 use Rattle.std.specs.Prelude.{Option, Some, is_some, slice_get, nat_eq}
 use Rattle.std.proofs.lemmas.Bool.{or_cases, cases_lt}
 use Rattle.std.proofs.lemmas.List.{take_all}
@@ -10,6 +10,9 @@ use Rattle.base.specs.Images.{Image, IsRuledBy}
 use Rattle.base.specs.Records.{Record, is_committed, is_well_formed}
 use Rattle.base.specs.Stands.{has_timestamp}
 use Rattle.base.specs.Machine.{State, Hand, Cover, chosen, reach, passed_over, standing_gaps, target_of, taken_in_hand, state_covered, present, uncovered, drawn_of, closed, closing_gate, StandsUnder, StandsClosing, StandsClosed}
+use Rattle.base.proofs.Lists.{all-drop, filter-all}
+use Rattle.base.proofs.Layouts.{has_window}
+use Rattle.base.proofs.Runs.{StandsAt-closing}
 use Rattle.pmem.specs.Device.{Device, MayLeave}
 use Rattle.pmem.specs.Words.{LeavesOnly, HasOldWords, Spares, value_of}
 use Rattle.pmem.proofs.Images.{leaves-flushed, leaves-fenced, leaves-failed}
@@ -19,9 +22,8 @@ use Rattle.log_area.proofs.Replacing.{holds_ruled}
 use Rattle.log_area.proofs.Rulings.{place_below}
 use Rattle.state_invariant.specs.Kept.{Origin, Keeps, KeepsHand, covered_since}
 use Rattle.state_invariant.specs.Shown.{word_of}
-use Rattle.state_invariant.proofs.Lists.{all-drop}
 use Rattle.state_invariant.proofs.Commits.{timestamp-all, committed-bounds}
-use Rattle.state_invariant.proofs.Choosing.{keeps-chosen, none-passed, all-are_chosen, window-limits}
+use Rattle.state_invariant.proofs.Choosing.{keeps-chosen, none-passed, all-are_chosen}
 use Rattle.state_invariant.proofs.Covering.{keeps-covered}
 use Rattle.state_invariant.proofs.Records.{well_formed-further}
 use Rattle.state_invariant.proofs.ShownCovering.{shows-covered}
@@ -39,7 +41,7 @@ use Rattle.device_invariant.proofs.Words.{word-within, slots-survive}
 use Rattle.pmem.proofs.Changes.{flushed-shrinks}
 use Rattle.cycle_simulation.specs.Closing.{closing_record, IsClosing, AreFlushed, HasPersisted, IsClosingOn}
 use Rattle.cycle_simulation.specs.Laws.{ClosingFlushes, ClosingWrites}
-use Rattle.cycle_simulation.proofs.Covers.{at-closing, at-first, closing-at, closing-last}
+use Rattle.cycle_simulation.proofs.Covers.{at-first, closing-at, closing-last}
 
 -- ---- the log
 
@@ -57,7 +59,7 @@ on-closing : (o : Origin) (q : State) (old new : Device) → IsClosing o q old �
 on-closing o q old new c u images = record { closing = record { works = c.works; rests = c.rests; stamped = c.stamped; upholds = u }; images = images }
 
 stands : (o : Origin) (q : State) (device : Device) → Upholds o q device → (image : Image) → MayLeave device image → StandsClosing q image
-stands o q device u image may = at-closing q image (every-image-stands o q device image u may)
+stands o q device u image may = StandsAt-closing q image (every-image-stands o q device image u may)
 
 pub closing-flushes : ClosingFlushes
 closing-flushes = record {
@@ -82,10 +84,6 @@ closing-flushes = record {
 
 -- ---- the batch of a close is the one that would be chosen
 
-keep-all : (cs : List Commit) → filter (λ (c : Commit). true) cs ≡ cs
-keep-all [] = refl
-keep-all (c ∷ cs) = ap (λ (rest : List Commit). c ∷ rest) (keep-all cs)
-
 module _ (o : Origin) (q : State) (device : Device) (c : IsClosing o q device) where
   kept : Keeps o q
   kept = c.upholds.keeps
@@ -101,7 +99,7 @@ module _ (o : Origin) (q : State) (device : Device) (c : IsClosing o q device) w
   all-chosen = all-are_chosen o q kept c.stamped
 
   all-uncovered : chosen q ≡ uncovered q
-  all-uncovered = all-chosen ∙ sym (ap (λ (h : Option Hand). uncovered (record q { hand = h })) c.rests ∙ keep-all (drawn_of q))
+  all-uncovered = all-chosen ∙ sym (ap (λ (h : Option Hand). uncovered (record q { hand = h })) c.rests ∙ filter-all (drawn_of q))
 
   -- each timestamp that was drawn is persisted
   reaches : reach q ≡ q.next - 1
@@ -202,7 +200,7 @@ module _ (o : Origin) (q : State) (device : Device) (c : IsClosing o q device) w
       in_range = omega (arith, kept.numbers.room, kept.numbers.persisted, window)
         where
           window : 0 < q.layout.window
-          window = window-limits q.layout kept.numbers.layout
+          window = has_window q.layout kept.numbers.layout
 
 -- ---- the record
 

@@ -13,14 +13,15 @@ use Rattle.base.specs.Commits.{Commit, after, writes_key, last_writer}
 use Rattle.base.specs.Records.{is_committed}
 use Rattle.base.specs.Stands.{has_timestamp}
 use Rattle.base.specs.Machine.{State, Drawn, Hand, Version, Writer, BySession, ByCommit, drawn_at, drawn_of, version_lines, lines_of_write, lines_of}
+use Rattle.base.proofs.Keys.{key_eq-true, key_eq-same}
+use Rattle.base.proofs.Lists.{all-drop}
 use Rattle.state_invariant.specs.Kept.{Origin, Keeps, KeepsHand, commit_at, commits_of_life, covered_since, version_by, row_by, row_in}
-use Rattle.state_invariant.proofs.Lists.{all-drop}
-use Rattle.state_invariant.proofs.Lookups.{same-keys, key_eq-refl, find-all}
-use Rattle.state_invariant.proofs.Commits.{commit_at-some, commit_at-has, commit_at-none, commit_at-append, commit_at-drawn, timestamp-all}
+use Rattle.state_invariant.proofs.Lookups.{find-all}
+use Rattle.state_invariant.proofs.Commits.{commit_at-some, commit_at-has, commit_at-none, commit_at-append, commit_at-drawn, timestamp-all, found-any}
 use Rattle.device_invariant.specs.Slots.{newest_of}
 use Rattle.device_invariant.specs.Log.{Line, line_at, lines_at, lines_in, is_one_of, is_last_on, is_own, is_ended}
 use Rattle.device_invariant.proofs.PresentValues.{drawn-bounds, last-undrawn, wanted-newest}
-use Rattle.device_invariant.proofs.Stamps.{any-at, writes-held}
+use Rattle.device_invariant.proofs.Stamps.{writes-held}
 use Rattle.cycle_simulation.specs.Batches.{AreDrawn}
 use Rattle.cycle_simulation.specs.Laws.{LinesAreCounted}
 use Rattle.cycle_simulation.proofs.Counting.{sum-same, sum-zero, sum-plus, sum-swap, sum-flat, sum-range, sum-one, sum-nowhere, sum-writes, sum-of_key, sum-commits, sum-of_writer}
@@ -43,9 +44,6 @@ owned q commits key v = cond (is_own commits v && is_at key v) (version_lines q.
 
 abbrev ended : State → List Commit → Key → Option Version → ℕ
 ended q commits key v = cond (is_ended q commits v && is_at key v) 1 0
-
-some-version : (v w : Version) → Some v ≡ Some w → v ≡ w
-some-version v w e = cc e
 
 module _ (o : Origin) (q : State) (commits : List Commit) (kept : Keeps o q) (drawn : AreDrawn q commits) where
   lines : ℕ
@@ -152,7 +150,7 @@ module _ (o : Origin) (q : State) (commits : List Commit) (kept : Keeps o q) (dr
     where
       own-writes : (key : Key) (w : Writer) → q.held slot ≡ Some (version_by key w) → is_own commits (Some (version_by key w)) ≡ true → list_any (writes_key key) commits ≡ true
       own-writes key (BySession n) held is = absurd (cc is)
-      own-writes key (ByCommit t) held is = let own = owner slot t key lt held is in any-at (writes_key key) commits t own.commit own.at own.writes
+      own-writes key (ByCommit t) held is = let own = owner slot t key lt held is in found-any (writes_key key) commits t own.commit own.at own.writes
 
       own-apart : (key : Key) (w : Writer) → q.held slot ≡ Some (version_by key w) → is_own commits (Some (version_by key w)) ≡ true → is_ended q commits (Some (version_by key w)) ≡ false
       own-apart key (BySession n) held is = absurd (cc is)
@@ -185,7 +183,7 @@ module _ (o : Origin) (q : State) (commits : List Commit) (kept : Keeps o q) (dr
         by_writer (BySession n) by_it both = let own : is_one_of commits (BySession n) ≡ true = ap (is_one_of commits) (sym by_it) ∙ both.0 in absurd (cc own)
         by_writer (ByCommit u) by_it both =
             let has : has_timestamp commits u ≡ true = ap (is_one_of commits) (sym by_it) ∙ both.0 in
-            let is_version : v ≡ version_by key (ByCommit u) = ap (λ (k : Key). version_by k v.writer) (same-keys v.key key both.1) ∙ ap (version_by key) by_it in
+            let is_version : v ≡ version_by key (ByCommit u) = ap (λ (k : Key). version_by k v.writer) (key_eq-true v.key key both.1) ∙ ap (version_by key) by_it in
             let held_so : q.held slot ≡ Some (version_by key (ByCommit u)) = held ∙ ap (λ (v : Version). Some v) is_version in
             let own = owner slot u key lt held_so has in
             held_so ∙ ap (λ (n : ℕ). Some (version_by key (ByCommit n))) (alone key u t own.commit c own.at found own.writes writes-it)
@@ -201,7 +199,7 @@ module _ (o : Origin) (q : State) (commits : List Commit) (kept : Keeps o q) (dr
             absurd (cc last)
         by_writer (ByCommit u) by_it both =
             let last : nat_eq (last_writer q.history v.key) u ≡ true = ap (is_last_on q v.key) (sym by_it) ∙ (and_parts (is_last_on q v.key v.writer) (list_any (writes_key v.key) commits) both.0).0 in
-            let keys = same-keys v.key key both.1 in
+            let keys = key_eq-true v.key key both.1 in
             let time : u ≡ last_writer q.history key = sym (eqb-true (last_writer q.history v.key) u last) ∙ ap (last_writer q.history) keys in
             held ∙ ap (λ (v : Version). Some v) (ap (λ (k : Key). version_by k v.writer) keys ∙ ap (version_by key) by_it ∙ ap (λ (n : ℕ). version_by key (ByCommit n)) time)
 
@@ -210,7 +208,7 @@ module _ (o : Origin) (q : State) (commits : List Commit) (kept : Keeps o q) (dr
         let d = drawn.each t c found in
         let has = kept.owns.by_draw t key d.0 row d.1 (ap (λ (c : Commit). lookup_key c.writes key) d.2 ∙ wrote ∙ ap (λ (x : Option (List ℕ)). Some x) is) in
         let here : (is_own commits (q.held has.0) && is_at key (q.held has.0)) ≡ true =
-        ap (λ (v : Option Version). is_own commits v && is_at key v) has.2 ∙ and_from (has_timestamp commits t) (key_eq key key) (commit_at-some commits t c found) (key_eq-refl key) in
+        ap (λ (v : Option Version). is_own commits v && is_at key v) has.2 ∙ and_from (has_timestamp commits t) (key_eq key key) (commit_at-some commits t c found) (key_eq-same key) in
         sum-one (λ slot. is_own commits (q.held slot) && is_at key (q.held slot)) (version_lines q.layout) has.0 q.layout.slots has.1 here
         (λ slot lt own. kept.owns.once slot has.0 (version_by key (ByCommit t)) lt has.1 (own-here slot (q.held slot) lt refl own) has.2)
     owned-sum None is = sum-nowhere (λ slot. is_own commits (q.held slot) && is_at key (q.held slot)) (version_lines q.layout) q.layout.slots (λ slot lt own. never slot lt (own-here slot (q.held slot) lt refl own))
@@ -233,7 +231,7 @@ module _ (o : Origin) (q : State) (commits : List Commit) (kept : Keeps o q) (dr
         let here : (is_ended q commits (q.held has.0) && is_at key (q.held has.0)) ≡ true =
         ap (λ (v : Option Version). is_ended q commits v && is_at key v) held
         ∙ and_from (nat_eq (last_writer q.history key) (last_writer q.history key) && list_any (writes_key key) commits) (key_eq key key)
-        (and_from (nat_eq (last_writer q.history key) (last_writer q.history key)) (list_any (writes_key key) commits) (eq-eqb (last_writer q.history key) (last_writer q.history key) refl) (any-at (writes_key key) commits t c found writes-it)) (key_eq-refl key) in
+        (and_from (nat_eq (last_writer q.history key) (last_writer q.history key)) (list_any (writes_key key) commits) (eq-eqb (last_writer q.history key) (last_writer q.history key) refl) (found-any (writes_key key) commits t c found writes-it)) (key_eq-same key) in
         sum-one (λ slot. is_ended q commits (q.held slot) && is_at key (q.held slot)) 1 has.0 q.layout.slots has.1 here
         (λ slot lt end. kept.owns.once slot has.0 (newest_of q key) lt has.1 (ended-here slot (q.held slot) refl end) held)
     ended-sum None is = sum-nowhere (λ slot. is_ended q commits (q.held slot) && is_at key (q.held slot)) 1 q.layout.slots (λ slot lt end. never slot lt (ended-here slot (q.held slot) refl end))

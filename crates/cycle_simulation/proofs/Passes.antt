@@ -3,11 +3,13 @@ use Rattle.std.proofs.Common.{◌≡◌, ℕ, ◌+◌, ◌<◌, Bool, true, fals
 use Rattle.std.specs.Prelude.{nat_lt, nat_le, max}
 use Rattle.std.specs.List.{list_all}
 use Rattle.std.proofs.lemmas.Bool.{and_parts, and_from, ltb-true, leb-true, le-leb, le-ltb}
+use Rattle.std.proofs.lemmas.List.Sums.{fold-append}
 use Rattle.base.specs.Layout.{most_longs}
 use Rattle.base.specs.Records.{are_rising}
 use Rattle.base.specs.Machine.{State, Drawn, is_stamped, may_be_covered, unstamped_below, reach}
+use Rattle.base.proofs.Lists.{rising-rest}
 use Rattle.state_invariant.specs.Kept.{Origin, Keeps}
-use Rattle.state_invariant.proofs.Lists.{rising-above, rising-rest}
+use Rattle.state_invariant.proofs.Lists.{rising-above}
 use Rattle.cycle_simulation.specs.Batches.{reach_from}
 
 abbrev time_of : Drawn → ℕ
@@ -19,10 +21,6 @@ unstamped n ds = fold (λ (n : ℕ) (d : Drawn). n + cond (not (is_stamped d)) 1
 
 abbrev below : ℕ → ℕ → List Drawn → ℕ
 below t n ds = fold (λ (n : ℕ) (d : Drawn). n + cond (nat_lt (time_of d) t && not (is_stamped d)) 1 0) n ds
-
-fold-append : (f : ℕ → Drawn → ℕ) (n : ℕ) (xs ys : List Drawn) → fold f n (xs ++ ys) ≡ fold f (fold f n xs) ys
-fold-append f n [] ys = refl
-fold-append f n (x ∷ xs) ys = fold-append f (f n x) xs ys
 
 all-below : (t n : ℕ) (ds : List Drawn) → list_all (λ (d : Drawn). nat_lt (time_of d) t) ds ≡ true → below t n ds ≡ unstamped n ds
 all-below t n [] all = refl

@@ -8,7 +8,8 @@ use Rattle.base.specs.Commits.{Commit, writes_key}
 use Rattle.base.specs.Layout.{Layout, slot_start, total_words}
 use Rattle.base.specs.Machine.{State, Version, Writer, BySession, ByCommit, version_lines}
 use Rattle.base.specs.Records.{are_rising}
-use Rattle.state_invariant.proofs.Lists.{rising-above, rising-rest, rising-with}
+use Rattle.base.proofs.Lists.{any-same, any-never, any-or, rising-rest}
+use Rattle.state_invariant.proofs.Lists.{rising-above, rising-with, all-weaken}
 use Rattle.device_invariant.specs.Log.{Line, line_at, line_number, lines_at, is_one_of, is_last_on, is_own, is_ended}
 use Rattle.cycle_simulation.specs.Batches.{line_numbers, is_line_of}
 use Rattle.cycle_simulation.specs.Laws.{LinesRise}
@@ -29,10 +30,6 @@ rising-append m (x ∷ xs) ys rising_x rising_y below above =
     (list_all-append (nat_lt x) xs ys ∙ and_from (list_all (nat_lt x) xs) (list_all (nat_lt x) ys) (rising-above x xs rising_x) (all-above x m ys (ltb-true x m both.0) above))
     (rising-append m xs ys (rising-rest x xs rising_x) rising_y both.1 above)
 
-all-weaken_to : (p r : ℕ → Bool) (xs : List ℕ) → ((x : ℕ) → p x ≡ true → r x ≡ true) → list_all p xs ≡ true → list_all r xs ≡ true
-all-weaken_to p r [] each all = refl
-all-weaken_to p r (x ∷ xs) each all = let both = and_parts (p x) (list_all p xs) all in and_from (r x) (list_all r xs) (each x both.0) (all-weaken_to p r xs each both.1)
-
 -- the numbers rise from the first bound on, and end below the second
 record IsBetween (low high : ℕ) (xs : List ℕ) : Type 0 where
   pub rising : are_rising xs ≡ true
@@ -43,9 +40,9 @@ between-append : (low mid high : ℕ) (xs ys : List ℕ) → low ≤ mid → mid
 between-append low mid high xs ys le le' a b = record {
   rising = rising-append mid xs ys a.rising b.rising a.to b.from;
   from = list_all-append (nat_le low) xs ys
-      ∙ and_from (list_all (nat_le low) xs) (list_all (nat_le low) ys) a.from (all-weaken_to (nat_le mid) (nat_le low) ys (λ y e. le-leb low y (omega (arith, le, leb-true mid y e))) b.from);
+      ∙ and_from (list_all (nat_le low) xs) (list_all (nat_le low) ys) a.from (all-weaken (nat_le mid) (nat_le low) ys (λ y e. le-leb low y (omega (arith, le, leb-true mid y e))) b.from);
   to = list_all-append (λ x. nat_lt x high) xs ys
-      ∙ and_from (list_all (λ x. nat_lt x high) xs) (list_all (λ x. nat_lt x high) ys) (all-weaken_to (λ x. nat_lt x mid) (λ x. nat_lt x high) xs (λ x e. lt-ltb x high (omega (arith, le', ltb-true x mid e))) a.to) b.to;
+      ∙ and_from (list_all (λ x. nat_lt x high) xs) (list_all (λ x. nat_lt x high) ys) (all-weaken (λ x. nat_lt x mid) (λ x. nat_lt x high) xs (λ x e. lt-ltb x high (omega (arith, le', ltb-true x mid e))) a.to) b.to;
 }
 
 between-none : (low high : ℕ) → IsBetween low high []
@@ -112,24 +109,6 @@ module _ (q : State) (commits : List Commit) where
       subst (λ (n : ℕ). list_all (λ x. nat_lt x (start q.layout n)) (line_numbers q commits) ≡ true) all (slots-between 0 q.layout.slots).to
 
 -- ---- whose they are
-
-any-same : {X : Type 0} (f g : X → Bool) (xs : List X) → ((x : X) → f x ≡ g x) → list_any f xs ≡ list_any g xs
-any-same f g [] same = refl
-any-same f g (x ∷ xs) same = ap (λ (b : Bool). b || list_any f xs) (same x) ∙ ap (λ (b : Bool). g x || b) (any-same f g xs same)
-
-any-never : {X : Type 0} (xs : List X) → list_any (λ x. false) xs ≡ false
-any-never [] = refl
-any-never (x ∷ xs) = any-never xs
-
-any-or : {X : Type 0} (f g : X → Bool) (xs : List X) → list_any (λ x. f x || g x) xs ≡ (list_any f xs || list_any g xs)
-any-or f g [] = refl
-any-or f g (x ∷ xs) = ap (λ (b : Bool). (f x || g x) || b) (any-or f g xs) ∙ shuffle (f x) (g x) (list_any f xs) (list_any g xs)
-  where
-    shuffle : (a b c d : Bool) → ((a || b) || (c || d)) ≡ ((a || c) || (b || d))
-    shuffle true b c d = refl
-    shuffle false true true d = refl
-    shuffle false true false d = refl
-    shuffle false false c d = refl
 
 any-and : {X : Type 0} (f : X → Bool) (b : Bool) (xs : List X) → list_any (λ x. f x && b) xs ≡ (list_any f xs && b)
 any-and f b [] = refl
@@ -251,7 +230,7 @@ none-below x (y ∷ ys) all =
 
 least : (x y : ℕ) (xs ys : List ℕ) → are_rising (y ∷ ys) ≡ true → is_line_of x (y ∷ ys) ≡ true → y ≤ x
 least x y xs ys rising is = elim (cases_lt x y) [
-  | inl less ↦ absurd (true≢false (sym is ∙ none-below x (y ∷ ys) (and_from (nat_lt x y) (list_all (nat_lt x) ys) (lt-ltb x y less) (all-above x y ys less (all-weaken_to (nat_lt y) (nat_le y) ys (λ z e. le-leb y z (omega (arith, ltb-true y z e))) (rising-above y ys rising))))))
+  | inl less ↦ absurd (true≢false (sym is ∙ none-below x (y ∷ ys) (and_from (nat_lt x y) (list_all (nat_lt x) ys) (lt-ltb x y less) (all-above x y ys less (all-weaken (nat_lt y) (nat_le y) ys (λ z e. le-leb y z (omega (arith, ltb-true y z e))) (rising-above y ys rising))))))
   | inr more ↦ more
 ]
 

@@ -1,10 +1,10 @@
 -- A device that an opening left upholds the opened state.
-use Rattle.std.proofs.Common.{◌≡◌, ◌≢◌, ◌⊎◌, inl, inr, ℕ, ◌<◌, ◌≤◌, Bool, true, false, cond, not, ◌&&◌, ◌||◌, List, [], ◌∷◌, ◌++◌, map, length, take, drop, refl, sym, ◌∙◌, ap, subst, arith, true≢false, nat_eq, nat_le}
+use Rattle.std.proofs.Common.{◌≡◌, ◌≢◌, ◌⊎◌, inl, inr, ℕ, ◌<◌, ◌≤◌, Bool, true, false, cond, not, ◌&&◌, ◌||◌, List, [], ◌++◌, map, length, take, drop, refl, sym, ◌∙◌, ap, subst, arith, true≢false, nat_eq, nat_le}
 use Rattle.std.specs.Prelude.{Option, Some, None, IsTrue, slice_index}
 use Rattle.std.specs.List.{find}
 use Rattle.std.specs.Option.{option_or}
 use Rattle.std.proofs.lemmas.Bool.{and_parts, or_parts, leb-true, leb-false, ne_eqb, or_cases}
-use Rattle.std.proofs.lemmas.List.{take_all, length-drop}
+use Rattle.std.proofs.lemmas.List.{take_all, length-drop, nil_from_length}
 use Rattle.base.specs.declared.key.Key.{Key}
 use Rattle.base.specs.declared.fault.Fault.{Fault}
 use Rattle.base.specs.declared.fault.Fault.TheVariants.{NotFormatted, Version as VersionFault}
@@ -35,12 +35,8 @@ use Rattle.device_invariant.proofs.Showing.{shows-same}
 
 -- ---- lists
 
-nil-of : {X : Type 0} → (xs : List X) → length xs ≡ 0 → xs ≡ []
-nil-of [] e = refl
-nil-of (x ∷ xs) e = absurd (cc e)
-
 drop-whole : (xs : List Commit) (n : ℕ) → length xs ≤ n → drop n xs ≡ []
-drop-whole xs n le = nil-of (drop n xs) (omega (arith, length-drop n xs, le))
+drop-whole xs n le = nil_from_length (drop n xs) (omega (arith, length-drop n xs, le))
 
 -- ---- a state at rest
 

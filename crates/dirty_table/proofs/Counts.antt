@@ -1,7 +1,7 @@
 -- How many lines sessions touch: as many as any list has that names each of them once.
 use Rattle.std.proofs.Common.{◌≡◌, ℕ, suc, ◌<◌, Bool, true, false, cond, ◌&&◌, ◌||◌, not, nat_eq, nat_lt, List, [], ◌∷◌, length, refl, sym, ◌∙◌, ap, subst, arith}
 use Rattle.std.specs.List.{list_any}
-use Rattle.std.proofs.lemmas.Bool.{and_parts, and_from, ltb-true, eqb-true, eq-eqb}
+use Rattle.std.proofs.lemmas.Bool.{and_parts, and_from, ltb-true, eqb-true, eq-eqb, not-true}
 use Rattle.base.specs.Records.{are_rising}
 use Rattle.dirty_table.specs.declared.touches.Touch.{Touch}
 use Rattle.dirty_table.specs.Touches.{lines_touched}
@@ -11,10 +11,6 @@ use Rattle.dirty_table.proofs.Tables.{lines_touched-any}
 abbrev pub are_distinct : List ℕ → Bool
 are_distinct [] = true
 are_distinct (x ∷ xs) = not (list_any (nat_eq x) xs) && are_distinct xs
-
-not_true : (b : Bool) → not b ≡ true → b ≡ false
-not_true true e = sym e
-not_true false e = refl
 
 -- the list without the first place of a number
 abbrev without : ℕ → List ℕ → List ℕ
@@ -33,7 +29,7 @@ without-any : (l x : ℕ) (ys : List ℕ) → are_distinct ys ≡ true → list_
 without-any l x [] distinct = refl
 without-any l x (y ∷ ys) distinct =
     let parts = and_parts _ _ distinct in
-    by (nat_eq x y) refl (not_true _ parts.0) (without-any l x ys parts.1)
+    by (nat_eq x y) refl (not-true _ parts.0) (without-any l x ys parts.1)
   where
     gone : (a c m : Bool) → a ≡ c → (c ≡ true → m ≡ false) → m ≡ ((a || m) && not c)
     gone true true m e none = none refl
@@ -65,7 +61,7 @@ without-distinct : (x : ℕ) (ys : List ℕ) → are_distinct ys ≡ true → ar
 without-distinct x [] distinct = refl
 without-distinct x (y ∷ ys) distinct =
     let parts = and_parts _ _ distinct in
-    by (nat_eq x y) parts.1 (not_true _ parts.0) (without-distinct x ys parts.1)
+    by (nat_eq x y) parts.1 (not-true _ parts.0) (without-distinct x ys parts.1)
   where
     by : (b : Bool) → are_distinct ys ≡ true → list_any (nat_eq y) ys ≡ false → are_distinct (without x ys) ≡ true → are_distinct (cond b ys (y ∷ without x ys)) ≡ true
     by true tail once rest = tail
@@ -78,7 +74,7 @@ length-same [] (y ∷ ys) one two same = absurd (cc (same y, ap (λ (b : Bool). 
 length-same (x ∷ xs) ys one two same =
     let parts = and_parts _ _ one in
     let has : list_any (nat_eq x) ys ≡ true = sym (same x) ∙ ap (λ (b : Bool). b || list_any (nat_eq x) xs) (eq-eqb x x refl) in
-    let rest : length xs ≡ length (without x ys) = length-same xs (without x ys) parts.1 (without-distinct x ys two) (λ l. members (not_true _ parts.0) l) in
+    let rest : length xs ≡ length (without x ys) = length-same xs (without x ys) parts.1 (without-distinct x ys two) (λ l. members (not-true _ parts.0) l) in
     omega (arith, rest, without-length x ys has)
   where
     tail : (c m : Bool) → (c ≡ true → m ≡ false) → m ≡ ((c || m) && not c)

@@ -5,16 +5,13 @@ use Rattle.std.specs.Option.{option_map}
 use Rattle.std.proofs.lemmas.List.Sums.{prefix_len-le-length}
 use Rattle.std.proofs.lemmas.Bool.{and_parts, and_from, le-leb, leb-true, leb-false, lt-ltb, eqb-true, eq-eqb, or_left, or_right}
 use Rattle.std.proofs.lemmas.Bool.Decides.{nat_tests}
+use Rattle.std.proofs.Math.Bool.{or-false}
 use Rattle.base.specs.Records.{are_rising}
 use Rattle.dirty_table.specs.declared.touches.Touch.{Touch}
 use Rattle.dirty_table.specs.Touches.{has, is_touched, lines_touched, are_from, are_in_order, put_in, with_touch, Touches, Forgets}
 
 abbrev is_it : Touch → ℕ → ℕ → Bool
 is_it touch n line = nat_eq touch.session n && nat_eq touch.line line
-
-or_none : (x : Bool) → (x || false) ≡ x
-or_none true = refl
-or_none false = refl
 
 or_swap : (x y : Bool) → (x || y) ≡ (y || x)
 or_swap true true = refl
@@ -29,7 +26,7 @@ or_shift false y z = refl
 -- ---- putting in
 
 put_in-touched : (new : Touch) (touches : List Touch) (n line : ℕ) → is_touched (put_in new touches) n line ≡ (is_touched touches n line || is_it new n line)
-put_in-touched new [] n line = or_none (is_it new n line)
+put_in-touched new [] n line = or-false (is_it new n line)
 put_in-touched new (touch ∷ touches) n line = by (nat_le new.line touch.line) (put_in-touched new touches n line)
   where
     by : (b : Bool) → is_touched (put_in new touches) n line ≡ (is_touched touches n line || is_it new n line)
@@ -41,7 +38,7 @@ with_touch-touched : (new : Touch) (touches : List Touch) (n line : ℕ) → is_
 with_touch-touched new touches n line = by (is_touched touches new.session new.line) refl
   where
     there : (b : Bool) → is_it new n line ≡ b → is_touched touches new.session new.line ≡ true → is_touched touches n line ≡ (is_touched touches n line || b)
-    there false e is = sym (or_none (is_touched touches n line))
+    there false e is = sym (or-false (is_touched touches n line))
     there true e is =
         let parts = and_parts (nat_eq new.session n) (nat_eq new.line line) e in
         let session : new.session ≡ n = eqb-true new.session n parts.0 in
@@ -76,7 +73,7 @@ lines_of touches = dedup nat_eq (map (λ touch. touch.line) touches)
 
 pub touches_from : (new : Touch) (old touches : List Touch) → touches ≡ with_touch new old → Touches new.session (new.line ∷ []) old touches
 touches_from new old touches e = subst (λ (ts : List Touch). Touches new.session (new.line ∷ []) old ts) (sym e) (record {
-  touched = λ n line. with_touch-touched new old n line ∙ ap (λ (x : Bool). is_touched old n line || (nat_eq new.session n && x)) (sym (or_none (nat_eq new.line line)));
+  touched = λ n line. with_touch-touched new old n line ∙ ap (λ (x : Bool). is_touched old n line || (nat_eq new.session n && x)) (sym (or-false (nat_eq new.line line)));
   others = λ which other. ap lines_of (with_touch-others which new old other);
 })
 

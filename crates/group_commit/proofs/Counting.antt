@@ -1,29 +1,24 @@
 -- What each tick of a cycle does, by how many were made.
-use Rattle.std.proofs.Common.{◌≡◌, ◌≢◌, inl, inr, ℕ, zero, suc, ◌+◌, ◌<◌, Bool, true, false, cond, List, [], ◌∷◌, length, find, Option, Some, None, refl, sym, ◌∙◌, ap, subst, arith}
+use Rattle.std.proofs.Common.{◌≡◌, ◌≢◌, inl, inr, ℕ, zero, suc, ◌+◌, ◌<◌, Bool, true, cond, List, [], ◌∷◌, length, find, Option, Some, None, refl, sym, ◌∙◌, ap, subst, arith}
 use Rattle.std.specs.Prelude.{slice_get, nat_le, nat_lt}
-use Rattle.std.proofs.lemmas.Bool.{and_parts, ltb-true, ltb-false, le-leb, leb-true, cases_lt}
+use Rattle.std.proofs.lemmas.Bool.{and_parts, ltb-true, le-leb, cases_lt, lt-leb}
 use Rattle.std.proofs.lemmas.Option.{slice_get_within, slice_get_past, slice_get-get_or}
 use Rattle.base.specs.Records.{are_rising}
 use Rattle.log_area.specs.declared.stage.WritingStage.{WritingStage}
 use Rattle.log_area.specs.declared.stage.WritingStage.TheVariants.{StoreBody, FlushBody, FenceBody, StoreGate, FlushGate, FenceGate, Done}
-use Rattle.log_area.specs.Stages.{IsStage, next_stage, reached_by, operations_before}
+use Rattle.log_area.specs.Stages.{IsStage, reached_by, operations_before}
 use Rattle.log_area.specs.Writings.{advanced, operation_of}
 use Rattle.base.specs.declared.step.Stage.TheVariants.{LineFlushed, LinesFenced}
 use Rattle.base.specs.Actors.{committer}
+use Rattle.base.proofs.Lists.{rising-rest}
 use Rattle.pmem.specs.Trace.{flush_op, fence_op}
+use Rattle.log_area.proofs.Stages.{operations-next, staged-next}
 use Rattle.group_commit.specs.declared.stage.CycleStage.{CycleStage}
 use Rattle.group_commit.specs.declared.stage.CycleStage.TheVariants.{FlushLines, WriteRecord}
 use Rattle.group_commit.specs.Cycles.{Cycling, flush_or_fence, flushed_or_fenced, next_at, operation_at, reached_at, ticked_at}
 use Rattle.group_commit.specs.Laws.{IsCut, IsAt, IsAfter, TicksAreCounted}
 
 -- ---- lines
-
-below-leb : (a b : ℕ) → b < a → nat_le a b ≡ false
-below-leb a b less = by_test (nat_le a b) refl
-  where
-    by_test : (t : Bool) → nat_le a b ≡ t → t ≡ false
-    by_test false is = refl
-    by_test true is = absurd (omega (arith, less, leb-true a b is))
 
 cut-rest : (x : ℕ) (xs : List ℕ) (flushed from : ℕ) → IsCut (x ∷ xs) (suc flushed) from → IsCut xs flushed from
 cut-rest x xs flushed from cut = record {
@@ -37,7 +32,7 @@ pub find-cut : (lines : List ℕ) (flushed from : ℕ) → IsCut lines flushed f
 find-cut [] flushed from cut = refl
 find-cut (x ∷ xs) zero from cut = ap (λ (b : Bool). cond b (Some x) (find (nat_le from) xs)) (le-leb from x (cut.others 0 x (omega arith) refl))
 find-cut (x ∷ xs) (suc flushed) from cut =
-    ap (λ (b : Bool). cond b (Some x) (find (nat_le from) xs)) (below-leb from x (cut.below 0 x (omega arith) refl)) ∙ find-cut xs flushed from (cut-rest x xs flushed from cut)
+    ap (λ (b : Bool). cond b (Some x) (find (nat_le from) xs)) (lt-leb from x (cut.below 0 x (omega arith) refl)) ∙ find-cut xs flushed from (cut-rest x xs flushed from cut)
 
 -- rising lines are above the first
 above-first : (x : ℕ) (xs : List ℕ) (i line : ℕ) → are_rising (x ∷ xs) ≡ true → slice_get xs i ≡ Some line → x < line
@@ -49,10 +44,6 @@ above-first x (y ∷ xs) zero line rising at =
 above-first x (y ∷ xs) (suc i) line rising at =
     let both = and_parts (nat_lt x y) (are_rising (y ∷ xs)) rising in
     omega (arith, ltb-true x y both.0, above-first y xs i line both.1 at)
-
-rising-rest : (x : ℕ) (xs : List ℕ) → are_rising (x ∷ xs) ≡ true → are_rising xs ≡ true
-rising-rest x [] rising = refl
-rising-rest x (y ∷ xs) rising = (and_parts (nat_lt x y) (are_rising (y ∷ xs)) rising).1
 
 later-above : (lines : List ℕ) (i j a b : ℕ) → are_rising lines ≡ true → i < j → slice_get lines i ≡ Some a → slice_get lines j ≡ Some b → a < b
 later-above [] i j a b rising less at_i at_j = absurd (cc at_i)
@@ -83,40 +74,6 @@ cut-whole lines flushed from cut none = elim (cases_lt flushed (length lines)) [
 ]
 
 -- ---- the writing
-
-operations-next : (stage : WritingStage) → IsStage stage → stage ≢ Done → operations_before (next_stage stage) ≡ operations_before stage + 1
-operations-next (StoreBody w) is un = by_test (nat_lt w 31) refl
-  where
-    by_test : (b : Bool) → nat_lt w 31 ≡ b → operations_before (cond b (StoreBody (w + 1)) (FlushBody 0)) ≡ operations_before (StoreBody w) + 1
-    by_test true less = omega (arith, is.0)
-    by_test false over = omega (arith, is.0, is.1, ltb-false w 31 over)
-operations-next (FlushBody line) is un = by_test (nat_lt line 3) refl
-  where
-    by_test : (b : Bool) → nat_lt line 3 ≡ b → operations_before (cond b (FlushBody (line + 1)) FenceBody) ≡ operations_before (FlushBody line) + 1
-    by_test true less = omega arith
-    by_test false over = omega (arith, is, ltb-false line 3 over)
-operations-next FenceBody is un = refl
-operations-next StoreGate is un = refl
-operations-next FlushGate is un = refl
-operations-next FenceGate is un = refl
-operations-next Done is un = absurd (un refl)
-
-pub staged-next : (stage : WritingStage) → IsStage stage → IsStage (next_stage stage)
-staged-next (StoreBody w) is = by_test (nat_lt w 31) refl
-  where
-    by_test : (b : Bool) → nat_lt w 31 ≡ b → IsStage (cond b (StoreBody (w + 1)) (FlushBody 0))
-    by_test true less = (omega arith, omega (arith, ltb-true w 31 less))
-    by_test false over = omega arith
-staged-next (FlushBody line) is = by_test (nat_lt line 3) refl
-  where
-    by_test : (b : Bool) → nat_lt line 3 ≡ b → IsStage (cond b (FlushBody (line + 1)) FenceBody)
-    by_test true less = omega (arith, ltb-true line 3 less)
-    by_test false over = tt
-staged-next FenceBody is = tt
-staged-next StoreGate is = tt
-staged-next FlushGate is = tt
-staged-next FenceGate is = tt
-staged-next Done is = tt
 
 few : (stage : WritingStage) → IsStage stage → stage ≢ Done → operations_before stage < 39
 few (StoreBody w) is un = omega (arith, is.0, is.1)

@@ -9,7 +9,9 @@ use Rattle.base.specs.Search.{first_below}
 use Rattle.base.specs.Layout.{Layout}
 use Rattle.base.specs.Records.{Record, is_committed}
 use Rattle.base.specs.Images.{Image, IsSound, layout_of, ruling, key_of, row_of, is_live, is_shown}
-use Rattle.base.proofs.Histories.{first_below-none, key_eq-true, key_eq-same, no_second}
+use Rattle.base.proofs.Histories.{no_second}
+use Rattle.base.proofs.Keys.{key_eq-true, key_eq-same}
+use Rattle.base.proofs.Search.{cases_below, first_below-none}
 use Rattle.recovery.specs.Slots.{is_free}
 use Rattle.recovery.specs.Read.{IsRead, rows_below}
 use Rattle.recovery.proofs.LiveRows.{rows-none, rows-live, rows-free}
@@ -25,11 +27,6 @@ further image n key row at = (at.0, omega (arith, at.1), at.2, at.3, at.4)
 -- another slot is live with the slot's key
 abbrev has_key : Image → ℕ → ℕ → Bool
 has_key image slot other = is_live (is_committed (ruling image)) image other && key_eq (key_of image other) (key_of image slot)
-
-split : (k n : ℕ) → k < n + 1 → (k < n) ⊎ (k ≡ n)
-split k zero h = inr (omega (arith, h))
-split zero (suc n) h = inl (omega arith)
-split (suc k) (suc n) h = elim (split k n (omega (arith, h))) [ inl less ↦ inl (omega (arith, less)) | inr same ↦ inr (ap suc same) ]
 
 module _ (image : Image) (sound : IsSound image) where
   -- two live slots have two keys
@@ -49,7 +46,7 @@ module _ (image : Image) (sound : IsSound image) where
     unfolding is_free
     free-slot free key row = (
       λ e. further image slot key row ((so_far key row).0 (ap (λ (rows : List (Key × List ℕ)). last_at rows key) (sym (rows-free image slot free)) ∙ e)),
-      λ at. ap (λ (rows : List (Key × List ℕ)). last_at rows key) (rows-free image slot free) ∙ (so_far key row).1 (earlier at (split at.0 slot at.1)),
+      λ at. ap (λ (rows : List (Key × List ℕ)). last_at rows key) (rows-free image slot free) ∙ (so_far key row).1 (earlier at (cases_below at.0 slot (omega (arith, at.1)))),
     )
       where
         earlier : (at : IsAt image (slot + 1) key row) → (at.0 < slot) ⊎ (at.0 ≡ slot) → IsAt image slot key row
@@ -60,7 +57,7 @@ module _ (image : Image) (sound : IsSound image) where
     unfolding is_free
     live-slot live key row = (
       λ e. forth (key_eq (key_of image slot) key) refl (sym (now key) ∙ e),
-      λ at. now key ∙ back at (split at.0 slot at.1),
+      λ at. now key ∙ back at (cases_below at.0 slot (omega (arith, at.1))),
     )
       where
         shown : is_shown (ruling image) image slot ≡ true

@@ -9,7 +9,6 @@ use Rattle.std.proofs.lemmas.List.Elements.{All-head, All-tail}
 use Rattle.base.specs.declared.key.Key.{Key}
 use Rattle.base.specs.Keys.{key_eq, lookup_key}
 use Rattle.base.specs.Commits.{Tables, Lists}
-use Rattle.base.proofs.Histories.{key_eq-true}
 use Rattle.index.specs.declared.entry.Entry.{Entry}
 use Rattle.index.specs.Entries.{key_cmp, blank, entry_at}
 use Rattle.index.specs.Reading.{CountsAs, ShowsTables, contains, ranged, bounds_of}
@@ -18,8 +17,9 @@ use Rattle.index.specs.declared.ranges.KeyRange.{KeyRange}
 use Rattle.index.specs.declared.ranges.KeyRange.TheVariants.{All as AllKeys, Within}
 use Rattle.base.specs.Layout.{Layout}
 use Rattle.base.specs.Images.{Image}
+use Rattle.base.proofs.Keys.{key_eq-true}
+use Rattle.base.proofs.KeyOrder.{looked-up, sorted-rising}
 use Rattle.snapshot.specs.Snapshots.{Seen}
-use Rattle.index.proofs.KeyOrder.{rising, looked-up}
 use Rattle.index.proofs.Lookups.{none-seen}
 use Rattle.index.proofs.Ways.{seen-at}
 
@@ -141,4 +141,4 @@ absent-none counts s a image tables index agree shows linked key absent =
 -- the entries of a map that has the rows of the tables list them
 pub listed : (m : BTreeMap Key (List ℕ)) (rows : List (Key × List ℕ)) (tables : Tables) → rows ≡ m.entries → IsOrdered key_cmp m → ((key : Key) → get key_cmp m key ≡ tables key) → Lists rows tables
 listed m rows tables is ordered has =
-    subst (λ (xs : List (Key × List ℕ)). Lists xs tables) (sym is) (record { rising = rising m.entries ordered; same = λ key. looked-up m.entries key ∙ has key })
+    subst (λ (xs : List (Key × List ℕ)). Lists xs tables) (sym is) (record { rising = sorted-rising m.entries ordered; same = λ key. looked-up m.entries key ∙ has key })

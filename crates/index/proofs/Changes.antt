@@ -5,10 +5,10 @@ use Rattle.std.specs.BTreeMap.{is_at}
 use Rattle.std.specs.Map.{lookup}
 use Rattle.base.specs.declared.key.Key.{Key}
 use Rattle.base.specs.Keys.{key_eq, lookup_key}
-use Rattle.base.proofs.Histories.{key_eq-true}
+use Rattle.base.proofs.Keys.{key_eq-true}
+use Rattle.base.proofs.KeyOrder.{is_at-key, looked-up}
 use Rattle.index.specs.declared.entry.Entry.{Entry}
 use Rattle.index.specs.Entries.{key_cmp, blank, entry_at, has_room, Sets, KeepsRoom, GainsRoom}
-use Rattle.index.proofs.KeyOrder.{is_at-key, looked-up}
 
 abbrev Entries : Type 0
 Entries = List (Key × Entry)

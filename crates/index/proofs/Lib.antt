@@ -1,4 +1,3 @@
-pub mod KeyOrder
 pub mod Changes
 pub mod Slots
 pub mod Lookups

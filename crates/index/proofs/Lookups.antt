@@ -1,5 +1,5 @@
 -- What is found of a key.
-use Rattle.std.proofs.Common.{◌≡◌, ℕ, Bool, true, false, List, refl, ap, arith}
+use Rattle.std.proofs.Common.{◌≡◌, ℕ, Bool, List, refl, ap, arith}
 use Rattle.std.specs.Prelude.{Option, Some, None}
 use Rattle.base.specs.declared.key.Key.{Key}
 use Rattle.base.specs.Commits.{Tables}
@@ -7,9 +7,6 @@ use Rattle.base.specs.Layout.{Layout}
 use Rattle.base.specs.Images.{Image}
 use Rattle.snapshot.specs.Snapshots.{Seen}
 use Rattle.index.specs.Reading.{CountsAs, HasSeen, ShowsTables}
-
-pub apart : false ≡ true → ⊥
-apart e = absurd (cc e)
 
 module _ (counts : ℕ → Bool) (snapshot : Seen) (a : Layout) (image : Image) (tables : Tables) (agree : CountsAs counts snapshot a image) (shows : ShowsTables counts a image tables) where
   -- a seen row is the tables'

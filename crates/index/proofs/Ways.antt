@@ -1,12 +1,13 @@
 -- What a slot says of the way of a walk.
 use Rattle.std.proofs.Common.{◌≡◌, ℕ, ◌+◌, ◌<◌, Bool, true, false, cond, not, ◌&&◌, List, refl, sym, ◌∙◌, ap, subst, arith, Option, Some, None}
 use Rattle.std.specs.Prelude.{nat_lt}
-use Rattle.std.proofs.lemmas.Bool.{lt-ltb}
+use Rattle.std.proofs.lemmas.Bool.{lt-ltb, not-true, and_parts, true≢false}
+use Rattle.std.proofs.lemmas.Option.{same_Some}
 use Rattle.base.specs.declared.key.Key.{Key}
 use Rattle.base.specs.Keys.{key_eq}
 use Rattle.base.specs.Layout.{Layout}
 use Rattle.base.specs.Images.{Image, layout_of, begin_of, end_of, key_of, row_of, link_of, is_live, is_misfit}
-use Rattle.base.proofs.Histories.{key_eq-true, key_eq-same}
+use Rattle.base.proofs.Keys.{key_eq-true, key_eq-same}
 use Rattle.snapshot.specs.Snapshots.{Seen, covers}
 use Rattle.version_slot.specs.declared.words.Slot.{Slot}
 use Rattle.version_slot.specs.Words.{link_number}
@@ -15,17 +16,6 @@ use Rattle.index.specs.declared.walking.Next.{Next}
 use Rattle.index.specs.declared.walking.Next.TheVariants.{Earlier, Over}
 use Rattle.snapshot.specs.Walks.{IsOfKey, IsSeenAt, is_counted, Leads, arrives, passes}
 use Rattle.index.specs.Walking.{next_at, Looks}
-
-pub apart : true ≡ false → ⊥
-apart e = absurd (cc e)
-
-both : (a b : Bool) → (a && b) ≡ true → (a ≡ true) × (b ≡ true)
-both true b e = (refl, e)
-both false b e = absurd (cc e)
-
-not_true : (a : Bool) → not a ≡ true → a ≡ false
-not_true true e = absurd (cc e)
-not_true false e = refl
 
 previous-is : (o : Option ℕ) (n : ℕ) → link_number o ≡ n + 1 → o ≡ Some n
 previous-is None n e = absurd (omega (arith, e))
@@ -49,13 +39,13 @@ module _ (s : Seen) (image : Image) (key : Key) where
 
   -- one that the snapshot sees is the end of the way
   pub ends : (target bound slot : ℕ) → IsSeenAt s image key target → Leads s image key target bound slot → covers s (begin_of image slot) ≡ true → covers s (end_of image slot) ≡ false
-  ends target bound slot seen (arrives b z is below) begun = not_true _ (both _ _ (ap (is_live (covers s) image) is ∙ seen.live)).1
-  ends target bound slot seen (passes b z next version below unseen counted link rest) begun = absurd (apart (sym begun ∙ unseen))
+  ends target bound slot seen (arrives b z is below) begun = not-true _ (and_parts _ _ (ap (is_live (covers s) image) is ∙ seen.live)).1
+  ends target bound slot seen (passes b z next version below unseen counted link rest) begun = absurd (true≢false (sym begun ∙ unseen))
 
   -- and any other leads on
   pub goes : (target bound slot : ℕ) → IsSeenAt s image key target → Leads s image key target bound slot → covers s (begin_of image slot) ≡ false
       → (is_counted s (begin_of image slot) ≡ true) × ((next : ℕ) × (link_of image slot ≡ next + 1) × Leads s image key target (begin_of image slot) next)
-  goes target bound slot seen (arrives b z is below) unbegun = absurd (apart (sym (both _ _ (ap (is_live (covers s) image) is ∙ seen.live)).0 ∙ unbegun))
+  goes target bound slot seen (arrives b z is below) unbegun = absurd (true≢false (sym (and_parts _ _ (ap (is_live (covers s) image) is ∙ seen.live)).0 ∙ unbegun))
   goes target bound slot seen (passes b z next version below unseen counted link rest) unbegun = (counted, (next, link, rest))
 
   module _ (bound slot : ℕ) (held : Slot) (h : HoldsAs image slot held) where
@@ -74,16 +64,16 @@ module _ (s : Seen) (image : Image) (key : Key) where
 
     on-key : (b : Bool) → (key_eq held.version.key key && nat_lt held.begin bound) ≡ b
         → Looks s image key bound slot (cond b (cond (covers s held.begin) (cond (covers s held.end) Over (Next.Seen held.version.row)) (cond (is_counted s held.begin) (Earlier held.begin held.version.previous) Over)) Over)
-    on-key false fails = λ target seen leads. apart (sym (passes-test target seen leads) ∙ fails)
+    on-key false fails = λ target seen leads. true≢false (sym (passes-test target seen leads) ∙ fails)
     on-key true passed = on-begin (covers s held.begin) refl
       where
         on-end : covers s held.begin ≡ true → (b : Bool) → covers s held.end ≡ b → Looks s image key bound slot (cond b Over (Next.Seen held.version.row))
-        on-end begun true over = λ target seen leads. apart (sym over ∙ (sym covers-end ∙ ends target bound slot seen leads (covers-begin ∙ begun)))
+        on-end begun true over = λ target seen leads. true≢false (sym over ∙ (sym covers-end ∙ ends target bound slot seen leads (covers-begin ∙ begun)))
         on-end begun false lasts = record {
           within = h.within;
           live = λ i. (covers-begin ∙ begun) i && not ((covers-end ∙ lasts) i);
           fits = h.fits;
-          at = h.key ∙ key_eq-true held.version.key key (both _ _ passed).0;
+          at = h.key ∙ key_eq-true held.version.key key (and_parts _ _ passed).0;
           is = h.row;
         }
 
@@ -92,7 +82,7 @@ module _ (s : Seen) (image : Image) (key : Key) where
             let rest = (goes target bound slot seen leads (covers-begin ∙ unbegun)).1 in
             (rest.0, previous-is held.version.previous rest.0 (sym h.link ∙ rest.1), subst (λ (n : ℕ). Leads s image key target n rest.0) h.begin rest.2)
         on-counted unbegun false uncounted = λ target seen leads.
-            apart (sym (goes target bound slot seen leads (covers-begin ∙ unbegun)).0 ∙ (ap (is_counted s) h.begin ∙ uncounted))
+            true≢false (sym (goes target bound slot seen leads (covers-begin ∙ unbegun)).0 ∙ (ap (is_counted s) h.begin ∙ uncounted))
 
         on-begin : (b : Bool) → covers s held.begin ≡ b
             → Looks s image key bound slot (cond b (cond (covers s held.end) Over (Next.Seen held.version.row)) (cond (is_counted s held.begin) (Earlier held.begin held.version.previous) Over))
@@ -108,17 +98,14 @@ module _ (s : Seen) (image : Image) (key : Key) where
 abbrev pub Comes : Seen → Image → Key → ℕ → ℕ → Option ℕ → Type 0
 Comes s image key target bound at = (slot : ℕ) × (at ≡ Some slot) × Leads s image key target bound slot
 
-some-same : (a b : ℕ) → Some a ≡ Some b → a ≡ b
-some-same a b e = cc e
-
 module _ (s : Seen) (image : Image) (key : Key) where
   pub on : (bound slot begin : ℕ) (at previous : Option ℕ) → at ≡ Some slot → Looks s image key bound slot (Earlier begin previous) → (target : ℕ) → IsSeenAt s image key target → Comes s image key target bound at
       → Comes s image key target begin previous
   on bound slot begin at previous is looks target seen comes =
-      looks target seen (subst (λ (n : ℕ). Leads s image key target bound n) (some-same comes.0 slot (sym comes.1 ∙ is)) comes.2)
+      looks target seen (subst (λ (n : ℕ). Leads s image key target bound n) (same_Some comes.0 slot (sym comes.1 ∙ is)) comes.2)
 
   pub over : (bound slot : ℕ) (at : Option ℕ) → at ≡ Some slot → Looks s image key bound slot Over → (target : ℕ) → IsSeenAt s image key target → Comes s image key target bound at → ⊥
-  over bound slot at is looks target seen comes = looks target seen (subst (λ (n : ℕ). Leads s image key target bound n) (some-same comes.0 slot (sym comes.1 ∙ is)) comes.2)
+  over bound slot at is looks target seen comes = looks target seen (subst (λ (n : ℕ). Leads s image key target bound n) (same_Some comes.0 slot (sym comes.1 ∙ is)) comes.2)
 
   pub nowhere : (bound : ℕ) (at : Option ℕ) → at ≡ None → (target : ℕ) → Comes s image key target bound at → ⊥
   nowhere bound at is target comes = absurd (cc (sym comes.1 ∙ is))

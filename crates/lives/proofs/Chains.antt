@@ -7,7 +7,7 @@ use Rattle.base.specs.declared.fault.Fault.TheVariants.{OutOfMemory}
 use Rattle.base.specs.declared.key.Key.{Key}
 use Rattle.base.specs.declared.gap.Gap.{Gap}
 use Rattle.base.specs.Commits.{Commit, Lists, after}
-use Rattle.base.specs.Images.{Image, opening_fault, log_damage, damage}
+use Rattle.base.specs.Images.{Image, opening_fault, log_damage}
 use Rattle.base.specs.Layout.{Layout}
 use Rattle.base.specs.Machine.{State, final}
 use Rattle.base.specs.Openings.{OpensAs, StandsOpening}
@@ -22,6 +22,7 @@ use Rattle.pmem.specs.Words.{LeavesOnly, IsAtRest, image_of}
 use Rattle.pmem.proofs.AtRest.{left_at_rest}
 use Rattle.recovery.specs.Opened.{IsRefusal}
 use Rattle.recovery.specs.Read.{TellsLogFault}
+use Rattle.recovery.proofs.Beginning.{fault-log}
 use Rattle.image_check.specs.Checked.{ListsTables}
 use Rattle.lives.specs.declared.life.Life.{Life}
 use Rattle.lives.specs.declared.life.LifeReport.{LifeReport}
@@ -30,12 +31,9 @@ use Rattle.lives.specs.Chains.{fresh_world, AreLives}
 use Rattle.lives.specs.Stops.{AreStopped, IsStopped, WhereItStands}
 use Rattle.lives.specs.Parts.{HasLived, HasObeyed, HasEnded, MayAsk, HasPlayed}
 use Rattle.lives.proofs.Taken.{runs-up}
-use Rattle.lives.proofs.Ends.{leaves-now, log-first, first-damage, may-ask, ends-as_asked}
+use Rattle.lives.proofs.Ends.{leaves-now, may-ask, ends-as_asked}
 
 -- ---- an opening that was refused
-
-log-opening : (image : Image) (fault : Fault) → log_damage image ≡ Some fault → opening_fault image ≡ Some fault
-log-opening image fault found = first-damage (damage image) _ fault (log-first image fault found)
 
 pub lived-refused : (old new : Device) (image image' : Image) (life : Life) (report : LifeReport) (fault : Fault)
     → IsAtRest old → IsOrderly new → image ≡ image_of old → MayLeave new image'
@@ -53,7 +51,7 @@ lived-refused old new image image' life report fault rest tidy is may opening re
     kept e = same ∙ is ∙ sym (left_at_rest old rest image' (subst (λ (d : Device). MayLeave d image') e may))
 
     by_log : (fault ≡ OutOfMemory) → TellsLogFault image fault → FailsAs fault before before
-    by_log memory (inl found) = inl (ap opening_fault same ∙ log-opening image fault found, refl)
+    by_log memory (inl found) = inl (ap opening_fault same ∙ fault-log image fault found, refl)
     by_log memory (inr none) = inr (inl (memory, ap log_damage same ∙ none, refl))
 
     by : IsRefusal (opening_fault image) old new fault → (after : World) × (after.image ≡ image') × PlainLife before (asked_of life) (report_of report) after

@@ -1,21 +1,19 @@
 -- How a life ends.
-use Rattle.std.proofs.Common.{◌≡◌, inl, inr, ℕ, ◌+◌, Bool, true, false, not, ◌&&◌, List, [], ◌∷◌, ◌++◌, refl, sym, ◌∙◌, ap, subst, arith}
+use Rattle.std.proofs.Common.{◌≡◌, inl, inr, ℕ, Bool, true, false, not, ◌&&◌, List, [], ◌∷◌, ◌++◌, refl, sym, ◌∙◌, ap, arith}
 use Rattle.std.specs.Prelude.{Option, Some, None, Result, Ok, Err, IfOk, IfErr, IsTrue}
-use Rattle.std.specs.Option.{option_or, option_map}
+use Rattle.std.proofs.lemmas.Option.{none-some}
 use Rattle.base.specs.declared.fault.Fault.{Fault}
-use Rattle.base.specs.declared.fault.Fault.TheVariants.{Damaged}
-use Rattle.base.specs.Search.{first_of, first_below}
 use Rattle.base.specs.Records.{Record}
-use Rattle.base.specs.Images.{Image, log_faults, log_damage, damage, ruling, layout_of, is_bad_slot}
+use Rattle.base.specs.Images.{Image, log_damage}
 use Rattle.base.specs.Machine.{State, Cover, StandsAsOne, StandsAt, StandsClosing, StandsClosed, covers_at, covers_closing, closed, closing_fault, drawn_of}
 use Rattle.base.specs.Lives.{World, Numbers, StopsAt, left_out}
-use Rattle.pmem.specs.Device.{Device, IsOrderly, MayLeave, restarted}
-use Rattle.pmem.specs.Words.{LeavesOnly, image_of}
+use Rattle.pmem.specs.Device.{Device, IsOrderly, MayLeave}
+use Rattle.pmem.specs.Words.{LeavesOnly}
 use Rattle.pmem.proofs.Images.{left_now}
 use Rattle.pmem_model.specs.Sim.{device_of}
 use Rattle.pmem_model.specs.Orderly.{orderly_of}
 use Rattle.pmem_model.specs.declared.sim.SimPmem.{SimPmem}
-use Rattle.recovery.proofs.Restarted.{image-restarted}
+use Rattle.recovery.proofs.Beginning.{log-first}
 use Rattle.room.specs.Closing.{IsClosingRefusal}
 use Rattle.lives.specs.declared.life.Numbers.{Numbers as ToldNumbers}
 use Rattle.lives.specs.Plain.{numbers_of, closed_of}
@@ -28,9 +26,6 @@ orderly sim = orderly_of sim.cells.histories.log.items sim.cells.histories.last.
 
 pub leaves-now : (old new : Device) (P : Image → Type 0) → IsOrderly new → LeavesOnly old new P → (image : Image) → MayLeave new image → P image
 leaves-now old new P tidy leaves image may = leaves.each image (record { moment = new.clock; from = leaves.continues.later; to = omega arith; left = left_now tidy may })
-
-pub of-restarted : (P : Image → Type 0) (device : Device) → (image : Image) × P image × (device ≡ restarted image) → P (image_of device)
-of-restarted P device (image, holds, is) = subst P (sym (ap image_of is ∙ image-restarted image)) holds
 
 -- ---- a stop
 
@@ -46,30 +41,6 @@ stopped q covers lost image (cover, one, stands) = (
 pub ends-open : (q : State) (image : Image) → StandsAt q image → HasEnded q false None image
 ends-open q image stands lost = let s = stopped q (covers_at q) lost image stands in (s.0, s.1, (refl, s.2))
 
--- a fault of the log is the first that an image has
-first-more : (xs ys : List (Option Fault)) (fault : Fault) → first_of xs ≡ Some fault → first_of (xs ++ ys) ≡ Some fault
-first-more [] ys fault e = absurd (apart e)
-  where
-    apart : None ≡ Some fault → ⊥
-    apart e = cc
-first-more (None ∷ xs) ys fault e = first-more xs ys fault e
-first-more (Some x ∷ xs) ys fault e = e
-
-pub log-first : (image : Image) (fault : Fault) → log_damage image ≡ Some fault → damage image ≡ Some fault
-log-first image fault e =
-    first-more (log_faults image) (option_map (λ slot. Damaged ((layout_of image).places + slot)) (first_below (layout_of image).slots (is_bad_slot (ruling image) image)) ∷ []) fault e
-
--- what comes first is the first
-pub first-damage : (o rest : Option Fault) (fault : Fault) → o ≡ Some fault → option_or o rest ≡ Some fault
-first-damage None rest fault e = absurd (apart e)
-  where
-    apart : None ≡ Some fault → ⊥
-    apart e = cc
-first-damage (Some x) rest fault e = e
-
-none-some : (o : Option Fault) (fault : Fault) → o ≡ None → o ≡ Some fault → ⊥
-none-some o fault n s = cc
-
 -- after a close that succeeded
 pub ends-closed : (q : State) (image : Image) (told : Result ToldNumbers Fault) → q.failed ≡ false → closing_fault q ≡ None → StandsClosed q image
     → IfOk told (λ numbers. numbers_of numbers ≡ ruling_numbers image) → IfErr told (λ fault. log_damage image ≡ Some fault)
@@ -77,7 +48,7 @@ pub ends-closed : (q : State) (image : Image) (told : Result ToldNumbers Fault) 
 ends-closed q image (Ok numbers) works may stands is found = λ lost.
     let s = stopped q (closed q ∷ []) lost image (closed q, (0, omega arith, refl), stands) in
     (s.0, s.1, (refl, works, may, is ∙ ap (λ (r : Record). record { gate = r.gate; persisted = r.persisted; dirty = r.dirty }) stands.ruled, s.2))
-ends-closed q image (Err fault) works may stands is found = absurd (none-some (damage image) fault stands.stands.sound (log-first image fault found))
+ends-closed q image (Err fault) works may stands is found = absurd (none-some fault (sym stands.stands.sound ∙ log-first image fault found))
 
 -- within a close that failed
 pub ends-refused : (q : State) (image : Image) (old new : Device) (fault : Fault) → q.failed ≡ false → IsClosingRefusal q old new fault

@@ -4,6 +4,7 @@ use Rattle.std.specs.Prelude.{Contains, Option, Some, None, Result, Ok, Err, IfE
 use Rattle.std.specs.Option.{option_map}
 use Rattle.std.proofs.lemmas.Bool.{cases_lt}
 use Rattle.std.proofs.lemmas.List.Elements.{Contains-append_cases, Contains-append_left, Contains-append_right, Contains-push, Contains-push_cases}
+use Rattle.std.proofs.lemmas.Option.{none-some}
 use Rattle.base.specs.declared.fault.Fault.{Fault}
 use Rattle.base.specs.declared.fault.Fault.TheVariants.{Device as DeviceFault, OutOfMemory, NotFormatted, Version, BadGeometry, Damaged, TimestampsOut, Failed}
 use Rattle.base.specs.declared.step.Step.{Step}
@@ -21,6 +22,7 @@ use Rattle.pmem_model.specs.declared.choice.Choice.{Choice}
 use Rattle.pmem_model.specs.Chosen.{IsChosen}
 use Rattle.pmem_model.specs.Sim.{IsWithinLimit}
 use Rattle.recovery.specs.Opened.{IsRefusal, MakesOpening}
+use Rattle.recovery.proofs.Beginning.{log-first}
 use Rattle.room.specs.Closing.{IsClosingRefusal}
 use Rattle.room.specs.Committing.{Shows}
 use Rattle.room.specs.Steps.{StepsTo}
@@ -30,7 +32,6 @@ use Rattle.lives.specs.declared.life.LifeReport.{LifeReport}
 use Rattle.lives.specs.declared.life.Numbers.{Numbers}
 use Rattle.lives.specs.declared.life.Opened.{Opened}
 use Rattle.lives.specs.Stops.{ClosesWithDevice, EndsOn, FailsOn, GoesOn, IsStopped, LivesOn, OpensOn, PlaysOn, ReportsDevice, StepsOn, StopsBy}
-use Rattle.lives.proofs.Ends.{log-first}
 
 -- ---- going on
 
@@ -291,12 +292,9 @@ some-closed told e = ap by e
 numbers-not : (numbers : Numbers) → ◌≡◌ {A = Result Numbers Fault} (Ok numbers) (Err DeviceFault) → ⊥
 numbers-not numbers e = cc
 
-sound-not : (reason : Option Fault) (fault : Fault) → reason ≡ None → reason ≡ Some fault → ⊥
-sound-not reason fault none some = cc
-
 read-not : (image : Image) (told : Result Numbers Fault) → damage image ≡ None → IfErr told (λ fault. log_damage image ≡ Some fault) → told ≡ Err DeviceFault → ⊥
 read-not image (Ok numbers) sound is e = numbers-not numbers e
-read-not image (Err fault) sound is e = sound-not (damage image) fault sound (log-first image fault is)
+read-not image (Err fault) sound is e = none-some fault (sym sound ∙ log-first image fault is)
 
 -- after a close that succeeded
 pub closed-stops : (choice : Choice) (q : State) (old last : Device) (left : Image) (told : Result Numbers Fault) → LeavesOnly old last (StandsClosing q) → last.failures ≡ old.failures
@@ -313,7 +311,7 @@ closed-stops choice q old last left told images same closed sound is tidy within
   where
     by : (told : Result Numbers Fault) → IfErr told (λ fault. log_damage left ≡ Some fault) → EndsOn q (Some told) old last
     by (Ok numbers) is = (same, images, closed)
-    by (Err fault) is = absurd (sound-not (damage left) fault sound (log-first left fault is))
+    by (Err fault) is = absurd (none-some fault (sym sound ∙ log-first left fault is))
 
 abbrev close-fault : Result Numbers Fault → Fault
 close-fault (Ok numbers) = OutOfMemory

@@ -1,13 +1,13 @@
 -- What the words of a place say of the record in it.
-use Rattle.std.proofs.Common.{◌≡◌, ◌⊎◌, inl, inr, ℕ, ◌+◌, ◌-◌, ◌*◌, ◌/◌, ◌%◌, ◌^◌, ◌<◌, ◌≤◌, Bool, true, false, ◌&&◌, List, [], ◌∷◌, length, get_or, drop, refl, sym, ◌∙◌, ap, arith, cond, lit<, nat_eq, nat_lt, unwrap_or, slice_get}
+use Rattle.std.proofs.Common.{◌≡◌, ◌⊎◌, inl, inr, ℕ, ◌+◌, ◌-◌, ◌*◌, ◌/◌, ◌%◌, ◌^◌, ◌<◌, ◌≤◌, Bool, true, ◌&&◌, List, [], ◌∷◌, length, get_or, drop, refl, sym, ◌∙◌, ap, arith, lit<, nat_lt, unwrap_or, slice_get}
 use Rattle.std.specs.Prelude.{None}
 use Rattle.std.proofs.lemmas.Bool.Decides.{nat_tests}
 use Rattle.std.proofs.lemmas.List.{ext_get_or, length-drop, drop_more}
 use Rattle.std.proofs.lemmas.Option.{unwrap_or-slice_get}
 use Rattle.base.specs.declared.gap.Gap.{Gap}
-use Rattle.base.specs.Layout.{most_longs}
 use Rattle.base.specs.Records.{Record, IsRecord, record_word, no_gap, are_apart, are_rising}
 use Rattle.base.proofs.Spelling.{record_word-first, record_word-last, same_gap, record_word-long, same_record, few_gaps}
+use Rattle.base.proofs.Layouts.{few_longs}
 use Rattle.log_area.specs.Codec.{IsReadFrom}
 
 -- ---- words of a record
@@ -55,13 +55,6 @@ rising_end ts i h = short (drop i ts) (omega (arith, length-drop i ts))
     short (a ∷ b ∷ ts) h = absurd (omega (arith, h))
 
 -- ---- one record fits
-
-few_longs : (version : ℕ) → most_longs version ≤ 12
-few_longs version = by_test (nat_eq version 1)
-  where
-    by_test : (b : Bool) → cond b 0 12 ≤ 12
-    by_test true = omega arith
-    by_test false = omega arith
 
 module _ (version : ℕ) (words : List ℕ) (r : Record) (is : IsRecord version words r) where
   few : (length r.gaps ≤ 8) × (length r.longs ≤ 12)

@@ -7,3 +7,4 @@ pub mod Whole
 pub mod Heads
 pub mod Finding
 pub mod AtRest
+pub mod Stages

@@ -1,62 +1,11 @@
 -- What a fence by an actor would change, after each kind of operation.
-use Rattle.std.proofs.Common.{◌≡◌, ◌≢◌, inl, inr, ℕ, ◌/◌, ◌<◌, Bool, true, false, cond, ◌||◌, List, [], ◌∷◌, length, get_or, Some, is_some, nat_lt, nat_le, ◌==◌, refl, sym, ◌∙◌, ap, subst}
+use Rattle.std.proofs.Common.{◌≡◌, ◌≢◌, inl, inr, ℕ, ◌/◌, ◌<◌, Bool, true, false, cond, ◌||◌, List, [], ◌∷◌, length, get_or, Some, nat_lt, nat_le, ◌==◌, refl, sym, ◌∙◌, ap, subst}
 use Rattle.std.proofs.lemmas.Bool.{cases_eq, ne_eqb, eq-eqb, true≢false}
-use Rattle.pmem.specs.Device.{Entry, fresh, marked, persisted, kept_from, restarted}
-use Rattle.pmem_model.specs.Listing.{is_awaited, is_listed, is_pending, IsTracked}
+use Rattle.pmem.specs.Device.{Entry, fresh, marked, persisted, restarted}
+use Rattle.pmem.proofs.Awaited.{awaited-none, awaited-persisted, awaited-other, awaited-marked}
+use Rattle.pmem.specs.Awaits.{is_awaited}
+use Rattle.pmem_model.specs.Listing.{is_listed, is_pending, IsTracked}
 use Rattle.pmem_model.specs.Log.{pushed}
-
--- a fence leaves what it isn't awaited for
-awaited-none : (actor moment : ℕ) (history : List Entry) → is_awaited actor history ≡ false → persisted actor moment history ≡ history
-awaited-none actor moment [] none = refl
-awaited-none actor moment (entry ∷ older) none = by_tests (is_some entry.kept) (entry.flushed actor) (awaited-none actor moment older) none
-  where
-    by_tests : (k f : Bool) → (is_awaited actor older ≡ false → persisted actor moment older ≡ older) → cond k false (cond f true (is_awaited actor older)) ≡ false
-        → cond k (entry ∷ older) (cond f (kept_from moment entry ∷ older) (entry ∷ persisted actor moment older)) ≡ entry ∷ older
-    by_tests true f rest none = refl
-    by_tests false true rest none = absurd (true≢false none)
-    by_tests false false rest none = ap (λ (l : List Entry). entry ∷ l) (rest none)
-
--- after a fence by the actor nothing is awaited
-awaited-persisted : (actor moment : ℕ) (history : List Entry) → is_awaited actor (persisted actor moment history) ≡ false
-awaited-persisted actor moment [] = refl
-awaited-persisted actor moment (entry ∷ older) = by_tests (is_some entry.kept) (entry.flushed actor) refl refl (awaited-persisted actor moment older)
-  where
-    by_tests : (k f : Bool) → is_some entry.kept ≡ k → entry.flushed actor ≡ f → is_awaited actor (persisted actor moment older) ≡ false
-        → is_awaited actor (cond k (entry ∷ older) (cond f (kept_from moment entry ∷ older) (entry ∷ persisted actor moment older))) ≡ false
-    by_tests true f kept flags rest = ap (λ (b : Bool). cond b false (cond (entry.flushed actor) true (is_awaited actor older))) kept
-    by_tests false true kept flags rest = refl
-    by_tests false false kept flags rest =
-        ap (λ (b : Bool). cond b false (cond (entry.flushed actor) true (is_awaited actor (persisted actor moment older)))) kept
-        ∙ ap (λ (b : Bool). cond b true (is_awaited actor (persisted actor moment older))) flags
-        ∙ rest
-
--- so a second fence changes nothing
-pub persisted_twice : (actor moment : ℕ) (history : List Entry) → persisted actor moment (persisted actor moment history) ≡ persisted actor moment history
-persisted_twice actor moment history = awaited-none actor moment (persisted actor moment history) (awaited-persisted actor moment history)
-
--- after a fence by another actor no more is awaited
-awaited-other : (actor other moment : ℕ) (history : List Entry) → is_awaited actor (persisted other moment history) ≡ true → is_awaited actor history ≡ true
-awaited-other actor other moment [] is = is
-awaited-other actor other moment (entry ∷ older) is = by_tests (is_some entry.kept) (entry.flushed other) refl (awaited-other actor other moment older) is
-  where
-    deeper : (k f : Bool) → (is_awaited actor (persisted other moment older) ≡ true → is_awaited actor older ≡ true)
-        → cond k false (cond f true (is_awaited actor (persisted other moment older))) ≡ true → cond k false (cond f true (is_awaited actor older)) ≡ true
-    deeper true f rest is = is
-    deeper false true rest is = refl
-    deeper false false rest is = rest is
-
-    by_tests : (k f : Bool) → is_some entry.kept ≡ k → (is_awaited actor (persisted other moment older) ≡ true → is_awaited actor older ≡ true)
-        → is_awaited actor (cond k (entry ∷ older) (cond f (kept_from moment entry ∷ older) (entry ∷ persisted other moment older))) ≡ true
-        → is_awaited actor (entry ∷ older) ≡ true
-    by_tests true f kept rest is = is
-    by_tests false true kept rest is = absurd (true≢false (sym is))
-    by_tests false false kept rest is = deeper (is_some entry.kept) (entry.flushed actor) rest is
-
--- a flush by another actor changes nothing of it
-awaited-marked : (actor other : ℕ) (history : List Entry) → actor ≢ other → is_awaited actor (marked other history) ≡ is_awaited actor history
-awaited-marked actor other [] apart = refl
-awaited-marked actor other (entry ∷ older) apart =
-    ap (λ (b : Bool). cond (is_some entry.kept) false (cond (b || entry.flushed actor) true (is_awaited actor older))) (ne_eqb actor other apart)
 
 -- ---- the lines that are pending
 

@@ -1,22 +1,10 @@
 -- What an actor's list of lines has.
 use Rattle.std.proofs.Common.{◌≡◌, ◌≢◌, ◌⊎◌, inl, inr, ℕ, zero, suc, ◌+◌, ◌*◌, ◌/◌, ◌<◌, Bool, true, false, cond, ◌&&◌, ◌||◌, List, [], ◌∷◌, length, set, get_or, nat_le, ◌==◌, refl, sym, ◌∙◌, ap, arith}
-use Rattle.std.proofs.lemmas.Bool.{cases_eq, eq-eqb, true≢false, lt-leb, eqb-true}
+use Rattle.std.proofs.lemmas.Bool.{cases_eq, eq-eqb, true≢false, lt-leb, eqb-true, or_right, and_parts}
 use Rattle.std.proofs.lemmas.List.{get_or-set_same, get_or-set_other}
 use Rattle.pmem.specs.Device.{Entry, persisted}
+use Rattle.pmem.proofs.Awaited.{persisted_twice}
 use Rattle.pmem_model.specs.Listing.{line_at, is_listed, is_pending, IsListing}
-use Rattle.pmem_model.proofs.Awaited.{persisted_twice}
-
-and_left : (a b : Bool) → (a && b) ≡ true → a ≡ true
-and_left true b is = refl
-and_left false b is = is
-
-and_right : (a b : Bool) → (a && b) ≡ true → b ≡ true
-and_right true b is = is
-and_right false b is = absurd (true≢false (sym is))
-
-pub or_true : (a b : Bool) → b ≡ true → (a || b) ≡ true
-or_true true b is = refl
-or_true false b is = is
 
 -- it depends on the first places alone
 listed-same : (xs ys : List ℕ) (actor line n : ℕ) → ((k : ℕ) → k < n → line_at xs actor k ≡ line_at ys actor k) → is_listed xs actor line n ≡ is_listed ys actor line n
@@ -27,7 +15,7 @@ pub listed_at : (listed : List ℕ) (actor line place n : ℕ) → place < n →
 listed_at listed actor line place zero lt is = absurd (omega arith)
 listed_at listed actor line place (suc n) lt is = elim (cases_eq place n) [
   | inl here ↦ ap (λ (b : Bool). b || is_listed listed actor line n) (eq-eqb line (line_at listed actor n) (sym is ∙ ap (line_at listed actor) here))
-  | inr apart ↦ or_true (line == line_at listed actor n) (is_listed listed actor line n) (listed_at listed actor line place n (omega arith) is)
+  | inr apart ↦ or_right (line == line_at listed actor n) (is_listed listed actor line n) (listed_at listed actor line place n (omega arith) is)
 ]
 
 -- one place more was visited
@@ -92,7 +80,7 @@ module _ (lines room : ℕ) (counts listed : List ℕ) (actor line : ℕ) (listi
 
   pub pending-added : is_pending room (set counts actor (get_or counts actor 0 + 1)) (set listed (64 * get_or counts actor 0 + actor) line) actor line ≡ true
   pending-added =
-      or_true (nat_le room (get_or (set counts actor (get_or counts actor 0 + 1)) actor 0)) _
+      or_right (nat_le room (get_or (set counts actor (get_or counts actor 0 + 1)) actor 0)) _
       (listed_at (set listed (64 * get_or counts actor 0 + actor) line) actor line (get_or counts actor 0) (get_or (set counts actor (get_or counts actor 0 + 1)) actor 0) (omega (arith, own_count)) (there (get_or counts actor 0) refl))
 
   pub pending-others : (other at : ℕ) → other < 64 → is_pending room counts listed other at ≡ true
@@ -102,9 +90,9 @@ module _ (lines room : ℕ) (counts listed : List ℕ) (actor line : ℕ) (listi
         let same : is_listed listed actor at (get_or counts actor 0) ≡ true =
         not_full (nat_le room (get_or counts actor 0)) (is_listed listed actor at (get_or counts actor 0)) (lt_room (get_or counts actor 0) unfull) (ap (λ (a : ℕ). is_pending room counts listed a at) (sym own) ∙ is) in
         ap (λ (a : ℕ). is_pending room (set counts actor (get_or counts actor 0 + 1)) (set listed (64 * get_or counts actor 0 + actor) line) a at) own
-        ∙ or_true (nat_le room (get_or (set counts actor (get_or counts actor 0 + 1)) actor 0)) _ (
+        ∙ or_right (nat_le room (get_or (set counts actor (get_or counts actor 0 + 1)) actor 0)) _ (
         ap (is_listed (set listed (64 * get_or counts actor 0 + actor) line) actor at) one_more
-        ∙ or_true (at == line_at (set listed (64 * get_or counts actor 0 + actor) line) actor (get_or counts actor 0)) _ (
+        ∙ or_right (at == line_at (set listed (64 * get_or counts actor 0 + actor) line) actor (get_or counts actor 0)) _ (
         listed-same (set listed (64 * get_or counts actor 0 + actor) line) listed actor at (get_or counts actor 0) (λ k k_lt. elsewhere actor k small (inr (λ e. absurd (omega (arith, e, k_lt))))) ∙ same
         )
         )
@@ -131,8 +119,8 @@ all_zero (x ∷ xs) = (x == 0) && all_zero xs
 
 zero_at : (xs : List ℕ) (i : ℕ) → all_zero xs ≡ true → get_or xs i 0 ≡ 0
 zero_at [] i all = refl
-zero_at (x ∷ xs) zero all = eqb-true x 0 (and_left (x == 0) (all_zero xs) all)
-zero_at (x ∷ xs) (suc i) all = zero_at xs i (and_right (x == 0) (all_zero xs) all)
+zero_at (x ∷ xs) zero all = eqb-true x 0 (and_parts (x == 0) (all_zero xs) all).0
+zero_at (x ∷ xs) (suc i) all = zero_at xs i (and_parts (x == 0) (all_zero xs) all).1
 
 pub listing_none : (lines room : ℕ) (counts listed : List ℕ) → all_zero counts ≡ true → IsListing lines room counts listed
 listing_none lines room counts listed all = record {

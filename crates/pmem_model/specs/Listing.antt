@@ -1,6 +1,7 @@
 -- Which lines an actor's next fence visits.
-use Rattle.std.specs.Prelude.{◌≡◌, ℕ, zero, suc, ◌+◌, ◌*◌, ◌/◌, ◌<◌, ◌≤◌, Bool, true, false, ◌||◌, List, [], ◌∷◌, slice_index, is_some, if◌then◌else◌, ◌==◌, nat_le}
+use Rattle.std.specs.Prelude.{◌≡◌, ℕ, zero, suc, ◌+◌, ◌*◌, ◌/◌, ◌<◌, ◌≤◌, Bool, true, false, ◌||◌, List, [], slice_index, ◌==◌, nat_le}
 use Rattle.pmem.specs.Device.{Entry}
+use Rattle.pmem.specs.Awaits.{is_awaited}
 
 -- the line at this place of the actor's list
 abbrev pub line_at : List ℕ → ℕ → ℕ → ℕ
@@ -19,11 +20,6 @@ is_pending room counts listed actor line = nat_le room (slice_index counts actor
 pub record IsListing (lines room : ℕ) (counts listed : List ℕ) : Type 0 where
   pub within : (actor : ℕ) → slice_index counts actor ≤ room
   pub in_lines : (actor place : ℕ) → actor < 64 → place < slice_index counts actor → line_at listed actor place < lines
-
--- a fence by the actor would change the history
-abbrev pub is_awaited : ℕ → List Entry → Bool
-is_awaited actor [] = false
-is_awaited actor (entry ∷ older) = if is_some entry.kept then false else (if entry.flushed actor then true else is_awaited actor older)
 
 -- where a fence by an actor would change a word, the word's line is pending for that actor
 pub record IsTracked (history : ℕ → List Entry) (room : ℕ) (counts listed : List ℕ) : Type 0 where

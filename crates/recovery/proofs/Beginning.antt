@@ -12,21 +12,29 @@ use Rattle.recovery.proofs.Opens.{sound-faultless, known-good}
 
 -- ---- in which order faults are told
 
-chain : (a b c d e f rest : Option Fault) (x : Fault) → option_or a (option_or b (option_or c (option_or d (option_or e None)))) ≡ Some x
-    → option_or (option_or a (option_or b (option_or c (option_or d (option_or e (option_or f None)))))) rest ≡ Some x
-chain (Some y) b c d e f rest x is = is
-chain None (Some y) c d e f rest x is = is
-chain None None (Some y) d e f rest x is = is
-chain None None None (Some y) e f rest x is = is
-chain None None None None (Some y) f rest x is = is
-chain None None None None None f rest x is = absurd (cc is)
+chain : (a b c d e f : Option Fault) (x : Fault) → option_or a (option_or b (option_or c (option_or d (option_or e None)))) ≡ Some x
+    → option_or a (option_or b (option_or c (option_or d (option_or e (option_or f None))))) ≡ Some x
+chain (Some y) b c d e f x is = is
+chain None (Some y) c d e f x is = is
+chain None None (Some y) d e f x is = is
+chain None None None (Some y) e f x is = is
+chain None None None None (Some y) f x is = is
+chain None None None None None f x is = absurd (cc is)
 
-pub fault-log : (image : Image) (fault : Fault) → log_damage image ≡ Some fault → opening_fault image ≡ Some fault
-fault-log image fault is =
+-- a fault of the log is the first that an image has
+pub log-first : (image : Image) (fault : Fault) → log_damage image ≡ Some fault → damage image ≡ Some fault
+log-first image fault is =
     chain (some_if (not (is_formatted image)) NotFormatted) (some_if (not (is_known_version (layout_of image).version)) (Version (layout_of image).version)) (some_if (not (has_good_geometry image)) BadGeometry)
     (option_map Damaged (first_below (layout_of image).places (is_wrong_gate image))) (some_if (not (is_ruled image)) (Damaged (ruling_place image)))
-    (option_map (λ slot. Damaged ((layout_of image).places + slot)) (first_below (layout_of image).slots (is_bad_slot (ruling image) image)))
-    (option_or (some_if (is_near_limit image) TimestampsOut) None) fault is
+    (option_map (λ slot. Damaged ((layout_of image).places + slot)) (first_below (layout_of image).slots (is_bad_slot (ruling image) image))) fault is
+
+-- what comes first is the first
+first-damage : (o rest : Option Fault) (fault : Fault) → o ≡ Some fault → option_or o rest ≡ Some fault
+first-damage None rest fault e = absurd (cc e)
+first-damage (Some x) rest fault e = e
+
+pub fault-log : (image : Image) (fault : Fault) → log_damage image ≡ Some fault → opening_fault image ≡ Some fault
+fault-log image fault is = first-damage (damage image) _ fault (log-first image fault is)
 
 module _ (layout : Layout) (r : Record) (image : Image) (rules : IsRuledBy layout r image) where
   pub gates-none : first_below (layout_of image).places (is_wrong_gate image) ≡ None

@@ -50,10 +50,6 @@ cleaned-same r at old begun ended =
     (λ i. cond (begun i || ended i) (flushed 0 (at / 8) (zeroed r (at + 1) (zeroed r at old))) (zeroed r (at + 1) (zeroed r at old)))
     ∙ zeroed-is r (at + 1) (zeroed r at old) false ended ∙ zeroed-is r at old false begun
 
-pub or-neither : (a b : Bool) → (a || b) ≡ false → (a ≡ false) × (b ≡ false)
-or-neither true b e = absurd (cc e)
-or-neither false b e = (refl, e)
-
 -- ---- an image that is updated first
 
 same-width : (version : ℕ) → slot_words (opened_version version) ≡ slot_words version

@@ -14,4 +14,3 @@ pub mod Zeros
 pub mod Fresh
 pub mod LiveRows
 pub mod WhatIsRead
-pub mod Restarted

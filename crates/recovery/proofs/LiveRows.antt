@@ -6,7 +6,7 @@ use Rattle.std.specs.List.{range_with_len}
 use Rattle.std.proofs.lemmas.Grind.{flat_map-append}
 use Rattle.std.proofs.lemmas.List.FromFn.{map-range_with_len_more, get_or-map-range_with_len, length-map-range_with_len}
 use Rattle.base.specs.Images.{Image, ruling, key_of, row_of, is_shown, is_bad_slot}
-use Rattle.base.proofs.Histories.{first_below-none}
+use Rattle.base.proofs.Search.{first_below-none}
 use Rattle.recovery.specs.Slots.{is_free, is_bad, free_below, bad_below}
 use Rattle.recovery.specs.Read.{row_at, rows_below}
 use Rattle.recovery.specs.Live.{live_at, live_below}

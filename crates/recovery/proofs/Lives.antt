@@ -2,7 +2,7 @@
 use Rattle.std.proofs.Common.{◌≡◌, ◌⊎◌, inl, inr, ℕ, ◌+◌, ◌-◌, ◌*◌, ◌^◌, ◌<◌, ◌≤◌, Bool, true, false, cond, not, ◌||◌, ◌&&◌, List, [], length, get_or, map, refl, sym, ◌∙◌, ap, subst, arith, nat_le, nat_lt}
 use Rattle.std.specs.Prelude.{Option, Some, None}
 use Rattle.std.specs.List.{range_with_len}
-use Rattle.std.proofs.lemmas.Bool.{and_parts, leb-true, leb-false, cases_lt}
+use Rattle.std.proofs.lemmas.Bool.{and_parts, leb-true, leb-false, cases_lt, or_parts}
 use Rattle.std.proofs.lemmas.List.{get_or_past}
 use Rattle.std.proofs.lemmas.List.FromFn.{length-map-range_with_len, get_or-map-range_with_len}
 use Rattle.base.specs.declared.gap.Gap.{Gap}
@@ -38,22 +38,15 @@ use Rattle.recovery.specs.Sweeping.{IsSwept, is_hit}
 use Rattle.recovery.specs.Opened.{HasSlotsOf, Refuses, IsExamined, Examined, HasOpenedToday, IsCutBefore, IsCutShort, IsRefusal, sweep_operations, total}
 use Rattle.recovery.specs.declared.rows.LiveSlot.{LiveSlot}
 use Rattle.base.proofs.WellFormed.{WellFormed, well_formed-parts}
-use Rattle.recovery.proofs.Opens.{stands-opening, or-none, record_after}
+use Rattle.base.proofs.Options.{or-none, some_if-none}
+use Rattle.recovery.proofs.Opens.{stands-opening, record_after}
 use Rattle.recovery.proofs.Ruled.{images-sweeping, ruled-swept}
 use Rattle.recovery.proofs.Beginning.{fault-log, fault-slots, fault-limit, no-damage, no-fault}
 
 -- ---- parts of the answer
 
-some_if-false : (b : Bool) (x : Fault) → some_if b x ≡ None → b ≡ false
-some_if-false true x e = absurd (cc e)
-some_if-false false x e = refl
-
-or-false : (a b : Bool) → (a || b) ≡ false → (a ≡ false) × (b ≡ false)
-or-false true b e = absurd (cc e)
-or-false false b e = (refl, e)
-
 opening-near : (image : Image) → opening_fault image ≡ None → is_near_limit image ≡ false
-opening-near image none = some_if-false (is_near_limit image) TimestampsOut (or-none (some_if (is_near_limit image) TimestampsOut) _ (or-none (damage image) _ none).1).0
+opening-near image none = some_if-none (is_near_limit image) TimestampsOut (or-none (some_if (is_near_limit image) TimestampsOut) _ (or-none (damage image) _ none).1).0
 
 -- ---- what isn't swept
 
@@ -138,7 +131,7 @@ module _ (image : Image) (layout : Layout) (r : Record) (gaps : Option (List Gap
   is = ex
 
   near : (nat_le (2 ^ 62) (r.dirty + 2 * layout.window) ≡ false) × (nat_le (2 ^ 62) (r.gate + 1) ≡ false)
-  near = or-false _ _ ((λ i. nat_le (2 ^ 62) ((sym is.rules.by_record i).dirty + 2 * (sym is.rules.laid_out i).window) || nat_le (2 ^ 62) ((sym is.rules.by_record i).gate + 1)) ∙ opening-near image is.opens)
+  near = or_parts _ _ ((λ i. nat_le (2 ^ 62) ((sym is.rules.by_record i).dirty + 2 * (sym is.rules.laid_out i).window) || nat_le (2 ^ 62) ((sym is.rules.by_record i).gate + 1)) ∙ opening-near image is.opens)
 
   pub some-dirty : 1 ≤ r.dirty
   some-dirty = let rising : r.persisted < r.dirty = (formed-parts layout r image is.rules).below in omega (arith, rising)

@@ -1,10 +1,9 @@
 -- What an image stands for under the record that an opening writes.
-use Rattle.std.proofs.Common.{◌≡◌, ◌⊎◌, inl, inr, ℕ, ◌+◌, ◌<◌, ◌≤◌, Bool, true, false, not, List, [], ◌∷◌, get_or, refl, sym, ◌∙◌, ap, subst, arith}
-use Rattle.std.specs.Prelude.{Option, Some, None, ◌↔◌}
+use Rattle.std.proofs.Common.{◌≡◌, ◌⊎◌, inl, inr, ℕ, ◌+◌, ◌<◌, ◌≤◌, true, false, not, List, [], ◌∷◌, get_or, refl, sym, ◌∙◌, ap, subst, arith}
+use Rattle.std.specs.Prelude.{None, ◌↔◌}
 use Rattle.std.specs.Option.{option_or, option_map}
 use Rattle.std.specs.List.{list_all}
 use Rattle.std.proofs.lemmas.Bool.{and_parts, and_from, leb-true}
-use Rattle.base.specs.declared.fault.Fault.{Fault}
 use Rattle.base.specs.declared.fault.Fault.TheVariants.{BadGeometry, NotFormatted, Damaged, Version}
 use Rattle.base.specs.Search.{first_below, some_if}
 use Rattle.base.specs.Commits.{Commit}
@@ -12,12 +11,14 @@ use Rattle.base.specs.Layout.{Layout, slot_start, slot_words, is_known_version}
 use Rattle.base.specs.Records.{Record, is_committed, opened_gaps}
 use Rattle.base.specs.Images.{Image, IsSound, layout_of, is_formatted, has_good_geometry, is_wrong_gate, is_ruled, ruling, ruling_place, slot_word, is_bad_slot, ShownUnder, IsRuledBy}
 use Rattle.base.proofs.Histories.{no_bad_slot}
-use Rattle.base.proofs.Alike.{HasRowsOf, CountsAlike, none_below, good-same, tables-same}
+use Rattle.base.proofs.Alike.{HasRowsOf, CountsAlike, good-same, tables-same}
 use Rattle.base.proofs.OpenedRecords.{still-committed}
 use Rattle.base.proofs.Opened.{opened-rows, opened-still, opened-counts, covers-of, rising-of}
 use Rattle.base.proofs.Layouts.{line-words}
 use Rattle.base.specs.Stands.{Stands}
 use Rattle.base.specs.Openings.{StandsOpening, opening_record, opened, gaps_kept, opened_slots}
+use Rattle.base.proofs.Options.{or-none, map-none, some_if_not-none}
+use Rattle.base.proofs.Search.{first_below-nowhere}
 use Rattle.recovery.specs.Opened.{HasSlotsOf}
 
 -- ---- sound images
@@ -30,18 +31,6 @@ pub record IsFaultless (image : Image) : Type 0 where
   pub well_ruled : is_ruled image ≡ true
   pub slots : first_below (layout_of image).slots (is_bad_slot (ruling image) image) ≡ None
 
-pub or-none : {X : Type 0} → (a b : Option X) → option_or a b ≡ None → (a ≡ None) × (b ≡ None)
-or-none None b e = (refl, e)
-or-none (Some x) b e = cc
-
-map-none : {X Y : Type 0} → (f : X → Y) (o : Option X) → option_map f o ≡ None → o ≡ None
-map-none f None e = refl
-map-none f (Some x) e = cc
-
-some_if-none : (b : Bool) (x : Fault) → some_if (not b) x ≡ None → b ≡ true
-some_if-none true x e = refl
-some_if-none false x e = cc
-
 pub faultless : (image : Image) → IsSound image → IsFaultless image
 faultless image sound =
     let a = or-none _ _ sound in
@@ -51,11 +40,11 @@ faultless image sound =
     let e = or-none _ _ d.1 in
     let f = or-none _ _ e.1 in
     record {
-      formatted = some_if-none (is_formatted image) NotFormatted a.0;
-      known = some_if-none (is_known_version (layout_of image).version) (Version (layout_of image).version) b.0;
-      geometry = some_if-none (has_good_geometry image) BadGeometry c.0;
+      formatted = some_if_not-none (is_formatted image) NotFormatted a.0;
+      known = some_if_not-none (is_known_version (layout_of image).version) (Version (layout_of image).version) b.0;
+      geometry = some_if_not-none (has_good_geometry image) BadGeometry c.0;
       gates = map-none Damaged _ d.0;
-      well_ruled = some_if-none (is_ruled image) (Damaged (ruling_place image)) e.0;
+      well_ruled = some_if_not-none (is_ruled image) (Damaged (ruling_place image)) e.0;
       slots = map-none (λ slot. Damaged ((layout_of image).places + slot)) _ f.0;
     }
 
@@ -116,7 +105,7 @@ stands-same before image history drawn next r s like alike rules later still =
         geometry = rules.geometry;
         gates = subst (λ (n : ℕ). first_below n (is_wrong_gate image) ≡ None) places rules.gates;
         well_ruled = rules.well_ruled;
-        slots = subst (λ (n : ℕ). first_below n (is_bad_slot (ruling image) image) ≡ None) slots (none_below (layout_of before).slots (is_bad_slot (ruling image) image) good);
+        slots = subst (λ (n : ℕ). first_below n (is_bad_slot (ruling image) image) ≡ None) slots (first_below-nowhere (layout_of before).slots (is_bad_slot (ruling image) image) good);
       });
       tables = λ key row.
           let shown = subst (λ (x : Record). ShownUnder x image key row ↔ ShownUnder (ruling before) before key row) (sym ruled) (tables-same before image like (ruling before) r alike wide key row) in

@@ -2,51 +2,20 @@
 use Rattle.std.proofs.Common.{◌≡◌, ◌⊎◌, inl, inr, ℕ, zero, suc, ◌+◌, ◌-◌, ◌<◌, ◌≤◌, Bool, true, false, not, ◌&&◌, ◌||◌, nat_eq, nat_lt, nat_le, List, [], ◌∷◌, length, get_or, refl, sym, ◌∙◌, ap, subst, arith}
 use Rattle.std.specs.List.{list_any, list_all}
 use Rattle.std.proofs.lemmas.Bool.{ltb-true, leb-true, lt-ltb, le-leb, eqb-true, eq-eqb, and_parts, and_from, or_cases, or_left, or_right, cases_lt}
+use Rattle.std.specs.Cmp.{both_ways}
 use Rattle.base.specs.declared.gap.Gap.{Gap}
 use Rattle.base.specs.Records.{Record, is_in, are_apart, are_rising, no_gap, with_gap, opened_gaps}
 use Rattle.base.specs.Openings.{IsOpenedGaps}
 use Rattle.base.proofs.WellFormed.{well_formed-parts}
 use Rattle.base.proofs.GapLists.{opened-gaps, one_gap_list}
+use Rattle.base.proofs.Lists.{rising-rest}
+use Rattle.base.proofs.GapSets.{Within, In, Tidy, tidy-lower, in-low, in-from, in-test}
 use Rattle.gap_list.specs.GapLists.{is_gap_list}
 use Rattle.gap_list.proofs.Tidy.{gap_list-up, well_formed-tidy, with_gap-tidy}
 use Rattle.gap_list.proofs.WithGap.{are_up, with_gap-up, with_gap-are_apart, is_between, is_in-with_gap}
 use Rattle.recovery.specs.Gaps.{MayRule, HasUpTo, HasLongsBetween}
 
 -- ---- lists of gaps as sets
-
-abbrev Within : Gap → ℕ → Type 0
-Within gap t = (gap.first ≤ t) × (t ≤ gap.last)
-
-abbrev In : List Gap → ℕ → Type 0
-In [] t = ⊥
-In (gap ∷ gaps) t = Within gap t ⊎ In gaps t
-
--- from a bound on, each gap holds something and begins apart from the one before it
-abbrev Tidy : ℕ → List Gap → Type 0
-Tidy low [] = Unit {0}
-Tidy low (gap ∷ gaps) = (low ≤ gap.first) × (gap.first ≤ gap.last) × Tidy (gap.last + 2) gaps
-
-tidy-lower : (low high : ℕ) (gaps : List Gap) → low ≤ high → Tidy high gaps → Tidy low gaps
-tidy-lower low high [] le t = tt
-tidy-lower low high (gap ∷ gaps) le (a, b, rest) = (omega (arith, le, a), b, rest)
-
-in-low : (low : ℕ) (gaps : List Gap) (t : ℕ) → Tidy low gaps → In gaps t → low ≤ t
-in-low low [] t tidy none = absurd none
-in-low low (gap ∷ gaps) t (a, b, rest) (inl w) = omega (arith, a, w.0)
-in-low low (gap ∷ gaps) t (a, b, rest) (inr more) = omega (arith, a, b, in-low (gap.last + 2) gaps t rest more)
-
-in-from : (gaps : List Gap) (t : ℕ) → is_in gaps t ≡ true → In gaps t
-in-from [] t e = cc
-in-from (gap ∷ gaps) t e = by (or_cases (nat_le gap.first t && nat_le t gap.last) (is_in gaps t) e) (λ f. in-from gaps t f)
-  where
-    by : ((nat_le gap.first t && nat_le t gap.last) ≡ true) ⊎ (is_in gaps t ≡ true) → (is_in gaps t ≡ true → In gaps t) → In (gap ∷ gaps) t
-    by (inl here) rest = let both = and_parts (nat_le gap.first t) (nat_le t gap.last) here in inl (leb-true gap.first t both.0, leb-true t gap.last both.1)
-    by (inr more) rest = inr (rest more)
-
-in-test : (gaps : List Gap) (t : ℕ) → In gaps t → is_in gaps t ≡ true
-in-test [] t none = absurd none
-in-test (gap ∷ gaps) t (inl w) = or_left (nat_le gap.first t && nat_le t gap.last) (is_in gaps t) (and_from (nat_le gap.first t) (nat_le t gap.last) (le-leb gap.first t w.0) (le-leb t gap.last w.1))
-in-test (gap ∷ gaps) t (inr more) = or_right (nat_le gap.first t && nat_le t gap.last) (is_in gaps t) (in-test gaps t more)
 
 tidy-head : (low : ℕ) (gap : Gap) (gaps : List Gap) → low ≤ gap.first → are_up (gap ∷ gaps) ≡ true → are_apart (gap ∷ gaps) ≡ true → Tidy low (gap ∷ gaps)
 tidy-head low gap [] le up apart = (le, leb-true gap.first gap.last (and_parts _ _ up).0, tt)
@@ -162,10 +131,6 @@ all-at test (gap ∷ gaps) (suc i) all h = all-at test gaps i (and_parts _ _ all
 
 -- ---- long commits, one after another
 
-rising-tail : (a : ℕ) (ts : List ℕ) → are_rising (a ∷ ts) ≡ true → are_rising ts ≡ true
-rising-tail a [] rises = refl
-rising-tail a (b ∷ ts) rises = (and_parts _ _ rises).1
-
 rising-first : (a : ℕ) (ts : List ℕ) (k : ℕ) → are_rising (a ∷ ts) ≡ true → k < length ts → a < get_or ts k 0
 rising-first a [] k rises h = absurd (omega (arith, h))
 rising-first a (b ∷ ts) zero rises h = ltb-true a b (and_parts _ _ rises).0
@@ -175,7 +140,7 @@ rising-at : (ts : List ℕ) (j k : ℕ) → are_rising ts ≡ true → j < k →
 rising-at [] j k rises lt h = absurd (omega (arith, h))
 rising-at (a ∷ ts) j zero rises lt h = absurd (omega (arith, lt))
 rising-at (a ∷ ts) zero (suc k) rises lt h = rising-first a ts k rises (omega (arith, h))
-rising-at (a ∷ ts) (suc j) (suc k) rises lt h = rising-at ts j k (rising-tail a ts rises) (omega (arith, lt)) (omega (arith, h))
+rising-at (a ∷ ts) (suc j) (suc k) rises lt h = rising-at ts j k (rising-rest a ts rises) (omega (arith, lt)) (omega (arith, h))
 
 any-at : (t : ℕ) (ts : List ℕ) → list_any (nat_eq t) ts ≡ true → (j : ℕ) × (j < length ts) × (get_or ts j 0 ≡ t)
 any-at t [] is = absurd (cc is)
@@ -204,11 +169,6 @@ pub record Joined (r : Record) (gaps : List Gap) (last i : ℕ) : Type 0 where
   pub at : last ≡ end_of 0 r.gaps i
 
 -- ---- what an opening goes on with
-
-same_tests : (a b : Bool) → (a ≡ true → b ≡ true) → (b ≡ true → a ≡ true) → a ≡ b
-same_tests true b f g = sym (f refl)
-same_tests false true f g = g refl
-same_tests false false f g = refl
 
 module _ (r : Record) (may : MayRule r) where
   abbrev lies : ℕ → Bool
@@ -240,7 +200,7 @@ module _ (r : Record) (may : MayRule r) where
   module _ (gaps : List Gap) (last : ℕ) (piece : Gap) (has : HasUpTo r last gaps) (some : piece.first ≤ piece.last) (above : last < piece.first)
       (none : (t : ℕ) → last < t → t < piece.first → lies t ≡ true → ⊥) (all : (t : ℕ) → piece.first ≤ t → t ≤ piece.last → lies t ≡ true) where
     joined : (t : ℕ) → (is_in gaps t || is_between piece t) ≡ (lies t && nat_le t piece.last)
-    joined t = same_tests (is_in gaps t || is_between piece t) (lies t && nat_le t piece.last)
+    joined t = both_ways (is_in gaps t || is_between piece t) (lies t && nat_le t piece.last)
         (λ e. elim (or_cases (is_in gaps t) (is_between piece t) e) [
           | inl old ↦ (let both = and_parts (lies t) (nat_le t last) (sym (has.same t) ∙ old) in and_from (lies t) (nat_le t piece.last) both.0 (le-leb t piece.last (omega (arith, some, above, leb-true t last both.1))))
           | inr here ↦ (let both = and_parts (nat_le piece.first t) (nat_le t piece.last) here in and_from (lies t) (nat_le t piece.last) (all t (leb-true piece.first t both.0) (leb-true t piece.last both.1)) both.1)
@@ -297,7 +257,7 @@ module _ (r : Record) (may : MayRule r) where
     pub all-added : (gaps : List Gap) (last : ℕ) → Added r above below gaps last (length r.longs) → HasUpTo r (below - 1) gaps
     all-added gaps last added = record {
       list = added.has.list;
-      same = λ t. added.has.same t ∙ same_tests (lies t && nat_le t last) (lies t && nat_le t (below - 1))
+      same = λ t. added.has.same t ∙ both_ways (lies t && nat_le t last) (lies t && nat_le t (below - 1))
           (λ e. let both = and_parts (lies t) (nat_le t last) e in and_from (lies t) (nat_le t (below - 1)) both.0 (le-leb t (below - 1) (omega (arith, leb-true t last both.1, added.high))))
           (λ e. let both = and_parts (lies t) (nat_le t (below - 1)) e in and_from (lies t) (nat_le t last) both.0 (le-leb t last (by t both.0 (leb-true t (below - 1) both.1) (cases_lt last t))));
     }
@@ -379,7 +339,7 @@ module _ (r : Record) (may : MayRule r) where
           ]
 
   pub none-joined : Joined r [] 0 0
-  none-joined = record { has = record { list = refl; same = λ t. same_tests false (lies t && nat_le t 0) (λ e. absurd (cc e)) (λ e. let both = and_parts (lies t) (nat_le t 0) e in absurd (none t both.0 (leb-true t 0 both.1))) }; at = refl }
+  none-joined = record { has = record { list = refl; same = λ t. both_ways false (lies t && nat_le t 0) (λ e. absurd (cc e)) (λ e. let both = and_parts (lies t) (nat_le t 0) e in absurd (none t both.0 (leb-true t 0 both.1))) }; at = refl }
     where
       none : (t : ℕ) → lies t ≡ true → t ≤ 0 → ⊥
       none t lay low = elim (or_cases (is_in r.gaps t || list_any (nat_eq t) r.longs) (nat_lt r.persisted t && nat_lt t r.dirty) (sym (opens.same t) ∙ lay)) [
@@ -392,7 +352,7 @@ module _ (r : Record) (may : MayRule r) where
 
   -- where no gap and no skipped timestamp is, only long commits lie
   longs-between : (above below : ℕ) → below ≤ r.persisted + 1 → ((t : ℕ) → above < t → t < below → In r.gaps t → ⊥) → HasLongsBetween r above below
-  longs-between above below low none t up down = same_tests (lies t) (list_any (nat_eq t) r.longs)
+  longs-between above below low none t up down = both_ways (lies t) (list_any (nat_eq t) r.longs)
       (λ lay. elim (or_cases (is_in r.gaps t || list_any (nat_eq t) r.longs) (nat_lt r.persisted t && nat_lt t r.dirty) (sym (opens.same t) ∙ lay)) [
         | inl old ↦ elim (or_cases (is_in r.gaps t) (list_any (nat_eq t) r.longs) old) [ inl own ↦ absurd (none t up down (in-from r.gaps t own)) | inr long ↦ long ]
         | inr skip ↦ absurd (omega (arith, low, down, ltb-true r.persisted t (and_parts (nat_lt r.persisted t) (nat_lt t r.dirty) skip).0))
@@ -465,7 +425,7 @@ module _ (r : Record) (may : MayRule r) where
       one_gap_list r gaps (opened_gaps r) (record {
         ordered = gap_list-up gaps has.list;
         apart = (and_parts _ _ (and_parts _ _ has.list).0).1;
-        same = λ t. has.same t ∙ same_tests (lies t && nat_le t last) (lies t) (λ e. (and_parts (lies t) (nat_le t last) e).0) (λ e. and_from (lies t) (nat_le t last) e (le-leb t last (omega (arith, le, lies-below t e)))) ∙ opens.same t;
+        same = λ t. has.same t ∙ both_ways (lies t && nat_le t last) (lies t) (λ e. (and_parts (lies t) (nat_le t last) e).0) (λ e. and_from (lies t) (nat_le t last) e (le-leb t last (omega (arith, le, lies-below t e)))) ∙ opens.same t;
       }) opens
 
   module _ (gaps : List Gap) (has : HasUpTo r r.persisted gaps) where

@@ -3,7 +3,7 @@ use Rattle.std.proofs.Common.{◌≡◌, ◌≢◌, ◌⊎◌, inl, inr, ℕ, ze
 use Rattle.std.proofs.Math.Nat.{mul-le-mul_left}
 use Rattle.std.proofs.lemmas.Bool.{false≢true, and_parts, and_from, cases_lt, cases_eq, ltb-true}
 use Rattle.std.proofs.lemmas.List.{ext_get_or}
-use Rattle.std.proofs.lemmas.List.FromFn.{length-map-range_with_len, get_or-map-range_with_len}
+use Rattle.std.proofs.lemmas.List.FromFn.{length-map-range_with_len}
 use Rattle.base.specs.Search.{count_below}
 use Rattle.base.specs.Layout.{Layout, slot_start, slot_words, total_words}
 use Rattle.base.specs.Records.{Record, is_in, opened_gaps}
@@ -20,6 +20,7 @@ use Rattle.pmem.proofs.Counts.{makes_none, makes-fenced}
 use Rattle.pmem.proofs.OperationEffects.{history-flushed_same, history-stored_other, survivors-stored_same}
 use Rattle.pmem.proofs.Words.{ready-marked}
 use Rattle.base.proofs.Layouts.{line-words, lines-words}
+use Rattle.log_area.proofs.Heads.{image_word}
 use Rattle.recovery.specs.Opened.{sweep_operations}
 use Rattle.recovery.specs.Sweeping.{lies, IsZeroed, is_hit, IsSwept, zeroed, cleaned}
 
@@ -139,9 +140,6 @@ pub record IsSweptUpTo (a : Layout) (r : Record) (start : Device) (n : ℕ) (now
   pub others : (word : ℕ) → (slot_start a n ≤ word) ⊎ (is_hit a r start word ≡ false) → OnlyShrinks start now word
   pub made : Makes (count_below n (lies_in_gap (image_of start) 0) + count_below n (lies_in_gap (image_of start) 1)) (count_below n (λ slot. lies_in_gap (image_of start) 0 slot || lies_in_gap (image_of start) 1 slot)) 0 0 start now
 
-value-at : (device : Device) (word : ℕ) → word < device.words → get_or (image_of device) word 0 ≡ value_of device word
-value-at device word lt = get_or-map-range_with_len (value_of device) 0 device.words word word 0 lt (omega arith)
-
 next-start : (base width slot : ℕ) → base + width * (slot + 1) ≡ base + width * slot + width
 next-start base width slot = let product : width * (slot + 1) ≡ width * slot + width = omega arith in omega (arith, product)
 
@@ -173,7 +171,7 @@ module _ (a : Layout) (r : Record) (start : Device) where
     gap-is : (w : ℕ) → w < 2 → lies_in_gap (image_of start) w slot ≡ lies r (value_of start (first + w))
     gap-is w two =
         (λ i. is_in (opened_gaps (rules.by_record i)) (get_or (image_of start) (slot_start (rules.laid_out i) slot + w) 0))
-        ∙ ap (lies r) (value-at start (first + w) (omega (arith, two, inside)))
+        ∙ ap (lies r) (image_word start (first + w) (omega (arith, two, inside)))
 
     module _ (now : Device) (inv : IsSweptUpTo a r start slot now) where
       abbrev mid : Device
@@ -410,12 +408,12 @@ module _ (a : Layout) (r : Record) (start : Device) where
     swept-image =
         let size-new : length (image_of new) ≡ new.words = length-map-range_with_len (value_of new) 0 new.words in
         ext_get_or 0 (image_of new) (swept (image_of start)) (size-new ∙ same-words ∙ sym (swept-size (image_of start) ∙ length-map-range_with_len (value_of start) 0 start.words))
-        (λ word lt. value-at new word (omega (arith, lt, size-new)) ∙ each word (omega (arith, lt, size-new, same-words)) ∙ sym (there word (omega (arith, lt, size-new, same-words))))
+        (λ word lt. image_word new word (omega (arith, lt, size-new)) ∙ each word (omega (arith, lt, size-new, same-words)) ∙ sym (there word (omega (arith, lt, size-new, same-words))))
       where
         there : (word : ℕ) → word < start.words → get_or (swept (image_of start)) word 0 ≡ cond (is_hit a r start word) 0 (value_of start word)
         there word lt =
             swept-at (image_of start) word
-            ∙ (λ i. cond (is_mark (rules.laid_out i) word && is_in (opened_gaps (rules.by_record i)) (value-at start word lt i)) 0 (value-at start word lt i))
+            ∙ (λ i. cond (is_mark (rules.laid_out i) word && is_in (opened_gaps (rules.by_record i)) (image_word start word lt i)) 0 (image_word start word lt i))
 
         each : (word : ℕ) → word < start.words → value_of new word ≡ cond (is_hit a r start word) 0 (value_of start word)
         each word lt = (fenced-shrinks {old = now} 0 word is).value ∙ by (is_hit a r start word) refl

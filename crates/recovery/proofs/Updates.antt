@@ -4,7 +4,6 @@ use Rattle.std.specs.Prelude.{Option, None}
 use Rattle.std.specs.List.{range_with_len}
 use Rattle.std.proofs.lemmas.Bool.{cases_eq, cases_lt, eq-eqb, ne_eqb}
 use Rattle.std.proofs.lemmas.List.{ext_get_or, get_or_past}
-use Rattle.std.proofs.lemmas.List.FromFn.{length-map-range_with_len, get_or-map-range_with_len}
 use Rattle.base.specs.declared.gap.Gap.{Gap}
 use Rattle.base.specs.Commits.{Commit}
 use Rattle.base.specs.Layout.{Layout, opened_layout, opened_version, total_words}
@@ -23,6 +22,7 @@ use Rattle.pmem.proofs.Images.{leaves_trans, leaves_weaken}
 use Rattle.pmem.proofs.Spares.{spares_fewer, spares_trans}
 use Rattle.pmem.proofs.OperationEffects.{only-settled}
 use Rattle.log_area.proofs.Rulings.{log_within}
+use Rattle.log_area.proofs.Heads.{image_word, image_size}
 use Rattle.recovery.specs.Slots.{free_below}
 use Rattle.recovery.specs.Live.{live_at, live_below}
 use Rattle.recovery.specs.Sweeping.{is_hit, lies}
@@ -80,12 +80,6 @@ module _ (image : Image) (up : OpensUpdated image) where
 
 -- ---- the words of a device
 
-image-words : (device : Device) → length (image_of device) ≡ device.words
-image-words device = length-map-range_with_len (value_of device) 0 device.words
-
-word-in : (device : Device) (word : ℕ) → word < device.words → get_or (image_of device) word 0 ≡ value_of device word
-word-in device word lt = get_or-map-range_with_len (value_of device) 0 device.words word word 0 lt (omega arith)
-
 module _ (old : Device) (rest : IsAtRest old) (opens : opening_fault (image_of old) ≡ None) where
   abbrev image : Image
   image = image_of old
@@ -102,19 +96,19 @@ module _ (old : Device) (rest : IsAtRest old) (opens : opening_fault (image_of o
     where
       other-word : (word : ℕ) → word < old.words → word ≢ 1 → get_or other word 0 ≡ get_or image word 0
       other-word word lt far = elim (within word lt) [
-        | inl there ↦ only-settled old word (get_or other word 0) (rest word lt) there ∙ sym (word-in old word lt)
+        | inl there ↦ only-settled old word (get_or other word 0) (rest word lt) there ∙ sym (image_word old word lt)
         | inr store ↦ absurd (far store.0)
       ]
 
       whole : get_or other 1 0 ≡ get_or image 1 0 → other ≡ image
-      whole same = ext_get_or 0 other image (size ∙ sym (image-words old)) (λ word lt. at word (omega (arith, lt, size)) (cases_eq word 1))
+      whole same = ext_get_or 0 other image (size ∙ sym (image_size old)) (λ word lt. at word (omega (arith, lt, size)) (cases_eq word 1))
         where
           at : (word : ℕ) → word < old.words → (word ≡ 1) ⊎ (word ≢ 1) → get_or other word 0 ≡ get_or image word 0
           at word lt (inl one) = ap (λ (w : ℕ). get_or other w 0) one ∙ same ∙ sym (ap (λ (w : ℕ). get_or image w 0) one)
           at word lt (inr far) = other-word word lt far
 
       changed : get_or other 1 0 ≡ opened_version (layout_of image).version → other ≡ updated image
-      changed same = ext_get_or 0 other (updated image) (size ∙ sym (image-words old) ∙ sym up.size) (λ word lt. at word (omega (arith, lt, size)) (cases_eq word 1))
+      changed same = ext_get_or 0 other (updated image) (size ∙ sym (image_size old) ∙ sym up.size) (λ word lt. at word (omega (arith, lt, size)) (cases_eq word 1))
         where
           at : (word : ℕ) → word < old.words → (word ≡ 1) ⊎ (word ≢ 1) → get_or other word 0 ≡ get_or (updated image) word 0
           at word lt (inl one) = ap (λ (w : ℕ). get_or other w 0) one ∙ same ∙ sym version-now ∙ sym (ap (λ (w : ℕ). get_or (updated image) w 0) one)
@@ -122,10 +116,10 @@ module _ (old : Device) (rest : IsAtRest old) (opens : opening_fault (image_of o
 
       by : (1 < old.words) ⊎ (old.words ≤ 1) → (other ≡ image) ⊎ (other ≡ updated image)
       by (inl lt) = elim (within 1 lt) [
-        | inl there ↦ inl (whole (only-settled old 1 (get_or other 1 0) (rest 1 lt) there ∙ sym (word-in old 1 lt)))
+        | inl there ↦ inl (whole (only-settled old 1 (get_or other 1 0) (rest 1 lt) there ∙ sym (image_word old 1 lt)))
         | inr store ↦ inr (changed store.1)
       ]
-      by (inr short) = inl (whole (get_or_past other 1 0 (omega (arith, short, size)) ∙ sym (get_or_past image 1 0 (omega (arith, short, image-words old)))))
+      by (inr short) = inl (whole (get_or_past other 1 0 (omega (arith, short, size)) ∙ sym (get_or_past image 1 0 (omega (arith, short, image_size old)))))
 
   stands-now : (history drawn : List Commit) (next : ℕ) → Stands image history drawn next → StandsOpening image history next image
   stands-now history drawn next s = record {
@@ -168,11 +162,11 @@ module _ (old : Device) (rest : IsAtRest old) (opens : opening_fault (image_of o
       where
         by : (word ≡ 1) ⊎ (word ≢ 1) → value_of new word ≡ get_or (updated image) word 0
         by (inl one) = ap (value_of new) one ∙ holds.holds ∙ sym version-now ∙ sym (ap (λ (w : ℕ). get_or (updated image) w 0) one)
-        by (inr far) = (spares.kept word far).value ∙ sym (word-in old word (omega (arith, lt, same-words))) ∙ sym (up.words word far)
+        by (inr far) = (spares.kept word far).value ∙ sym (image_word old word (omega (arith, lt, same-words))) ∙ sym (up.words word far)
 
     pub image-updated : image_of new ≡ updated image
-    image-updated = ext_get_or 0 (image_of new) (updated image) (image-words new ∙ same-words ∙ sym (image-words old) ∙ sym up.size) (λ word lt.
-        word-in new word (omega (arith, lt, image-words new)) ∙ value-updated word (omega (arith, lt, image-words new)))
+    image-updated = ext_get_or 0 (image_of new) (updated image) (image_size new ∙ same-words ∙ sym (image_size old) ∙ sym up.size) (λ word lt.
+        image_word new word (omega (arith, lt, image_size new)) ∙ value-updated word (omega (arith, lt, image_size new)))
 
 -- where the image has today's version already, nothing is done
 module _ (old : Device) (opens : opening_fault (image_of old) ≡ None) (current : (layout_of (image_of old)).version ≡ opened_version (layout_of (image_of old)).version) where
@@ -245,7 +239,7 @@ module _ (old mid new : Device) (opens : opening_fault (image_of old) ≡ None) 
     ruled-now = ap ruling updated-is ∙ gone.ruled
 
     mid-words : old.words ≡ total_words layout
-    mid-words = sym same-words ∙ sym (image-words mid) ∙ (size-of (image_of mid) (whole-of (image_of mid) (opens-sound (image_of mid) today.opens)).geometry).1 ∙ ap total_words (sym today.layout_is)
+    mid-words = sym same-words ∙ sym (image_size mid) ∙ (size-of (image_of mid) (whole-of (image_of mid) (opens-sound (image_of mid) today.opens)).geometry).1 ∙ ap total_words (sym today.layout_is)
 
     swept-same : (word : ℕ) → is_updated old word ≡ false → is_swept old word ≡ false → is_swept mid word ≡ false
     swept-same word alone unswept =
@@ -266,7 +260,7 @@ module _ (old mid new : Device) (opens : opening_fault (image_of old) ≡ None) 
       left_alone = spares_trans (spares_fewer (λ word alone. alone.2) spared) (spares_fewer (λ word alone. (alone.0, swept-same word alone.2 alone.1)) today.left_alone);
       superblock = λ word low.
           let lt : word < mid.words = omega (arith, low, mid-words, same-words, log_within layout) in
-          subst (λ (n : ℕ). IsSettledAt new word n) (sym (word-in mid word lt) ∙ ap (λ (i : Image). get_or i word 0) updated-is) (today.superblock word low);
+          subst (λ (n : ℕ). IsSettledAt new word n) (sym (image_word mid word lt) ∙ ap (λ (i : Image). get_or i word 0) updated-is) (today.superblock word low);
       slots = λ word past lt.
           subst (λ (n : ℕ). IsSettledAt new word n) (ap (λ (i : Image). get_or (opened_slots i) word 0) updated-is ∙ gone.slots word (omega (arith, past)))
           (today.slots word past (omega (arith, lt, same-words)));
@@ -286,4 +280,4 @@ pub opened-size : (old : Device) → opening_fault (image_of old) ≡ None → 8
 opened-size old opens =
     let a : Layout = layout_of (image_of old) in
     let size = (size-of (image_of old) (whole-of (image_of old) (opens-sound (image_of old) opens)).geometry).1 in
-    omega (arith, log_within a, size, image-words old)
+    omega (arith, log_within a, size, image_size old)

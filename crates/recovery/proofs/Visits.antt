@@ -1,12 +1,8 @@
 -- Visiting the slots one after another.
-use Rattle.std.proofs.Common.{◌≡◌, ◌⊎◌, inl, inr, ℕ, zero, suc, ◌+◌, ◌<◌, ◌≤◌, Bool, true, false, cond, not, ◌&&◌, ◌||◌, [], ◌∷◌, ◌++◌, refl, sym, ◌∙◌, ap, subst, arith, add-one, nat_eq, nat_le, ◌*◌, ◌^◌, length, get_or, lit<}
+use Rattle.std.proofs.Common.{◌≡◌, ◌⊎◌, inl, inr, ℕ, ◌+◌, ◌<◌, ◌≤◌, Bool, true, false, cond, not, ◌&&◌, ◌||◌, [], ◌∷◌, ◌++◌, refl, sym, ◌∙◌, ap, subst, arith, add-one, nat_le, ◌*◌, ◌^◌, length, get_or, lit<}
 use Rattle.std.specs.Prelude.{Option, Some, None, is_some, List}
 use Rattle.std.specs.Option.{option_or, option_map}
-use Rattle.std.specs.declared.cmp.Ordering.{Ordering}
-use Rattle.std.specs.declared.cmp.Ordering.TheVariants.{Less, Equal, Greater}
-use Rattle.std.specs.Ordering.{nat_cmp, ordering_then, is_eq}
 use Rattle.std.specs.BTreeMap.{is_at}
-use Rattle.std.proofs.lemmas.Bool.Decides.{nat_tests}
 use Rattle.std.proofs.Math.Nat.{mul-le-mul_left}
 use Rattle.std.proofs.lemmas.Bool.{cases_lt, le-leb, lt-leb}
 use Rattle.std.proofs.lemmas.List.{get_or_past}
@@ -20,6 +16,8 @@ use Rattle.base.specs.Records.{Record, is_committed}
 use Rattle.base.specs.Search.{first_below}
 use Rattle.base.specs.Images.{Image, layout_of, ruling, slot_word, begin_of, end_of, key_of, row_of, is_ahead, is_shown, is_misfit, is_bad_slot, is_second}
 use Rattle.base.proofs.Layouts.{line-words}
+use Rattle.base.proofs.KeyOrder.{is_at-key}
+use Rattle.base.proofs.Search.{first_below-found}
 use Rattle.pmem.specs.Device.{Device, IsOrderly}
 use Rattle.pmem.specs.Words.{value_of, image_of}
 use Rattle.version_slot.specs.declared.words.Slot.{Slot}
@@ -27,22 +25,6 @@ use Rattle.version_slot.specs.Words.{Fits, IsVersion, IsSlot, slot_at}
 use Rattle.version_slot.proofs.ImageSlots.{version_of, holds_version, well_formed, key_is, row_is_of}
 use Rattle.recovery.specs.declared.slots.Found.TheVariants.{Bad, Live, Free}
 use Rattle.recovery.specs.Slots.{IsUnder, HasKeys, IsVisitFault, IsSlotsFault, found_in, free_below, bad_below, is_bad, is_free, key_cmp}
-
--- ---- keys
-
-is_eq-then : (o p : Ordering) → is_eq (ordering_then o p) ≡ (is_eq o && is_eq p)
-is_eq-then Less p = refl
-is_eq-then Equal p = refl
-is_eq-then Greater p = refl
-
-is_eq-nat : (a b : ℕ) → is_eq (nat_cmp a b) ≡ nat_eq a b
-is_eq-nat a b = grind (arith, nat_tests)
-
--- the order tells two keys apart exactly where they differ
-pub is_at-key : (key other : Key) → is_at (key_cmp key) other ≡ key_eq key other
-is_at-key key other =
-    is_eq-then (nat_cmp key.table other.table) (nat_cmp key.key other.key)
-    ∙ (λ i. is_eq-nat key.table other.table i && is_eq-nat key.key other.key i)
 
 -- ---- one slot
 
@@ -144,19 +126,6 @@ pub bad-more : (image : Image) (slot : ℕ) → bad_below image slot ≡ None �
 unfolding bad_below is_bad
 bad-more image slot none good = ap (λ (n : ℕ). first_below n (is_bad_slot (ruling image) image)) (add-one slot) ∙ (λ i. option_or (none i) (cond (good i) (Some slot) None))
 
-split : (k n : ℕ) → k < suc n → (k < n) ⊎ (k ≡ n)
-split zero zero h = inr refl
-split zero (suc n) h = inl (omega arith)
-split (suc k) zero h = absurd (omega (arith, h))
-split (suc k) (suc n) h = elim (split k n (omega (arith, h))) [ inl less ↦ inl (omega (arith, less)) | inr same ↦ inr (ap suc same) ]
-
-first_below-is : (n : ℕ) (test : ℕ → Bool) (k : ℕ) → k < n → first_below k test ≡ None → test k ≡ true → first_below n test ≡ Some k
-first_below-is zero test k h none passes = absurd (omega (arith, h))
-first_below-is (suc n) test k h none passes = elim (split k n h) [
-  | inl less ↦ let rest : first_below n test ≡ Some k = first_below-is n test k less none passes in rw rest refl
-  | inr same ↦ subst (λ (m : ℕ). option_or (first_below m test) (cond (test m) (Some m) None) ≡ Some k) same (λ i. option_or (none i) (cond (passes i) (Some k) None))
-]
-
 pub slots-memory : (layout : Layout) (image : Image) → IsSlotsFault layout image OutOfMemory
 unfolding IsSlotsFault
 slots-memory layout image = inl refl
@@ -166,7 +135,7 @@ pub slots-visit : (layout : Layout) (image : Image) (slot : ℕ) (fault : Fault)
 unfolding IsSlotsFault bad_below is_bad
 slots-visit layout image slot fault h none (inl memory) = inl memory
 slots-visit layout image slot fault h none (inr bad) =
-    inr (ap (option_map (λ s. Damaged (layout.places + s))) (first_below-is layout.slots (is_bad_slot (ruling image) image) slot h none bad.0) ∙ ap Some (sym bad.1))
+    inr (ap (option_map (λ s. Damaged (layout.places + s))) (first_below-found layout.slots slot (is_bad_slot (ruling image) image) h none bad.0) ∙ ap Some (sym bad.1))
 
 -- ---- what a device's words tell
 

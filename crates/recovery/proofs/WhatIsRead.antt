@@ -8,30 +8,15 @@ use Rattle.base.specs.declared.fault.Fault.TheVariants.{BadGeometry, NotFormatte
 use Rattle.base.specs.Search.{first_below, some_if}
 use Rattle.base.specs.Layout.{Layout, is_known_version}
 use Rattle.base.specs.Records.{Record}
-use Rattle.base.specs.Images.{Image, IsSound, damage, layout_of, ruling, is_formatted, has_good_geometry, is_wrong_gate, is_ruled, ruling_place, is_bad_slot, IsRuledBy, log_damage}
+use Rattle.base.specs.Images.{Image, IsSound, layout_of, ruling, is_formatted, has_good_geometry, is_wrong_gate, is_ruled, ruling_place, is_bad_slot, IsRuledBy, log_damage}
 use Rattle.recovery.specs.Slots.{IsUnder, IsSlotsFault, bad_below}
 use Rattle.recovery.specs.Read.{IsRead, IsReadRefusal, TellsLogFault, rows_below}
 use Rattle.recovery.proofs.Opens.{known-good}
 use Rattle.recovery.specs.Opened.{Examined}
 use Rattle.recovery.specs.declared.rows.LiveSlot.{LiveSlot}
-use Rattle.recovery.proofs.Beginning.{gates-none, no-damage}
+use Rattle.recovery.proofs.Beginning.{gates-none, no-damage, log-first}
 use Rattle.recovery.proofs.Lives.{is}
 use Rattle.base.specs.declared.gap.Gap.{Gap}
-
-chain : (a b c d e f : Option Fault) (x : Fault) → option_or a (option_or b (option_or c (option_or d (option_or e None)))) ≡ Some x
-    → option_or a (option_or b (option_or c (option_or d (option_or e (option_or f None))))) ≡ Some x
-chain (Some y) b c d e f x is = is
-chain None (Some y) c d e f x is = is
-chain None None (Some y) d e f x is = is
-chain None None None (Some y) e f x is = is
-chain None None None None (Some y) f x is = is
-chain None None None None None f x is = absurd (cc is)
-
-log-first : (image : Image) (fault : Fault) → log_damage image ≡ Some fault → damage image ≡ Some fault
-log-first image fault is =
-    chain (some_if (not (is_formatted image)) NotFormatted) (some_if (not (is_known_version (layout_of image).version)) (Version (layout_of image).version)) (some_if (not (has_good_geometry image)) BadGeometry)
-    (option_map Damaged (first_below (layout_of image).places (is_wrong_gate image))) (some_if (not (is_ruled image)) (Damaged (ruling_place image)))
-    (option_map (λ slot. Damaged ((layout_of image).places + slot)) (first_below (layout_of image).slots (is_bad_slot (ruling image) image))) fault is
 
 pub refusal-log : (image : Image) (fault : Fault) → log_damage image ≡ Some fault → IsReadRefusal image fault
 refusal-log image fault is = inl (log-first image fault is)

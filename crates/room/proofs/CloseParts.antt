@@ -1,15 +1,16 @@
 -- The parts of a close, one after the other.
+use mathlib.Core.HLevel.{⊥_prop}
 use Rattle.std.proofs.Common.{◌≡◌, refl, ◌∙◌, arith}
 use Rattle.std.proofs.Math.Logic.{∥∥₁_elim, ∥∥₁_map}
 use Rattle.base.specs.declared.fault.Fault.{Fault}
 use Rattle.base.specs.declared.fault.Fault.TheVariants.{Device as DeviceFault}
 use Rattle.base.specs.Images.{Image}
 use Rattle.base.specs.Machine.{State, StandsClosing}
+use Rattle.base.proofs.Runs.{StandsAt-closing}
 use Rattle.pmem.specs.Device.{Device, IsOrderly, MayLeave}
 use Rattle.pmem.proofs.Images.{leaves_refl, leaves_trans, leaves_weaken}
 use Rattle.device_invariant.proofs.Upheld.{every-image-stands}
 use Rattle.cycle_simulation.specs.Closing.{ClosesAs}
-use Rattle.cycle_simulation.proofs.Covers.{at-closing}
 use Rattle.room.specs.declared.volatile.VolatileState.{VolatileState}
 use Rattle.room.specs.Committing.{Shows}
 use Rattle.room.specs.Steps.{ShowsSome}
@@ -17,7 +18,7 @@ use Rattle.room.specs.Closing.{IsDonePart, IsFailedPart, IsLastPart}
 
 -- what may be left now may be left within a close
 pub stands-closing : (c : VolatileState) (device : Device) (q : State) → Shows c device q → (image : Image) → MayLeave device image → StandsClosing q image
-stands-closing c device q shown image may = at-closing q image (every-image-stands shown.shown.hidden.origin q device image shown.shown.upholds may)
+stands-closing c device q shown image may = StandsAt-closing q image (every-image-stands shown.shown.hidden.origin q device image shown.shown.upholds may)
 
 closes_refl : (q : State) → ClosesAs q q
 closes_refl q = record { number = refl; within = λ image s. s; after_it = λ image s. s }
@@ -72,10 +73,7 @@ module _ (old mid new : VolatileState) (before between now : Device) (a : IsDone
   pub shown_after : ∥ ShowsSome old before ∥₁ → ∥ ShowsSome mid between ∥₁
   shown_after some = ∥∥₁_map some (λ shown. let first = a.goes_on shown.0 shown.1 shown.2 in (first.0, first.1.shows, first.1.works))
 
-no-proofs : (a b : ⊥) → a ≡ b
-no-proofs a b = absurd a
-
 -- the fault is Device where that follows from some state, which need not be known
 pub device-fault : {A : Type 0} (fault : Fault) → ∥ A ∥₁ → (A → fault ≡ DeviceFault) → fault ≡ DeviceFault
 device-fault DeviceFault some tells = refl
-device-fault _ some tells = absurd (∥∥₁_elim some no-proofs (λ a. cc (tells a)))
+device-fault _ some tells = absurd (∥∥₁_elim some ⊥_prop (λ a. cc (tells a)))

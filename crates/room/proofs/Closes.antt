@@ -1,11 +1,10 @@
 -- The number of the last record of a close, why one is refused, and the close as a whole.
-use Rattle.std.proofs.Common.{◌≡◌, inl, inr, ℕ, ◌+◌, ◌^◌, ◌<◌, ◌≤◌, Bool, true, false, cond, refl, sym, ◌∙◌, ap, subst, arith}
+use Rattle.std.proofs.Common.{◌≡◌, inl, inr, ℕ, ◌+◌, ◌^◌, ◌<◌, ◌≤◌, Bool, true, false, cond, refl, ◌∙◌, ap, subst, arith}
 use Rattle.std.proofs.Math.Bridge.{le_prop}
 use Rattle.std.proofs.Math.Logic.{∥∥₁_elim}
 use Rattle.std.proofs.lemmas.Bool.{le-leb, leb-true}
 use Rattle.std.specs.Prelude.{Option, Some, None, Result, Ok, Err, IfErr, OnOk, is_some, nat_le, if◌then◌else◌}
 use Rattle.std.specs.Option.{option_or}
-use Rattle.std.specs.Result.{IsErrAnd}
 use Rattle.base.specs.declared.fault.Fault.{Fault}
 use Rattle.base.specs.declared.fault.Fault.TheVariants.{Failed, TimestampsOut}
 use Rattle.base.specs.Records.{Record}
@@ -112,8 +111,3 @@ module _ (c : VolatileState) (before : Device) (gate : ℕ) (is : gate ≡ c.ses
 pub on_ok-from : (result : Result (Unit {0}) Fault) {P : Type 0} → P → OnOk result P
 on_ok-from (Ok ok) p = p
 on_ok-from (Err fault) p = tt
-
--- the fault that a part failed with is the one that is reported
-pub reported : {T : Type 0} (result : Result T Fault) (fault : Fault) (P : Fault → Type 0) → IsErrAnd result (λ told. told ≡ fault) → P fault → IfErr result P
-reported (Ok x) fault P is part = absurd is
-reported (Err told) fault P is part = subst P (sym is) part

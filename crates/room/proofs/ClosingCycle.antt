@@ -28,6 +28,7 @@ use Rattle.log_area.specs.Writings.{Progress, begun, advanced, operation_of, IsO
 use Rattle.log_area.proofs.Replacing.{replacing_begun, replacing_next, images_next, images_failed, spares_next}
 use Rattle.log_area.proofs.Ticks.{same_words, writing_next}
 use Rattle.log_area.proofs.Whole.{IsRun, run_none, run_next, run_holds, spares_on, images_on, fewer_left}
+use Rattle.log_area.proofs.Stages.{staged-next}
 use Rattle.dirty_table.specs.Touches.{has, lines_touched}
 use Rattle.txn.specs.declared.drawn.DrawnCommit.{DrawnCommit}
 use Rattle.txn.specs.DrawnCommits.{is_stamped as is_stamped_whole}
@@ -40,7 +41,7 @@ use Rattle.group_commit.specs.declared.stage.CycleStage.TheVariants.{FlushLines,
 use Rattle.group_commit.specs.Choosing.{closing_record as record_of_close}
 use Rattle.group_commit.specs.Cycles.{Cycling, line_from, flush_or_fence, operation_at, operation_in, next_at, ticked_at, ticked_in}
 use Rattle.group_commit.specs.Laws.{IsCut}
-use Rattle.group_commit.proofs.Counting.{find-cut, cut-next, cut-whole, staged-next}
+use Rattle.group_commit.proofs.Counting.{find-cut, cut-next, cut-whole}
 use Rattle.cycle_simulation.specs.Batches.{line_numbers}
 use Rattle.cycle_simulation.specs.Closing.{closing_record, IsClosing, AreFlushed, HasPersisted}
 use Rattle.cycle_simulation.proofs.Lasts.{closing-flushes, closing-writes}

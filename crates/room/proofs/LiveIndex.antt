@@ -8,7 +8,7 @@ use Rattle.std.proofs.lemmas.List.Elements.{Contains-append_left, Contains-appen
 use Rattle.base.specs.declared.key.Key.{Key}
 use Rattle.base.specs.Keys.{key_eq}
 use Rattle.base.specs.Images.{Image, key_of}
-use Rattle.base.proofs.Histories.{key_eq-true, key_eq-same}
+use Rattle.base.proofs.Keys.{key_eq-true, key_eq-same}
 use Rattle.index.specs.declared.entry.Entry.{Entry}
 use Rattle.index.specs.Entries.{blank, entry_at, Sets}
 use Rattle.recovery.specs.declared.rows.LiveSlot.{LiveSlot}

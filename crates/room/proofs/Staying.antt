@@ -1,6 +1,6 @@
 -- A step that is no tick of the committer leaves the batch in hand as it is, and its cycle with it: one of a session, and
 -- a visit of the collector, also where a sweep ends with it.
-use Rattle.std.proofs.Common.{◌≡◌, ℕ, ◌+◌, ◌<◌, Bool, true, false, ◌&&◌, ◌||◌, not, List, [], ◌∷◌, ◌++◌, length, map, refl, sym, ◌∙◌, ap, subst, arith, nat_eq, nat_le, cond}
+use Rattle.std.proofs.Common.{◌≡◌, ℕ, ◌<◌, Bool, true, false, ◌&&◌, ◌||◌, not, List, [], ◌∷◌, ◌++◌, length, map, refl, sym, ◌∙◌, ap, subst, arith, nat_eq, nat_le}
 use Rattle.std.specs.Prelude.{Option, Some, None, Result, Ok, Err}
 use Rattle.std.specs.List.{list_any, list_all}
 use Rattle.std.proofs.lemmas.Bool.{and_parts, and_from, le-leb, leb-true}
@@ -21,7 +21,8 @@ use Rattle.base.specs.Layout.{Layout}
 use Rattle.base.specs.Laws.{is_no_tick}
 use Rattle.base.specs.Records.{Record, is_committed}
 use Rattle.base.proofs.Visiting.{visit-changes}
-use Rattle.base.specs.Machine.{State, Hand, Drawn, Stepped, refused, answered, memory_refused, device_failed, next_state, state_drawn, counted, drawn_of, writes_of, timestamp_of, session_of}
+use Rattle.base.specs.Machine.{State, Hand, Drawn, Stepped, refused, answered, memory_refused, device_failed, next_state, state_drawn, drawn_of, writes_of, timestamp_of, session_of}
+use Rattle.base.proofs.Counted.{counted-commits}
 use Rattle.pmem.specs.Device.{Device}
 use Rattle.txn.specs.declared.drawn.DrawnCommit.{DrawnCommit}
 use Rattle.collector.specs.declared.visit.Visit.{Visit}
@@ -54,14 +55,6 @@ record LeavesHand (q q' : State) : Type 0 where
 same-leaves : (q : State) → LeavesHand q q
 same-leaves q = record { hand = refl; ruling = refl; layout = refl; more = []; drawn = sym (append-nil (drawn_of q)); later = refl }
 
-counted-same : (t : ℕ) (ds : List Drawn) → map (λ (d : Drawn). d.commit) (map (counted t) ds) ≡ map (λ (d : Drawn). d.commit) ds
-counted-same t [] = refl
-counted-same t (d ∷ ds) = λ i. by (nat_eq d.commit.timestamp t) i ∷ counted-same t ds i
-  where
-    by : (b : Bool) → (let e : Drawn = cond b (record { commit = d.commit; stamped = d.stamped + 1 }) d in e.commit) ≡ d.commit
-    by true = refl
-    by _ = refl
-
 next-leaves : (q : State) (step : Step) → is_no_tick step ≡ true → LeavesHand q (next_state q step)
 next-leaves q Begin is = record { hand = refl; ruling = refl; layout = refl; more = []; drawn = sym (append-nil (drawn_of q)); later = refl }
 next-leaves q (Get n key) is = same-leaves q
@@ -73,7 +66,7 @@ next-leaves q (Draw n) is = by (writes_of (q.sessions n))
     by : (writes : Writes) → LeavesHand q (state_drawn q n writes)
     by [] = record { hand = refl; ruling = refl; layout = refl; more = []; drawn = sym (append-nil (drawn_of q)); later = refl }
     by (write ∷ writes) = record { hand = refl; ruling = refl; layout = refl; more = record { timestamp = q.next; writes = write ∷ writes } ∷ []; drawn = map-append (λ (d : Drawn). d.commit) q.drawn _; later = ap (λ (b : Bool). b && true) (le-leb q.next q.next (omega arith)) }
-next-leaves q (Stamp n) is = record { hand = refl; ruling = refl; layout = refl; more = []; drawn = counted-same (timestamp_of (q.sessions n)) q.drawn ∙ sym (append-nil (drawn_of q)); later = refl }
+next-leaves q (Stamp n) is = record { hand = refl; ruling = refl; layout = refl; more = []; drawn = counted-commits (timestamp_of (q.sessions n)) q.drawn ∙ sym (append-nil (drawn_of q)); later = refl }
 next-leaves q (Poll n) is = same-leaves q
 next-leaves q (Abort n) is = record { hand = refl; ruling = refl; layout = refl; more = []; drawn = sym (append-nil (drawn_of q)); later = refl }
 next-leaves q (End n) is = record { hand = refl; ruling = refl; layout = refl; more = []; drawn = sym (append-nil (drawn_of q)); later = refl }

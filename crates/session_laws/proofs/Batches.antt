@@ -10,13 +10,16 @@ use Rattle.base.specs.Commits.{Commit, writes_key, last_writer}
 use Rattle.base.specs.Records.{is_committed, are_rising}
 use Rattle.base.specs.Stands.{has_timestamp}
 use Rattle.base.specs.Machine.{State, Drawn, Hand, ByCommit, drawn_at, drawn_of, state_covered}
+use Rattle.base.proofs.Options.{option_or-none}
+use Rattle.base.proofs.Lists.{rising-rest}
 use Rattle.state_invariant.specs.Kept.{Origin, Keeps, KeepsHand, commit_at, commits_of_life, covered_since, version_by}
-use Rattle.state_invariant.proofs.Lists.{find-filter, find-dropped, rising-above, rising-rest, rising-filter}
-use Rattle.state_invariant.proofs.Commits.{commit_at-none, commit_at-drawn, timestamp-all, writer_from, writer-append}
+use Rattle.state_invariant.proofs.Lists.{find-filter, find-dropped, rising-above, rising-filter}
+use Rattle.state_invariant.proofs.Commits.{commit_at-none, commit_at-drawn, timestamp-all, writer_from, writer-append, writer-none}
 use Rattle.state_invariant.proofs.Choosing.{bounds, found-later, above-each, all-by_found}
 use Rattle.state_invariant.proofs.Covering.{no_gap-above, batch-drawn, since-now}
 use Rattle.session_laws.specs.Sees.{last_on}
 use Rattle.session_laws.specs.Laws.{is_covered_by, CoversByRecord, BatchesCover}
+use Rattle.session_laws.proofs.Conflicts.{last_on-append}
 
 abbrev time_of : Drawn → ℕ
 time_of d = d.commit.timestamp
@@ -112,20 +115,6 @@ same-rising (x ∷ xs) (y ∷ ys) up high same = by (λ rest. same-rising xs ys 
 
 -- ---- the last on a key
 
-or-none : (x : Option ℕ) → option_or x None ≡ x
-or-none None = refl
-or-none (Some t) = refl
-
-or-assoc : (a b c : Option ℕ) → option_or (option_or a b) c ≡ option_or a (option_or b c)
-or-assoc None b c = refl
-or-assoc (Some x) b c = refl
-
-last-append : (key : Key) (xs ys : List Commit) → last_on key (xs ++ ys) ≡ option_or (last_on key ys) (last_on key xs)
-last-append key [] ys = sym (or-none (last_on key ys))
-last-append key (x ∷ xs) ys =
-    ap (λ (o : Option ℕ). option_or o (cond (writes_key key x) (Some x.timestamp) None)) (last-append key xs ys)
-    ∙ or-assoc (last_on key ys) (last_on key xs) (cond (writes_key key x) (Some x.timestamp) None)
-
 abbrev commits : List Drawn → List Commit
 commits ds = map (λ (d : Drawn). d.commit) ds
 
@@ -173,16 +162,16 @@ last-split key p (d ∷ ds) rising apart =
         ∙ ap (λ (o : Option ℕ). option_or o (cond (writes_key key d.commit) (Some (time_of d)) None)) (none-on key p ds (others is) ∙ sym (none-on_all key ds (others is)))
     by rest false true is =
         ap (λ (o : Option ℕ). option_or (option_or (last_on key (commits (filter (λ d. not (p d)) ds))) (cond (writes_key key d.commit) (Some (time_of d)) None)) o) (none-on key p ds (others is))
-        ∙ or-none (option_or (last_on key (commits (filter (λ d. not (p d)) ds))) (cond (writes_key key d.commit) (Some (time_of d)) None))
+        ∙ option_or-none (option_or (last_on key (commits (filter (λ d. not (p d)) ds))) (cond (writes_key key d.commit) (Some (time_of d)) None))
         ∙ ap (λ (o : Option ℕ). option_or o (cond (writes_key key d.commit) (Some (time_of d)) None)) (none-on key (λ d. not (p d)) ds (others is) ∙ sym (none-on_all key ds (others is)))
     by rest true false is =
         ap (λ (b : Bool). option_or (last_on key (commits (filter (λ d. not (p d)) ds))) (option_or (last_on key (commits (filter p ds))) (cond b (Some (time_of d)) None))) is
-        ∙ ap (option_or (last_on key (commits (filter (λ d. not (p d)) ds)))) (or-none (last_on key (commits (filter p ds))))
-        ∙ rest ∙ sym (or-none (last_on key (commits ds))) ∙ sym (ap (λ (b : Bool). option_or (last_on key (commits ds)) (cond b (Some (time_of d)) None)) is)
+        ∙ ap (option_or (last_on key (commits (filter (λ d. not (p d)) ds)))) (option_or-none (last_on key (commits (filter p ds))))
+        ∙ rest ∙ sym (option_or-none (last_on key (commits ds))) ∙ sym (ap (λ (b : Bool). option_or (last_on key (commits ds)) (cond b (Some (time_of d)) None)) is)
     by rest false false is =
         ap (λ (b : Bool). option_or (option_or (last_on key (commits (filter (λ d. not (p d)) ds))) (cond b (Some (time_of d)) None)) (last_on key (commits (filter p ds)))) is
-        ∙ ap (λ (o : Option ℕ). option_or o (last_on key (commits (filter p ds)))) (or-none (last_on key (commits (filter (λ d. not (p d)) ds))))
-        ∙ rest ∙ sym (or-none (last_on key (commits ds))) ∙ sym (ap (λ (b : Bool). option_or (last_on key (commits ds)) (cond b (Some (time_of d)) None)) is)
+        ∙ ap (λ (o : Option ℕ). option_or o (last_on key (commits (filter p ds)))) (option_or-none (last_on key (commits (filter (λ d. not (p d)) ds))))
+        ∙ rest ∙ sym (option_or-none (last_on key (commits ds))) ∙ sym (ap (λ (b : Bool). option_or (last_on key (commits ds)) (cond b (Some (time_of d)) None)) is)
 
 -- ---- members
 
@@ -217,13 +206,6 @@ found (e ∷ ds) d rising (suc k, lt, is) =
 not-here : (b rest : Bool) → b ≡ false → (b || rest) ≡ rest
 not-here true rest is = absurd (true≢false is)
 not-here false rest is = refl
-
--- where none of the commits writes the key, the last on it stays
-writer-passes : (key : Key) (t : ℕ) (cs : List Commit) → list_any (writes_key key) cs ≡ false → writer_from key t cs ≡ t
-writer-passes key t [] none = refl
-writer-passes key t (c ∷ cs) none =
-    let is : writes_key key c ≡ false = false_from_ne_true (writes_key key c) (λ writes. true≢false (sym (ap (λ b. b || list_any (writes_key key) cs) writes) ∙ none)) in
-    ap (λ b. writer_from key (cond b c.timestamp t) cs) is ∙ writer-passes key t cs (sym (not-here (writes_key key c) (list_any (writes_key key) cs) is) ∙ none)
 
 -- where each that writes the key has this timestamp, and one does, it is the last
 writer-one : (key : Key) (u : ℕ) (cs : List Commit) (t : ℕ) → ((c : Commit) → Contains cs c → writes_key key c ≡ true → c.timestamp ≡ u) → (list_any (writes_key key) cs ≡ true) ⊎ (t ≡ u) → writer_from key t cs ≡ u
@@ -301,12 +283,12 @@ module _ (o : Origin) (q : State) (hand : Hand) (kept : Keeps o q) (k : KeepsHan
 
   pub last-same : (key : Key) → last_on key (commits_of_life o (state_covered q hand)) ≡ last_on key (commits_of_life o q)
   last-same key =
-      last-append key (covered_since o (state_covered q hand)) (drawn_of (state_covered q hand))
+      last_on-append key (covered_since o (state_covered q hand)) (drawn_of (state_covered q hand))
       ∙ ap (λ (ds : List Drawn). option_or (last_on key (commits ds)) (last_on key (covered_since o (state_covered q hand)))) rest
-      ∙ ap (option_or (last_on key (commits (filter (λ d. not (is_covered_by hand.target d)) q.drawn)))) (ap (last_on key) (since-now o q hand kept k ∙ ap (λ (cs : List Commit). covered_since o q ++ cs) batch) ∙ last-append key (covered_since o q) (commits (filter (is_covered_by hand.target) q.drawn)))
+      ∙ ap (option_or (last_on key (commits (filter (λ d. not (is_covered_by hand.target d)) q.drawn)))) (ap (last_on key) (since-now o q hand kept k ∙ ap (λ (cs : List Commit). covered_since o q ++ cs) batch) ∙ last_on-append key (covered_since o q) (commits (filter (is_covered_by hand.target) q.drawn)))
       ∙ sym (or-assoc (last_on key (commits (filter (λ d. not (is_covered_by hand.target d)) q.drawn))) (last_on key (commits (filter (is_covered_by hand.target) q.drawn))) (last_on key (covered_since o q)))
       ∙ ap (λ (x : Option ℕ). option_or x (last_on key (covered_since o q))) (last-split key (is_covered_by hand.target) q.drawn kept.draws.rising (λ t u d e at_t at_u wd we. kept.draws.apart t u d e key at_t at_u wd we))
-      ∙ sym (last-append key (covered_since o q) (drawn_of q))
+      ∙ sym (last_on-append key (covered_since o q) (drawn_of q))
 
   last-is : (key : Key) → last_writer (q.history ++ hand.commits) key ≡ writer_from key (last_writer q.history key) hand.commits
   last-is key = writer-append key 0 q.history hand.commits
@@ -326,7 +308,7 @@ module _ (o : Origin) (q : State) (hand : Hand) (kept : Keeps o q) (k : KeepsHan
     rest = rest;
     last = last-same;
     written = λ key d member covers writes. ap (λ t. version_by key (ByCommit t)) (by-batch key d member covers writes);
-    unwritten = λ key none. ap (λ t. version_by key (ByCommit t)) (last-is key ∙ writer-passes key (last_writer q.history key) hand.commits none);
+    unwritten = λ key none. ap (λ t. version_by key (ByCommit t)) (last-is key ∙ writer-none key (last_writer q.history key) hand.commits none);
   }
 
 pub covers-batch : BatchesCover

@@ -11,6 +11,7 @@ use Rattle.base.specs.Commits.{Commit, writes_key}
 use Rattle.base.specs.Records.{is_in, is_committed}
 use Rattle.base.specs.Stands.{has_timestamp}
 use Rattle.base.specs.Machine.{State, Drawn, drawn_of}
+use Rattle.base.proofs.Options.{option_or-none}
 use Rattle.state_invariant.specs.Kept.{Origin, Keeps, KeepsOrigin, commits_of_life}
 use Rattle.state_invariant.specs.Shown.{counts_at}
 use Rattle.state_invariant.proofs.Records.{above-gaps}
@@ -28,10 +29,6 @@ own key c = if writes_key key c then Some c.timestamp else None
 option_or-assoc : (a b c : Option ℕ) → option_or a (option_or b c) ≡ option_or (option_or a b) c
 option_or-assoc None b c = refl
 option_or-assoc (Some x) b c = refl
-
-option_or-none : (a : Option ℕ) → option_or a None ≡ a
-option_or-none None = refl
-option_or-none (Some x) = refl
 
 pub last_on-append : (key : Key) (xs ys : List Commit) → last_on key (xs ++ ys) ≡ option_or (last_on key ys) (last_on key xs)
 last_on-append key [] ys = sym (option_or-none (last_on key ys))

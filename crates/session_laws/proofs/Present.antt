@@ -10,9 +10,9 @@ use Rattle.base.specs.Commits.{Commit}
 use Rattle.base.specs.Records.{is_in, is_committed}
 use Rattle.base.specs.Stands.{has_timestamp}
 use Rattle.base.specs.Machine.{State, Drawn, drawn_of}
+use Rattle.base.proofs.Lists.{all-drop}
 use Rattle.state_invariant.specs.Kept.{Origin, Keeps, KeepsOrigin, covered_since}
 use Rattle.state_invariant.specs.Shown.{IsOutOfSwept, counts_at}
-use Rattle.state_invariant.proofs.Lists.{all-drop}
 use Rattle.state_invariant.proofs.Commits.{timestamp-all}
 use Rattle.snapshot.specs.Snapshots.{seen_by}
 use Rattle.session_laws.specs.Sees.{Sees}

@@ -2,12 +2,12 @@
 use Rattle.std.proofs.Common.{◌≡◌, ℕ, suc, Bool, true, false, ◌&&◌, ◌||◌, List, [], ◌∷◌, map, filter, refl, sym, ◌∙◌, ap, arith}
 use Rattle.std.specs.Prelude.{nat_eq, All}
 use Rattle.std.specs.List.{list_any}
-use Rattle.std.specs.Cmp.{both_ways}
-use Rattle.std.proofs.lemmas.Bool.{eq-eqb, eqb-true}
 use Rattle.std.proofs.lemmas.List.Elements.{All-filter}
+use Rattle.std.proofs.lemmas.Cmp.{nat_eq_equiv}
 use Rattle.base.specs.Commits.{Commit}
 use Rattle.base.specs.Machine.{State, Drawn as PlainDrawn, drawn_of}
 use Rattle.base.specs.Records.{are_rising}
+use Rattle.base.proofs.Lists.{any-map, any-same, any-never, any-or}
 use Rattle.dirty_table.specs.declared.touches.Touch.{Touch}
 use Rattle.dirty_table.specs.Touches.{has, is_touched, lines_touched}
 use Rattle.dirty_table.proofs.Tables.{lines_touched-any}
@@ -29,23 +29,6 @@ passing-commits test drawn q is =
     ∙ ap (filter (λ (c : Commit). test c.timestamp)) (map-map plain_drawn (λ (d : PlainDrawn). d.commit) drawn)
     ∙ filter-map (λ (d : DrawnCommit). (plain_drawn d).commit) (λ (c : Commit). test c.timestamp) drawn
 
-any-same : {X : Type 0} (p r : X → Bool) (xs : List X) → ((x : X) → p x ≡ r x) → list_any p xs ≡ list_any r xs
-any-same p r [] same = refl
-any-same p r (x ∷ xs) same = ap (λ b. b || list_any p xs) (same x) ∙ ap (λ b. r x || b) (any-same p r xs same)
-
-any-false : {X : Type 0} (xs : List X) → list_any (λ x. false) xs ≡ false
-any-false [] = refl
-any-false (x ∷ xs) = any-false xs
-
-or-swap : (a b c d : Bool) → ((a || b) || (c || d)) ≡ ((a || c) || (b || d))
-or-swap true b c d = refl
-or-swap false b true d = or-true b d
-  where
-    or-true : (b d : Bool) → (b || true) ≡ true
-    or-true true d = refl
-    or-true false d = refl
-or-swap false b false d = refl
-
 and-or : (a b c : Bool) → ((a || b) && c) ≡ ((a && c) || (b && c))
 and-or true true true = refl
 and-or true true false = refl
@@ -53,30 +36,19 @@ and-or true false true = refl
 and-or true false false = refl
 and-or false b c = refl
 
-any-or : {X : Type 0} (p r : X → Bool) (xs : List X) → list_any (λ x. p x || r x) xs ≡ (list_any p xs || list_any r xs)
-any-or p r [] = refl
-any-or p r (x ∷ xs) = ap (λ b. (p x || r x) || b) (any-or p r xs) ∙ or-swap (p x) (r x) (list_any p xs) (list_any r xs)
-
 any-swap : {X Y : Type 0} (relates : Y → X → Bool) (p : X → Bool) (ys : List Y) (xs : List X)
     → list_any (λ x. list_any (λ y. relates y x) ys && p x) xs ≡ list_any (λ y. list_any (λ x. relates y x && p x) xs) ys
-any-swap relates p [] xs = any-false xs
+any-swap relates p [] xs = any-never xs
 any-swap relates p (y ∷ ys) xs =
     any-same (λ x. (relates y x || list_any (λ y. relates y x) ys) && p x) (λ x. (relates y x && p x) || (list_any (λ y. relates y x) ys && p x)) xs (λ x. and-or (relates y x) (list_any (λ y. relates y x) ys) (p x))
     ∙ any-or (λ x. relates y x && p x) (λ x. list_any (λ y. relates y x) ys && p x) xs
     ∙ ap (λ b. list_any (λ x. relates y x && p x) xs || b) (any-swap relates p ys xs)
-
-any-map : {X Y : Type 0} (p : Y → Bool) (f : X → Y) (xs : List X) → list_any p (map f xs) ≡ list_any (λ x. p (f x)) xs
-any-map p f [] = refl
-any-map p f (x ∷ xs) = ap (λ b. p (f x) || b) (any-map p f xs)
 
 any-agree : {X : Type 0} (p r : X → Bool) (xs : List X) → All (λ x. p x ≡ r x) xs → list_any p xs ≡ list_any r xs
 any-agree p r [] all = refl
 any-agree p r (x ∷ xs) all =
     ap (λ b. b || list_any p xs) (all 0 x (omega arith))
     ∙ ap (λ b. r x || b) (any-agree p r xs (λ k d lt. all (suc k) d (omega (arith, lt))))
-
-nat_eq-swap : (a b : ℕ) → nat_eq a b ≡ nat_eq b a
-nat_eq-swap a b = both_ways (nat_eq a b) (nat_eq b a) (λ e. eq-eqb b a (sym (eqb-true a b e))) (λ e. eq-eqb a b (sym (eqb-true b a e)))
 
 module _ (q : State) (drawn : List DrawnCommit) (dirty : List Touch) (sessions : List Bool) (test : ℕ → Bool) (is : q.drawn ≡ map plain_drawn drawn) (holds : HoldsLines q drawn dirty)
     (of : (n : ℕ) → has sessions n ≡ list_any (λ d. nat_eq d.session n && test d.timestamp) drawn) where
@@ -92,7 +64,7 @@ module _ (q : State) (drawn : List DrawnCommit) (dirty : List Touch) (sessions :
       ∙ any-same (λ (t : Touch). has sessions t.session && nat_eq t.line l) (λ (t : Touch). list_any (λ (d : DrawnCommit). nat_eq t.session d.session) passing && nat_eq t.line l) dirty
       (λ t. ap (λ b. b && nat_eq t.line l)
       (of t.session ∙ any-filter (λ (d : DrawnCommit). nat_eq d.session t.session) (λ (d : DrawnCommit). test d.timestamp) drawn
-      ∙ any-same (λ (d : DrawnCommit). nat_eq d.session t.session) (λ (d : DrawnCommit). nat_eq t.session d.session) passing (λ d. nat_eq-swap d.session t.session)))
+      ∙ any-same (λ (d : DrawnCommit). nat_eq d.session t.session) (λ (d : DrawnCommit). nat_eq t.session d.session) passing (λ d. nat_eq_equiv.symm d.session t.session)))
       ∙ any-swap (λ (d : DrawnCommit) (t : Touch). nat_eq t.session d.session) (λ (t : Touch). nat_eq t.line l) passing dirty
       ∙ any-agree (λ (d : DrawnCommit). is_touched dirty d.session l) (λ (d : DrawnCommit). is_line_of l (line_numbers q ((plain_drawn d).commit ∷ []))) passing
       (λ k d lt. All-filter (λ (d : DrawnCommit). test d.timestamp) (λ (d : DrawnCommit). (line : ℕ) → is_touched dirty d.session line ≡ list_any (λ l. nat_eq l line) (line_numbers q ((plain_drawn d).commit ∷ []))) drawn holds.own k d lt l)

@@ -7,14 +7,15 @@ use Rattle.std.proofs.lemmas.Bool.{and_parts, ltb-true, eq-eqb, ne_eqb, false_fr
 use Rattle.std.proofs.lemmas.Bool.Decides.{nat_tests}
 use Rattle.std.proofs.lemmas.List.{take-append-le}
 use Rattle.std.proofs.lemmas.List.Elements.{All-nil, All-cons, All-filter}
-use Rattle.std.proofs.lemmas.List.Folds.{list_any_none}
+use Rattle.std.proofs.lemmas.List.Folds.{list_any_none, list_any_at}
 use Rattle.base.specs.declared.key.Key.{Key}
 use Rattle.base.specs.Keys.{key_eq}
 use Rattle.base.specs.Commits.{Commit, last_writer, writes_key}
 use Rattle.base.specs.Records.{Record, is_committed, are_rising}
 use Rattle.base.specs.Stands.{has_timestamp}
 use Rattle.base.specs.Machine.{State, Hand, Drawn as PlainDrawn, Version, Writer, BySession, ByCommit, drawn_at, state_covered}
-use Rattle.base.proofs.Histories.{key_eq-true}
+use Rattle.base.proofs.Keys.{key_eq-true}
+use Rattle.base.proofs.Lists.{rising-rest}
 use Rattle.txn.specs.declared.drawn.DrawnCommit.{DrawnCommit}
 use Rattle.txn.specs.declared.write.Write.{Write}
 use Rattle.txn.specs.declared.transaction.Transaction.{Transaction}
@@ -28,7 +29,7 @@ use Rattle.index.specs.Entries.{entry_at, live_of}
 use Rattle.state_invariant.specs.Kept.{Origin, Keeps, commits_of_life, version_by}
 use Rattle.state_invariant.specs.Links.{last_row}
 use Rattle.state_invariant.proofs.Covering.{batch-drawn, found-left}
-use Rattle.state_invariant.proofs.Lists.{rising-above, rising-rest}
+use Rattle.state_invariant.proofs.Lists.{rising-above}
 use Rattle.device_invariant.specs.Slots.{newest_of}
 use Rattle.device_invariant.specs.Log.{is_ended}
 use Rattle.session_laws.specs.Laws.{is_covered_by, CoversByRecord}
@@ -40,7 +41,7 @@ use Rattle.session_steps.specs.Shows.{Hidden, plain_of, plain_session, plain_dra
 use Rattle.session_steps.specs.Covering.{covered_by_commits, committed_by, left_by, CoversCommits, IsOf, MayCover, hidden_covered, HasCovered, ShowsCovered}
 use Rattle.session_steps.proofs.HeldSlots.{numbers-by-tests}
 use Rattle.session_steps.proofs.Filters.{filter-map, filter-at, any-split}
-use Rattle.session_steps.proofs.CoveredIndex.{any-at, has_key, written-plain, written-commits, Within, IsOwn, within-commits, live-commits, none-commits, stays-commits, newest-after}
+use Rattle.session_steps.proofs.CoveredIndex.{has_key, written-plain, written-commits, Within, IsOwn, within-commits, live-commits, none-commits, stays-commits, newest-after}
 
 -- ---- the order of drawn commits
 
@@ -191,7 +192,7 @@ module _ (s : Sessions) (ruling : Record) (h : Hidden) (hand : Hand) (may : MayC
       own : (d : DrawnCommit) → HoldsDrawn s q d → Contains q.drawn (plain_drawn d) → counts d ≡ true → All (IsOwn q (newest_of q' key) key) d.writes
       own d holds member is_covered = λ k w lt is.
           let same : (slice_index_or d.writes k w).key ≡ key = key_eq-true (slice_index_or d.writes k w).key key is in
-          let writes : writes_key key (plain_drawn d).commit ≡ true = written-plain key d.writes ∙ any-at (λ (w : Write). key_eq w.key key) d.writes k w lt is in
+          let writes : writes_key key (plain_drawn d).commit ≡ true = written-plain key d.writes ∙ list_any_at (λ (w : Write). key_eq w.key key) d.writes k w lt is in
           subst (λ (v : Version). IsSlotOf q v (slice_index_or d.writes k w).slot) (ap (λ (x : Key). version_by x (ByCommit d.timestamp)) same ∙ sym (law.written key (plain_drawn d) member (ap (λ (r : Record). is_covered_by r (plain_drawn d)) may.batch.target ∙ is_covered) writes)) (holds.writes k w lt).slot
 
   entry : (key : Key) → HoldsEntry o q' key (entry_at index key)

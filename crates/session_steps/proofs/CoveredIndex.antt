@@ -1,13 +1,14 @@
 -- What the index has of a key once commits are covered.
-use Rattle.std.proofs.Common.{◌≡◌, ◌⊎◌, inl, inr, ℕ, zero, suc, ◌<◌, Bool, true, false, ◌||◌, cond, List, [], ◌∷◌, ◌++◌, length, map, refl, sym, ◌∙◌, ap, subst, arith}
+use Rattle.std.proofs.Common.{◌≡◌, ◌⊎◌, inl, inr, ℕ, ◌<◌, Bool, true, false, ◌||◌, cond, List, [], ◌∷◌, ◌++◌, map, refl, sym, ◌∙◌, ap, subst}
 use Rattle.std.specs.Prelude.{Option, Some, None, is_some, unwrap_or, fold, slice_index_or, All}
 use Rattle.std.specs.List.{list_any}
 use Rattle.std.proofs.lemmas.List.Sums.{fold-append}
+use Rattle.std.proofs.lemmas.List.Elements.{All-head, All-tail}
 use Rattle.base.specs.declared.key.Key.{Key}
 use Rattle.base.specs.Keys.{key_eq, lookup_key}
 use Rattle.base.specs.Commits.{Commit, writes_key}
 use Rattle.base.specs.Machine.{State, Version, Writer, ByCommit, Drawn as PlainDrawn}
-use Rattle.base.proofs.Histories.{key_eq-true}
+use Rattle.base.proofs.Keys.{key_eq-true}
 use Rattle.txn.specs.declared.drawn.DrawnCommit.{DrawnCommit}
 use Rattle.txn.specs.declared.write.Write.{Write}
 use Rattle.txn.specs.WriteSets.{plain_writes}
@@ -18,23 +19,6 @@ use Rattle.state_invariant.specs.Kept.{Origin, Keeps, row_in, version_by}
 use Rattle.state_invariant.specs.Links.{last_row}
 use Rattle.session_steps.specs.Shows.{plain_drawn, HasItsSlot, HasVersionOf}
 use Rattle.session_steps.specs.Covering.{covered_by, covered_by_all, covered_by_commits}
-
--- ---- lists
-
-pub all-head : {X : Type 0} (P : X → Type 0) (x : X) (xs : List X) → All P (x ∷ xs) → P x
-all-head P x xs all = all 0 x (omega arith)
-
-pub all-tail : {X : Type 0} (P : X → Type 0) (x : X) (xs : List X) → All P (x ∷ xs) → All P xs
-all-tail P x xs all = λ k d lt. all (suc k) d (omega (arith, lt))
-
-pub any-at : {X : Type 0} (p : X → Bool) (xs : List X) (k : ℕ) (d : X) → k < length xs → p (slice_index_or xs k d) ≡ true → list_any p xs ≡ true
-any-at p [] k d lt is = absurd (omega (arith, lt))
-any-at p (x ∷ xs) zero d lt is = ap (λ (b : Bool). b || list_any p xs) is
-any-at p (x ∷ xs) (suc k) d lt is = right (p x) (list_any p xs) (any-at p xs k d (omega (arith, lt)) is)
-  where
-    right : (a b : Bool) → b ≡ true → (a || b) ≡ true
-    right true b is = refl
-    right false b is = is
 
 -- ---- which keys are written
 
@@ -85,12 +69,12 @@ module _ (q : State) (v : Version) (key : Key) (last : Option ℕ) (t : ℕ) (wr
 
   within-writes : (writes : List Write) (e : Entry) → All (IsOwn q v key) writes → Within q key last e → Within q key last (covered_by_all key e writes)
   within-writes [] e own within = within
-  within-writes (w ∷ writes) e own within = within-writes writes (covered_by key e w) (all-tail (IsOwn q v key) w writes own) (within-one w e (all-head (IsOwn q v key) w writes own) within)
+  within-writes (w ∷ writes) e own within = within-writes writes (covered_by key e w) (All-tail (IsOwn q v key) w writes own) (within-one w e (All-head (IsOwn q v key) w writes own) within)
 
   pub within-commits : (ds : List DrawnCommit) (e : Entry) → All (λ (d : DrawnCommit). All (IsOwn q v key) d.writes) ds → Within q key last e → Within q key last (covered_by_commits key e ds)
   within-commits [] e own within = within
   within-commits (d ∷ ds) e own within =
-      within-commits ds (covered_by_all key e d.writes) (all-tail (λ (d : DrawnCommit). All (IsOwn q v key) d.writes) d ds own) (within-writes d.writes e (all-head (λ (d : DrawnCommit). All (IsOwn q v key) d.writes) d ds own) within)
+      within-commits ds (covered_by_all key e d.writes) (All-tail (λ (d : DrawnCommit). All (IsOwn q v key) d.writes) d ds own) (within-writes d.writes e (All-head (λ (d : DrawnCommit). All (IsOwn q v key) d.writes) d ds own) within)
 
   live-covered : (slot : Option ℕ) (e : Entry) → IsSlotOf q v slot → IsSlotOf q v (live_of (covered slot e))
   live-covered (Some slot) e is = is
@@ -110,8 +94,8 @@ module _ (q : State) (v : Version) (key : Key) (last : Option ℕ) (t : ℕ) (wr
   live-writes : (writes : List Write) (e : Entry) (rest : Bool) → All (IsOwn q v key) writes → IsLiveOr e (has_key key writes || rest) → IsLiveOr (covered_by_all key e writes) rest
   live-writes [] e rest own either = either
   live-writes (w ∷ writes) e rest own either =
-      live-writes writes (covered_by key e w) rest (all-tail (IsOwn q v key) w writes own)
-      (live-one w e (has_key key writes || rest) (all-head (IsOwn q v key) w writes own) (subst (λ (b : Bool). IsLiveOr e b) (grouped (key_eq w.key key) (has_key key writes) rest) either))
+      live-writes writes (covered_by key e w) rest (All-tail (IsOwn q v key) w writes own)
+      (live-one w e (has_key key writes || rest) (All-head (IsOwn q v key) w writes own) (subst (λ (b : Bool). IsLiveOr e b) (grouped (key_eq w.key key) (has_key key writes) rest) either))
     where
       grouped : (a b c : Bool) → ((a || b) || c) ≡ (a || (b || c))
       grouped true b c = refl
@@ -121,8 +105,8 @@ module _ (q : State) (v : Version) (key : Key) (last : Option ℕ) (t : ℕ) (wr
   live-commits [] e own (inl is) = is
   live-commits [] e own (inr none) = absurd (cc none)
   live-commits (d ∷ ds) e own either =
-      live-commits ds (covered_by_all key e d.writes) (all-tail (λ (d : DrawnCommit). All (IsOwn q v key) d.writes) d ds own)
-      (live-writes d.writes e (list_any (λ (d : DrawnCommit). has_key key d.writes) ds) (all-head (λ (d : DrawnCommit). All (IsOwn q v key) d.writes) d ds own) either)
+      live-commits ds (covered_by_all key e d.writes) (All-tail (λ (d : DrawnCommit). All (IsOwn q v key) d.writes) d ds own)
+      (live-writes d.writes e (list_any (λ (d : DrawnCommit). has_key key d.writes) ds) (All-head (λ (d : DrawnCommit). All (IsOwn q v key) d.writes) d ds own) either)
 
 -- ---- the drawn version
 
@@ -187,29 +171,29 @@ module _ (o : Origin) (q : State) (kept : Keeps o q) (key : Key) where
   newest-writes v slot [] e lt held own (inl is) = is
   newest-writes v slot [] e lt held own (inr has) = absurd (cc has)
   newest-writes v slot (w ∷ writes) e lt held own either =
-      newest-writes v slot writes (covered_by key e w) lt held (all-tail (IsOwn q v key) w writes own) (by (key_eq w.key key) refl either)
+      newest-writes v slot writes (covered_by key e w) lt held (All-tail (IsOwn q v key) w writes own) (by (key_eq w.key key) refl either)
     where
       by : (b : Bool) → key_eq w.key key ≡ b → (e.newest ≡ Some slot) ⊎ ((b || has_key key writes) ≡ true) → ((cond b (covered w.slot e) e).newest ≡ Some slot) ⊎ (has_key key writes ≡ true)
-      by true is either = inl (ap (λ (x : Option ℕ). (covered x e).newest) (slot-of o q v w.slot slot kept lt held (all-head (IsOwn q v key) w writes own is)))
+      by true is either = inl (ap (λ (x : Option ℕ). (covered x e).newest) (slot-of o q v w.slot slot kept lt held (All-head (IsOwn q v key) w writes own is)))
       by false is either = either
 
   -- where the version has no slot, the newest stays
   same-writes : (v : Version) (writes : List Write) (e : Entry) → IsSlotOf q v None → All (IsOwn q v key) writes → (covered_by_all key e writes).newest ≡ e.newest
   same-writes v [] e none own = refl
-  same-writes v (w ∷ writes) e none own = same-writes v writes (covered_by key e w) none (all-tail (IsOwn q v key) w writes own) ∙ by (key_eq w.key key) refl
+  same-writes v (w ∷ writes) e none own = same-writes v writes (covered_by key e w) none (All-tail (IsOwn q v key) w writes own) ∙ by (key_eq w.key key) refl
     where
       by_slot : (x : Option ℕ) → IsSlotOf q v x → (covered x e).newest ≡ e.newest
       by_slot None has = refl
       by_slot (Some slot) has = absurd (none slot has.0 has.1)
 
       by : (b : Bool) → key_eq w.key key ≡ b → (cond b (covered w.slot e) e).newest ≡ e.newest
-      by true is = by_slot w.slot (all-head (IsOwn q v key) w writes own is)
+      by true is = by_slot w.slot (All-head (IsOwn q v key) w writes own is)
       by false is = refl
 
   -- a deletion has no slot
   deletion-none : (writer : Writer) (writes : List Write) → All (HasItsSlot q writer) writes → lookup_key (plain_writes writes) key ≡ Some None → IsSlotOf q (version_by key writer) None
   deletion-none writer [] own wrote = absurd (cc wrote)
-  deletion-none writer (w ∷ writes) own wrote = by (key_eq w.key key) refl wrote (deletion-none writer writes (all-tail (HasItsSlot q writer) w writes own))
+  deletion-none writer (w ∷ writes) own wrote = by (key_eq w.key key) refl wrote (deletion-none writer writes (All-tail (HasItsSlot q writer) w writes own))
     where
       no-slot : (x : Option ℕ) → is_some x ≡ false → IsSlotOf q (version_by key writer) x → IsSlotOf q (version_by key writer) None
       no-slot None is has = has
@@ -217,7 +201,7 @@ module _ (o : Origin) (q : State) (kept : Keeps o q) (key : Key) where
 
       here : key_eq w.key key ≡ true → w.row ≡ None → IsSlotOf q (version_by key writer) None
       here is deleted =
-          let has = all-head (HasItsSlot q writer) w writes own in
+          let has = All-head (HasItsSlot q writer) w writes own in
           no-slot w.slot (has.row ∙ ap (λ (r : Option (List ℕ)). is_some r) deleted) (subst (λ (k : Key). IsSlotOf q (version_by k writer) w.slot) (key_eq-true w.key key is) has.slot)
 
       by : (b : Bool) → key_eq w.key key ≡ b → cond b (Some w.row) (lookup_key (plain_writes writes) key) ≡ Some None
@@ -253,8 +237,8 @@ module _ (o : Origin) (q : State) (kept : Keeps o q) (key : Key) where
   newest-commits : (ds : List DrawnCommit) (last : Option ℕ) (e : Entry) → All (λ (d : DrawnCommit). All (HasItsSlot q (ByCommit d.timestamp)) d.writes) ds → IsNewestAt last e → IsNewestAt (fold row_after last ds) (covered_by_commits key e ds)
   newest-commits [] last e own newest = newest
   newest-commits (d ∷ ds) last e own newest =
-      newest-commits ds (row_after last d) (covered_by_all key e d.writes) (all-tail (λ (d : DrawnCommit). All (HasItsSlot q (ByCommit d.timestamp)) d.writes) d ds own)
-      (newest-one d last e (all-head (λ (d : DrawnCommit). All (HasItsSlot q (ByCommit d.timestamp)) d.writes) d ds own) newest)
+      newest-commits ds (row_after last d) (covered_by_all key e d.writes) (All-tail (λ (d : DrawnCommit). All (HasItsSlot q (ByCommit d.timestamp)) d.writes) d ds own)
+      (newest-one d last e (All-head (λ (d : DrawnCommit). All (HasItsSlot q (ByCommit d.timestamp)) d.writes) d ds own) newest)
 
   rows-after : (ds : List DrawnCommit) (last : Option ℕ)
       → fold (λ (last : Option ℕ) (commit : Commit). cond (is_some (row_in commit.writes key)) (Some commit.timestamp) last) last (map (λ (d : PlainDrawn). d.commit) (map plain_drawn ds)) ≡ fold row_after last ds

@@ -3,11 +3,13 @@ use Rattle.std.proofs.Common.{◌≡◌, ◌⊎◌, inl, inr, ℕ, ◌+◌, ◌/
 use Rattle.std.specs.Prelude.{Option, Some, None, is_some, is_none, find, All}
 use Rattle.std.specs.List.{list_any, list_all, flat_map, range_with_len}
 use Rattle.std.specs.Option.{option_map, option_map_or, option_or, option_and_then}
-use Rattle.std.proofs.lemmas.Bool.{and_parts}
+use Rattle.std.proofs.lemmas.Bool.{and_parts, or_right, or_left}
 use Rattle.std.proofs.lemmas.Bool.Decides.{nat_tests}
 use Rattle.std.proofs.lemmas.List.Elements.{All-append, All-cons, All-nil, All-head, All-tail, All-contains, All-contains_itself}
 use Rattle.std.proofs.lemmas.List.{map-append}
 use Rattle.std.proofs.lemmas.List.Folds.{list_any-append}
+use Rattle.std.specs.Cmp.{both_ways}
+use Rattle.std.proofs.Math.Bool.{or-false}
 use Rattle.base.specs.declared.key.Key.{Key}
 use Rattle.base.specs.Commits.{Commit, writes_key, last_writer}
 use Rattle.base.specs.Layout.{Layout, slot_start}
@@ -15,6 +17,7 @@ use Rattle.base.specs.Records.{is_committed}
 use Rattle.base.specs.Stands.{has_timestamp}
 use Rattle.base.proofs.Layouts.{line-words, lines-words}
 use Rattle.base.specs.Machine.{State, Drawn as PlainDrawn, Version, Writer, BySession, ByCommit, is_by, by_commit, drawn_at, drawn_of, version_lines}
+use Rattle.base.proofs.Lists.{all-take, all-drop, any-map}
 use Rattle.snapshot.specs.Snapshots.{Seen, covers}
 use Rattle.txn.specs.declared.drawn.DrawnCommit.{DrawnCommit}
 use Rattle.txn.specs.declared.transaction.Transaction.{Transaction}
@@ -32,7 +35,6 @@ use Rattle.state_invariant.specs.Shown.{IsOutOfSwept, counts_at}
 use Rattle.state_invariant.proofs.Commits.{timestamp-all, committed-bounds, uncommitted-above}
 use Rattle.state_invariant.proofs.Drawing.{drawn_now, drawn_at-next, found-new, found-old, held-drawn, held-stays, held-turns}
 use Rattle.state_invariant.proofs.LinkedDraws.{last_row-before}
-use Rattle.state_invariant.proofs.Lists.{all-drop, all-take}
 use Rattle.state_invariant.proofs.Log.{writer-bounded}
 use Rattle.device_invariant.specs.Slots.{newest_of}
 use Rattle.device_invariant.specs.Log.{is_own, is_ended, line_at, line_number, lines_at, lines_in}
@@ -44,7 +46,7 @@ use Rattle.session_steps.specs.Shows.{Hidden, plain_of, plain_drawn, HasItsSlot,
 use Rattle.session_steps.specs.Steps.{Holds}
 use Rattle.session_steps.proofs.HeldSlots.{numbers-by-tests}
 use Rattle.session_laws.proofs.Conflicts.{last_on-append}
-use Rattle.session_steps.proofs.Lines.{or-left, or-right, both-ways, any-map, any-flat_map, any-each, any-at, any-range, range-any}
+use Rattle.session_steps.proofs.Lines.{any-flat_map, any-each, any-at, any-range, range-any}
 use Rattle.session_steps.proofs.OneSet.{each-set}
 use Rattle.session_steps.proofs.Owned.{found-in, contained-found, rising-plain, own-is}
 use Rattle.session_steps.proofs.OneTransaction.{found}
@@ -77,10 +79,6 @@ writes-plain key t writes = ap (λ (o : Option (Option (List ℕ))). is_some o) 
     by : (o : Option Write) → is_some (option_map (λ (w : Write). w.row) o) ≡ is_some o
     by None = refl
     by (Some w) = refl
-
-or-false : (b : Bool) → (b || false) ≡ b
-or-false true = refl
-or-false false = refl
 
 plus-none : (n : ℕ) → n + 0 ≡ n
 plus-none n = omega arith
@@ -404,14 +402,14 @@ module _ (s : Sessions) (h : Hidden) (n : ℕ) (snapshot : Seen) (writes : List 
               end-hit None lives some = absurd (cc some)
               end-hit (Some slot) lives some =
                   let hit : first-hits slot ≡ true = sym (or-false (first-hits slot)) ∙ some in
-                  slot-there slot lives.0 (or-right (own-at slot && own-hits slot) (ended-at slot && first-hits slot) (λ i. ended slot lives.1 i && hit i))
+                  slot-there slot lives.0 (or_right (own-at slot && own-hits slot) (ended-at slot && first-hits slot) (λ i. ended slot lives.1 i && hit i))
 
               by : (o : Option ℕ) → IsSlotOf old (version_by w.key (BySession n)) o → (e : Option ℕ) → IsSlotOf old (newest_of old w.key) e → (own-of o || ended-of e) ≡ true → list_any at-slot (range_with_len 0 s.numbers.geometry.slots) ≡ true
               by None has e lives some = end-hit e lives some
               by (Some slot) has e lives some = which (own-hits slot) refl some
                 where
                   which : (b : Bool) → own-hits slot ≡ b → (b || ended-of e) ≡ true → list_any at-slot (range_with_len 0 s.numbers.geometry.slots) ≡ true
-                  which true hit some = slot-there slot has.0 (or-left (own-at slot && own-hits slot) (ended-at slot && first-hits slot) (λ i. own slot has.1 i && hit i))
+                  which true hit some = slot-there slot has.0 (or_left (own-at slot && own-hits slot) (ended-at slot && first-hits slot) (λ i. own slot has.1 i && hit i))
                   which false hit some = end-hit e lives some
 
       -- a write with the slot
@@ -422,8 +420,8 @@ module _ (s : Sessions) (h : Hidden) (n : ℕ) (snapshot : Seen) (writes : List 
           left-is ∙ any-at (λ w. list_any hits (touched_lines s.numbers.geometry s.index w)) writes w in_set.0 (write-is w ∙ by in_set.1 either)
         where
           by : w.key ≡ key → ((w.slot ≡ Some slot) × (own-hits slot ≡ true)) ⊎ ((live_of (entry_at s.index key) ≡ Some slot) × (first-hits slot ≡ true)) → (own-of w.slot || ended-of (live_of (entry_at s.index w.key))) ≡ true
-          by same (inl own) = or-left _ _ (ap own-of own.0 ∙ own.1)
-          by same (inr lives) = or-right _ _ (ap (λ (k : Key). ended-of (live_of (entry_at s.index k))) same ∙ ap ended-of lives.0 ∙ or-false (first-hits slot) ∙ lives.1)
+          by same (inl own) = or_left _ _ (ap own-of own.0 ∙ own.1)
+          by same (inr lives) = or_right _ _ (ap (λ (k : Key). ended-of (live_of (entry_at s.index k))) same ∙ ap ended-of lives.0 ∙ or-false (first-hits slot) ∙ lives.1)
 
       back : list_any hits (line_numbers then (commit ∷ [])) ≡ true → list_any hits (flat_map (touched_lines s.numbers.geometry s.index) writes) ≡ true
       back some = at-found (range-any at-slot 0 s.numbers.geometry.slots (sym right-is ∙ some))
@@ -487,7 +485,7 @@ module _ (s : Sessions) (h : Hidden) (n : ℕ) (snapshot : Seen) (writes : List 
           at-found one = by-holder one.0 (omega (arith, one.2)) (h.held one.0) refl (sym (at-is one.0 (own-at one.0) (ended-at one.0)) ∙ one.3)
 
       lines-new : list_any hits (flat_map (touched_lines s.numbers.geometry s.index) writes) ≡ list_any hits (line_numbers then (commit ∷ []))
-      lines-new = both-ways _ _ there back
+      lines-new = both_ways _ _ there back
 
     -- ---- all of it
 

@@ -12,7 +12,7 @@ use Rattle.base.specs.declared.step.SessionReply.TheVariants.{Done}
 use Rattle.base.specs.Commits.{Writes, with_write}
 use Rattle.base.specs.Keys.{key_eq, lookup_key}
 use Rattle.base.specs.Search.{first_of as first_there, some_if}
-use Rattle.base.specs.Machine.{Session, Active as Reads, Version, Writer, BySession, ByCommit, answered, refusal, is_by, is_held_by, is_own_at, begun_of, writes_of, replaced, held_after_abort, held_after_delete, most_writes}
+use Rattle.base.specs.Machine.{Session, Active as Reads, Version, BySession, answered, refusal, is_held_by, is_own_at, begun_of, writes_of, replaced, held_after_abort, held_after_delete, most_writes}
 use Rattle.snapshot.specs.Snapshots.{Seen}
 use Rattle.txn.specs.declared.transaction.Transaction.{Transaction}
 use Rattle.txn.specs.declared.transaction.Transaction.TheVariants.{Active}
@@ -22,7 +22,7 @@ use Rattle.txn.specs.WriteSets.{plain_writes, write_of, with_write_at}
 use Rattle.txn.proofs.Found.{all-with_write_at}
 use Rattle.txn.proofs.Plain.{plain_writes-with_write_at, lookup_key-plain_writes, length-plain_writes}
 use Rattle.state_invariant.specs.Kept.{version_by}
-use Rattle.state_invariant.proofs.Lookups.{apart-keys}
+use Rattle.state_invariant.proofs.Lookups.{apart-keys, held-by}
 use Rattle.state_invariant.proofs.Writing.{version-parts, own-at}
 use Rattle.dirty_table.specs.Touches.{promised_to}
 use Rattle.session_steps.specs.declared.sessions.Sessions.{Sessions}
@@ -57,15 +57,6 @@ fits-own_of s n key snapshot writes h at holds =
     by (Some slot) is = let lt = is.0 in grind (arith, nat_tests)
 
 -- ---- Abort
-
--- what the session holds
-held-by : (n : ℕ) (o : Option Version) → is_held_by n o ≡ true → (key : Key) × (o ≡ Some (version_by key (BySession n)))
-held-by n None is = absurd (cc is)
-held-by n (Some v) is = (v.key, by v.writer is)
-  where
-    by : (writer : Writer) → is_by n writer ≡ true → Some (version_by v.key writer) ≡ Some (version_by v.key (BySession n))
-    by (BySession m) is = let same : m ≡ n = grind (arith, nat_tests) in ap (λ (k : ℕ). Some (version_by v.key (BySession k))) same
-    by (ByCommit t) is = absurd (cc is)
 
 held-test : (n : ℕ) (key : Key) → is_held_by n (Some (version_by key (BySession n))) ≡ true
 held-test n key = grind (arith, nat_tests)

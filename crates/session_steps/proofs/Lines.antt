@@ -1,30 +1,13 @@
 -- The lines that a draw puts into the dirty table are those that its commit touches.
-use Rattle.std.proofs.Common.{◌≡◌, ℕ, zero, suc, ◌+◌, ◌<◌, ◌≤◌, Bool, true, false, ◌||◌, List, [], ◌∷◌, map, refl, sym, ◌∙◌, ap, arith, nat_eq, Contains, length, get_or}
+use Rattle.std.proofs.Common.{◌≡◌, ℕ, zero, suc, ◌+◌, ◌<◌, ◌≤◌, Bool, true, false, ◌||◌, List, [], ◌∷◌, refl, ◌∙◌, ap, arith, nat_eq, Contains, length, get_or}
 use Rattle.std.specs.Prelude.{All}
 use Rattle.std.specs.List.{list_any, flat_map, range_with_len}
 use Rattle.std.proofs.lemmas.Bool.Decides.{nat_tests}
 use Rattle.std.proofs.lemmas.List.Elements.{All-head, All-tail}
 use Rattle.std.proofs.lemmas.List.Folds.{list_any-append}
-
-pub or-left : (a b : Bool) → a ≡ true → (a || b) ≡ true
-or-left true b is = refl
-or-left false b is = absurd (cc is)
-
-pub or-right : (a b : Bool) → b ≡ true → (a || b) ≡ true
-or-right true b is = refl
-or-right false b is = is
+use Rattle.std.proofs.lemmas.Bool.{or_right, or_left}
 
 -- ---- tests of lists
-
--- two tests that imply each other are one
-pub both-ways : (a b : Bool) → (a ≡ true → b ≡ true) → (b ≡ true → a ≡ true) → a ≡ b
-both-ways true b there back = sym (there refl)
-both-ways false true there back = back refl
-both-ways false false there back = refl
-
-pub any-map : {X Y : Type 0} (p : Y → Bool) (f : X → Y) (xs : List X) → list_any p (map f xs) ≡ list_any (λ x. p (f x)) xs
-any-map p f [] = refl
-any-map p f (x ∷ xs) = ap (λ (b : Bool). p (f x) || b) (any-map p f xs)
 
 pub any-flat_map : {X Y : Type 0} (p : Y → Bool) (f : X → List Y) (xs : List X) → list_any p (flat_map f xs) ≡ list_any (λ x. list_any p (f x)) xs
 any-flat_map p f [] = refl
@@ -42,8 +25,8 @@ any-each P p (x ∷ xs) goal all each some = by (p x) refl some (any-each P p xs
 -- one that is there passes
 any-from : {X : Type 0} (p : X → Bool) (xs : List X) (x : X) (k : ℕ) → k < length xs → get_or xs k x ≡ x → p x ≡ true → list_any p xs ≡ true
 any-from p [] x k lt at is = absurd (omega (arith, lt))
-any-from p (y ∷ xs) x zero lt at is = or-left (p y) (list_any p xs) (ap p at ∙ is)
-any-from p (y ∷ xs) x (suc k) lt at is = or-right (p y) (list_any p xs) (any-from p xs x k (omega (arith, lt)) at is)
+any-from p (y ∷ xs) x zero lt at is = or_left (p y) (list_any p xs) (ap p at ∙ is)
+any-from p (y ∷ xs) x (suc k) lt at is = or_right (p y) (list_any p xs) (any-from p xs x k (omega (arith, lt)) at is)
 
 pub any-at : {X : Type 0} (p : X → Bool) (xs : List X) (x : X) → Contains xs x → p x ≡ true → list_any p xs ≡ true
 any-at p xs x there is = any-from p xs x there.0 there.1 there.2 is
@@ -54,8 +37,8 @@ any-range p a zero k lo hi is = absurd (omega (arith, lo, hi))
 any-range p a (suc n) k lo hi is = by (nat_eq a k) refl (any-range p (a + 1) n k)
   where
     by : (b : Bool) → nat_eq a k ≡ b → (a + 1 ≤ k → k < (a + 1) + n → p k ≡ true → list_any p (range_with_len (a + 1) n) ≡ true) → list_any p (range_with_len a (suc n)) ≡ true
-    by true same rest = let e : a ≡ k = grind (arith, nat_tests) in or-left (p a) (list_any p (range_with_len (a + 1) n)) (ap p e ∙ is)
-    by false apart rest = let lt : a + 1 ≤ k = grind (arith, nat_tests) in or-right (p a) (list_any p (range_with_len (a + 1) n)) (rest lt (omega (arith, hi)) is)
+    by true same rest = let e : a ≡ k = grind (arith, nat_tests) in or_left (p a) (list_any p (range_with_len (a + 1) n)) (ap p e ∙ is)
+    by false apart rest = let lt : a + 1 ≤ k = grind (arith, nat_tests) in or_right (p a) (list_any p (range_with_len (a + 1) n)) (rest lt (omega (arith, hi)) is)
 
 pub range-any : (p : ℕ → Bool) (a n : ℕ) → list_any p (range_with_len a n) ≡ true → (k : ℕ) × (a ≤ k) × (k < a + n) × (p k ≡ true)
 range-any p a zero some = absurd (cc some)

@@ -12,6 +12,7 @@ use Rattle.std.proofs.lemmas.Option.{slice_get-get_or}
 use Rattle.base.specs.declared.key.Key.{Key}
 use Rattle.base.specs.Keys.{key_eq}
 use Rattle.base.specs.Machine.{State, Version, BySession}
+use Rattle.base.proofs.Keys.{key_eq-true}
 use Rattle.snapshot.specs.Snapshots.{Seen}
 use Rattle.txn.specs.declared.transaction.Transaction.TheVariants.{Active}
 use Rattle.txn.specs.declared.write.Write.{Write}
@@ -20,7 +21,6 @@ use Rattle.txn.specs.WriteSets.{IsRising, write_of}
 use Rattle.txn.proofs.Rising.{find_from_at}
 use Rattle.index.specs.declared.entry.Entry.{Entry}
 use Rattle.index.specs.Entries.{entry_at, live_of, Sets}
-use Rattle.state_invariant.proofs.Lookups.{same-keys}
 use Rattle.step_simulation.specs.Moves.{IsSlotOf}
 use Rattle.session_steps.specs.declared.sessions.Sessions.{Sessions}
 use Rattle.session_steps.specs.Drawing.{drawn_entry, fits_touched}
@@ -44,16 +44,16 @@ note-next writes i t write old mid new lt is rising before sets key =
     one : (w : Write) → key_eq write.key key ≡ true → write_of key (take i writes) ≡ Some w → w ≡ write
     one w same found =
         let whole : write_of key writes ≡ Some w = ap (λ (ws : List Write). write_of key ws) (sym (take-append-drop i writes)) ∙ find-append (λ (w : Write). key_eq w.key key) (take i writes) (drop i writes) ∙ ap (λ (o : Option Write). option_or o (write_of key (drop i writes))) found in
-        let this : write_of key writes ≡ Some write = ap (λ (k : Key). write_of k writes) (sym (same-keys write.key key same)) ∙ find_from_at writes i write rising at in
+        let this : write_of key writes ≡ Some write = ap (λ (k : Key). write_of k writes) (sym (key_eq-true write.key key same)) ∙ find_from_at writes i write rising at in
         cc (whole, this)
 
     by : (b : Bool) → key_eq write.key key ≡ b → (o : Option Write) → write_of key (take i writes) ≡ o
         → cond b (record (entry_at mid write.key) { drawn = write.slot; last = Some t }) (entry_at mid key) ≡ drawn_entry (option_or o (cond b (Some write) None)) t (entry_at old key)
     by true same None found =
-        ap (λ (k : Key). let e : Entry = record (entry_at mid k) { drawn = write.slot; last = Some t } in e) (same-keys write.key key same)
+        ap (λ (k : Key). let e : Entry = record (entry_at mid k) { drawn = write.slot; last = Some t } in e) (key_eq-true write.key key same)
         ∙ ap (λ (e : Entry). let e' : Entry = record e { drawn = write.slot; last = Some t } in e') (before key ∙ ap (λ (o : Option Write). drawn_entry o t (entry_at old key)) found)
     by true same (Some w) found =
-        ap (λ (k : Key). let e : Entry = record (entry_at mid k) { drawn = write.slot; last = Some t } in e) (same-keys write.key key same)
+        ap (λ (k : Key). let e : Entry = record (entry_at mid k) { drawn = write.slot; last = Some t } in e) (key_eq-true write.key key same)
         ∙ ap (λ (e : Entry). let e' : Entry = record e { drawn = write.slot; last = Some t } in e') (before key ∙ ap (λ (o : Option Write). drawn_entry o t (entry_at old key)) found)
         ∙ ap (λ (x : Write). let e : Entry = record (entry_at old key) { drawn = x.slot; last = Some t } in e) (sym (one w same found))
     by false apart None found = before key ∙ ap (λ (o : Option Write). drawn_entry o t (entry_at old key)) found

@@ -18,6 +18,7 @@ use Rattle.base.specs.SessionSteps.{as_step, as_reply}
 use Rattle.base.specs.Stands.{has_timestamp}
 use Rattle.base.specs.Records.{is_committed}
 use Rattle.base.specs.Machine.{State, Session, Drawn as PlainDrawn, Active as Reads, IsDrawn, IsStamped, IsCovered, refused, answered, memory_refused, refusal, session_of, allows, standing_of, replaced, with_session, drawn_at, polled}
+use Rattle.base.proofs.Lists.{find-passes}
 use Rattle.snapshot.specs.Snapshots.{Seen, seen_by}
 use Rattle.txn.specs.declared.drawn.DrawnCommit.{DrawnCommit}
 use Rattle.txn.specs.declared.transaction.Transaction.{Transaction}
@@ -27,7 +28,7 @@ use Rattle.txn.specs.Transactions.{transaction_at, Sets, IsLowestFree, IsFull}
 use Rattle.state_invariant.specs.Kept.{Origin, Keeps}
 use Rattle.state_invariant.proofs.Commits.{timestamp-all}
 use Rattle.state_invariant.proofs.Lists.{find-map}
-use Rattle.state_invariant.proofs.Lookups.{find-all, find-passes}
+use Rattle.state_invariant.proofs.Lookups.{find-all}
 use Rattle.session_steps.specs.declared.sessions.Sessions.{Sessions}
 use Rattle.session_laws.specs.Sees.{Sees}
 use Rattle.session_steps.specs.Shows.{Hidden, plain_of, plain_session, plain_drawn, HoldsSession}

@@ -6,6 +6,7 @@ use Rattle.std.specs.List.{list_any}
 use Rattle.std.proofs.lemmas.Bool.{cases_eq, ne_eqb, true≢false}
 use Rattle.std.proofs.lemmas.List.{take_all, drop_all}
 use Rattle.std.proofs.lemmas.List.Elements.{All-nil}
+use Rattle.std.proofs.lemmas.Option.{none-some}
 use Rattle.base.specs.declared.key.Key.{Key}
 use Rattle.base.specs.Commits.{Commit, after, last_writer}
 use Rattle.base.specs.Layout.{Layout, total_words}
@@ -36,9 +37,6 @@ use Rattle.session_steps.specs.declared.sessions.Sessions.{Sessions}
 use Rattle.session_laws.specs.Sees.{last_on}
 use Rattle.session_steps.specs.Shows.{Hidden, plain_of, plain_session, plain_drawn, HoldsSession, HoldsEntry, HoldsDrawn, HoldsLines, HasLines, line_numbers, Shows}
 use Rattle.session_steps.specs.Opening.{Begins, HasFound}
-
-none-some : {X : Type 0} (x : X) → None ≡ Some x → ⊥
-none-some x e = cc e
 
 module _ (a : Layout) (ruling : Record) (next : ℕ) (free : List Bool) (q : State) (device : Device) (begins : Begins a ruling next free q) (u : Upholds (origin_of q) q device) (orderly : IsOrderly device) where
   -- ---- the image

@@ -9,12 +9,14 @@ use Rattle.std.proofs.lemmas.Option.{slice_get-get_or, slice_get_within, get_or_
 use Rattle.base.specs.declared.key.Key.{Key}
 use Rattle.base.specs.Keys.{lookup_key, is_rising}
 use Rattle.base.specs.Machine.{State, Session, Active as Reads, Version, BySession, writes_of, own_slot, is_own_at}
+use Rattle.base.proofs.Keys.{key_eq-true, key_eq-same}
+use Rattle.base.proofs.Search.{first_below-nowhere}
 use Rattle.txn.specs.declared.write.Write.{Write}
 use Rattle.txn.specs.WriteSets.{IsRising, write_of, plain_writes}
 use Rattle.txn.proofs.Rising.{find_place, find_from_at}
 use Rattle.txn.proofs.Plain.{lookup_key-plain_writes}
 use Rattle.state_invariant.specs.Kept.{Origin, Keeps, version_by}
-use Rattle.state_invariant.proofs.Lookups.{same-keys, key_eq-refl, first_below-lowest, first_below-nowhere}
+use Rattle.state_invariant.proofs.Lookups.{first_below-lowest}
 use Rattle.state_invariant.proofs.Writing.{own-at}
 use Rattle.session_steps.specs.Giving.{fits_slot, fits_writes, own_of}
 use Rattle.step_simulation.specs.Moves.{IsSlotOf}
@@ -22,14 +24,14 @@ use Rattle.session_steps.specs.Shows.{HasItsSlot}
 
 -- a version is its session's for its key
 pub own-test : (n : ℕ) (key : Key) → is_own_at n key (Some (version_by key (BySession n))) ≡ true
-own-test n key = let same : nat_eq n n ≡ true = grind (arith, nat_tests) in (λ i. same i && key_eq-refl key i)
+own-test n key = let same : nat_eq n n ≡ true = grind (arith, nat_tests) in (λ i. same i && key_eq-same key i)
 
 -- what is found under a key is one of the writes, and has the key
 pub found-in : (key : Key) (writes : List Write) (write : Write) → write_of key writes ≡ Some write → Contains writes write × (write.key ≡ key)
 found-in key writes write found =
     let at = find_place key writes write found in (
       subst (Contains writes) (get_or_from_slice_get writes at.0 write write at.1) (Contains-get_or writes at.0 write (slice_get_within writes at.0 write at.1)),
-      same-keys write.key key at.2,
+      key_eq-true write.key key at.2,
     )
 
 -- each of the writes is what is found under its key

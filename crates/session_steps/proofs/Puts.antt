@@ -1,11 +1,12 @@
 -- Put.
-use Rattle.std.proofs.Common.{◌≡◌, ◌≢◌, ◌⊎◌, inl, inr, ℕ, zero, suc, ◌+◌, ◌-◌, ◌*◌, ◌<◌, ◌≤◌, Bool, true, false, ◌&&◌, not, cond, List, [], ◌∷◌, ◌++◌, length, map, set, refl, sym, ◌∙◌, ap, subst, arith, nat_eq, nat_lt, nat_le, length-set}
+use Rattle.std.proofs.Common.{◌≡◌, ◌≢◌, ◌⊎◌, inl, inr, ℕ, ◌+◌, ◌-◌, ◌*◌, ◌<◌, ◌≤◌, Bool, true, false, ◌&&◌, not, cond, List, [], ◌∷◌, ◌++◌, length, map, set, refl, sym, ◌∙◌, ap, subst, arith, nat_eq, nat_lt, nat_le, length-set}
 use Rattle.std.specs.Prelude.{Option, Some, None, is_none, is_some, slice_get, slice_set}
 use Rattle.std.specs.List.{list_all, range_with_len}
 use Rattle.std.specs.Option.{option_map, option_or, option_and_then}
 use Rattle.std.proofs.lemmas.Bool.Decides.{nat_tests}
 use Rattle.std.proofs.lemmas.List.{get_or-set_same, get_or-set_other, set-set, set-get_or}
 use Rattle.std.proofs.lemmas.Option.{slice_get-get_or, get_or_from_slice_get}
+use Rattle.std.proofs.lemmas.Bool.{lt-ltb, le-ltb}
 use Rattle.base.specs.declared.key.Key.{Key}
 use Rattle.base.specs.declared.fault.Fault.{Fault}
 use Rattle.base.specs.declared.fault.Fault.TheVariants.{TooLong, WriteSetFull, SlotsOut, Device as DeviceFault}
@@ -18,6 +19,7 @@ use Rattle.base.specs.Keys.{key_eq, lookup_key}
 use Rattle.base.specs.Layout.{Layout, row_limit, slot_start, slot_words}
 use Rattle.base.specs.Search.{first_below, first_of as first_there, some_if}
 use Rattle.base.specs.Machine.{State, Session, Active as Reads, Version, BySession, answered, device_failed, refusal, next_state, begun_of, writes_of, replaced, held_at, held_with, held_after_put, own_slot, free_slot, lacks_slot, overfills, most_writes, StandsWithin}
+use Rattle.base.proofs.Search.{first_below-same}
 use Rattle.pmem.specs.Device.{Device, IsOrderly}
 use Rattle.pmem.specs.Trace.{Operation, store_op, Runs, StopsWithin}
 use Rattle.pmem.specs.Words.{LeavesOnly}
@@ -62,21 +64,13 @@ use Rattle.session_steps.proofs.CodeTests.{same-drawers}
 
 -- ---- what is asked of a put
 
--- a row that a slot holds is not too long
-short : (limit len : ℕ) → len ≤ limit → nat_lt limit len ≡ false
-short limit len le = grind (arith, nat_tests)
-
--- one that a slot doesn't hold is
-long : (limit len : ℕ) → limit < len → nat_lt limit len ≡ true
-long limit len lt = grind (arith, nat_tests)
-
 asks : (q : State) (n begun : ℕ) (key : Key) (row : List ℕ) (writes : Writes) (full lacks : Bool) → q.failed ≡ false → q.sessions n ≡ Some (Reads begun writes) → length row ≤ row_limit q.layout.version
     → (is_none (lookup_key writes key) && nat_le most_writes (length writes)) ≡ full → lacks_slot q (step.Put n key row) ≡ lacks
     → refusal q (step.Put n key row) ≡ first_there (some_if full WriteSetFull ∷ some_if lacks SlotsOut ∷ [])
 asks q n begun key row writes full lacks works found le is_full is_lacks =
     passes q (step.Put n key row) n (Reads begun writes) works refl found refl
     ∙ (λ i. first_there (
-    some_if (short (row_limit q.layout.version) (length row) le i) TooLong
+    some_if (le-ltb (row_limit q.layout.version) (length row) le i) TooLong
     ∷ some_if (is_none (lookup_key (writes_of (found i)) key) && nat_le most_writes (length (writes_of (found i)))) WriteSetFull
     ∷ some_if (is_lacks i) SlotsOut
     ∷ []))
@@ -99,22 +93,17 @@ pub long-refusal : (s : Sessions) (h : Hidden) (n : ℕ) (key : Key) (row : List
 long-refusal s h n key row snapshot writes holds at lt =
     passes (plain_of s h) (step.Put n key row) n (Reads (h.seen n) (plain_writes writes)) holds.works refl (ap (λ (t : Option Transaction). option_map (plain_session (h.seen n)) t) at) refl
     ∙ (λ i. first_there (
-    some_if (long (row_limit s.numbers.geometry.version) (length row) lt i) TooLong
+    some_if (lt-ltb (row_limit s.numbers.geometry.version) (length row) lt i) TooLong
     ∷ some_if (overfills (plain_of s h) (step.Put n key row)) WriteSetFull
     ∷ some_if (lacks_slot (plain_of s h) (step.Put n key row)) SlotsOut
     ∷ []))
 
 -- ---- the slot
 
--- the lowest free slot is the machine's
-first-same : (n : ℕ) (p r : ℕ → Bool) → ((k : ℕ) → k < n → p k ≡ r k) → first_below n p ≡ first_below n r
-first-same zero p r same = refl
-first-same (suc n) p r same = λ i. option_or (first-same n p r (λ k lt. same k (omega (arith, lt))) i) (cond (same n (omega arith) i) (Some n) None)
-
 pub free-is : (s : Sessions) (h : Hidden) → Holds s h → lowest_free s.slots ≡ free_slot (plain_of s h)
 free-is s h holds =
     ap (λ (n : ℕ). first_below n (is_free s.slots)) holds.agrees.counted
-    ∙ first-same s.numbers.geometry.slots (is_free s.slots) (λ slot. is_none (h.held slot)) (λ slot lt. get_or_from_slice_get s.slots slot (is_none (h.held slot)) false (holds.agrees.free slot lt))
+    ∙ first_below-same s.numbers.geometry.slots (is_free s.slots) (λ slot. is_none (h.held slot)) (λ slot lt. get_or_from_slice_get s.slots slot (is_none (h.held slot)) false (holds.agrees.free slot lt))
 
 -- the slot that a version links to is one of the layout's
 pub link-fits : (s : Sessions) (h : Hidden) (key : Key) → Holds s h → link_number (head_of (entry_at s.index key)) ≤ s.numbers.geometry.slots

@@ -1,5 +1,5 @@
 -- Get: the row of the session's snapshot on the device.
-use Rattle.std.proofs.Common.{◌≡◌, inl, inr, ℕ, Bool, List, take, refl, sym, ◌∙◌, ap, subst}
+use Rattle.std.proofs.Common.{◌≡◌, inr, ℕ, Bool, List, take, refl, sym, ◌∙◌, ap, subst}
 use Rattle.std.specs.Prelude.{Option, Some, None, unwrap_or}
 use Rattle.std.specs.Option.{option_map}
 use Rattle.base.specs.declared.key.Key.{Key}
@@ -10,14 +10,12 @@ use Rattle.base.specs.declared.step.SessionReply.TheVariants.{Row}
 use Rattle.base.specs.Commits.{after, Tables}
 use Rattle.base.specs.Keys.{lookup_key}
 use Rattle.base.specs.Layout.{total_words}
-use Rattle.base.specs.Images.{IsRuledBy, layout_of}
-use Rattle.base.specs.Records.{Record}
-use Rattle.base.specs.Machine.{State, Hand, answered, begun_of, writes_of}
-use Rattle.pmem.specs.Device.{Device, IsOrderly, MayLeave}
-use Rattle.pmem.specs.Words.{image_of, Survives}
-use Rattle.log_area.proofs.Heads.{image_size, image_word, laid_size}
+use Rattle.base.specs.Images.{layout_of}
+use Rattle.base.specs.Machine.{State, answered, begun_of, writes_of}
+use Rattle.pmem.specs.Device.{Device, IsOrderly}
+use Rattle.pmem.specs.Words.{image_of}
+use Rattle.log_area.proofs.Heads.{image_size, laid_size}
 use Rattle.log_area.proofs.AtRest.{laid}
-use Rattle.log_area.proofs.Replacing.{holds_ruled, ruled_meanwhile}
 use Rattle.snapshot.specs.Snapshots.{Seen, covers}
 use Rattle.txn.specs.declared.transaction.Transaction.{Transaction}
 use Rattle.txn.specs.declared.transaction.Transaction.TheVariants.{Active}
@@ -29,8 +27,8 @@ use Rattle.snapshot.specs.Walks.{IsLinked}
 use Rattle.index.specs.Entries.{entry_at}
 use Rattle.index.specs.Reading.{CountsAs, ShowsTables}
 use Rattle.state_invariant.specs.Kept.{Origin}
-use Rattle.device_invariant.specs.Log.{HoldsHand, writing_at}
 use Rattle.device_invariant.specs.Upholds.{Upholds}
+use Rattle.device_invariant.proofs.Reading.{ruled-image}
 use Rattle.session_laws.specs.Sees.{ReadsBy}
 use Rattle.session_laws.proofs.Reading.{reads}
 use Rattle.session_laws.proofs.Chains.{links-lead}
@@ -42,14 +40,6 @@ use Rattle.session_steps.proofs.Refusals.{passes}
 use Rattle.session_steps.proofs.CodeTests.{same-drawers}
 
 -- ---- the words of a device that upholds a state
-
-leaves-image : (device : Device) → IsOrderly device → MayLeave device (image_of device)
-leaves-image device orderly = record { size = image_size device; each = λ word lt. subst (Survives device word) (sym (image_word device word lt)) (orderly.some word lt) }
-
-ruled-image : (q : State) (device : Device) (hand : Option Hand) → IsOrderly device → HoldsHand q device hand → (r : Record) × IsRuledBy q.layout r (image_of device)
-ruled-image q device None orderly holds = (q.ruling, holds_ruled q.layout q.ruling device holds (image_of device) (leaves-image device orderly))
-ruled-image q device (Some hand) orderly (inl f) = (q.ruling, holds_ruled q.layout q.ruling device f.follows.holds (image_of device) (leaves-image device orderly))
-ruled-image q device (Some hand) orderly (inr r) = elim (ruled_meanwhile q.ruling (writing_at q hand r.stage) device r.replaces (image_of device) (leaves-image device orderly)) [ inl old ↦ (q.ruling, old) | inr new ↦ (hand.target, new.1) ]
 
 pub laid-out : (o : Origin) (q : State) (device : Device) → IsOrderly device → Upholds o q device → layout_of (image_of device) ≡ q.layout
 laid-out o q device orderly upholds = (ruled-image q device q.hand orderly upholds.holds.log).1.laid_out

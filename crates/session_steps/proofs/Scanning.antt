@@ -11,7 +11,7 @@ use Rattle.base.specs.declared.step.SessionReply.TheVariants.{Rows, Refused}
 use Rattle.base.specs.Keys.{key_eq, lookup_key}
 use Rattle.base.specs.Commits.{Tables, Lists, after, overlaid, in_range}
 use Rattle.base.specs.Machine.{answered, memory_refused, begun_of, writes_of}
-use Rattle.base.proofs.Histories.{key_eq-true}
+use Rattle.base.proofs.Keys.{key_eq-true, key_lt-apart}
 use Rattle.pmem.specs.Device.{Device, IsOrderly}
 use Rattle.pmem.specs.Words.{image_of}
 use Rattle.snapshot.specs.Snapshots.{Seen, covers}
@@ -20,7 +20,6 @@ use Rattle.txn.specs.declared.transaction.Transaction.TheVariants.{Active}
 use Rattle.txn.specs.declared.write.Write.{Write}
 use Rattle.txn.specs.Transactions.{transaction_at}
 use Rattle.txn.specs.WriteSets.{IsRising, plain_writes}
-use Rattle.txn.proofs.KeyOrder.{lt_apart}
 use Rattle.txn.proofs.Rising.{rising_tail, first_below_rest}
 use Rattle.index.specs.declared.ranges.KeyRange.{KeyRange}
 use Rattle.index.specs.declared.ranges.KeyRange.TheVariants.{Within}
@@ -69,7 +68,7 @@ laid-next (first ∷ writes) (suc i) write tables key rising at =
   where
     never : key_eq first.key key ≡ true → key_eq write.key key ≡ true → ⊥
     never one other =
-        let apart : key_eq first.key write.key ≡ false = lt_apart first.key write.key (first_below_rest first writes i write rising at) in
+        let apart : key_eq first.key write.key ≡ false = key_lt-apart first.key write.key (first_below_rest first writes i write rising at) in
         let is : key_eq first.key write.key ≡ true = ap (key_eq first.key) (key_eq-true write.key key other) ∙ one in
         cc
 

@@ -20,6 +20,7 @@ use Rattle.base.specs.Commits.{Commit, writes_key}
 use Rattle.base.specs.Layout.{Layout}
 use Rattle.base.specs.Stands.{has_timestamp}
 use Rattle.base.specs.Machine.{State, Session, Drawn as PlainDrawn, ByCommit, Drew, IsCovered, IsStamped, IsDrawn, answered, device_failed, refusal, next_state, allows, standing_of, is_stamped, timestamp_of, counted, drawn_at, stamped_write, is_last_stamp, StandsWithin}
+use Rattle.base.proofs.Lists.{find-passes}
 use Rattle.pmem.specs.Device.{Device}
 use Rattle.pmem.specs.Trace.{Runs, StopsWithin}
 use Rattle.pmem.specs.Words.{LeavesOnly}
@@ -38,7 +39,7 @@ use Rattle.version_slot.specs.Operations.{begin_operations, end_operations}
 use Rattle.state_invariant.specs.Kept.{Origin, Keeps, version_by, covered_since}
 use Rattle.state_invariant.proofs.Choosing.{any-by_timestamp}
 use Rattle.state_invariant.proofs.Lists.{find-any}
-use Rattle.state_invariant.proofs.Lookups.{find-all, find-passes}
+use Rattle.state_invariant.proofs.Lookups.{find-all}
 use Rattle.device_invariant.specs.Slots.{newest_of}
 use Rattle.device_invariant.specs.Upholds.{Upholds}
 use Rattle.step_simulation.specs.Moves.{IsSlotOf, stamp_operations}

@@ -14,13 +14,13 @@ use Rattle.base.specs.declared.fault.Fault.TheVariants.{Device as DeviceFault}
 use Rattle.base.specs.declared.step.Step.TheVariants as step
 use Rattle.base.specs.declared.step.Reply.TheVariants as reply
 use Rattle.base.specs.Keys.{key_eq}
-use Rattle.base.proofs.Histories.{key_eq-true, key_eq-same}
 use Rattle.base.specs.Commits.{Writes, last_writer}
 use Rattle.base.specs.Layout.{Layout, slot_start, total_words}
 use Rattle.base.specs.Records.{is_in}
 use Rattle.base.specs.Images.{layout_of}
 use Rattle.base.specs.Machine.{State, Active as Reads, Drawn as PlainDrawn, Version, ByCommit, answered, device_failed, refusal, replaced, is_nil, session_numbers, StandsWithin}
 use Rattle.base.specs.Collecting.{is_garbage, is_at_slot, is_sweeping, held_after_visit, slot_visited, sweep_ended, visited, collected, replace, sees_replaced}
+use Rattle.base.proofs.Keys.{key_eq-true, key_eq-same}
 use Rattle.pmem.specs.Device.{Device, IsOrderly}
 use Rattle.pmem.specs.Trace.{Operation, store_op, flush_op, fence_op, after, Runs, StopsWithin}
 use Rattle.pmem.specs.Words.{LeavesOnly, value_of, image_of}

@@ -1,11 +1,7 @@
 -- The operations that clear a slot's begin.
-use Rattle.std.proofs.Common.{◌≡◌, ℕ, ◌/◌, List, [], ◌∷◌, Result, Ok, Err, OnErr, ◌∙◌, ap, subst, arith}
+use Rattle.std.proofs.Common.{◌≡◌, ℕ, ◌/◌, List, [], ◌∷◌, ◌∙◌, ap, subst, arith}
 use Rattle.pmem.specs.Device.{Device, IsOrderly, stored, flushed, failed}
 use Rattle.pmem.specs.Trace.{Operation, store_op, flush_op, fence_op, StopsWithin}
-
-pub on_err : {T E P : Type 0} (r : Result T E) → P → OnErr r P
-on_err (Ok x) p = tt
-on_err (Err e) p = p
 
 -- 0 is stored in the word, and made to persist
 abbrev pub operations : ℕ → ℕ → List Operation

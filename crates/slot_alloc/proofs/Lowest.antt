@@ -1,26 +1,11 @@
 -- The lowest number that passes a test.
-use Rattle.std.proofs.Common.{◌≡◌, inl, inr, ℕ, zero, suc, ◌<◌, Bool, true, false, cond, Option, Some, None, refl, sym, ◌∙◌, ap, subst, arith}
+use Rattle.std.proofs.Common.{◌≡◌, ℕ, zero, suc, ◌<◌, Bool, true, false, cond, Option, Some, None, refl, sym, ◌∙◌, ap, arith}
 use Rattle.std.specs.Option.{option_or}
-use Rattle.std.proofs.lemmas.Bool.{cases_eq}
 use Rattle.base.specs.Search.{first_below}
 
 -- none yet, and not this one
 pub lowest_more : (n : ℕ) (test : ℕ → Bool) → first_below n test ≡ None → test n ≡ false → first_below (suc n) test ≡ None
 lowest_more n test none fails = λ i. option_or (none i) (cond (fails i) (Some n) None)
-
--- the first that passes is the lowest below any greater bound
-pub lowest_found : (n m : ℕ) (test : ℕ → Bool) → n < m → first_below n test ≡ None → test n ≡ true → first_below m test ≡ Some n
-lowest_found n zero test lt none passes = absurd (omega arith)
-lowest_found n (suc m) test lt none passes = elim (cases_eq n m) [
-  | inl is ↦
-      subst (λ (k : ℕ). first_below (suc k) test ≡ Some n) is (λ i. option_or (none i) (cond (passes i) (Some n) None))
-  | inr apart ↦ ap (λ (o : Option ℕ). option_or o (cond (test m) (Some m) None)) (lowest_found n m test (omega arith) none passes)
-]
-
--- none passes where each fails
-pub lowest_none : (n : ℕ) (test : ℕ → Bool) → ((k : ℕ) → k < n → test k ≡ false) → first_below n test ≡ None
-lowest_none zero test fails = refl
-lowest_none (suc n) test fails = lowest_more n test (lowest_none n test (λ k lt. fails k (omega arith))) (fails n (omega arith))
 
 -- it lies below the bound
 below_by : (n slot : ℕ) (o : Option ℕ) (b : Bool) → ((k : ℕ) → o ≡ Some k → k < n) → option_or o (cond b (Some n) None) ≡ Some slot → slot < suc n

@@ -7,8 +7,8 @@ use Rattle.std.proofs.lemmas.List.{get_or_past, get_or-set_other, get_or-replica
 use Rattle.std.proofs.lemmas.Grind.{get_or-set_at}
 use Rattle.std.proofs.lemmas.List.FromFn.{length-map-range_with_len, get_or-map-range_with_len}
 use Rattle.base.specs.Search.{first_below}
+use Rattle.base.proofs.Search.{first_below-nowhere, first_below-found}
 use Rattle.slot_alloc.specs.Free.{is_free, lowest_free}
-use Rattle.slot_alloc.proofs.Lowest.{lowest_found, lowest_none}
 use Rattle.slot_alloc.specs.Bits.{bit_of, bits_of, AreClearBefore, AreClearFrom}
 
 pub size-of : (n : ℕ) (words : List ℕ) → length (bits_of n words) ≡ n
@@ -71,7 +71,7 @@ module _ (n : ℕ) (words : List ℕ) (clear : AreClearFrom n words) where
       let rest : slot % 64 ≡ trailing_zeros w64 word = omega (arith, low.0) in
       let set_here : bit_of words slot ≡ true =
       ap (λ (i : ℕ). nat_eq (bit_at (get_or words i 0) (slot % 64)) 1) place ∙ ap (λ (w : ℕ). nat_eq (bit_at w (slot % 64)) 1) is ∙ ap (λ (i : ℕ). nat_eq (bit_at word i) 1) rest ∙ ap (λ (x : ℕ). nat_eq x 1) low.1 in
-      let none : first_below slot (is_free (bits_of n words)) ≡ None = lowest_none slot (is_free (bits_of n words)) (λ k lt.
+      let none : first_below slot (is_free (bits_of n words)) ≡ None = first_below-nowhere slot (is_free (bits_of n words)) (λ k lt.
       free-is n words clear k
       ∙ elim (cases_lt (k / 64) at) [
         | inl earlier ↦ zero-bit words k (before (k / 64) earlier)
@@ -83,10 +83,10 @@ module _ (n : ℕ) (words : List ℕ) (clear : AreClearFrom n words) where
         | inl lt ↦ lt
         | inr ge ↦ absurd (cc (sym set_here ∙ clear slot ge))
       ] in
-      lowest_found slot (length (bits_of n words)) (is_free (bits_of n words)) (omega (arith, inside, size-of n words)) none (free-is n words clear slot ∙ set_here)
+      first_below-found (length (bits_of n words)) slot (is_free (bits_of n words)) (omega (arith, inside, size-of n words)) none (free-is n words clear slot ∙ set_here)
 
   pub lowest-nowhere : AreClearBefore (length words) words → lowest_free (bits_of n words) ≡ None
-  lowest-nowhere before = lowest_none (length (bits_of n words)) (is_free (bits_of n words)) (λ k lt.
+  lowest-nowhere before = first_below-nowhere (length (bits_of n words)) (is_free (bits_of n words)) (λ k lt.
       free-is n words clear k
       ∙ zero-bit words k (elim (cases_lt (k / 64) (length words)) [ inl low ↦ before (k / 64) low | inr high ↦ get_or_past words (k / 64) 0 high ]))
 

@@ -1,20 +1,22 @@
 -- A batch of any number of commits is chosen.
 use Rattle.std.proofs.Common.{◌||◌, ◌≡◌, ◌≢◌, ◌⊎◌, inl, inr, ℕ, suc, ◌+◌, ◌<◌, ◌≤◌, Bool, true, false, cond, not, ◌&&◌, List, [], ◌∷◌, map, filter, fold, length, refl, sym, ◌∙◌, ap, arith, Option, Some, None, find, true≢false}
-use Rattle.std.specs.Prelude.{nat_eq, nat_lt, nat_le, max, count_by}
+use Rattle.std.specs.Prelude.{nat_eq, nat_lt, nat_le, max}
 use Rattle.std.specs.List.{list_any, list_all}
 use Rattle.std.specs.Option.{option_map, option_or}
 use Rattle.std.proofs.lemmas.Bool.{cases_eq, cases_lt, eq-eqb, eqb-true, ne_eqb, and_parts, and_from, ltb-true, lt-ltb, leb-true, le-leb, or_cases, or_left, or_right, false_from_ne_true}
 use Rattle.base.specs.Commits.{Commit}
-use Rattle.base.specs.Layout.{Layout, is_in_limits, is_known_version, is_between, most_longs}
+use Rattle.base.specs.Layout.{most_longs}
 use Rattle.base.specs.declared.gap.Gap.{Gap}
 use Rattle.base.specs.Records.{Record, is_committed, is_in, is_well_formed, are_rising}
 use Rattle.base.specs.Stands.{has_timestamp}
 use Rattle.base.specs.Machine.{State, Drawn, drawn_at, drawn_of, is_stamped, may_be_covered, unstamped_below, is_chosen, is_passed, chosen, reach, passed_over, standing_gaps, target_of, taken_in_hand}
 use Rattle.state_invariant.specs.Kept.{Origin, KeepsHand, Keeps, commit_at, commits_of_life, covered_since}
-use Rattle.state_invariant.proofs.Lookups.{find-passes, find-all}
-use Rattle.state_invariant.proofs.Lists.{all-map, find-map, rising-above, rising-rest, rising-filter, all-drop}
+use Rattle.state_invariant.proofs.Lookups.{find-all}
+use Rattle.state_invariant.proofs.Lists.{all-map, find-map, rising-above, rising-filter}
 use Rattle.state_invariant.proofs.Commits.{commit_at-has, commit_at-some, commit_at-append, commit_at-drawn, drawn_at-timestamp, all-by_timestamp, timestamp-all}
 use Rattle.base.proofs.WellFormed.{well_formed-parts, well_formed-from}
+use Rattle.base.proofs.Lists.{all-drop, any-map, find-passes, rising-rest}
+use Rattle.base.proofs.Layouts.{has_window}
 use Rattle.state_invariant.proofs.Records.{well_formed-further, well_formed-dropped}
 use Rattle.state_invariant.proofs.Covering.{no_gap-above}
 
@@ -23,14 +25,6 @@ use Rattle.state_invariant.proofs.Covering.{no_gap-above}
 pub max-least : (p : ℕ) (ts : List ℕ) → p ≤ fold max p ts
 max-least p [] = omega arith
 max-least p (t ∷ ts) = omega (arith, max-least (max p t) ts)
-
-max-among : (p t : ℕ) (ts : List ℕ) → t ≤ fold max p ts → p < t → list_any (nat_le t) ts ≡ true
-max-among p t [] le above = absurd (omega (arith, le, above))
-max-among p t (u ∷ ts) le above =
-    elim (cases_lt u t) [
-      | inl less ↦ or_right (nat_le t u) (list_any (nat_le t) ts) (max-among (max p u) t ts le (omega (arith, less, above)))
-      | inr more ↦ or_left (nat_le t u) (list_any (nat_le t) ts) (le-leb t u more)
-    ]
 
 pub max-below : (p bound : ℕ) (ts : List ℕ) → p < bound → list_all (λ t. nat_lt t bound) ts ≡ true → fold max p ts < bound
 max-below p bound [] below all = below
@@ -114,24 +108,6 @@ kept-by_filter f (x ∷ ds) u d found passes = by (f x) refl (nat_eq (time_of x)
     by false drops true is found rest = let same : x ≡ d = cc found in absurd (true≢false (sym passes ∙ ap f (sym same) ∙ drops))
     by false drops false is found rest = rest found
 
--- what is found and passes is counted
-counted-least : (r : Drawn → Bool) (n : ℕ) (ds : List Drawn) → n ≤ fold (λ (n : ℕ) (d : Drawn). n + cond (r d) 1 0) n ds
-counted-least r n [] = omega arith
-counted-least r n (d ∷ ds) = omega (arith, counted-least r (n + cond (r d) 1 0) ds)
-
-counted-from : (r : Drawn → Bool) (n : ℕ) (ds : List Drawn) (u : ℕ) (d : Drawn) → find (λ (e : Drawn). nat_eq e.commit.timestamp u) ds ≡ Some d → fold (λ (n : ℕ) (d : Drawn). n + cond (r d) 1 0) n ds ≤ 0 → r d ≡ false
-counted-from r n [] u d found none = absurd (cc found)
-counted-from r n (x ∷ ds) u d found none = by (r x) refl (nat_eq (time_of x) u) found (omega (arith, counted-least r (n + cond (r x) 1 0) ds, none)) (λ rest. counted-from r (n + cond (r x) 1 0) ds u d rest none)
-  where
-    by : (a : Bool) → r x ≡ a → (b : Bool) → cond b (Some x) (find (λ (e : Drawn). nat_eq e.commit.timestamp u) ds) ≡ Some d → n + cond (r x) 1 0 ≤ 0
-        → (find (λ (e : Drawn). nat_eq e.commit.timestamp u) ds ≡ Some d → r d ≡ false) → r d ≡ false
-    by true is b found less rest = let one : ◌≡◌ {A = ℕ} (cond (r x) 1 0) 1 = ap (λ (b : Bool). cond b 1 0) is in absurd (omega (arith, less, one))
-    by false is true found less rest = let same : x ≡ d = cc found in ap r (sym same) ∙ is
-    by false is false found less rest = rest found
-
-counted-found : (r : Drawn → Bool) (ds : List Drawn) (u : ℕ) (d : Drawn) → find (λ (e : Drawn). nat_eq e.commit.timestamp u) ds ≡ Some d → count_by r ds ≤ 0 → r d ≡ false
-counted-found r ds u d found none = counted-from r 0 ds u d found none
-
 filter-none : {X : Type 0} (p : X → Bool) (xs : List X) → list_all (λ x. not (p x)) xs ≡ true → filter p xs ≡ []
 filter-none p [] all = refl
 filter-none p (x ∷ xs) all = by (p x) (and_parts (not (p x)) (list_all (λ x. not (p x)) xs) all).0 (filter-none p xs (and_parts (not (p x)) (list_all (λ x. not (p x)) xs) all).1)
@@ -150,17 +126,6 @@ any-unfiltered p r (d ∷ ds) any = by (p d) any (any-unfiltered p r ds)
       | inr later ↦ or_right (r d) (list_any (λ d. p d && r d) ds) (rest later)
     ]
     by false any rest = rest any
-
-pub any-map : {X Y : Type 0} (p : Y → Bool) (h : X → Y) (xs : List X) → list_any p (map h xs) ≡ list_any (λ x. p (h x)) xs
-any-map p h [] = refl
-any-map p h (x ∷ xs) = ap (λ (b : Bool). p (h x) || b) (any-map p h xs)
-
-pub window-limits : (a : Layout) → is_in_limits a ≡ true → 0 < a.window
-window-limits a limits =
-    let rest = (and_parts (is_known_version a.version) (is_between 1 65536 a.slots && (is_between 2 64 a.places && is_between 4 1024 a.window)) limits).1 in
-    let places = (and_parts (is_between 1 65536 a.slots) (is_between 2 64 a.places && is_between 4 1024 a.window) rest).1 in
-    let window = (and_parts (is_between 2 64 a.places) (is_between 4 1024 a.window) places).1 in
-    omega (arith, leb-true 4 a.window (and_parts (nat_le 4 a.window) (nat_le a.window 1024) window).0)
 
 -- ---- records
 
@@ -466,7 +431,7 @@ module _ (o : Origin) (q : State) (kept : Keeps o q) where
   out-of_gaps t false out = out
 
   has-window : 0 < q.layout.window
-  has-window = window-limits q.layout kept.numbers.layout
+  has-window = has_window q.layout kept.numbers.layout
 
   -- a well formed record with long commits that are few, rise, and lie up to what it persists and in no gap
   with-longs : (version gate persisted dirty : ℕ) (gaps : List Gap) (longs : List ℕ) → is_well_formed version (record { gate = gate; persisted = persisted; dirty = dirty; gaps = gaps; longs = [] }) ≡ true

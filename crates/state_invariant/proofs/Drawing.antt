@@ -13,9 +13,11 @@ use Rattle.base.specs.Commits.{Writes, Commit, writes_key, last_writer}
 use Rattle.base.specs.Records.{is_committed, are_rising}
 use Rattle.base.specs.Stands.{has_timestamp}
 use Rattle.base.specs.Machine.{State, Session, Active, Drew, WroteNothing, Drawn, Hand, Version, Writer, BySession, ByCommit, drawn_at, drawn_of, writes_of, begun_of, is_by, by_commit, state_drawn, next_state, refusal, unseen_by, conflict_of, is_nil}
+use Rattle.base.proofs.Keys.{key_eq-true}
+use Rattle.base.proofs.Lists.{all-drop}
 use Rattle.state_invariant.specs.Kept.{Origin, KeepsHand, KeepsOrigin, KeepsNumbers, DrawsInOrder, Owns, Keeps, IsInUse, HasSlot, wanted, row_in, row_by, commit_at, commits_of_life, covered_since, version_by, last_of}
-use Rattle.state_invariant.proofs.Lookups.{same-keys, replaced-same, replaced-other, find-all}
-use Rattle.state_invariant.proofs.Lists.{all-drop, all-weaken, all-one_more, rising-one_more, find-map}
+use Rattle.state_invariant.proofs.Lookups.{replaced-same, replaced-other, find-all}
+use Rattle.state_invariant.proofs.Lists.{all-weaken, all-one_more, rising-one_more, find-map}
 use Rattle.state_invariant.proofs.Commits.{commit_at-none, commit_at-some, commit_at-has, timestamp-all, commit_at-append, drawn_at-timestamp, uncommitted-above}
 use Rattle.state_invariant.proofs.Log.{writer-bounded}
 use Rattle.state_invariant.proofs.Refusals.{allowed, active}
@@ -86,14 +88,14 @@ held-turns n t o k e = ap (by_commit n t) e ∙ ap (λ (b : Bool). Some (version
 
 -- ---- no commit that is drawn writes a key of the session
 
-key-found : (key : Key) (writes : Writes) (p : Key → Bool) → is_some (lookup_key writes key) ≡ true → find p (map (λ write. write.0) writes) ≡ None → p key ≡ false
+pub key-found : (key : Key) (writes : Writes) (p : Key → Bool) → is_some (lookup_key writes key) ≡ true → find p (map (λ write. write.0) writes) ≡ None → p key ≡ false
 key-found key [] p has none = cc has
 key-found key (write ∷ writes) p has none = by (key_eq write.0 key) refl (p write.0) refl has none (key-found key writes p)
   where
     by : (a : Bool) → key_eq write.0 key ≡ a → (b : Bool) → p write.0 ≡ b → is_some (cond a (Some write.1) (lookup_key writes key)) ≡ true → cond b (Some write.0) (find p (map (λ (w : Key × Option (List ℕ)). w.0) writes)) ≡ None
         → (is_some (lookup_key writes key) ≡ true → find p (map (λ (w : Key × Option (List ℕ)). w.0) writes) ≡ None → p key ≡ false) → p key ≡ false
     by a same true passes has none rest = cc none
-    by true same false fails has none rest = ap p (sym (same-keys write.0 key same)) ∙ fails
+    by true same false fails has none rest = ap p (sym (key_eq-true write.0 key same)) ∙ fails
     by false apart false fails has none rest = rest has none
 
 no-any : {X : Type 0} (p : X → Bool) (xs : List X) (test : X → Bool) (x : X) → list_any p xs ≡ false → find test xs ≡ Some x → p x ≡ false

@@ -1,16 +1,16 @@
 -- The last row that commits wrote at a key.
-use Rattle.std.proofs.Common.{◌≡◌, ℕ, zero, suc, ◌≤◌, Bool, true, false, cond, List, [], ◌∷◌, ◌++◌, length, take, refl, sym, ◌∙◌, ap, arith, Option, Some, None, slice_get}
+use Rattle.std.proofs.Common.{◌≡◌, ℕ, zero, suc, ◌≤◌, Bool, true, false, cond, List, [], ◌∷◌, length, take, refl, sym, ◌∙◌, ap, arith, Option, Some, None, slice_get}
 use Rattle.std.specs.Prelude.{is_some, fold, unwrap_or}
 use Rattle.std.specs.List.{list_all}
 use Rattle.std.proofs.lemmas.Bool.{and_parts}
 use Rattle.std.proofs.lemmas.List.Sums.{fold-append}
 use Rattle.base.specs.declared.key.Key.{Key}
 use Rattle.base.specs.Keys.{lookup_key}
-use Rattle.base.specs.Commits.{Commit, no_rows, after, writes_key, last_writer}
+use Rattle.base.specs.Commits.{Commit, after, writes_key, last_writer}
 use Rattle.state_invariant.specs.Kept.{row_in}
 use Rattle.state_invariant.specs.Links.{last_row}
-use Rattle.state_invariant.proofs.Commits.{laid-append}
-use Rattle.state_invariant.proofs.Log.{place-within}
+use Rattle.state_invariant.proofs.Log.{place-within, writer-place, after-place}
+use Rattle.state_invariant.proofs.Places.{take-place}
 
 -- ---- commits that write no row there
 
@@ -42,19 +42,8 @@ row-all p key s (c ∷ cs) all here t e =
 
 -- ---- one commit more
 
-take-place : (cs : List Commit) (n : ℕ) (c : Commit) → slice_get cs n ≡ Some c → take (suc n) cs ≡ take n cs ++ c ∷ []
-take-place [] n c at = absurd (cc at)
-take-place (x ∷ cs) zero c at = let same : x ≡ c = cc at in ap (λ (y : Commit). y ∷ []) same
-take-place (x ∷ cs) (suc n) c at = ap (λ (ys : List Commit). x ∷ ys) (take-place cs n c at)
-
 pub row-place : (cs : List Commit) (n : ℕ) (c : Commit) (key : Key) → slice_get cs n ≡ Some c → last_row (take (suc n) cs) key ≡ cond (is_some (row_in c.writes key)) (Some c.timestamp) (last_row (take n cs) key)
 row-place cs n c key at = ap (λ (xs : List Commit). last_row xs key) (take-place cs n c at) ∙ fold-append (λ (last : Option ℕ) (commit : Commit). cond (is_some (row_in commit.writes key)) (Some commit.timestamp) last) None (take n cs) (c ∷ [])
-
-pub writer-place : (cs : List Commit) (n : ℕ) (c : Commit) (key : Key) → slice_get cs n ≡ Some c → last_writer (take (suc n) cs) key ≡ cond (writes_key key c) c.timestamp (last_writer (take n cs) key)
-writer-place cs n c key at = ap (λ (xs : List Commit). last_writer xs key) (take-place cs n c at) ∙ fold-append (λ (t : ℕ) (commit : Commit). cond (writes_key key commit) commit.timestamp t) 0 (take n cs) (c ∷ [])
-
-after-place : (cs : List Commit) (n : ℕ) (c : Commit) (key : Key) → slice_get cs n ≡ Some c → after (take (suc n) cs) key ≡ unwrap_or (lookup_key c.writes key) (after (take n cs) key)
-after-place cs n c key at = ap (λ (xs : List Commit). after xs key) (take-place cs n c at) ∙ laid-append no_rows (take n cs) (c ∷ []) key
 
 -- where a row is there, its commit is the last that wrote one
 pub row-there : (cs : List Commit) (n : ℕ) (key : Key) (row : List ℕ) → n ≤ length cs → after (take n cs) key ≡ Some row → last_row (take n cs) key ≡ Some (last_writer (take n cs) key)

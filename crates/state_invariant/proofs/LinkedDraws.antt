@@ -1,42 +1,28 @@
 -- Which version each one names, over a draw.
-use Rattle.std.proofs.Common.{◌≡◌, ◌≢◌, ◌⊎◌, inl, inr, ℕ, zero, suc, ◌+◌, ◌<◌, ◌≤◌, Bool, true, false, cond, ◌||◌, List, [], ◌∷◌, length, map, take, drop, refl, sym, ◌∙◌, ap, arith, Option, Some, None, slice_get}
-use Rattle.std.specs.Prelude.{nat_eq, is_some, find}
+use Rattle.std.proofs.Common.{◌≡◌, ◌≢◌, ◌⊎◌, inl, inr, ℕ, zero, suc, ◌+◌, ◌<◌, ◌≤◌, Bool, true, false, cond, List, [], ◌∷◌, length, take, drop, sym, ◌∙◌, ap, arith, Option, Some, None, slice_get}
+use Rattle.std.specs.Prelude.{nat_eq, is_some}
 use Rattle.std.specs.List.{list_any, list_all}
 use Rattle.std.proofs.lemmas.List.Folds.{list_any-append}
+use Rattle.std.proofs.lemmas.Bool.{or_parts}
 use Rattle.base.specs.declared.key.Key.{Key}
-use Rattle.base.specs.Keys.{key_eq, lookup_key}
+use Rattle.base.specs.Keys.{lookup_key}
 use Rattle.base.specs.Commits.{Commit, Writes, writes_key}
 use Rattle.base.specs.Records.{is_committed}
 use Rattle.base.specs.Machine.{State, Drew, Drawn, Version, BySession, ByCommit, drawn_at, drawn_of, begun_of, writes_of, state_drawn, unseen_by, conflict_of}
+use Rattle.base.proofs.Lists.{all-take}
 use Rattle.state_invariant.specs.Kept.{Origin, Keeps, version_by}
 use Rattle.state_invariant.specs.Links.{last_row, IsFreeToDraw, ComesAfter, by_session, by_draw, by_commit, LinksTo, Links}
-use Rattle.state_invariant.proofs.Lists.{all-take}
-use Rattle.state_invariant.proofs.Lookups.{same-keys}
 use Rattle.state_invariant.proofs.Commits.{committed-bounds}
 use Rattle.state_invariant.proofs.Log.{at-fact}
 use Rattle.state_invariant.proofs.LastRows.{row-all}
-use Rattle.state_invariant.proofs.Drawing.{drawn_now, drawn_at-next, found-new, found-old, held-drawn, unlike-drawn}
+use Rattle.state_invariant.proofs.Drawing.{drawn_now, drawn_at-next, found-new, found-old, held-drawn, unlike-drawn, key-found}
 
 -- ---- the conflict test
 
-key-found : (key : Key) (writes : Writes) (p : Key → Bool) → is_some (lookup_key writes key) ≡ true → find p (map (λ write. write.0) writes) ≡ None → p key ≡ false
-key-found key [] p has none = cc has
-key-found key (write ∷ writes) p has none = by (key_eq write.0 key) refl (p write.0) refl has none (λ h n. key-found key writes p h n)
-  where
-    by : (a : Bool) → key_eq write.0 key ≡ a → (b : Bool) → p write.0 ≡ b → is_some (cond a (Some write.1) (lookup_key writes key)) ≡ true → cond b (Some write.0) (find p (map (λ (w : Key × Option (List ℕ)). w.0) writes)) ≡ None
-        → (is_some (lookup_key writes key) ≡ true → find p (map (λ (w : Key × Option (List ℕ)). w.0) writes) ≡ None → p key ≡ false) → p key ≡ false
-    by a same true passes has none rest = cc none
-    by true same false fails has none rest = ap p (sym (same-keys write.0 key same)) ∙ fails
-    by false apart false fails has none rest = rest has none
-
-neither : (a b : Bool) → (a || b) ≡ false → (a ≡ false) × (b ≡ false)
-neither true b e = absurd (cc e)
-neither false b e = (refl, e)
-
 none-at : (p : Commit → Bool) (cs : List Commit) (from place : ℕ) (c : Commit) → list_any p (drop from cs) ≡ false → from ≤ place → slice_get cs place ≡ Some c → p c ≡ false
 none-at p [] from place c none low at = absurd (cc at)
-none-at p (x ∷ cs) zero zero c none low at = let same : x ≡ c = cc at in ap p (sym same) ∙ (neither (p x) (list_any p cs) none).0
-none-at p (x ∷ cs) zero (suc place) c none low at = none-at p cs zero place c (neither (p x) (list_any p cs) none).1 (omega arith) at
+none-at p (x ∷ cs) zero zero c none low at = let same : x ≡ c = cc at in ap p (sym same) ∙ (or_parts (p x) (list_any p cs) none).0
+none-at p (x ∷ cs) zero (suc place) c none low at = none-at p cs zero place c (or_parts (p x) (list_any p cs) none).1 (omega arith) at
 none-at p (x ∷ cs) (suc from) zero c none low at = absurd (omega (arith, low))
 none-at p (x ∷ cs) (suc from) (suc place) c none low at = none-at p cs from place c none (omega (arith, low)) at
 
@@ -44,7 +30,7 @@ none-at p (x ∷ cs) (suc from) (suc place) c none low at = none-at p cs from pl
 pub free-to-draw : (q : State) (n : ℕ) (key : Key) → conflict_of q n ≡ None → is_some (lookup_key (writes_of (q.sessions n)) key) ≡ true → IsFreeToDraw q n key
 free-to-draw q n key alone has =
     let none : list_any (writes_key key) (unseen_by q n) ≡ false = key-found key (writes_of (q.sessions n)) (λ key. list_any (writes_key key) (unseen_by q n)) has alone in
-    let parts = neither _ _ (sym (list_any-append (writes_key key) (drop (begun_of (q.sessions n)) q.history) (drawn_of q)) ∙ none) in
+    let parts = or_parts _ _ (sym (list_any-append (writes_key key) (drop (begun_of (q.sessions n)) q.history) (drawn_of q)) ∙ none) in
     record {
       covered = λ place c low at. none-at (writes_key key) q.history (begun_of (q.sessions n)) place c parts.0 low at;
       drawn = λ t d found. unlike-drawn q n key t d alone has found;

@@ -11,6 +11,7 @@ use Rattle.base.specs.Keys.{lookup_key}
 use Rattle.base.specs.Commits.{Commit, Writes, with_write}
 use Rattle.base.specs.Machine.{State, Session, Active, WroteNothing, Drawn, Hand, Version, BySession, drawn_at, begun_of, writes_of, replaced, is_own_at, is_held_by, free_session, state_drawn, counted, timestamp_of, held_after_delete, held_after_abort, state_ticked, state_ticked_on, next_stage, taken_in_hand, is_idle, next_state, refusal, refused, answered, memory_refused, device_failed}
 use Rattle.base.specs.Collecting.{is_at_slot, held_after_visit, slot_visited, sweep_ended}
+use Rattle.base.proofs.Counted.{counted-commit}
 use Rattle.state_invariant.specs.Kept.{Origin, Keeps, row_in, version_by}
 use Rattle.state_invariant.specs.Links.{Links}
 use Rattle.state_invariant.specs.Laws.{fills, StepsLink, CoveringLinks}
@@ -88,27 +89,19 @@ links-moved o q held swept place value only links = links-carried o q (record q 
     by slot v at (stays same) = sym same ∙ at
     by slot v at (frees g none) = let clash : ◌≡◌ {A = Option Version} None (Some v) = sym none ∙ at in absurd (cc clash)
 
--- a stamp
-counted-same : (t : ℕ) (d : Drawn) → (counted t d).commit ≡ d.commit
-counted-same t d = by (nat_eq d.commit.timestamp t)
-  where
-    by : (b : Bool) → (cond b (record { commit = d.commit; stamped = d.stamped + 1 }) d).commit ≡ d.commit
-    by true = refl
-    by false = refl
-
 stamped-found : (t u : ℕ) (ds : List Drawn) → find (λ (d : Drawn). nat_eq d.commit.timestamp u) (map (counted t) ds) ≡ option_map (counted t) (find (λ (d : Drawn). nat_eq d.commit.timestamp u) ds)
 stamped-found t u ds = find-map (λ (d : Drawn). nat_eq d.commit.timestamp u) (counted t) ds ∙ ap (λ (x : Option Drawn). option_map (counted t) x) (same-test ds)
   where
     same-test : (ds : List Drawn) → find (λ (d : Drawn). nat_eq (counted t d).commit.timestamp u) ds ≡ find (λ (d : Drawn). nat_eq d.commit.timestamp u) ds
     same-test [] = refl
-    same-test (d ∷ ds) = ap (λ (c : Commit). cond (nat_eq c.timestamp u) (Some d) (find (λ (d : Drawn). nat_eq (counted t d).commit.timestamp u) ds)) (counted-same t d) ∙ ap (λ (x : Option Drawn). cond (nat_eq d.commit.timestamp u) (Some d) x) (same-test ds)
+    same-test (d ∷ ds) = ap (λ (c : Commit). cond (nat_eq c.timestamp u) (Some d) (find (λ (d : Drawn). nat_eq (counted t d).commit.timestamp u) ds)) (counted-commit t d) ∙ ap (λ (x : Option Drawn). cond (nat_eq d.commit.timestamp u) (Some d) x) (same-test ds)
 
 stamp-carries : (q : State) (t : ℕ) → FillsNone q (record q { drawn = map (counted t) q.drawn })
 stamp-carries q t = record {
   layout = refl;
   history = refl;
   drawn = λ u d found. back u d (drawn_at q u) refl found;
-  still = λ u d found. (counted t d, stamped-found t u q.drawn ∙ ap (λ (x : Option Drawn). option_map (counted t) x) found, counted-same t d);
+  still = λ u d found. (counted t d, stamped-found t u q.drawn ∙ ap (λ (x : Option Drawn). option_map (counted t) x) found, counted-commit t d);
   works = λ up. up;
   held = λ slot v at. at;
   begun = λ slot n key lt at. refl;
@@ -119,7 +112,7 @@ stamp-carries q t = record {
     back u d (Some e) was found =
         let both : Some (counted t e) ≡ Some d = sym (stamped-found t u q.drawn ∙ ap (λ (x : Option Drawn). option_map (counted t) x) was) ∙ found in
         let same : counted t e ≡ d = cc both in
-        (e, was, sym (counted-same t e) ∙ ap (λ (d : Drawn). d.commit) same)
+        (e, was, sym (counted-commit t e) ∙ ap (λ (d : Drawn). d.commit) same)
 
 -- ---- each step that fills no slot
 

@@ -3,23 +3,26 @@ use Rattle.std.proofs.Common.{◌≡◌, ◌⊎◌, inl, inr, ℕ, ◌+◌, ◌-
 use Rattle.std.specs.Prelude.{slice_index, Option, Some, None, unwrap_or, is_some, fold, nat_le, nat_lt, if◌then◌else◌}
 use Rattle.std.specs.List.{list_all}
 use Rattle.std.proofs.lemmas.List.{take_all, drop_all}
-use Rattle.std.proofs.lemmas.Bool.{and_parts, and_from, and_right, and_cases, or_parts, or_left, cases_order, leb-true, leb-false, le-leb, lt-ltb, eq-eqb, not-true, not-false, cond-true, cond-false, false≢true, true≢false}
-use Rattle.std.proofs.lemmas.Option.{slice_get_within}
+use Rattle.std.proofs.lemmas.Bool.{and_parts, and_from, and_right, and_cases, or_parts, or_left, cases_order, leb-false, le-leb, lt-ltb, eq-eqb, not-true, not-false, cond-true, cond-false, false≢true, true≢false}
+use Rattle.std.proofs.lemmas.Option.{slice_get_within, none-some, cond_some}
 use Rattle.base.specs.declared.key.Key.{Key}
 use Rattle.base.specs.declared.gap.Gap.{Gap}
 use Rattle.base.specs.Keys.{key_eq, lookup_key}
 use Rattle.base.specs.Commits.{Commit, Tables, overlaid, laid, no_rows, writes_key, after, last_writer}
-use Rattle.base.specs.Layout.{Layout, is_between, is_in_limits, is_known_version}
+use Rattle.base.specs.Layout.{Layout}
 use Rattle.base.specs.Records.{Record, is_in, is_committed, opened_gaps}
 use Rattle.base.specs.Images.{Image, layout_of, key_of, row_of, begin_of, end_of, is_shown, is_ahead, is_misfit, is_second, ruling, is_bad_slot, opening_fault}
 use Rattle.base.specs.Search.{first_below}
 use Rattle.base.specs.Stands.{Stands}
 use Rattle.base.specs.Openings.{IsOpenedGaps, IsUpToDate, OpensAs, opening_record, opened_under, held_under, gaps_kept, opened_slots}
-use Rattle.base.specs.Machine.{State, Version, BySession, ByCommit}
-use Rattle.base.proofs.Histories.{first_below-none, key_eq-same}
+use Rattle.base.specs.Machine.{State, Version, ByCommit}
 use Rattle.base.proofs.WellFormed.{well_formed-parts}
 use Rattle.base.proofs.OpenedRecords.{same-committed, formed-over}
 use Rattle.base.proofs.Opened.{IsOpening, ruled_before, opening-of, same_opened}
+use Rattle.base.proofs.Keys.{key_eq-same}
+use Rattle.base.proofs.Options.{is_some-none}
+use Rattle.base.proofs.Search.{first_below-none}
+use Rattle.base.proofs.Layouts.{has_window}
 use Rattle.state_invariant.specs.Kept.{Origin, origin_of, Keeps, HasSlot, IsInUse, wanted, version_by, last_of, commit_at, row_by, are_distinct}
 use Rattle.state_invariant.specs.Shown.{word_of, IsNever, IsHidden, IsNewest, ShowsAs, SlotsShow, class_of_version, Newest, Replaced}
 use Rattle.state_invariant.proofs.Commits.{committed-bounds}
@@ -49,15 +52,11 @@ good-slot r image slot e =
       first = λ is. (live-parts (is_shown r image slot) (is_misfit image slot) (is_second r image slot) both.1 is).1;
     }
 
-not_some : (o : Option ℕ) → is_some o ≡ false → o ≡ None
-not_some None e = refl
-not_some (Some x) e = cc
-
 -- two live slots of a key are one
 one-lower : (r : Record) (image : Image) (lower slot : ℕ) → lower < slot → IsGood r image slot → is_shown r image lower ≡ true → is_shown r image slot ≡ true → key_of image lower ≡ key_of image slot → ⊥
 one-lower r image lower slot less good live_lower live same =
     let test : ℕ → Bool = λ l. is_shown r image l && key_eq (key_of image l) (key_of image slot) in
-    let none : first_below slot test ≡ None = not_some (first_below slot test) (good.first live) in
+    let none : first_below slot test ≡ None = is_some-none (first_below slot test) (good.first live) in
     let keys : key_eq (key_of image lower) (key_of image slot) ≡ true = subst (λ (k : Key). key_eq (key_of image lower) k ≡ true) same (key_eq-same (key_of image lower)) in
     let both : test lower ≡ true = and_from (is_shown r image lower) (key_eq (key_of image lower) (key_of image slot)) live_lower keys in
     false≢true (sym (first_below-none slot test none lower less) ∙ both)
@@ -79,13 +78,9 @@ record IsHeldAs (r : Record) (image : Image) (history : List Commit) (slot : ℕ
   live : is_shown r image slot ≡ true
   is : version_in image history slot ≡ version
 
-cond-some : {X : Type 0} (b : Bool) (x y : X) → cond b (Some x) None ≡ Some y → (b ≡ true) × (x ≡ y)
-cond-some true x y e = (refl, cc)
-cond-some false x y e = cc
-
 held-as : (a : Layout) (r : Record) (image : Image) (history : List Commit) (slot : ℕ) (version : Version) → held_under a r image history slot ≡ Some version → IsHeldAs r image history slot version
 held-as a r image history slot version e =
-    let both = cond-some (nat_lt slot a.slots && is_shown r image slot) (version_in image history slot) version e in
+    let both = cond_some (nat_lt slot a.slots && is_shown r image slot) (version_in image history slot) version e in
     record { live = (and_parts (nat_lt slot a.slots) (is_shown r image slot) both.0).1; is = both.1 }
 
 held-live : (a : Layout) (r : Record) (image : Image) (history : List Commit) (slot : ℕ) → slot < a.slots → is_shown r image slot ≡ true → held_under a r image history slot ≡ Some (version_in image history slot)
@@ -97,12 +92,6 @@ held-none a r image history slot dead = cond-false (nat_lt slot a.slots && is_sh
 
 by_commit-same : (t u : ℕ) → ByCommit t ≡ ByCommit u → t ≡ u
 by_commit-same t u e = cc
-
-not_session : (t n : ℕ) → ByCommit t ≡ BySession n → ⊥
-not_session t n e = cc
-
-none-some : {X : Type 0} (x : X) → ◌≡◌ {A = Option X} None (Some x) → ⊥
-none-some x e = cc
 
 -- where there is a row, its key's last writer passes what each commit passes
 passes-from : (test : ℕ → Bool) (key : Key) (row : List ℕ) (tables : Tables) (t : ℕ) (history : List Commit)
@@ -122,13 +111,6 @@ passes-last_writer test key row history all e = passes-from test key row no_rows
 
 narrower : (dirty window limit : ℕ) → dirty + 2 * window < limit → dirty + window < limit
 narrower dirty window limit h = omega (arith, h)
-
-has-window : (a : Layout) → is_in_limits a ≡ true → 0 < a.window
-has-window a e =
-    let one = and_parts (is_known_version a.version) (is_between 1 65536 a.slots && (is_between 2 64 a.places && is_between 4 1024 a.window)) e in
-    let two = and_parts (is_between 1 65536 a.slots) (is_between 2 64 a.places && is_between 4 1024 a.window) one.1 in
-    let three = and_parts (is_between 2 64 a.places) (is_between 4 1024 a.window) two.1 in
-    omega (arith, leb-true 4 a.window (and_parts (nat_le 4 a.window) (nat_le a.window 1024) three.1).0)
 
 -- what the opened record doesn't commit, though it lies below the old dirty timestamp, is 0 or in a gap
 never-parts : (t persisted : ℕ) (i : Bool) → t ≤ persisted → (nat_le 1 t && nat_le t persisted && not i && not false) ≡ false → (t ≡ 0) ⊎ (i ≡ true)
@@ -191,7 +173,7 @@ module _ (a : Layout) (r : Record) (image : Image) (history : List Commit) (lost
     numbers = record {
       ruling = record {
         layout = opening.limits;
-        formed = formed-over a.version a r gaps opening.formed opening.gaps_cover opening.few (has-window a opening.limits) (narrower r.dirty a.window (2 ^ 62) opening.room);
+        formed = formed-over a.version a r gaps opening.formed opening.gaps_cover opening.few (has_window a opening.limits) (narrower r.dirty a.window (2 ^ 62) opening.room);
         persisted = omega (arith, less);
         reserved = omega arith;
         window = omega arith;
@@ -203,7 +185,7 @@ module _ (a : Layout) (r : Record) (image : Image) (history : List Commit) (lost
       hand = λ hand is. absurd (none-some hand is);
       origin = record {
         covered = record {
-          formed = formed-over a.version a r gaps opening.formed opening.gaps_cover opening.few (has-window a opening.limits) (narrower r.dirty a.window (2 ^ 62) opening.room);
+          formed = formed-over a.version a r gaps opening.formed opening.gaps_cover opening.few (has_window a opening.limits) (narrower r.dirty a.window (2 ^ 62) opening.room);
           whole = refl;
           opened = omega arith;
           further = omega arith;

@@ -2,7 +2,7 @@
 use Rattle.std.proofs.Common.{◌≡◌, ◌⊎◌, inl, inr, ℕ, zero, suc, ◌+◌, ◌<◌, Bool, true, false, cond, List, [], ◌∷◌, ◌++◌, length, take, refl, sym, ◌∙◌, ap, arith, Some, slice_get}
 use Rattle.std.specs.Prelude.{fold}
 use Rattle.std.specs.List.{list_all}
-use Rattle.std.proofs.lemmas.Bool.{and_parts}
+use Rattle.std.proofs.lemmas.Bool.{and_parts, and_from}
 use Rattle.base.specs.declared.key.Key.{Key}
 use Rattle.base.specs.Commits.{Commit, writes_key}
 
@@ -12,6 +12,17 @@ front-fact p [] to place c all lt at = absurd (cc at)
 front-fact p (x ∷ cs) zero place c all lt at = absurd (omega (arith, lt))
 front-fact p (x ∷ cs) (suc to) zero c all lt at = let same : x ≡ c = cc at in ap p (sym same) ∙ (and_parts (p x) (list_all p (take to cs)) all).0
 front-fact p (x ∷ cs) (suc to) (suc place) c all lt at = front-fact p cs to place c (and_parts (p x) (list_all p (take to cs)) all).1 (omega (arith, lt)) at
+
+-- what the one at each place has, all have
+pub all-placed : (p : Commit → Bool) (cs : List Commit) → ((i : ℕ) (c : Commit) → slice_get cs i ≡ Some c → p c ≡ true) → list_all p cs ≡ true
+all-placed p [] each = refl
+all-placed p (c ∷ cs) each = and_from (p c) (list_all p cs) (each 0 c refl) (all-placed p cs (λ i d at. each (suc i) d at))
+
+-- one commit more
+pub take-place : (cs : List Commit) (n : ℕ) (c : Commit) → slice_get cs n ≡ Some c → take (suc n) cs ≡ take n cs ++ c ∷ []
+take-place [] n c at = absurd (cc at)
+take-place (x ∷ cs) zero c at = let same : x ≡ c = cc at in ap (λ (y : Commit). y ∷ []) same
+take-place (x ∷ cs) (suc n) c at = ap (λ (ys : List Commit). x ∷ ys) (take-place cs n c at)
 
 -- it is in the one list or in the other
 pub place-append : (xs ys : List Commit) (i : ℕ) (c : Commit) → slice_get (xs ++ ys) i ≡ Some c → ((i < length xs) × (slice_get xs i ≡ Some c)) ⊎ ((j : ℕ) × (i ≡ length xs + j) × (slice_get ys j ≡ Some c))

@@ -1,14 +1,14 @@
 -- One session changes, and with it what it holds.
-use Rattle.std.proofs.Common.{◌≡◌, ◌≢◌, ◌⊎◌, inl, inr, ℕ, ◌<◌, ◌≤◌, Bool, true, false, cond, ◌&&◌, List, [], ◌∷◌, map, length, refl, sym, ◌∙◌, ap, subst, Option, Some, None, true≢false}
-use Rattle.std.specs.Prelude.{nat_eq, nat_lt}
-use Rattle.std.proofs.lemmas.Bool.{cases_eq, cases_order, and_parts, and_from, eq-eqb, lt-ltb, or_left, or_right}
+use Rattle.std.proofs.Common.{◌≡◌, ◌≢◌, ◌⊎◌, inl, inr, ℕ, ◌<◌, ◌≤◌, Bool, true, false, cond, ◌&&◌, List, [], ◌∷◌, map, length, refl, sym, ◌∙◌, ap, subst, Option, Some, None}
+use Rattle.std.proofs.lemmas.Bool.{cases_eq, and_parts, and_from}
 use Rattle.base.specs.declared.key.Key.{Key}
 use Rattle.base.specs.Keys.{key_eq, key_lt, lookup_key, is_rising}
 use Rattle.base.specs.Commits.{Writes, with_write}
 use Rattle.base.specs.Stands.{has_timestamp}
 use Rattle.base.specs.Machine.{State, Session, Active, Drew, Drawn, Version, Writer, BySession, ByCommit, drawn_at, writes_of, replaced, with_session}
+use Rattle.base.proofs.Keys.{key_eq-true, key_lt-swap}
 use Rattle.state_invariant.specs.Kept.{Origin, IsSessionNumber, KeepsNumbers, DrawsInOrder, Owns, Keeps, IsInUse, wanted, row_in, version_by}
-use Rattle.state_invariant.proofs.Lookups.{replaced-same, replaced-other, same-keys}
+use Rattle.state_invariant.proofs.Lookups.{replaced-same, replaced-other}
 
 -- the state with these sessions and with this in the slots
 abbrev pub with_held : State → (ℕ → Option Session) → (ℕ → Option Version) → State
@@ -144,19 +144,6 @@ keeps-session o q n s kept its number same =
 
 -- ---- a further write keeps the keys in order
 
-after-key : (a b : Key) → key_eq a b ≡ false → key_lt a b ≡ false → key_lt b a ≡ true
-after-key a b apart above = by_table (cases_order a.table b.table)
-  where
-    by_key : a.table ≡ b.table → (a.key ≡ b.key) ⊎ ((a.key < b.key) ⊎ (b.key < a.key)) → key_lt b a ≡ true
-    by_key same (inl one) = absurd (true≢false (sym (and_from (nat_eq a.table b.table) (nat_eq a.key b.key) (eq-eqb a.table b.table same) (eq-eqb a.key b.key one)) ∙ apart))
-    by_key same (inr (inl less)) = absurd (true≢false (sym (or_right (nat_lt a.table b.table) (nat_eq a.table b.table && nat_lt a.key b.key) (and_from (nat_eq a.table b.table) (nat_lt a.key b.key) (eq-eqb a.table b.table same) (lt-ltb a.key b.key less))) ∙ above))
-    by_key same (inr (inr more)) = or_right (nat_lt b.table a.table) (nat_eq b.table a.table && nat_lt b.key a.key) (and_from (nat_eq b.table a.table) (nat_lt b.key a.key) (eq-eqb b.table a.table (sym same)) (lt-ltb b.key a.key more))
-
-    by_table : (a.table ≡ b.table) ⊎ ((a.table < b.table) ⊎ (b.table < a.table)) → key_lt b a ≡ true
-    by_table (inl same) = by_key same (cases_order a.key b.key)
-    by_table (inr (inl less)) = absurd (true≢false (sym (or_left (nat_lt a.table b.table) (nat_eq a.table b.table && nat_lt a.key b.key) (lt-ltb a.table b.table less)) ∙ above))
-    by_table (inr (inr more)) = or_left (nat_lt b.table a.table) (nat_eq b.table a.table && nat_lt b.key a.key) (lt-ltb b.table a.table more)
-
 abbrev keys_of : Writes → List Key
 keys_of writes = map (λ write. write.0) writes
 
@@ -169,9 +156,9 @@ sorted-above a key value (write ∷ writes) less rising =
     by : (e : Bool) → key_eq key write.0 ≡ e → (l : Bool) → key_lt key write.0 ≡ l → key_lt a write.0 ≡ true → is_rising (write.0 ∷ keys_of writes) ≡ true
         → (key_lt write.0 key ≡ true → is_rising (write.0 ∷ keys_of (with_write key value writes)) ≡ true)
         → is_rising (a ∷ keys_of (cond e ((key, value) ∷ writes) (cond l ((key, value) ∷ write ∷ writes) (write ∷ with_write key value writes)))) ≡ true
-    by true is l lt first rest go = subst (λ (k : Key). is_rising (a ∷ k ∷ keys_of writes) ≡ true) (sym (same-keys key write.0 is)) rising
+    by true is l lt first rest go = subst (λ (k : Key). is_rising (a ∷ k ∷ keys_of writes) ≡ true) (sym (key_eq-true key write.0 is)) rising
     by false is true lt first rest go = and_from (key_lt a key) (key_lt key write.0 && is_rising (write.0 ∷ keys_of writes)) less (and_from (key_lt key write.0) (is_rising (write.0 ∷ keys_of writes)) lt rest)
-    by false is false lt first rest go = and_from (key_lt a write.0) (is_rising (write.0 ∷ keys_of (with_write key value writes))) first (go (after-key key write.0 is lt))
+    by false is false lt first rest go = and_from (key_lt a write.0) (is_rising (write.0 ∷ keys_of (with_write key value writes))) first (go (key_lt-swap key write.0 is lt))
 
 pub sorted-with_write : (key : Key) (value : Option (List ℕ)) (writes : Writes) → is_rising (map (λ write. write.0) writes) ≡ true → is_rising (map (λ write. write.0) (with_write key value writes)) ≡ true
 sorted-with_write key value [] rising = refl
@@ -179,6 +166,6 @@ sorted-with_write key value (write ∷ writes) rising = by (key_eq key write.0) 
   where
     by : (e : Bool) → key_eq key write.0 ≡ e → (l : Bool) → key_lt key write.0 ≡ l
         → is_rising (keys_of (cond e ((key, value) ∷ writes) (cond l ((key, value) ∷ write ∷ writes) (write ∷ with_write key value writes)))) ≡ true
-    by true is l lt = subst (λ (k : Key). is_rising (k ∷ keys_of writes) ≡ true) (sym (same-keys key write.0 is)) rising
+    by true is l lt = subst (λ (k : Key). is_rising (k ∷ keys_of writes) ≡ true) (sym (key_eq-true key write.0 is)) rising
     by false is true lt = and_from (key_lt key write.0) (is_rising (write.0 ∷ keys_of writes)) lt rising
-    by false is false lt = sorted-above write.0 key value writes (after-key key write.0 is lt) rising
+    by false is false lt = sorted-above write.0 key value writes (key_lt-swap key write.0 is lt) rising

@@ -10,6 +10,7 @@ use Rattle.base.specs.Commits.{Commit, writes_key}
 use Rattle.base.specs.Records.{is_committed, are_rising}
 use Rattle.base.specs.Stands.{has_timestamp}
 use Rattle.base.specs.Machine.{State, Drew, Drawn, Hand, Version, Writer, BySession, ByCommit, drawn_at, drawn_of, timestamp_of, counted, is_stamped, next_state, refusal}
+use Rattle.base.proofs.Counted.{counted-commit}
 use Rattle.state_invariant.specs.Kept.{Origin, KeepsHand, KeepsOrigin, Keeps, wanted, row_by, row_from, commit_at, covered_since}
 use Rattle.state_invariant.proofs.Refusals.{allowed, stamping}
 
@@ -18,13 +19,6 @@ abbrev pub with_stamp : State → ℕ → State
 with_stamp q t = record q { drawn = map (counted t) q.drawn }
 
 -- ---- the drawn commits after it
-
-pub counted-commit : (t : ℕ) (d : Drawn) → (counted t d).commit ≡ d.commit
-counted-commit t d = by_test (nat_eq d.commit.timestamp t)
-  where
-    by_test : (b : Bool) → (cond b (record { commit = d.commit; stamped = d.stamped + 1 }) d).commit ≡ d.commit
-    by_test true = refl
-    by_test false = refl
 
 pub counted-this : (t : ℕ) (d : Drawn) → d.commit.timestamp ≡ t → counted t d ≡ record { commit = d.commit; stamped = d.stamped + 1 }
 counted-this t d is = ap (λ (b : Bool). cond b (record { commit = d.commit; stamped = d.stamped + 1 }) d) (eq-eqb d.commit.timestamp t is)

@@ -1,5 +1,6 @@
 -- Every step, whatever it answers, keeps what a state keeps.
 use Rattle.std.proofs.Common.{◌≡◌, ◌+◌, Bool, true, false, cond, List, [], ◌∷◌, refl, sym, subst, Option, Some, None}
+use Rattle.std.proofs.lemmas.Option.{same_Some}
 use Rattle.base.specs.declared.step.Step.{Step}
 use Rattle.base.specs.declared.step.Step.TheVariants.{Begin, Get, Scan, Put, Delete, Draw, Stamp, Poll, Abort, End, Commit as CommitTick, Collect}
 use Rattle.base.specs.declared.step.Stage.{Stage}
@@ -30,13 +31,10 @@ keeps-with_hand o q hand failed kept keeps =
 
 -- ---- the committer's ticks
 
-same-some : {X : Type 0} (x y : X) → Some x ≡ Some y → x ≡ y
-same-some x y e = cc e
-
 keeps-ticked_on : (o : Origin) (q : State) (hand : Hand) (stage : Option Stage) → Keeps o q → q.hand ≡ Some hand → Keeps o (state_ticked_on q hand stage)
 keeps-ticked_on o q hand (Some stage) kept is =
     keeps-with_hand o q (Some (record hand { ticks = hand.ticks + 1 })) q.failed kept
-    (λ h same. subst (KeepsHand q) (same-some (record hand { ticks = hand.ticks + 1 }) h same) (kept.numbers.hand hand is))
+    (λ h same. subst (KeepsHand q) (same_Some (record hand { ticks = hand.ticks + 1 }) h same) (kept.numbers.hand hand is))
 keeps-ticked_on o q hand None kept is = keeps-covered o q hand kept (kept.numbers.hand hand is)
 
 keeps-ticked : (o : Origin) (q : State) (hand : Option Hand) → Keeps o q → q.hand ≡ hand → Keeps o (state_ticked q hand)
@@ -44,7 +42,7 @@ keeps-ticked o q None kept is = by (is_idle q)
   where
     by : (b : Bool) → Keeps o (cond b q (record q { hand = Some (taken_in_hand q) }))
     by true = kept
-    by false = keeps-with_hand o q (Some (taken_in_hand q)) q.failed kept (λ h same. subst (KeepsHand q) (same-some (taken_in_hand q) h same) (keeps-chosen o q kept))
+    by false = keeps-with_hand o q (Some (taken_in_hand q)) q.failed kept (λ h same. subst (KeepsHand q) (same_Some (taken_in_hand q) h same) (keeps-chosen o q kept))
 keeps-ticked o q (Some hand) kept is = keeps-ticked_on o q hand (next_stage q hand) kept is
 
 -- ---- every step

@@ -5,12 +5,12 @@ use Rattle.std.proofs.lemmas.List.{length-append}
 use Rattle.std.proofs.lemmas.List.FromFn.{length-map-range_with_len}
 use Rattle.base.specs.Layout.{slot_start, slot_words}
 use Rattle.base.specs.Machine.{State, own_slot}
+use Rattle.base.proofs.Layouts.{line-words}
 use Rattle.pmem.specs.Device.{Device}
 use Rattle.pmem.specs.Trace.{Operation, store_op, flush_op, fence_op, failure, Runs, StopsWithin}
 use Rattle.version_slot.specs.declared.words.Version.{Version as Content}
 use Rattle.version_slot.specs.Words.{filled_word}
 use Rattle.version_slot.specs.Operations.{clear_operations, fill_operations}
-use Rattle.device_invariant.proofs.Words.{some_words}
 use Rattle.step_simulation.specs.Moves.{Takes, all_succeed, unless_own, put_operations, stamp_operations}
 use Rattle.step_simulation.specs.Laws.{PutsCount, StampsCount}
 use Rattle.step_simulation.proofs.Runs.{runs-count, stops-count}
@@ -53,7 +53,7 @@ module _ (q : State) (n actor slot : ℕ) (v : Content) where
     length-append (unless_own (own_slot q n v.key) (clear_operations q.layout actor slot)) (fill_operations q.layout slot v),
     first (own_slot q n v.key),
     length-map-range_with_len (λ k. store_op (slot_start q.layout slot + 1 + k) (filled_word v (k + 1))) 0 (slot_words q.layout.version - 1),
-    some_words q.layout.version,
+    line-words q.layout.version,
   )
     where
       first : (x : Option ℕ) → length (unless_own x (clear_operations q.layout actor slot)) ≤ 3

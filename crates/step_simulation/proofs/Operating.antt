@@ -9,26 +9,27 @@ use Rattle.base.specs.Commits.{Commit, Writes, after}
 use Rattle.base.specs.Records.{is_committed}
 use Rattle.base.specs.Stands.{has_timestamp}
 use Rattle.base.specs.Machine.{State, Drawn, ByCommit, drawn_of, timestamp_of, operates_for}
+use Rattle.base.proofs.Keys.{key_eq-true, key_eq-same, keys-rest}
+use Rattle.base.proofs.Lists.{all-drop}
 use Rattle.state_invariant.specs.Kept.{Origin, Keeps, version_by, wanted, row_by, commit_at, commits_of_life, covered_since}
-use Rattle.state_invariant.proofs.Lists.{all-drop}
-use Rattle.state_invariant.proofs.Lookups.{find-all, same-keys, key_eq-refl}
+use Rattle.state_invariant.proofs.Lookups.{find-all}
 use Rattle.state_invariant.proofs.Commits.{commit_at-none, commit_at-append, commit_at-drawn, timestamp-all}
 use Rattle.device_invariant.specs.Slots.{newest_of}
 use Rattle.device_invariant.proofs.PresentValues.{drawn-bounds, wanted-newest}
 use Rattle.step_simulation.specs.Moves.{IsSlotOf, stamp_operations}
 use Rattle.step_simulation.specs.Laws.{StampsOperate}
-use Rattle.step_simulation.proofs.Stamped.{IsNext, next-of, keys_of, less-later, less-apart, rising-later}
+use Rattle.step_simulation.proofs.Stamped.{IsNext, next-of, keys_of, less-later, less-apart}
 
 -- the write has its key's row
 lookup-at : (writes : Writes) (i : ℕ) (key : Key) (row : Option (List ℕ)) → is_rising (keys_of writes) ≡ true → slice_get writes i ≡ Some (key, row) → lookup_key writes key ≡ Some row
 lookup-at [] i key row rising at = absurd (cc at)
 lookup-at (write ∷ writes) zero key row rising at =
     let same : write ≡ (key, row) = cc at in
-    ap (λ (w : Key × Option (List ℕ)). cond (key_eq w.0 key) (Some w.1) (lookup_key writes key)) same ∙ ap (λ (b : Bool). cond b (Some row) (lookup_key writes key)) (key_eq-refl key)
-lookup-at (write ∷ writes) (suc i) key row rising at = by (key_eq write.0 key) refl (lookup-at writes i key row (rising-later write.0 (keys_of writes) rising) at)
+    ap (λ (w : Key × Option (List ℕ)). cond (key_eq w.0 key) (Some w.1) (lookup_key writes key)) same ∙ ap (λ (b : Bool). cond b (Some row) (lookup_key writes key)) (key_eq-same key)
+lookup-at (write ∷ writes) (suc i) key row rising at = by (key_eq write.0 key) refl (lookup-at writes i key row (keys-rest write.0 (keys_of writes) rising) at)
   where
     by : (b : Bool) → key_eq write.0 key ≡ b → lookup_key writes key ≡ Some row → cond b (Some write.1) (lookup_key writes key) ≡ Some row
-    by true is rest = absurd (less-apart write.0 key (less-later write.0 writes i key row rising at) (same-keys write.0 key is))
+    by true is rest = absurd (less-apart write.0 key (less-later write.0 writes i key row rising at) (key_eq-true write.0 key is))
     by false is rest = rest
 
 module _ (o : Origin) (q : State) (kept : Keeps o q) (t : ℕ) (key : Key) (row : Option (List ℕ)) (next : IsNext q t key row) where

@@ -10,6 +10,7 @@ use Rattle.base.specs.Keys.{key_eq}
 use Rattle.base.specs.Commits.{Commit, writes_key, last_writer}
 use Rattle.base.specs.Layout.{slot_start, slot_words}
 use Rattle.base.specs.Machine.{State, Drawn, Hand, Version, BySession, ByCommit, drawn_at, is_stamped, counted, timestamp_of, stamped_write, next_state, refusal}
+use Rattle.base.proofs.Keys.{key_eq-same}
 use Rattle.pmem.specs.Device.{Device, stored}
 use Rattle.pmem.specs.Words.{value_of, IsSettledAt, OnlyShrinks}
 use Rattle.pmem.specs.Trace.{Operation, after, Along, Runs}
@@ -19,7 +20,7 @@ use Rattle.pmem.proofs.Traces.{along-append, along-last, after-append}
 use Rattle.state_invariant.specs.Kept.{Origin, Keeps, version_by, last_of}
 use Rattle.state_invariant.specs.Links.{SameRows}
 use Rattle.state_invariant.specs.Shown.{word_of, is_drawn_on, is_key_stamped, StoresStamp}
-use Rattle.state_invariant.proofs.Lookups.{lookup-of_write, key_eq-refl}
+use Rattle.state_invariant.proofs.Lookups.{lookup-of_write}
 use Rattle.state_invariant.proofs.Refusals.{allowed}
 use Rattle.state_invariant.proofs.Stamping.{with_stamp, stamp-facts, keeps-stamp, found-before, found-after, any-counted}
 use Rattle.state_invariant.proofs.StampShowing.{stamp-shows}
@@ -196,7 +197,7 @@ module _ (o : Origin) (q : State) (n : ℕ) (key : Key) (row : Option (List ℕ)
           let one : version_by k (ByCommit v) ≡ version_by key (ByCommit t) = cc both in
           let writers : ByCommit v ≡ ByCommit t = ap (λ (v : Version). v.writer) one in
           let same : v ≡ t = cc writers in
-          true≢false (sym (key_eq-refl key) ∙ ap (key_eq key) (sym (ap (λ (v : Version). v.key) one)) ∙ apart same)
+          true≢false (sym (key_eq-same key) ∙ ap (key_eq key) (sym (ap (λ (v : Version). v.key) one)) ∙ apart same)
 
   slot-then : (slot : ℕ) → slot < q.layout.slots → SlotHolds down last slot → SlotHolds then last slot
   slot-then slot lt h = record {

@@ -1,17 +1,16 @@
 -- The steps of sessions that store nothing.
 use Rattle.std.proofs.Common.{◌≡◌, ℕ, Bool, true, false, cond, [], ◌∷◌, refl, sym, ap, subst}
 use Rattle.std.specs.Prelude.{Option, Some, None, unwrap_or, length}
-use Rattle.std.proofs.lemmas.Bool.{eqb-true}
 use Rattle.base.specs.declared.key.Key.{Key}
 use Rattle.base.specs.declared.step.Step.{Step}
 use Rattle.base.specs.declared.step.Step.TheVariants.{Begin, Get, Scan, Put, Delete, Draw, Stamp, Poll, Abort, End, Commit as CommitTick, Collect}
 use Rattle.base.specs.declared.step.Reply.{Reply}
 use Rattle.base.specs.Commits.{Writes, with_write}
-use Rattle.base.specs.Machine.{State, Session, Active, WroteNothing, Version, Writer, BySession, ByCommit, Stepped, refused, answered, memory_refused, device_failed, replaced, free_session, writes_of, begun_of, is_by, is_own_at, is_held_by, held_after_delete, held_after_abort, state_drawn, next_state, operates}
+use Rattle.base.specs.Machine.{State, Session, Active, WroteNothing, Stepped, refused, answered, memory_refused, device_failed, replaced, free_session, writes_of, begun_of, is_own_at, is_held_by, held_after_delete, held_after_abort, state_drawn, next_state, operates}
 use Rattle.pmem.specs.Device.{Device}
 use Rattle.pmem.specs.Words.{value_of}
 use Rattle.pmem.proofs.Images.{leaves_refl}
-use Rattle.state_invariant.specs.Kept.{Origin, Keeps, version_by}
+use Rattle.state_invariant.specs.Kept.{Origin, Keeps}
 use Rattle.state_invariant.specs.Links.{Links}
 use Rattle.state_invariant.specs.Shown.{SlotsShow}
 use Rattle.state_invariant.specs.Laws.{stores, fills}
@@ -19,6 +18,7 @@ use Rattle.state_invariant.proofs.Writing.{own-at}
 use Rattle.state_invariant.proofs.Stepping.{keeps-step}
 use Rattle.state_invariant.proofs.ShownSteps.{shows-step}
 use Rattle.state_invariant.proofs.LinkedSteps.{links-step}
+use Rattle.state_invariant.proofs.Lookups.{held-by}
 use Rattle.device_invariant.specs.Upholds.{Upholds}
 use Rattle.device_invariant.specs.Laws.{ChangesHolder, stays, given_back}
 use Rattle.device_invariant.proofs.Holders.{holders-keep}
@@ -31,14 +31,6 @@ pub refusals-lead : RefusalsLead
 refusals-lead o q device orderly u = record { upholds = u; images = leaves_refl device _ orderly (upheld-within o q q device u) }
 
 -- ---- slots that a session gives back
-
-held-by : (n : ℕ) (v : Option Version) → is_held_by n v ≡ true → (key : Key) × (v ≡ Some (version_by key (BySession n)))
-held-by n None is = absurd (cc is)
-held-by n (Some v) is = (v.key, by_writer v.writer is)
-  where
-    by_writer : (w : Writer) → is_by n w ≡ true → Some (version_by v.key w) ≡ Some (version_by v.key (BySession n))
-    by_writer (BySession m) is = ap (λ (j : ℕ). Some (version_by v.key (BySession j))) (eqb-true m n is)
-    by_writer (ByCommit t) is = absurd (cc is)
 
 deletes : (q : State) (n : ℕ) (key : Key) (device : Device) (slot : ℕ) → ChangesHolder q (held_after_delete q n key) device slot
 deletes q n key device slot = by (is_own_at n key (q.held slot)) refl

@@ -1,14 +1,13 @@
 -- Words and the version that they hold.
-use Rattle.std.proofs.Common.{◌≡◌, inl, inr, ℕ, zero, suc, ◌+◌, ◌-◌, ◌*◌, ◌/◌, ◌%◌, ◌^◌, ◌<◌, ◌≤◌, Bool, cond, eqb, IsTrue, List, length, get_or, set, take, drop, map, sym, ◌∙◌, ap, subst, arith, lit<}
+use Rattle.std.proofs.Common.{◌≡◌, inl, inr, ℕ, zero, suc, ◌+◌, ◌-◌, ◌*◌, ◌/◌, ◌%◌, ◌^◌, ◌<◌, ◌≤◌, Bool, cond, eqb, List, length, get_or, set, take, drop, map, sym, ◌∙◌, ap, subst, arith, lit<}
 use Rattle.std.specs.Int.{byte_at, bytes_low_first, from_le_bytes, to_le_bytes, w64}
 use Rattle.std.specs.List.{range_with_len}
 use Rattle.std.proofs.lemmas.Bool.{cases_eq, cases_lt, ne_eqb}
-use Rattle.std.proofs.lemmas.Bool.Decides.{nat_tests}
 use Rattle.std.proofs.lemmas.List.{get_or-drop, get_or-take, get_or_past, length-drop, length-take-le}
 use Rattle.std.proofs.lemmas.List.Edits.{fill_by_more}
 use Rattle.std.proofs.lemmas.List.FromFn.{get_or-map-range_with_len, length-map-range_with_len}
 use Rattle.std.proofs.lemmas.Nat.{le_bytes_8, mod_below, from_le_bytes-to_le_bytes_8}
-use Rattle.base.specs.Layout.{Layout, slot_words, row_limit, is_in_limits}
+use Rattle.base.specs.Layout.{Layout, slot_words, row_limit}
 use Rattle.base.proofs.Layouts.{line-words, two-lines, row-fills}
 use Rattle.version_slot.specs.declared.words.Version.{Version}
 use Rattle.version_slot.specs.Words.{link_number, row_word, slot_byte, version_word, filled_word, IsVersion}
@@ -46,10 +45,6 @@ row_byte row words last i each small lt =
     ∙ same_word (drop (8 * (i / 8)) row) (map (λ (j : ℕ). get_or row (8 * (i / 8) + j) 0) (range_with_len 0 8)) (λ j j_lt.
     get_or-drop (8 * (i / 8)) row j 0 ∙ sym (get_or-map-range_with_len (λ (k : ℕ). get_or row (8 * (i / 8) + k) 0) 0 8 j j 0 j_lt (omega arith)))) (i % 8) (omega arith)
     ∙ ap (λ (k : ℕ). get_or row k 0) (let e : 8 * (i / 8) + i % 8 ≡ i = omega arith in e)
-
--- what the limits of a layout say
-pub limits : (a : Layout) → IsTrue (is_in_limits a) → a.slots ≤ 65536
-limits a h = grind (arith, nat_tests)
 
 pub word_past : (v : Version) (k : ℕ) → version_word v (4 + k) ≡ row_word v.row k
 word_past v k =

@@ -3,24 +3,17 @@ use Rattle.std.proofs.Common.{◌≡◌, ℕ, zero, suc, ◌+◌, ◌-◌, ◌*�
 use Rattle.std.proofs.Math.Nat.{mul-le-mul_left}
 use Rattle.std.specs.Int.{to_le_bytes, w64}
 use Rattle.std.specs.List.{list_all, flat_map, slice_range}
-use Rattle.std.proofs.lemmas.Bool.{eqb-true, ltb-false, le-ltb, eq-eqb}
+use Rattle.std.proofs.lemmas.Bool.{eqb-true, ltb-false, le-ltb, eq-eqb, or_parts, and_parts, not-false}
 use Rattle.std.proofs.lemmas.List.{get_or-drop, get_or-take, get_or_past, length-drop, length-take-le, ext_get_or}
 use Rattle.std.proofs.lemmas.List.Concat.{get_or-flat_map}
 use Rattle.base.specs.Layout.{row_limit, slot_start, slot_words, total_words}
-use Rattle.base.proofs.Layouts.{row-fills}
+use Rattle.base.proofs.Layouts.{row-fills, line-words}
 use Rattle.base.specs.Images.{Image, layout_of, slot_word, key_of, len_of, link_of, bytes_of, row_of, is_misfit}
 use Rattle.version_slot.specs.declared.words.Version.{Version}
 use Rattle.version_slot.specs.Words.{link_number, slot_byte, IsVersion}
 use Rattle.version_slot.proofs.Decoding.{words_3, byte_is, bytes_small, holds}
 
 -- ---- slots by their words
-
-wide : (version : ℕ) → 8 ≤ slot_words version
-wide version = by_test (eqb version 3)
-  where
-    by_test : (b : Bool) → 8 ≤ cond b 16 8
-    by_test true = omega arith
-    by_test false = omega arith
 
 flat_length : (xs : List ℕ) → length (flat_map (to_le_bytes w64) xs) ≡ 8 * length xs
 flat_length [] = refl
@@ -49,7 +42,7 @@ module _ (image : Image) (slot : ℕ) (within : slot < (layout_of image).slots) 
   range_length =
       let from = slot_start (layout_of image) slot + 4 in
       let to = slot_start (layout_of image) (slot + 1) in
-      omega (arith, length-take-le (to - from) (drop from image) (omega (arith, length-drop {A = ℕ} from image, fits)), wide (layout_of image).version)
+      omega (arith, length-take-le (to - from) (drop from image) (omega (arith, length-drop {A = ℕ} from image, fits)), line-words (layout_of image).version)
 
   pub bytes_length : length (bytes_of image slot) ≡ 8 * (slot_words (layout_of image).version - 4)
   bytes_length = flat_length _ ∙ ap (λ (n : ℕ). 8 * n) range_length
@@ -71,29 +64,17 @@ all_zero : (xs : List ℕ) → ((i : ℕ) → i < length xs → get_or xs i 0 �
 all_zero [] each = refl
 all_zero (x ∷ xs) each = λ i. eq-eqb 0 x (sym (each 0 (omega arith))) i && all_zero xs (λ k lt. each (suc k) (omega arith)) i
 
-and_true : (a b : Bool) → (a && b) ≡ true → (a ≡ true) × (b ≡ true)
-and_true true b e = (refl, e)
-and_true false b e = absurd (cc e)
-
 zero_all : (xs : List ℕ) → list_all (nat_eq 0) xs ≡ true → (k : ℕ) → k < length xs → get_or xs k 0 ≡ 0
 zero_all [] all k lt = refl
-zero_all (x ∷ xs) all zero lt = sym (eqb-true 0 x (and_true _ _ all).0)
-zero_all (x ∷ xs) all (suc k) lt = zero_all xs (and_true _ _ all).1 k (omega arith)
-
-or_false : (a b : Bool) → (a || b) ≡ false → (a ≡ false) × (b ≡ false)
-or_false true b e = absurd (cc e)
-or_false false b e = (refl, e)
-
-not_false : (a : Bool) → not a ≡ false → a ≡ true
-not_false true e = refl
-not_false false e = absurd (cc e)
+zero_all (x ∷ xs) all zero lt = sym (eqb-true 0 x (and_parts _ _ all).0)
+zero_all (x ∷ xs) all (suc k) lt = zero_all xs (and_parts _ _ all).1 k (omega arith)
 
 module _ (image : Image) (slot : ℕ) (within : slot < (layout_of image).slots) (whole : total_words (layout_of image) ≤ length image) where
   -- ---- a version that the words hold
 
   module _ (v : Version) (is : IsVersion (layout_of image) (slot_word image slot) v) where
     third : slot_word image slot 3 ≡ v.key.table + 2 ^ 16 * length v.row + 2 ^ 32 * link_number v.previous
-    third = words_3 (layout_of image) (slot_word image slot) v is (wide (layout_of image).version)
+    third = words_3 (layout_of image) (slot_word image slot) v is (line-words (layout_of image).version)
 
     short : length v.row < 2 ^ 8
     short = omega (arith, is.fits.row, (limits_of (layout_of image).version).0)
@@ -107,11 +88,11 @@ module _ (image : Image) (slot : ℕ) (within : slot < (layout_of image).slots) 
     pub key_is : key_of image slot ≡ v.key
     key_is =
         let table : slot_word image slot 3 % 2 ^ 16 ≡ v.key.table = omega (arith, third, is.fits.table) in
-        let key : slot_word image slot 2 ≡ v.key.key = is.each 2 (omega arith) (omega (arith, wide (layout_of image).version)) in
+        let key : slot_word image slot 2 ≡ v.key.key = is.each 2 (omega arith) (omega (arith, line-words (layout_of image).version)) in
         λ i. record { table = table i; key = key i }
 
     byte_of_row : (i : ℕ) → i / 8 < slot_words (layout_of image).version - 4 → get_or (bytes_of image slot) i 0 ≡ get_or v.row i 0
-    byte_of_row i lt = byte_of image slot within whole i lt ∙ byte_is (layout_of image) (slot_word image slot) v is (wide (layout_of image).version) i (omega arith)
+    byte_of_row i lt = byte_of image slot within whole i lt ∙ byte_is (layout_of image) (slot_word image slot) v is (line-words (layout_of image).version) i (omega arith)
 
     pub row_is_of : row_of image slot ≡ v.row
     row_is_of =
@@ -153,17 +134,17 @@ module _ (image : Image) (slot : ℕ) (within : slot < (layout_of image).slots) 
   parts : (is_misfit image slot ≡ false) × (nat_lt (row_limit (layout_of image).version) (len_of image slot) ≡ false) × (not (nat_eq (slot_word image slot 3 / 2 ^ 24 % 2 ^ 8) 0) ≡ false)
       × (not (list_all (nat_eq 0) (drop (len_of image slot) (bytes_of image slot))) ≡ false) × (nat_lt (layout_of image).slots (link_of image slot) ≡ false)
   parts =
-      let linked = or_false _ _ well in
-      let padding = or_false _ _ linked.0 in
-      let unused = or_false _ _ padding.0 in
+      let linked = or_parts _ _ well in
+      let padding = or_parts _ _ linked.0 in
+      let unused = or_parts _ _ padding.0 in
       (well, unused.0, unused.1, padding.1, linked.1)
 
   pub holds_version : IsVersion (layout_of image) (slot_word image slot) (version_of image slot)
   holds_version =
       let limit : ℕ = row_limit (layout_of image).version in
       let short : len_of image slot ≤ limit = ltb-false limit (len_of image slot) parts.1 in
-      let unused : slot_word image slot 3 / 2 ^ 24 % 2 ^ 8 ≡ 0 = eqb-true (slot_word image slot 3 / 2 ^ 24 % 2 ^ 8) 0 (not_false _ parts.2) in
-      let zeros = zero_all (drop (len_of image slot) (bytes_of image slot)) (not_false _ parts.3) in
+      let unused : slot_word image slot 3 / 2 ^ 24 % 2 ^ 8 ≡ 0 = eqb-true (slot_word image slot 3 / 2 ^ 24 % 2 ^ 8) 0 (not-false _ parts.2) in
+      let zeros = zero_all (drop (len_of image slot) (bytes_of image slot)) (not-false _ parts.3) in
       let linked : link_of image slot ≤ (layout_of image).slots = ltb-false (layout_of image).slots (link_of image slot) parts.4 in
       let fills : limit ≡ 8 * (slot_words (layout_of image).version - 4) = row-fills (layout_of image).version in
       let size : length (bytes_of image slot) ≡ limit = bytes_length image slot within whole ∙ sym fills in

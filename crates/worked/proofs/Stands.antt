@@ -4,11 +4,11 @@ use Rattle.std.specs.Prelude.{Some, None, unwrap_or, ◌||◌, nat_le, nat_lt}
 use Rattle.std.proofs.lemmas.Bool.Decides.{nat_tests}
 use Rattle.base.specs.declared.key.Key.{Key}
 use Rattle.base.specs.Keys.{key_eq}
-use Rattle.base.proofs.Histories.{key_eq-true}
 use Rattle.base.specs.Commits.{after}
 use Rattle.base.specs.Images.{TablesOf, ruling}
 use Rattle.base.specs.Stands.{Stands}
 use Rattle.base.specs.Openings.{IsOpenedGaps}
+use Rattle.base.proofs.Keys.{key_eq-true}
 use Rattle.worked.specs.Images.{formatted_image, covered_image, commit_1, key_7 as k, FirstRunImages, DamagedImages, NinthGap, ReadImages, LongCommits}
 
 -- one slot of the four shows the row

@@ -1,8 +1,7 @@
 -- What a load says of the image that it opened.
 use Rattle.std.proofs.Common.{◌≡◌, ℕ, Bool, true, false, List, [], subst, sym}
 use Rattle.std.proofs.Math.Logic.{∥∥₁_map}
-use Rattle.std.specs.Prelude.{None, MatchBool, Result, Ok, Err, IfErr, IsErrAnd}
-use Rattle.base.specs.declared.fault.Fault.{Fault}
+use Rattle.std.specs.Prelude.{None, MatchBool}
 use Rattle.base.specs.declared.step.Note.{Note}
 use Rattle.base.specs.declared.step.Step.{Step}
 use Rattle.base.specs.Commits.{Commit}
@@ -39,11 +38,6 @@ of-false true A B is e = absurd (apart e)
   where
     apart : true ≡ false → ⊥
     apart h = cc
-
--- what a `?` passes on
-pub fault-so : {T : Type 0} (r : Result T Fault) (fault : Fault) (P : Fault → Type 0) → IsErrAnd r (λ y. y ≡ fault) → P fault → IfErr r P
-fault-so (Ok x) fault P is p = tt
-fault-so (Err y) fault P is p = subst P (sym is) p
 
 pub runs-from : {D : Type 0} {G : Ghosts D} (state : D → Device) (image named : Image) (room left : Room D G) (opening : Status) (entries : List (Step × Note))
     → image ≡ named → left ≡ room → ∥ IsAudited state room named opening entries ∥₁ → ∥ HasRunFrom state image left ∥₁

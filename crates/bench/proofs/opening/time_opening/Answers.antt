@@ -1,6 +1,6 @@
 use Rattle.std.proofs.Common.{sym, subst}
 use Rattle.pmem.specs.Words.{IsAtRest}
-use Rattle.recovery.proofs.Restarted.{restarted-rests}
+use Rattle.pmem.proofs.Restarted.{restarted-rests}
 use Rattle.bench.proofs.opening.time_opening.Goals as goal
 
 pub open-requires-clause-at_rest : goal.open-requires-clause-at_rest

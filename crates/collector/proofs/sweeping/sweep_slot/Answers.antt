@@ -1,4 +1,5 @@
-use Rattle.collector.proofs.Sweeps.{on_err, stops-end, stops-flush, runs-sweep}
+use Rattle.base.proofs.Results.{on_err}
+use Rattle.collector.proofs.Sweeps.{stops-end, stops-flush, runs-sweep}
 use Rattle.collector.proofs.sweeping.sweep_slot.Goals as goal
 
 pub returns-in_err-zero_in_gap-2-clause-err : goal.returns-in_err-zero_in_gap-2-clause-err

@@ -1,8 +1,9 @@
 use Rattle.std.proofs.Common.{◌∙◌, codes, refl, rules, sym}
+use Rattle.base.proofs.Options.{is_some-none}
 use Rattle.command_line.specs.Lines.{texts}
 use Rattle.command_line.specs.Words.{GivesNothingAfter}
 use Rattle.command_line.specs.declared.orders.Choice.TheVariants.{Slots, Places, Window, Sessions, Commits}
-use Rattle.command_line.proofs.Refused.{in_limits, left_out, no_file, no_format_found, no_format_given, none_so, not_in_limits, number_given, out_of_limits, spells, taken, untaken, width_given}
+use Rattle.command_line.proofs.Refused.{in_limits, left_out, no_file, no_format_found, no_format_given, none_so, not_in_limits, number_given, out_of_limits, spells, taken, width_given}
 use Rattle.command_line.proofs.given.spelled_format.Goals as goal
 use Rattle.command_line.proofs.given.spelled_format.Goals.{then-is_some-via-then-is_some, then-is_some-via-else-is_some+then-is_some-2}
 
@@ -46,8 +47,8 @@ returns-clause-gives c =
           slots_given = number_given words found Slots 1024 c.unwrap_or-slots.result given c.unwrap_or-slots.ensures;
           places_given = number_given words found Places 4 c.unwrap_or-places.result given c.unwrap_or-places.ensures;
           window_given = number_given words found Window 64 c.unwrap_or-window.result given c.unwrap_or-window.ensures;
-          no_sessions = left_out words found Sessions given (untaken found.sessions (search rules));
-          no_commits = left_out words found Commits given (untaken found.commits (search rules));
+          no_sessions = left_out words found Sessions given (is_some-none found.sessions (search rules));
+          no_commits = left_out words found Commits given (is_some-none found.commits (search rules));
           limits = in_limits c.asked_geometry.result _ c.asked_geometry.ensures.limits (sym c.is_err.ensures.value ∙ c.if-is_err.false);
         },
       ),

@@ -1,8 +1,9 @@
 use Rattle.std.proofs.Common.{◌≡◌, ◌∙◌, arith, codes, refl, rules, true}
+use Rattle.base.proofs.Options.{is_some-none}
 use Rattle.command_line.specs.Lines.{texts}
 use Rattle.command_line.specs.Words.{GivesNothingAfter}
 use Rattle.command_line.specs.declared.orders.Choice.TheVariants.{Slots, Places, Window, Sessions, Commits}
-use Rattle.command_line.proofs.Refused.{left_out, narrow_given, no_file, no_threads_found, no_threads_given, none_so, number_given, spells, taken, untaken}
+use Rattle.command_line.proofs.Refused.{left_out, narrow_given, no_file, no_threads_found, no_threads_given, none_so, number_given, spells, taken}
 use Rattle.command_line.proofs.given.spelled_threads.Goals as goal
 use Rattle.command_line.proofs.given.spelled_threads.Goals.{then-is_some-via-then-is_some, then-is_some-via-else-is_some+then-is_some-2, then-is_some-via-else-is_some+else-is_some-2+then-is_some-3, then-is_some-via-else-is_some+else-is_some-2+else-is_some-3+then-given}
 
@@ -48,9 +49,9 @@ returns-clause-gives c =
           spelled = spells words found c.in_ok-file.file given (search rules);
           sessions_given = number_given words found Sessions 4 c.unwrap_or-sessions.result given c.unwrap_or-sessions.ensures;
           commits_given = number_given words found Commits 8 c.unwrap_or-commits.result given c.unwrap_or-commits.ensures;
-          no_slots = left_out words found Slots given (untaken found.slots (search rules));
-          no_places = left_out words found Places given (untaken found.places (search rules));
-          no_window = left_out words found Window given (untaken found.window (search rules));
+          no_slots = left_out words found Slots given (is_some-none found.slots (search rules));
+          no_places = left_out words found Places given (is_some-none found.places (search rules));
+          no_window = left_out words found Window given (is_some-none found.window (search rules));
           not_wide = narrow_given words found given (search rules);
           sessions_limits = (omega (arith, c.if-sessions-lt1.false), omega (arith, c.if-sessions-gt-MOST_SESSIONS.false));
           commits_limits = (omega (arith, c.if-commits-lt1.false), omega (arith, c.if-commits-gt-MOST_COMMITS.false));

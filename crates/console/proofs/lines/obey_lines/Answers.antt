@@ -4,13 +4,14 @@ use Rattle.std.specs.Io.Buffered.{reader_remaining}
 use Rattle.std.specs.Io.Iter.{split_byte, split_known_bytes}
 use Rattle.std.proofs.lemmas.List.Elements.{All-nil, All-cons}
 use Rattle.base.specs.Machine.{State}
+use Rattle.base.proofs.Options.{is_some-none}
 use Rattle.command_line.specs.declared.command.Survivor.{Survivor}
 use Rattle.console.specs.BadLine.{IsPassed}
 use Rattle.console.specs.Kept.{Leads}
 use Rattle.console.specs.Obeyed.{ObeysLine}
 use Rattle.console.proofs.BadLine.{meets, passed-so, passed_on, unblamed}
 use Rattle.console.proofs.Input.{reading-begins, reading-goes-on, all-read, read-so-far, read-to-crash}
-use Rattle.console.proofs.Obeyed.{no-lines, more-lines, none-of, appends-none, appends-more}
+use Rattle.console.proofs.Obeyed.{no-lines, more-lines, appends-none, appends-more}
 use Rattle.console.proofs.lines.obey_lines.Goals as goal
 
 pub loop-line-init : goal.loop-line-init
@@ -39,7 +40,7 @@ loop-line-preserved g c =
       appends-more (g.W.Write.contents c.args.output.now) (g.W.Write.contents c.loop-line.output) (g.W.Write.contents c.obey_line.new.output) before.3 made.0 before.4 made.1,
       more-lines g.D.Pmem.state c.args.room.now c.loop-line.room c.obey_line.new.room before.1 c.as_slice.result.now before.3 made.0 None before.5
           (subst (λ (keeps : Option Survivor). Leads g.D.Pmem.state c.loop-line.room c.obey_line.new.room (λ (q q' : State). ObeysLine q c.as_slice.result.now made.0 keeps q'))
-          (none-of c.in_ok-kept.kept (sym c.is_some.ensures ∙ c.if-is_some.false)) made.2),
+          (is_some-none c.in_ok-kept.kept (sym c.is_some.ensures ∙ c.if-is_some.false)) made.2),
       All-cons IsPassed c.as_slice.result.now before.1 (passed-so c.as_slice.result.now c.in_ok-kept.kept (sym c.is_some.ensures ∙ c.if-is_some.false) c.in_ok-kept.ensures.kept) before.6,
       omega (arith, before.7, c.saturating_add-number.ensures),
     )

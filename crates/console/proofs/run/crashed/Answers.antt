@@ -2,11 +2,11 @@ use Rattle.std.proofs.Common.{List, ℕ, ◌≡◌, subst}
 use Rattle.std.proofs.lemmas.Result.{IfOk-weaker}
 use Rattle.pmem.specs.Device.{MayLeave, restarted}
 use Rattle.pmem.specs.Words.{image_of}
+use Rattle.pmem.proofs.Restarted.{of-restarted}
 use Rattle.pmem_model.specs.Chosen.{IsChosen}
 use Rattle.pmem_model.specs.Sim.{device_of}
 use Rattle.pmem_model.specs.declared.choice.Choice.{Choice}
 use Rattle.console.specs.Crash.{choice_of}
-use Rattle.console.proofs.Crash.{of-restarted}
 use Rattle.console.proofs.run.crashed.Goals as goal
 
 pub returns-clause-chosen : goal.returns-clause-chosen

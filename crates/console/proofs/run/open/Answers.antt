@@ -9,9 +9,9 @@ use Rattle.base.specs.Machine.{State}
 use Rattle.base.specs.Openings.{OpensAs}
 use Rattle.base.specs.Stands.{Stands}
 use Rattle.pmem.specs.Words.{IsAtRest, image_of}
+use Rattle.pmem.proofs.Restarted.{restarted-rests, image-restarted}
 use Rattle.pmem_model.specs.Sim.{device_of}
 use Rattle.room.specs.Room.{Shows}
-use Rattle.recovery.proofs.Restarted.{restarted-rests, image-restarted}
 use Rattle.console.proofs.run.open.Goals as goal
 
 pub open-requires-clause-at_rest : goal.open-requires-clause-at_rest

@@ -4,8 +4,8 @@ use Rattle.std.specs.Prelude.{IfErr, IfOk, OnOk}
 use Rattle.base.specs.Images.{Image}
 use Rattle.base.specs.declared.fault.Fault.TheVariants.{OutOfMemory}
 use Rattle.pmem.specs.Words.{IsAtRest, image_of}
+use Rattle.pmem.proofs.Restarted.{restarted-rests, image-restarted}
 use Rattle.pmem_model.specs.Sim.{device_of}
-use Rattle.recovery.proofs.Restarted.{restarted-rests, image-restarted}
 use Rattle.workload.specs.Load.{HasFree, HasRunFrom, IsLoadFault, OpensTo}
 use Rattle.console.proofs.Working.{load-told}
 use Rattle.console.proofs.threads.worked_on.Goals as goal

@@ -1,19 +1,11 @@
-use Rattle.std.proofs.Common.{◌≡◌, ℕ, ◌≤◌, nat_le, nat_lt, rules, tests, ◌∙◌, ap, arith, length, Option, Some, None, unwrap_or, cond, Bool, true, false, refl}
+use Rattle.std.proofs.Common.{◌≡◌, ℕ, nat_le, nat_lt, rules, tests, ◌∙◌, ap, length, Option, Some, None, unwrap_or, cond}
 use Rattle.std.specs.List.{position_or_len}
-use Rattle.std.proofs.lemmas.Bool.{ltb-false}
 use Rattle.std.proofs.lemmas.Iterator.{YieldsList-from_slice}
 use Rattle.std.proofs.lemmas.Iterator.Search.{position_from_yields_List}
 use Rattle.std.proofs.lemmas.List.Sums.{prefix_len-le-length}
+use Rattle.base.proofs.Options.{or_length}
 use Rattle.dirty_table.specs.declared.touches.Touch.{Touch}
 use Rattle.dirty_table.proofs.touches.place.Goals as goal
-
--- a position that is there, or the length
-or_length : (place len : ℕ) → place ≤ len → unwrap_or (cond (nat_lt place len) (Some place) None) len ≡ place
-or_length place len le = by (nat_lt place len) refl
-  where
-    by : (b : Bool) → nat_lt place len ≡ b → unwrap_or (cond b (Some place) None) len ≡ place
-    by true lt = refl
-    by false ge = omega (arith, ltb-false place len ge)
 
 pub returns : goal.returns
 returns c =

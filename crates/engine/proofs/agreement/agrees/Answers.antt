@@ -1,18 +1,15 @@
-use Rattle.std.proofs.Common.{◌≡◌, refl, sym, ap, ◌∙◌, arith}
-use Rattle.std.specs.Prelude.{true, false}
+use Rattle.std.proofs.Common.{refl, sym, ap, ◌∙◌, arith}
 use Rattle.std.proofs.lemmas.List.{take_all}
 use Rattle.std.proofs.lemmas.List.Elements.{All-same, All-append}
+use Rattle.std.proofs.lemmas.Bool.{false≢true}
 use Rattle.engine.specs.Agreement.{IsEntry, receipts_in}
 use Rattle.engine.proofs.Counting.{receipts_more, All-session, Once-more}
 use Rattle.engine.proofs.agreement.agrees.Goals as goal
 
-apart : false ≡ true → ⊥
-apart h = cc
-
 -- a session has a receipt of something else
 pub returns-then-not-are_entries : goal.returns-then-not-are_entries
 returns-then-not-are_entries g c = (
-  λ h. absurd (apart h),
+  λ h. absurd (false≢true h),
   λ agrees. sym c.if-not-are_entries.true ∙ c.are_entries.ensures.1
       (All-same (IsEntry c.args.entries.now c.args.first) _ _ c.receipts.ensures.receipts
       (All-session (IsEntry c.args.entries.now c.args.first) c.args.sessions.now c.loop-session.session-index c.session-item.result c.loop-session-test.true c.session-item.is agrees.each)),
@@ -34,7 +31,7 @@ loop-place-init g c =
 -- a place has none, or several
 pub returns-then-not-is_once_at : goal.returns-then-not-is_once_at
 returns-then-not-is_once_at g c = (
-  λ h. absurd (apart h),
+  λ h. absurd (false≢true h),
   λ agrees. sym c.if-not-is_once_at.true ∙ c.is_once_at.ensures.1 (agrees.once c.loop-place.place c.loop-place.auto.place c.loop-place-test.true),
 )
 

@@ -3,8 +3,8 @@ use Rattle.std.proofs.lemmas.Result.{IfOk-weaker}
 use Rattle.base.specs.Images.{Image}
 use Rattle.pmem.specs.Device.{limited, restarted}
 use Rattle.pmem.specs.Words.{IsAtRest, image_of}
+use Rattle.pmem.proofs.Restarted.{restarted-rests}
 use Rattle.pmem_model.specs.Sim.{device_of}
-use Rattle.recovery.proofs.Restarted.{restarted-rests}
 use Rattle.lives.specs.Parts.{HasLived}
 use Rattle.lives.specs.Stops.{IsStopped, LivesOn, ReportsDevice, StopsBy, WhereItStands}
 use Rattle.lives.proofs.Stops.{is-stopped}

@@ -2,11 +2,10 @@ use Rattle.std.proofs.Common.{List, ℕ, ◌≡◌, false, sym, ◌∙◌, ap, r
 use Rattle.std.proofs.lemmas.Result.{IfOk-weaker}
 use Rattle.pmem.specs.Device.{MayLeave, restarted}
 use Rattle.pmem.specs.Words.{image_of}
+use Rattle.pmem.proofs.Restarted.{image-restarted, of-restarted}
 use Rattle.pmem_model.specs.Chosen.{IsChosen}
 use Rattle.pmem_model.specs.Sim.{device_of, IsWithinLimit}
-use Rattle.recovery.proofs.Restarted.{image-restarted}
 use Rattle.lives.specs.Stops.{IsRestarted}
-use Rattle.lives.proofs.Ends.{of-restarted}
 use Rattle.lives.proofs.ending.stop.Goals as goal
 
 pub returns-clause-chosen : goal.returns-clause-chosen

@@ -1,7 +1,7 @@
 use Rattle.std.proofs.Common.{◌<◌, ◌∙◌, sym, arith}
 use Rattle.base.specs.Images.{is_wrong_gate}
+use Rattle.base.proofs.Search.{first_below-found}
 use Rattle.pmem.specs.Words.{image_of}
-use Rattle.log_area.proofs.Finding.{first_below-found}
 use Rattle.log_area.proofs.reading.first_wrong_gate.Goals as goal
 
 pub returns-then-has_wrong_gate : goal.returns-then-has_wrong_gate

@@ -1,6 +1,7 @@
 use Rattle.std.proofs.lemmas.Bool.{iff_false}
+use Rattle.base.proofs.Results.{on_err}
 use Rattle.log_area.proofs.Replacing.{replacing_begun}
-use Rattle.log_area.proofs.Whole.{on_err, run_none, run_next, spares_on, images_on, run_few, run_place, run_holds}
+use Rattle.log_area.proofs.Whole.{run_none, run_next, spares_on, images_on, run_few, run_place, run_holds}
 use Rattle.log_area.proofs.write.write_record.Goals as goal
 
 pub loop-writing-init : goal.loop-writing-init

@@ -1,5 +1,5 @@
 use Rattle.std.proofs.Common.{refl, ◌+◌, ◌-◌, ap, arith, ℕ}
-use Rattle.log_area.proofs.Whole.{on_err}
+use Rattle.base.proofs.Results.{on_err}
 use Rattle.recovery.proofs.Pieces.{skip-added, skip-full, none-skipped}
 use Rattle.recovery.proofs.gaps.add_skipped.Goals as goal
 

@@ -1,8 +1,8 @@
 use Rattle.std.proofs.Common.{◌∙◌, ap, subst, IfOk, IfErr}
 use Rattle.base.specs.Images.{Image}
 use Rattle.pmem.specs.Words.{image_of}
+use Rattle.pmem.proofs.Restarted.{image-restarted}
 use Rattle.recovery.specs.Read.{IsRead, IsReadRefusal}
-use Rattle.recovery.proofs.Restarted.{image-restarted}
 use Rattle.recovery.proofs.reading.read_image.Goals as goal
 
 pub returns-clause-ok : goal.returns-clause-ok

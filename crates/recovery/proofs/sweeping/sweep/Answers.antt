@@ -1,11 +1,11 @@
 use Rattle.std.proofs.Common.{◌≡◌, ◌<◌, ◌+◌, ℕ, length, sym, ap, ◌∙◌, subst, arith}
+use Rattle.base.proofs.Results.{on_err}
 use Rattle.pmem.specs.Words.{image_of}
 use Rattle.pmem.proofs.Runs.{keeps-fenced, keeps-failed}
 use Rattle.recovery.proofs.Lives.{may-rule, ruled-size}
 use Rattle.recovery.proofs.SweptSlots.{IsSweptUpTo, swept-none, swept-more, swept-error, swept-few, fence-few, swept-rests, swept-spares, swept-image, swept-made}
 use Rattle.recovery.proofs.Hits.{hits-size, hit-at}
 use Rattle.recovery.proofs.Unhit.{swept-past}
-use Rattle.log_area.proofs.Whole.{on_err}
 use Rattle.recovery.proofs.sweeping.sweep.Goals as goal
 use Rattle.recovery.proofs.sweeping.sweep.Goals.{then-hits-slot+in_ok-sweep_slot, else-hits-slot}
 

@@ -1,8 +1,8 @@
 use Rattle.std.proofs.Common.{ℕ, ◌+◌, ◌≤◌, ◌∙◌, ap, subst, arith}
+use Rattle.base.proofs.Results.{on_err}
 use Rattle.pmem.specs.Words.{operations_of}
 use Rattle.pmem.proofs.Runs.{keeps-flushed, keeps-failed}
 use Rattle.recovery.proofs.SweptSlots.{slot-kept-at, cleaned-late, cleaned-mid, cleaned-none}
-use Rattle.log_area.proofs.Whole.{on_err}
 use Rattle.recovery.specs.Sweeping.{zeroed, cleaned}
 use Rattle.recovery.proofs.sweeping.sweep_slot.Goals as goal
 

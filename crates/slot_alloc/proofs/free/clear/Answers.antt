@@ -1,6 +1,7 @@
 use Rattle.std.proofs.Common.{ℕ, subst}
+use Rattle.base.proofs.Results.{on_err}
 use Rattle.pmem.specs.Trace.{StopsWithin}
-use Rattle.slot_alloc.proofs.Clearing.{on_err, operations, stops-flush, stops-fence}
+use Rattle.slot_alloc.proofs.Clearing.{operations, stops-flush, stops-fence}
 use Rattle.slot_alloc.proofs.free.clear.Goals as goal
 
 pub returns-in_err-flush-clause-err : goal.returns-in_err-flush-clause-err

@@ -1,7 +1,8 @@
 use Rattle.std.proofs.Common.{◌≡◌, ◌*◌, inl, inr, refl}
+use Rattle.base.proofs.Results.{reported}
 use Rattle.pmem.specs.Words.{image_of}
 use Rattle.workload.specs.Load.{HasFree, IsLoadFault, LacksFree, OpensTo}
-use Rattle.workload.proofs.Opens.{fault-so, of-false, of-true, opens-to, runs-from}
+use Rattle.workload.proofs.Opens.{of-false, of-true, opens-to, runs-from}
 use Rattle.workload.proofs.lending.lent.Goals as goal
 
 pub returns-then-not-branch-clause-fault : goal.returns-then-not-branch-clause-fault
@@ -17,7 +18,7 @@ returns-in_err-audited-clause-fault g c =
     let free : OpensTo (image_of (g.D.Pmem.state c.args.device)) (HasFree (2 * c.args.load.sessions)) =
     opens-to g.D.Pmem.state (image_of (g.D.Pmem.state c.args.device)) c.in-Ok.audited.room c.in-Ok.audited.opening (HasFree (2 * c.args.load.sessions)) c.in-Ok.ensures.may_open c.in-Ok.ensures.ok
     (λ q shows. of-true _ _ _ (c.in_ok-has_slots.ensures.ok q shows) c.if-not-branch.false) in
-    fault-so c.from_residual-in_err-audited.result _ (IsLoadFault (image_of (g.D.Pmem.state c.args.device)) c.args.load.sessions) c.from_residual-in_err-audited.ensures.1
+    reported c.from_residual-in_err-audited.result _ (IsLoadFault (image_of (g.D.Pmem.state c.args.device)) c.args.load.sessions) c.from_residual-in_err-audited.ensures.1
     (inr (inr (inr (inr (free, c.in_err-audited.ensures.fault)))))
 
 pub returns-clause-has_slots : goal.returns-clause-has_slots

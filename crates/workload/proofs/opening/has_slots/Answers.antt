@@ -1,6 +1,7 @@
 use Rattle.std.proofs.Common.{◌∙◌, ◌≤◌, arith, ap, subst, sym, ℕ, refl}
 use Rattle.base.specs.Layout.{Layout}
-use Rattle.workload.proofs.Slots.{few_slots, slots-suffice}
+use Rattle.base.proofs.Layouts.{few_slots}
+use Rattle.workload.proofs.Slots.{slots-suffice}
 use Rattle.workload.proofs.opening.has_slots.Goals as goal
 
 pub returns-clause-ok : goal.returns-clause-ok

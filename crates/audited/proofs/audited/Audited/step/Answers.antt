@@ -1,10 +1,8 @@
-use Rattle.std.proofs.Common.{rules, ◌≡◌, ◌++◌, ◌∷◌, [], ap, ◌∙◌, sym, refl, true, false}
+use Rattle.std.proofs.Common.{rules, ◌++◌, ◌∷◌, [], ap, ◌∙◌, sym, refl}
 use Rattle.std.proofs.Math.Logic.{∥∥₁_map}
+use Rattle.std.proofs.lemmas.Bool.{true≢false}
 use Rattle.audited.proofs.Compose.{IsAudited-step, IsAudited-stays, Stays-step, Stays-same, EndsRun-last, memory_changes_nothing}
 use Rattle.audited.proofs.audited.Audited.step.Goals as goal
-
-apart : true ≡ false → ⊥
-apart h = cc
 
 -- no room for an entry
 
@@ -73,7 +71,7 @@ returns-clause-run g c =
     EndsRun-last _ _ _ _ c.args.self.now.entries.items _ c.args.step c.step-reply.result _
     (IsAudited-step _ _ _ _ _ _ _ c.args.step c.step-reply.result c.in-Ok.kept a.1 c.step-reply.ensures.step c.in-Ok.ensures.ok.0 added)
     (record {
-      kept = λ is. apart (sym (c.wants_memory.ensures.1 is) ∙ c.if-wants_memory.false);
+      kept = λ is. true≢false (sym (c.wants_memory.ensures.1 is) ∙ c.if-wants_memory.false);
       entries = added ∙ ap (λ n. c.args.self.now.entries.items ++ (c.args.step, n) ∷ []) c.in-Ok.ensures.ok.0;
       place = search rules;
       asked = refl;

@@ -7,12 +7,12 @@ use Rattle.std.specs.Map.{lookup}
 use Rattle.std.specs.Map.Iter.{deref_pair}
 use Rattle.std.proofs.lemmas.Map.Iter.{rest_more, rest_all}
 use Rattle.base.specs.declared.key.Key.{Key}
+use Rattle.base.proofs.KeyOrder.{is_at-key}
 use Rattle.pmem.specs.Words.{image_of}
 use Rattle.snapshot.specs.Walks.{IsLinked}
 use Rattle.index.specs.declared.entry.Entry.{Entry}
 use Rattle.index.specs.Entries.{key_cmp}
 use Rattle.index.specs.Reading.{bounds_of}
-use Rattle.index.proofs.KeyOrder.{is_at-key}
 use Rattle.index.proofs.Bounds.{IsEntryOf, HasUpTo, none-yet, next-entry, passed-over, put-in, entries-of, all-there, absent-none}
 use Rattle.index.proofs.map.Index.rows_by_key.Goals as goal
 

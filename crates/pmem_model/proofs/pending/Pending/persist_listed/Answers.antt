@@ -1,9 +1,9 @@
 use Rattle.std.proofs.Common.{◌≡◌, ◌<◌, ◌+◌, ◌*◌, ◌/◌, ℕ, length, ap, arith, ◌∙◌, ◌==◌, cond}
+use Rattle.base.proofs.Lists.{read-same}
 use Rattle.pmem.specs.Device.{persisted}
 use Rattle.pmem_model.specs.Listing.{line_at}
 use Rattle.pmem_model.specs.Log.{history_in}
 use Rattle.pmem_model.proofs.Listed.{visited_more}
-use Rattle.pmem_model.proofs.Writes.{read_place}
 use Rattle.pmem_model.proofs.pending.Pending.persist_listed.Goals as goal
 
 -- the line that was read
@@ -11,7 +11,7 @@ line_read : (c : goal.After-row_known-1) → c.index.result.now ≡ line_at c.ar
 line_read c =
     let p = c.args.self.now in
     let within : 64 * c.loop-place.place + c.args.actor.number < length p.listed.items = omega (arith, c.loop-place-test.true, p.listing.within c.args.actor.number, p.listed_size, p.listed.ok, c.args.actor.in_range) in
-    read_place p.listed.items (64 * c.loop-place.place + c.args.actor.number) c.index.result.now within c.index.ensures
+    read-same p.listed.items (64 * c.loop-place.place + c.args.actor.number) c.index.result.now within c.index.ensures
 
 pub persist_line-requires : goal.persist_line-requires
 persist_line-requires c =
@@ -25,7 +25,7 @@ loop-place-preserved c =
     let inv = c.loop-place.invariant in
     let done = c.persist_line.ensures in
     let within : 64 * c.loop-place.place + c.args.actor.number < length p.listed.items = omega (arith, c.loop-place-test.true, p.listing.within c.args.actor.number, p.listed_size, p.listed.ok, c.args.actor.in_range) in
-    let read = read_place p.listed.items (64 * c.loop-place.place + c.args.actor.number) c.index.result.now within c.index.ensures in
+    let read = read-same p.listed.items (64 * c.loop-place.place + c.args.actor.number) c.index.result.now within c.index.ensures in
     record {
       visited = visited_more p.listed.items c.args.actor.number c.args.histories.now.clock c.loop-place.place (history_in c.args.histories.now.log.items) (history_in c.loop-place.histories.log.items) (history_in c.persist_line.new.self.log.items) inv.visited
           (λ word. done.history word ∙ (λ i. cond ((word / 8) == read i) (persisted c.args.actor.number (inv.clock i) (history_in c.loop-place.histories.log.items word)) (history_in c.loop-place.histories.log.items word)));

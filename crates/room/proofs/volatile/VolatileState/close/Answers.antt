@@ -2,10 +2,11 @@ use Rattle.std.proofs.Common.{◌≡◌, Bool, false}
 use Rattle.std.proofs.lemmas.Result.{on_ok_weaker}
 use Rattle.base.specs.declared.fault.Fault.{Fault}
 use Rattle.base.specs.Machine.{State}
+use Rattle.base.proofs.Results.{reported}
 use Rattle.room.specs.Committing.{Shows}
 use Rattle.room.specs.Closing.{IsDonePart, IsClosingRefusal}
 use Rattle.room.proofs.CloseParts.{part_trans, failed_after, last_after, shown_after}
-use Rattle.room.proofs.Closes.{some-below, unmoved, may-close, refused-part, numbered-last, images-last, refused-last, on_ok-from, reported}
+use Rattle.room.proofs.Closes.{some-below, unmoved, may-close, refused-part, numbered-last, images-last, refused-last, on_ok-from}
 use Rattle.room.proofs.volatile.VolatileState.close.Goals as goal
 
 pub closing_gate-requires : goal.closing_gate-requires

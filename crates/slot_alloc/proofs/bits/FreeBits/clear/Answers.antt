@@ -1,9 +1,9 @@
 use Rattle.std.proofs.Common.{◌≡◌, ◌≢◌, ℕ, ◌*◌, ◌<◌, ◌≤◌, ◌/◌, ◌%◌, ◌^◌, List, Bool, true, false, inl, inr, length, length-set, get_or, set, nat_eq, bit_and, ◌-◌, sym, ◌∙◌, ap, arith, rules}
 use Rattle.std.specs.Int.{bit_at, w64}
 use Rattle.std.proofs.lemmas.Bool.{cases_lt}
-use Rattle.std.proofs.lemmas.List.{get_or_default}
 use Rattle.slot_alloc.specs.Free.{is_free}
 use Rattle.std.proofs.lemmas.Nat.Bits.{bit_at_clear_same, bit_at_clear_other}
+use Rattle.base.proofs.Lists.{read-same}
 use Rattle.slot_alloc.specs.Bits.{HoldsBits, bit_of, bits_of}
 use Rattle.slot_alloc.proofs.Places.{free-is, zero-bit, view-set, clear-from, clear-before}
 use Rattle.slot_alloc.proofs.bits.FreeBits.clear.Goals as goal
@@ -14,9 +14,6 @@ below n slot words first view is free h =
     let inside : slot < n = elim (cases_lt slot n) [ inl lt ↦ lt | inr ge ↦ absurd (cc (sym here ∙ h.beyond slot ge)) ] in
     let low : first ≤ slot / 64 = elim (cases_lt (slot / 64) first) [ inl lt ↦ absurd (cc (sym here ∙ zero-bit words slot (h.before (slot / 64) lt))) | inr ge ↦ ge ] in
     (inside, omega (arith, inside, h.fits), low)
-
-word-same : (words : List ℕ) (at now : ℕ) → at < length words → now ≡ get_or words at now → now ≡ get_or words at 0
-word-same words at now lt is = is ∙ sym (get_or_default words at 0 now lt)
 
 module _ (words : List ℕ) (slot now : ℕ) (is : now ≡ get_or words (slot / 64) 0) where
   same : nat_eq (bit_at (bit_and now (2 ^ 64 - 1 - 1 * 2 ^ (slot % 64) % 2 ^ 64)) (slot % 64)) 1 ≡ false
@@ -38,7 +35,7 @@ invariant_of-self c =
     let h = c.self.invariant in
     let at = below c.self.inside.slots slot words c.self.inside.first c.args.self.now c.self.view_is c.requires h in
     let now = c.index_mut.result.now in
-    let is = word-same words (slot / 64) now at.1 c.index_mut.ensures.value in
+    let is = read-same words (slot / 64) now at.1 c.index_mut.ensures.value in
     let word = bit_and now (2 ^ 64 - 1 - 1 * 2 ^ (slot % 64) % 2 ^ 64) in
     record {
       fits = omega (arith, h.fits, length-set words (slot / 64) word);
@@ -54,6 +51,6 @@ returns c =
     let slot = c.args.slot in
     let at = below c.self.inside.slots slot words c.self.inside.first c.args.self.now c.self.view_is c.requires c.self.invariant in
     let now = c.index_mut.result.now in
-    let is = word-same words (slot / 64) now at.1 c.index_mut.ensures.value in
+    let is = read-same words (slot / 64) now at.1 c.index_mut.ensures.value in
     view-set words slot (bit_and now (2 ^ 64 - 1 - 1 * 2 ^ (slot % 64) % 2 ^ 64)) false at.1 (same words slot now is) (others words slot now is) c.self.inside.slots at.0
     ∙ ap (λ (l : List Bool). set l slot false) c.self.view_is

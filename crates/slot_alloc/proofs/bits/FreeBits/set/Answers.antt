@@ -1,7 +1,7 @@
-use Rattle.std.proofs.Common.{◌≡◌, ◌≢◌, ℕ, ◌*◌, ◌<◌, ◌/◌, ◌%◌, ◌^◌, List, Bool, true, length, length-set, get_or, set, nat_eq, bit_or, sym, ◌∙◌, ap, arith, rules}
+use Rattle.std.proofs.Common.{◌≡◌, ◌≢◌, ℕ, ◌*◌, ◌<◌, ◌/◌, ◌%◌, ◌^◌, List, Bool, true, length, length-set, get_or, set, nat_eq, bit_or, ◌∙◌, ap, arith, rules}
 use Rattle.std.specs.Int.{bit_at, w64}
-use Rattle.std.proofs.lemmas.List.{get_or_default}
 use Rattle.std.proofs.lemmas.Nat.Bits.{bit_at_set_same, bit_at_set_other}
+use Rattle.base.proofs.Lists.{read-same}
 use Rattle.slot_alloc.specs.Bits.{HoldsBits, bits_of}
 use Rattle.slot_alloc.proofs.Places.{size-of, view-set, clear-from, clear-before}
 use Rattle.slot_alloc.proofs.bits.FreeBits.set.Goals as goal
@@ -10,9 +10,6 @@ below : (n slot : ℕ) (words : List ℕ) (first : ℕ) (view : List Bool) → b
 below n slot words first view is lt h =
     let inside : slot < n = omega (arith, lt, ap (λ (l : List Bool). length l) is, size-of n words) in
     (inside, omega (arith, inside, h.fits))
-
-word-same : (words : List ℕ) (at now : ℕ) → at < length words → now ≡ get_or words at now → now ≡ get_or words at 0
-word-same words at now lt is = is ∙ sym (get_or_default words at 0 now lt)
 
 module _ (words : List ℕ) (slot now : ℕ) (is : now ≡ get_or words (slot / 64) 0) where
   same : nat_eq (bit_at (bit_or now (1 * 2 ^ (slot % 64) % 2 ^ 64)) (slot % 64)) 1 ≡ true
@@ -34,7 +31,7 @@ invariant_of-self c =
     let h = c.self.invariant in
     let at = below c.self.inside.slots slot words c.self.inside.first c.args.self.now c.self.view_is c.requires h in
     let now = c.index_mut.result.now in
-    let is = word-same words (slot / 64) now at.1 c.index_mut.ensures.value in
+    let is = read-same words (slot / 64) now at.1 c.index_mut.ensures.value in
     let word = bit_or now (1 * 2 ^ (slot % 64) % 2 ^ 64) in
     record {
       fits = omega (arith, h.fits, length-set words (slot / 64) word);
@@ -51,6 +48,6 @@ returns c =
     let slot = c.args.slot in
     let at = below c.self.inside.slots slot words c.self.inside.first c.args.self.now c.self.view_is c.requires c.self.invariant in
     let now = c.index_mut.result.now in
-    let is = word-same words (slot / 64) now at.1 c.index_mut.ensures.value in
+    let is = read-same words (slot / 64) now at.1 c.index_mut.ensures.value in
     view-set words slot (bit_or now (1 * 2 ^ (slot % 64) % 2 ^ 64)) true at.1 (same words slot now is) (others words slot now is) c.self.inside.slots at.0
     ∙ ap (λ (l : List Bool). set l slot true) c.self.view_is

@@ -1,11 +1,11 @@
 use Rattle.std.proofs.Common.{rules, ◌≡◌, ◌∙◌, true, not, List, ap, subst, sym, nat_lt}
 use Rattle.std.specs.List.{filter}
 use Rattle.std.proofs.lemmas.Fn.{filter_same}
+use Rattle.base.proofs.Lists.{all-filter}
 use Rattle.snapshot.specs.Snapshots.{covers}
 use Rattle.txn.specs.declared.drawn.DrawnCommit.{DrawnCommit}
 use Rattle.txn.specs.InFlight.{InFlight}
 use Rattle.txn.specs.DrawnCommits.{are_numbered}
-use Rattle.txn.proofs.Numbered.{all-filter}
 use Rattle.txn.proofs.drawn.DrawnCommits.cover.Goals as goal
 
 kept : (c : goal.After-retain) → c.retain.new.self.items ≡ filter (λ (d : DrawnCommit). not (covers c.args.snapshot.now d.timestamp)) c.self.inside.commits.items

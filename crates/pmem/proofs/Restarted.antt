@@ -1,9 +1,9 @@
 -- A device that begins with these words.
-use Rattle.std.proofs.Common.{◌≡◌, ℕ, ◌<◌, Bool, true, false, cond, List, [], ◌∷◌, Some, nat_lt, length, get_or, refl, ◌∙◌, arith}
+use Rattle.std.proofs.Common.{◌≡◌, ℕ, ◌<◌, Bool, true, false, cond, List, [], ◌∷◌, Some, nat_lt, length, get_or, refl, ◌∙◌, arith, sym, ap, subst}
 use Rattle.std.proofs.lemmas.Bool.{lt-ltb}
 use Rattle.std.proofs.lemmas.List.{ext_get_or}
 use Rattle.std.proofs.lemmas.List.FromFn.{length-map-range_with_len, get_or-map-range_with_len}
-use Rattle.pmem.specs.Device.{Entry, newest, survivors_in, restarted}
+use Rattle.pmem.specs.Device.{Entry, newest, survivors_in, restarted, Device}
 use Rattle.pmem.specs.Words.{IsAtRest, image_of, value_of}
 
 -- the one entry of a word
@@ -30,3 +30,7 @@ image-restarted words =
     ext_get_or 0 (image_of (restarted words)) words size (λ word lt.
     get_or-map-range_with_len (value_of (restarted words)) 0 (length words) word word 0 (omega (arith, lt, size)) (omega arith)
     ∙ value-restarted words word (omega (arith, lt, size)))
+
+-- what holds of the image that a device began with holds of its words
+pub of-restarted : (P : List ℕ → Type 0) (device : Device) → (image : List ℕ) × P image × (device ≡ restarted image) → P (image_of device)
+of-restarted P device (image, holds, is) = subst P (sym (ap image_of is ∙ image-restarted image)) holds
