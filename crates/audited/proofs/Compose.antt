@@ -1,6 +1,6 @@
 -- A history goes on by a step.
-use Rattle.std.proofs.Common.{◌≡◌, ℕ, ◌+◌, ◌<◌, ◌≤◌, List, [], ◌∷◌, ◌++◌, refl, sym, ap, subst, ◌∙◌, arith, inl, inr, Bool, true, false}
-use Rattle.std.specs.Prelude.{length, Option, Some, None, Contains, nat_lt}
+use Rattle.std.proofs.Common.{◌≡◌, ℕ, ◌+◌, ◌<◌, ◌≤◌, List, [], ◌∷◌, ◌++◌, refl, sym, subst, ◌∙◌, arith, inl, inr, Bool, true, false}
+use Rattle.std.specs.Prelude.{Option, Some, None, Contains, nat_lt}
 use Rattle.std.proofs.lemmas.Bool.Decides.{nat_tests}
 use Rattle.std.proofs.lemmas.List.Elements.{Contains-append_left, Contains-append_right, Contains-append_cases}
 use Rattle.base.specs.declared.fault.Fault.TheVariants.{OutOfMemory, Device as DeviceFault}
@@ -12,7 +12,7 @@ use Rattle.base.specs.Commits.{Commit}
 use Rattle.base.specs.Images.{Image, ruling, opening_fault}
 use Rattle.base.specs.Openings.{OpensAs}
 use Rattle.base.specs.Stands.{Stands}
-use Rattle.base.specs.Machine.{State, Hand, Cover, IsRows, Stepped, Noted, note_of, most_operations, StandsAt, StandsWithin, covers_at, of_hand, present}
+use Rattle.base.specs.Machine.{State, Hand, Cover, IsRows, Stepped, Noted, note_of, StandsAt, StandsWithin, covers_at, of_hand, present}
 use Rattle.base.proofs.Runs.{Noted-append, memory_unchanged}
 use Rattle.base.proofs.Notes.{rows-unchanged}
 use Rattle.base.proofs.Histories.{history_in, sound-stands, opens-sound}

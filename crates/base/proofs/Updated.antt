@@ -1,24 +1,23 @@
 -- An image of the first version opens as one of the second, which has the same words but for the version.
-use Rattle.std.proofs.Common.{◌≡◌, ◌≢◌, ◌⊎◌, inl, inr, ℕ, zero, suc, ◌+◌, ◌-◌, ◌*◌, ◌%◌, ◌^◌, ◌<◌, ◌≤◌, max, Bool, true, false, cond, not, ◌&&◌, ◌||◌, nat_eq, nat_le, nat_lt, List, [], ◌∷◌, ◌++◌, length, map, fold, refl, sym, ◌∙◌, ap, subst, arith, true≢false}
-use Rattle.std.specs.Prelude.{◌/◌, Option, Some, None, is_some, slice_index, slice_range, drop, take, flat_map, IsTrue}
+use Rattle.std.proofs.Common.{◌≡◌, ◌≢◌, ◌⊎◌, inl, inr, ℕ, zero, suc, ◌+◌, ◌-◌, ◌*◌, ◌%◌, ◌^◌, ◌≤◌, max, Bool, true, false, cond, not, ◌&&◌, ◌||◌, nat_eq, nat_le, nat_lt, List, [], ◌∷◌, length, map, fold, refl, sym, ◌∙◌, ap, subst, arith}
+use Rattle.std.specs.Prelude.{◌/◌, Option, Some, None, is_some, slice_index, slice_range, drop, take, flat_map}
 use Rattle.std.specs.List.{list_all, range_with_len}
 use Rattle.std.specs.Option.{option_or, option_map}
 use Rattle.std.specs.Int.{to_le_bytes, w64}
-use Rattle.std.proofs.lemmas.Bool.{and_parts, and_from, leb-true, le-leb, eqb-true, ne_eqb}
-use Rattle.base.specs.declared.key.Key.{Key}
+use Rattle.std.proofs.lemmas.Bool.{and_parts, and_from, leb-true}
 use Rattle.base.specs.declared.gap.Gap.{Gap}
 use Rattle.base.specs.declared.fault.Fault.{Fault}
 use Rattle.base.specs.declared.fault.Fault.TheVariants.{BadGeometry, NotFormatted, Damaged, Version, TimestampsOut}
 use Rattle.base.specs.Commits.{Commit, last_writer}
-use Rattle.base.specs.Layout.{Layout, slot_words, row_limit, most_longs, is_known_version, opened_version, opened_layout, place_start, is_between, total_words}
+use Rattle.base.specs.Layout.{Layout, is_known_version, opened_layout, place_start}
 use Rattle.base.specs.Search.{count_below, first_below, some_if}
-use Rattle.base.specs.Records.{Record, record_in, record_word, is_record, is_well_formed, is_committed, is_in, are_apart, are_rising, opened_gaps}
-use Rattle.base.specs.Images.{Image, layout_of, gate_at, place_words, greatest_gate, ruling_place, ruling, is_ruled, is_formatted, has_good_geometry, is_wrong_gate, slot_word, begin_of, end_of, key_of, row_of, bytes_of, is_shown, is_misfit, is_second, len_of, is_bad_slot, opening_fault, damage, is_near_limit, needs_sweep}
+use Rattle.base.specs.Records.{Record, record_in, record_word, is_record, is_well_formed, is_committed, is_in, opened_gaps}
+use Rattle.base.specs.Images.{Image, layout_of, gate_at, place_words, greatest_gate, ruling_place, ruling, is_ruled, is_formatted, has_good_geometry, is_wrong_gate, slot_word, key_of, row_of, bytes_of, is_shown, is_misfit, is_second, len_of, is_bad_slot, opening_fault, damage, is_near_limit, needs_sweep}
 use Rattle.base.specs.Keys.{key_eq}
 use Rattle.base.specs.Stands.{Stands, has_timestamp}
-use Rattle.base.specs.Openings.{Counts, opened, opened_under, opened_slots, held_under, StandsOpening, gaps_kept, is_mark, lies_in_gap, lines_swept, record_counts, swept, words_swept, IsOpenedGaps, OpensAs, updated}
+use Rattle.base.specs.Openings.{Counts, opened, opened_under, opened_slots, held_under, StandsOpening, gaps_kept, is_mark, lies_in_gap, lines_swept, record_counts, swept, words_swept, IsOpenedGaps}
 use Rattle.base.proofs.Sweeps.{swept-at}
-use Rattle.base.specs.Machine.{State, ByCommit}
+use Rattle.base.specs.Machine.{ByCommit}
 use Rattle.base.specs.Laws.{OpensUpdated, UpdatedOpen}
 use Rattle.base.proofs.WellFormed.{well_formed-parts, well_formed-from}
 use Rattle.base.proofs.Options.{or-none, some_if_not-none}

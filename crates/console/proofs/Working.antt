@@ -1,6 +1,6 @@
 -- What the steps that threads made of an image keep of it.
 use mathlib.Core.HLevel.{⊥_prop}
-use Rattle.std.proofs.Common.{◌≡◌, ◌≢◌, ◌⊎◌, ℕ, ◌*◌, Bool, true, false, List, [], ◌∷◌, ◌++◌, length, inl, inr, sym, ◌∙◌, ap, subst}
+use Rattle.std.proofs.Common.{◌≡◌, ◌⊎◌, ℕ, ◌*◌, Bool, true, false, List, [], ◌∷◌, length, inl, inr, sym, ◌∙◌, ap, subst}
 use Rattle.std.proofs.Math.Logic.{∥∥₁_elim, ∥∥₁_map}
 use Rattle.std.specs.Prelude.{None, Option, Some}
 use Rattle.std.specs.Io.KnownBytes.{Appends}
@@ -9,9 +9,9 @@ use Rattle.base.specs.declared.fault.Fault.TheVariants.{Failed, OutOfMemory, Slo
 use Rattle.base.specs.declared.step.Note.{Note}
 use Rattle.base.specs.declared.step.Step.{Step}
 use Rattle.base.specs.Commits.{Commit}
-use Rattle.base.specs.Images.{Image, damage, opening_fault, layout_of}
+use Rattle.base.specs.Images.{Image, damage, layout_of}
 use Rattle.base.specs.Layout.{Layout, opened_layout}
-use Rattle.base.specs.Machine.{State, Noted, StandsClosed, closing_fault, closing_gate}
+use Rattle.base.specs.Machine.{State, Noted, StandsClosed}
 use Rattle.base.specs.Search.{first_of, some_if}
 use Rattle.base.specs.Stands.{Stands}
 use Rattle.pmem.specs.Device.{Device}

@@ -1,18 +1,14 @@
 -- A device that an opening left upholds the opened state.
-use Rattle.std.proofs.Common.{◌≡◌, ◌≢◌, ◌⊎◌, inl, inr, ℕ, ◌<◌, ◌≤◌, Bool, true, false, cond, not, ◌&&◌, ◌||◌, List, [], ◌++◌, map, length, take, drop, refl, sym, ◌∙◌, ap, subst, arith, true≢false, nat_eq, nat_le}
+use Rattle.std.proofs.Common.{◌≡◌, ◌≢◌, ◌⊎◌, inl, inr, ℕ, ◌<◌, ◌≤◌, Bool, true, false, cond, List, [], ◌++◌, map, length, take, drop, refl, sym, ◌∙◌, ap, subst, arith, true≢false, nat_eq}
 use Rattle.std.specs.Prelude.{Option, Some, None, IsTrue, slice_index}
 use Rattle.std.specs.List.{find}
-use Rattle.std.specs.Option.{option_or}
-use Rattle.std.proofs.lemmas.Bool.{and_parts, or_parts, leb-true, leb-false, ne_eqb, or_cases}
+use Rattle.std.proofs.lemmas.Bool.{ne_eqb, or_cases}
 use Rattle.std.proofs.lemmas.List.{take_all, length-drop, nil_from_length}
 use Rattle.base.specs.declared.key.Key.{Key}
-use Rattle.base.specs.declared.fault.Fault.{Fault}
-use Rattle.base.specs.declared.fault.Fault.TheVariants.{NotFormatted, Version as VersionFault}
 use Rattle.base.specs.Commits.{Commit, after, last_writer}
-use Rattle.base.specs.Layout.{Layout, slot_words, is_known_version}
-use Rattle.base.specs.Search.{some_if}
+use Rattle.base.specs.Layout.{Layout, slot_words}
 use Rattle.base.specs.Records.{is_committed}
-use Rattle.base.specs.Images.{Image, IsSound, layout_of, ruling, begin_of, end_of, is_formatted, is_ahead, is_shown, is_misfit, is_second}
+use Rattle.base.specs.Images.{layout_of, ruling, begin_of, end_of}
 use Rattle.base.specs.Stands.{has_timestamp}
 use Rattle.base.specs.Machine.{State, Drawn, Session, Version, BySession, ByCommit, drawn_at, drawn_of, writes_of}
 use Rattle.base.specs.Openings.{gaps_kept, opened_slots}

@@ -9,7 +9,7 @@ use Rattle.base.specs.declared.gap.Gap.{Gap}
 use Rattle.base.specs.Commits.{Commit, Lists, after}
 use Rattle.base.specs.Images.{Image, opening_fault, log_damage}
 use Rattle.base.specs.Layout.{Layout}
-use Rattle.base.specs.Machine.{State, final}
+use Rattle.base.specs.Machine.{State}
 use Rattle.base.specs.Openings.{OpensAs, StandsOpening}
 use Rattle.base.specs.Stands.{Stands}
 use Rattle.base.specs.Laws.{StayOut}

@@ -1,5 +1,5 @@
 -- Runs of operations, one after the other.
-use Rattle.std.proofs.Common.{◌≡◌, ℕ, ◌+◌, ◌<◌, List, [], ◌∷◌, ◌++◌, length, take, refl, sym, ◌∙◌, ap, subst, arith}
+use Rattle.std.proofs.Common.{◌≡◌, ◌+◌, List, [], ◌∷◌, ◌++◌, length, take, refl, sym, ◌∙◌, ap, subst, arith}
 use Rattle.std.proofs.lemmas.List.{take-append-le, length-append, append_assoc}
 use Rattle.std.proofs.Math.Seq.{take-append-add}
 use Rattle.pmem.specs.Device.{Device, IsOrderly, failed}

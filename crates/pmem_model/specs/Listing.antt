@@ -1,5 +1,5 @@
 -- Which lines an actor's next fence visits.
-use Rattle.std.specs.Prelude.{◌≡◌, ℕ, zero, suc, ◌+◌, ◌*◌, ◌/◌, ◌<◌, ◌≤◌, Bool, true, false, ◌||◌, List, [], slice_index, ◌==◌, nat_le}
+use Rattle.std.specs.Prelude.{◌≡◌, ℕ, zero, suc, ◌+◌, ◌*◌, ◌/◌, ◌<◌, ◌≤◌, Bool, true, false, ◌||◌, List, slice_index, ◌==◌, nat_le}
 use Rattle.pmem.specs.Device.{Entry}
 use Rattle.pmem.specs.Awaits.{is_awaited}
 

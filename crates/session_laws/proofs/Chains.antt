@@ -1,5 +1,5 @@
 -- From a key's newest version links lead to the one that a snapshot sees.
-use Rattle.std.proofs.Common.{◌≡◌, ◌≢◌, ◌⊎◌, inl, inr, ℕ, zero, suc, ◌+◌, ◌-◌, ◌^◌, ◌<◌, ◌≤◌, Bool, true, false, cond, not, ◌&&◌, List, [], ◌∷◌, length, take, drop, refl, sym, ◌∙◌, ap, subst, arith, Option, Some, None, slice_get, true≢false}
+use Rattle.std.proofs.Common.{◌≡◌, ◌≢◌, ◌⊎◌, inl, inr, ℕ, zero, suc, ◌+◌, ◌-◌, ◌^◌, ◌<◌, ◌≤◌, Bool, true, false, cond, not, List, [], length, take, refl, sym, ◌∙◌, ap, subst, arith, Option, Some, None, slice_get, true≢false}
 use Rattle.std.specs.Prelude.{nat_eq, nat_lt, unwrap_or, slice_index, is_some}
 use Rattle.std.proofs.lemmas.Bool.{and_parts, and_from, lt-ltb, false_from_ne_true, not_from_false, cases_eq, cases_lt, not-true}
 use Rattle.std.proofs.lemmas.List.{take_all}
@@ -8,13 +8,13 @@ use Rattle.base.specs.Keys.{lookup_key}
 use Rattle.base.specs.Commits.{Commit, after, writes_key, last_writer}
 use Rattle.base.specs.Layout.{Layout, total_words}
 use Rattle.base.specs.Records.{is_committed, is_in}
-use Rattle.base.specs.Images.{Image, layout_of, begin_of, end_of, key_of, link_of, is_live, is_misfit}
-use Rattle.base.specs.Machine.{State, Drawn, Version, Writer, BySession, ByCommit, drawn_at}
+use Rattle.base.specs.Images.{Image, layout_of, begin_of, end_of, link_of}
+use Rattle.base.specs.Machine.{State, Drawn, Version, ByCommit, drawn_at}
 use Rattle.base.proofs.Lists.{all-take}
-use Rattle.pmem.specs.Words.{image_of, value_of}
-use Rattle.state_invariant.specs.Kept.{Origin, Keeps, IsInUse, HasSlot, row_in, wanted, version_by, last_of}
-use Rattle.state_invariant.specs.Shown.{word_of, HasVersion, Spells, counts_at, Newest, Replaced, class_of_version, class_of_drawn, HasBegun, ShowsAs, SlotsShow, CanBeRead}
-use Rattle.state_invariant.specs.Links.{last_row, ComesAfter, by_commit, LinksTo, Links, HoldsNewest}
+use Rattle.pmem.specs.Words.{image_of}
+use Rattle.state_invariant.specs.Kept.{Origin, Keeps, HasSlot, wanted, version_by, last_of}
+use Rattle.state_invariant.specs.Shown.{word_of, Spells, counts_at, Newest, Replaced, class_of_version, class_of_drawn, HasBegun, ShowsAs, SlotsShow, CanBeRead}
+use Rattle.state_invariant.specs.Links.{last_row, by_commit, Links, HoldsNewest}
 use Rattle.state_invariant.proofs.Commits.{committed-bounds, uncommitted-above}
 use Rattle.state_invariant.proofs.Records.{above-gaps}
 use Rattle.state_invariant.proofs.Opening.{passes-last_writer}
@@ -22,7 +22,7 @@ use Rattle.state_invariant.proofs.Log.{place-within, written-place, at-fact, one
 use Rattle.state_invariant.proofs.LastRows.{row-place, row-there}
 use Rattle.state_invariant.proofs.Reading.{above-origin, counts-placed, drawn-facts, slot-seen-at, can-be-read}
 use Rattle.snapshot.specs.Snapshots.{Seen, covers}
-use Rattle.snapshot.specs.Walks.{IsOfKey, IsSeenAt, is_counted, Leads, arrives, passes, IsLinked}
+use Rattle.snapshot.specs.Walks.{IsOfKey, IsSeenAt, is_counted, Leads, arrives, passes}
 use Rattle.session_laws.specs.Sees.{SeesBegins}
 use Rattle.session_laws.specs.Laws.{ChainsLead, LinksLead}
 use Rattle.session_laws.proofs.Reading.{begins-seen, size, ruled, shows, links}

@@ -1,9 +1,8 @@
-use Rattle.std.proofs.Common.{◌≡◌, ◌∙◌, List, ℕ, ap, subst, sym}
+use Rattle.std.proofs.Common.{◌∙◌, List, ℕ, ap, subst, sym}
 use Rattle.std.proofs.lemmas.Result.{IfOk-weaker}
 use Rattle.base.specs.Machine.{StandsClosed}
 use Rattle.pmem.specs.Words.{image_of}
 use Rattle.pmem.proofs.Restarted.{image-restarted}
-use Rattle.pmem_model.specs.Sim.{device_of}
 use Rattle.console.proofs.threads.closed_image.Goals as goal
 
 pub returns-clause-closed : goal.returns-clause-closed

@@ -1,8 +1,5 @@
-use Rattle.std.proofs.Common.{◌≡◌, ◌⊎◌, ◌*◌, ◌∙◌, ap, inr, subst, sym}
-use Rattle.std.proofs.lemmas.Result.{IfErr-weaker}
-use Rattle.std.specs.Prelude.{IfErr, IfOk, OnOk}
+use Rattle.std.proofs.Common.{◌*◌, ◌∙◌, ap, subst, sym}
 use Rattle.base.specs.Images.{Image}
-use Rattle.base.specs.declared.fault.Fault.TheVariants.{OutOfMemory}
 use Rattle.pmem.specs.Words.{IsAtRest, image_of}
 use Rattle.pmem.proofs.Restarted.{restarted-rests, image-restarted}
 use Rattle.pmem_model.specs.Sim.{device_of}

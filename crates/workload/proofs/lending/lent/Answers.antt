@@ -1,4 +1,4 @@
-use Rattle.std.proofs.Common.{◌≡◌, ◌*◌, inl, inr, refl}
+use Rattle.std.proofs.Common.{◌*◌, inl, inr, refl}
 use Rattle.base.proofs.Results.{reported}
 use Rattle.pmem.specs.Words.{image_of}
 use Rattle.workload.specs.Load.{HasFree, IsLoadFault, LacksFree, OpensTo}
