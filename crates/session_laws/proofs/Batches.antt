@@ -19,7 +19,7 @@ use Rattle.state_invariant.proofs.Choosing.{bounds, found-later, above-each, all
 use Rattle.state_invariant.proofs.Covering.{no_gap-above, batch-drawn, since-now}
 use Rattle.session_laws.specs.Sees.{last_on}
 use Rattle.session_laws.specs.Laws.{is_covered_by, CoversByRecord, BatchesCover}
-use Rattle.session_laws.proofs.Conflicts.{last_on-append}
+use Rattle.session_laws.proofs.Conflicts.{last_on-append, option_or-assoc}
 
 abbrev time_of : Drawn → ℕ
 time_of d = d.commit.timestamp
@@ -286,7 +286,7 @@ module _ (o : Origin) (q : State) (hand : Hand) (kept : Keeps o q) (k : KeepsHan
       last_on-append key (covered_since o (state_covered q hand)) (drawn_of (state_covered q hand))
       ∙ ap (λ (ds : List Drawn). option_or (last_on key (commits ds)) (last_on key (covered_since o (state_covered q hand)))) rest
       ∙ ap (option_or (last_on key (commits (filter (λ d. not (is_covered_by hand.target d)) q.drawn)))) (ap (last_on key) (since-now o q hand kept k ∙ ap (λ (cs : List Commit). covered_since o q ++ cs) batch) ∙ last_on-append key (covered_since o q) (commits (filter (is_covered_by hand.target) q.drawn)))
-      ∙ sym (or-assoc (last_on key (commits (filter (λ d. not (is_covered_by hand.target d)) q.drawn))) (last_on key (commits (filter (is_covered_by hand.target) q.drawn))) (last_on key (covered_since o q)))
+      ∙ option_or-assoc (last_on key (commits (filter (λ d. not (is_covered_by hand.target d)) q.drawn))) (last_on key (commits (filter (is_covered_by hand.target) q.drawn))) (last_on key (covered_since o q))
       ∙ ap (λ (x : Option ℕ). option_or x (last_on key (covered_since o q))) (last-split key (is_covered_by hand.target) q.drawn kept.draws.rising (λ t u d e at_t at_u wd we. kept.draws.apart t u d e key at_t at_u wd we))
       ∙ sym (last_on-append key (covered_since o q) (drawn_of q))
 

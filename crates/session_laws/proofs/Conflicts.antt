@@ -26,7 +26,7 @@ use Rattle.session_laws.specs.Laws.{Conflicts}
 abbrev own : Key → Commit → Option ℕ
 own key c = if writes_key key c then Some c.timestamp else None
 
-option_or-assoc : (a b c : Option ℕ) → option_or a (option_or b c) ≡ option_or (option_or a b) c
+pub option_or-assoc : (a b c : Option ℕ) → option_or a (option_or b c) ≡ option_or (option_or a b) c
 option_or-assoc None b c = refl
 option_or-assoc (Some x) b c = refl
 
