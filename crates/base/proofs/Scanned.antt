@@ -4,6 +4,7 @@ use Rattle.std.specs.Prelude.{Option, Some, None, unwrap_or}
 use Rattle.std.specs.List.{list_all}
 use Rattle.std.proofs.lemmas.Bool.{and_parts, and_from}
 use Rattle.std.proofs.lemmas.Bool.Decides.{nat_tests}
+use Rattle.std.proofs.lemmas.Option.{same_Some, none-some}
 use Rattle.base.specs.declared.key.Key.{Key}
 use Rattle.base.specs.Keys.{key_eq, key_lt, is_rising, lookup_key, is_in_range}
 use Rattle.base.specs.Commits.{Commit, Writes, Tables, overlaid, laid, after, in_range, Lists, with_write}
@@ -59,12 +60,6 @@ module _ {X : Type 0} where
   head-found : (pair : Key × X) (pairs : List (Key × X)) → lookup_key (pair ∷ pairs) pair.0 ≡ Some pair.1
   head-found pair pairs = ap (λ (b : Bool). cond b (Some pair.1) (lookup_key pairs pair.0)) (key_eq-same pair.0)
 
-  none-some : (x : X) → ◌≡◌ {A = Option X} None (Some x) → ⊥
-  none-some x e = cc
-
-  some-is : (x y : X) → Some x ≡ Some y → x ≡ y
-  some-is x y e = cc
-
   -- what the lists have past the head, which they share
   past-head : (pair : Key × X) (xs ys : List (Key × X)) → above pair.0 xs ≡ true → above pair.0 ys ≡ true
       → ((key : Key) → lookup_key (pair ∷ xs) key ≡ lookup_key (pair ∷ ys) key) → (key : Key) → lookup_key xs key ≡ lookup_key ys key
@@ -90,7 +85,7 @@ module _ {X : Type 0} where
       heads : key_eq x.0 y.0 ≡ true → x ≡ y
       heads is =
           let at : x.0 ≡ y.0 = key_eq-true x.0 y.0 is in
-          let value : x.1 ≡ y.1 = some-is x.1 y.1 (sym (head-found x xs) ∙ (same x.0 ∙ (ap (lookup_key (y ∷ ys)) at ∙ head-found y ys))) in
+          let value : x.1 ≡ y.1 = same_Some x.1 y.1 (sym (head-found x xs) ∙ (same x.0 ∙ (ap (lookup_key (y ∷ ys)) at ∙ head-found y ys))) in
           λ i. (at i, value i)
 
       by : (((key : Key) → lookup_key xs key ≡ lookup_key ys key) → xs ≡ ys) → (b : Bool) → key_eq x.0 y.0 ≡ b → (l : Bool) → key_lt x.0 y.0 ≡ l → x ∷ xs ≡ y ∷ ys

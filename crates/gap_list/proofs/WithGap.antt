@@ -4,6 +4,7 @@ use Rattle.std.specs.Prelude.{min, max}
 use Rattle.std.specs.List.{list_all}
 use Rattle.std.proofs.lemmas.Bool.{and_parts, and_from, leb-true, ltb-true, ltb-false, le-leb, lt-ltb}
 use Rattle.std.proofs.lemmas.Bool.Decides.{nat_tests}
+use Rattle.std.proofs.Math.Bool.{or-false}
 use Rattle.base.specs.declared.gap.Gap.{Gap}
 use Rattle.base.specs.Records.{with_gap, is_in, are_apart}
 
@@ -91,11 +92,7 @@ joined-same : (a g : Gap) (t : ℕ) → a.first ≤ a.last → g.first ≤ g.las
 joined-same a g t ga gg h k = grind (arith, nat_tests)
 
 pub is_in-with_gap : (added : Gap) (gaps : List Gap) (t : ℕ) → added.first ≤ added.last → are_up gaps ≡ true → is_in (with_gap added gaps) t ≡ (is_in gaps t || is_between added t)
-is_in-with_gap added [] t goes up = or_none (is_between added t)
-  where
-    or_none : (b : Bool) → (b || false) ≡ b
-    or_none true = refl
-    or_none false = refl
+is_in-with_gap added [] t goes up = or-false (is_between added t)
 is_in-with_gap added (gap ∷ gaps) t goes up =
     let ups = and_parts _ _ up in
     let here : gap.first ≤ gap.last = leb-true gap.first gap.last ups.0 in

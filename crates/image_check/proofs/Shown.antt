@@ -2,7 +2,7 @@
 use Rattle.std.proofs.Common.{◌≡◌, ◌⊎◌, inl, inr, ℕ, zero, suc, ◌+◌, ◌<◌, Bool, true, false, cond, not, ◌&&◌, List, map, refl, sym, ◌∙◌, ap, subst, arith, add-one}
 use Rattle.std.specs.Prelude.{Option, Some, None, ◌↔◌, is_some}
 use Rattle.std.proofs.lemmas.Map.{update_all_push}
-use Rattle.std.proofs.lemmas.Bool.{and_from}
+use Rattle.std.proofs.lemmas.Bool.{and_from, not-false}
 use Rattle.base.specs.declared.key.Key.{Key}
 use Rattle.base.specs.Keys.{key_eq, lookup_key, is_rising}
 use Rattle.base.specs.Search.{first_below}
@@ -61,11 +61,7 @@ module _ (image : Image) (sound : IsSound image) where
     )
       where
         shown : is_shown (ruling image) image slot ≡ true
-        shown = by (is_shown (ruling image) image slot) live
-          where
-            by : (b : Bool) → not b ≡ false → b ≡ true
-            by true e = refl
-            by false e = absurd (cc e)
+        shown = not-false (is_shown (ruling image) image slot) live
 
         now : (q : Key) → last_at (rows_below image (slot + 1)) q ≡ cond (key_eq (key_of image slot) q) (Some (row_of image slot)) (last_at (rows_below image slot) q)
         now q =

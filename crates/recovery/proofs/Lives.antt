@@ -30,7 +30,7 @@ use Rattle.log_area.specs.Rulings.{IsRecordFor, HoldsRecord}
 use Rattle.log_area.specs.Writings.{IsNextRecord, IsRuledByEither, IsOutside, begun}
 use Rattle.log_area.proofs.Rulings.{place_below, log_within}
 use Rattle.log_area.proofs.AtRest.{laid, fits_image, rest_holds}
-use Rattle.log_area.proofs.Heads.{laid_size, laid_limits}
+use Rattle.log_area.proofs.Heads.{laid_size, laid_limits, image_size}
 use Rattle.recovery.specs.Gaps.{few_gaps, MayRule}
 use Rattle.recovery.specs.Slots.{IsUnder, IsSlotsFault, free_below, bad_below}
 use Rattle.recovery.specs.Live.{live_below}
@@ -182,14 +182,11 @@ module _ (old mid new : Device) (orderly : IsOrderly mid) (rest : IsAtRest old) 
   rules : IsRuledBy layout r (image_of old)
   rules = (is (image_of old) layout r gaps free live ex).rules
 
-  image-words : (device : Device) → length (image_of device) ≡ device.words
-  image-words device = length-map-range_with_len (value_of device) 0 device.words
-
   same-words : mid.words ≡ old.words
   same-words = kept.images.continues.same_words
 
   old-words : old.words ≡ total_words layout
-  old-words = sym (image-words old) ∙ size (image_of old) layout r gaps free live ex
+  old-words = sym (image_size old) ∙ size (image_of old) layout r gaps free live ex
 
   pub device-words : mid.words ≡ total_words layout
   device-words = same-words ∙ old-words
@@ -218,7 +215,7 @@ module _ (old mid new : Device) (orderly : IsOrderly mid) (rest : IsAtRest old) 
 
     slots-same : (target : Record) (image : Image) → HasOldWords (IsOutside (begun layout target)) mid image → IsRuledByEither layout r target image → HasSlotsOf (opened_slots (image_of old)) image
     slots-same target image words either = subst (λ (i : Image). HasSlotsOf i image) swept-is (record {
-      size = sizes either ∙ sym (image-words mid ∙ device-words);
+      size = sizes either ∙ sym (image_size mid ∙ device-words);
       laid_out = laid either ∙ sym rules-mid.laid_out;
       same = λ word le. same word (subst (λ (n : ℕ). 8 + 32 * n ≤ word) (ap (λ (l : Layout). l.places) rules-mid.laid_out) le) (cases_lt word mid.words);
     })
@@ -236,7 +233,7 @@ module _ (old mid new : Device) (orderly : IsOrderly mid) (rest : IsAtRest old) 
             only-settled mid word (get_or image word 0) (rested word lt) (words word lt (outside target word le))
             ∙ sym (get_or-map-range_with_len (value_of mid) 0 mid.words word word 0 lt (omega arith))
         same word le (inr ge) =
-            get_or_past image word 0 (omega (arith, ge, device-words, sizes either)) ∙ sym (get_or_past (image_of mid) word 0 (omega (arith, ge, image-words mid)))
+            get_or_past image word 0 (omega (arith, ge, device-words, sizes either)) ∙ sym (get_or_past (image_of mid) word 0 (omega (arith, ge, image_size mid)))
 
     -- either record, in the words of the image before
     either-before : (image : Image) → IsRuledByEither layout r after image → IsRuledBy (layout_of (image_of old)) (ruling (image_of old)) image ⊎ IsRuledBy (layout_of (image_of old)) (record_after (image_of old)) image

@@ -1,7 +1,7 @@
 -- What a sweep makes of a device, slot by slot.
 use Rattle.std.proofs.Common.{◌≡◌, ◌≢◌, ◌⊎◌, inl, inr, ℕ, zero, suc, ◌+◌, ◌-◌, ◌*◌, ◌/◌, ◌<◌, ◌≤◌, Bool, true, false, cond, ◌&&◌, ◌||◌, List, length, get_or, refl, sym, ◌∙◌, ap, subst, arith, add-one, true≢false}
 use Rattle.std.proofs.Math.Nat.{mul-le-mul_left}
-use Rattle.std.proofs.lemmas.Bool.{false≢true, and_parts, and_from, cases_lt, cases_eq, ltb-true}
+use Rattle.std.proofs.lemmas.Bool.{false≢true, and_parts, and_from, cases_lt, cases_eq, ltb-true, or_right, or_left}
 use Rattle.std.proofs.lemmas.List.{ext_get_or}
 use Rattle.std.proofs.lemmas.List.FromFn.{length-map-range_with_len}
 use Rattle.base.specs.Search.{count_below}
@@ -228,12 +228,8 @@ module _ (a : Layout) (r : Record) (start : Device) where
       after-flush true word e zero_now there line = ((flushed-shrinks {old = late} 0 (first / 8) word refl).value ∙ zero_now, ready-at late word there line)
 
       done-first : begun ≡ true → (value_of new first ≡ 0) × IsReady new 0 first
-      done-first is = after-flush (begun || ended) first (or_true begun ended is) zero_late there_late refl
+      done-first is = after-flush (begun || ended) first (or_left begun ended is) zero_late there_late refl
         where
-          or_true : (x y : Bool) → x ≡ true → (x || y) ≡ true
-          or_true true y e = refl
-          or_true false y e = absurd (false≢true e)
-
           made-mid : mid ≡ stored first 0 now
           made-mid = zeroed-is r first now true is
 
@@ -253,12 +249,8 @@ module _ (a : Layout) (r : Record) (start : Device) where
                   (subst (λ (h : List Entry). IsAmong (survivors_in h) 0) (sym (history-stored_other (first + 1) 0 mid first (λ e. omega (arith, e)))) there_mid)
 
       done-second : ended ≡ true → (value_of new (first + 1) ≡ 0) × IsReady new 0 (first + 1)
-      done-second is = after-flush (begun || ended) (first + 1) (or_true begun ended is) zero_late there_late (start-line 1 (omega arith))
+      done-second is = after-flush (begun || ended) (first + 1) (or_right begun ended is) zero_late there_late (start-line 1 (omega arith))
         where
-          or_true : (x y : Bool) → y ≡ true → (x || y) ≡ true
-          or_true true y e = refl
-          or_true false y e = e
-
           made-late : late ≡ stored (first + 1) 0 mid
           made-late = zeroed-is r (first + 1) mid true is
 

@@ -3,7 +3,7 @@ use Rattle.std.proofs.Common.{◌≡◌, ◌≢◌, inl, inr, ℕ, ◌+◌, ◌-
 use Rattle.std.proofs.Math.Bridge.{le_prop}
 use Rattle.std.proofs.Math.Logic.{∥∥₁_elim, ∥∥₁_map}
 use Rattle.std.proofs.Math.Nat.{ℕ_set}
-use Rattle.std.proofs.lemmas.Bool.{and_parts, cases_lt, eq-eqb, eqb-true, leb-true}
+use Rattle.std.proofs.lemmas.Bool.{and_parts, cases_lt, eq-eqb, eqb-true, leb-true, not-true}
 use Rattle.std.proofs.lemmas.List.Sums.{sum_by-cons}
 use Rattle.std.specs.Prelude.{Option, Some, None, nat_eq, nat_le, find, sum_by}
 use Rattle.std.specs.List.{list_all, list_any}
@@ -137,11 +137,7 @@ module _ (old : Sessions) (before : Device) (q : State) (n : ℕ) (shown : Sessi
       find-any (λ (e : PlainDrawn). not (is_stamped e)) (λ e. nat_eq e.commit.timestamp d.timestamp) q.drawn (plain_drawn d) plain-first (eq-eqb d.timestamp d.timestamp refl) in
       let one = any-by_timestamp (λ e. not (is_stamped e) && nat_eq e.commit.timestamp d.timestamp) q.drawn shown.upholds.keeps.draws.rising some in
       let both = and_parts (not (is_stamped one.0)) (nat_eq one.0.commit.timestamp d.timestamp) one.2 in
-      (one.0, ap (λ (u : ℕ). drawn_at q u) (sym (eqb-true one.0.commit.timestamp d.timestamp both.1)) ∙ one.1, unnot (is_stamped one.0) both.0)
-    where
-      unnot : (b : Bool) → not b ≡ true → b ≡ false
-      unnot true e = absurd (cc e)
-      unnot false e = refl
+      (one.0, ap (λ (u : ℕ). drawn_at q u) (sym (eqb-true one.0.commit.timestamp d.timestamp both.1)) ∙ one.1, not-true (is_stamped one.0) both.0)
 
   -- so its session may stamp
   allowed : allows (step.Stamp n) (standing_of q (Drew d.timestamp)) ≡ true

@@ -4,14 +4,14 @@ use Rattle.std.specs.Prelude.{nat_eq, nat_lt, Contains}
 use Rattle.std.specs.List.{list_any, list_all}
 use Rattle.std.specs.Option.{option_map, option_or}
 use Rattle.std.specs.Cmp.{both_ways}
-use Rattle.std.proofs.lemmas.Bool.{cases_eq, cases_lt, eq-eqb, eqb-true, ne_eqb, and_parts, and_from, ltb-true, ltb-false, false_from_ne_true, or_right, false≢true}
+use Rattle.std.proofs.lemmas.Bool.{cases_eq, cases_lt, eq-eqb, eqb-true, ne_eqb, and_parts, and_from, ltb-true, false_from_ne_true, or_right, false≢true, lt-ltb}
 use Rattle.base.specs.declared.key.Key.{Key}
 use Rattle.base.specs.Commits.{Commit, writes_key, last_writer}
 use Rattle.base.specs.Records.{is_committed, are_rising}
 use Rattle.base.specs.Stands.{has_timestamp}
 use Rattle.base.specs.Machine.{State, Drawn, Hand, ByCommit, drawn_at, drawn_of, state_covered}
 use Rattle.base.proofs.Options.{option_or-none}
-use Rattle.base.proofs.Lists.{rising-rest}
+use Rattle.base.proofs.Lists.{rising-rest, filter-all}
 use Rattle.state_invariant.specs.Kept.{Origin, Keeps, KeepsHand, commit_at, commits_of_life, covered_since, version_by}
 use Rattle.state_invariant.proofs.Lists.{find-filter, find-dropped, rising-above, rising-filter}
 use Rattle.state_invariant.proofs.Commits.{commit_at-none, commit_at-drawn, timestamp-all, writer_from, writer-append, writer-none}
@@ -62,14 +62,7 @@ lower t u [] less all = refl
 lower t u (x ∷ ts) less all =
     let both = and_parts (nat_lt u x) (list_all (nat_lt u) ts) all in
     let more : u < x = ltb-true u x both.0 in
-    and_from (nat_lt t x) (list_all (nat_lt t) ts) (lt-true t x (omega (arith, less, more))) (lower t u ts less both.1)
-  where
-    lt-true : (a b : ℕ) → a < b → nat_lt a b ≡ true
-    lt-true a b h = (cases (nat_lt a b) refl)
-      where
-        cases : (c : Bool) → nat_lt a b ≡ c → nat_lt a b ≡ true
-        cases true e = e
-        cases false e = absurd (omega (arith, h, ltb-false a b e))
+    and_from (nat_lt t x) (list_all (nat_lt t) ts) (lt-ltb t x (omega (arith, less, more))) (lower t u ts less both.1)
 
 -- two rising lists in which the same is found are the same
 same-rising : (xs ys : List Commit) → are_rising (times xs) ≡ true → are_rising (times ys) ≡ true → ((t : ℕ) → commit_at xs t ≡ commit_at ys t) → xs ≡ ys
@@ -135,10 +128,6 @@ none-on key p (d ∷ ds) all = by (p d) both.0 (none-on key p ds both.1)
 
 none-on_all : (key : Key) (ds : List Drawn) → list_all (λ (d : Drawn). not (writes_key key d.commit)) ds ≡ true → last_on key (commits ds) ≡ None
 none-on_all key ds all = ap (λ (es : List Drawn). last_on key (commits es)) (sym (filter-all ds)) ∙ none-on key (λ d. true) ds all
-  where
-    filter-all : (es : List Drawn) → filter (λ (d : Drawn). true) es ≡ es
-    filter-all [] = refl
-    filter-all (e ∷ es) = ap (λ (xs : List Drawn). e ∷ xs) (filter-all es)
 
 -- where no two of them write one key, those that pass may come before the others
 last-split : (key : Key) (p : Drawn → Bool) (ds : List Drawn) → are_rising (map time_of ds) ≡ true

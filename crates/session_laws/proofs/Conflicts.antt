@@ -3,7 +3,7 @@ use Rattle.std.proofs.Common.{◌≡◌, inl, inr, ℕ, zero, suc, ◌<◌, ◌�
 use Rattle.std.specs.Prelude.{nat_eq, nat_lt, if◌then◌else◌}
 use Rattle.std.specs.List.{list_any, list_all}
 use Rattle.std.specs.Option.{option_or}
-use Rattle.std.proofs.lemmas.Bool.{and_parts, or_cases, or_right, ltb-true, eq-eqb, eqb-true, false_from_ne_true, false≢true}
+use Rattle.std.proofs.lemmas.Bool.{and_parts, or_cases, or_right, ltb-true, eq-eqb, eqb-true, false_from_ne_true, false≢true, not-true}
 use Rattle.std.proofs.lemmas.List.{take_all}
 use Rattle.std.proofs.lemmas.List.Folds.{list_any-append}
 use Rattle.base.specs.declared.key.Key.{Key}
@@ -120,10 +120,6 @@ module _ (o : Origin) (q : State) (snapshot : Seen) (begun : ℕ) (kept : Keeps 
   drawn-facts : (t : ℕ) → has_timestamp (drawn_of q) t ≡ true → (is_committed q.ruling t ≡ false) × (t < q.next) × (o.ruling.persisted < t)
   drawn-facts t has = by q.drawn kept.numbers.drawn origin.drawn has
     where
-      not-yes : (b : Bool) → not b ≡ true → b ≡ false
-      not-yes true e = absurd (false≢true e)
-      not-yes false e = refl
-
       by : (ds : List Drawn) → list_all (λ d. not (is_committed q.ruling d.commit.timestamp) && nat_lt d.commit.timestamp q.next) ds ≡ true → list_all (λ d. nat_lt o.ruling.persisted d.commit.timestamp) ds ≡ true
           → has_timestamp (map (λ (d : Drawn). d.commit) ds) t ≡ true → (is_committed q.ruling t ≡ false) × (t < q.next) × (o.ruling.persisted < t)
       by [] all low has = absurd (false≢true has)
@@ -134,7 +130,7 @@ module _ (o : Origin) (q : State) (snapshot : Seen) (begun : ℕ) (kept : Keeps 
           elim (or_cases (nat_eq d.commit.timestamp t) (has_timestamp (map (λ (d : Drawn). d.commit) ds) t) has) [
             | inl here ↦
                 let is : d.commit.timestamp ≡ t = eqb-true d.commit.timestamp t here in
-                (ap (is_committed q.ruling) (sym is) ∙ not-yes (is_committed q.ruling d.commit.timestamp) one.0, omega (arith, is, ltb-true d.commit.timestamp q.next one.1), omega (arith, is, ltb-true o.ruling.persisted d.commit.timestamp lows.0))
+                (ap (is_committed q.ruling) (sym is) ∙ not-true (is_committed q.ruling d.commit.timestamp) one.0, omega (arith, is, ltb-true d.commit.timestamp q.next one.1), omega (arith, is, ltb-true o.ruling.persisted d.commit.timestamp lows.0))
             | inr later ↦ by ds both.1 lows.1 later
           ]
 

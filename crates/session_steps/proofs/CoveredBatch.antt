@@ -3,7 +3,7 @@ use Rattle.std.proofs.Common.{◌≡◌, ◌⊎◌, inl, inr, ℕ, zero, suc, �
 use Rattle.std.specs.Prelude.{Option, Some, None, nat_eq, nat_lt, find, slice_index_or, All}
 use Rattle.std.specs.List.{list_any, list_all}
 use Rattle.std.specs.Option.{option_map}
-use Rattle.std.proofs.lemmas.Bool.{and_parts, ltb-true, eq-eqb, ne_eqb, false_from_ne_true}
+use Rattle.std.proofs.lemmas.Bool.{and_parts, ltb-true, eq-eqb, ne_eqb, false_from_ne_true, or_right}
 use Rattle.std.proofs.lemmas.Bool.Decides.{nat_tests}
 use Rattle.std.proofs.lemmas.List.{take-append-le}
 use Rattle.std.proofs.lemmas.List.Elements.{All-nil, All-cons, All-filter}
@@ -97,13 +97,9 @@ any-found : (p test : Commit → Bool) (cs : List Commit) (c : Commit) → find 
 any-found p test [] c found is = absurd (cc found)
 any-found p test (x ∷ cs) c found is = by (test x) found (λ found. any-found p test cs c found is)
   where
-    right : (a b : Bool) → b ≡ true → (a || b) ≡ true
-    right true b is = refl
-    right false b is = is
-
     by : (b : Bool) → cond b (Some x) (find test cs) ≡ Some c → (find test cs ≡ Some c → list_any p cs ≡ true) → (p x || list_any p cs) ≡ true
     by true found rest = let same : x ≡ c = cc found in ap (λ (b : Bool). b || list_any p cs) (ap p same ∙ is)
-    by false found rest = right (p x) (list_any p cs) (rest found)
+    by false found rest = or_right (p x) (list_any p cs) (rest found)
 
 -- ---- covering
 

@@ -3,7 +3,7 @@ use Rattle.std.proofs.Common.{◌||◌, ◌≡◌, ◌≢◌, ◌⊎◌, inl, in
 use Rattle.std.specs.Prelude.{nat_eq, nat_lt, nat_le, max}
 use Rattle.std.specs.List.{list_any, list_all}
 use Rattle.std.specs.Option.{option_map, option_or}
-use Rattle.std.proofs.lemmas.Bool.{cases_eq, cases_lt, eq-eqb, eqb-true, ne_eqb, and_parts, and_from, ltb-true, lt-ltb, leb-true, le-leb, or_cases, or_left, or_right, false_from_ne_true}
+use Rattle.std.proofs.lemmas.Bool.{cases_eq, cases_lt, eq-eqb, eqb-true, ne_eqb, and_parts, and_from, ltb-true, lt-ltb, leb-true, le-leb, or_cases, or_left, or_right, false_from_ne_true, not-true}
 use Rattle.base.specs.Commits.{Commit}
 use Rattle.base.specs.Layout.{most_longs}
 use Rattle.base.specs.declared.gap.Gap.{Gap}
@@ -135,11 +135,7 @@ committed-parts r t e =
     let a = and_parts (nat_le 1 t && nat_le t r.persisted && not (is_in r.gaps t)) (not (list_any (nat_eq t) r.longs)) e in
     let b = and_parts (nat_le 1 t && nat_le t r.persisted) (not (is_in r.gaps t)) a.0 in
     let c = and_parts (nat_le 1 t) (nat_le t r.persisted) b.0 in
-    (leb-true 1 t c.0, leb-true t r.persisted c.1, unnot (is_in r.gaps t) b.1, unnot (list_any (nat_eq t) r.longs) a.1)
-  where
-    unnot : (b : Bool) → not b ≡ true → b ≡ false
-    unnot true e = cc e
-    unnot false e = refl
+    (leb-true 1 t c.0, leb-true t r.persisted c.1, not-true (is_in r.gaps t) b.1, not-true (list_any (nat_eq t) r.longs) a.1)
 
 -- and the other way round
 pub committed-from : (r : Record) (t : ℕ) → 1 ≤ t → t ≤ r.persisted → is_in r.gaps t ≡ false → list_any (nat_eq t) r.longs ≡ false → is_committed r t ≡ true
@@ -262,11 +258,7 @@ module _ (o : Origin) (q : State) (kept : Keeps o q) where
       let above : o.ruling.persisted < time_of d = ltb-true o.ruling.persisted (time_of d) (drawn-fact (λ d. nat_lt o.ruling.persisted d.commit.timestamp) t d kept.numbers.origin.drawn found) in
       let both = and_parts (not (is_committed q.ruling (time_of d))) (nat_lt (time_of d) q.next) (drawn-fact (λ d. not (is_committed q.ruling d.commit.timestamp) && nat_lt d.commit.timestamp q.next) t d kept.numbers.drawn found) in
       let less : time_of d < q.next = ltb-true (time_of d) q.next both.1 in
-      (is, omega (arith, is, above), omega (arith, is, less), sym (ap (is_committed q.ruling) is) ∙ unnot (is_committed q.ruling (time_of d)) both.0)
-    where
-      unnot : (b : Bool) → not b ≡ true → b ≡ false
-      unnot true e = cc e
-      unnot false e = refl
+      (is, omega (arith, is, above), omega (arith, is, less), sym (ap (is_committed q.ruling) is) ∙ not-true (is_committed q.ruling (time_of d)) both.0)
 
   has-drawn : (t : ℕ) → has_timestamp (drawn_of q) t ≡ true → (d : Drawn) × (drawn_at q t ≡ Some d)
   has-drawn t has =
@@ -307,11 +299,7 @@ module _ (o : Origin) (q : State) (kept : Keeps o q) where
       let both = and_parts (is_passed q found.0) (nat_eq t (time_of found.0)) found.2 in
       let parts = and_parts (not (is_stamped found.0)) (nat_le (time_of found.0) (reach q)) both.0 in
       let same : t ≡ time_of found.0 = eqb-true t (time_of found.0) both.1 in
-      (found.0, ap (drawn_at q) same ∙ found.1, unnot (is_stamped found.0) parts.0, omega (arith, same, leb-true (time_of found.0) (reach q) parts.1))
-    where
-      unnot : (b : Bool) → not b ≡ true → b ≡ false
-      unnot true e = cc e
-      unnot false e = refl
+      (found.0, ap (drawn_at q) same ∙ found.1, not-true (is_stamped found.0) parts.0, omega (arith, same, leb-true (time_of found.0) (reach q) parts.1))
 
   -- what is drawn and reached is chosen where it is stamped, and else passed over
   pub reached-chosen : (t : ℕ) (d : Drawn) → drawn_at q t ≡ Some d → t ≤ reach q → is_stamped d ≡ true → has_timestamp (chosen q) t ≡ true

@@ -15,6 +15,7 @@ use Rattle.base.specs.Stands.{has_timestamp}
 use Rattle.base.specs.Machine.{State, Session, Active, Drew, WroteNothing, Drawn, Hand, Version, Writer, BySession, ByCommit, drawn_at, drawn_of, writes_of, begun_of, is_by, by_commit, state_drawn, next_state, refusal, unseen_by, conflict_of, is_nil}
 use Rattle.base.proofs.Keys.{key_eq-true}
 use Rattle.base.proofs.Lists.{all-drop}
+use Rattle.base.proofs.Options.{option_or-none}
 use Rattle.state_invariant.specs.Kept.{Origin, KeepsHand, KeepsOrigin, KeepsNumbers, DrawsInOrder, Owns, Keeps, IsInUse, HasSlot, wanted, row_in, row_by, commit_at, commits_of_life, covered_since, version_by, last_of}
 use Rattle.state_invariant.proofs.Lookups.{replaced-same, replaced-other, find-all}
 use Rattle.state_invariant.proofs.Lists.{all-weaken, all-one_more, rising-one_more, find-map}
@@ -50,11 +51,7 @@ pub found-old : (q : State) (writes : Writes) (t : ℕ) → t ≢ q.next → fin
 found-old q writes t apart =
     find-append (λ d. nat_eq d.commit.timestamp t) q.drawn (drawn_now q writes ∷ [])
     ∙ ap (λ (b : Bool). option_or (drawn_at q t) (cond b (Some (drawn_now q writes)) None)) (ne_eqb q.next t (λ e. apart (sym e)))
-    ∙ or_none (drawn_at q t)
-  where
-    or_none : (d : Option Drawn) → option_or d None ≡ d
-    or_none None = refl
-    or_none (Some d) = refl
+    ∙ option_or-none (drawn_at q t)
 
 -- ---- the slots that its session held
 

@@ -3,7 +3,7 @@ use Rattle.std.proofs.Common.{◌||◌, ◌≡◌, ◌≢◌, ◌⊎◌, inl, in
 use Rattle.std.specs.Prelude.{nat_eq, nat_lt, nat_le}
 use Rattle.std.specs.List.{list_any, list_all}
 use Rattle.std.specs.Option.{option_map}
-use Rattle.std.proofs.lemmas.Bool.{eq-eqb, ne_eqb, eqb-false, and_parts, and_from, leb-true, le-leb}
+use Rattle.std.proofs.lemmas.Bool.{eq-eqb, ne_eqb, eqb-false, and_parts, and_from, leb-true, le-leb, or_parts}
 use Rattle.base.specs.declared.step.Step.TheVariants.{Stamp}
 use Rattle.base.specs.Keys.{lookup_key, is_rising}
 use Rattle.base.specs.Commits.{Commit, writes_key}
@@ -59,14 +59,10 @@ within-counted : (t : ℕ) (ds : List Drawn) → list_all (λ d. nat_le d.stampe
 within-counted t [] all none = refl
 within-counted t (d ∷ ds) all none =
     let both = and_parts (nat_le d.stamped (length d.commit.writes)) (list_all (λ d. nat_le d.stamped (length d.commit.writes)) ds) all in
-    let parts = neither (nat_eq d.commit.timestamp t && is_stamped d) (list_any (λ d. nat_eq d.commit.timestamp t && is_stamped d) ds) none in
+    let parts = or_parts (nat_eq d.commit.timestamp t && is_stamped d) (list_any (λ d. nat_eq d.commit.timestamp t && is_stamped d) ds) none in
     and_from (nat_le (counted t d).stamped (length (counted t d).commit.writes)) (list_all (λ d. nat_le d.stamped (length d.commit.writes)) (map (counted t) ds))
     (by (nat_eq d.commit.timestamp t) both.0 parts.0) (within-counted t ds both.1 parts.1)
   where
-    neither : (a b : Bool) → (a || b) ≡ false → (a ≡ false) × (b ≡ false)
-    neither true b e = cc e
-    neither false b e = (refl, e)
-
     by : (b : Bool) → nat_le d.stamped (length d.commit.writes) ≡ true → (b && is_stamped d) ≡ false
         → nat_le (cond b (let e : Drawn = record { commit = d.commit; stamped = d.stamped + 1 } in e) d).stamped (length (cond b (let e : Drawn = record { commit = d.commit; stamped = d.stamped + 1 } in e) d).commit.writes) ≡ true
     by true le unfinished = le-leb (d.stamped + 1) (length d.commit.writes) (omega (arith, leb-true d.stamped (length d.commit.writes) le, eqb-false d.stamped (length d.commit.writes) unfinished))
