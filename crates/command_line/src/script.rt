@@ -241,8 +241,8 @@ fn add_command(
     Ok(lives)
 }
 
-// Adds a command to others. Its step is named, since the prover finds the type of a value that goes into a list only where the
-// function names it.
+// Adds a command to others. It names the step within: a push is proved only where the function names the types that the value
+// holds.
 fn push_command(commands: &mut Vec<Command>, command: Command) -> Result<(), AllocError>
     ensures { OnOk result (commands.new.items ≡ commands.old.items ++ command ∷ []) }
 {
