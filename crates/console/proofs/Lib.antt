@@ -7,7 +7,6 @@ mod Repeating
 mod IdleTicks
 mod Lives
 mod Input
-mod Crash
 mod BadLine
 mod Refusals
 mod Scripts
