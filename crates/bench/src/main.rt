@@ -66,25 +66,53 @@ fn main(rt: HostRuntime) -> Result<(), Error> {
     let alloc = rt.alloc();
     let words: Vec<String> = env::args(&rt)?.skip(1).collect(alloc)?;
     let words: Vec<&str> = words.iter().map(|word| word.as_str()).collect(alloc)?;
-    let (timed, words) = match words.as_slice() {
-        ["time", words @ ..] => (true, words),
-        words => (false, words),
-    };
-    match words {
-        ["engine", load @ ..] => measure_engine(&rt, alloc, &load_of(load)?, timed),
-        ["plain", load @ ..] => measure_plain(&rt, alloc, &load_of(load)?, timed),
-        ["file", name, load @ ..] => measure_file(&rt, alloc, name, &load_of(load)?, timed),
-        ["open", slots] => measure_opening(&rt, alloc, slots.parse::<u64>()?),
-        ["steps", slots] => measure_steps(&rt, alloc, slots.parse::<u64>()?),
-        ["reads", slots] => measure_reads(&rt, alloc, slots.parse::<u64>()?),
-        ["readers", readers] => measure_readers(&rt, alloc, readers.parse::<usize>()?, timed),
-        _ => {
-            measure_rounds(&rt, alloc, timed)?;
-            measure_engine(&rt, alloc, &SMALL, timed)?;
-            count_beside_a_slow_one(&rt, alloc)?;
-            measure_readers(&rt, alloc, FEW_READERS, timed)
-        }
+    match words.as_slice() {
+        ["time", words @ ..] => measure(&rt, alloc, words, true),
+        words => measure(&rt, alloc, words, false),
     }
+}
+
+// What the words name.
+fn measure<H: Print + Files<File = File> + Clock + Threads + Wait + Sync>(
+    rt: &H,
+    alloc: Global,
+    words: &[&str],
+    timed: bool,
+) -> Result<(), Error> {
+    match words {
+        ["engine", load @ ..] => measure_engine(rt, alloc, &load_of(load)?, timed),
+        ["plain", load @ ..] => measure_plain(rt, alloc, &load_of(load)?, timed),
+        ["file", name, load @ ..] => measure_file(rt, alloc, name, &load_of(load)?, timed),
+        ["readers", readers] => measure_readers(rt, alloc, readers.parse::<usize>()?, timed),
+        _ => measure_calls(rt, alloc, words, timed),
+    }
+}
+
+// Openings and each kind of call, or a little of everything.
+fn measure_calls<H: Print + Clock + Threads + Wait + Sync>(
+    rt: &H,
+    alloc: Global,
+    words: &[&str],
+    timed: bool,
+) -> Result<(), Error> {
+    match words {
+        ["open", slots] => measure_opening(rt, alloc, slots.parse::<u64>()?),
+        ["steps", slots] => measure_steps(rt, alloc, slots.parse::<u64>()?),
+        ["reads", slots] => measure_reads(rt, alloc, slots.parse::<u64>()?),
+        _ => measure_a_little(rt, alloc, timed),
+    }
+}
+
+// A small load of each kind.
+fn measure_a_little<H: Print + Clock + Threads + Wait + Sync>(
+    rt: &H,
+    alloc: Global,
+    timed: bool,
+) -> Result<(), Error> {
+    measure_rounds(rt, alloc, timed)?;
+    measure_engine(rt, alloc, &SMALL, timed)?;
+    count_beside_a_slow_one(rt, alloc)?;
+    measure_readers(rt, alloc, FEW_READERS, timed)
 }
 
 fn load_of(words: &[&str]) -> Result<Load, Error> {
