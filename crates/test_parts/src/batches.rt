@@ -1,5 +1,5 @@
 //! Which drawn commits a batch takes, what its record says, and what a close takes.
-ghost use Rattle.std.specs.Prelude.{◌≡◌, ◌<◌, ◌≤◌, ◌^◌, length};
+ghost use Rattle.std.specs.Prelude.{◌≡◌, ◌<◌, ◌≤◌, ◌^◌, All};
 
 use base::Ts;
 use base::fault::Fault;
@@ -7,9 +7,10 @@ use base::gap::Gaps;
 use base::geometry::Geometry;
 use base::key::Key;
 use base::longs::Longs;
-use group_commit::{Cycle, is_idle};
+use group_commit::{Covered, Cycle, is_idle};
 use log_area::Record;
 use std::alloc::Global;
+use std::process::Abort;
 use std::test::Fail;
 use txn::{DrawnCommit, DrawnCommits, Write, WriteSet};
 
@@ -36,6 +37,18 @@ fn deletion(session: u8, timestamp: Ts, stamped: usize) -> DrawnCommit
     }
 }
 
+// These commits, drawn in this order: of each the session, the timestamp and how many of its writes are stamped.
+fn drawn_by(alloc: Global, commits: &[(u8, Ts, usize)]) -> Result<DrawnCommits, Fault>
+    requires { All (λ commit. commit.0 < 64) commits.now }
+{
+    let mut drawn = DrawnCommits::new(alloc);
+    for (session, timestamp, stamped) in commits {
+        drawn.reserve()?;
+        drawn.push(deletion(*session, *timestamp, *stamped));
+    }
+    Ok(drawn)
+}
+
 // Begins a cycle over what is drawn, where that is no more than a record may pass over.
 fn begin(
     alloc: Global,
@@ -46,23 +59,43 @@ fn begin(
 ) -> Result<Cycle, Fault>
     requires numbered { ruling.gate < 2 ^ 62 }
     requires countable { next ≤ 2 ^ 62 }
-    requires few { length drawn.now.commits ≤ 12 }
 {
+    if drawn.as_slice().len() > Longs::LIMIT {
+        return Err(Fault::WrongState);
+    }
     Cycle::begin(alloc, geometry, ruling, next, false, drawn)
+}
+
+// What such a cycle covers.
+fn covered_by(
+    alloc: Global,
+    geometry: Geometry,
+    ruling: Record,
+    next: Ts,
+    drawn: &DrawnCommits,
+) -> Result<Covered, Fault>
+    requires numbered { ruling.gate < 2 ^ 62 }
+    requires countable { next ≤ 2 ^ 62 }
+{
+    let cycle = begin(alloc, geometry, ruling, next, drawn)?;
+    Ok(cycle.finish())
+}
+
+// The sessions from 2 to 4 whose drawn commits are covered.
+fn sessions_of(covered: &Covered) -> [bool; 3] {
+    [
+        covered.sessions.contains(2),
+        covered.sessions.contains(3),
+        covered.sessions.contains(4),
+    ]
 }
 
 #[test]
 fn a_batch_takes_the_stamped_commits(rt: HostRuntime) -> Result<(), Fail> {
     let geometry = Geometry::new(4, 2, 4)?;
     let ruling = Record::new(1, 4, 12, Gaps::none(), Longs::none());
-    let mut drawn = DrawnCommits::new(rt.alloc());
-    assert!(rt; is_idle(geometry, ruling, 8, false, &drawn));
-    drawn.reserve()?;
-    drawn.push(deletion(2, 5, 1));
-    drawn.reserve()?;
-    drawn.push(deletion(3, 6, 0));
-    drawn.reserve()?;
-    drawn.push(deletion(4, 7, 0));
+    assert!(rt; is_idle(geometry, ruling, 8, false, &DrawnCommits::new(rt.alloc())));
+    let drawn = drawn_by(rt.alloc(), &[(2, 5, 1), (3, 6, 0), (4, 7, 0)])?;
     assert!(rt; !is_idle(geometry, ruling, 8, false, &drawn));
     let cycle = begin(rt.alloc(), geometry, ruling, 8, &drawn)?;
     assert!(rt; !cycle.is_done());
@@ -74,9 +107,7 @@ fn a_batch_takes_the_stamped_commits(rt: HostRuntime) -> Result<(), Fail> {
     assert_eq!(rt; covered.record.persisted(), 5);
     assert_eq!(rt; covered.record.dirty(), 12);
     assert!(rt; covered.record.longs().as_slice().is_empty());
-    assert!(rt; covered.sessions.contains(2));
-    assert!(rt; !covered.sessions.contains(3));
-    assert!(rt; !covered.sessions.contains(4));
+    assert_eq!(rt; sessions_of(&covered), [true, false, false]);
     Ok(())
 }
 
@@ -84,18 +115,12 @@ fn a_batch_takes_the_stamped_commits(rt: HostRuntime) -> Result<(), Fail> {
 fn a_close_takes_all_that_is_drawn(rt: HostRuntime) -> Result<(), Fail> {
     let geometry = Geometry::new(4, 2, 4)?;
     let ruling = Record::new(1, 4, 12, Gaps::none(), Longs::none());
-    let mut drawn = DrawnCommits::new(rt.alloc());
-    drawn.reserve()?;
-    drawn.push(deletion(2, 5, 1));
-    drawn.reserve()?;
-    drawn.push(deletion(4, 7, 1));
+    let drawn = drawn_by(rt.alloc(), &[(2, 5, 1), (4, 7, 1)])?;
     let closing = Cycle::closing(rt.alloc(), geometry, ruling, 8, false, &drawn).finish();
     assert_eq!(rt; closing.record.gate(), 2);
     assert_eq!(rt; closing.record.persisted(), 7);
     assert_eq!(rt; closing.record.dirty(), 8);
-    assert!(rt; closing.sessions.contains(2));
-    assert!(rt; !closing.sessions.contains(3));
-    assert!(rt; closing.sessions.contains(4));
+    assert_eq!(rt; sessions_of(&closing), [true, false, true]);
     Ok(())
 }
 
@@ -103,22 +128,15 @@ fn a_close_takes_all_that_is_drawn(rt: HostRuntime) -> Result<(), Fail> {
 fn stamped_commits_are_covered_past_one_that_is_not(rt: HostRuntime) -> Result<(), Fail> {
     let geometry = Geometry::new(8, 2, 4)?;
     let ruling = Record::new(3, 0, 8, Gaps::none(), Longs::none());
-    let mut drawn = DrawnCommits::new(rt.alloc());
-    drawn.reserve()?;
-    drawn.push(deletion(2, 1, 0));
-    drawn.reserve()?;
-    drawn.push(deletion(3, 2, 1));
-    drawn.reserve()?;
-    drawn.push(deletion(4, 3, 1));
-    let covered = begin(rt.alloc(), geometry, ruling, 4, &drawn)?.finish();
+    let drawn = drawn_by(rt.alloc(), &[(2, 1, 0), (3, 2, 1), (4, 3, 1)])?;
+    let covered = covered_by(rt.alloc(), geometry, ruling, 4, &drawn)?;
     assert_eq!(rt; covered.batch.from(), 3);
     assert_eq!(rt; covered.batch.commits().len(), 2);
     assert_eq!(rt; covered.batch.longs().as_slice(), [1].as_slice());
     assert_eq!(rt; covered.record.persisted(), 3);
     assert_eq!(rt; covered.record.dirty(), 8);
     assert_eq!(rt; covered.record.longs().as_slice(), [1].as_slice());
-    assert!(rt; !covered.sessions.contains(2));
-    assert!(rt; covered.sessions.contains(4));
+    assert_eq!(rt; sessions_of(&covered), [false, true, true]);
     Ok(())
 }
 
@@ -138,22 +156,34 @@ fn a_commit_above_thirteen_unstamped_ones_waits(rt: HostRuntime) -> Result<(), F
     Ok(())
 }
 
+// While commit 1 isn't stamped there is nothing to do, and a cycle that is begun all the same names it again.
+fn assert_named_again(
+    rt: &impl Abort,
+    alloc: Global,
+    geometry: Geometry,
+    ruling: Record,
+    drawn: &DrawnCommits,
+) -> Result<(), Fault>
+    requires { ruling.gate < 2 ^ 62 }
+{
+    assert!(rt; is_idle(geometry, ruling, 4, false, drawn));
+    let again = covered_by(alloc, geometry, ruling, 4, drawn)?;
+    assert_eq!(rt; again.batch.commits().len(), 0);
+    assert_eq!(rt; again.record.longs().as_slice(), [1].as_slice());
+    Ok(())
+}
+
 #[test]
 fn a_long_commit_is_named_until_it_is_stamped(rt: HostRuntime) -> Result<(), Fail> {
     let geometry = Geometry::new(8, 2, 4)?;
     let mut longs = Longs::none();
     longs.push(1);
     let ruling = Record::new(4, 3, 8, Gaps::none(), longs);
-    let mut drawn = DrawnCommits::new(rt.alloc());
-    drawn.reserve()?;
-    drawn.push(deletion(2, 1, 0));
-    assert!(rt; is_idle(geometry, ruling, 4, false, &drawn));
-    let again = begin(rt.alloc(), geometry, ruling, 4, &drawn)?.finish();
-    assert_eq!(rt; again.batch.commits().len(), 0);
-    assert_eq!(rt; again.record.longs().as_slice(), [1].as_slice());
+    let mut drawn = drawn_by(rt.alloc(), &[(2, 1, 0)])?;
+    assert_named_again(&rt, rt.alloc(), geometry, ruling, &drawn)?;
     drawn.stamp(1);
     assert!(rt; !is_idle(geometry, ruling, 4, false, &drawn));
-    let covered = begin(rt.alloc(), geometry, ruling, 4, &drawn)?.finish();
+    let covered = covered_by(rt.alloc(), geometry, ruling, 4, &drawn)?;
     assert_eq!(rt; covered.batch.from(), 4);
     assert_eq!(rt; covered.batch.commits().len(), 1);
     assert!(rt; covered.batch.longs().as_slice().is_empty());

@@ -51,7 +51,23 @@ fn publish<J: Naming, R: Wait + Drop>(board: &mut Board<J, R>, batch: Batch) -> 
     if !board.fits(&batch) {
         return Err(Fault::WrongState);
     }
-    board.publish(batch).map_err(|refused| refused.0)
+    match board.publish(batch) {
+        Ok(()) => Ok(()),
+        Err((fault, _batch)) => Err(fault),
+    }
+}
+
+// A board that begins at stamp 2 with no row, and its one reader.
+fn opened<'r, J: Naming, R: Wait>(
+    rt: &'r R,
+    alloc: Global,
+    history: History,
+) -> Result<(Board<J, &'r R>, Reader<J>), Fault>
+    requires { history ≡ J.book }
+{
+    let none = Longs::none();
+    let (board, mut readers) = Board::<J, &R>::open(rt, alloc, history, 2, 0, none, &[], 1)?;
+    Ok((board, readers.swap_remove(0)))
 }
 
 fn answers<J: Naming>(reader: &mut Reader<J>) -> [Answer; 4] {
@@ -71,26 +87,13 @@ struct OneCommit {
     after: [Answer; 4],
 }
 
-// What a reader that learns a token answers before and after a prune.
-fn one_commit<J: Naming, R: Wait>(
-    rt: &R,
+// Publishes a commit. What a reader that learns a token answers before and after a prune.
+fn commit_and_prune<J: Naming, R: Wait + Drop>(
     alloc: Global,
-    history: History,
-) -> Result<OneCommit, Fault>
-    requires { history ≡ J.book }
-{
-    let (mut board, mut readers) = Board::<J, &R>::open(
-        rt,
-        alloc,
-        history,
-        2,
-        0,
-        Longs::none(),
-        &[],
-        1,
-    )?;
-    let reader = &mut readers[0];
-    add(alloc, &mut board, Row::new(&[1])?)?;
+    board: &mut Board<J, R>,
+    reader: &mut Reader<J>,
+) -> Result<OneCommit, Fault> {
+    add(alloc, board, Row::new(&[1])?)?;
     let token = board.token();
     reader.learn(board.token());
     let before = answers(reader);
@@ -102,6 +105,18 @@ fn one_commit<J: Naming, R: Wait>(
         before,
         after: answers(reader),
     })
+}
+
+// The same of a board that is opened for it.
+fn one_commit<J: Naming, R: Wait>(
+    rt: &R,
+    alloc: Global,
+    history: History,
+) -> Result<OneCommit, Fault>
+    requires { history ≡ J.book }
+{
+    let (mut board, mut reader) = opened::<J, R>(rt, alloc, history)?;
+    commit_and_prune(alloc, &mut board, &mut reader)
 }
 
 #[test]
@@ -163,14 +178,27 @@ fn add_to_seven<J: Naming, R: Wait + Drop>(
     )
 }
 
-// What is covered while commit 5 is long, what a batch without it comes to, and what is covered once it is covered too. The
-// board publishes 5 as long, or begins with it.
+// What is covered while commit 5 is long, what a batch without it comes to, and what is covered once it is covered too.
+type LongCommit = (Covered, Result<(), Fault>, Covered);
+
+// The same of a board on which 5 is long.
+fn cover_five<J: Naming, R: Wait + Drop>(
+    alloc: Global,
+    board: &mut Board<J, R>,
+) -> Result<LongCommit, Fault> {
+    let before = covered(board);
+    let nothing = add_to_seven(alloc, board, 6, Longs::none(), &[]);
+    add_to_seven(alloc, board, 6, Longs::none(), &[5])?;
+    Ok((before, nothing, covered(board)))
+}
+
+// The same of a board that publishes 5 as long, or begins with it.
 fn long_commit<J: Naming, R: Wait>(
     rt: &R,
     alloc: Global,
     history: History,
     begun: bool,
-) -> Result<(Covered, Result<(), Fault>, Covered), Fault>
+) -> Result<LongCommit, Fault>
     requires { history ≡ J.book }
 {
     let (stamp, persisted, longs) = if begun {
@@ -191,10 +219,7 @@ fn long_commit<J: Naming, R: Wait>(
     if !begun {
         add_to_seven(alloc, &mut board, 5, five(), &[6, 7])?;
     }
-    let before = covered(&board);
-    let nothing = add_to_seven(alloc, &mut board, 6, Longs::none(), &[]);
-    add_to_seven(alloc, &mut board, 6, Longs::none(), &[5])?;
-    Ok((before, nothing, covered(&board)))
+    cover_five(alloc, &mut board)
 }
 
 #[test]
@@ -250,17 +275,7 @@ fn twenty_commits<J: Naming, R: Wait>(
 ) -> Result<(Bounds, [Answer; 4]), Fault>
     requires { history ≡ J.book }
 {
-    let (mut board, mut readers) = Board::<J, &R>::open(
-        rt,
-        alloc,
-        history,
-        2,
-        0,
-        Longs::none(),
-        &[],
-        1,
-    )?;
-    let reader = &mut readers[0];
+    let (mut board, mut reader) = opened::<J, R>(rt, alloc, history)?;
     add_many(alloc, &mut board, 20)?;
     reader.learn(board.token());
     let bounds = reader.at();
@@ -298,17 +313,7 @@ fn told_across<J: Naming + Send + Sync, R: Threads + Wait + Sync>(
 ) -> Result<(Answer, Answer), Fault>
     requires { history ≡ J.book }
 {
-    let (board, mut readers) = Board::<J, &R>::open(
-        rt,
-        alloc,
-        history,
-        2,
-        0,
-        Longs::none(),
-        &[],
-        1,
-    )?;
-    let reader = readers.swap_remove(0);
+    let (board, reader) = opened::<J, R>(rt, alloc, history)?;
     let desk = Mutex::new(None);
     let (board, (mut reader, answer)) = join(
         rt,
@@ -322,6 +327,15 @@ fn told_across<J: Naming + Send + Sync, R: Threads + Wait + Sync>(
 // What one thread lays there for another.
 type Desk<J> = Mutex<Option<Result<Token<J>, Fault>>>;
 
+// Publishes a commit, and tells it.
+fn published<J: Naming, R: Wait + Drop>(
+    alloc: Global,
+    board: &mut Board<J, R>,
+) -> Result<Token<J>, Fault> {
+    add(alloc, board, Row::new(&[9])?)?;
+    Ok(board.token())
+}
+
 // Publishes a commit, and lays a token on the desk.
 fn tell<J: Naming, R: Wait + Drop>(
     rt: &impl Wait,
@@ -330,8 +344,8 @@ fn tell<J: Naming, R: Wait + Drop>(
     desk: &Desk<J>,
 ) -> Board<J, R> {
     let mut board = board;
-    let published = Row::new(&[9]).and_then(|row| add(alloc, &mut board, row));
-    *desk.lock(rt) = Some(published.map(|_| board.token()));
+    let token = published(alloc, &mut board);
+    *desk.lock(rt) = Some(token);
     board
 }
 

@@ -1,4 +1,4 @@
-use Rattle.std.proofs.Common.{arith, filter}
+use Rattle.std.proofs.Common.{ap, arith, length, filter, List}
 use Rattle.std.proofs.lemmas.List.{length-map}
 use Rattle.txn.specs.declared.drawn.DrawnCommit.{DrawnCommit}
 use Rattle.txn.specs.DrawnCommits.{is_passed}
@@ -10,4 +10,5 @@ pub begin-requires-clause-few : goal.begin-requires-clause-few
 begin-requires-clause-few c =
     let ds = c.args.drawn.now.commits in
     let reach = reach_of c.args.geometry c.args.ruling ds in
-    omega (arith, length-map (filter (is_passed reach) ds) (λ (d : DrawnCommit). d.timestamp), few-filtered (is_passed reach) ds, c.requires.few)
+    let same = ap (λ (ds : List DrawnCommit). length ds) c.as_slice.ensures.commits in
+    omega (arith, same, length-map (filter (is_passed reach) ds) (λ (d : DrawnCommit). d.timestamp), few-filtered (is_passed reach) ds)
