@@ -1,4 +1,4 @@
-ghost use Rattle.std.specs.Prelude.{◌≡◌, ◌<◌, ◌≤◌, ◌^◌, length};
+ghost use Rattle.std.specs.Prelude.{◌≡◌, ◌<◌, ◌≤◌, ◌^◌, length, IfOk};
 
 use crate::Cycle;
 use base::Ts;
@@ -13,10 +13,10 @@ use std::test::Fail;
 use txn::{DrawnCommit, DrawnCommits, Write, WriteSet};
 
 // A commit that deletes one key.
-fn deletion(session: u8, timestamp: Ts, stamped: usize) -> DrawnCommit
-    ensures { result.session ≡ session }
+fn deletion(alloc: Global, session: u8, timestamp: Ts, stamped: usize) -> Result<DrawnCommit, Fault>
+    ensures { IfOk result (λ commit. commit.session ≡ session) }
 {
-    let mut writes = WriteSet::new();
+    let mut writes = WriteSet::new(alloc)?;
     if !writes.is_full() {
         writes.put(Write {
             key: Key {
@@ -27,12 +27,12 @@ fn deletion(session: u8, timestamp: Ts, stamped: usize) -> DrawnCommit
             slot: None,
         });
     }
-    DrawnCommit {
+    Ok(DrawnCommit {
         session,
         timestamp,
         writes,
         stamped,
-    }
+    })
 }
 
 // Begins a cycle over what is drawn, where that is no more than a record may pass over.
@@ -57,11 +57,11 @@ fn a_batch_takes_the_stamped_commits(rt: HostRuntime) -> Result<(), Fail> {
     let mut drawn = DrawnCommits::new(rt.alloc());
     assert!(rt; crate::is_idle(geometry, ruling, 8, false, &drawn));
     drawn.reserve()?;
-    drawn.push(deletion(2, 5, 1));
+    drawn.push(deletion(rt.alloc(), 2, 5, 1)?);
     drawn.reserve()?;
-    drawn.push(deletion(3, 6, 0));
+    drawn.push(deletion(rt.alloc(), 3, 6, 0)?);
     drawn.reserve()?;
-    drawn.push(deletion(4, 7, 0));
+    drawn.push(deletion(rt.alloc(), 4, 7, 0)?);
     assert!(rt; !crate::is_idle(geometry, ruling, 8, false, &drawn));
     let cycle = begin(rt.alloc(), geometry, ruling, 8, &drawn)?;
     assert!(rt; !cycle.is_done());
@@ -85,9 +85,9 @@ fn a_close_takes_all_that_is_drawn(rt: HostRuntime) -> Result<(), Fail> {
     let ruling = Record::new(1, 4, 12, Gaps::none(), Longs::none());
     let mut drawn = DrawnCommits::new(rt.alloc());
     drawn.reserve()?;
-    drawn.push(deletion(2, 5, 1));
+    drawn.push(deletion(rt.alloc(), 2, 5, 1)?);
     drawn.reserve()?;
-    drawn.push(deletion(4, 7, 1));
+    drawn.push(deletion(rt.alloc(), 4, 7, 1)?);
     let closing = Cycle::closing(rt.alloc(), geometry, ruling, 8, false, &drawn).finish();
     assert_eq!(rt; closing.record.gate(), 2);
     assert_eq!(rt; closing.record.persisted(), 7);
@@ -104,11 +104,11 @@ fn stamped_commits_are_covered_past_one_that_is_not(rt: HostRuntime) -> Result<(
     let ruling = Record::new(3, 0, 8, Gaps::none(), Longs::none());
     let mut drawn = DrawnCommits::new(rt.alloc());
     drawn.reserve()?;
-    drawn.push(deletion(2, 1, 0));
+    drawn.push(deletion(rt.alloc(), 2, 1, 0)?);
     drawn.reserve()?;
-    drawn.push(deletion(3, 2, 1));
+    drawn.push(deletion(rt.alloc(), 3, 2, 1)?);
     drawn.reserve()?;
-    drawn.push(deletion(4, 3, 1));
+    drawn.push(deletion(rt.alloc(), 4, 3, 1)?);
     let covered = begin(rt.alloc(), geometry, ruling, 4, &drawn)?.finish();
     assert_eq!(rt; covered.batch.from(), 3);
     assert_eq!(rt; covered.batch.commits().len(), 2);
@@ -128,7 +128,7 @@ fn a_commit_above_thirteen_unstamped_ones_waits(rt: HostRuntime) -> Result<(), F
     let mut drawn = DrawnCommits::new(rt.alloc());
     for session in 2..16 {
         drawn.reserve()?;
-        drawn.push(deletion(session, Ts::from(session) - 1, 0));
+        drawn.push(deletion(rt.alloc(), session, Ts::from(session) - 1, 0)?);
     }
     drawn.stamp(14);
     assert!(rt; crate::is_idle(geometry, ruling, 15, false, &drawn));
@@ -145,7 +145,7 @@ fn a_long_commit_is_named_until_it_is_stamped(rt: HostRuntime) -> Result<(), Fai
     let ruling = Record::new(4, 3, 8, Gaps::none(), longs);
     let mut drawn = DrawnCommits::new(rt.alloc());
     drawn.reserve()?;
-    drawn.push(deletion(2, 1, 0));
+    drawn.push(deletion(rt.alloc(), 2, 1, 0)?);
     assert!(rt; crate::is_idle(geometry, ruling, 4, false, &drawn));
     let again = begin(rt.alloc(), geometry, ruling, 4, &drawn)?.finish();
     assert_eq!(rt; again.batch.commits().len(), 0);

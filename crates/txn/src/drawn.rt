@@ -10,7 +10,7 @@ use std::alloc::Global;
 use std::marker::Model;
 
 /// A commit that is drawn and not covered.
-#[derive(Clone, Copy)]
+#[derive(Drop)]
 pub struct DrawnCommit {
     /// The number of the session that drew it.
     pub session: u8,
@@ -188,14 +188,14 @@ mod tests {
 
     #[test]
     fn commits_are_covered_as_far_as_they_are_stamped(rt: HostRuntime) -> Result<(), Fail> {
-        let mut writes = WriteSet::new();
-        writes.put(Write {
-            key: Key { table: 1, key: 5 },
-            row: None,
-            slot: None,
-        });
         let mut drawn = DrawnCommits::new(rt.alloc());
         for (session, timestamp) in [(2, 8), (3, 9)] {
+            let mut writes = WriteSet::new(rt.alloc())?;
+            writes.put(Write {
+                key: Key { table: 1, key: 5 },
+                row: None,
+                slot: None,
+            });
             drawn.reserve()?;
             drawn.push(DrawnCommit {
                 session,
