@@ -127,15 +127,15 @@ fn commits_of(alloc: Global, reach: Ts, drawn: &[DrawnCommit]) -> Result<Vec<Com
     let mut commits = Vec::with_capacity(alloc, drawn.len())?;
     for commit in drawn {
         if is_chosen(reach, commit) {
-            commits.push(commit_of(alloc, *commit)?)?;
+            commits.push(commit_of(alloc, commit)?)?;
         }
     }
     Ok(commits)
 }
 
 // The commit of a transaction that writes this.
-fn commit_of(alloc: Global, drawn: DrawnCommit) -> Result<Commit, AllocError>
-    ensures { IfOk result (λ commit. commit ≡ commit_of drawn) }
+fn commit_of(alloc: Global, drawn: &DrawnCommit) -> Result<Commit, AllocError>
+    ensures { IfOk result (λ commit. commit ≡ commit_of drawn.now) }
 {
     let mut rows = Vec::with_capacity(alloc, drawn.writes.len())?;
     for write in drawn.writes.as_slice() {

@@ -3,6 +3,9 @@ use Rattle.std.proofs.Common.{◌≡◌, ◌≢◌, ◌↔◌, ℕ, zero, suc, �
 use Rattle.std.specs.Prelude.{Option, Some, None, is_some, is_none, find, slice_get, All}
 use Rattle.std.proofs.lemmas.Bool.Decides.{nat_tests}
 use Rattle.txn.specs.declared.drawn.DrawnCommit.{DrawnCommit}
+use Rattle.snapshot.specs.Snapshots.{Seen}
+use Rattle.txn.specs.declared.transaction.Transaction.{Transaction}
+use Rattle.txn.specs.declared.transaction.Transaction.TheVariants.{Active}
 use Rattle.txn.specs.declared.write.Write.{Write}
 use Rattle.std.proofs.lemmas.List.{append-nil}
 use Rattle.std.proofs.lemmas.List.Elements.{All-nil, All-cons}
@@ -42,3 +45,7 @@ none-left {X} xs i none = by (nat_lt i (length xs)) refl
         past [] i none lt = omega (arith, lt)
         past (x ∷ xs) zero none lt = absurd (cc none)
         past (x ∷ xs) (suc i) none lt = past xs i none (omega (arith, lt))
+
+-- an Active transaction has one snapshot and one list of writes
+pub one-active : (t : Option Transaction) (a b : Seen) (ws vs : List Write) → t ≡ Some (Active a ws) → t ≡ Some (Active b vs) → (a ≡ b) × (ws ≡ vs)
+one-active t a b ws vs here there = (cc (here, there), cc (here, there))

@@ -1,6 +1,5 @@
 use crate::sessions::Sessions;
 use base::step::SessionReply;
-use txn::{Transaction, WriteSet};
 
 impl Sessions {
     ghost use Rattle.base.specs.declared.step.SessionStep.TheVariants.{Begin};
@@ -11,11 +10,7 @@ impl Sessions {
         requires shown { ∥ HoldsSome self.old ∥₁ }
         ensures step { Takes self.old self.new Begin result }
     {
-        let transaction = Transaction::Active {
-            snapshot: self.numbers.snapshot(),
-            writes: WriteSet::new(),
-        };
-        match self.transactions.begin(transaction) {
+        match self.transactions.begin(self.numbers.snapshot()) {
             Ok(number) => SessionReply::Began(number),
             Err(fault) => SessionReply::Refused(fault),
         }

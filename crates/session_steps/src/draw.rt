@@ -17,9 +17,10 @@ use snapshot::Snapshot;
 use txn::{DrawnCommit, Transaction, WriteSet};
 
 impl Sessions {
-    ghost use Rattle.std.specs.Prelude.{◌≢◌, ◌+◌, ◌*◌, ◌^◌, nat_eq, nat_le, false, find, map, [], Some, None};
+    ghost use Rattle.std.specs.Prelude.{◌≢◌, ◌+◌, ◌*◌, ◌^◌, nat_eq, nat_le, false, List, [], Some, None};
     ghost use Rattle.base.specs.declared.step.SessionStep.TheVariants.{Draw};
     ghost use Rattle.snapshot.specs.Snapshots.{Seen};
+    ghost use Rattle.txn.specs.declared.write.Write.{Write};
     ghost use Rattle.txn.specs.Transactions.{transaction_at};
     ghost use Rattle.txn.specs.declared.transaction.Transaction.TheVariants.{Active as IsActiveWith};
     ghost use Rattle.session_steps.specs.Steps.{HoldsSome, Takes};
@@ -46,22 +47,23 @@ impl Sessions {
         if self.numbers.is_near_limit() {
             return SessionReply::Refused(Fault::TimestampsOut);
         }
-        let writes = *active.writes;
-        self.draw_next(session, writes)
+        self.draw_next(session)
     }
 
     // Draws the next timestamp, against which nothing stands but want of memory. The growths come before any change: room for the
     // keys in the index, and for the commit among those that are drawn. There is room for the lines since the writes were put.
-    fn draw_next(&mut self, session: u8, writes: WriteSet) -> SessionReply
+    fn draw_next(&mut self, session: u8) -> SessionReply
         requires shown { ∥ HoldsSome self.old ∥₁ }
-        requires active { (snapshot : Seen) × (transaction_at self.old.transactions session ≡ Some (IsActiveWith snapshot writes)) × (conflict_in self.old.index snapshot writes ≡ None) }
-        requires numbered { session < 64 }
-        requires written { writes ≢ [] }
+        requires active { (snapshot : Seen) (writes : List Write) → transaction_at self.old.transactions session ≡ Some (IsActiveWith snapshot writes) → (writes ≢ []) × (conflict_in self.old.index snapshot writes ≡ None) }
         requires window { nat_eq self.old.numbers.next self.old.numbers.record.dirty ≡ false }
         requires early { nat_le (2 ^ 62) (self.old.numbers.next + 2 * self.old.numbers.geometry.window) ≡ false }
         ensures step { Takes self.old self.new (Draw session) result }
     {
-        match reserve_keys(&mut self.index, &writes) {
+        let writes = match active_in(&self.transactions, session) {
+            Ok(active) => active.writes,
+            Err(fault) => return SessionReply::Refused(fault),
+        };
+        match reserve_keys(&mut self.index, writes) {
             Ok(()) => {}
             Err(fault) => return SessionReply::Refused(fault),
         }
@@ -74,12 +76,11 @@ impl Sessions {
             session,
             self.numbers.geometry,
             &self.index,
-            &writes,
+            writes,
         );
         let timestamp = self.numbers.draw();
-        note_draws(&mut self.index, &writes, timestamp);
-        self.transactions
-            .set(session, Transaction::Drawn(timestamp));
+        note_draws(&mut self.index, writes, timestamp);
+        let writes = self.transactions.draw(session, timestamp);
         self.drawn.push(DrawnCommit {
             session,
             timestamp,

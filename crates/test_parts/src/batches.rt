@@ -1,5 +1,5 @@
 //! Which drawn commits a batch takes, what its record says, and what a close takes.
-ghost use Rattle.std.specs.Prelude.{◌≡◌, ◌<◌, ◌≤◌, ◌^◌, All};
+ghost use Rattle.std.specs.Prelude.{◌≡◌, ◌<◌, ◌≤◌, ◌^◌, All, IfOk};
 
 use base::Ts;
 use base::fault::Fault;
@@ -15,10 +15,10 @@ use std::test::Fail;
 use txn::{DrawnCommit, DrawnCommits, Write, WriteSet};
 
 // A commit that deletes one key.
-fn deletion(session: u8, timestamp: Ts, stamped: usize) -> DrawnCommit
-    ensures { result.session ≡ session }
+fn deletion(alloc: Global, session: u8, timestamp: Ts, stamped: usize) -> Result<DrawnCommit, Fault>
+    ensures { IfOk result (λ commit. commit.session ≡ session) }
 {
-    let mut writes = WriteSet::new();
+    let mut writes = WriteSet::new(alloc)?;
     if !writes.is_full() {
         writes.put(Write {
             key: Key {
@@ -29,12 +29,12 @@ fn deletion(session: u8, timestamp: Ts, stamped: usize) -> DrawnCommit
             slot: None,
         });
     }
-    DrawnCommit {
+    Ok(DrawnCommit {
         session,
         timestamp,
         writes,
         stamped,
-    }
+    })
 }
 
 // These commits, drawn in this order: of each the session, the timestamp and how many of its writes are stamped.
@@ -44,7 +44,7 @@ fn drawn_by(alloc: Global, commits: &[(u8, Ts, usize)]) -> Result<DrawnCommits, 
     let mut drawn = DrawnCommits::new(alloc);
     for (session, timestamp, stamped) in commits {
         drawn.reserve()?;
-        drawn.push(deletion(*session, *timestamp, *stamped));
+        drawn.push(deletion(alloc, *session, *timestamp, *stamped)?);
     }
     Ok(drawn)
 }
@@ -147,7 +147,7 @@ fn a_commit_above_thirteen_unstamped_ones_waits(rt: HostRuntime) -> Result<(), F
     let mut drawn = DrawnCommits::new(rt.alloc());
     for session in 2..16 {
         drawn.reserve()?;
-        drawn.push(deletion(session, Ts::from(session) - 1, 0));
+        drawn.push(deletion(rt.alloc(), session, Ts::from(session) - 1, 0)?);
     }
     drawn.stamp(14);
     assert!(rt; is_idle(geometry, ruling, 15, false, &drawn));

@@ -11,11 +11,8 @@ use txn::{DrawnCommit, DrawnCommits, Transaction, Transactions, Write, WriteSet}
 fn a_session_takes_the_lowest_number_that_is_free(rt: HostRuntime) -> Result<(), Fail> {
     let mut transactions = Transactions::new(rt.alloc());
     let snapshot = Snapshot::new(7, GapList::none(), Longs::none());
-    let first = transactions.begin(Transaction::Active {
-        snapshot,
-        writes: WriteSet::new(),
-    })?;
-    let second = transactions.begin(Transaction::ReadOnly)?;
+    let first = transactions.begin(snapshot)?;
+    let second = transactions.begin(snapshot)?;
     assert_eq!(rt; first, 2);
     assert_eq!(rt; second, 3);
     transactions.write(
@@ -33,11 +30,12 @@ fn a_session_takes_the_lowest_number_that_is_free(rt: HostRuntime) -> Result<(),
         }
         _ => assert!(rt; false),
     }
-    transactions.set(first, Transaction::Drawn(8));
+    assert_eq!(rt; transactions.draw(first, 8).len(), 1);
     assert!(rt; matches!(transactions.get(first), Some(Transaction::Drawn(8))));
+    transactions.set(first, Transaction::ReadOnly);
     transactions.end(first);
     assert!(rt; transactions.get(first).is_none());
-    assert_eq!(rt; transactions.begin(Transaction::ReadOnly)?, 2);
+    assert_eq!(rt; transactions.begin(snapshot)?, 2);
     Ok(())
 }
 
@@ -52,14 +50,14 @@ fn passed_over(drawn: &DrawnCommits, reach: Ts) -> Longs {
 
 #[test]
 fn commits_are_covered_as_far_as_they_are_stamped(rt: HostRuntime) -> Result<(), Fail> {
-    let mut writes = WriteSet::new();
-    writes.put(Write {
-        key: Key { table: 1, key: 5 },
-        row: None,
-        slot: None,
-    });
     let mut drawn = DrawnCommits::new(rt.alloc());
     for (session, timestamp) in [(2, 8), (3, 9)] {
+        let mut writes = WriteSet::new(rt.alloc())?;
+        writes.put(Write {
+            key: Key { table: 1, key: 5 },
+            row: None,
+            slot: None,
+        });
         drawn.reserve()?;
         drawn.push(DrawnCommit {
             session,

@@ -1,5 +1,4 @@
 pub mod WriteSets
-pub mod Fixed
 pub mod Tables
 pub mod Transactions
 pub mod InFlight

@@ -10,7 +10,7 @@ use std::alloc::Global;
 use std::marker::Model;
 
 /// A commit that is drawn and not covered.
-#[derive(Clone, Copy)]
+#[derive(Drop)]
 pub struct DrawnCommit {
     /// The number of the session that drew it.
     pub session: u8,

@@ -2,6 +2,7 @@ use crate::write::Write;
 use crate::write_set::WriteSet;
 use base::Ts;
 use snapshot::Snapshot;
+use std::mem;
 
 /// An open transaction.
 #[derive(Drop)]
@@ -21,7 +22,7 @@ impl Transaction {
     ghost use Rattle.std.specs.Prelude.{◌≡◌, List};
     ghost use Rattle.snapshot.specs.Snapshots.{Seen};
     ghost use Rattle.txn.specs.declared.write.Write.{Write};
-    ghost use Rattle.txn.specs.declared.transaction.Transaction.TheVariants.{Active};
+    ghost use Rattle.txn.specs.declared.transaction.Transaction.TheVariants.{Active, Drawn};
     ghost use Rattle.txn.specs.WriteSets.{HasRoomFor, with_write_at};
 
     // Writes in place, where it is Active.
@@ -32,6 +33,18 @@ impl Transaction {
         match self {
             Transaction::Active { writes, .. } => writes.put(write),
             _ => {}
+        }
+    }
+
+    // An Active one draws this timestamp. Its writes are moved out.
+    pub(crate) fn draw(&mut self, timestamp: Ts) -> WriteSet
+        requires { (snapshot : Seen) × (writes : List Write) × (self.old ≡ Active snapshot writes) }
+        ensures writes { (snapshot : Seen) × (self.old ≡ Active snapshot result) }
+        ensures drawn { self.new ≡ Drawn timestamp }
+    {
+        match mem::replace(self, Transaction::Drawn(timestamp)) {
+            Transaction::Active { writes, .. } => writes,
+            _ => unreachable!(),
         }
     }
 }

@@ -3,16 +3,21 @@ ghost use Rattle.txn.specs.Tables.{entry_at};
 
 use crate::transaction::Transaction;
 use crate::write::Write;
+use crate::write_set::WriteSet;
+use base::Ts;
 use base::fault::Fault;
 use slab::Slab;
+use snapshot::Snapshot;
 use std::alloc::Global;
 use std::marker::Model;
+use std::mem;
 
 /// The open transactions, each under the number of its session: at most 62, from 2.
 #[derive(Drop)]
 pub struct Transactions {
     slab: Slab<Transaction>,
     places: [Option<usize>; 62],
+    alloc: Global,
 }
 
 impl Model for Transactions {
@@ -47,12 +52,12 @@ fn place_of(places: &[Option<usize>; 62], number: u8) -> Option<usize>
 }
 
 impl Transactions {
-    ghost use Rattle.std.specs.Prelude.{ℕ, ◌⊎◌, Some, None, IsSome, IfOk, IfErr, IfNone, option_copied};
+    ghost use Rattle.std.specs.Prelude.{ℕ, ◌⊎◌, [], Some, None, IsSome, IfOk, IfErr, IfNone, option_copied};
     ghost use Rattle.base.specs.declared.fault.Fault.TheVariants.{SessionsFull, OutOfMemory};
     ghost use Rattle.std.specs.Prelude.{List};
     ghost use Rattle.snapshot.specs.Snapshots.{Seen};
     ghost use Rattle.txn.specs.declared.write.Write.{Write};
-    ghost use Rattle.txn.specs.declared.transaction.Transaction.TheVariants.{Active};
+    ghost use Rattle.txn.specs.declared.transaction.Transaction.TheVariants.{Active, Drawn};
     ghost use Rattle.txn.specs.WriteSets.{HasRoomFor, with_write_at};
     ghost use Rattle.txn.specs.Transactions.{transaction_at, Sets, IsLowestFree, IsFull};
 
@@ -63,6 +68,7 @@ impl Transactions {
         Transactions {
             slab: Slab::new(alloc),
             places: [None; 62],
+            alloc,
         }
     }
 
@@ -88,17 +94,21 @@ impl Transactions {
         self.slab.get(place)
     }
 
-    /// Opens a transaction under the lowest number that is free.
-    pub fn begin(&mut self, transaction: Transaction) -> Result<u8, Fault>
+    /// Opens a transaction of this snapshot under the lowest number that is free. Its memory is taken here.
+    pub fn begin(&mut self, snapshot: Snapshot) -> Result<u8, Fault>
         ensures number { IfOk result (λ n. IsLowestFree self.old n) }
-        ensures opened { IfOk result (λ n. Sets self.old self.new n (Some transaction)) }
+        ensures opened { IfOk result (λ n. Sets self.old self.new n (Some (Active snapshot []))) }
         ensures same { IfErr result (λ fault. self.new ≡ self.old) }
         ensures fault { IfErr result (λ fault. (fault ≡ SessionsFull) × IsFull self.old ⊎ (fault ≡ OutOfMemory) × ((n : ℕ) × IsLowestFree self.old n)) }
     {
         let Some(number) = self.free() else {
             return Err(Fault::SessionsFull);
         };
-        match self.slab.insert(transaction) {
+        let writes = match WriteSet::new(self.alloc) {
+            Ok(writes) => writes,
+            Err(fault) => return Err(fault),
+        };
+        match self.slab.insert(Transaction::Active { snapshot, writes }) {
             Ok(key) => {
                 self.places[(number - FIRST) as usize] = Some(key);
                 Ok(number)
@@ -114,7 +124,7 @@ impl Transactions {
     {
         if let Some(place) = place_of(&self.places, number) {
             if let Some(found) = self.slab.get_mut(place) {
-                *found = transaction;
+                drop(mem::replace(found, transaction));
             }
         }
     }
@@ -128,6 +138,21 @@ impl Transactions {
             self.slab.try_remove(place);
             self.places[(number - FIRST) as usize] = None;
         }
+    }
+
+    /// An Active transaction draws this timestamp. Its writes are moved out.
+    pub fn draw(&mut self, number: u8, timestamp: Ts) -> WriteSet
+        requires { (snapshot : Seen) × (writes : List Write) × (transaction_at self.old number ≡ Some (Active snapshot writes)) }
+        ensures writes { (snapshot : Seen) × (transaction_at self.old number ≡ Some (Active snapshot result)) }
+        ensures drawn { Sets self.old self.new number (Some (Drawn timestamp)) }
+    {
+        let Some(place) = place_of(&self.places, number) else {
+            unreachable!()
+        };
+        let Some(found) = self.slab.get_mut(place) else {
+            unreachable!()
+        };
+        found.draw(timestamp)
     }
 
     /// Writes in place, for an Active transaction with room for it.

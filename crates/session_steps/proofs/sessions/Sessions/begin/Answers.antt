@@ -5,7 +5,7 @@ use Rattle.session_steps.proofs.OneTransaction.{begins, begins-not}
 use Rattle.session_steps.proofs.sessions.Sessions.begin.Goals as goal
 
 pub returns-in-Ok : goal.returns-in-Ok
-returns-in-Ok c = record { step = λ h holds. begins c.args.self.now c.begin.new.self c.in-Ok.number _ h c.in-Ok.ensures.number c.snapshot.ensures (rw (← c.new.ensures) c.in-Ok.ensures.opened) holds }
+returns-in-Ok c = record { step = λ h holds. begins c.args.self.now c.begin.new.self c.in-Ok.number _ h c.in-Ok.ensures.number c.snapshot.ensures c.in-Ok.ensures.opened holds }
 
 pub returns-in-Err : goal.returns-in-Err
 returns-in-Err c = record { step = λ h holds. rw c.in-Err.ensures.same (begins-not c.args.self.now c.in-Err.fault h c.in-Err.ensures.fault holds) }

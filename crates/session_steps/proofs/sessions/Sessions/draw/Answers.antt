@@ -5,9 +5,10 @@ use Rattle.std.proofs.Common.{true, false, refl, sym, ◌∙◌}
 use Rattle.std.specs.Prelude.{Some, None}
 use Rattle.base.specs.declared.fault.Fault.TheVariants.{Conflict, WindowFull, TimestampsOut}
 use Rattle.base.specs.declared.step.SessionStep.TheVariants.{Draw}
+use Rattle.session_steps.specs.Drawing.{conflict_in}
 use Rattle.session_steps.proofs.Draws.{draw-asks, draws-nothing}
 use Rattle.session_steps.proofs.OneTransaction.{inactive, refuses}
-use Rattle.session_steps.proofs.CodeTests.{nothing-is, some-is}
+use Rattle.session_steps.proofs.CodeTests.{nothing-is, some-is, one-active}
 use Rattle.session_steps.proofs.sessions.Sessions.draw.Goals as goal
 
 pub returns-in-Err : goal.returns-in-Err
@@ -41,3 +42,8 @@ returns-then-is_near_limit c = record {
 
 pub is_near_limit-requires : goal.is_near_limit-requires
 is_near_limit-requires c = ∥∥₁_elim c.requires.shown le_prop (λ shown. next-below c.args.self.now shown.0 shown.1)
+
+pub draw_next-requires-clause-active : goal.draw_next-requires-clause-active
+draw_next-requires-clause-active c snapshot writes at =
+    let same = one-active _ _ _ _ _ c.in-Ok.ensures.ok at in
+    (λ none. some-is _ _ c.is_empty.ensures c.if-is_empty.false (same.1 ∙ none), (λ i. conflict_in c.args.self.now.index (sym same.0 i) (sym same.1 i)) ∙ sym c.in_default.ensures)

@@ -6,36 +6,51 @@ use Rattle.std.proofs.Math.Logic.{∥∥₁_elim}
 use Rattle.dirty_table.specs.Touches.{promised_to}
 use Rattle.txn.specs.declared.drawn.DrawnCommit.{DrawnCommit}
 use Rattle.txn.specs.declared.transaction.Transaction.{Transaction}
+use Rattle.txn.specs.declared.write.Write.{Write}
+use Rattle.base.specs.declared.step.SessionStep.TheVariants.{Draw}
 use Rattle.session_steps.specs.Shows.{HasLines}
 use Rattle.session_steps.proofs.Draws.{draws, draws-not}
 use Rattle.session_steps.proofs.Noted.{fits-lines}
+use Rattle.session_steps.proofs.OneTransaction.{inactive}
+use Rattle.session_steps.proofs.CodeTests.{one-active}
 use Rattle.session_steps.proofs.sessions.Sessions.draw_next.Goals as goal
 
 pub touch_lines-requires-clause-fits : goal.touch_lines-requires-clause-fits
-touch_lines-requires-clause-fits c = ∥∥₁_elim c.requires.shown (Bool-set _ _) (λ shown. fits-lines c.args.self.now shown.0 c.args.session c.requires.active.0 c.args.writes c.reserve_keys.new.index shown.1 c.requires.active.1 c.reserve_keys.ensures.entries)
+touch_lines-requires-clause-fits c = ∥∥₁_elim c.requires.shown (Bool-set _ _) (λ shown. fits-lines c.args.self.now shown.0 c.args.session _ _ c.reserve_keys.new.index shown.1 c.in-Ok.ensures.ok c.reserve_keys.ensures.entries)
 
 pub touch_lines-requires-clause-room : goal.touch_lines-requires-clause-room
-touch_lines-requires-clause-room c = ∥∥₁_elim c.requires.shown le_prop (λ shown. subst (λ (t : Option Transaction). HasLines (promised_to c.args.self.now.dirty c.args.session) t) c.requires.active.1 (shown.1.agrees.room c.args.session))
+touch_lines-requires-clause-room c = ∥∥₁_elim c.requires.shown le_prop (λ shown. subst (λ (t : Option Transaction). HasLines (promised_to c.args.self.now.dirty c.args.session) t) c.in-Ok.ensures.ok (shown.1.agrees.room c.args.session))
 
 pub returns-in-Err : goal.returns-in-Err
-returns-in-Err c = record {
-  step = λ h holds.
-      draws-not c.args.self.now h c.args.session _ _ c.args.self.now.drawn c.reserve_keys.new.index c.in-Err.fault holds c.requires.active.1 c.requires.written c.requires.active.2 c.requires.window c.requires.early refl c.reserve_keys.ensures.entries
-      c.reserve_keys.ensures.kept c.in-Err.ensures.fault;
-}
+returns-in-Err c = record { step = λ h holds. inactive c.args.self.now (Draw c.args.session) c.args.session c.in-Err.fault h refl refl c.in-Err.ensures.fault holds }
+
+pub returns-in-Err-reserve_keys : goal.returns-in-Err-reserve_keys
+returns-in-Err-reserve_keys c =
+    let active = c.requires.active _ _ c.in-Ok.ensures.ok in
+    record {
+      step = λ h holds.
+          draws-not c.args.self.now h c.args.session _ _ c.args.self.now.drawn c.reserve_keys.new.index c.in-Err-reserve_keys.fault holds c.in-Ok.ensures.ok active.0 active.1 c.requires.window c.requires.early refl c.reserve_keys.ensures.entries
+          c.reserve_keys.ensures.kept c.in-Err-reserve_keys.ensures.fault;
+    }
 
 pub returns-in-Err-reserve : goal.returns-in-Err-reserve
-returns-in-Err-reserve c = record {
-  step = λ h holds.
-      draws-not c.args.self.now h c.args.session _ _ c.reserve.new.self c.reserve_keys.new.index c.in-Err-reserve.fault holds c.requires.active.1 c.requires.written c.requires.active.2 c.requires.window c.requires.early c.reserve.ensures.commits
-      c.reserve_keys.ensures.entries c.reserve_keys.ensures.kept c.in-Err-reserve.ensures.fault;
-}
+returns-in-Err-reserve c =
+    let active = c.requires.active _ _ c.in-Ok.ensures.ok in
+    record {
+      step = λ h holds.
+          draws-not c.args.self.now h c.args.session _ _ c.reserve.new.self c.reserve_keys.new.index c.in-Err-reserve.fault holds c.in-Ok.ensures.ok active.0 active.1 c.requires.window c.requires.early c.reserve.ensures.commits
+          c.reserve_keys.ensures.entries c.reserve_keys.ensures.kept c.in-Err-reserve.ensures.fault;
+    }
 
 pub returns : goal.returns
-returns c = record {
-  step = λ h holds.
-      draws c.args.self.now h c.args.session c.draw-timestamp.result c.requires.active.0 c.args.writes c.draw-timestamp.new.self c.set.new.self c.push.new.self c.reserve_keys.new.index c.note_draws.new.index c.touch_lines.new.dirty
-      holds c.requires.active.1 c.requires.written c.requires.active.2 c.requires.window c.requires.early c.draw-timestamp.ensures.timestamp c.draw-timestamp.ensures.numbers c.set.ensures
-      (c.push.ensures ∙ ap (λ (ds : List DrawnCommit). ds ++ record { session = c.args.session; timestamp = c.draw-timestamp.result; writes = c.args.writes; stamped = 0 } ∷ []) c.reserve.ensures.commits)
-      c.reserve_keys.ensures.entries c.reserve_keys.ensures.kept c.in-Ok.ensures.room c.note_draws.ensures.entries c.note_draws.ensures.rooms c.touch_lines.ensures;
-}
+returns c =
+    let active = c.requires.active _ _ c.in-Ok.ensures.ok in
+    let moved = one-active _ _ _ _ _ c.draw-writes.ensures.writes.1 c.in-Ok.ensures.ok in
+    record {
+      step = λ h holds.
+          draws c.args.self.now h c.args.session c.draw-timestamp.result c.in-Ok.active.snapshot.now c.in-Ok.active.writes.now c.draw-timestamp.new.self c.draw-writes.new.self c.push.new.self c.reserve_keys.new.index c.note_draws.new.index c.touch_lines.new.dirty
+          holds c.in-Ok.ensures.ok active.0 active.1 c.requires.window c.requires.early c.draw-timestamp.ensures.timestamp c.draw-timestamp.ensures.numbers c.draw-writes.ensures.drawn
+          (c.push.ensures ∙ ap (λ (ds : List DrawnCommit). ds ++ record { session = c.args.session; timestamp = c.draw-timestamp.result; writes = c.draw-writes.result; stamped = 0 } ∷ []) c.reserve.ensures.commits
+          ∙ ap (λ (ws : List Write). c.args.self.now.drawn.commits ++ record { session = c.args.session; timestamp = c.draw-timestamp.result; writes = ws; stamped = 0 } ∷ []) moved.1)
+          c.reserve_keys.ensures.entries c.reserve_keys.ensures.kept c.in-Ok-reserve_keys.ensures.room c.note_draws.ensures.entries c.note_draws.ensures.rooms c.touch_lines.ensures;
+    }
