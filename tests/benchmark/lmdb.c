@@ -1,4 +1,4 @@
-// LMDB: one tree by an integer key, and no sync.
+// LMDB: one tree by an integer key, and no sync unless BENCHMARK_SYNC is set.
 #include "work.h"
 #include <lmdb.h>
 
@@ -20,10 +20,10 @@ static void put(MDB_txn *it, uint64_t key, uint64_t number) {
 void store_open(const char *folder, uint64_t keys) {
     if (mdb_env_create(&env) || mdb_env_set_mapsize(env, 1ul << 30) || mdb_env_set_maxreaders(env, MOST_READERS))
         fail("the environment");
-    if (mdb_env_open(env, folder, MDB_NOSYNC, 0600)) fail("opening");
+    if (mdb_env_open(env, folder, getenv("BENCHMARK_SYNC") ? 0 : MDB_NOSYNC, 0600)) fail("opening");
     MDB_txn *it = started(0);
     if (mdb_dbi_open(it, NULL, MDB_INTEGERKEY, &tree)) fail("the tree");
-    for (uint64_t key = 0; key < keys; key++) put(it, key, key);
+    for (uint64_t key = 0; key < keys; key++) put(it, key, ~key);
     if (mdb_txn_commit(it)) fail("a commit");
 }
 

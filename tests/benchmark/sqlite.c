@@ -1,4 +1,4 @@
-// SQLite: one table by an integer key, a log of its own (WAL), and no sync.
+// SQLite: one table by an integer key, a log of its own (WAL), and no sync unless BENCHMARK_SYNC is set.
 #include "work.h"
 #include <sqlite3.h>
 
@@ -12,7 +12,9 @@ static sqlite3 *connect_to(void) {
     sqlite3 *it;
     if (sqlite3_open(path, &it)) fail("opening");
     sqlite3_busy_timeout(it, 10000);
-    if (sqlite3_exec(it, "PRAGMA journal_mode=WAL; PRAGMA synchronous=OFF", 0, 0, 0)) fail("a pragma");
+    const char *pragmas = getenv("BENCHMARK_SYNC") ? "PRAGMA journal_mode=WAL; PRAGMA synchronous=FULL"
+                                                   : "PRAGMA journal_mode=WAL; PRAGMA synchronous=OFF";
+    if (sqlite3_exec(it, pragmas, 0, 0, 0)) fail("a pragma");
     return it;
 }
 
@@ -41,7 +43,7 @@ void store_open(const char *folder, uint64_t keys) {
     commit = prepared(writer, "COMMIT");
     sqlite3_stmt *insert = prepared(writer, "INSERT INTO rows VALUES (?1, ?2)");
     step(begin);
-    for (uint64_t key = 0; key < keys; key++) put(insert, key, key);
+    for (uint64_t key = 0; key < keys; key++) put(insert, key, ~key);
     step(commit);
     update = prepared(writer, "UPDATE rows SET row = ?2 WHERE key = ?1");
 }

@@ -14,7 +14,7 @@ def run(kv, folder, _rng, most):
     base, file = os.path.join(folder, "base.img"), os.path.join(folder, "fail.img")
     if os.path.exists(base):
         os.remove(base)
-    subprocess.run([kv, base], input="put 1 1 a1\nput 1 2 a2\n", text=True, stdout=subprocess.DEVNULL, check=True)
+    subprocess.run([kv, base], input="put 1 1 a1\nput 1 2 a2\n", text=True, stdout=subprocess.DEVNULL, stderr=subprocess.DEVNULL, check=True)
     models = [FIRST]
     for writes in STEPS:
         models.append({**models[-1], **writes})

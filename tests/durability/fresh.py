@@ -13,7 +13,7 @@ def run(kv, folder, rng, kills, most_seconds=0.05):
     for kill in range(kills):
         if os.path.exists(file):
             os.remove(file)
-        child = subprocess.Popen([kv, file], stdin=subprocess.PIPE, stdout=subprocess.PIPE, text=True)
+        child = subprocess.Popen([kv, file], stdin=subprocess.PIPE, stdout=subprocess.PIPE, stderr=subprocess.DEVNULL, text=True)
         time.sleep(rng.uniform(0.0, most_seconds))
         child.kill()
         output = child.stdout.read()

@@ -19,7 +19,7 @@ def live(kv, file, transactions, delay, from_ready):
     transactions."""
     sent = [transactions.next() for _ in range(400)]
     text = "".join("\n".join(lines) + "\n" for _, lines in sent)
-    child = subprocess.Popen([kv, file], stdin=subprocess.PIPE, stdout=subprocess.PIPE, text=True)
+    child = subprocess.Popen([kv, file], stdin=subprocess.PIPE, stdout=subprocess.PIPE, stderr=subprocess.STDOUT, text=True)
 
     def feed():
         try:
@@ -47,7 +47,7 @@ def run(kv, folder, rng, kills, most_seconds=0.6):
     for kill in range(kills):
         delay = rng.uniform(0.0, most_seconds * rng.choice([0.05, 0.2, 1.0]))
         output, sent = live(kv, file, transactions, delay, rng.random() < 0.6)
-        if "refused" in output:
+        if "kv: " in output:
             raise Lost(f"kill {kill}: {output[-200:]}")
         done = acknowledged(output)
         early += "ready" not in output

@@ -1,6 +1,7 @@
-"""Kills kv, takes the power from it and fails its writes, and looks for each row that it acknowledged.
+"""Kills kv, takes the power from it and fails its writes, and looks for each row that it acknowledged; and tries what people
+do to it: closed streams, a failing output, a full disk, files of others, wrong lines. The same of FILE of wbl. Its last line is `N passed, N failed`.
 
-usage: ./durability [--kv FILE] [--kills N] [--fresh N] [--power N] [--fail N] [--seed N] [--short]
+usage: ./durability [--kv FILE] [--wbl FILE] [--kills N] [--fresh N] [--power N] [--fail N] [--seed N] [--only NAME ..] [--short]
 """
 import argparse
 import os
@@ -11,8 +12,10 @@ import tempfile
 
 import fail
 import fresh
+import image
 import kill
 import power
+import shell
 from store import Lost
 
 TOP = os.path.dirname(os.path.dirname(os.path.dirname(os.path.abspath(__file__))))
@@ -27,14 +30,27 @@ def control(kv, folder, rng, images):
     raise Lost("a device that leaves out the first line of each fence wasn't found out")
 
 
+def passes(name, test):
+    """Runs a test in a folder of its own, and prints what it found."""
+    with tempfile.TemporaryDirectory() as folder:
+        try:
+            print(f"{name}: {test(folder)}", flush=True)
+            return True
+        except Lost as lost:
+            print(f"{name}: LOST: {lost}", flush=True)
+            return False
+
+
 def main():
     parser = argparse.ArgumentParser(description="Tests that what kv acknowledged is found again.")
     parser.add_argument("--kv", default=os.path.join(TOP, "bin", "kv"), help="the program")
+    parser.add_argument("--wbl", default=os.path.join(TOP, "bin", "wbl"), help="the other program")
     parser.add_argument("--kills", type=int, default=200, help="kills at random instants")
     parser.add_argument("--fresh", type=int, default=100, help="kills of a first opening")
     parser.add_argument("--power", type=int, default=500, help="images of a power failure")
     parser.add_argument("--fail", type=int, default=200, help="how many writes and how many syncs fail at most, each in a run")
     parser.add_argument("--seed", type=int, default=1)
+    parser.add_argument("--only", nargs="*", metavar="NAME", help="these tests alone, as closed_streams")
     parser.add_argument("--short", action="store_true", help="a tenth of each")
     words = parser.parse_args()
     part = 10 if words.short else 1
@@ -44,13 +60,14 @@ def main():
     else:
         print("strace is missing: no power failures, and no failing writes")
     kv = os.path.abspath(words.kv)
-    with tempfile.TemporaryDirectory() as folder:
-        for name, test, count in tests:
-            try:
-                print(f"{name}: {test(kv, folder, random.Random(words.seed), count)}", flush=True)
-            except Lost as lost:
-                print(f"{name}: LOST: {lost}")
-                sys.exit(1)
+    tests = [(name, lambda folder, test=test, count=count: test(kv, folder, random.Random(words.seed), count)) for name, test, count in tests]
+    tests += [(case.__name__, lambda folder, case=case: case(kv, folder)) for case in shell.CASES]
+    wbl = os.path.abspath(words.wbl)
+    tests += [(f"wbl_{case.__name__}", lambda folder, case=case: case(wbl, kv, folder)) for case in image.CASES]
+    failed = sum(not passes(name, test) for name, test in tests if not words.only or name in words.only)
+    chosen = sum(not words.only or name in words.only for name, _ in tests)
+    print(f"{chosen - failed} passed, {failed} failed")
+    sys.exit(failed > 0)
 
 
 main()

@@ -97,7 +97,7 @@ def run(kv, folder, rng, images, transactions=60, leave_out=False):
     sent = [source.next() for _ in range(transactions)]
     text = "".join("\n".join(lines) + "\n" for _, lines in sent)
     subprocess.run(["strace", "-f", "-xx", "-s", "5000000", "-e", CALLS, "-o", trace, kv, file],
-                   input=text, text=True, stdout=subprocess.DEVNULL, check=True)
+                   input=text, text=True, stdout=subprocess.DEVNULL, stderr=subprocess.DEVNULL, check=True)
     events = events_of(trace, file)
     if leave_out:
         events = without_first_lines(events)

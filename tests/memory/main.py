@@ -1,9 +1,10 @@
 """Refuses each request for memory in turn of the built programs, and looks at status, output and file.
 
-usage: ./memory [--wbl FILE] [--runs FILE] [--jobs N] [--short]
+usage: ./memory [--wbl FILE] [--runs FILE] [--kv FILE] [--jobs N] [--short]
 
 It runs `wbl lives` over the scripts of lives in crates/test_scripts/data; the commands of wbl over one file that the other scripts
-there name; `wbl threads`; and the lives and the board of test_hostile_lives, with memory for all stores of the device and without. Of each it refuses the first request, then the second alone, and so on to the last; then, of wbl, the first
+there name; `wbl threads`; and the lives and the board of test_hostile_lives, with memory for all stores of the device and without; and kv over a new and over
+an old file. Of each it refuses the first request, then the second alone, and so on to the last; then, of wbl, the first
 and all later ones, and so on. It fails at a crash, a run that doesn't end, a row that was never put, a first line that differs
 and isn't OutOfMemory, a file that changed where the status isn't 0 or that isn't sound, a refusal of what takes no memory, and a
 call that doesn't go on when it is asked again. --short takes every twelfth script.
@@ -25,10 +26,15 @@ RUNS = ("one_commit", "updates_lost_twice", "conflict", "old_snapshot", "window"
 THREADS = ("format db.img", "threads db.img --sessions 2 --commits 3")
 
 
+KV_LINES = b"put 1 1 a1\nput 1 2 a2\nbegin\nput 1 3 a3\nput 1 4 a4\ncommit\nget 1 3\nscan 1 0 9\nput 1 5 a5\nfoo\n"
+KV_COMMITS = ({1: "a1"}, {2: "a2"}, {3: "a3", 4: "a4"}, {5: "a5"})
+
+
 class Programs:
-    def __init__(self, wbl, runs, library):
+    def __init__(self, wbl, runs, kv, library):
         self.wbl = wbl
         self.runs = runs
+        self.kv = kv
         self.library = library
 
 
@@ -182,6 +188,40 @@ def refuse_run(programs, name, reserved, folder):
     return counts
 
 
+def refuse_kv(programs, is_new, folder):
+    """kv over a file: what it answered committed is there, as a whole, and what it didn't isn't, but for the last of a run that failed."""
+    counts = Counter()
+    file = os.path.join(folder, "kv.img")
+    refusing.run([programs.kv, file], b"", folder)
+    before = None if is_new else bytes_of(file)
+    put_back(file, before)
+    words = [programs.kv, file]
+    whole = refusing.run(words, KV_LINES, folder)
+    put_back(file, before)
+    for number, ended in each_refusal(programs, words, KV_LINES, folder, False, counts):
+        try:
+            judge_kv(programs, ended, whole, file)
+        except judging.Wrong as wrong:
+            blame(f"kv over {'a new' if is_new else 'an old'} file", number, False, wrong)
+        counts["told"] += ended.told != whole.told
+        put_back(file, before)
+    return counts
+
+
+def judge_kv(programs, ended, whole, file):
+    judging.judge_ending(ended, whole)
+    done = sum(it.startswith("committed ") for it in ended.lines)
+    if ended.status != 1 and (ended.lines[0], ended.lines[-1]) != ("ready", "closed"):
+        raise judging.Wrong(f"{ended.lines}")
+    if ended.lines != whole.lines and ended.told == whole.told:
+        raise judging.Wrong(f"nothing is told: {ended.lines}")
+    found = refusing.run([programs.kv, file], b"scan 1 0 9\n", os.path.dirname(file))
+    rows = {int(it.split()[1]): it.split()[2] for it in found.lines if it.startswith("row ")}
+    kept = [it for it in KV_COMMITS if it.items() <= rows.items()]
+    if found.status != 0 or sum(map(len, kept)) != len(rows) or len(kept) not in ((done, done + 1) if ended.status == 1 else (done,)):
+        raise judging.Wrong(f"{done} committed, found {rows}: {found.told}")
+
+
 def in_folder(test, *given):
     folder = tempfile.mkdtemp(dir="/dev/shm" if os.path.isdir("/dev/shm") else None)
     try:
@@ -200,18 +240,23 @@ def tests(programs, part):
     yield "threads", [(refuse_threads, programs)]
     yield "asked again, with memory for stores", [(refuse_run, programs, name, True) for name in RUNS if name != "board"]
     yield "asked again", [(refuse_run, programs, name, False) for name in RUNS]
+    yield "kv", [(refuse_kv, programs, True), (refuse_kv, programs, False)]
 
 
 def main():
     parser = argparse.ArgumentParser(description=__doc__, formatter_class=argparse.RawDescriptionHelpFormatter)
     parser.add_argument("--wbl", default=os.path.join(TOP, "crates/wbl/out/wbl"), help="the program, as rt run builds it")
     parser.add_argument("--runs", default=os.path.join(TOP, "crates/test_hostile_lives/out/test_hostile_lives"), help="test_hostile_lives, the same")
+    parser.add_argument("--kv", default=os.path.join(TOP, "crates/kv/out/kv"), help="kv, the same")
+    parser.add_argument("--only", nargs="*", metavar="NAME", help="these kinds alone, as kv")
     parser.add_argument("--jobs", type=int, default=max(1, (os.cpu_count() or 2) // 2), help="runs at a time")
     parser.add_argument("--short", action="store_true")
     words = parser.parse_args()
     with tempfile.TemporaryDirectory() as place, concurrent.futures.ThreadPoolExecutor(words.jobs) as pool:
-        programs = Programs(os.path.abspath(words.wbl), os.path.abspath(words.runs), refusing.built(place))
+        programs = Programs(*map(os.path.abspath, (words.wbl, words.runs, words.kv)), refusing.built(place))
         for name, each in tests(programs, 12 if words.short else 1):
+            if words.only and name not in words.only:
+                continue
             counts = Counter()
             try:
                 for done in pool.map(lambda it: in_folder(*it), each):

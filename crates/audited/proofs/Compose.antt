@@ -10,11 +10,12 @@ use Rattle.base.specs.declared.step.Reply.{Reply}
 use Rattle.base.specs.declared.step.Reply.TheVariants.{Rows, Refused}
 use Rattle.base.specs.Commits.{Commit}
 use Rattle.base.specs.Images.{Image, ruling, opening_fault}
-use Rattle.base.specs.Openings.{OpensAs}
+use Rattle.machine.specs.Openings.{OpensAs}
 use Rattle.base.specs.Stands.{Stands}
-use Rattle.base.specs.Machine.{State, Hand, Cover, IsRows, Stepped, Noted, note_of, StandsAt, StandsWithin, covers_at, of_hand, present}
-use Rattle.base.proofs.Runs.{Noted-append, memory_unchanged}
-use Rattle.base.proofs.Notes.{rows-unchanged}
+use Rattle.base.specs.Replies.{IsRows, note_of}
+use Rattle.machine.specs.Machine.{State, Hand, Cover, Stepped, Noted, StandsAt, StandsWithin, covers_at, of_hand, present}
+use Rattle.machine.proofs.Runs.{Noted-append, memory_unchanged}
+use Rattle.machine.proofs.Notes.{rows-unchanged}
 use Rattle.base.proofs.Histories.{history_in, sound-stands, opens-sound}
 use Rattle.pmem.specs.Device.{Device, IsOrderly}
 use Rattle.pmem.specs.Words.{LeavesOnly, HasNoFailure}

@@ -8,8 +8,9 @@ use Rattle.base.specs.declared.step.Reply.TheVariants.{Refused}
 use Rattle.base.specs.Commits.{Commit}
 use Rattle.base.specs.Images.{Image, opening_fault}
 use Rattle.base.specs.Stands.{Stands}
-use Rattle.base.specs.Machine.{State, Stepped, Noted, note_of, most_operations, StandsAt}
-use Rattle.base.specs.Openings.{OpensAs}
+use Rattle.base.specs.Replies.{note_of}
+use Rattle.machine.specs.Machine.{State, Stepped, Noted, most_operations, StandsAt}
+use Rattle.machine.specs.Openings.{OpensAs}
 use Rattle.pmem.specs.Device.{Device}
 use Rattle.pmem.specs.Words.{LeavesOnly, HasNoFailure, operations_of}
 use Rattle.pmem.specs.declared.device.Pmem.{Ghosts}

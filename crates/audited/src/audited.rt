@@ -25,7 +25,7 @@ impl<D: Pmem + Drop> Audited<D> {
     ghost use Rattle.base.specs.declared.step.Reply.TheVariants.{Refused};
     ghost use Rattle.base.specs.Commits.{Lists, after};
     ghost use Rattle.base.specs.Images.{Image};
-    ghost use Rattle.base.specs.Machine.{State};
+    ghost use Rattle.machine.specs.Machine.{State};
     ghost use Rattle.room.specs.Room.{Shows, ShowsStatus, StepsTo};
     ghost use Rattle.audited.specs.Audit.{IsAudited, EndsRun, Keeps, Stays};
 

@@ -1,7 +1,7 @@
 ghost use Rattle.std.specs.Prelude.{◌≡◌, ◌↔◌, IsTrue, IfOk, OnErr};
 ghost use Rattle.base.specs.declared.fault.Fault.TheVariants.{OutOfMemory};
 ghost use Rattle.base.specs.declared.step.Reply.TheVariants.{Refused};
-ghost use Rattle.base.specs.Machine.{note_of};
+ghost use Rattle.base.specs.Replies.{note_of};
 ghost use Rattle.audited.specs.Audit.{ChangesNothing};
 
 use base::fault::Fault;

@@ -10,8 +10,8 @@ impl<D: Pmem + Drop + Send + Sync> Audited<D> {
     ghost use Rattle.base.specs.Commits.{Commit};
     ghost use Rattle.base.specs.Images.{layout_of, opening_fault};
     ghost use Rattle.base.specs.Stands.{Stands};
-    ghost use Rattle.base.specs.Machine.{State};
-    ghost use Rattle.base.specs.Openings.{OpensAs, StandsOpening, opened_slots, updated};
+    ghost use Rattle.machine.specs.Machine.{State};
+    ghost use Rattle.machine.specs.Openings.{OpensAs, StandsOpening, opened_slots, updated};
     ghost use Rattle.pmem.specs.Words.{LeavesOnly, IsAtRest, image_of, IsSettledAt, HasNoFailure};
     ghost use Rattle.recovery.specs.Opened.{IsRefusal, MakesOpening};
     ghost use Rattle.recovery.specs.Read.{TellsLogFault};

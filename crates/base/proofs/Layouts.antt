@@ -2,8 +2,7 @@
 use Rattle.std.proofs.Common.{◌≡◌, ◌⊎◌, inl, inr, ℕ, ◌*◌, ◌-◌, ◌<◌, ◌≤◌, Bool, true, false, cond, refl, arith, nat_eq, nat_le}
 use Rattle.std.specs.Prelude.{IsTrue}
 use Rattle.std.proofs.lemmas.Bool.{and_parts, leb-true}
-use Rattle.base.specs.Layout.{Layout, slot_words, row_limit, most_longs, is_between, is_known_version, is_in_limits}
-use Rattle.base.specs.Machine.{version_lines}
+use Rattle.base.specs.Layout.{Layout, slot_words, row_limit, most_longs, is_between, is_known_version, is_in_limits, version_lines}
 
 -- a slot has a line or more
 pub line-words : (version : ℕ) → 8 ≤ slot_words version

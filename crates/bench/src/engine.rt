@@ -1,8 +1,9 @@
+use crate::kinds;
+use crate::kinds::{begin, collect, cover, draw, get, put, stamp};
 use anyhow::Error;
 use base::fault::Fault;
 use base::geometry::Geometry;
 use base::key::Key;
-use base::row::Row;
 use base::step::{Reply, Step};
 use pmem::Pmem;
 use pmem_file::{FileLines, FilePmem, Nowhere};
@@ -135,7 +136,7 @@ fn open_file<H: Files<File = File> + Threads + Sync>(
     name: &str,
 ) -> Result<Room<FilePmem<FileLines>>, Error> {
     let geometry = Geometry::new(load.slots, Geometry::LEAST_PLACES, Geometry::MOST_WINDOW)?;
-    let mut device = FilePmem::open(rt, alloc, name, geometry.words())?;
+    let mut device = FilePmem::open(rt, alloc, name, geometry)?;
     if let Err(fault) = format(&mut device, geometry) {
         return Err(Error::from(fault));
     }
@@ -145,7 +146,8 @@ fn open_file<H: Files<File = File> + Threads + Sync>(
     }
 }
 
-/// Makes all updates, and then all reads.
+/// Makes all updates, each in a session of its own, and then all reads. The collector makes a round as often as a database
+/// lets it, once a fourth of the slots was written.
 pub fn run_load<H: Clock, D: Pmem + Drop>(
     rt: &H,
     room: &mut Room<D>,
@@ -155,6 +157,7 @@ pub fn run_load<H: Clock, D: Pmem + Drop>(
     let mut ticks: u64 = 0;
     for cycle in 0..cycles(load) {
         ticks = ticks.saturating_add(commit_batch(room, load, cycle)?);
+        collect_if_due(room, load, cycle)?;
     }
     let committing = start.elapsed(rt)?;
     let start = Instant::now(rt)?;
@@ -169,30 +172,77 @@ pub fn run_load<H: Clock, D: Pmem + Drop>(
     })
 }
 
+/// Makes all updates, those of a batch in one transaction.
+pub fn run_together<H: Clock, D: Pmem + Drop>(
+    rt: &H,
+    room: &mut Room<D>,
+    load: &Load,
+) -> Result<Duration, Error> {
+    let start = Instant::now(rt)?;
+    for cycle in 0..cycles(load) {
+        commit_together(room, load, cycle)?;
+        collect_if_due(room, load, cycle)?;
+    }
+    Ok(start.elapsed(rt)?)
+}
+
 fn cycles(load: &Load) -> u64 {
     load.commits.div_ceil(load.batch.max(1))
 }
 
+// From which number on the updates of a batch are, and up to which.
+fn numbers_in(load: &Load, cycle: u64) -> (u64, u64) {
+    let first = cycle.saturating_mul(load.batch);
+    (first, first.saturating_add(load.batch).min(load.commits))
+}
+
+// A round of the collector, where a fourth of the slots was written since the last one.
+fn collect_if_due<D: Pmem + Drop>(
+    room: &mut Room<D>,
+    load: &Load,
+    cycle: u64,
+) -> Result<(), Fault> {
+    let (first, end) = numbers_in(load, cycle);
+    let fourth = (load.slots / 4).max(1);
+    if first / fourth < end / fourth {
+        collect(room, load.slots)?;
+    }
+    Ok(())
+}
+
 // Updates one key in each session of a batch, and covers them by one record. How many ticks that took.
 fn commit_batch<D: Pmem + Drop>(room: &mut Room<D>, load: &Load, cycle: u64) -> Result<u64, Fault> {
-    let first = cycle.saturating_mul(load.batch);
-    let end = first.saturating_add(load.batch).min(load.commits);
+    let (first, end) = numbers_in(load, cycle);
     for number in first..end {
-        let session = match step(room, Step::Begin)? {
-            Reply::Began(session) => session,
-            _ => return Err(Fault::WrongState),
-        };
-        let key = key_of(number, load);
-        let row = Row::new(&number.to_le_bytes())?;
-        step(room, Step::Put { session, key, row })?;
-        step(room, Step::Draw { session })?;
-        step(room, Step::Stamp { session })?;
+        let session = begin(room)?;
+        put(room, session, key_of(number, load), number)?;
+        draw(room, session)?;
+        stamp(room, session)?;
     }
     let ticks = cover(room)?;
     for (session, _) in (2..).zip(first..end) {
-        step(room, Step::End { session })?;
+        kinds::end(room, session)?;
     }
     Ok(ticks)
+}
+
+// Updates the keys of a batch in one session, and covers them.
+fn commit_together<D: Pmem + Drop>(
+    room: &mut Room<D>,
+    load: &Load,
+    cycle: u64,
+) -> Result<(), Fault> {
+    let (first, end) = numbers_in(load, cycle);
+    let session = begin(room)?;
+    for number in first..end {
+        put(room, session, key_of(number, load), number)?;
+    }
+    draw(room, session)?;
+    for _ in first..end {
+        stamp(room, session)?;
+    }
+    cover(room)?;
+    kinds::end(room, session)
 }
 
 fn key_of(number: u64, load: &Load) -> Key {
@@ -215,29 +265,15 @@ pub fn step<D: Pmem + Drop>(room: &mut Room<D>, step: Step) -> Result<Reply, Fau
     }
 }
 
-/// Ticks the committer until it has covered a batch, or has nothing to do, and lets the collector make a visit with each
-/// tick. How often they did.
-pub fn cover<D: Pmem + Drop>(room: &mut Room<D>) -> Result<u64, Fault> {
-    for ticks in 1..u64::MAX {
-        let reply = step(room, Step::Commit)?;
-        step(room, Step::Collect)?;
-        if !matches!(reply, Reply::Ticked(_)) {
-            return Ok(ticks);
-        }
-    }
-    Ok(u64::MAX)
-}
-
 // Reads in one session. How many rows it found.
 fn read_rows<D: Pmem + Drop>(room: &mut Room<D>, load: &Load) -> Result<u64, Fault> {
     let mut rows: u64 = 0;
-    step(room, Step::Begin)?;
+    let session = begin(room)?;
     for number in 0..load.reads {
-        let key = key_of(number, load);
-        if let Reply::Row(Some(_)) = step(room, Step::Get { session: 2, key })? {
+        if get(room, session, key_of(number, load))? {
             rows = rows.saturating_add(1);
         }
     }
-    step(room, Step::Abort { session: 2 })?;
+    step(room, Step::Abort { session })?;
     Ok(rows)
 }

@@ -1,9 +1,10 @@
 //! Counts of what the modelled device, the engine and the board do, and with the word `time` first how fast: rounds of
 //! stores on the device; commits and reads of the engine; reads on a board beside a writer that publishes.
 //! `engine SLOTS KEYS COMMITS BATCH READS` runs the engine alone, `plain` with the same words the engine over a device that keeps
-//! no history, `file NAME` with them the engine over a device whose lines lie in that file, and `readers N` the reads of N
-//! readers, each in a thread of its own. `open SLOTS` times the opening of an image that is full, `steps SLOTS` each kind of call
-//! by itself, and `reads SLOTS` reads of keys that have rows, of keys that have none, and of old versions.
+//! no history, `together` with them too, with the updates of a batch in one transaction, `file NAME` with them the engine over a
+//! device whose lines lie in that file, and `readers N` the reads of N readers, each in a thread of its own. `open SLOTS` times the
+//! opening of an image that is full, `steps SLOTS` each kind of call by itself, and `reads SLOTS` reads of keys that have rows, of
+//! keys that have none, and of old versions.
 #![tactic(auto)]
 
 ghost use Rattle.std.specs.Prelude.{◌≤◌, IfOk};
@@ -11,6 +12,7 @@ ghost use Rattle.pmem_model.specs.Sim.{device_of};
 
 mod calls;
 mod engine;
+mod kinds;
 mod opening;
 mod readers;
 mod rounds;
@@ -19,7 +21,7 @@ mod slow;
 use anyhow::{Error, bail, ensure};
 use base::geometry::Geometry;
 use calls::{TOGETHER, time_reads, time_steps};
-use engine::{Load, Made, image_of_keys, load_file, load_keys, load_plain, run_load};
+use engine::{Load, Made, image_of_keys, load_file, load_keys, load_plain, run_load, run_together};
 use opening::time_opening;
 use pmem::Pmem;
 use pmem_model::SimPmem;
@@ -82,6 +84,7 @@ fn measure<H: Print + Files<File = File> + Clock + Threads + Wait + Sync>(
     match words {
         ["engine", load @ ..] => measure_engine(rt, alloc, &load_of(load)?, timed),
         ["plain", load @ ..] => measure_plain(rt, alloc, &load_of(load)?, timed),
+        ["together", load @ ..] => measure_together(rt, alloc, &load_of(load)?, timed),
         ["file", name, load @ ..] => measure_file(rt, alloc, name, &load_of(load)?, timed),
         ["readers", readers] => measure_readers(rt, alloc, readers.parse::<usize>()?, timed),
         _ => measure_calls(rt, alloc, words, timed),
@@ -181,6 +184,21 @@ fn measure_plain<H: Print + Clock + Threads + Sync>(
     let made = run_load(rt, &mut room, load)?;
     print_run(rt, load, &made)?;
     print_rates(rt, load, &made, timed)
+}
+
+// The same, the updates of a batch in one transaction. Nothing is read.
+fn measure_together<H: Print + Clock + Threads + Sync>(
+    rt: &H,
+    alloc: Global,
+    load: &Load,
+    timed: bool,
+) -> Result<(), Error> {
+    let mut room = load_plain(rt, alloc, load)?;
+    let took = run_together(rt, &mut room, load)?;
+    if timed {
+        print_rate(rt, "commits", load.commits, took)?;
+    }
+    Ok(())
 }
 
 // The same over a device whose lines lie in a file. A file of that name is formatted.

@@ -1,7 +1,7 @@
-use crate::engine::{cover, step};
+use crate::engine::step;
+use crate::kinds::{begin, collect, cover, draw, put, stamp};
 use base::fault::Fault;
 use base::key::Key;
-use base::row::Row;
 use base::step::{Reply, Step};
 use pmem::Pmem;
 use room::Room;
@@ -17,8 +17,10 @@ pub fn covered_beside_a_slow_one<D: Pmem + Drop>(
 ) -> Result<u64, Fault> {
     let slow = begin(room)?;
     put(room, slow, SLOW, 0)?;
-    step(room, Step::Draw { session: slow })?;
+    draw(room, slow)?;
+    let slots = room.geometry().slots();
     for number in 0..commits {
+        collect(room, slots)?;
         if !is_covered(room, number)? {
             return Ok(number);
         }
@@ -34,8 +36,8 @@ pub fn is_covered<D: Pmem + Drop>(room: &mut Room<D>, number: u64) -> Result<boo
         key: number % 8,
     };
     put(room, session, key, number)?;
-    step(room, Step::Draw { session })?;
-    step(room, Step::Stamp { session })?;
+    draw(room, session)?;
+    stamp(room, session)?;
     cover(room)?;
     match step(room, Step::Poll { session })? {
         Reply::Committed(_) => {
@@ -44,22 +46,4 @@ pub fn is_covered<D: Pmem + Drop>(room: &mut Room<D>, number: u64) -> Result<boo
         }
         _ => Ok(false),
     }
-}
-
-fn begin<D: Pmem + Drop>(room: &mut Room<D>) -> Result<u8, Fault> {
-    match step(room, Step::Begin)? {
-        Reply::Began(session) => Ok(session),
-        _ => Err(Fault::WrongState),
-    }
-}
-
-fn put<D: Pmem + Drop>(
-    room: &mut Room<D>,
-    session: u8,
-    key: Key,
-    number: u64,
-) -> Result<(), Fault> {
-    let row = Row::new(&number.to_le_bytes())?;
-    step(room, Step::Put { session, key, row })?;
-    Ok(())
 }

@@ -28,9 +28,9 @@ impl<J: Naming> Model for Token<J> {
 }
 
 impl<J: Naming> Token<J> {
-    ghost use Rattle.std.specs.Prelude.{◌≡◌, ◌⊎◌, ◌↔◌, IsTrue};
+    ghost use Rattle.std.specs.Prelude.{◌≡◌, ◌≤◌, ◌⊎◌, ◌↔◌, IsTrue, false};
     ghost use Rattle.base.specs.Published.{last_stamp};
-    ghost use Rattle.board.specs.Lists.{Begins, IsLater, has_commit};
+    ghost use Rattle.board.specs.Lists.{Begins, IsLater, has_commit, is_among, last_persisted, last_longs};
 
     /// The last stamp that was published.
     pub fn stamp(&self) -> u64
@@ -39,9 +39,11 @@ impl<J: Naming> Token<J> {
         self.stamp
     }
 
-    /// Whether a published batch holds the commit.
+    /// Whether the commit is covered: its timestamp is persisted and isn't that of a long commit. So it is just where a published
+    /// batch holds it, or the list began with it.
     pub fn covers(&self, timestamp: Ts) -> bool
-        ensures { IsLater self.now timestamp → IsTrue result ↔ IsTrue (has_commit self.now timestamp) }
+        ensures persisted { IsTrue result ↔ ((timestamp ≤ last_persisted self.now) × (is_among (last_longs self.now) timestamp ≡ false)) }
+        ensures later { IsLater self.now timestamp → IsTrue result ↔ IsTrue (has_commit self.now timestamp) }
     {
         self.front.is_published();
         timestamp <= self.persisted && !self.longs.contains(timestamp)

@@ -3,8 +3,8 @@ use Rattle.std.proofs.Common.{◌≡◌, ℕ, ◌+◌, ◌/◌, ◌<◌, ◌≤�
 use Rattle.base.specs.Actors.{collector}
 use Rattle.base.specs.Layout.{slot_start}
 use Rattle.base.specs.Records.{is_in}
-use Rattle.base.specs.Machine.{State}
-use Rattle.base.specs.Collecting.{is_at_slot, is_sweeping, most_operations_of_visit}
+use Rattle.machine.specs.Machine.{State}
+use Rattle.machine.specs.Collecting.{is_at_slot, is_sweeping, most_operations_of_visit}
 use Rattle.pmem.specs.Words.{value_of}
 use Rattle.pmem.specs.Trace.{Operation, store_op, flush_op, fence_op}
 use Rattle.step_simulation.specs.Moves.{all_succeed}

@@ -4,8 +4,8 @@ use Rattle.std.specs.List.{list_all}
 use Rattle.std.specs.Cmp.{both_ways}
 use Rattle.std.proofs.lemmas.Bool.{and_parts, and_from}
 use Rattle.base.specs.Commits.{Writes}
-use Rattle.base.specs.Machine.{State, Session, Active, Drew, WroteNothing, Version, session_numbers, most_sessions}
-use Rattle.base.specs.Collecting.{is_garbage, is_at_slot, slot_visited, sweep_ended}
+use Rattle.machine.specs.Machine.{State, Session, Active, Drew, WroteNothing, Version, session_numbers, most_sessions}
+use Rattle.machine.specs.Collecting.{is_garbage, is_at_slot, slot_visited, sweep_ended}
 use Rattle.pmem.specs.Device.{Device, IsOrderly}
 use Rattle.pmem.specs.Words.{value_of}
 use Rattle.snapshot.specs.Snapshots.{Seen, covers, seen_by}

@@ -6,8 +6,9 @@ use Rattle.base.specs.declared.gap.Gap.{Gap}
 use Rattle.base.specs.Actors.{collector}
 use Rattle.base.specs.Layout.{Layout, slot_start, total_words}
 use Rattle.base.specs.Records.{is_in}
-use Rattle.base.specs.Machine.{State, Hand, is_nil}
-use Rattle.base.specs.Collecting.{is_at_slot, is_sweeping, held_after_visit, slot_visited, sweep_ended, visited}
+use Rattle.base.specs.Lists.{is_nil}
+use Rattle.machine.specs.Machine.{State, Hand}
+use Rattle.machine.specs.Collecting.{is_at_slot, is_sweeping, held_after_visit, slot_visited, sweep_ended, visited}
 use Rattle.pmem.specs.Device.{Entry, Device, IsOrderly, IsAmong, survivors_in, newest, IsReadyIn, stored, flushed, fenced}
 use Rattle.pmem.specs.Words.{Survives, value_of, IsReady}
 use Rattle.pmem.specs.Trace.{Operation, store_op, flush_op, fence_op, failure, after, Along, Runs, StopsWithin}

@@ -1,7 +1,7 @@
 -- Slots are freed, the collector goes on, and a sweep ends, while the device does nothing.
 use Rattle.std.proofs.Common.{◌≡◌, inl, inr, ℕ, ◌<◌, Bool, true}
 use Rattle.std.specs.Prelude.{Option, Some, None}
-use Rattle.base.specs.Machine.{State, Hand, Version}
+use Rattle.machine.specs.Machine.{State, Hand, Version}
 use Rattle.pmem.specs.Device.{Device}
 use Rattle.pmem.specs.Words.{value_of}
 use Rattle.state_invariant.specs.Kept.{Origin}

@@ -1,7 +1,7 @@
 -- What the code tests of a version's end.
 use Rattle.std.specs.Prelude.{ℕ, Bool, true, ◌&&◌, Option, Some, None}
 use Rattle.std.specs.List.{list_all}
-use Rattle.base.specs.Machine.{State, Session, Active, Drew, WroteNothing, session_numbers}
+use Rattle.machine.specs.Machine.{State, Session, Active, Drew, WroteNothing, session_numbers}
 use Rattle.snapshot.specs.Snapshots.{Seen, covers, seen_by}
 
 -- the session's snapshot covers it, if the session is active

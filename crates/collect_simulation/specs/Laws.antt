@@ -1,8 +1,8 @@
 -- What follows for every life. Each law stands here in words that need no proof, and a public function promises it.
 use Rattle.std.specs.Prelude.{◌≡◌, ℕ, ◌<◌, ◌≤◌, true, false, length, Some}
 use Rattle.base.specs.Commits.{Writes}
-use Rattle.base.specs.Machine.{State, Active, Version}
-use Rattle.base.specs.Collecting.{is_garbage, is_at_slot, is_sweeping, visited, most_operations_of_visit}
+use Rattle.machine.specs.Machine.{State, Active, Version}
+use Rattle.machine.specs.Collecting.{is_garbage, is_at_slot, is_sweeping, visited, most_operations_of_visit}
 use Rattle.pmem.specs.Device.{Device, IsOrderly}
 use Rattle.pmem.specs.Words.{value_of}
 use Rattle.pmem.specs.Trace.{Runs, StopsWithin}

@@ -1,6 +1,6 @@
 -- Which operations a visit of the collector makes.
 use Rattle.std.specs.Prelude.{ℕ, List}
-use Rattle.base.specs.Machine.{State}
+use Rattle.machine.specs.Machine.{State}
 use Rattle.pmem.specs.Trace.{Operation}
 use Rattle.collector.specs.Sweeping.{tick_operations}
 

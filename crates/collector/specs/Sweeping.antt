@@ -4,7 +4,7 @@ use Rattle.base.specs.declared.gap.Gap.{Gap}
 use Rattle.base.specs.Actors.{collector}
 use Rattle.base.specs.Layout.{Layout, slot_start}
 use Rattle.base.specs.Records.{is_in}
-use Rattle.base.specs.Machine.{is_nil}
+use Rattle.base.specs.Lists.{is_nil}
 use Rattle.pmem.specs.Trace.{Operation, store_op, flush_op, fence_op}
 
 -- 0 is stored in the word, where this value of its lies in one of the gaps

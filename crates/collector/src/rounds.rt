@@ -44,6 +44,13 @@ impl Collector {
         self.swept
     }
 
+    /// The place that the next tick visits.
+    pub fn place(&self) -> SlotNo
+        ensures { result ≡ self.now.place }
+    {
+        self.place
+    }
+
     // Whether gaps stand that aren't swept.
     fn is_due(&self, gaps: GapList) -> bool
         ensures { result ≡ is_due self.now.swept gaps }
@@ -108,7 +115,8 @@ impl Collector {
         if self.is_due(gaps) {
             sweep_slot(device, geometry, gaps, slot)?;
         }
-        if readers.cover(ended) {
+        // A slot that is free stays free, whoever reads.
+        if !slots.is_free(slot) && readers.cover(ended) {
             slots.give(slot);
         }
         self.place += 1;

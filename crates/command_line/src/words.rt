@@ -108,7 +108,7 @@ fn format_command<'a>(alloc: Global) -> Result<Command<'a>, AllocError>
     Command::new(alloc, "format")
         .about("Writes a new, empty image into FILE")
         .after_help(
-            "Example: wbl format db.img --slots 4 --places 2 --window 8\nprints: formatted 104 words",
+            "Example: wbl format db.img --slots 8 --places 2 --window 8\nprints: formatted 136 words",
         )
         .arg(file_argument(alloc))?
         .arg(slots)?
@@ -142,7 +142,7 @@ fn check_command<'a>(alloc: Global) -> Result<Command<'a>, AllocError>
     Command::new(alloc, "check")
         .about("Tests the image in FILE without opening it, and prints its rows")
         .after_help(
-            "Example: wbl check db.img\nprints: sound gate 3 p 1 d 10 gaps -\n        1 7 6162\n        end 1",
+            "Example: wbl check db.img\nprints: sound gate 4 p 1 d 2 gaps -\n        1 7 6162\n        end 1",
         )
         .arg(file_argument(alloc))
 }

@@ -3,8 +3,8 @@ use Rattle.std.proofs.Common.{◌≡◌, ℕ, ◌+◌, ◌-◌, ◌^◌, false, 
 use Rattle.std.specs.Prelude.{Option, Some, None, is_some, option_map, option_and_then, Result, Ok, Err, IsErrAnd, IfErr, IfSome, All, min, ⊤}
 use Rattle.std.specs.Io.KnownBytes.{Appends}
 use Rattle.base.specs.Commits.{Commit}
-use Rattle.base.specs.Machine.{State}
-use Rattle.base.specs.Openings.{OpensAs}
+use Rattle.machine.specs.Machine.{State}
+use Rattle.machine.specs.Openings.{OpensAs}
 use Rattle.base.specs.Stands.{Stands}
 use Rattle.base.proofs.Options.{is_some-none}
 use Rattle.pmem.specs.Device.{Device}

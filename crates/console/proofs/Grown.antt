@@ -6,10 +6,10 @@ use Rattle.base.specs.declared.step.Step.TheVariants as step
 use Rattle.base.specs.declared.step.Reply.{Reply}
 use Rattle.base.specs.declared.step.Stage.{Stage}
 use Rattle.base.specs.Commits.{Writes}
-use Rattle.base.specs.Collecting.{is_at_slot, slot_visited, sweep_ended}
-use Rattle.base.specs.Machine.{State, Hand, Stepped, refused, answered, memory_refused, device_failed, next_state, next_stage, is_idle, writes_of, state_drawn, state_ticked, state_ticked_on}
-use Rattle.base.specs.SessionSteps.{as_step}
-use Rattle.base.proofs.Growth.{extends-stepped}
+use Rattle.machine.specs.Collecting.{is_at_slot, slot_visited, sweep_ended}
+use Rattle.machine.specs.Machine.{State, Hand, Stepped, refused, answered, memory_refused, device_failed, next_state, next_stage, is_idle, writes_of, state_drawn, state_ticked, state_ticked_on}
+use Rattle.base.specs.Steps.{as_step}
+use Rattle.machine.proofs.Growth.{extends-stepped}
 use Rattle.command_line.specs.Lines.{line_of}
 use Rattle.command_line.specs.Numbers.{Text}
 use Rattle.command_line.specs.declared.command.Command.{Command}

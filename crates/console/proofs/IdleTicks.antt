@@ -9,8 +9,8 @@ use Rattle.base.specs.declared.step.Stage.{Stage}
 use Rattle.base.specs.declared.step.Stage.TheVariants.{Chosen}
 use Rattle.base.specs.declared.step.Reply.{Reply}
 use Rattle.base.specs.declared.step.Reply.TheVariants as reply
-use Rattle.base.specs.Lives.{is_failure}
-use Rattle.base.specs.Machine.{State, Hand, Stepped, refused, answered, memory_refused, device_failed, is_idle, taken_in_hand, ticked, ticked_on, state_ticked, refusal}
+use Rattle.base.specs.Replies.{is_failure}
+use Rattle.machine.specs.Machine.{State, Hand, Stepped, refused, answered, memory_refused, device_failed, is_idle, taken_in_hand, ticked, ticked_on, state_ticked, refusal}
 use Rattle.console.specs.Obeyed.{is_busy}
 use Rattle.console.specs.Rounds.{QuietTicks}
 

@@ -7,7 +7,7 @@ use Rattle.base.specs.declared.step.Reply.{Reply}
 use Rattle.base.specs.Commits.{Commit}
 use Rattle.base.specs.Images.{Image, layout_of}
 use Rattle.base.specs.Layout.{Layout, opened_layout, opened_version, plain_version}
-use Rattle.base.specs.Machine.{State, Stepped, Hand, Cover, StandsUnder, StandsAt, StandsClosed, drawn_of, covers_at, of_hand, present, closed, uncovered}
+use Rattle.machine.specs.Machine.{State, Stepped, Hand, Cover, StandsUnder, StandsAt, StandsClosed, drawn_of, covers_at, of_hand, present, closed, uncovered}
 use Rattle.pmem.specs.Device.{Device, restarted}
 use Rattle.pmem.specs.Words.{image_of}
 use Rattle.pmem.specs.declared.device.Pmem.{Ghosts}

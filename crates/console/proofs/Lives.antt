@@ -7,8 +7,8 @@ use Rattle.base.specs.Images.{Image, layout_of}
 use Rattle.base.specs.declared.fault.Fault.TheVariants.{Failed, TimestampsOut}
 use Rattle.base.specs.Layout.{Layout, opened_layout}
 use Rattle.base.specs.Search.{first_of, some_if}
-use Rattle.base.specs.Machine.{State, closing_fault, closing_gate}
-use Rattle.base.specs.Openings.{OpensAs}
+use Rattle.machine.specs.Machine.{State, closing_fault, closing_gate}
+use Rattle.machine.specs.Openings.{OpensAs}
 use Rattle.base.specs.Stands.{Stands}
 use Rattle.pmem.specs.Device.{Device, MayLeave}
 use Rattle.pmem.specs.declared.device.Pmem.{Ghosts}
@@ -65,9 +65,9 @@ file-of-end : (history : List Commit) (q : State) (keeps : Option Survivor) (sai
 file-of-end history q (Some keeps) said file longer (image, bytes, stands, e) = record { image = image; of_image = bytes; keeps = keeps-at history q image longer stands }
 file-of-end history q None said file longer (image, bytes, stands, may, e) = record { image = image; of_image = bytes; keeps = keeps-closed history q image longer stands }
 
-file-of-life : (image : Image) (history : List Commit) (lines : List Text) (keeps : Option Survivor) (begun said ended : Text) (file : List ℕ)
-    → IsLife image history lines keeps begun said ended file → IsFileWith (opened_layout (layout_of image)) history file
-file-of-life image history lines keeps begun said ended file life =
+file-of-life : (image : Image) (history : List Commit) (lines : List Text) (keeps : Option Survivor) (begun said ended : Text) (device : Device) (file : List ℕ)
+    → IsLife image history lines keeps begun said ended device file → IsFileWith (opened_layout (layout_of image)) history file
+file-of-life image history lines keeps begun said ended device file life =
     let b = life.begins in
     let grown = grows-lines b.first lines said keeps b.last b.obeys in
     subst (λ (a : Layout). IsFileWith a history file) (grown.1 ∙ opens-layout image history b.first b.opens)
@@ -78,7 +78,7 @@ file-of-life image history lines keeps begun said ended file life =
 pub lives-keep : (before : List ℕ) (input old new : Option (List ℕ)) (after : List ℕ) → Lives before input old new after → KeepsHistories before after
 lives-keep before input old new after lives = record {
   each = λ image held history drawn next stands.
-      file-of-life image history lives.lines lives.keeps lives.begun lives.said lives.ended after (lives.each image held history drawn next stands);
+      file-of-life image history lives.lines lives.keeps lives.begun lives.said lives.ended lives.device after (lives.each image held history drawn next stands);
 }
 
 -- the lines are obeyed from any state that the opened room shows, and this is said of the state then
@@ -110,7 +110,7 @@ pub life-of : {D : Type 0} {G : Ghosts D} (state : D → Device) (opened ended_r
     → ((q : State) → Shows state opened q → begun ≡ opened_text q ++ 10 ∷ [])
     → Leads state opened ended_room (λ q q'. ObeysLines q lines said keeps q')
     → ((q : State) → Shows state ended_room q → Ends q keeps ended after)
-    → IsLife image history lines keeps begun said ended after
+    → IsLife image history lines keeps begun said ended (device_of state ended_room) after
 life-of state opened ended_room before words image history drawn next lines keeps begun said ended after holds held stands opens told leads ends =
     let lived = begun-of state opened before words image history drawn next lines keeps begun said (Shows state ended_room) holds held stands opens told leads.each in
-    record { begins = lived.0; ends = ends lived.0.last lived.1 }
+    record { begins = lived.0; volatile = ended_room.volatile; shows = lived.1.agrees.shown; ends = ends lived.0.last lived.1 }

@@ -5,8 +5,8 @@ use Rattle.std.specs.Io.KnownBytes.{Appends}
 use Rattle.base.specs.declared.step.Step.{Step}
 use Rattle.base.specs.declared.step.Step.TheVariants as step
 use Rattle.base.specs.declared.step.Reply.{Reply}
-use Rattle.base.specs.Lives.{is_failure}
-use Rattle.base.specs.Machine.{State, Stepped}
+use Rattle.base.specs.Replies.{is_failure}
+use Rattle.machine.specs.Machine.{State, Stepped}
 use Rattle.pmem.specs.Device.{Device}
 use Rattle.pmem.specs.declared.device.Pmem.{Ghosts}
 use Rattle.room.specs.declared.room.Room.{Room}

@@ -11,11 +11,11 @@ use Rattle.base.specs.declared.step.Reply.{Reply}
 use Rattle.base.specs.declared.step.Reply.TheVariants as reply
 use Rattle.base.specs.Layout.{Layout}
 use Rattle.base.specs.Search.{some_if}
-use Rattle.base.specs.Machine.{State, Stepped, refused, answered, memory_refused, device_failed, refusal}
-use Rattle.base.specs.Collecting.{is_at_slot, visited, collected}
-use Rattle.base.specs.Rounds.{visits, round_of}
-use Rattle.base.proofs.Visiting.{visit-changes}
-use Rattle.base.proofs.Rounds.{rounds-repeat, visits-add, visits-split, layout-visits}
+use Rattle.machine.specs.Machine.{State, Stepped, refused, answered, memory_refused, device_failed, refusal}
+use Rattle.machine.specs.Collecting.{is_at_slot, visited, collected}
+use Rattle.machine.specs.Rounds.{visits, round_of}
+use Rattle.machine.proofs.Visiting.{visit-changes}
+use Rattle.machine.proofs.Rounds.{rounds-repeat, visits-add, visits-split, layout-visits}
 use Rattle.pmem.specs.Device.{Device}
 use Rattle.pmem.specs.declared.device.Pmem.{Ghosts}
 use Rattle.room.specs.Room.{Shows}

@@ -11,7 +11,7 @@ use Rattle.base.specs.declared.step.Step.{Step}
 use Rattle.base.specs.Commits.{Commit}
 use Rattle.base.specs.Images.{Image, damage, layout_of}
 use Rattle.base.specs.Layout.{Layout, opened_layout}
-use Rattle.base.specs.Machine.{State, Noted, StandsClosed}
+use Rattle.machine.specs.Machine.{State, Noted, StandsClosed}
 use Rattle.base.specs.Search.{first_of, some_if}
 use Rattle.base.specs.Stands.{Stands}
 use Rattle.pmem.specs.Device.{Device}

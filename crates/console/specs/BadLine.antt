@@ -3,7 +3,7 @@ use Rattle.std.specs.Prelude.{◌≡◌, ℕ, ◌+◌, ◌-◌, ◌^◌, min, Li
 use Rattle.std.specs.Io.KnownBytes.{Appends}
 use Rattle.base.specs.Commits.{Commit}
 use Rattle.base.specs.Images.{Image}
-use Rattle.base.specs.Machine.{State}
+use Rattle.machine.specs.Machine.{State}
 use Rattle.base.specs.Stands.{Stands}
 use Rattle.pmem.specs.Device.{Device}
 use Rattle.pmem.specs.declared.device.Pmem.{Ghosts}

@@ -4,7 +4,7 @@ use Rattle.base.specs.Commits.{Commit}
 use Rattle.base.specs.Layout.{Layout, opened_layout}
 use Rattle.base.specs.Images.{Image, layout_of}
 use Rattle.base.specs.Stands.{Stands}
-use Rattle.base.specs.Machine.{State, StandsClosed, closing_fault}
+use Rattle.machine.specs.Machine.{State, StandsClosed, closing_fault}
 use Rattle.pmem.specs.Device.{Device, MayLeave}
 use Rattle.pmem.specs.declared.device.Pmem.{Ghosts}
 use Rattle.base.specs.Fresh.{fresh_image}

@@ -4,13 +4,17 @@ use Rattle.std.specs.Io.KnownBytes.{Appends}
 use Rattle.base.specs.Commits.{Commit}
 use Rattle.base.specs.Images.{Image, opening_fault}
 use Rattle.base.specs.Layout.{layout_with, plain_version, total_words}
-use Rattle.base.specs.Machine.{State, StandsAt, StandsClosed, closing_fault, closing_gate}
-use Rattle.base.specs.Openings.{OpensAs}
+use Rattle.machine.specs.Machine.{State, StandsAt, StandsClosed, closing_fault, closing_gate}
+use Rattle.machine.specs.Openings.{OpensAs}
 use Rattle.base.specs.Stands.{Stands}
+use Rattle.pmem.specs.Device.{Device}
+use Rattle.room.specs.Committing.{Shows}
+use Rattle.room.specs.declared.volatile.VolatileState.{VolatileState}
 use Rattle.command_line.specs.ImageFile.{HoldsWords, IsFileOf, is_image_length}
 use Rattle.command_line.specs.Numbers.{Text}
 use Rattle.command_line.specs.Texts.{opened_line, closed_line, survivor_text}
 use Rattle.command_line.specs.declared.command.Survivor.{Survivor}
+use Rattle.console.specs.Crash.{KeepsNamed}
 use Rattle.console.specs.Input.{Reads}
 use Rattle.console.specs.Obeyed.{ObeysLines}
 
@@ -45,13 +49,16 @@ pub record IsBegun (image : Image) (history : List Commit) (lines : List Text) (
   pub told : begun ≡ opened_text first ++ 10 ∷ []
   pub obeys : ObeysLines first lines said keeps last
 
--- so a life is begun, and it ends
-pub record IsLife (image : Image) (history : List Commit) (lines : List Text) (keeps : Option Survivor) (begun said ended : Text) (file : List ℕ) : Type 0 where
+-- so a life is begun, and it ends on this device, which shows the last state
+pub record IsLife (image : Image) (history : List Commit) (lines : List Text) (keeps : Option Survivor) (begun said ended : Text) (device : Device) (file : List ℕ) : Type 0 where
   pub begins : IsBegun image history lines keeps begun said
+  pub volatile : VolatileState
+  pub shows : Shows volatile device begins.last
   pub ends : Ends begins.last keeps ended file
 
 -- the image in the old file may be opened, and these lines of the input are read (their list begins with the last); whatever
--- history the image stands for, this is a life of it by them, and no more is printed
+-- history the image stands for, this is a life of it by them, and no more is printed. After a crash FILE has of each word of the
+-- life's device the survivor that was asked for
 pub record Lives (before : List ℕ) (input old new : Option (List ℕ)) (after : List ℕ) : Type 0 where
   pub opens : IsOpenable before
   pub lines : List Text
@@ -61,5 +68,7 @@ pub record Lives (before : List ℕ) (input old new : Option (List ℕ)) (after 
   pub said : Text
   pub ended : Text
   pub prints : Appends old new ((begun ++ said) ++ ended)
+  pub device : Device
+  pub kept : KeepsNamed device keeps after
   pub each : (image : Image) → HoldsWords before image → (history drawn : List Commit) (next : ℕ) → Stands image history drawn next
-      → IsLife image history lines keeps begun said ended after
+      → IsLife image history lines keeps begun said ended device after

@@ -5,9 +5,9 @@ use Rattle.base.specs.declared.step.Step.{Step}
 use Rattle.base.specs.declared.step.Step.TheVariants as step
 use Rattle.base.specs.declared.step.Reply.{Reply}
 use Rattle.base.specs.declared.step.Reply.TheVariants as reply
-use Rattle.base.specs.Lives.{is_failure}
-use Rattle.base.specs.Machine.{State, Stepped}
-use Rattle.base.specs.SessionSteps.{as_step}
+use Rattle.base.specs.Replies.{is_failure}
+use Rattle.machine.specs.Machine.{State, Stepped}
+use Rattle.base.specs.Steps.{as_step}
 use Rattle.command_line.specs.Lines.{line_of}
 use Rattle.command_line.specs.Numbers.{Text}
 use Rattle.command_line.specs.Rows.{row_text}

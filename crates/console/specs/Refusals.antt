@@ -6,7 +6,7 @@ use Rattle.base.specs.declared.fault.Fault.TheVariants.{BadGeometry, OutOfMemory
 use Rattle.base.specs.Commits.{Commit}
 use Rattle.base.specs.Images.{Image, damage, opening_fault}
 use Rattle.base.specs.Layout.{is_in_limits}
-use Rattle.base.specs.Machine.{State, closing_fault}
+use Rattle.machine.specs.Machine.{State, closing_fault}
 use Rattle.base.specs.Stands.{Stands}
 use Rattle.command_line.specs.ImageFile.{HoldsWords, is_image_length}
 use Rattle.command_line.specs.Numbers.{Text}

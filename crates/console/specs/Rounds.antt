@@ -1,12 +1,12 @@
--- How many visits of the collector, and how many ticks of the committer in a life, are made of many.
-use Rattle.std.specs.Prelude.{◌≡◌, ℕ, ◌+◌, ◌-◌, ◌%◌, min, nat_le, false, if◌then◌else◌}
+-- How many visits of the collector are made of many, and what ticks of the committer after an idle one come to.
+use Rattle.std.specs.Prelude.{◌≡◌, ℕ, ◌+◌, ◌-◌, ◌%◌, nat_le, false, if◌then◌else◌}
 use Rattle.base.specs.declared.step.Step.TheVariants.{Commit}
 use Rattle.base.specs.declared.step.Reply.{Reply}
 use Rattle.base.specs.declared.step.Reply.TheVariants.{Idle}
 use Rattle.base.specs.Layout.{Layout}
-use Rattle.base.specs.Lives.{is_failure}
-use Rattle.base.specs.Machine.{State, Stepped}
-use Rattle.base.specs.Rounds.{visits}
+use Rattle.base.specs.Replies.{is_failure}
+use Rattle.machine.specs.Machine.{State, Stepped}
+use Rattle.machine.specs.Rounds.{visits}
 use Rattle.console.specs.Obeyed.{is_busy}
 
 -- A round visits each slot and the closing place. Once a whole round was made, further whole rounds before the last visit are
@@ -19,14 +19,6 @@ visits_needed layout all =
 -- the last of the visits that are needed is made from the state from which the last of all would be
 abbrev pub NeededAreEnough : Type 0
 NeededAreEnough = (q : State) (all : ℕ) → visits (visits_needed q.layout all - 1) q ≡ visits (all - 1) q
-
--- Ticks beyond this number aren't made in a life: two cycles cover all that sessions can have drawn, and 62 sessions that write
--- 32 keys each touch two lines a key. Of each life it is tested that the last of so many leaves nothing to do
-abbrev pub most_ticks : ℕ
-most_ticks = 8192
-
-abbrev pub ticks_made : ℕ → ℕ
-ticks_made all = min all most_ticks
 
 -- A tick after which there is nothing to do, by a device that works, changes nothing, so that all further ones are made from
 -- the same state; and where nothing is left to do, Idle is the one answer that they have

@@ -4,7 +4,6 @@
 
 mod checking;
 pub mod ended;
-mod enough;
 pub mod execute;
 pub mod format;
 pub mod law;

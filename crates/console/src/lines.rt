@@ -1,6 +1,6 @@
 ghost use Rattle.std.specs.Prelude.{◌≡◌, ◌++◌, ◌∷◌, [], List, IfErr, IfOk, OnOk, Some, None};
 ghost use Rattle.std.specs.Io.KnownBytes.{Appends};
-ghost use Rattle.base.specs.Machine.{Stepped};
+ghost use Rattle.machine.specs.Machine.{Stepped};
 ghost use Rattle.command_line.specs.Lines.{line_of};
 ghost use Rattle.command_line.specs.Numbers.{Text};
 ghost use Rattle.console.specs.BadLine.{BlamesNoLine, IfBadLine, MeetsBadLine, kept_by, kept_in, kept_of};
@@ -179,8 +179,8 @@ fn cycle<D: Pmem + Drop>(room: &mut Room<D>) -> Reply
     reply
 }
 
-/// Is there, after this reply, more that a tick may find to do?
-pub fn is_busy(reply: &Reply) -> bool
+// Is there, after this reply, more that a tick may find to do?
+fn is_busy(reply: &Reply) -> bool
     ensures { result ≡ is_busy reply.now }
 {
     match reply {

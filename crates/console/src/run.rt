@@ -2,8 +2,8 @@ ghost use Rattle.std.specs.Prelude.{◌≡◌, ◌⊎◌, ◌++◌, ◌∷◌, [
 ghost use Rattle.std.specs.Io.KnownBytes.{Appends};
 ghost use Rattle.base.specs.Commits.{Commit};
 ghost use Rattle.base.specs.Images.{opening_fault};
-ghost use Rattle.base.specs.Machine.{State};
-ghost use Rattle.base.specs.Openings.{OpensAs};
+ghost use Rattle.machine.specs.Machine.{State};
+ghost use Rattle.machine.specs.Openings.{OpensAs};
 ghost use Rattle.base.specs.Stands.{Stands};
 ghost use Rattle.pmem.specs.Device.{MayLeave};
 ghost use Rattle.pmem.specs.Words.{image_of};

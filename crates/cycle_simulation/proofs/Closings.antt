@@ -13,9 +13,9 @@ use Rattle.base.specs.Commits.{Commit}
 use Rattle.base.specs.Images.{Image, ruling}
 use Rattle.base.specs.Records.{is_committed}
 use Rattle.base.specs.Stands.{Stands, has_timestamp}
-use Rattle.base.specs.Machine.{State, Cover, Drawn, Hand, Stepped, refused, answered, memory_refused, device_failed, refusal, is_idle, next_stage, next_state, state_ticked, state_ticked_on, state_covered, present, covers_at, closed, uncovered, in_hand, drawn_of, timestamp_of, StandsUnder, StandsWithin, StandsClosing}
+use Rattle.machine.specs.Machine.{State, Cover, Drawn, Hand, Stepped, refused, answered, memory_refused, device_failed, refusal, is_idle, next_stage, next_state, state_ticked, state_ticked_on, state_covered, present, covers_at, closed, uncovered, in_hand, drawn_of, timestamp_of, StandsUnder, StandsWithin, StandsClosing}
 use Rattle.base.proofs.Lists.{filter-all}
-use Rattle.base.proofs.Counted.{counted-commits}
+use Rattle.machine.proofs.Counted.{counted-commits}
 use Rattle.state_invariant.specs.Kept.{KeepsHand}
 use Rattle.state_invariant.proofs.Lists.{all-filtered}
 use Rattle.device_invariant.specs.Laws.{one_tick_on}

@@ -9,10 +9,10 @@ use Rattle.base.specs.Commits.{Commit}
 use Rattle.base.specs.Images.{Image, IsRuledBy}
 use Rattle.base.specs.Records.{Record, is_committed, is_well_formed}
 use Rattle.base.specs.Stands.{has_timestamp}
-use Rattle.base.specs.Machine.{State, Hand, Cover, chosen, reach, passed_over, standing_gaps, target_of, taken_in_hand, state_covered, present, uncovered, drawn_of, closed, closing_gate, StandsUnder, StandsClosing, StandsClosed}
+use Rattle.machine.specs.Machine.{State, Hand, Cover, chosen, reach, passed_over, standing_gaps, target_of, taken_in_hand, state_covered, present, uncovered, drawn_of, closed, closing_gate, StandsUnder, StandsClosing, StandsClosed}
 use Rattle.base.proofs.Lists.{all-drop, filter-all}
 use Rattle.base.proofs.Layouts.{has_window}
-use Rattle.base.proofs.Runs.{StandsAt-closing}
+use Rattle.machine.proofs.Runs.{StandsAt-closing}
 use Rattle.pmem.specs.Device.{Device, MayLeave}
 use Rattle.pmem.specs.Words.{LeavesOnly, HasOldWords, Spares, value_of}
 use Rattle.pmem.proofs.Images.{leaves-flushed, leaves-fenced, leaves-failed}

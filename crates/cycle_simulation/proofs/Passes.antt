@@ -6,7 +6,7 @@ use Rattle.std.proofs.lemmas.Bool.{and_parts, and_from, ltb-true, leb-true, le-l
 use Rattle.std.proofs.lemmas.List.Sums.{fold-append}
 use Rattle.base.specs.Layout.{most_longs}
 use Rattle.base.specs.Records.{are_rising}
-use Rattle.base.specs.Machine.{State, Drawn, is_stamped, may_be_covered, unstamped_below, reach}
+use Rattle.machine.specs.Machine.{State, Drawn, is_stamped, may_be_covered, unstamped_below, reach}
 use Rattle.base.proofs.Lists.{rising-rest}
 use Rattle.state_invariant.specs.Kept.{Origin, Keeps}
 use Rattle.state_invariant.proofs.Lists.{rising-above}

@@ -6,8 +6,8 @@ use Rattle.std.proofs.lemmas.Bool.{and_parts, and_from, eq-eqb, leb-true, ltb-tr
 use Rattle.std.proofs.lemmas.List.Folds.{list_all-append, list_any-append}
 use Rattle.std.proofs.Math.Bool.{or-false}
 use Rattle.base.specs.Commits.{Commit, writes_key}
-use Rattle.base.specs.Layout.{Layout, slot_start, total_words}
-use Rattle.base.specs.Machine.{State, Version, Writer, BySession, ByCommit, version_lines}
+use Rattle.base.specs.Layout.{Layout, slot_start, total_words, version_lines}
+use Rattle.machine.specs.Machine.{State, Version, Writer, BySession, ByCommit}
 use Rattle.base.specs.Records.{are_rising}
 use Rattle.base.proofs.Lists.{any-same, any-never, any-or, rising-rest}
 use Rattle.state_invariant.proofs.Lists.{rising-above, rising-with, all-weaken}

@@ -9,11 +9,12 @@ use Rattle.base.specs.declared.step.Step.TheVariants.{Begin, Get, Scan, Put, Del
 use Rattle.base.specs.declared.step.Reply.{Reply}
 use Rattle.base.specs.Keys.{key_eq}
 use Rattle.base.specs.Commits.{Commit, Writes, writes_key, last_writer}
-use Rattle.base.specs.Laws.{is_no_tick}
+use Rattle.machine.specs.Laws.{is_no_tick}
 use Rattle.base.specs.Records.{is_committed}
 use Rattle.base.specs.Stands.{has_timestamp}
-use Rattle.base.specs.Machine.{State, Hand, Version, Writer, BySession, ByCommit, Stepped, refused, answered, memory_refused, device_failed, next_state, state_drawn, writes_of, free_slot, own_slot, held_at, held_with, held_after_put, held_after_delete, held_after_abort, is_by, is_own_at, is_held_by, by_commit, version_lines}
-use Rattle.base.specs.Collecting.{is_at_slot, held_after_visit, slot_visited, sweep_ended}
+use Rattle.base.specs.Layout.{version_lines}
+use Rattle.machine.specs.Machine.{State, Hand, Version, Writer, BySession, ByCommit, Stepped, refused, answered, memory_refused, device_failed, next_state, state_drawn, writes_of, free_slot, own_slot, held_at, held_with, held_after_put, held_after_delete, held_after_abort, is_by, is_own_at, is_held_by, by_commit}
+use Rattle.machine.specs.Collecting.{is_at_slot, held_after_visit, slot_visited, sweep_ended}
 use Rattle.state_invariant.specs.Kept.{Origin, Keeps, KeepsHand, version_by}
 use Rattle.state_invariant.proofs.Lookups.{first_below-some}
 use Rattle.state_invariant.proofs.Garbage.{IsGarbage, garbage-undrawn, garbage-replaced}

@@ -12,8 +12,8 @@ use Rattle.base.specs.declared.step.Stage.TheVariants.{Chosen, LineFlushed, Line
 use Rattle.base.specs.declared.step.Reply.TheVariants.{Idle, Ticked}
 use Rattle.base.specs.Images.{Image}
 use Rattle.base.specs.Search.{some_if}
-use Rattle.base.specs.Machine.{State, Hand, refused, answered, memory_refused, device_failed, refusal, is_idle, taken_in_hand, operates, most_operations, ticked, ticked_on, state_ticked, state_ticked_on, next_stage, stages, state_covered, Cover, present, of_hand, covers_at, StandsUnder, StandsAt, StandsWithin}
-use Rattle.base.proofs.Runs.{StandsAt-within}
+use Rattle.machine.specs.Machine.{State, Hand, refused, answered, memory_refused, device_failed, refusal, is_idle, taken_in_hand, operates, most_operations, ticked, ticked_on, state_ticked, state_ticked_on, next_stage, stages, state_covered, Cover, present, of_hand, covers_at, StandsUnder, StandsAt, StandsWithin}
+use Rattle.machine.proofs.Runs.{StandsAt-within}
 use Rattle.pmem.specs.Device.{Device, IsOrderly, MayLeave, stored, flushed, fenced}
 use Rattle.pmem.specs.Words.{Continues, operations_of}
 use Rattle.pmem.specs.Trace.{applied}

@@ -3,7 +3,7 @@ use Rattle.std.specs.Prelude.{◌≡◌, ℕ, ◌+◌, max, Bool, nat_eq, nat_le
 use Rattle.std.specs.List.{list_any}
 use Rattle.base.specs.Commits.{Commit}
 use Rattle.base.specs.Records.{are_rising}
-use Rattle.base.specs.Machine.{State, Drawn, drawn_at, is_stamped}
+use Rattle.machine.specs.Machine.{State, Drawn, drawn_at, is_stamped}
 use Rattle.state_invariant.specs.Kept.{commit_at}
 use Rattle.device_invariant.specs.Log.{lines_in, line_number}
 

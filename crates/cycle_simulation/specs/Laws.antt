@@ -11,11 +11,11 @@ use Rattle.base.specs.declared.step.Reply.{Reply}
 use Rattle.base.specs.declared.step.Reply.TheVariants.{Idle, Ticked, Covered, Refused}
 use Rattle.base.specs.Commits.{Commit}
 use Rattle.base.specs.Images.{Image}
-use Rattle.base.specs.Laws.{is_no_tick}
+use Rattle.machine.specs.Laws.{is_no_tick}
 use Rattle.base.specs.Layout.{most_longs}
 use Rattle.base.specs.Records.{are_rising}
 use Rattle.base.specs.Actors.{committer}
-use Rattle.base.specs.Machine.{State, Hand, Stepped, refusal, reach, drawn_of, is_idle, taken_in_hand, batch_of, lines_of, state_covered, closing_gate, next_state, StandsWithin, StandsClosing, StandsClosed}
+use Rattle.machine.specs.Machine.{State, Hand, Stepped, refusal, reach, drawn_of, is_idle, taken_in_hand, batch_of, lines_of, state_covered, closing_gate, next_state, StandsWithin, StandsClosing, StandsClosed}
 use Rattle.pmem.specs.Device.{Device, IsOrderly, MayLeave, flushed, fenced, failed}
 use Rattle.pmem.specs.Words.{LeavesOnly, Spares}
 use Rattle.pmem.specs.Trace.{applied}

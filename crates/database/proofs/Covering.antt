@@ -1,30 +1,69 @@
 -- What the steps of a commit come to.
-use Rattle.std.proofs.Common.{◌≡◌, ℕ, Bool, true, false, cond, Option, Some, None, refl, sym, ◌∙◌, ap, subst}
-use Rattle.std.specs.Prelude.{is_some, Result, Ok, Err}
+use Rattle.std.proofs.Common.{◌≡◌, ◌⊎◌, inl, inr, ℕ, ◌+◌, Bool, true, false, cond, List, [], ◌∷◌, ◌++◌, Option, Some, None, refl, sym, ◌∙◌, ap, subst}
+use Rattle.std.specs.Prelude.{⊤, replicate, Result, Ok, Err}
+use Rattle.std.proofs.lemmas.List.{replicate_more}
 use Rattle.base.specs.declared.fault.Fault.{Fault}
 use Rattle.base.specs.declared.step.Step.{Step}
 use Rattle.base.specs.declared.step.Step.TheVariants.{Draw, Poll, End}
 use Rattle.base.specs.declared.step.Reply.{Reply}
-use Rattle.base.specs.declared.step.Reply.TheVariants.{Committed, Waiting, Refused}
-use Rattle.base.specs.Machine.{State, Session, Active, Drew, WroteNothing, Stepped, refused, answered, memory_refused, device_failed, polled}
+use Rattle.base.specs.declared.step.Reply.TheVariants.{Committed, Waiting, Done, Drawn as DrewAs}
+use Rattle.base.specs.Commits.{Writes}
+use Rattle.base.specs.Lists.{is_nil}
 use Rattle.base.specs.Stands.{has_timestamp}
-use Rattle.pmem.specs.Device.{Device}
+use Rattle.machine.specs.Machine.{State, Session, Active, Drew, WroteNothing, Stepped, refused, answered, memory_refused, device_failed, polled, writes_of, state_drawn, next_state, final}
+use Rattle.pmem.specs.Device.{Device, IsOrderly}
 use Rattle.pmem.specs.declared.device.Pmem.{Ghosts}
 use Rattle.room.specs.declared.room.Room.{Room}
-use Rattle.room.specs.Room.{Shows}
-use Rattle.database.specs.Replies.{committed_of, drawn_of}
-use Rattle.database.specs.Obeys.{Obeys, GoesOn, Prepares, Covers}
+use Rattle.room.specs.Room.{Shows, StepsTo, RunsTo}
+use Rattle.room.proofs.Runs.{run-none, run-then}
+use Rattle.database.specs.Replies.{committed_of, drawn_of, done_of}
+use Rattle.database.specs.Obeys.{Obeys, Repeats, StampsAll, Covers, DrawsNothing}
 
-pub goes-none : {D : Type 0} → {G : Ghosts D} → (state : D → Device) (room : Room D G) → GoesOn state room room
-goes-none state room q shows = (q, shows)
+-- ---- one step after another
 
--- a step more
-pub goes-more : {D A : Type 0} → {G : Ghosts D} → (state : D → Device) (old mid new : Room D G) (step : Step) (read : Reply → Result A Fault) (result : Result A Fault)
-    → GoesOn state old mid → Obeys state mid new step read result → GoesOn state old new
-goes-more state old mid new step read result goes obeys q shows =
-    let a = goes q shows in
-    let b = obeys a.0 a.1 in
-    (b.1, b.2.shows)
+pub repeats-none : {D : Type 0} → {G : Ghosts D} → (state : D → Device) (room : Room D G) (step : Step) → IsOrderly (state room.device) → Repeats state room room step
+repeats-none state room step orderly = (0, λ q shows. ([], [], run-none state room q orderly shows))
+
+-- one more
+pub repeats-then : {D : Type 0} → {G : Ghosts D} → (state : D → Device) (old mid new : Room D G) (step : Step) (reply : State → Reply)
+    → Repeats state old mid step → ((q : State) → Shows state mid q → (q' : State) × StepsTo state mid new step (reply q) q q') → Repeats state old new step
+repeats-then state old mid new step reply repeats more = (
+  repeats.0 + 1,
+  λ q shows.
+      let runs = repeats.1 q shows in
+      let at = final q runs.1 in
+      let one = more at runs.2.shows in (
+        runs.0 ++ reply at ∷ [],
+        runs.1 ++ one.0 ∷ [],
+        subst (λ (steps : List Step). RunsTo state old new steps (runs.0 ++ reply at ∷ []) q (runs.1 ++ one.0 ∷ [])) (replicate_more repeats.0 step)
+            (run-then state old mid new (replicate repeats.0 step) runs.0 step (reply at) q runs.1 one.0 runs.2 one.1),
+      ),
+)
+
+pub repeats-more : {D A : Type 0} → {G : Ghosts D} → (state : D → Device) (old mid new : Room D G) (step : Step) (read : Reply → Result A Fault) (result : Result A Fault)
+    → Repeats state old mid step → Obeys state mid new step read result → Repeats state old new step
+repeats-more state old mid new step read result repeats obeys = (
+  repeats.0 + 1,
+  λ q shows.
+      let runs = repeats.1 q shows in
+      let one = obeys (final q runs.1) runs.2.shows in (
+        runs.0 ++ one.0 ∷ [],
+        runs.1 ++ one.1 ∷ [],
+        subst (λ (steps : List Step). RunsTo state old new steps (runs.0 ++ one.0 ∷ []) q (runs.1 ++ one.1 ∷ [])) (replicate_more repeats.0 step)
+            (run-then state old mid new (replicate repeats.0 step) runs.0 step one.0 q runs.1 one.1 runs.2 one.2),
+      ),
+)
+
+-- what is returned may be named otherwise
+pub obeys-as : {D A : Type 0} → {G : Ghosts D} → (state : D → Device) (old new : Room D G) (step : Step) (read : Reply → Result A Fault) (result other : Result A Fault)
+    → Obeys state old new step read result → result ≡ other → Obeys state old new step read other
+obeys-as state old new step read result other obeys is = subst (λ r. Obeys state old new step read r) is obeys
+
+pub stamps-as : {D : Type 0} → {G : Ghosts D} → (state : D → Device) (old new : Room D G) (n : ℕ) (result other : Result ⊤ Fault)
+    → StampsAll state old new n result → result ≡ other → StampsAll state old new n other
+stamps-as state old new n result other stamps is = subst (λ r. StampsAll state old new n r) is stamps
+
+-- ---- a poll
 
 -- whether a timestamp is told, and which
 abbrev is_told : Result (Option ℕ) Fault → Bool
@@ -63,12 +102,31 @@ covered_by_poll q q' n t reply (answered none is same) tells = subst (λ (s : St
 covered_by_poll q q' n t reply (memory_refused none takes is same) tells = no_time (sym takes)
 covered_by_poll q q' n t reply (device_failed none operates is same) tells = no_time (sym operates)
 
--- an end leaves the history as it is
+-- a poll changes nothing
+same_by_poll : (q q' : State) (n : ℕ) (reply : Reply) → Stepped q (Poll n) reply q' → q' ≡ q
+same_by_poll q q' n reply (refused fault why is same) = same
+same_by_poll q q' n reply (answered none is same) = same
+same_by_poll q q' n reply (memory_refused none takes is same) = same
+same_by_poll q q' n reply (device_failed none operates is same) = no_time (sym operates)
+
+pub stays-polled : {D A : Type 0} → {G : Ghosts D} → (state : D → Device) (old new : Room D G) (n : ℕ) (read : Reply → Result A Fault) (result : Result A Fault)
+    → Obeys state old new (Poll n) read result → (q : State) → Shows state old q → Shows state new q
+stays-polled state old new n read result obeys q shows =
+    let a = obeys q shows in
+    subst (λ (s : State). Shows state new s) (same_by_poll q a.1 n a.0 a.2.stepped) a.2.shows
+
+-- an end leaves the history and what is drawn as they are
 history_by_end : (q q' : State) (n : ℕ) (reply : Reply) → Stepped q (End n) reply q' → q'.history ≡ q.history
 history_by_end q q' n reply (refused fault why is same) = ap (λ (s : State). s.history) same
 history_by_end q q' n reply (answered none is same) = ap (λ (s : State). s.history) same
 history_by_end q q' n reply (memory_refused none takes is same) = ap (λ (s : State). s.history) same
 history_by_end q q' n reply (device_failed none operates is same) = ap (λ (s : State). s.history) same
+
+drawn_by_end : (q q' : State) (n : ℕ) (reply : Reply) → Stepped q (End n) reply q' → q'.drawn ≡ q.drawn
+drawn_by_end q q' n reply (refused fault why is same) = ap (λ (s : State). s.drawn) same
+drawn_by_end q q' n reply (answered none is same) = ap (λ (s : State). s.drawn) same
+drawn_by_end q q' n reply (memory_refused none takes is same) = ap (λ (s : State). s.drawn) same
+drawn_by_end q q' n reply (device_failed none operates is same) = ap (λ (s : State). s.drawn) same
 
 -- a poll that told a timestamp, and an end
 pub covers-finish : {D A : Type 0} → {G : Ghosts D} → (state : D → Device) (old mid new : Room D G) (n t : ℕ) (polls : Result (Option ℕ) Fault) (read : Reply → Result A Fault) (result : Result A Fault)
@@ -78,12 +136,51 @@ covers-finish state old mid new n t polls read result obeys is ends q shows =
     let b = ends a.1 a.2.shows in
     (b.1, b.2.shows, ap (λ h. has_timestamp h t) (history_by_end a.1 b.1 n b.0 b.2.stepped) ∙ covered_by_poll q a.1 n t a.0 a.2.stepped (sym is ∙ a.3))
 
--- one after the other
-pub goes-then : {D : Type 0} → {G : Ghosts D} → (state : D → Device) (old mid new : Room D G) → GoesOn state old mid → GoesOn state mid new → GoesOn state old new
-goes-then state old mid new first last q shows = let a = first q shows in last a.0 a.1
+-- ---- a draw that draws nothing
 
--- a step and then others
-pub prepares : {D : Type 0} → {G : Ghosts D} → (state : D → Device) (old mid new : Room D G) (n : ℕ) (drawn : Option ℕ) (wrote : Bool) (result : Result (Option ℕ) Fault)
-    → Obeys state old mid (Draw n) drawn_of result → result ≡ Ok drawn → GoesOn state mid new → wrote ≡ is_some drawn → Prepares state old new n wrote
-prepares state old mid new n drawn wrote result obeys is goes wrote_is =
-    (mid, drawn, subst (λ r. Obeys state old mid (Draw n) drawn_of r) is obeys, goes, wrote_is)
+-- whether a timestamp was drawn
+abbrev has_drawn : Result (Option ℕ) Fault → Bool
+has_drawn (Ok (Some t)) = true
+has_drawn (Ok None) = false
+has_drawn (Err fault) = false
+
+-- a draw for nothing leaves what is drawn as it is
+drawn_for : (q : State) (n : ℕ) (writes : Writes) → has_drawn (drawn_of (cond (is_nil writes) Done (DrewAs q.next))) ≡ false → (state_drawn q n writes).drawn ≡ q.drawn
+drawn_for q n [] none = refl
+drawn_for q n (write ∷ writes) none = no_time none
+
+history_for : (q : State) (n : ℕ) (writes : Writes) → (state_drawn q n writes).history ≡ q.history
+history_for q n [] = refl
+history_for q n (write ∷ writes) = refl
+
+drawn_by_draw : (q q' : State) (n : ℕ) (reply : Reply) → Stepped q (Draw n) reply q' → has_drawn (drawn_of reply) ≡ false → q'.drawn ≡ q.drawn
+drawn_by_draw q q' n reply (refused fault why is same) none = ap (λ (s : State). s.drawn) same
+drawn_by_draw q q' n reply (answered free is same) none =
+    ap (λ (s : State). s.drawn) same ∙ drawn_for q n (writes_of (q.sessions n)) (ap (λ (r : Reply). has_drawn (drawn_of r)) (sym is) ∙ none)
+drawn_by_draw q q' n reply (memory_refused free takes is same) none = ap (λ (s : State). s.drawn) same
+drawn_by_draw q q' n reply (device_failed free operates is same) none = ap (λ (s : State). s.drawn) same
+
+history_by_draw : (q q' : State) (n : ℕ) (reply : Reply) → Stepped q (Draw n) reply q' → q'.history ≡ q.history
+history_by_draw q q' n reply (refused fault why is same) = ap (λ (s : State). s.history) same
+history_by_draw q q' n reply (answered free is same) = ap (λ (s : State). s.history) same ∙ history_for q n (writes_of (q.sessions n))
+history_by_draw q q' n reply (memory_refused free takes is same) = ap (λ (s : State). s.history) same
+history_by_draw q q' n reply (device_failed free operates is same) = ap (λ (s : State). s.history) same
+
+-- a draw that was refused
+pub nothing-refused : {D : Type 0} → {G : Ghosts D} → (state : D → Device) (old new : Room D G) (n : ℕ) (fault : Fault)
+    → Obeys state old new (Draw n) drawn_of (Err fault) → DrawsNothing state old new
+nothing-refused state old new n fault obeys q shows =
+    let a = obeys q shows in
+    (a.1, a.2.shows, drawn_by_draw q a.1 n a.0 a.2.stepped (ap has_drawn (sym a.3)), history_by_draw q a.1 n a.0 a.2.stepped)
+
+-- a draw of one who had written nothing, and an end
+pub nothing-ended : {D A : Type 0} → {G : Ghosts D} → (state : D → Device) (old mid new : Room D G) (n : ℕ) (read : Reply → Result A Fault) (result : Result A Fault)
+    → Obeys state old mid (Draw n) drawn_of (Ok None) → Obeys state mid new (End n) read result → DrawsNothing state old new
+nothing-ended state old mid new n read result draws ends q shows =
+    let a = draws q shows in
+    let b = ends a.1 a.2.shows in (
+      b.1,
+      b.2.shows,
+      drawn_by_end a.1 b.1 n b.0 b.2.stepped ∙ drawn_by_draw q a.1 n a.0 a.2.stepped (ap has_drawn (sym a.3)),
+      history_by_end a.1 b.1 n b.0 b.2.stepped ∙ history_by_draw q a.1 n a.0 a.2.stepped,
+    )

@@ -1,34 +1,83 @@
 -- What a call makes of a room.
-use Rattle.std.specs.Prelude.{◌≡◌, ℕ, Bool, true, Option, is_some, Result, Ok}
+use Rattle.std.specs.Prelude.{◌≡◌, ◌⊎◌, ℕ, Bool, true, false, List, replicate, ⊤, Option, Some, None, Result, Ok, Err}
 use Rattle.base.specs.declared.fault.Fault.{Fault}
+use Rattle.base.specs.declared.fault.Fault.TheVariants.{SlotsOut}
 use Rattle.base.specs.declared.step.Step.{Step}
-use Rattle.base.specs.declared.step.Step.TheVariants.{Draw}
+use Rattle.base.specs.declared.step.Step.TheVariants.{Put, Draw, Stamp, Poll, End, Collect}
 use Rattle.base.specs.declared.step.Reply.{Reply}
-use Rattle.base.specs.Machine.{State}
+use Rattle.base.specs.declared.key.Key.{Key}
+use Rattle.machine.specs.Machine.{State}
 use Rattle.base.specs.Stands.{has_timestamp}
 use Rattle.pmem.specs.Device.{Device}
 use Rattle.pmem.specs.declared.device.Pmem.{Ghosts}
 use Rattle.room.specs.declared.room.Room.{Room}
-use Rattle.room.specs.Room.{Shows, StepsTo}
-use Rattle.database.specs.Replies.{drawn_of}
+use Rattle.room.specs.Room.{Shows, StepsTo, RunsTo}
+use Rattle.database.specs.declared.error.CommitError.{CommitError}
+use Rattle.database.specs.declared.error.CommitError.TheVariants.{Refused, Open}
+use Rattle.database.specs.Replies.{done_of, drawn_of, stamped_of, committed_of}
 
 -- the room makes this step, and what is returned is read off its reply
 abbrev pub Obeys : {D A : Type 0} → {G : Ghosts D} → (D → Device) → Room D G → Room D G → Step → (Reply → Result A Fault) → Result A Fault → Type 0
 Obeys state old new step read result = (q : State) → Shows state old q → (reply : Reply) × (q' : State) × StepsTo state old new step reply q q' × (result ≡ read reply)
 
--- the room goes on: it shows a state of the plain machine
-abbrev pub GoesOn : {D : Type 0} → {G : Ghosts D} → (D → Device) → Room D G → Room D G → Type 0
-GoesOn state old new = (q : State) → Shows state old q → (q' : State) × Shows state new q'
+-- it makes this step so many times, and no other
+abbrev pub Repeats : {D : Type 0} → {G : Ghosts D} → (D → Device) → Room D G → Room D G → Step → Type 0
+Repeats state old new step =
+    (count : ℕ) × ((q : State) → Shows state old q → (replies : List Reply) × (states : List State) × RunsTo state old new (replicate count step) replies q states)
 
--- and one in which a commit with this timestamp is covered
+-- ---- a put
+
+-- The put is made; or it found no slot, the collector made visits, and the put is made after them
+abbrev pub PutsCollecting : {D : Type 0} → {G : Ghosts D} → (D → Device) → Room D G → Room D G → ℕ → Key → List ℕ → Result ⊤ Fault → Type 0
+PutsCollecting {D} {G} state old new session key row result =
+    Obeys state old new (Put session key row) done_of result
+    ⊎ ((refused collected : Room D G) × Obeys state old refused (Put session key row) done_of (Err SlotsOut) × Repeats state refused collected Collect × Obeys state collected new (Put session key row) done_of result)
+
+-- ---- a commit
+
+-- all keys are stamped, or the last stamp was refused
+abbrev pub all_stamped : Result ⊤ Fault → Result Bool Fault
+all_stamped (Ok done) = Ok true
+all_stamped (Err fault) = Err fault
+
+-- The session stamps, and the last stamp tells that all keys are stamped, or why it was refused
+abbrev pub StampsAll : {D : Type 0} → {G : Ghosts D} → (D → Device) → Room D G → Room D G → ℕ → Result ⊤ Fault → Type 0
+StampsAll {D} {G} state old new session result =
+    (mid : Room D G) × Repeats state old mid (Stamp session) × Obeys state mid new (Stamp session) stamped_of (all_stamped result)
+
+-- The session drew this timestamp, and then
+abbrev pub DrawsThen : {D : Type 0} → {G : Ghosts D} → (D → Device) → Room D G → ℕ → Option ℕ → (Room D G → Type 0) → Type 0
+DrawsThen {D} {G} state old session drawn Then = (mid : Room D G) × Obeys state old mid (Draw session) drawn_of (Ok drawn) × Then mid
+
+-- Something was written, and its timestamp is drawn and all its keys are stamped; or nothing was, and the transaction is
+-- ended. At a refusal the draw was refused, or that end; where it isn't known what becomes of the commit, a stamp was
+abbrev pub Prepares : {D : Type 0} → {G : Ghosts D} → (D → Device) → Room D G → Room D G → ℕ → Result Bool CommitError → Type 0
+Prepares state old new session (Ok true) = (t : ℕ) × DrawsThen state old session (Some t) (λ mid. StampsAll state mid new session (Ok tt))
+Prepares state old new session (Ok false) = DrawsThen state old session None (λ mid. Obeys state mid new (End session) done_of (Ok tt))
+Prepares state old new session (Err (Open fault)) = (t : ℕ) × DrawsThen state old session (Some t) (λ mid. StampsAll state mid new session (Err fault))
+Prepares state old new session (Err (Refused fault)) =
+    Obeys state old new (Draw session) drawn_of (Err fault) ⊎ DrawsThen state old session None (λ mid. Obeys state mid new (End session) done_of (Err fault))
+
+-- no commit is drawn, and none is covered, that wasn't before
+abbrev pub DrawsNothing : {D : Type 0} → {G : Ghosts D} → (D → Device) → Room D G → Room D G → Type 0
+DrawsNothing state old new = (q : State) → Shows state old q → (q' : State) × Shows state new q' × (q'.drawn ≡ q.drawn) × (q'.history ≡ q.history)
+
+-- so it is where the commit was refused
+abbrev pub IsRefusedWhole : {D : Type 0} → {G : Ghosts D} → (D → Device) → Room D G → Room D G → CommitError → Type 0
+IsRefusedWhole state old new (Refused fault) = DrawsNothing state old new
+IsRefusedWhole state old new (Open fault) = Unit {0}
+
+-- The session's own poll told the timestamp, and the transaction is ended; or it told that the commit isn't covered, and
+-- what the room showed it shows still; or one of both steps was refused
+abbrev pub Finishes : {D : Type 0} → {G : Ghosts D} → (D → Device) → Room D G → Room D G → ℕ → Result (Option ℕ) Fault → Type 0
+Finishes {D} {G} state old new session (Ok (Some t)) =
+    (mid : Room D G) × Obeys state old mid (Poll session) committed_of (Ok (Some t)) × Obeys state mid new (End session) done_of (Ok tt)
+Finishes state old new session (Ok None) =
+    Obeys state old new (Poll session) committed_of (Ok None) × ((q : State) → Shows state old q → Shows state new q)
+Finishes {D} {G} state old new session (Err fault) =
+    Obeys state old new (Poll session) committed_of (Err fault)
+    ⊎ ((mid : Room D G) × (t : ℕ) × Obeys state old mid (Poll session) committed_of (Ok (Some t)) × Obeys state mid new (End session) done_of (Err fault))
+
+-- a commit with this timestamp is covered in a state that the room shows then
 abbrev pub Covers : {D : Type 0} → {G : Ghosts D} → (D → Device) → Room D G → Room D G → ℕ → Type 0
 Covers state old new timestamp = (q : State) → Shows state old q → (q' : State) × Shows state new q' × (has_timestamp q'.history timestamp ≡ true)
-
--- so it does after others
-abbrev pub ObeysAfter : {D A : Type 0} → {G : Ghosts D} → (D → Device) → Room D G → Room D G → Step → (Reply → Result A Fault) → Result A Fault → Type 0
-ObeysAfter {D} {A} {G} state old new step read result = (mid : Room D G) × GoesOn state old mid × Obeys state mid new step read result
-
--- it draws for the session, which wrote something or not, and goes on
-abbrev pub Prepares : {D : Type 0} → {G : Ghosts D} → (D → Device) → Room D G → Room D G → ℕ → Bool → Type 0
-Prepares {D} {G} state old new session wrote =
-    (mid : Room D G) × (drawn : Option ℕ) × Obeys state old mid (Draw session) drawn_of (Ok drawn) × GoesOn state mid new × (wrote ≡ is_some drawn)

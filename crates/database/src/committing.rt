@@ -1,8 +1,7 @@
-ghost use Rattle.std.specs.Prelude.{IfOk, IfSome, OnOk};
-ghost use Rattle.base.specs.declared.step.Step.TheVariants.{Put};
-ghost use Rattle.database.specs.Replies.{done_of};
-ghost use Rattle.database.specs.Obeys.{GoesOn, ObeysAfter, Prepares, Covers};
+ghost use Rattle.std.specs.Prelude.{IfErr, IfOk, IfSome};
+ghost use Rattle.database.specs.Obeys.{PutsCollecting, StampsAll, Prepares, IsRefusedWhole, Finishes, Covers};
 
+use crate::error::CommitError;
 use crate::steps::{collect, draw, end, poll, put, stamp};
 use base::Ts;
 use base::fault::Fault;
@@ -19,15 +18,18 @@ pub fn put_collecting<D: Pmem + Drop>(
     key: Key,
     row: Row,
 ) -> Result<(), Fault>
-    ensures { ObeysAfter D.state room.old room.new (Put session key row) done_of result }
+    ensures { PutsCollecting D.state room.old room.new session key row result }
 {
     match put(room, session, key, row) {
-        Err(Fault::SlotsOut) => {
-            let places = room.geometry().slots().saturating_add(1);
-            collect(room, places);
-            put(room, session, key, row)
-        }
-        done => done,
+        Ok(()) => Ok(()),
+        Err(fault) => match fault {
+            Fault::SlotsOut => {
+                let places = room.geometry().slots().saturating_add(1);
+                collect(room, places);
+                put(room, session, key, row)
+            }
+            _ => Err(fault),
+        },
     }
 }
 
@@ -36,18 +38,22 @@ pub fn prepare<D: Pmem + Drop, R: Wait>(
     rt: &R,
     room: &mut Room<D>,
     session: u8,
-) -> Result<bool, Fault>
-    ensures { IfOk result (Prepares D.state room.old room.new session) }
+) -> Result<bool, CommitError>
+    ensures steps { Prepares D.state room.old room.new session result }
+    ensures refused { IfErr result (IsRefusedWhole D.state room.old room.new) }
 {
-    match draw(room, session)? {
-        Some(_) => {
-            stamp_all(rt, room, session)?;
-            Ok(true)
-        }
-        None => {
-            end(room, session)?;
-            Ok(false)
-        }
+    match draw(room, session) {
+        Ok(drawn) => match drawn {
+            Some(_) => match stamp_all(rt, room, session) {
+                Ok(()) => Ok(true),
+                Err(fault) => Err(CommitError::Open(fault)),
+            },
+            None => match end(room, session) {
+                Ok(()) => Ok(false),
+                Err(fault) => Err(CommitError::Refused(fault)),
+            },
+        },
+        Err(fault) => Err(CommitError::Refused(fault)),
     }
 }
 
@@ -57,11 +63,16 @@ pub fn stamp_all<D: Pmem + Drop, R: Wait>(
     room: &mut Room<D>,
     session: u8,
 ) -> Result<(), Fault>
-    ensures { OnOk result (GoesOn D.state room.old room.new) }
+    ensures { StampsAll D.state room.old room.new session result }
 {
     for _ in rt.forever() {
-        if stamp(room, session)? {
-            return Ok(());
+        match stamp(room, session) {
+            Ok(is_whole) => {
+                if is_whole {
+                    return Ok(());
+                }
+            }
+            Err(fault) => return Err(fault),
         }
     }
     unreachable!()
@@ -69,14 +80,19 @@ pub fn stamp_all<D: Pmem + Drop, R: Wait>(
 
 /// Ends the transaction once its commit is covered: its timestamp, or `None` where it isn't covered yet.
 pub fn finish<D: Pmem + Drop>(room: &mut Room<D>, session: u8) -> Result<Option<Ts>, Fault>
+    ensures steps { Finishes D.state room.old room.new session result }
+
     // A timestamp that is answered is of a commit that each crash from then on leaves.
-    ensures { IfOk result (λ answer. IfSome answer (λ timestamp. Covers D.state room.old room.new timestamp)) }
+    ensures covers { IfOk result (λ answer. IfSome answer (λ timestamp. Covers D.state room.old room.new timestamp)) }
 {
-    match poll(room, session)? {
-        Some(timestamp) => {
-            end(room, session)?;
-            Ok(Some(timestamp))
-        }
-        None => Ok(None),
+    match poll(room, session) {
+        Ok(polled) => match polled {
+            Some(timestamp) => match end(room, session) {
+                Ok(()) => Ok(Some(timestamp)),
+                Err(fault) => Err(fault),
+            },
+            None => Ok(None),
+        },
+        Err(fault) => Err(fault),
     }
 }

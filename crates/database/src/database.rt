@@ -1,10 +1,11 @@
+use crate::closing::close_room;
 use crate::desk::Shared;
-use crate::steps;
 use crate::transaction::Transaction;
 use crate::workers::start_workers;
 use base::fault::Fault;
+use base::geometry::Geometry;
 use pmem::Pmem;
-use room::Room;
+use room::{Room, Status};
 use std::alloc::Global;
 use std::sync::{Arc, Wait};
 use std::thread::Threads;
@@ -74,20 +75,31 @@ impl<D: Pmem + Drop, R: Wait + Drop> Drop for Database<D, R> {
 impl<D: Pmem + Drop, R: Wait + Drop> Database<D, R> {
     /// Begins a transaction, which reads the rows that are committed now, and what it writes. 62 may be open.
     pub fn begin(&self) -> Result<Transaction<'_, D, R>, Fault> {
-        let mut desk = self.shared.desk(&self.rt);
-        let Some(room) = &mut desk.room else {
+        let session = self.shared.desk(&self.rt).begin()?;
+        Ok(Transaction::new(&self.rt, &self.shared, session))
+    }
+
+    /// The numbers of the ruling record, its gaps and long commits, and the next timestamp.
+    pub fn status(&self) -> Status {
+        let desk = self.shared.desk(&self.rt);
+        let Some(room) = &desk.room else {
             unreachable!()
         };
-        let session = steps::begin(room)?;
-        Ok(Transaction::new(&self.rt, &self.shared, session))
+        room.status()
+    }
+
+    /// The layout of the device.
+    pub fn geometry(&self) -> Geometry {
+        let desk = self.shared.desk(&self.rt);
+        let Some(room) = &desk.room else {
+            unreachable!()
+        };
+        room.geometry()
     }
 
     /// Ends the workers, covers all that was committed, and returns the device. No transaction is open: each borrows from it.
     pub fn close(self) -> Result<D, Refused<D>> {
         self.shared.end_work(&self.rt);
-        match self.shared.take_out(&self.rt).close() {
-            Ok(device) => Ok(device),
-            Err((fault, device)) => Err(Refused { fault, device }),
-        }
+        close_room(self.shared.take_out(&self.rt))
     }
 }

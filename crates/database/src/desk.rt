@@ -1,3 +1,8 @@
+use crate::committing::finish;
+use crate::error::CommitError;
+use crate::steps;
+use base::Ts;
+use base::fault::Fault;
 use pmem::Pmem;
 use room::Room;
 use std::sync::{Condvar, Mutex, MutexGuard, Wait};
@@ -11,23 +16,99 @@ pub struct Desk<D: Pmem> {
     pub working: u64,
     /// They are to end.
     pub closing: bool,
+    /// How many transactions are open, those that wait for their commit among them.
+    pub open: u64,
     /// How many commits were covered since the collector's last round.
     pub covered: u64,
+    /// Whether the committer's last tick was refused for want of memory.
+    pub lacks_memory: bool,
+    /// Why nothing more will be covered.
+    pub ended: Option<Fault>,
+}
+
+impl<D: Pmem + Drop> Desk<D> {
+    /// Opens a transaction. The number of its session.
+    pub fn begin(&mut self) -> Result<u8, Fault> {
+        let Some(room) = &mut self.room else {
+            return Err(Fault::NoSession);
+        };
+        let session = steps::begin(room)?;
+        self.open = self.open.saturating_add(1);
+        Ok(session)
+    }
+
+    /// A transaction is over.
+    pub fn leave(&mut self) {
+        self.open = self.open.saturating_sub(1);
+    }
+
+    /// Gives up the transaction of this session.
+    pub fn abort(&mut self, session: u8) -> Result<(), Fault> {
+        let Some(room) = &mut self.room else {
+            return Err(Fault::NoSession);
+        };
+        steps::abort(room, session)
+    }
+
+    /// The answer to the session's commit, once there is one.
+    pub fn answer(&mut self, session: u8) -> Option<Result<Ts, CommitError>> {
+        let Some(room) = &mut self.room else {
+            return None;
+        };
+        match finish(room, session) {
+            Ok(Some(timestamp)) => Some(Ok(timestamp)),
+            Ok(None) => match self.ended {
+                Some(Fault::TimestampsOut) => {
+                    Some(Err(CommitError::Refused(Fault::TimestampsOut)))
+                }
+                Some(fault) => Some(Err(CommitError::Open(fault))),
+                None => None,
+            },
+            Err(fault) => Some(Err(CommitError::Open(fault))),
+        }
+    }
+
+    /// The greatest timestamp that is drawn, or 0.
+    pub fn last_drawn(&self) -> Ts {
+        match &self.room {
+            Some(room) => room.status().next.saturating_sub(1),
+            None => 0,
+        }
+    }
+
+    /// Whether each commit up to this timestamp is covered or given up.
+    pub fn is_settled(&self, timestamp: Ts) -> bool {
+        match &self.room {
+            Some(room) => self.ended.is_some() || timestamp <= room.status().persisted,
+            None => true,
+        }
+    }
+
+    /// Whether a round of the collector is due: a commit for each fourth slot was covered since the last one.
+    pub fn is_round_due(&self) -> bool {
+        match &self.room {
+            Some(room) => room.geometry().slots() / 4 <= self.covered,
+            None => false,
+        }
+    }
 }
 
 /// What the threads share.
 #[derive(Drop)]
 pub struct Shared<D: Pmem> {
     pub desk: Mutex<Desk<D>>,
-    /// There is work for a worker.
-    pub work: Condvar,
-    /// A batch is covered, the device has failed, or a worker has ended.
+    /// The committer sleeps on it.
+    pub commits: Condvar,
+    /// The collector sleeps on it.
+    pub rounds: Condvar,
+    /// Whoever waits for a commit or an end sleeps on it: a batch is covered, the committer was refused, a worker has ended.
     pub moved: Condvar,
 }
 
 impl<D: Pmem + Drop> Shared<D> {
     ghost use Rattle.std.specs.Prelude.{IsTrue, is_some};
     ghost use Rattle.std.specs.Sync.Mutex.{mutex_guard_value};
+    ghost use Rattle.database.specs.Opening.{IsFresh};
 
     /// No room yet.
     pub fn new() -> Shared<D> {
@@ -36,9 +117,13 @@ impl<D: Pmem + Drop> Shared<D> {
                 room: None,
                 working: 0,
                 closing: false,
+                open: 0,
                 covered: u64::MAX,
+                lacks_memory: false,
+                ended: None,
             }),
-            work: Condvar::new(),
+            commits: Condvar::new(),
+            rounds: Condvar::new(),
             moved: Condvar::new(),
         }
     }
@@ -57,24 +142,31 @@ impl<D: Pmem + Drop> Shared<D> {
         unreachable!()
     }
 
-    /// Puts the room in.
-    pub fn put_in<R: Wait>(&self, rt: &R, room: Room<D>) {
+    /// Puts the room in, as its opening left it.
+    pub fn put_in<R: Wait>(&self, rt: &R, room: Room<D>)
+        requires opened { IsFresh D.state room }
+    {
         let mut desk = self.desk.lock(rt);
         desk.room = Some(room);
-        self.work.notify_all();
+        self.wake_workers();
     }
 
     /// Tells the workers to end, and waits until they have.
     pub fn end_work<R: Wait>(&self, rt: &R) {
         let mut desk = self.desk.lock(rt);
         desk.closing = true;
-        self.work.notify_all();
+        self.wake_workers();
         for _ in rt.forever() {
             if desk.working == 0 {
                 return;
             }
             desk = self.moved.wait(rt, desk);
         }
+    }
+
+    fn wake_workers(&self) {
+        self.commits.notify_all();
+        self.rounds.notify_all();
     }
 
     /// A worker is there.

@@ -2,13 +2,18 @@
 //! is nothing to do. It keeps no history.
 #![tactic(auto)]
 
+mod closing;
 mod committing;
 mod database;
 mod desk;
+mod error;
 mod replies;
 mod steps;
 mod transaction;
+mod turns;
+mod waiting;
 mod workers;
 
 pub use database::{Database, Refused};
+pub use error::CommitError;
 pub use transaction::Transaction;

@@ -1,6 +1,6 @@
-ghost use Rattle.base.specs.declared.step.Step.TheVariants.{Begin, Get, Scan, Put, Delete, Draw, Stamp, Poll, Abort, End};
+ghost use Rattle.base.specs.declared.step.Step.TheVariants.{Begin, Get, Scan, Put, Delete, Draw, Stamp, Poll, Abort, End, Collect};
 ghost use Rattle.database.specs.Replies.{began_of, row_of, rows_of, done_of, drawn_of, stamped_of, committed_of};
-ghost use Rattle.database.specs.Obeys.{Obeys, GoesOn};
+ghost use Rattle.database.specs.Obeys.{Obeys, Repeats};
 
 use crate::replies::{began_of, committed_of, done_of, drawn_of, row_of, rows_of, stamped_of};
 use base::Ts;
@@ -105,7 +105,7 @@ pub fn end<D: Pmem + Drop>(room: &mut Room<D>, session: u8) -> Result<(), Fault>
 
 /// Visits so many places of the collector's round.
 pub fn collect<D: Pmem + Drop>(room: &mut Room<D>, places: u64)
-    ensures { GoesOn D.state room.old room.new }
+    ensures { Repeats D.state room.old room.new Collect }
 {
     for _ in 0..places {
         let reply = room.step(Step::Collect);

@@ -1,5 +1,6 @@
-use crate::committing::{finish, prepare, put_collecting};
+use crate::committing::put_collecting;
 use crate::desk::Shared;
+use crate::error::CommitError;
 use crate::steps;
 use base::Ts;
 use base::fault::Fault;
@@ -32,10 +33,8 @@ impl<D: Pmem + Drop, R: Wait> Drop for Transaction<'_, D, R> {
 // Aborts the transaction of this session.
 fn give_up<D: Pmem + Drop, R: Wait>(rt: &R, shared: &Shared<D>, session: u8) -> Result<(), Fault> {
     let mut desk = shared.desk(rt);
-    let Some(room) = &mut desk.room else {
-        unreachable!()
-    };
-    steps::abort(room, session)
+    desk.leave();
+    desk.abort(session)
 }
 
 impl<'a, D: Pmem + Drop, R: Wait> Transaction<'a, D, R> {
@@ -102,44 +101,13 @@ impl<'a, D: Pmem + Drop, R: Wait> Transaction<'a, D, R> {
     }
 
     /// Commits, and returns once that is durable: its timestamp, or `None` if nothing was written. At an error the transaction
-    /// is over, and nothing of it was committed; but after `Device` or `Failed` the next opening finds all of it or nothing.
-    pub fn commit(mut self) -> Result<Option<Ts>, Fault> {
-        let session = self.session.ok_or(Fault::NoSession)?;
-        let wrote = self.prepare(session)?;
-        self.session = None;
-        if !wrote {
-            return Ok(None);
-        }
-        self.shared.work.notify_all();
-        self.wait(session)
-    }
-
-    // Draws and stamps, once the committer has reserved timestamps. Whether something was written.
-    fn prepare(&self, session: u8) -> Result<bool, Fault> {
-        let mut desk = self.shared.desk(self.rt);
-        for _ in self.rt.forever() {
-            if let Some(room) = &mut desk.room {
-                match prepare(self.rt, room, session) {
-                    Err(Fault::WindowFull) => {}
-                    prepared => return prepared,
-                }
-            }
-            desk = self.shared.moved.wait(self.rt, desk);
-        }
-        unreachable!()
-    }
-
-    // Waits until the commit is covered.
-    fn wait(&self, session: u8) -> Result<Option<Ts>, Fault> {
-        let mut desk = self.shared.desk(self.rt);
-        for _ in self.rt.forever() {
-            if let Some(room) = &mut desk.room {
-                if let Some(timestamp) = finish(room, session)? {
-                    return Ok(Some(timestamp));
-                }
-            }
-            desk = self.shared.moved.wait(self.rt, desk);
-        }
-        unreachable!()
+    /// is over; `CommitError` tells whether something of it may be committed. `Conflict` is answered once the commit in the
+    /// way is covered or given up, so that whoever begins again then sees it. `OutOfMemory` is answered where the committer
+    /// was refused memory a hundred times in a row.
+    pub fn commit(mut self) -> Result<Option<Ts>, CommitError> {
+        let Some(session) = self.session.take() else {
+            return Err(CommitError::Refused(Fault::NoSession));
+        };
+        self.shared.commit(self.rt, session)
     }
 }

@@ -1,11 +1,11 @@
 ghost use Rattle.std.specs.Prelude.{◌≡◌, ◌⊎◌, IfErr};
 ghost use Rattle.base.specs.declared.fault.Fault.TheVariants.{OutOfMemory, NoThread};
 
-use crate::desk::{Desk, Shared};
+use crate::desk::Shared;
+use crate::turns;
+use crate::turns::Turn;
 use base::fault::Fault;
-use base::step::{Reply, Step};
 use pmem::Pmem;
-use room::Room;
 use std::alloc::Global;
 use std::sync::{Arc, Wait};
 use std::thread;
@@ -32,17 +32,6 @@ pub fn start_workers<
 enum Duty {
     Commit,
     Collect,
-}
-
-// What a worker does after a turn.
-#[derive(Clone, Copy)]
-enum Then {
-    Again,
-    // It tells the others first that it covered a batch, or ended a round.
-    Tell,
-    Sleep,
-    // It tells the others first that the device has failed.
-    Stop,
 }
 
 // Starts a worker. Nobody joins its thread, which would keep the database to one thread: it counts itself out instead.
@@ -77,65 +66,22 @@ fn work<R: Wait + Drop, D: Pmem + Drop>(rt: &R, shared: &Arc<Shared<D>, Global>,
         if desk.closing {
             break;
         }
-        match turn(&mut desk, duty) {
-            Then::Again => {}
-            Then::Tell => {
-                shared.moved.notify_all();
-                shared.work.notify_all();
+        let turn = match duty {
+            Duty::Commit => turns::commit(&mut desk),
+            Duty::Collect => turns::collect(&mut desk),
+        };
+        shared.tell(&desk, turn);
+        match (turn, duty) {
+            (Turn::Unfinished, _) | (Turn::Finished, Duty::Commit) => {}
+            // The record that drops swept gaps is due.
+            (Turn::Finished, Duty::Collect) => shared.commits.notify_all(),
+            (Turn::Idle | Turn::LacksMemory | Turn::Stopped, Duty::Commit) => {
+                drop(shared.commits.wait(rt, desk));
             }
-            Then::Sleep => drop(shared.work.wait(rt, desk)),
-            Then::Stop => {
-                shared.moved.notify_all();
-                drop(shared.work.wait(rt, desk));
+            (Turn::Idle | Turn::LacksMemory | Turn::Stopped, Duty::Collect) => {
+                drop(shared.rounds.wait(rt, desk));
             }
         }
     }
     shared.end_working(rt);
-}
-
-// One turn under the lock.
-fn turn<D: Pmem + Drop>(desk: &mut Desk<D>, duty: Duty) -> Then {
-    let Some(room) = &mut desk.room else {
-        return Then::Sleep;
-    };
-    match duty {
-        Duty::Commit => commit(room, &mut desk.covered),
-        Duty::Collect => visit(room, &mut desk.covered),
-    }
-}
-
-// A tick of the committer.
-fn commit<D: Pmem + Drop>(room: &mut Room<D>, covered: &mut u64) -> Then {
-    match room.step(Step::Commit) {
-        Reply::Idle => Then::Sleep,
-        Reply::Covered(batch) => {
-            *covered = covered.saturating_add(batch.commits().len() as u64);
-            Then::Tell
-        }
-        Reply::Refused(fault) => after_refusal(fault),
-        _ => Then::Again,
-    }
-}
-
-// A visit of the collector. It begins a round once a commit for each fourth slot was covered since the last one.
-fn visit<D: Pmem + Drop>(room: &mut Room<D>, covered: &mut u64) -> Then {
-    if *covered < room.geometry().slots() / 4 {
-        return Then::Sleep;
-    }
-    match room.step(Step::Collect) {
-        Reply::SweepEnd => {
-            *covered = 0;
-            Then::Tell
-        }
-        Reply::Refused(fault) => after_refusal(fault),
-        _ => Then::Again,
-    }
-}
-
-// Want of memory passes; nothing else does.
-fn after_refusal(fault: Fault) -> Then {
-    match fault {
-        Fault::OutOfMemory => Then::Again,
-        _ => Then::Stop,
-    }
 }

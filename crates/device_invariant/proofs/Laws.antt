@@ -5,7 +5,7 @@ use Rattle.std.proofs.lemmas.Bool.{cases_eq}
 use Rattle.base.specs.declared.key.Key.{Key}
 use Rattle.base.specs.Layout.{slot_words}
 use Rattle.base.specs.Records.{Record, is_committed}
-use Rattle.base.specs.Machine.{State, Hand, Version}
+use Rattle.machine.specs.Machine.{State, Hand, Version}
 use Rattle.pmem.specs.Device.{Device, stored}
 use Rattle.pmem.specs.Words.{Survives, value_of}
 use Rattle.base.specs.Actors.{committer}

@@ -4,7 +4,7 @@ use Rattle.std.specs.Prelude.{Some, None}
 use Rattle.std.proofs.lemmas.Bool.{cases_eq}
 use Rattle.base.specs.declared.key.Key.{Key}
 use Rattle.base.specs.Layout.{slot_words}
-use Rattle.base.specs.Machine.{State, Version, BySession}
+use Rattle.machine.specs.Machine.{State, Version, BySession}
 use Rattle.pmem.specs.Device.{Device, stored}
 use Rattle.pmem.specs.Words.{value_of}
 use Rattle.state_invariant.specs.Kept.{Origin, version_by}

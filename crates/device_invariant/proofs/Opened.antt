@@ -10,10 +10,10 @@ use Rattle.base.specs.Layout.{Layout, slot_words}
 use Rattle.base.specs.Records.{is_committed}
 use Rattle.base.specs.Images.{layout_of, ruling, begin_of, end_of}
 use Rattle.base.specs.Stands.{has_timestamp}
-use Rattle.base.specs.Machine.{State, Drawn, Session, Version, BySession, ByCommit, drawn_at, drawn_of, writes_of}
-use Rattle.base.specs.Openings.{gaps_kept, opened_slots}
+use Rattle.machine.specs.Machine.{State, Drawn, Session, Version, BySession, ByCommit, drawn_at, drawn_of, writes_of}
+use Rattle.machine.specs.Openings.{gaps_kept, opened_slots}
 use Rattle.base.specs.Records.{opened_gaps}
-use Rattle.base.proofs.Opened.{IsOpening, ruled_before, opening-of, opened-below}
+use Rattle.machine.proofs.Opened.{IsOpening, ruled_before, opening-of, opened-below}
 use Rattle.pmem.specs.Device.{Device}
 use Rattle.pmem.specs.Words.{value_of, IsSettled, EachSurvivor}
 use Rattle.state_invariant.specs.Kept.{origin_of, Keeps, version_by, row_by, row_in, commit_at, commits_of_life}

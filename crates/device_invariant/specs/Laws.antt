@@ -4,10 +4,10 @@ use Rattle.base.specs.declared.key.Key.{Key}
 use Rattle.base.specs.Layout.{Layout, slot_words}
 use Rattle.base.specs.Records.{Record, is_in, is_committed}
 use Rattle.base.specs.Images.{Image, opening_fault}
-use Rattle.base.specs.Openings.{IsUpToDate, OpensAs, opened_slots}
+use Rattle.machine.specs.Openings.{IsUpToDate, OpensAs, opened_slots}
 use Rattle.base.specs.Stands.{Stands}
 use Rattle.base.specs.Commits.{Commit, writes_key, last_writer}
-use Rattle.base.specs.Machine.{State, Session, Drawn, Hand, Version, BySession, ByCommit, drawn_at, lines_of, state_covered, StandsAt}
+use Rattle.machine.specs.Machine.{State, Session, Drawn, Hand, Version, BySession, ByCommit, drawn_at, lines_of, state_covered, StandsAt}
 use Rattle.pmem.specs.Device.{Device, IsOrderly, MayLeave, stored, flushed, fenced, failed}
 use Rattle.pmem.specs.Words.{Survives, value_of, image_of, IsSettledAt}
 use Rattle.pmem.specs.Trace.{applied}

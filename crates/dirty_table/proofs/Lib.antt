@@ -1,4 +1,4 @@
 pub mod Tables
 pub mod Members
-pub mod Counts
 pub mod Promised
+pub mod Places

@@ -1,6 +1,6 @@
-ghost use Rattle.std.specs.Prelude.{◌≡◌, ◌+◌, ◌<◌, ◌≤◌, nat_le, vec_len, vec_capacity, ◌&&◌, find};
+ghost use Rattle.std.specs.Prelude.{◌≡◌, ◌+◌, ◌<◌, ◌≤◌, nat_le, vec_len, vec_capacity, ◌&&◌, find, drop, IsTrue};
 ghost use Rattle.std.specs.List.{position_or_len};
-ghost use Rattle.dirty_table.specs.Touches.{has, is_touched, with_touch};
+ghost use Rattle.dirty_table.specs.Touches.{has, is_touched, are_from, are_in_order, with_touch};
 
 use crate::sessions::SessionSet;
 
@@ -11,28 +11,49 @@ pub struct Touch {
     pub session: u8,
 }
 
-/// Whether the session touches the line.
+/// Whether the session touches the line, among the lines by rising line.
 pub(crate) fn is_touched(touches: &[Touch], session: u8, line: u64) -> bool
+    requires { IsTrue (are_in_order touches.now) }
     ensures { result ≡ is_touched touches.now session line }
 {
-    touches
-        .iter()
-        .any(|touch| touch.session == session && touch.line == line)
+    has_session(from_line(touches, line), session, line)
 }
 
 // How many come before the first whose line isn't below.
 fn place(touches: &[Touch], line: u64) -> usize
+    requires { IsTrue (are_in_order touches.now) }
     ensures { result ≡ position_or_len (λ touch. nat_le line touch.line) touches.now }
 {
-    touches
+    touches.partition_point(|touch| touch.line < line)
+}
+
+// Those whose lines aren't below this one.
+fn from_line(touches: &[Touch], line: u64) -> &[Touch]
+    requires { IsTrue (are_in_order touches.now) }
+    ensures { result.now ≡ drop (position_or_len (λ touch. nat_le line touch.line) touches.now) touches.now }
+{
+    let (_, rest) = touches.split_at(place(touches, line));
+    rest
+}
+
+// Whether the session touches the line, where none is below it.
+fn has_session(touches: &[Touch], session: u8, line: u64) -> bool
+    requires { IsTrue (are_from line touches.now) }
+    ensures { result ≡ is_touched touches.now session line }
+{
+    match touches
         .iter()
-        .position(|touch| line <= touch.line)
-        .unwrap_or(touches.len())
+        .find(|touch| touch.line != line || touch.session == session)
+    {
+        Some(touch) => touch.line == line,
+        None => false,
+    }
 }
 
 /// Puts one in, where there is room, unless it is there.
 pub(crate) fn add(touches: &mut Vec<Touch>, touch: Touch)
-    requires { vec_len touches.old < vec_capacity touches.old }
+    requires order { IsTrue (are_in_order touches.old.items) }
+    requires room { vec_len touches.old < vec_capacity touches.old }
     ensures items { touches.new.items ≡ with_touch touch touches.old.items }
     ensures len { vec_len touches.new ≤ vec_len touches.old + 1 }
     ensures capacity { vec_capacity touches.old ≤ vec_capacity touches.new }
@@ -46,9 +67,10 @@ pub(crate) fn add(touches: &mut Vec<Touch>, touch: Touch)
 
 /// The first, from this line on, of one of the sessions.
 pub(crate) fn first(touches: &[Touch], sessions: &SessionSet, from: u64) -> Option<Touch>
+    requires { IsTrue (are_in_order touches.now) }
     ensures { result ≡ find (λ touch. nat_le from touch.line && has sessions.now touch.session) touches.now }
 {
-    touches
+    from_line(touches, from)
         .iter()
         .find(|touch| from <= touch.line && sessions.contains(touch.session))
         .copied()

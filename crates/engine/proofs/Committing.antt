@@ -11,12 +11,16 @@ use Rattle.engine.specs.declared.phase.Phase.{Phase}
 use Rattle.engine.specs.declared.phase.Phase.TheVariants.{Idle, Active, Drawn, Stamped, Covered}
 use Rattle.engine.specs.Phases.{number_of, IsOpenAs}
 use Rattle.engine.specs.Receipts.{Asks, Refuses}
-use Rattle.engine.specs.Calls.{Called, AskPrepare, AskCommit, ArePolls, TellsCommit, TellsLast, TellsFault, DeclinesCall, note_of_commit}
+use Rattle.engine.specs.Calls.{Called, AskPrepare, AskCommit, ArePolls, TellsCommit, TellsLast, TellsFault, TellsEnd, DeclinesCall, note_of_commit}
 use Rattle.engine.proofs.Calls.{Called-none, Called-append, Called-weaken, Called-more}
 
 TellsFault-append : (one two : List Receipt) (fault : Fault) → TellsFault two fault → TellsFault (one ++ two) fault
 TellsFault-append one two fault (inl none) = inl none
 TellsFault-append one two fault (inr (before, r, is, told)) = inr (one ++ before, r, ap (λ (rs : List Receipt). one ++ rs) is ∙ sym (append_assoc one before (r ∷ [])), told)
+
+TellsEnd-append : (E : Fault → Type 0) (one two : List Receipt) (fault : Fault) → TellsEnd E two fault → TellsEnd E (one ++ two) fault
+TellsEnd-append E one two fault (inl tells) = inl (TellsFault-append one two fault tells)
+TellsEnd-append E one two fault (inr ended) = inr ended
 
 asks_some : (phase : Phase) (n : ℕ) (one two three : List Receipt) → n ≡ number_of phase → AskPrepare phase one → ArePolls n two → All (λ r. r.step ≡ End n) three → length three ≤ 1
     → AskCommit phase (one ++ (two ++ three))
@@ -32,34 +36,34 @@ asks_some phase n one two three is asks polls ends short = record {
 }
 
 -- where a transaction is open, a call is declined as its steps tell
-pub declines : (phase : Phase) (added : List Receipt) (fault : Fault) → phase ≢ Idle → TellsFault added fault → DeclinesCall phase added fault
-declines Idle added fault is_open tells = absurd (is_open refl)
-declines (Active n) added fault is_open tells = tells
-declines (Drawn n t) added fault is_open tells = tells
-declines (Stamped n t) added fault is_open tells = tells
-declines (Covered n) added fault is_open tells = tells
+pub declines : (E : Fault → Type 0) (phase : Phase) (added : List Receipt) (fault : Fault) → phase ≢ Idle → TellsEnd E added fault → DeclinesCall E phase added fault
+declines E Idle added fault is_open tells = absurd (is_open refl)
+declines E (Active n) added fault is_open tells = tells
+declines E (Drawn n t) added fault is_open tells = tells
+declines E (Stamped n t) added fault is_open tells = tells
+declines E (Covered n) added fault is_open tells = tells
 
 -- none is open
-pub commit_idle : (old : List Receipt) (phase : Phase) → phase ≡ Idle → Called old old (λ added. AskCommit phase added × DeclinesCall phase added NoSession)
-commit_idle old phase is = Called-none old _ (subst (λ (p : Phase). AskCommit p [] × DeclinesCall p [] NoSession) (sym is) (none, refl))
+pub commit_idle : (E : Fault → Type 0) (old : List Receipt) (phase : Phase) → phase ≡ Idle → Called old old (λ added. AskCommit phase added × DeclinesCall E phase added NoSession)
+commit_idle E old phase is = Called-none old _ (subst (λ (p : Phase). AskCommit p [] × DeclinesCall E p [] NoSession) (sym is) (none, (refl, refl)))
   where
     none : AskCommit Idle []
     none = record { prepare = []; polls = []; end = []; is = refl; asks = refl; all_polls = All-nil (λ (r : Receipt). r.step ≡ Poll 0); ends = All-nil (λ (r : Receipt). r.step ≡ End 0); one_end = omega arith }
 
 -- the prepare failed
-pub commit_only_prepared : (old new : List Receipt) (phase : Phase) (fault : Fault) → Called old new (λ added. AskPrepare phase added × DeclinesCall phase added fault)
-    → Called old new (λ added. AskCommit phase added × DeclinesCall phase added fault)
-commit_only_prepared old new phase fault c = Called-weaken _ _ _ _ c (λ added tells. (
+pub commit_only_prepared : (E : Fault → Type 0) (old new : List Receipt) (phase : Phase) (fault : Fault) → Called old new (λ added. AskPrepare phase added × DeclinesCall E phase added fault)
+    → Called old new (λ added. AskCommit phase added × DeclinesCall E phase added fault)
+commit_only_prepared E old new phase fault c = Called-weaken _ _ _ _ c (λ added tells. (
   subst (AskCommit phase) (append-nil added) (asks_some phase (number_of phase) added [] [] refl tells.0 (All-nil (λ (r : Receipt). r.step ≡ Poll (number_of phase))) (All-nil (λ (r : Receipt). r.step ≡ End (number_of phase))) (omega arith)),
   tells.1,
 ))
 
 -- a poll failed
-pub commit_polled : (old mid new : List Receipt) (phase : Phase) (n : ℕ) (fault : Fault) (R : List Receipt → Type 0) → IsOpenAs n phase → Called old mid (λ one. AskPrepare phase one × R one)
-    → Called mid new (λ two. ArePolls n two × TellsFault two fault) → Called old new (λ added. AskCommit phase added × DeclinesCall phase added fault)
-commit_polled old mid new phase n fault R is c d = Called-append _ _ _ _ _ _ c d (λ one two prepared polled. (
+pub commit_polled : (E : Fault → Type 0) (old mid new : List Receipt) (phase : Phase) (n : ℕ) (fault : Fault) (R : List Receipt → Type 0) → IsOpenAs n phase → Called old mid (λ one. AskPrepare phase one × R one)
+    → Called mid new (λ two. ArePolls n two × TellsEnd E two fault) → Called old new (λ added. AskCommit phase added × DeclinesCall E phase added fault)
+commit_polled E old mid new phase n fault R is c d = Called-append _ _ _ _ _ _ c d (λ one two prepared polled. (
   subst (λ (rs : List Receipt). AskCommit phase (one ++ rs)) (append-nil two) (asks_some phase n one two [] is.number prepared.0 polled.0 (All-nil (λ (r : Receipt). r.step ≡ End n)) (omega arith)),
-  declines phase _ fault is.is_open (TellsFault-append one two fault polled.1),
+  declines E phase _ fault is.is_open (TellsEnd-append E one two fault polled.1),
 ))
 
 -- it ended
@@ -93,20 +97,20 @@ commit_ended old mid mid' new phase n answer R is c d a =
         last_of (x ∷ before) poll all = last_of before poll (All-tail (λ (s : Receipt). s.step ≡ Poll n) x (before ++ poll ∷ []) all)
 
 -- the end failed
-pub commit_end_failed : (old mid mid' new : List Receipt) (phase : Phase) (n : ℕ) (fault : Fault) (R S : List Receipt → Type 0) → IsOpenAs n phase → Called old mid (λ one. AskPrepare phase one × R one)
-    → Called mid mid' (λ two. ArePolls n two × S two) → Refuses mid' new (End n) fault → Called old new (λ added. AskCommit phase added × DeclinesCall phase added fault)
-commit_end_failed old mid mid' new phase n fault R S is c d (inl (same, none)) =
-    subst (λ (rs : List Receipt). Called old rs (λ added. AskCommit phase added × DeclinesCall phase added fault)) (sym same)
-    (commit_polled old mid mid' phase n fault R is c (Called-weaken _ _ _ _ d (λ two polled. (polled.0, inl none))))
-commit_end_failed old mid mid' new phase n fault R S is c d (inr a) =
+pub commit_end_failed : (E : Fault → Type 0) (old mid mid' new : List Receipt) (phase : Phase) (n : ℕ) (fault : Fault) (R S : List Receipt → Type 0) → IsOpenAs n phase → Called old mid (λ one. AskPrepare phase one × R one)
+    → Called mid mid' (λ two. ArePolls n two × S two) → Refuses mid' new (End n) fault → Called old new (λ added. AskCommit phase added × DeclinesCall E phase added fault)
+commit_end_failed E old mid mid' new phase n fault R S is c d (inl (same, none)) =
+    subst (λ (rs : List Receipt). Called old rs (λ added. AskCommit phase added × DeclinesCall E phase added fault)) (sym same)
+    (commit_polled E old mid mid' phase n fault R is c (Called-weaken _ _ _ _ d (λ two polled. (polled.0, inl (inl none)))))
+commit_end_failed E old mid mid' new phase n fault R S is c d (inr a) =
     Called-append _ _ _ _ (λ three. (two : List Receipt) × (r : Receipt) × (three ≡ two ++ r ∷ []) × ArePolls n two × (r.step ≡ End n) × (r.note ≡ Refused fault)) _ c
     (Called-more _ _ _ _ _ _ _ d a (λ two r polled step told. (two, r, refl, polled.0, step, told))) join
   where
     join : (one three : List Receipt) → AskPrepare phase one × R one
         → (two : List Receipt) × (r : Receipt) × (three ≡ two ++ r ∷ []) × ArePolls n two × (r.step ≡ End n) × (r.note ≡ Refused fault)
-        → AskCommit phase (one ++ three) × DeclinesCall phase (one ++ three) fault
+        → AskCommit phase (one ++ three) × DeclinesCall E phase (one ++ three) fault
     join one three prepared (two, r, same, polls, step, told) = (
       subst (λ (rs : List Receipt). AskCommit phase (one ++ rs)) (sym same)
           (asks_some phase n one two (r ∷ []) is.number prepared.0 polls (All-cons (λ (s : Receipt). s.step ≡ End n) r [] step (All-nil (λ (s : Receipt). s.step ≡ End n))) (omega arith)),
-      declines phase _ fault is.is_open (TellsFault-append one three fault (inr (two, r, same, told))),
+      declines E phase _ fault is.is_open (inl (TellsFault-append one three fault (inr (two, r, same, told)))),
     )

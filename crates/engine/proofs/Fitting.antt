@@ -2,8 +2,8 @@
 use Rattle.std.proofs.Common.{◌≡◌, true}
 use Rattle.std.proofs.Math.Logic.{∥∥₁_elim}
 use Rattle.std.specs.Coded.{Coded-set, coded_bool}
-use Rattle.base.specs.Notes.{fits}
-use Rattle.base.proofs.Notes.{runs-fit}
+use Rattle.machine.specs.Notes.{fits}
+use Rattle.machine.proofs.Notes.{runs-fit}
 use Rattle.audited.specs.declared.receipt.Receipt.{Receipt}
 use Rattle.audited.specs.Audit.{EndsRun}
 

@@ -28,10 +28,14 @@ TellsLast added note = (before : List Receipt) × (r : Receipt) × (added ≡ be
 abbrev pub TellsFault : List Receipt → Fault → Type 0
 TellsFault added fault = (fault ≡ OutOfMemory) ⊎ TellsLast added (Refused fault)
 
--- so it is where a transaction is open, and else the fault is NoSession
-abbrev pub DeclinesCall : Phase → List Receipt → Fault → Type 0
-DeclinesCall Idle added fault = fault ≡ NoSession
-DeclinesCall _ added fault = TellsFault added fault
+-- so it is, or the fault is what ended the committer
+abbrev pub TellsEnd : (Fault → Type 0) → List Receipt → Fault → Type 0
+TellsEnd Ended added fault = TellsFault added fault ⊎ Ended fault
+
+-- so it is where a transaction is open, and else the fault is NoSession and no step was made
+abbrev pub DeclinesCall : (Fault → Type 0) → Phase → List Receipt → Fault → Type 0
+DeclinesCall Ended Idle added fault = (fault ≡ NoSession) × (added ≡ [])
+DeclinesCall Ended _ added fault = TellsEnd Ended added fault
 
 -- ---- a prepare
 

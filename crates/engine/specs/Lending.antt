@@ -1,8 +1,12 @@
 -- What is asked of the room under the lock.
-use Rattle.std.specs.Prelude.{◌-◌, ℕ, ◌≤◌, Bool, true, false, List, length, slice_get, Option, MatchOption}
+use Rattle.std.specs.Prelude.{◌≡◌, ◌-◌, ℕ, ◌≤◌, nat_le, nat_lt, nat_eq, Bool, true, false, not, ◌&&◌, if◌then◌else◌, List, length, slice_get, Option, Some, None, MatchOption, Result, Ok, Err}
+use Rattle.std.specs.List.{list_any}
 use Rattle.std.specs.Option.{option_map_or}
-use Rattle.base.specs.declared.fault.Fault.TheVariants.{Device as DeviceFault, Failed}
+use Rattle.base.specs.Records.{Record}
+use Rattle.base.specs.declared.fault.Fault.{Fault}
+use Rattle.base.specs.declared.fault.Fault.TheVariants.{Device as DeviceFault, Failed, OutOfMemory}
 use Rattle.base.specs.declared.step.Step.{Step}
+use Rattle.base.specs.declared.step.Step.TheVariants.{Commit}
 use Rattle.base.specs.declared.step.Note.{Note}
 use Rattle.base.specs.declared.step.Note.TheVariants.{Refused}
 use Rattle.pmem.specs.declared.device.Pmem.{Ghosts}
@@ -21,3 +25,40 @@ is_failure _ = false
 -- it had by the last of these steps
 abbrev pub has_failed : List (Step × Note) → Bool
 has_failed entries = option_map_or (λ entry. is_failure entry.1) (slice_get entries (length entries - 1)) false
+
+-- ---- the committer's end
+
+-- the fault with which the step was refused, where it is the committer's
+abbrev pub halting : Step → Note → Option Fault
+halting Commit (Refused fault) = Some fault
+halting _ _ = None
+
+-- the first of the two that there is
+abbrev pub first_of : Option Fault → Option Fault → Option Fault
+first_of (Some fault) other = Some fault
+first_of None other = other
+
+-- what the committer was refused with last, after a step with this note
+abbrev pub halted_after : Option Fault → Step → Note → Option Fault
+halted_after halted step note = first_of (halting step note) halted
+
+-- why nothing will be covered: what the committer was refused with, or that it was refused memory more than a hundred times in a row
+abbrev pub why_not : Option Fault → ℕ → Option Fault
+why_not (Some fault) refusals = Some fault
+why_not None refusals = if nat_lt 100 refusals then Some OutOfMemory else None
+
+-- ---- a wait for a timestamp
+
+-- it is persisted, and isn't that of a long commit
+abbrev pub is_covered_in : ℕ → List ℕ → ℕ → Bool
+is_covered_in persisted longs timestamp = nat_le timestamp persisted && not (list_any (nat_eq timestamp) longs)
+
+abbrev pub is_covered : Record → ℕ → Bool
+is_covered ruling timestamp = is_covered_in ruling.persisted ruling.longs timestamp
+
+-- How a wait ends: with Ok once the timestamp is covered, with the fault why it won't be, and else with Ok where the device has failed
+abbrev pub waited : Bool → Option Fault → Bool → Option (Result (Unit {0}) Fault)
+waited true why failed = Some (Ok tt)
+waited false (Some fault) failed = Some (Err fault)
+waited false None true = Some (Ok tt)
+waited false None false = None

@@ -1,6 +1,15 @@
 -- Where a room's history comes from.
-use Rattle.std.specs.Prelude.{Option, IfSome}
-use Rattle.base.specs.Images.{Image}
+use Rattle.std.specs.Prelude.{◌≡◌, ℕ, List, [], ◌∷◌, ◌++◌, None}
+use Rattle.base.specs.declared.fault.Fault.{Fault}
+use Rattle.base.specs.declared.step.Note.{Note}
+use Rattle.base.specs.declared.step.Note.TheVariants.{Refused}
+use Rattle.base.specs.declared.step.Step.{Step}
+use Rattle.base.specs.declared.step.Step.TheVariants.{Commit as Tick}
+use Rattle.base.specs.Commits.{Commit}
+use Rattle.base.specs.Stands.{Stands}
+use Rattle.machine.specs.Machine.{State, Noted}
+use Rattle.machine.specs.Openings.{OpensAs}
+use Rattle.base.specs.Images.{Image, opening_fault}
 use Rattle.pmem.specs.Device.{Device}
 use Rattle.pmem.specs.declared.device.Pmem.{Ghosts}
 use Rattle.audited.specs.Audit.{IsAudited}
@@ -9,3 +18,12 @@ use Rattle.audited.specs.declared.audited.Audited.{Audited}
 -- the room's history is a run from this image
 abbrev pub IsFrom : {D : Type 0} → {G : Ghosts D} → (D → Device) → Image → Audited D G → Type 0
 IsFrom state image audited = ∥ IsAudited state audited.room image audited.opening audited.entries.items ∥₁
+
+-- the image opens, and whatever history it stands for, the entries are a run from the state that it opens as
+pub record IsRunFrom (image : Image) (entries : List (Step × Note)) : Type 0 where
+  pub may_open : opening_fault image ≡ None
+  pub runs : (history drawn : List Commit) (next : ℕ) (lost : List ℕ) → Stands image history drawn next → (start now : State) × OpensAs image history lost start × Noted start entries now
+
+-- a run from this image ends in a tick of the committer that was refused with this fault
+abbrev pub HasHalted : Image → Fault → Type 0
+HasHalted image fault = ∥ ((before : List (Step × Note)) × IsRunFrom image (before ++ (Tick, Refused fault) ∷ [])) ∥₁

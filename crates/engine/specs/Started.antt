@@ -1,7 +1,7 @@
 -- What an engine publishes as it starts.
 use Rattle.std.specs.Prelude.{◌≡◌, []}
 use Rattle.base.specs.Commits.{Lists, after}
-use Rattle.base.specs.Machine.{State}
+use Rattle.machine.specs.Machine.{State}
 use Rattle.base.specs.Published.{Published}
 
 -- the tables of the state alone, at the stamp of its ruling record

@@ -1,18 +1,20 @@
-ghost use Rattle.std.specs.Prelude.{◌≡◌, ◌↔◌, ◌≤◌, IsTrue, true, IfSome, IfNone};
+ghost use Rattle.std.specs.Prelude.{◌≡◌, ◌↔◌, ◌≤◌, IsTrue, IsFalse, true, IfSome, IfNone};
 ghost use Rattle.engine.specs.Agreement.{IsReturned, receipts_in};
 
 use crate::agreement::agrees;
+use crate::desk::Desk;
 use crate::origin::Origin;
 use crate::session::Session;
-use crate::shared::Desk;
 use audited::Audited;
 use pmem::Pmem;
 use room::Status;
 
-/// Tells the workers to end, exactly where no fewer sessions came back than were handed out.
+/// Tells the workers to end, exactly where no fewer sessions came back than were handed out. Else all stays as it was.
 pub fn may_close<D: Pmem + Drop, J: Origin>(desk: &mut Desk<D, J>, count: u64) -> bool
     ensures may { IsTrue result ↔ (desk.old.handed ≤ count) }
     ensures closing { IsTrue result → desk.new.closing ≡ true }
+    ensures refused { IsFalse result → desk.new ≡ desk.old }
+    ensures handed { desk.new.handed ≡ desk.old.handed }
     ensures room { desk.new.audited ≡ desk.old.audited }
 {
     if count < desk.handed {

@@ -3,7 +3,7 @@ use crate::gate::Gate;
 use crate::opening::board_of;
 use crate::origin::Origin;
 use crate::session::Session;
-use crate::shared::{Desk, Shared};
+use crate::shared::Shared;
 use crate::worker::spawn_worker;
 use audited::Audited;
 use base::fault::Fault;
@@ -42,7 +42,7 @@ impl<
 > Engine<D, J, Board<J, R>> {
     ghost use Rattle.std.specs.Prelude.{◌≡◌, ◌⊎◌, IfOk, IfErr, length};
     ghost use Rattle.base.specs.declared.fault.Fault.TheVariants.{OutOfMemory, NoThread};
-    ghost use Rattle.base.specs.Machine.{State};
+    ghost use Rattle.machine.specs.Machine.{State};
     ghost use Rattle.room.specs.Room.{Shows};
     ghost use Rattle.engine.specs.Started.{IsStartedOn};
     ghost use Rattle.engine.specs.Origins.{IsFrom};
@@ -125,7 +125,9 @@ impl<D: Pmem + Drop, J: Origin, B: Drop> Engine<D, J, B> {
             return Err(Fault::OutOfMemory);
         };
         let mut desk = self.shared.desk.lock(rt);
-        desk.handed = desk.handed.saturating_add(1);
+        if let Err(fault) = desk.hand_out() {
+            return Err(fault);
+        }
         drop(desk);
         Ok(Session::new(self.alloc, shared, self.told.again()))
     }
@@ -164,6 +166,7 @@ impl<D: Pmem + Drop, J: Origin, B: Drop> Engine<D, J, B> {
         if !may_close(&mut self.shared.desk.lock(rt), count) {
             return Err((Fault::WrongState, self, sessions));
         }
+        self.shared.wake();
         if let Some(workers) = self.workers.take() {
             workers.committer.join(rt);
             workers.collector.join(rt);

@@ -5,6 +5,7 @@
 
 mod agreement;
 mod closing;
+mod desk;
 mod engine;
 mod gate;
 mod opening;

@@ -1,6 +1,6 @@
 ghost use Rattle.std.specs.Prelude.{◌≡◌, [], IfOk, IfErr};
 ghost use Rattle.base.specs.declared.fault.Fault.TheVariants.{OutOfMemory};
-ghost use Rattle.base.specs.Machine.{State};
+ghost use Rattle.machine.specs.Machine.{State};
 ghost use Rattle.room.specs.Room.{Shows};
 ghost use Rattle.engine.specs.Started.{IsStartedOn};
 

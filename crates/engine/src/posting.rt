@@ -6,7 +6,6 @@ use board::{Board, Naming, Token};
 use pmem::Pmem;
 use std::alloc::Global;
 use std::sync::{Arc, Wait};
-use std::thread;
 
 /// What a try to publish a batch came to.
 #[derive(Drop)]
@@ -23,18 +22,20 @@ ghost use Rattle.base.specs.declared.fault.Fault.TheVariants.{OutOfMemory};
 ghost use Rattle.base.specs.Published.{last_stamp};
 ghost use Rattle.board.specs.declared.change.Change.TheVariants.{Raise};
 ghost use Rattle.board.specs.Shown.{shown, waiting};
+ghost use Rattle.engine.specs.declared.posting.Posting.TheVariants.{Done};
 ghost use Rattle.engine.specs.Posting.{Tries};
 
-/// Publishes the batch, and keeps sixteen stamps readable. For want of memory it tries again, until the engine is being closed.
-/// `None` then, and where the batch doesn't go on from what was published.
+/// Publishes the batch, and keeps sixteen stamps readable. For want of memory it rests and tries again, until the engine is being
+/// closed. `None` then, and where the batch doesn't go on from what was published.
 pub fn post<R: Wait + Drop, D: Pmem + Drop, J: Origin>(
     rt: &R,
     shared: &Arc<Shared<D, J, Board<J, R>>, Global>,
     batch: Batch,
 ) -> Option<Token<J>>
-    ensures { IfSome result (λ list. last_stamp list ≡ batch.stamp) }
+    ensures { IfSome result (λ list. (last_stamp list ≡ batch.stamp) × (last_stamp list ≤ list.floor + 15)) }
 {
     let stamp = batch.stamp();
+    let mut refusals = 0u64;
     let mut left = Some(batch);
     for _ in rt.forever() {
         let mut board = shared.board.lock(rt);
@@ -47,7 +48,9 @@ pub fn post<R: Wait + Drop, D: Pmem + Drop, J: Origin>(
         if shared.is_closing(rt) {
             return None;
         }
-        thread::yield_now();
+        refusals = refusals.saturating_add(1);
+        shared.count_refusal(rt);
+        shared.rest(rt, refusals);
     }
     unreachable!()
 }
@@ -64,11 +67,13 @@ fn told_at<R: Wait + Drop, J: Naming>(board: &Board<J, R>, stamp: u64) -> Option
     }
 }
 
-// Publishes the batch, or what waits, and prunes then.
+// Publishes the batch, or what waits, and prunes then. At Done sixteen stamps may be read at most.
 fn publish_and_prune<R: Wait + Drop, J: Naming>(
     board: &mut Board<J, R>,
     left: Option<Batch>,
-) -> Posting {
+) -> Posting
+    ensures { (result ≡ Done) → last_stamp board.new.list ≤ board.new.list.floor + 15 }
+{
     match publish(board, left) {
         Posting::Done => match prune(board) {
             Ok(()) => Posting::Done,

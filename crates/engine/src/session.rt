@@ -35,8 +35,8 @@ impl<D: Pmem + Drop, J: Origin, B: Drop> Session<D, J, B> {
     ghost use Rattle.base.specs.declared.fault.Fault.TheVariants.{NoSession, WrongState, OutOfMemory};
     ghost use Rattle.base.specs.declared.step.Step.TheVariants.{Begin, Get, Scan, Put, Delete, Poll, Abort};
     ghost use Rattle.base.specs.declared.step.Note.TheVariants.{Began, Row as RowNote, Rows, Done};
-    ghost use Rattle.base.specs.Machine.{note_of};
-    ghost use Rattle.base.specs.Notes.{fits};
+    ghost use Rattle.base.specs.Replies.{note_of};
+    ghost use Rattle.machine.specs.Notes.{fits};
     ghost use Rattle.engine.specs.declared.phase.Phase.TheVariants.{Active};
     ghost use Rattle.engine.specs.Phases.{number_of, phase_after_step, IsOpenAs};
     ghost use Rattle.engine.specs.Receipts.{Asks, Refuses, Answers, Declines};

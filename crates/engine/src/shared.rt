@@ -1,83 +1,33 @@
-ghost use Rattle.std.specs.Option.{ForSome};
-ghost use Rattle.engine.specs.Origins.{IsFrom};
-
+use crate::desk::{Desk, REFUSALS};
 use crate::origin::Origin;
-use audited::Audited;
 use base::Ts;
 use base::fault::Fault;
-use base::step::{Note, Step};
 use pmem::Pmem;
-use room::Status;
-use std::marker::PhantomData;
-use std::sync::{Mutex, MutexGuard, Wait};
+use std::sync::{Condvar, Mutex, MutexGuard, Wait};
 use std::thread;
-
-/// What lies under the room's lock.
-#[derive(Drop)]
-pub struct Desk<D: Pmem, J: Origin> {
-    /// Taken out once the engine is closed.
-    pub audited: Option<Audited<D>>,
-    /// How many sessions were handed out.
-    pub handed: u64,
-    /// The workers are to end.
-    pub closing: bool,
-    of: PhantomData<J>,
-    ghost from: { ForSome audited (IsFrom D.state J.image) },
-}
-
-impl<D: Pmem + Drop, J: Origin> Desk<D, J> {
-    ghost use Rattle.std.specs.Prelude.{◌≡◌, ◌↔◌, ◌≤◌, ◌⊎◌, IsTrue, true, false, nat_eq, MatchOption};
-    ghost use Rattle.std.specs.List.{list_any};
-    ghost use Rattle.base.specs.Machine.{State};
-    ghost use Rattle.room.specs.Room.{Shows};
-    ghost use Rattle.engine.specs.Lending.{HasMade, has_failed};
-
-    /// Whether the room is there, and has made so many steps at least.
-    pub fn has_made(&self, steps: u64) -> bool
-        ensures { IsTrue result ↔ HasMade steps self.now.audited }
-    {
-        match &self.audited {
-            Some(audited) => steps <= audited.history().len() as u64,
-            None => false,
-        }
-    }
-
-    /// Whether a wait for the timestamp is over: it is persisted and not long, or the device has failed.
-    pub fn is_over(&self, timestamp: Ts) -> bool
-        ensures { MatchOption self.now.audited (IsTrue result → ⊥)
-            (λ audited. (q : State) → Shows D.state audited.room q → IsTrue result ↔ (((timestamp ≤ q.ruling.persisted) × (list_any (nat_eq timestamp) q.ruling.longs ≡ false)) ⊎ (has_failed audited.entries.items ≡ true))) }
-    {
-        match &self.audited {
-            Some(audited) => {
-                is_covered(&audited.status(), timestamp) || has_failed(audited.history())
-            }
-            None => false,
-        }
-    }
-}
 
 /// What the threads share. The board stands under a lock of its own, and no thread holds both.
 #[derive(Drop)]
 pub struct Shared<D: Pmem, J: Origin, B: Drop> {
     pub desk: Mutex<Desk<D, J>>,
     pub board: Mutex<B>,
+    // A worker that is refused memory again and again sleeps on it.
+    woken: Condvar,
 }
 
 impl<D: Pmem + Drop, J: Origin, B: Drop> Shared<D, J, B> {
+    ghost use Rattle.std.specs.Prelude.{◌≡◌, ◌⊎◌, IfErr};
     ghost use Rattle.std.specs.Sync.Mutex.{mutex_guard_value};
+    ghost use Rattle.base.specs.declared.fault.Fault.TheVariants.{OutOfMemory};
     ghost use Rattle.engine.specs.Lending.{HasMade};
+    ghost use Rattle.engine.specs.Origins.{HasHalted};
 
     /// The board, and no room yet.
     pub fn new(board: B) -> Shared<D, J, B> {
-        let desk = Desk {
-            audited: None,
-            handed: 0,
-            closing: false,
-            of: PhantomData,
-        };
         Shared {
-            desk: Mutex::new(desk),
+            desk: Mutex::new(Desk::new()),
             board: Mutex::new(board),
+            woken: Condvar::new(),
         }
     }
 
@@ -87,7 +37,7 @@ impl<D: Pmem + Drop, J: Origin, B: Drop> Shared<D, J, B> {
         ensures { HasMade steps (mutex_guard_value result).audited }
     {
         for _ in rt.forever() {
-            let desk = self.desk.lock(rt);
+            let desk = self.desk(rt);
             if desk.has_made(steps) {
                 return desk;
             }
@@ -97,15 +47,41 @@ impl<D: Pmem + Drop, J: Origin, B: Drop> Shared<D, J, B> {
         unreachable!()
     }
 
-    /// Waits until the room has persisted the timestamp, also where it was long, or its device has failed. It makes no step and takes no memory.
-    pub fn wait_for<R: Wait>(&self, rt: &R, timestamp: Ts) {
+    // Takes the lock for a session, and wakes the workers that sleep.
+    fn desk<R: Wait>(&self, rt: &R) -> MutexGuard<'_, Desk<D, J>> {
+        let mut desk = self.desk.lock(rt);
+        if desk.asleep {
+            desk.asleep = false;
+            self.woken.notify_all();
+        }
+        desk
+    }
+
+    /// Waits until the room has persisted the timestamp, also where it was long, or its device has failed. It makes no step and
+    /// takes no memory. Fails where nothing will be persisted any more: with the fault that ended the committer, or with
+    /// OutOfMemory where it was refused memory again and again.
+    pub fn wait_for<R: Wait>(&self, rt: &R, timestamp: Ts) -> Result<(), Fault>
+        ensures { IfErr result (λ fault. (fault ≡ OutOfMemory) ⊎ HasHalted J.image fault) }
+    {
         for _ in rt.forever() {
-            let desk = self.desk.lock(rt);
-            if desk.is_over(timestamp) {
-                return;
+            let desk = self.desk(rt);
+            if let Some(over) = desk.waited(timestamp) {
+                return over;
             }
             drop(desk);
             thread::yield_now();
+        }
+        unreachable!()
+    }
+
+    /// Fails as a wait does, where nothing will be covered.
+    pub fn ask<R: Wait>(&self, rt: &R) -> Result<(), Fault>
+        ensures { IfErr result (λ fault. (fault ≡ OutOfMemory) ⊎ HasHalted J.image fault) }
+    {
+        let desk = self.desk(rt);
+        match desk.why_not() {
+            Some(fault) => Err(fault),
+            None => Ok(()),
         }
     }
 
@@ -114,32 +90,28 @@ impl<D: Pmem + Drop, J: Origin, B: Drop> Shared<D, J, B> {
         let desk = self.desk.lock(rt);
         desk.closing || desk.audited.is_none()
     }
-}
 
-ghost use Rattle.std.specs.Prelude.{◌≡◌, ◌↔◌, ◌≤◌, false, nat_eq, IsTrue};
-ghost use Rattle.std.specs.List.{list_any};
-ghost use Rattle.engine.specs.Lending.{is_failure, has_failed};
-
-// Whether the record covers the timestamp, where that was drawn since the opening.
-fn is_covered(status: &Status, timestamp: Ts) -> bool
-    ensures { IsTrue result ↔ ((timestamp ≤ status.now.persisted) × (list_any (nat_eq timestamp) status.now.longs ≡ false)) }
-{
-    timestamp <= status.persisted && !status.longs.contains(timestamp)
-}
-
-// Whether the device had failed by the last of these steps.
-fn has_failed(entries: &[(Step, Note)]) -> bool
-    ensures { result ≡ has_failed entries.now }
-{
-    match entries.last() {
-        Some((_, note)) => is_failure(note),
-        None => false,
+    /// Lets a worker rest that was refused memory so often in a row. It gives up its turn, and after too many refusals it sleeps
+    /// until a session takes the lock or the engine is being closed.
+    pub fn rest<R: Wait>(&self, rt: &R, refusals: u64) {
+        let mut desk = self.desk.lock(rt);
+        if desk.closing || refusals <= REFUSALS {
+            drop(desk);
+            thread::yield_now();
+            return;
+        }
+        desk.asleep = true;
+        drop(self.woken.wait(rt, desk));
     }
-}
 
-/// Whether the device failed at the step with this note, or had failed before.
-pub fn is_failure(note: &Note) -> bool
-    ensures { result ≡ is_failure note.now }
-{
-    matches!(note, Note::Refused(Fault::Device | Fault::Failed))
+    /// Counts that the committer was refused memory for what it covered.
+    pub fn count_refusal<R: Wait>(&self, rt: &R) {
+        let mut desk = self.desk.lock(rt);
+        desk.refusals = desk.refusals.saturating_add(1);
+    }
+
+    /// Wakes the workers, so that they see that the engine is being closed.
+    pub fn wake(&self) {
+        self.woken.notify_all();
+    }
 }

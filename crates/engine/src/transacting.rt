@@ -6,32 +6,37 @@ use base::fault::Fault;
 use base::step::{Reply, Step};
 use pmem::Pmem;
 use std::sync::Wait;
-use std::thread;
 
 impl<D: Pmem + Drop, J: Origin, B: Drop> Session<D, J, B> {
-    ghost use Rattle.std.specs.Prelude.{◌≡◌, IfOk, IfErr, OnOk, OnErr, MatchResult, All};
+    ghost use Rattle.std.specs.Prelude.{◌≡◌, ◌⊎◌, IfOk, IfErr, OnOk, OnErr, MatchResult, All};
+    ghost use Rattle.base.specs.declared.fault.Fault.TheVariants.{OutOfMemory};
     ghost use Rattle.base.specs.declared.step.Step.TheVariants.{Draw, Stamp, End};
     ghost use Rattle.base.specs.declared.step.Note.TheVariants.{Done, Stamped as AllStamped};
     ghost use Rattle.engine.specs.declared.phase.Phase.TheVariants.{Idle, Stamped};
     ghost use Rattle.engine.specs.Phases.{number_of, timestamp_of, phase_after, phase_after_step, added_since, prepared};
+    ghost use Rattle.engine.specs.Origins.{HasHalted};
     ghost use Rattle.engine.specs.Receipts.{Asks, Refuses};
-    ghost use Rattle.engine.specs.Calls.{Called, TellsLast, TellsFault, DeclinesCall, AskPrepare, TellsPrepare, note_of_draw, AskCommit, TellsCommit, ArePolls, note_of_commit};
+    ghost use Rattle.engine.specs.Calls.{Called, TellsLast, TellsFault, TellsEnd, DeclinesCall, AskPrepare, TellsPrepare, note_of_draw, AskCommit, TellsCommit, ArePolls, note_of_commit};
 
-    /// Draws a timestamp and stamps all keys, or goes on from where an earlier call left that. `None` if nothing was written.
+    /// Draws a timestamp and stamps all keys, or goes on from where an earlier call left that. `None` if nothing was written. Where
+    /// the committer has ended, nothing is drawn any more, and it fails with the fault that ended that.
     pub fn prepare<R: Wait>(&mut self, rt: &R) -> Result<Option<Ts>, Fault>
-        ensures steps { Called self.old.receipts.items self.new.receipts.items (λ added. AskPrepare self.old.phase added × MatchResult result (TellsPrepare self.old.phase added) (DeclinesCall self.old.phase added)) }
+        ensures steps { Called self.old.receipts.items self.new.receipts.items (λ added. AskPrepare self.old.phase added × MatchResult result (TellsPrepare self.old.phase added) (DeclinesCall (HasHalted J.image) self.old.phase added)) }
         ensures ok { IfOk result (λ answer. self.new.phase ≡ prepared (number_of self.old.phase) answer) }
         ensures phase { self.new.phase ≡ phase_after self.old.phase (added_since self.old.receipts.items self.new.receipts.items) }
     {
         match self.phase {
             Phase::Idle => Err(Fault::NoSession),
-            Phase::Active(number) => match self.draw(rt, number) {
-                Ok(answer) => match answer {
-                    Some(timestamp) => match self.stamp_all(rt, number) {
-                        Ok(()) => Ok(Some(timestamp)),
-                        Err(fault) => Err(fault),
+            Phase::Active(number) => match self.shared.ask(rt) {
+                Ok(()) => match self.draw(rt, number) {
+                    Ok(answer) => match answer {
+                        Some(timestamp) => match self.stamp_all(rt, number) {
+                            Ok(()) => Ok(Some(timestamp)),
+                            Err(fault) => Err(fault),
+                        },
+                        None => Ok(None),
                     },
-                    None => Ok(None),
+                    Err(fault) => Err(fault),
                 },
                 Err(fault) => Err(fault),
             },
@@ -44,9 +49,10 @@ impl<D: Pmem + Drop, J: Origin, B: Drop> Session<D, J, B> {
         }
     }
 
-    /// Prepares, waits until the commit is covered, and ends the transaction. `None` if nothing was written.
+    /// Prepares, waits until the commit is covered, and ends the transaction. `None` if nothing was written. Where the committer
+    /// ends first, it fails with the fault that ended that, and with OutOfMemory where that is refused memory again and again.
     pub fn commit<R: Wait>(&mut self, rt: &R) -> Result<Option<Ts>, Fault>
-        ensures steps { Called self.old.receipts.items self.new.receipts.items (λ added. AskCommit self.old.phase added × MatchResult result (TellsCommit self.old.phase added) (DeclinesCall self.old.phase added)) }
+        ensures steps { Called self.old.receipts.items self.new.receipts.items (λ added. AskCommit self.old.phase added × MatchResult result (TellsCommit self.old.phase added) (DeclinesCall (HasHalted J.image) self.old.phase added)) }
         ensures ok { OnOk result (self.new.phase ≡ Idle) }
         ensures phase { self.new.phase ≡ phase_after self.old.phase (added_since self.old.receipts.items self.new.receipts.items) }
     {
@@ -97,21 +103,21 @@ impl<D: Pmem + Drop, J: Origin, B: Drop> Session<D, J, B> {
         unreachable!()
     }
 
-    // Polls until the commit is covered. It waits for that first, so that it polls once.
+    // Polls until the commit is covered. It waits for that first, so that it polls once. Fails where nobody will cover it.
     fn wait<R: Wait>(
         &mut self,
         rt: &R,
         number: u8,
         timestamp: Option<Ts>,
     ) -> Result<Option<Ts>, Fault>
-        ensures steps { Called self.old.receipts.items self.new.receipts.items (λ added. ArePolls number added × MatchResult result (λ answer. TellsLast added (note_of_commit answer)) (TellsFault added)) }
+        ensures steps { Called self.old.receipts.items self.new.receipts.items (λ added. ArePolls number added × MatchResult result (λ answer. TellsLast added (note_of_commit answer)) (TellsEnd (HasHalted J.image) added)) }
     {
-        if let Some(timestamp) = timestamp {
-            self.shared.wait_for(rt, timestamp);
-        }
         for _ in rt.forever() {
+            if let Err(fault) = self.wait_once(rt, timestamp) {
+                return Err(fault);
+            }
             match self.make(rt, Step::Poll { session: number })? {
-                Reply::Waiting => thread::yield_now(),
+                Reply::Waiting => {}
                 Reply::Committed(timestamp) => return Ok(Some(timestamp)),
                 Reply::Done => return Ok(None),
                 Reply::Refused(fault) => return Err(fault),
@@ -119,6 +125,16 @@ impl<D: Pmem + Drop, J: Origin, B: Drop> Session<D, J, B> {
             }
         }
         unreachable!()
+    }
+
+    // Waits until the timestamp is covered, if there is one.
+    fn wait_once<R: Wait>(&self, rt: &R, timestamp: Option<Ts>) -> Result<(), Fault>
+        ensures { IfErr result (λ fault. (fault ≡ OutOfMemory) ⊎ HasHalted J.image fault) }
+    {
+        match timestamp {
+            Some(timestamp) => self.shared.wait_for(rt, timestamp),
+            None => Ok(()),
+        }
     }
 
     // Ends the transaction.

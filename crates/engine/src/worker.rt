@@ -1,7 +1,7 @@
 use crate::gate::{Gate, Go};
 use crate::origin::Origin;
 use crate::posting::post;
-use crate::shared::{Shared, is_failure};
+use crate::shared::Shared;
 use audited::Receipt;
 use base::fault::Fault;
 use base::step::{Note, Reply, Step};
@@ -32,7 +32,7 @@ pub struct Turn<J: Naming> {
 
 ghost use Rattle.std.specs.Prelude.{◌≡◌, ◌⊎◌, IfSome, IfOk, IfErr};
 ghost use Rattle.base.specs.declared.fault.Fault.TheVariants.{OutOfMemory, NoThread};
-ghost use Rattle.base.specs.Machine.{note_of};
+ghost use Rattle.base.specs.Replies.{note_of};
 ghost use Rattle.engine.specs.Posting.{IsPosted};
 
 /// Starts a worker that makes this step.
@@ -62,8 +62,9 @@ pub fn spawn_worker<
     }
 }
 
-// Makes the step again and again, until the gate says so, the device fails or the engine is being closed. What a tick covers
-// is published before the next one. `before` is what the gate is shown before the first.
+// Makes the step again and again, until the gate says so, a step is refused or the engine is being closed. Without memory for a
+// step it rests, and tries it again. What a tick covers is published before the next one. `before` is what the gate is shown
+// before the first.
 fn work<R: Wait + Drop, D: Pmem + Drop, J: Origin, G: Gate>(
     rt: &R,
     shared: &Arc<Shared<D, J, Board<J, R>>, Global>,
@@ -72,6 +73,7 @@ fn work<R: Wait + Drop, D: Pmem + Drop, J: Origin, G: Gate>(
     mut gate: G,
 ) -> G {
     let mut last = before;
+    let mut refusals = 0u64;
     for _ in rt.forever() {
         if shared.is_closing(rt) {
             break;
@@ -80,11 +82,17 @@ fn work<R: Wait + Drop, D: Pmem + Drop, J: Origin, G: Gate>(
             break;
         }
         match take_turn(rt, shared, step) {
-            Ok(made) => last = made.note,
-            Err(Missed::Memory) => {}
+            Ok(made) => {
+                last = made.note;
+                refusals = 0;
+            }
+            Err(Missed::Memory) => {
+                refusals = refusals.saturating_add(1);
+                shared.rest(rt, refusals);
+            }
             Err(Missed::Over) => break,
         }
-        if is_failure(&last) {
+        if matches!(last, Note::Refused(_)) {
             break;
         }
     }
@@ -129,11 +137,5 @@ fn tick<R: Wait, D: Pmem + Drop, J: Origin, B: Drop>(
     ensures { IfSome result (λ made. IfSome made.1 (λ receipt. (receipt.step ≡ step.now) × (receipt.note ≡ note_of made.0))) }
 {
     let mut desk = shared.desk.lock(rt);
-    if desk.closing {
-        return None;
-    }
-    match &mut desk.audited {
-        Some(audited) => Some(audited.step(*step)),
-        None => None,
-    }
+    desk.tick(step)
 }

@@ -7,7 +7,7 @@ use Rattle.base.specs.declared.gap.Gap.{Gap}
 use Rattle.base.specs.Batches.{Batch}
 use Rattle.base.specs.Commits.{Commit}
 use Rattle.base.specs.Layout.{Layout, most_longs}
-use Rattle.base.specs.Machine.{is_nil}
+use Rattle.base.specs.Lists.{is_nil}
 use Rattle.base.specs.Records.{Record}
 use Rattle.txn.specs.declared.drawn.DrawnCommit.{DrawnCommit}
 use Rattle.txn.specs.DrawnCommits.{is_stamped, reach, passed_over}

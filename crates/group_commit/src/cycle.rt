@@ -35,12 +35,11 @@ impl Model for Cycle {
     ghost invariant = { λ c. IsTrue (is_counted c.stage) };
 }
 
-/// A batch that is covered, the record that covered it, and the sessions that drew its commits.
+/// A batch that is covered, and the record that covered it.
 #[derive(Drop)]
 pub struct Covered {
     pub batch: Batch,
     pub record: Record,
-    pub sessions: SessionSet,
 }
 
 impl Cycle {
@@ -140,6 +139,7 @@ impl Cycle {
     /// The next operation, on the lines that the batch's sessions touch in the table: the flush of the next of them, or the
     /// fence after the last, or the next operation of the record's writing. Returns the stage that it reaches, and none
     /// where the batch is covered. If the device fails, the next tick tries the operation again.
+    #[inline(always)]
     pub fn tick<D: Pmem>(
         &mut self,
         device: &mut D,
@@ -184,13 +184,11 @@ impl Cycle {
     pub fn finish(self) -> Covered
         ensures batch { result.batch ≡ self.batch }
         ensures record { result.record ≡ self.writing.target }
-        ensures sessions { result.sessions ≡ self.sessions }
     {
         let record = self.writing.target();
         Covered {
             batch: self.batch,
             record,
-            sessions: self.sessions,
         }
     }
 }

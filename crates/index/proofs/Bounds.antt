@@ -26,21 +26,19 @@ use Rattle.index.proofs.Ways.{seen-at}
 abbrev Entries : Type 0
 Entries = List (Key × Entry)
 
--- the entry is the one that the index has of its key
-abbrev pub IsEntryOf : Entries → Key × Entry → Type 0
-IsEntryOf index e = entry_at index e.0 ≡ e.1
+abbrev Places : Type 0
+Places = List (Key × ℕ)
 
--- of these entries some are left; the rows are those of the tables at the keys of the others
-pub record HasUpTo (tables : Tables) (index all rest : Entries) (has : Key → Option (List ℕ)) : Type 0 where
-  pub done : Entries
+-- of these keys some are left; the rows are those of the tables at the others
+pub record HasUpTo (tables : Tables) (all rest : Places) (has : Key → Option (List ℕ)) : Type 0 where
+  pub done : Places
   pub split : all ≡ done ++ rest
-  pub left : All (IsEntryOf index) rest
   pub rows : (key : Key) → has key ≡ cond (is_some (lookup_key done key)) (tables key) None
 
-pub none-yet : (tables : Tables) (index all : Entries) (has : Key → Option (List ℕ)) → All (IsEntryOf index) all → ((key : Key) → has key ≡ None) → HasUpTo tables index all all has
-none-yet tables index all has each none = record { done = []; split = refl; left = each; rows = none }
+pub none-yet : (tables : Tables) (all : Places) (has : Key → Option (List ℕ)) → ((key : Key) → has key ≡ None) → HasUpTo tables all all has
+none-yet tables all has none = record { done = []; split = refl; rows = none }
 
-looked-more : (es : Entries) (e : Key × Entry) (key : Key) → is_some (lookup_key (es ++ e ∷ []) key) ≡ (is_some (lookup_key es key) || key_eq e.0 key)
+looked-more : (es : Places) (e : Key × ℕ) (key : Key) → is_some (lookup_key (es ++ e ∷ []) key) ≡ (is_some (lookup_key es key) || key_eq e.0 key)
 looked-more [] e key = by (key_eq e.0 key)
   where
     by : (b : Bool) → is_some (cond b (Some e.1) None) ≡ b
@@ -52,20 +50,16 @@ looked-more (x ∷ es) e key = by (key_eq x.0 key) (looked-more es e key)
     by true rest = refl
     by false rest = rest
 
-module _ (tables : Tables) (index all : Entries) (e : Key × Entry) (rest : Entries) (has : Key → Option (List ℕ)) (h : HasUpTo tables index all (e ∷ rest) has) where
-  pub next-entry : IsEntryOf index e
-  next-entry = All-head (IsEntryOf index) e rest h.left
-
-  one-more : (has' : Key → Option (List ℕ)) → ((key : Key) → has' key ≡ cond (is_some (lookup_key h.done key) || key_eq e.0 key) (tables key) None) → HasUpTo tables index all rest has'
+module _ (tables : Tables) (all : Places) (e : Key × ℕ) (rest : Places) (has : Key → Option (List ℕ)) (h : HasUpTo tables all (e ∷ rest) has) where
+  one-more : (has' : Key → Option (List ℕ)) → ((key : Key) → has' key ≡ cond (is_some (lookup_key h.done key) || key_eq e.0 key) (tables key) None) → HasUpTo tables all rest has'
   one-more has' rows = record {
     done = h.done ++ e ∷ [];
     split = h.split ∙ sym (append_assoc h.done (e ∷ []) rest);
-    left = All-tail (IsEntryOf index) e rest h.left;
     rows = λ key. rows key ∙ ap (λ (b : Bool). cond b (tables key) None) (sym (looked-more h.done e key));
   }
 
   -- the tables have no row at its key
-  pub passed-over : tables e.0 ≡ None → HasUpTo tables index all rest has
+  pub passed-over : tables e.0 ≡ None → HasUpTo tables all rest has
   passed-over none = one-more has (λ key. h.rows key ∙ by key (is_some (lookup_key h.done key)) (key_eq e.0 key) refl)
     where
       by : (key : Key) (a b : Bool) → key_eq e.0 key ≡ b → cond a (tables key) None ≡ cond (a || b) (tables key) None
@@ -74,7 +68,7 @@ module _ (tables : Tables) (index all : Entries) (e : Key × Entry) (rest : Entr
       by key false false is = refl
 
   -- its row was put in
-  pub put-in : (has' : Key → Option (List ℕ)) (row : List ℕ) → tables e.0 ≡ Some row → ((key : Key) → has' key ≡ cond (key_eq e.0 key) (Some row) (has key)) → HasUpTo tables index all rest has'
+  pub put-in : (has' : Key → Option (List ℕ)) (row : List ℕ) → tables e.0 ≡ Some row → ((key : Key) → has' key ≡ cond (key_eq e.0 key) (Some row) (has key)) → HasUpTo tables all rest has'
   put-in has' row there more = one-more has' (λ key. more key ∙ ap (λ (x : Option (List ℕ)). cond (key_eq e.0 key) (Some row) x) (h.rows key) ∙ by key (is_some (lookup_key h.done key)) (key_eq e.0 key) refl)
     where
       by : (key : Key) (a b : Bool) → key_eq e.0 key ≡ b → cond b (Some row) (cond a (tables key) None) ≡ cond (a || b) (tables key) None
@@ -83,17 +77,13 @@ module _ (tables : Tables) (index all : Entries) (e : Key × Entry) (rest : Entr
       by key true false is = refl
       by key false false is = refl
 
--- ---- the entries of a range
-
--- each that lies in it is the index's
-pub entries-of : (m : BTreeMap Key Entry) (lo hi : Bound Key) (es : Entries) → All (IsEntryInRange key_cmp lo hi m) es → All (IsEntryOf m.entries) es
-entries-of m lo hi es all = λ k d lt. ap (λ (x : Option Entry). unwrap_or x blank) (looked-up m.entries (slice_index_or es k d).0 ∙ (all k d lt).1)
+-- ---- the places of a range
 
 -- those between two bounds are found by their keys
-looked-between : (lo hi : Bound Key) (es : Entries) (key : Key) → lookup_key (entries_between key_cmp lo hi es) key ≡ cond (range_contains key_cmp lo hi key) (lookup_key es key) None
+looked-between : (lo hi : Bound Key) (es : Places) (key : Key) → lookup_key (entries_between key_cmp lo hi es) key ≡ cond (range_contains key_cmp lo hi key) (lookup_key es key) None
 looked-between lo hi [] key = by (range_contains key_cmp lo hi key)
   where
-    by : (b : Bool) → ◌≡◌ {A = Option Entry} None (cond b None None)
+    by : (b : Bool) → ◌≡◌ {A = Option ℕ} None (cond b None None)
     by true = refl
     by false = refl
 looked-between lo hi (e ∷ es) key = by (range_contains key_cmp lo hi e.0) refl (key_eq e.0 key) refl (looked-between lo hi es key)
@@ -116,16 +106,16 @@ between-is (Within table lo hi) key = grind (arith, nat_tests)
 -- ---- at the end
 
 -- none are left, and at a key that the index doesn't have the tables have none
-pub all-there : (tables : Tables) (range : KeyRange) (index all : Entries) (has : Key → Option (List ℕ)) → HasUpTo tables index all [] has → all ≡ entries_between key_cmp (bounds_of range).0 (bounds_of range).1 index
+pub all-there : (tables : Tables) (range : KeyRange) (index all : Places) (has : Key → Option (List ℕ)) → HasUpTo tables all [] has → all ≡ entries_between key_cmp (bounds_of range).0 (bounds_of range).1 index
     → ((key : Key) → lookup_key index key ≡ None → tables key ≡ None) → (key : Key) → has key ≡ ranged range tables key
 all-there tables range index all has h between absent key =
     h.rows key
-    ∙ ap (λ (es : Entries). cond (is_some (lookup_key es key)) (tables key) None) (sym (append-nil h.done) ∙ sym h.split ∙ between)
-    ∙ ap (λ (o : Option Entry). cond (is_some o) (tables key) None) (looked-between (bounds_of range).0 (bounds_of range).1 index key ∙ ap (λ (b : Bool). cond b (lookup_key index key) None) (between-is range key))
+    ∙ ap (λ (es : Places). cond (is_some (lookup_key es key)) (tables key) None) (sym (append-nil h.done) ∙ sym h.split ∙ between)
+    ∙ ap (λ (o : Option ℕ). cond (is_some o) (tables key) None) (looked-between (bounds_of range).0 (bounds_of range).1 index key ∙ ap (λ (b : Bool). cond b (lookup_key index key) None) (between-is range key))
     ∙ by (contains range key) (lookup_key index key) refl
   where
-    by : (b : Bool) (o : Option Entry) → lookup_key index key ≡ o → cond (is_some (cond b o None)) (tables key) None ≡ cond b (tables key) None
-    by true (Some e) is = refl
+    by : (b : Bool) (o : Option ℕ) → lookup_key index key ≡ o → cond (is_some (cond b o None)) (tables key) None ≡ cond b (tables key) None
+    by true (Some place) is = refl
     by true None is = sym (absent key is)
     by false o is = refl
 

@@ -1,5 +1,5 @@
 -- Where the versions of each key are.
-use Rattle.std.specs.Prelude.{◌≡◌, ℕ, Bool, true, false, ◌||◌, List, Option, Some, None, is_some, unwrap_or, nat_eq, if◌then◌else◌}
+use Rattle.std.specs.Prelude.{◌≡◌, ℕ, Bool, true, false, ◌||◌, List, Option, Some, None, is_some, unwrap_or, slice_get, nat_eq, if◌then◌else◌}
 use Rattle.std.specs.Option.{option_or, option_eq}
 use Rattle.std.specs.declared.cmp.Ordering.{Ordering}
 use Rattle.std.specs.Ordering.{nat_cmp, ordering_then}
@@ -22,6 +22,15 @@ entry_at entries key = unwrap_or (lookup_key entries key) blank
 -- the key has a place for its entry, so that a change of it takes no memory
 abbrev pub has_room : List (Key × Entry) → Key → Bool
 has_room entries key = is_some (lookup_key entries key)
+
+-- the key's entry is at this place
+abbrev pub IsAt : List (Key × Entry) → ℕ → Key → Type 0
+IsAt entries place key = slice_get entries place ≡ Some (key, entry_at entries key)
+
+-- each key has an entry at its place, and no two entries are of one key
+pub record ArePlaced (places : List (Key × ℕ)) (entries : List (Key × Entry)) : Type 0 where
+  pub there : (key : Key) (place : ℕ) → lookup_key places key ≡ Some place → (entry : Entry) × (slice_get entries place ≡ Some (key, entry))
+  pub once : (key : Key) (place : ℕ) (entry : Entry) → slice_get entries place ≡ Some (key, entry) → lookup_key places key ≡ Some place
 
 -- ---- what an entry says
 

@@ -9,7 +9,10 @@ use std::marker::Model;
 /// Where the versions of each key are. A key that has no entry has a blank one.
 #[derive(Drop)]
 pub struct Index {
-    pub(crate) entries: BTreeMap<Key, Entry, Global>,
+    // Each with its key, in the order in which the keys came. It stays at its place.
+    pub(crate) entries: Vec<(Key, Entry)>,
+    // By key the place of its entry.
+    pub(crate) places: BTreeMap<Key, usize, Global>,
 }
 
 impl Model for Index {
@@ -19,96 +22,156 @@ impl Model for Index {
 
     ghost Value = { List (Key × Entry) };
 
-    ghost view = { λ i. i.entries.entries };
+    ghost use Rattle.index.specs.Entries.{ArePlaced};
+
+    ghost view = { λ i. i.entries.items };
+
+    ghost invariant = { λ i. ArePlaced i.places.entries i.entries.items };
 }
 
 impl Index {
-    ghost use Rattle.std.specs.Prelude.{◌≡◌, ◌||◌, Bool, true, false, Some, None, IsTrue, IfErr, OnOk, OnErr};
+    ghost use Rattle.std.specs.Prelude.{◌≡◌, ◌||◌, Bool, true, false, Some, None, IsTrue, IfSome, IfNone, IfErr, OnOk, OnErr};
     ghost use Rattle.base.specs.Keys.{key_eq};
     ghost use Rattle.base.specs.declared.key.Key.{Key as KeyValue};
     ghost use Rattle.base.specs.declared.fault.Fault.TheVariants.{OutOfMemory};
-    ghost use Rattle.index.specs.Entries.{blank, entry_at, has_room, live_of, head_of, Sets, KeepsRoom, GainsRoom, covered, forgotten};
+    ghost use Rattle.index.specs.Entries.{blank, entry_at, has_room, IsAt, live_of, head_of, Sets, KeepsRoom, GainsRoom, covered, forgotten};
 
     /// Without versions.
     pub fn new(alloc: Global) -> Index
         ensures { (key : KeyValue) → entry_at result key ≡ blank }
     {
         Index {
-            entries: BTreeMap::new(alloc),
+            entries: Vec::new(alloc),
+            places: BTreeMap::new(alloc),
         }
     }
 
-    /// What is known of the key's versions.
-    pub fn entry(&self, key: Key) -> Entry
+    /// At which place the key's entry is, if it has one. It stays there. The calls that take a place try it first, and search
+    /// where the key's entry isn't there.
+    pub fn place(&self, key: Key) -> Option<usize>
+        ensures some { IfSome result (λ place. IsAt self.now place key) }
+        ensures none { IfNone result (has_room self.now key ≡ false) }
+    {
+        match self.places.get(&key) {
+            Some(place) => Some(*place),
+            None => None,
+        }
+    }
+
+    // The same, where it may be at this place.
+    fn seek(&self, key: Key, near: Option<usize>) -> Option<usize>
+        ensures some { IfSome result (λ place. IsAt self.now place key) }
+        ensures none { IfNone result (has_room self.now key ≡ false) }
+    {
+        if let Some(place) = near {
+            if place < self.entries.len() && self.entries[place].0 == key {
+                return near;
+            }
+        }
+        self.place(key)
+    }
+
+    // The entry at the place of the key.
+    fn entry_in(&self, place: usize, key: Key) -> Entry
+        requires { IsAt self.now place key }
         ensures { result ≡ entry_at self.now key }
     {
-        match self.entries.get(&key) {
-            Some(entry) => *entry,
+        self.entries[place].1
+    }
+
+    /// What is known of the key's versions.
+    pub fn entry(&self, key: Key, near: Option<usize>) -> Entry
+        ensures { result ≡ entry_at self.now key }
+    {
+        match self.seek(key, near) {
+            Some(place) => self.entry_in(place, key),
             None => Entry::blank(),
         }
     }
 
     /// The slot of the key's covered row.
-    pub fn live(&self, key: Key) -> Option<SlotNo>
+    pub fn live(&self, key: Key, near: Option<usize>) -> Option<SlotNo>
         ensures { result ≡ live_of (entry_at self.now key) }
     {
-        self.entry(key).live()
+        self.entry(key, near).live()
     }
 
     /// The slot that a new version of the key links to: the newest that has a row, drawn or covered, also one that a deletion
     /// ended.
-    pub fn link(&self, key: Key) -> Option<SlotNo>
+    pub fn link(&self, key: Key, near: Option<usize>) -> Option<SlotNo>
         ensures { result ≡ head_of (entry_at self.now key) }
     {
-        self.entry(key).head()
+        self.entry(key, near).head()
     }
 
-    // Sets the key's entry. A key that has room for one takes no memory.
-    fn set(&mut self, key: Key, entry: Entry) -> Result<(), Fault>
+    // Sets the entry at the place of the key.
+    fn set_in(&mut self, place: usize, key: Key, entry: Entry)
+        requires { IsAt self.old place key }
+        ensures sets { Sets self.old self.new key entry }
+        ensures room { KeepsRoom self.old self.new }
+    {
+        self.entries[place] = (key, entry);
+    }
+
+    // Gives a key without an entry this one.
+    fn add(&mut self, key: Key, entry: Entry) -> Result<(), Fault>
+        requires { has_room self.old key ≡ false }
         ensures sets { OnOk result (Sets self.old self.new key entry) }
         ensures room { OnOk result (GainsRoom self.old self.new key) }
         ensures fault { IfErr result (λ fault. fault ≡ OutOfMemory) }
         ensures err { OnErr result (self.new ≡ self.old) }
-        ensures full { OnErr result (has_room self.old key ≡ false) }
     {
-        let Ok(_) = self.entries.insert(key, entry) else {
+        if self.entries.reserve(1).is_err() {
+            return Err(Fault::OutOfMemory);
+        }
+        let place = self.entries.len();
+        let Ok(_) = self.places.insert(key, place) else {
             return Err(Fault::OutOfMemory);
         };
+        self.entries.push_reserved((key, entry));
         Ok(())
     }
 
     /// Makes room for an entry of the key. All entries stay.
-    pub fn reserve(&mut self, key: Key) -> Result<(), Fault>
+    pub fn reserve(&mut self, key: Key, near: Option<usize>) -> Result<(), Fault>
         ensures entries { OnOk result ((k : KeyValue) → entry_at self.new k ≡ entry_at self.old k) }
         ensures room { OnOk result (GainsRoom self.old self.new key) }
         ensures fault { IfErr result (λ fault. fault ≡ OutOfMemory) }
         ensures err { OnErr result (self.new ≡ self.old) }
     {
-        let same = self.entry(key);
-        self.set(key, same)
+        match self.seek(key, near) {
+            Some(_) => Ok(()),
+            None => self.add(key, Entry::blank()),
+        }
     }
 
     /// A commit that writes the key was drawn with this timestamp. Its version is in the slot; a deletion has none.
-    pub fn draw(&mut self, key: Key, slot: Option<SlotNo>, ts: Ts)
+    pub fn draw(&mut self, key: Key, near: Option<usize>, slot: Option<SlotNo>, ts: Ts)
         requires { IsTrue (has_room self.old key) }
         ensures entries { Sets self.old self.new key (record (entry_at self.old key) { drawn = slot; last = Some ts }) }
         ensures room { KeepsRoom self.old self.new }
     {
+        let Some(place) = self.seek(key, near) else {
+            unreachable!()
+        };
         let drawn = Entry {
             drawn: slot,
             last: Some(ts),
-            ..self.entry(key)
+            ..self.entry_in(place, key)
         };
-        self.set(key, drawn).unwrap();
+        self.set_in(place, key, drawn);
     }
 
     /// The commit that was drawn for the key is covered. Its version is in the slot; a deletion has none, and ends the newest.
-    pub fn cover(&mut self, key: Key, slot: Option<SlotNo>)
+    pub fn cover(&mut self, key: Key, near: Option<usize>, slot: Option<SlotNo>)
         requires { IsTrue (has_room self.old key) }
         ensures entries { Sets self.old self.new key (covered slot (entry_at self.old key)) }
         ensures room { KeepsRoom self.old self.new }
     {
-        let entry = self.entry(key);
+        let Some(place) = self.seek(key, near) else {
+            unreachable!()
+        };
+        let entry = self.entry_in(place, key);
         let (newest, ended) = match slot {
             Some(_) => (slot, false),
             None => (entry.newest, true),
@@ -119,7 +182,7 @@ impl Index {
             drawn: None,
             ..entry
         };
-        self.set(key, covered).unwrap();
+        self.set_in(place, key, covered);
     }
 
     /// An opening found the key's covered row in the slot.
@@ -129,12 +192,24 @@ impl Index {
         ensures fault { IfErr result (λ fault. fault ≡ OutOfMemory) }
         ensures err { OnErr result (self.new ≡ self.old) }
     {
-        let live = Entry {
-            newest: Some(slot),
-            ended: false,
-            ..self.entry(key)
-        };
-        self.set(key, live)
+        match self.place(key) {
+            Some(place) => {
+                let live = Entry {
+                    newest: Some(slot),
+                    ended: false,
+                    ..self.entry_in(place, key)
+                };
+                self.set_in(place, key, live);
+                Ok(())
+            }
+            None => {
+                let first = Entry {
+                    newest: Some(slot),
+                    ..Entry::blank()
+                };
+                self.add(key, first)
+            }
+        }
     }
 
     /// The key's version in the slot is freed. Where it isn't the newest covered one, nothing changes.
@@ -142,14 +217,17 @@ impl Index {
         ensures entries { Sets self.old self.new key (forgotten slot (entry_at self.old key)) }
         ensures room { KeepsRoom self.old self.new }
     {
-        let entry = self.entry(key);
+        let Some(place) = self.place(key) else {
+            return;
+        };
+        let entry = self.entry_in(place, key);
         if entry.newest == Some(slot) {
             let forgotten = Entry {
                 newest: None,
                 ended: false,
                 ..entry
             };
-            self.set(key, forgotten).unwrap();
+            self.set_in(place, key, forgotten);
         }
     }
 }

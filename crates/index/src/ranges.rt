@@ -105,8 +105,9 @@ impl Index {
         if range.is_empty() {
             return Ok(seen);
         }
-        for (key, entry) in self.entries.range(range.bounds()) {
-            if let Some(found) = follow(device, geometry, snapshot, entry.newest, *key) {
+        for (key, place) in self.places.range(range.bounds()) {
+            let newest = self.entry(*key, Some(*place)).newest;
+            if let Some(found) = follow(device, geometry, snapshot, newest, *key) {
                 let Ok(_) = seen.insert(*key, found.row) else {
                     return Err(AllocError);
                 };

@@ -5,8 +5,8 @@ use Rattle.std.proofs.lemmas.Option.{none-some}
 use Rattle.base.specs.declared.fault.Fault.{Fault}
 use Rattle.base.specs.Records.{Record}
 use Rattle.base.specs.Images.{Image, log_damage}
-use Rattle.base.specs.Machine.{State, Cover, StandsAsOne, StandsAt, StandsClosing, StandsClosed, covers_at, covers_closing, closed, closing_fault, drawn_of}
-use Rattle.base.specs.Lives.{World, Numbers, StopsAt, left_out}
+use Rattle.machine.specs.Machine.{State, Cover, StandsAsOne, StandsAt, StandsClosing, StandsClosed, covers_at, covers_closing, closed, closing_fault, drawn_of}
+use Rattle.machine.specs.Lives.{World, Numbers, StopsAt, left_out}
 use Rattle.pmem.specs.Device.{Device, IsOrderly, MayLeave}
 use Rattle.pmem.specs.Words.{LeavesOnly}
 use Rattle.pmem.proofs.Images.{left_now}

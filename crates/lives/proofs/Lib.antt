@@ -1,3 +1,4 @@
+pub mod Final
 pub mod Taken
 pub mod Ends
 pub mod Stops

@@ -1,9 +1,9 @@
 -- How far a device goes, and where it is stopped.
-use Rattle.std.proofs.Common.{◌≡◌, ◌⊎◌, inl, inr, ℕ, ◌+◌, ◌<◌, ◌≤◌, ◌^◌, nat_le, Bool, true, false, List, [], ◌∷◌, refl, sym, ◌∙◌, ap, subst, arith}
+use Rattle.std.proofs.Common.{◌≡◌, ◌⊎◌, inl, inr, ℕ, zero, suc, ◌+◌, ◌<◌, ◌≤◌, ◌^◌, nat_le, Bool, true, false, List, [], ◌∷◌, ◌++◌, length, replicate, refl, sym, ◌∙◌, ap, subst, arith}
 use Rattle.std.specs.Prelude.{Contains, Option, Some, None, Result, Ok, Err, IfErr}
 use Rattle.std.specs.Option.{option_map}
 use Rattle.std.proofs.lemmas.Bool.{cases_lt}
-use Rattle.std.proofs.lemmas.List.Elements.{Contains-append_cases, Contains-append_left, Contains-append_right, Contains-push, Contains-push_cases}
+use Rattle.std.proofs.lemmas.List.Elements.{All-contains, Contains-append_cases, Contains-append_left, Contains-append_right, Contains-push, Contains-push_cases}
 use Rattle.std.proofs.lemmas.Option.{none-some}
 use Rattle.base.specs.declared.fault.Fault.{Fault}
 use Rattle.base.specs.declared.fault.Fault.TheVariants.{Device as DeviceFault, OutOfMemory, NotFormatted, Version, BadGeometry, Damaged, TimestampsOut, Failed}
@@ -12,9 +12,9 @@ use Rattle.base.specs.declared.step.Reply.{Reply}
 use Rattle.base.specs.declared.step.Reply.TheVariants.{Refused}
 use Rattle.base.specs.Search.{first_of, first_below, some_if}
 use Rattle.base.specs.Images.{Image, opening_fault, damage, faults_of, log_damage, layout_of, is_wrong_gate, ruling, ruling_place, is_bad_slot, is_near_limit}
-use Rattle.base.specs.Openings.{OpensAs, StandsOpening}
-use Rattle.base.specs.Lives.{World}
-use Rattle.base.specs.Machine.{State, StandsClosed, StandsClosing, closing_fault, closing_gate}
+use Rattle.machine.specs.Openings.{OpensAs, StandsOpening}
+use Rattle.machine.specs.Lives.{World}
+use Rattle.machine.specs.Machine.{State, StandsClosed, StandsClosing, closing_fault, closing_gate}
 use Rattle.pmem.specs.Device.{Device, IsOrderly, MayLeave, limited, restarted}
 use Rattle.pmem.specs.Words.{Continues, LeavesOnly}
 use Rattle.pmem.proofs.Images.{continues_refl, continues_trans}
@@ -31,6 +31,8 @@ use Rattle.lives.specs.declared.life.Life.{Life}
 use Rattle.lives.specs.declared.life.LifeReport.{LifeReport}
 use Rattle.lives.specs.declared.life.Numbers.{Numbers}
 use Rattle.lives.specs.declared.life.Opened.{Opened}
+use Rattle.lives.specs.declared.life.Repeated.{Repeated}
+use Rattle.lives.specs.Told.{AreTold, IsTold, has_failed, is_final, steps_of}
 use Rattle.lives.specs.Stops.{ClosesWithDevice, EndsOn, FailsOn, GoesOn, IsStopped, LivesOn, OpensOn, PlaysOn, ReportsDevice, StepsOn, StopsBy}
 
 -- ---- going on
@@ -65,22 +67,22 @@ goes-quietly {R} {old} {new} continues same none = record {
 pub goes-nowhere : {R : Type 0} (old new : Device) → new ≡ old → (R → ⊥) → GoesOn old new R
 goes-nowhere old new same none = goes-quietly (subst (λ (d : Device). Continues old d) (sym same) (continues_refl old)) (ap (λ (d : Device). d.failures) same) none
 
-none-yet : (reply : Reply) → Contains [] reply → ⊥
-none-yet reply (k, lt, is) = omega (arith, lt)
+none-yet : {X : Type 0} (x : X) → Contains [] x → ⊥
+none-yet x (k, lt, is) = omega (arith, lt)
 
 -- without a reply
 goes-silent : (device end : Device) (replies : List Reply) → end ≡ device → replies ≡ [] → GoesOn device end (Contains replies (Refused DeviceFault))
 goes-silent device end replies is empty = goes-nowhere device end is (λ has. none-yet (Refused DeviceFault) (subst (λ (l : List Reply). Contains l (Refused DeviceFault)) empty has))
 
-has-first : (reply : Reply) (replies : List Reply) → Contains (reply ∷ replies) (Refused DeviceFault) → (reply ≡ Refused DeviceFault) ⊎ Contains replies (Refused DeviceFault)
-has-first reply replies has = by (Contains-append_cases (reply ∷ []) replies (Refused DeviceFault) has)
+has-first : {X : Type 0} (x : X) (xs : List X) (y : X) → Contains (x ∷ xs) y → (x ≡ y) ⊎ Contains xs y
+has-first {X} x xs y has = by (Contains-append_cases (x ∷ []) xs y has)
   where
-    one : Contains [] (Refused DeviceFault) ⊎ (reply ≡ Refused DeviceFault) → (reply ≡ Refused DeviceFault) ⊎ Contains replies (Refused DeviceFault)
-    one (inl has) = absurd (none-yet (Refused DeviceFault) has)
+    one : Contains [] y ⊎ (x ≡ y) → (x ≡ y) ⊎ Contains xs y
+    one (inl has) = absurd (none-yet y has)
     one (inr is) = inl is
 
-    by : Contains (reply ∷ []) (Refused DeviceFault) ⊎ Contains replies (Refused DeviceFault) → (reply ≡ Refused DeviceFault) ⊎ Contains replies (Refused DeviceFault)
-    by (inl first) = one (Contains-push_cases [] reply (Refused DeviceFault) first)
+    by : Contains (x ∷ []) y ⊎ Contains xs y → (x ≡ y) ⊎ Contains xs y
+    by (inl first) = one (Contains-push_cases [] x y first)
     by (inr later) = inr later
 
 -- a step before them
@@ -90,7 +92,7 @@ goes-before reply replies first then =
     goes-on first then
     (λ is. subst (λ (r : Reply). Contains (reply ∷ replies) r) is (Contains-append_left (reply ∷ []) replies reply (Contains-push [] reply)))
     (λ has. Contains-append_right (reply ∷ []) replies (Refused DeviceFault) has)
-    (λ has. has-first reply replies has)
+    (λ has. has-first reply replies (Refused DeviceFault) has)
 
 -- a step
 step-goes : (volatile : VolatileState) (device next : Device) (step : Step) (reply : Reply) (q q' : State) → StepsTo volatile device next step reply q q'
@@ -107,6 +109,76 @@ steps-go q device (step ∷ steps) (reply ∷ replies) last end (q', next, volat
     goes-before reply replies (step-goes volatile device next step reply q q' taken) (steps-go q' next steps replies last end rest)
 steps-go q device [] (reply ∷ replies) last end none = absurd none
 steps-go q device (step ∷ steps) [] last end none = absurd none
+
+-- ---- what is told of replies
+
+abbrev failed_reply : Reply
+failed_reply = Refused DeviceFault
+
+busy-not : (b : Bool) → b ≡ false → b ≡ true → ⊥
+busy-not b f t = cc
+
+first-or : {X : Type 0} (x y : X) (P : Type 0) → (P → x ≡ y) → (x ≡ y) ⊎ P → x ≡ y
+first-or x y P later (inl is) = is
+first-or x y P later (inr has) = later has
+
+repeated-is : {X : Type 0} (n : ℕ) (x y : X) → Contains (replicate n x) y → x ≡ y
+repeated-is zero x y has = absurd (none-yet y has)
+repeated-is (suc n) x y has = first-or x y (Contains (replicate n x) y) (repeated-is n x y) (has-first x (replicate n x) y has)
+
+-- a failure is the one that is told
+own-told : (own : List Reply) (answer : Option Reply) → IsTold own answer → Contains own failed_reply → answer ≡ Some failed_reply
+own-told own None none has = absurd (none-yet failed_reply (subst (λ (l : List Reply). Contains l failed_reply) none has))
+own-told own (Some answer) (before, more, busy, is) has = by (Contains-append_cases before (replicate (suc more) answer) failed_reply (subst (λ (l : List Reply). Contains l failed_reply) is has))
+  where
+    by : Contains before failed_reply ⊎ Contains (replicate (suc more) answer) failed_reply → Some answer ≡ Some failed_reply
+    by (inl early) = absurd (busy-not true (All-contains (λ r. is_final r ≡ false) before failed_reply busy early) refl)
+    by (inr late) = ap Some (repeated-is (suc more) answer failed_reply late)
+
+told-own : (own : List Reply) (answer : Option Reply) → IsTold own answer → answer ≡ Some failed_reply → Contains own failed_reply
+told-own own None none is = absurd (cc is)
+told-own own (Some answer) (before, more, busy, made) is =
+    let same : answer ≡ failed_reply = cc is in
+    subst (λ (l : List Reply). Contains l failed_reply) (sym made)
+    (Contains-append_right before (answer ∷ replicate more answer) failed_reply
+    (subst (λ (r : Reply). Contains (answer ∷ replicate more answer) r) same (Contains-append_left (answer ∷ []) (replicate more answer) answer (Contains-push [] answer))))
+
+-- what is told of a step, and of those after it
+abbrev Rest : List Repeated → Repeated → List Reply → List Reply → Option Reply → List (Option Reply) → Type 0
+Rest asked one own later answer told =
+    ((has_failed answer ≡ true) × (later ≡ []) × (told ≡ [])) ⊎ ((has_failed answer ≡ false) × (length own ≡ one.times) × AreTold asked later told)
+
+first-has : {X : Type 0} (x : X) (xs : List X) → Contains (x ∷ xs) x
+first-has x xs = Contains-append_left (x ∷ []) xs x (Contains-push [] x)
+
+later-told : (asked : List Repeated) (one : Repeated) (own later : List Reply) (answer : Option Reply) (told : List (Option Reply)) → IsTold own answer
+    → (AreTold asked later told → Contains later failed_reply → Contains told (Some failed_reply))
+    → Contains own failed_reply ⊎ Contains later failed_reply → Rest asked one own later answer told → Contains (answer ∷ told) (Some failed_reply)
+later-told asked one own later answer told mine others (inl early) rest =
+    subst (λ (x : Option Reply). Contains (answer ∷ told) x) (own-told own answer mine early) (first-has answer told)
+later-told asked one own later answer told mine others (inr late) (inl (fails, none, end)) = absurd (none-yet failed_reply (subst (λ (l : List Reply). Contains l failed_reply) none late))
+later-told asked one own later answer told mine others (inr late) (inr (works, counted, more)) = Contains-append_right (answer ∷ []) told (Some failed_reply) (others more late)
+
+-- so it is of all steps
+told-has : (asked : List Repeated) (replies : List Reply) (told : List (Option Reply)) → AreTold asked replies told → Contains replies failed_reply → Contains told (Some failed_reply)
+told-has [] replies told (none, empty) has = absurd (none-yet failed_reply (subst (λ (l : List Reply). Contains l failed_reply) none has))
+told-has (one ∷ asked) replies [] none has = absurd none
+told-has (one ∷ asked) replies (answer ∷ told) (own, later, is, mine, rest) has =
+    later-told asked one own later answer told mine (told-has asked later told) (Contains-append_cases own later failed_reply (subst (λ (l : List Reply). Contains l failed_reply) is has)) rest
+
+told-later : (asked : List Repeated) (one : Repeated) (own later : List Reply) (answer : Option Reply) (told : List (Option Reply)) → IsTold own answer
+    → (AreTold asked later told → Contains told (Some failed_reply) → Contains later failed_reply)
+    → (answer ≡ Some failed_reply) ⊎ Contains told (Some failed_reply) → Rest asked one own later answer told → Contains (own ++ later) failed_reply
+told-later asked one own later answer told mine others (inl early) rest = Contains-append_left own later failed_reply (told-own own answer mine early)
+told-later asked one own later answer told mine others (inr late) (inl (fails, none, end)) = absurd (none-yet (Some failed_reply) (subst (λ (l : List (Option Reply)). Contains l (Some failed_reply)) end late))
+told-later asked one own later answer told mine others (inr late) (inr (works, counted, more)) = Contains-append_right own later failed_reply (others more late)
+
+has-told : (asked : List Repeated) (replies : List Reply) (told : List (Option Reply)) → AreTold asked replies told → Contains told (Some failed_reply) → Contains replies failed_reply
+has-told [] replies told (none, empty) has = absurd (none-yet (Some failed_reply) (subst (λ (l : List (Option Reply)). Contains l (Some failed_reply)) empty has))
+has-told (one ∷ asked) replies [] none has = absurd none
+has-told (one ∷ asked) replies (answer ∷ told) (own, later, is, mine, rest) has =
+    subst (λ (l : List Reply). Contains l failed_reply) (sym is)
+    (told-later asked one own later answer told mine (has-told asked later told) (has-first answer told (Some failed_reply) has) rest)
 
 -- ---- what no refusal is for
 
@@ -212,7 +284,7 @@ refused-goes old new image fault report opening replies closed refusal continues
   where
     is_device : ReportsDevice report → fault ≡ DeviceFault
     is_device (inl told) = ap opening-fault (sym opening ∙ told)
-    is_device (inr (inl has)) = absurd (none-yet (Refused DeviceFault) (subst (λ (l : List Reply). Contains l (Refused DeviceFault)) replies has))
+    is_device (inr (inl has)) = absurd (none-yet (Some (Refused DeviceFault)) (subst (λ (l : List (Option Reply)). Contains l (Some (Refused DeviceFault))) replies has))
     is_device (inr (inr told)) = absurd (none-closed (sym closed ∙ told))
 
     other : (opening_fault image ≡ Some fault) ⊎ (fault ≡ OutOfMemory) → ReportsDevice report → ⊥
@@ -247,26 +319,28 @@ ok-not : (opened : Opened) → ◌≡◌ {A = Result Opened Fault} (Ok opened) (
 ok-not opened e = cc
 
 -- a life whose opening succeeded goes on by its steps, and up to its stop
-pub played-stops : (life : Life) (q after : State) (old mid : Device) (left : Image) (opened : Opened) (report : LifeReport) → report.opening ≡ Ok opened
-    → StepsOn q old life.steps.items report.replies.items after mid → StopsBy life.choice mid (ClosesWithDevice report.closed) (EndsOn after report.closed mid) left
-    → StopsBy life.choice old (ReportsDevice report) (PlaysOn q old life report) left
-played-stops life q after old mid left opened report opening steps stops = record {
+pub played-stops : (life : Life) (q after : State) (old mid : Device) (left : Image) (opened : Opened) (report : LifeReport) (replies : List Reply) → report.opening ≡ Ok opened
+    → AreTold life.steps.items replies report.replies.items → StepsOn q old (steps_of life.steps.items) replies after mid
+    → StopsBy life.choice mid (ClosesWithDevice report.closed) (EndsOn after report.closed mid) left
+    → StopsBy life.choice old (ReportsDevice report) (PlaysOn q old life report replies) left
+played-stops life q after old mid left opened report replies opening tells steps stops = record {
   last = stops.last;
   leads = record { opening = opened; opens = opening; after = after; left = mid; steps = steps; ends = stops.leads };
-  goes_on = goes-on (steps-go q old life.steps.items report.replies.items after mid steps) stops.goes_on (λ has. inr (inl has)) (λ told. inr (inr told)) cases;
+  goes_on = goes-on (steps-go q old (steps_of life.steps.items) replies after mid steps) stops.goes_on (λ has. inr (inl (told-has life.steps.items replies report.replies.items tells has))) (λ told. inr (inr told)) cases;
   orderly = stops.orderly;
   within = stops.within;
   chosen = stops.chosen;
 }
   where
-    cases : ReportsDevice report → Contains report.replies.items (Refused DeviceFault) ⊎ ClosesWithDevice report.closed
+    cases : ReportsDevice report → Contains replies (Refused DeviceFault) ⊎ ClosesWithDevice report.closed
     cases (inl told) = absurd (ok-not opened (sym opening ∙ told))
-    cases (inr later) = later
+    cases (inr (inl has)) = inl (has-told life.steps.items replies report.replies.items tells has)
+    cases (inr (inr told)) = inr told
 
 -- the opening came before
-pub opened-stops : {R : Type 0} (life : Life) (report : LifeReport) (before : World) (q : State) (old mid : Device) (left : Image) → OpensOn old before q mid → mid.failures ≡ old.failures
-    → StopsBy life.choice mid R (PlaysOn q mid life report) left → StopsBy life.choice old R (LivesOn old before life report) left
-opened-stops life report before q old mid left opens same stops = record {
+pub opened-stops : {R : Type 0} (life : Life) (report : LifeReport) (replies : List Reply) (before : World) (q : State) (old mid : Device) (left : Image) → OpensOn old before q mid
+    → mid.failures ≡ old.failures → StopsBy life.choice mid R (PlaysOn q mid life report replies) left → StopsBy life.choice old R (LivesOn old before life report replies) left
+opened-stops life report replies before q old mid left opens same stops = record {
   last = stops.last;
   leads = inr (q, mid, opens, stops.leads);
   goes_on = goes-on (goes-quietly {R = ⊥} opens.images.continues same (λ e. e)) stops.goes_on (λ e. absurd e) (λ told. told) (λ told. inr told);
@@ -336,16 +410,16 @@ from-nothing None = refl
 from-nothing (Some n) = ap Some (omega arith)
 
 -- its device began with the image at rest, under its fuse
-pub is-stopped : (life : Life) (report : LifeReport) (before : World) (left : Image) (begun : Device) → begun ≡ limited life.fuse (restarted before.image)
-    → StopsBy life.choice begun (ReportsDevice report) (LivesOn begun before life report) left → IsStopped life report before left
-is-stopped life report before left begun is stops =
+pub is-stopped : (life : Life) (report : LifeReport) (replies : List Reply) (before : World) (left : Image) (begun : Device) → begun ≡ limited life.fuse (restarted before.image)
+    → StopsBy life.choice begun (ReportsDevice report) (LivesOn begun before life report replies) left → IsStopped life report replies before left
+is-stopped life report replies before left begun is stops =
     let last = stops.last in
     let limit : last.limit ≡ life.fuse = stops.goes_on.continues.same_limit ∙ ap (λ (d : Device). d.limit) is ∙ from-nothing life.fuse in
     let none : begun.failures ≡ 0 = ap (λ (d : Device). d.failures) is in
     let within = stops.within in
     record {
       last = last;
-      lives = subst (λ (d : Device). LivesOn d before life report last) is stops.leads;
+      lives = subst (λ (d : Device). LivesOn d before life report replies last) is stops.leads;
       goes_on = subst (λ (d : Device). Continues d last) is stops.goes_on.continues;
       orderly = stops.orderly;
       counted = within.counted;

@@ -3,11 +3,11 @@ use Rattle.std.specs.Prelude.{List, [], map, flat_map, IsTrue, All}
 use Rattle.base.specs.Fresh.{fresh_image}
 use Rattle.base.specs.Layout.{Layout}
 use Rattle.base.specs.Stands.{has_timestamp}
-use Rattle.base.specs.Lives.{World, IsWorld, Asked, Report, Lives}
-use Rattle.base.specs.Laws.{LivesAdd, RiseBetween, StayOut, acknowledged_in, drawn_over}
+use Rattle.machine.specs.Lives.{World, IsWorld, Asked, Report, Lives}
+use Rattle.machine.specs.Laws.{LivesAdd, RiseBetween, StayOut, acknowledged_in, drawn_over}
 use Rattle.lives.specs.declared.life.Life.{Life}
 use Rattle.lives.specs.declared.life.LifeReport.{LifeReport}
-use Rattle.lives.specs.Plain.{asked_of, report_of}
+use Rattle.lives.specs.Plain.{asked_of}
 use Rattle.lives.specs.Stops.{AreStopped}
 
 -- a fresh image, before anything was drawn
@@ -28,6 +28,7 @@ pub record Keeps (layout : Layout) (asked : List Asked) (reports : List Report) 
 -- fuse, and left what its choice names
 pub record AreLives (layout : Layout) (lives : List Life) (reports : List LifeReport) : Type 0 where
   pub last : World
-  pub chain : Lives (fresh_world layout) (map asked_of lives) (map report_of reports) last
-  pub stopped : AreStopped (fresh_world layout) lives reports last
-  pub keeps : Keeps layout (map asked_of lives) (map report_of reports) last
+  pub plain : List Report  -- the same reports, with each reply
+  pub chain : Lives (fresh_world layout) (map asked_of lives) plain last
+  pub stopped : AreStopped (fresh_world layout) lives reports plain last
+  pub keeps : Keeps layout (map asked_of lives) plain last

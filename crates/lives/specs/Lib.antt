@@ -1,4 +1,5 @@
 pub mod Plain
+pub mod Told
 pub mod Stops
 pub mod Chains
 pub mod Parts

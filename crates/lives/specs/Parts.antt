@@ -1,27 +1,44 @@
 -- What the parts of a life come to.
-use Rattle.std.specs.Prelude.{◌≡◌, ℕ, Bool, true, false, List, Option, Result}
+use Rattle.std.specs.Prelude.{◌≡◌, ℕ, Bool, true, false, List, ◌++◌, length, replicate, Option, Result}
 use Rattle.base.specs.declared.fault.Fault.{Fault}
 use Rattle.base.specs.declared.key.Key.{Key}
 use Rattle.base.specs.declared.step.Step.{Step}
 use Rattle.base.specs.declared.step.Reply.{Reply}
 use Rattle.base.specs.Images.{Image, ruling}
-use Rattle.base.specs.Machine.{State, final}
-use Rattle.base.specs.Lives.{World, IsWorld, Numbers, Opens, RunsUp, EndsAs, Life as PlainLife, numbers_of as state_numbers}
+use Rattle.machine.specs.Machine.{State, final}
+use Rattle.machine.specs.Lives.{World, IsWorld, Numbers, Opens, RunsUp, EndsAs, Life as PlainLife, numbers_of as state_numbers}
 use Rattle.pmem.specs.Device.{Device}
-use Rattle.lives.specs.Plain.{asked_of, opening_of, report_of}
-use Rattle.lives.specs.Stops.{StepsOn}
+use Rattle.lives.specs.Plain.{Tells, asked_of, closed_of, opening_of, report_of}
+use Rattle.lives.specs.Stops.{PlaysOn, ReportsDevice, StepsOn, StopsBy}
+use Rattle.lives.specs.Told.{AreTold, IsTold, has_failed, steps_of}
 use Rattle.lives.specs.declared.life.Life.{Life}
 use Rattle.lives.specs.declared.life.LifeReport.{LifeReport}
+use Rattle.lives.specs.declared.life.Repeated.{Repeated}
 
 -- those of the record that rules an image
 abbrev pub ruling_numbers : Image → Numbers
 ruling_numbers image = record { gate = (ruling image).gate; persisted = (ruling image).persisted; dirty = (ruling image).dirty }
 
--- the steps lead from the state on the one device to a state on the other, with these replies, and this holds of that state;
--- the device has failed in it just where it did so in one of them
-pub record HasObeyed (q : State) (device : Device) (steps : List Step) (replies : List Reply) (failed : Bool) (left : Device) (P : State → Type 0) : Type 0 where
+-- The step, as often as it is asked for, leads from the state on the one device to a state on the other, of which this holds,
+-- whatever steps come after it; where the device fails in it, none of them is taken. This is told of its replies
+pub record HasRepeated (q : State) (device : Device) (asked : Repeated) (answer : Option Reply) (left : Device) (P : State → Type 0) : Type 0 where
+  pub own : List Reply
+  pub told : IsTold own answer
   pub last : State
-  pub runs : StepsOn q device steps replies last left
+  pub after_it : P last
+  pub failure : q.failed ≡ false → last.failed ≡ has_failed answer
+  pub counted : has_failed answer ≡ false → length own ≡ asked.times
+  pub goes_on : has_failed answer ≡ false → (more : List Step) (later : List Reply) (end : State) (ended : Device) → StepsOn last left more later end ended
+      → StepsOn q device (replicate asked.times asked.step ++ more) (own ++ later) end ended
+  pub stops : has_failed answer ≡ true → (more : List Step) → StepsOn q device (replicate asked.times asked.step ++ more) own last left
+
+-- the steps lead from the state on the one device to a state on the other, and this is told of their replies, and this holds of
+-- that state; the device has failed in it just where it did so in one of them
+pub record HasObeyed (q : State) (device : Device) (steps : List Repeated) (told : List (Option Reply)) (failed : Bool) (left : Device) (P : State → Type 0) : Type 0 where
+  pub last : State
+  pub replies : List Reply
+  pub runs : StepsOn q device (steps_of steps) replies last left
+  pub tells : AreTold steps replies told
   pub after_it : P last
   pub failure : q.failed ≡ false → last.failed ≡ failed
 
@@ -34,13 +51,24 @@ abbrev pub MayAsk : Bool → State → Type 0
 MayAsk closes q = closes ≡ true → q.failed ≡ false
 
 -- a life goes on from the opened state, and its opening had these rows
-pub record HasPlayed (q : State) (rows : List (Key × List ℕ)) (life : Life) (report : LifeReport) (image : Image) : Type 0 where
+pub record HasPlayed (q : State) (rows : List (Key × List ℕ)) (life : Life) (report : LifeReport) (replies : List Reply) (image : Image) : Type 0 where
   pub opening : opening_of report.opening ≡ Opens (state_numbers q) q.next q.ruling.gaps rows
   pub states : List State
-  pub runs : RunsUp q life.steps.items report.replies.items states
-  pub ends : HasEnded (final q states) life.close (report_of report).closed image
+  pub runs : RunsUp q (steps_of life.steps.items) replies states
+  pub ends : HasEnded (final q states) life.close (closed_of report.closed) image
 
--- whatever the image before stands for, this is a life over it, which leaves the other
-abbrev pub HasLived : Image → Life → LifeReport → Image → Type 0
-HasLived image life report left = (before : World) → IsWorld before → before.image ≡ image
-    → (after : World) × (after.image ≡ left) × PlainLife before (asked_of life) (report_of report) after
+-- so it does, and its device went on so
+pub record Plays (q : State) (device : Device) (rows : List (Key × List ℕ)) (life : Life) (report : LifeReport) (image : Image) : Type 0 where
+  pub replies : List Reply
+  pub tells : Tells life report replies
+  pub played : q.failed ≡ false → HasPlayed q rows life report replies image
+  pub stopped : StopsBy life.choice device (ReportsDevice report) (PlaysOn q device life report replies) image
+
+-- this is a life over what the stop before it left, which leaves the image; and this holds of its replies
+pub record HasLived (before : World) (life : Life) (report : LifeReport) (left : Image) (P : List Reply → Type 0) : Type 0 where
+  pub replies : List Reply
+  pub tells : Tells life report replies
+  pub after : World
+  pub leaves : after.image ≡ left
+  pub lives : PlainLife before (asked_of life) (report_of report replies) after
+  pub so : P replies

@@ -1,15 +1,17 @@
 -- A life and its report in the plain words of lives.
-use Rattle.std.specs.Prelude.{Option, Some, None, Result, Ok, Err}
+use Rattle.std.specs.Prelude.{◌≡◌, List, Option, Some, None, Result, Ok, Err}
 use Rattle.base.specs.declared.fault.Fault.{Fault}
-use Rattle.base.specs.Lives.{Numbers as PlainNumbers, Opening, Opens, Fails, Asked, Report}
+use Rattle.base.specs.declared.step.Reply.{Reply}
+use Rattle.machine.specs.Lives.{Numbers as PlainNumbers, Opening, Opens, Fails, Asked, Report}
 use Rattle.lives.specs.declared.life.Life.{Life}
 use Rattle.lives.specs.declared.life.LifeReport.{LifeReport}
 use Rattle.lives.specs.declared.life.Numbers.{Numbers}
 use Rattle.lives.specs.declared.life.Opened.{Opened}
+use Rattle.lives.specs.Told.{TellsOf, steps_of}
 
 -- what is asked of a life
 abbrev pub asked_of : Life → Asked
-asked_of life = record { steps = life.steps.items; closes = life.close }
+asked_of life = record { steps = steps_of life.steps.items; closes = life.close }
 
 abbrev pub numbers_of : Numbers → PlainNumbers
 numbers_of numbers = record { gate = numbers.gate; persisted = numbers.persisted; dirty = numbers.dirty }
@@ -23,6 +25,15 @@ closed_of None = None
 closed_of (Some (Ok numbers)) = Some (Ok (numbers_of numbers))
 closed_of (Some (Err fault)) = Some (Err fault)
 
--- what a report tells
-abbrev pub report_of : LifeReport → Report
-report_of report = record { opening = opening_of report.opening; replies = report.replies.items; closed = closed_of report.closed }
+-- what a report tells, where these are the replies to the life's steps
+abbrev pub report_of : LifeReport → List Reply → Report
+report_of report replies = record { opening = opening_of report.opening; replies = replies; closed = closed_of report.closed }
+
+-- the report tells so of the replies
+abbrev pub Tells : Life → LifeReport → List Reply → Type 0
+Tells life report replies = TellsOf report.opening life.steps.items replies report.replies.items
+
+-- the report of a life is this in plain words
+pub record IsReport (life : Life) (report : LifeReport) (plain : Report) : Type 0 where
+  pub is : plain ≡ report_of report plain.replies
+  pub tells : Tells life report plain.replies

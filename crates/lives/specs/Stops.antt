@@ -6,9 +6,10 @@ use Rattle.base.specs.declared.step.Step.{Step}
 use Rattle.base.specs.declared.step.Reply.{Reply}
 use Rattle.base.specs.declared.step.Reply.TheVariants.{Refused}
 use Rattle.base.specs.Images.{Image, opening_fault}
-use Rattle.base.specs.Lives.{World, IsWorld, Life as PlainLife, is_failure}
-use Rattle.base.specs.Machine.{State, StandsClosed, StandsClosing}
-use Rattle.base.specs.Openings.{OpensAs, StandsOpening}
+use Rattle.base.specs.Replies.{is_failure}
+use Rattle.machine.specs.Lives.{World, IsWorld, Report, Life as PlainLife}
+use Rattle.machine.specs.Machine.{State, StandsClosed, StandsClosing}
+use Rattle.machine.specs.Openings.{OpensAs, StandsOpening}
 use Rattle.pmem.specs.Device.{Device, IsOrderly, MayLeave, limited, restarted}
 use Rattle.pmem.specs.Words.{Continues, HasNoFailure, LeavesOnly, image_of, operations_of}
 use Rattle.pmem_model.specs.declared.choice.Choice.{Choice}
@@ -23,7 +24,8 @@ use Rattle.lives.specs.declared.life.Life.{Life}
 use Rattle.lives.specs.declared.life.LifeReport.{LifeReport}
 use Rattle.lives.specs.declared.life.Numbers.{Numbers}
 use Rattle.lives.specs.declared.life.Opened.{Opened}
-use Rattle.lives.specs.Plain.{asked_of, report_of}
+use Rattle.lives.specs.Plain.{IsReport, asked_of}
+use Rattle.lives.specs.Told.{steps_of}
 
 -- ---- what a life does on its device
 
@@ -53,12 +55,12 @@ EndsOn q (Some (Ok numbers)) device last =
     HasNoFailure device last × LeavesOnly device last (StandsClosing q) × ((image : Image) → MayLeave last image → StandsClosed q image)
 
 -- the steps and the end of a life whose opening succeeded
-pub record PlaysOn (q : State) (opened : Device) (life : Life) (report : LifeReport) (last : Device) : Type 0 where
+pub record PlaysOn (q : State) (opened : Device) (life : Life) (report : LifeReport) (replies : List Reply) (last : Device) : Type 0 where
   pub opening : Opened
   pub opens : report.opening ≡ Ok opening
   pub after : State
   pub left : Device
-  pub steps : StepsOn q opened life.steps.items report.replies.items after left
+  pub steps : StepsOn q opened (steps_of life.steps.items) replies after left
   pub ends : EndsOn after report.closed left last
 
 -- an opening that failed leads from one device to the other
@@ -69,9 +71,9 @@ pub record FailsOn (begun : Device) (before : World) (report : LifeReport) (last
   pub images : LeavesOnly begun last (StandsOpening before.image before.history before.next)
 
 -- a whole life does, over what the stop before it left: by an opening that failed; or by one that succeeded, the steps and the end
-abbrev pub LivesOn : Device → World → Life → LifeReport → Device → Type 0
-LivesOn begun before life report last =
-    FailsOn begun before report last ⊎ ((q : State) × (opened : Device) × OpensOn begun before q opened × PlaysOn q opened life report last)
+abbrev pub LivesOn : Device → World → Life → LifeReport → List Reply → Device → Type 0
+LivesOn begun before life report replies last =
+    FailsOn begun before report last ⊎ ((q : State) × (opened : Device) × OpensOn begun before q opened × PlaysOn q opened life report replies last)
 
 -- ---- where it was stopped
 
@@ -81,14 +83,14 @@ ClosesWithDevice closed = closed ≡ Some (Err DeviceFault)
 
 -- the opening, a reply or the close does
 abbrev pub ReportsDevice : LifeReport → Type 0
-ReportsDevice report = (report.opening ≡ Err DeviceFault) ⊎ Contains report.replies.items (Refused DeviceFault) ⊎ ClosesWithDevice report.closed
+ReportsDevice report = (report.opening ≡ Err DeviceFault) ⊎ Contains report.replies.items (Some (Refused DeviceFault)) ⊎ ClosesWithDevice report.closed
 
 -- The life led from the device that was made of the image, with the life's fuse, to the one that was stopped: it made no more
 -- operations than the fuse allows, and exactly as many where the report says that the device failed, as it does where an
 -- operation failed. The stop left of each word the survivor that the life's choice names
-pub record IsStopped (life : Life) (report : LifeReport) (before : World) (left : Image) : Type 0 where
+pub record IsStopped (life : Life) (report : LifeReport) (replies : List Reply) (before : World) (left : Image) : Type 0 where
   pub last : Device
-  pub lives : LivesOn (limited life.fuse (restarted before.image)) before life report last
+  pub lives : LivesOn (limited life.fuse (restarted before.image)) before life report replies last
   pub goes_on : Continues (limited life.fuse (restarted before.image)) last
   pub orderly : IsOrderly last
   pub counted : operations_of last ≡ last.clock
@@ -98,11 +100,12 @@ pub record IsStopped (life : Life) (report : LifeReport) (before : World) (left 
   pub chosen : IsChosen life.choice last left
 
 -- Each life is one over what the one before it left, was stopped within its fuse, and left what its choice names
-abbrev pub AreStopped : World → List Life → List LifeReport → World → Type 0
-AreStopped before [] [] after = after ≡ before
-AreStopped before (life ∷ more) (report ∷ reports) after =
-    (mid : World) × PlainLife before (asked_of life) (report_of report) mid × IsStopped life report before mid.image × AreStopped mid more reports after
-AreStopped before _ _ after = ⊥
+abbrev pub AreStopped : World → List Life → List LifeReport → List Report → World → Type 0
+AreStopped before [] [] [] after = after ≡ before
+AreStopped before (life ∷ more) (report ∷ reports) (plain ∷ plains) after =
+    (mid : World) × IsReport life report plain × PlainLife before (asked_of life) plain mid × IsStopped life report plain.replies before mid.image
+    × AreStopped mid more reports plains after
+AreStopped before _ _ _ after = ⊥
 
 -- ---- what the parts of a life make of its device
 

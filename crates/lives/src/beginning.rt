@@ -1,11 +1,11 @@
-ghost use Rattle.std.specs.Prelude.{◌≡◌, false, IfOk, IfErr};
+ghost use Rattle.std.specs.Prelude.{◌≡◌, IfOk, IfErr};
 ghost use Rattle.base.specs.declared.fault.Fault.TheVariants.{OutOfMemory};
-ghost use Rattle.base.specs.Machine.{State};
+ghost use Rattle.machine.specs.Machine.{State};
 ghost use Rattle.pmem.specs.Words.{IsAtRest, image_of};
 ghost use Rattle.pmem_model.specs.Sim.{device_of};
 ghost use Rattle.room.specs.Room.{Shows, device_of as device_in};
-ghost use Rattle.lives.specs.Parts.{HasLived, HasPlayed};
-ghost use Rattle.lives.specs.Stops.{IsRestarted, IsStopped, LivesOn, PlaysOn, ReportsDevice, StopsBy, WhereItStands};
+ghost use Rattle.lives.specs.Parts.{HasLived, Plays};
+ghost use Rattle.lives.specs.Stops.{IsRestarted, IsStopped, LivesOn, ReportsDevice, StopsBy, WhereItStands};
 
 use crate::ending::{end, stop};
 use crate::life::{Life, LifeReport, Numbers, Opened};
@@ -27,9 +27,8 @@ pub fn live<R: Threads + Sync>(
     life: &Life,
 ) -> Result<(LifeReport, SimPmem), Fault>
     requires { IsRestarted (device_of device) }
-    ensures ok { IfOk result (λ lived. HasLived (image_of (device_of device)) life.now lived.0 (image_of (device_of lived.1))) }
-    ensures stopped { IfOk result (λ lived. WhereItStands (image_of (device_of device))
-        (λ before. IsStopped life.now lived.0 before (image_of (device_of lived.1)))) }
+    ensures ok { IfOk result (λ lived. WhereItStands (image_of (device_of device))
+        (λ before. HasLived before life.now lived.0 (image_of (device_of lived.1)) (λ replies. IsStopped life.now lived.0 replies before (image_of (device_of lived.1))))) }
     ensures rests { IfOk result (λ lived. IsRestarted (device_of lived.1)) }
     ensures fault { IfErr result (λ fault. fault ≡ OutOfMemory) }
 {
@@ -45,9 +44,9 @@ fn live_under_fuse<R: Threads + Sync>(
     life: &Life,
 ) -> Result<(LifeReport, SimPmem), Fault>
     requires { IsAtRest (device_of device) }
-    ensures ok { IfOk result (λ lived. HasLived (image_of (device_of device)) life.now lived.0 (image_of (device_of lived.1))) }
-    ensures stopped { IfOk result (λ lived. WhereItStands (image_of (device_of device))
-        (λ before. StopsBy life.now.choice (device_of device) (ReportsDevice lived.0) (LivesOn (device_of device) before life.now lived.0) (image_of (device_of lived.1)))) }
+    ensures ok { IfOk result (λ lived. WhereItStands (image_of (device_of device))
+        (λ before. HasLived before life.now lived.0 (image_of (device_of lived.1))
+        (λ replies. StopsBy life.now.choice (device_of device) (ReportsDevice lived.0) (LivesOn (device_of device) before life.now lived.0 replies) (image_of (device_of lived.1))))) }
     ensures rests { IfOk result (λ lived. IsRestarted (device_of lived.1)) }
     ensures fault { IfErr result (λ fault. fault ≡ OutOfMemory) }
 {
@@ -80,9 +79,8 @@ fn play(
     rows: Vec<(Key, Row)>,
     life: &Life,
 ) -> Result<(LifeReport, SimPmem), Fault>
-    ensures ok { IfOk result (λ played. (q : State) → Shows device_of room q → q.failed ≡ false → HasPlayed q rows.items life.now played.0 (image_of (device_of played.1))) }
-    ensures stopped { IfOk result (λ played. (q : State) → Shows device_of room q
-        → StopsBy life.now.choice (device_in device_of room) (ReportsDevice played.0) (PlaysOn q (device_in device_of room) life.now played.0) (image_of (device_of played.1))) }
+    ensures ok { IfOk result (λ played. (q : State) → Shows device_of room q
+        → Plays q (device_in device_of room) rows.items life.now played.0 (image_of (device_of played.1))) }
     ensures rests { IfOk result (λ played. IsRestarted (device_of played.1)) }
     ensures fault { IfErr result (λ fault. fault ≡ OutOfMemory) }
 {

@@ -1,7 +1,7 @@
 ghost use Rattle.std.specs.Prelude.{◌≡◌, Some, IfOk, IfErr};
 ghost use Rattle.base.specs.declared.fault.Fault.TheVariants.{OutOfMemory};
 ghost use Rattle.base.specs.Images.{log_damage};
-ghost use Rattle.base.specs.Machine.{State};
+ghost use Rattle.machine.specs.Machine.{State};
 ghost use Rattle.pmem.specs.Device.{MayLeave};
 ghost use Rattle.pmem.specs.Words.{image_of};
 ghost use Rattle.pmem_model.specs.Chosen.{IsChosen};
@@ -68,9 +68,9 @@ fn numbers_on(device: &SimPmem) -> Result<Numbers, Fault>
 {
     match latest(device) {
         Ok(found) => Ok(Numbers {
-            gate: found.target.gate(),
-            persisted: found.target.persisted(),
-            dirty: found.target.dirty(),
+            gate: found.record.gate(),
+            persisted: found.record.persisted(),
+            dirty: found.record.dirty(),
         }),
         Err(fault) => Err(fault),
     }

@@ -8,5 +8,5 @@ mod life;
 mod obeying;
 mod running;
 
-pub use life::{Life, LifeReport, Numbers, Opened};
+pub use life::{Life, LifeReport, Numbers, Opened, Repeated};
 pub use running::run_lives;

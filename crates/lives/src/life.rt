@@ -6,11 +6,18 @@ use base::row::Row;
 use base::step::{Reply, Step};
 use pmem_model::Choice;
 
+/// A step, and how often it is to be taken.
+#[derive(Clone, Copy)]
+pub struct Repeated {
+    pub step: Step,
+    pub times: u64,
+}
+
 /// What is asked of a life.
 #[derive(Drop)]
 pub struct Life {
-    /// They are taken up to the first in which the device fails.
-    pub steps: Vec<Step>,
+    /// They are taken, each as often as it says, up to the first in which the device fails.
+    pub steps: Vec<Repeated>,
     /// Is the room closed after the steps?
     pub close: bool,
     /// After that many operations, counted from the life's first, the device fails. `None`: it doesn't.
@@ -42,7 +49,9 @@ pub struct Opened {
 #[derive(Debug, Drop)]
 pub struct LifeReport {
     pub opening: Result<Opened, Fault>,
-    pub replies: Vec<Reply>,
+    /// Of each of the steps, up to the one in which the device failed: the reply to the last time that it was taken, which
+    /// is that of the first time that it was refused or found nothing to do. `None`: it was to be taken no times.
+    pub replies: Vec<Option<Reply>>,
     /// The numbers after a close, or its fault. `None`: none was asked, or the device failed before.
     pub closed: Option<Result<Numbers, Fault>>,
 }

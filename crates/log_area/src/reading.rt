@@ -16,7 +16,7 @@ use pmem::Pmem;
 /// The record that rules a device's image, or the first fault of the image, its slots aside. Of the records only the
 /// ruling one's body is read.
 pub fn latest<D: Pmem>(device: &D) -> Result<Ruling, Fault>
-    ensures ok { IfOk result (λ ruling. IsRuledBy ruling.geometry ruling.target (image_of (D.state device.now))) }
+    ensures ok { IfOk result (λ ruling. IsRuledBy ruling.geometry ruling.record (image_of (D.state device.now))) }
     ensures fault { IfErr result (λ fault. log_damage (image_of (D.state device.now)) ≡ Some fault) }
 {
     let geometry = match read_geometry(device) {
@@ -32,7 +32,7 @@ pub fn latest<D: Pmem>(device: &D) -> Result<Ruling, Fault>
     }
     let place = gate % geometry.places();
     match read_record(device, geometry, place) {
-        Some(target) => Ok(Ruling { geometry, target }),
+        Some(record) => Ok(Ruling { geometry, record }),
         None => Err(Fault::Damaged(place)),
     }
 }

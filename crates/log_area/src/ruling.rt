@@ -5,5 +5,5 @@ use base::geometry::Geometry;
 #[derive(Clone, Copy)]
 pub struct Ruling {
     pub geometry: Geometry,
-    pub target: Record,
+    pub record: Record,
 }

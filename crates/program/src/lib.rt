@@ -2,6 +2,7 @@
 #![tactic(auto)]
 
 mod files;
+mod heard;
 mod running;
 
 pub use running::{Exit, Told, run_words};

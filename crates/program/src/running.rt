@@ -1,4 +1,6 @@
-use crate::files::{name_of, read_file, replace};
+use crate::files::{Target, find, name_of};
+use crate::heard::Heard;
+use base::fault::Fault;
 use base::geometry::Geometry;
 use command_line::orders::{Order, WordFault};
 use command_line::printed::{Printed, print};
@@ -7,7 +9,9 @@ use console::ended::Ended;
 use console::execute::execute;
 use console::format::fresh_file;
 use console::stop::Stop;
+use standard_streams::LastLine;
 use std::alloc::Global;
+use std::fs::File;
 use std::io;
 use std::io::{ErrorKind, Read, Write};
 use std::rt::Files;
@@ -22,27 +26,32 @@ const BAD_WORDS: u8 = 2;
 
 /// What the program ends with.
 #[derive(Drop)]
-pub struct Exit {
+pub struct Exit<'a> {
     pub status: u8,
-    pub told: Told,
+    pub told: Told<'a>,
+    /// The file that was to be written, and is as it was.
+    pub unwritten: Option<&'a str>,
 }
 
 /// What standard error is told at the end.
 #[derive(Drop)]
-pub enum Told {
+pub enum Told<'a> {
     Nothing,
     /// What is wrong with the words.
     BadWords(String),
     /// The input couldn't be read, or the output not be written, for this reason.
-    Broken(ErrorKind),
+    Broken(io::Error),
+    /// The file couldn't be read, or not be written, for this reason.
+    FileFault { file: &'a str, reason: io::Error },
 }
 
 /// Does what the words ask for. With no words: obeys the input over a fresh image, and keeps nothing.
 pub fn run_words<
-    H: Files + Threads + Wait + Copy + Drop + Send + Sync + 'static,
+    'a,
+    H: Files<File = File> + Threads + Wait + Copy + Drop + Send + Sync + 'static,
     R: Read,
     W: Write,
->(rt: &H, alloc: Global, words: &[&str], input: &mut R, output: &mut W) -> Exit {
+>(rt: &H, alloc: Global, words: &'a [&'a str], input: &mut R, output: &mut W) -> Exit<'a> {
     if words.is_empty() {
         return run_fresh(rt, alloc, input, output);
     }
@@ -52,98 +61,171 @@ pub fn run_words<
     }
 }
 
-fn run_fresh<H: Threads + Wait + Copy + Drop + Send + Sync + 'static, R: Read, W: Write>(
+fn run_fresh<'a, H: Threads + Wait + Copy + Drop + Send + Sync + 'static, R: Read, W: Write>(
     rt: &H,
     alloc: Global,
     input: &mut R,
     output: &mut W,
-) -> Exit {
+) -> Exit<'a> {
     let file = match Geometry::new(4, 2, 8).and_then(|geometry| fresh_file(alloc, geometry)) {
         Ok(file) => file,
-        Err(fault) => return refuse(alloc, &Printed::Refused(fault), output),
+        Err(fault) => return refuse(alloc, fault, output),
     };
     let order = Order::Run { file: "" };
-    let Ended {
-        status,
-        stopped,
-        ..
-    } = execute(rt, alloc, &order, file.as_slice(), input, output);
+    let mut input = Heard::new(input);
+    let mut output = Heard::new(output);
+    let ended = execute(rt, alloc, &order, file.as_slice(), &mut input, &mut output);
     Exit {
-        status,
-        told: told_of(stopped),
+        status: ended.status,
+        told: told_of(ended.stopped, input.failure.or(output.failure)),
+        unwritten: None,
     }
 }
 
-// Reads FILE, does the work, and writes FILE.
-fn obey<H: Files + Threads + Wait + Copy + Drop + Send + Sync + 'static, R: Read, W: Write>(
-    rt: &H,
-    alloc: Global,
-    order: &Order,
-    input: &mut R,
-    output: &mut W,
-) -> Exit {
-    let Ok(file) = read_file(rt, alloc, order) else {
-        return refuse(alloc, &Printed::FileFault, output);
+// Finds FILE, does the work, and puts what FILE is to hold in its place. The line that says that the work was done is held
+// back until that has happened.
+fn obey<
+    'a,
+    H: Files<File = File> + Threads + Wait + Copy + Drop + Send + Sync + 'static,
+    R: Read,
+    W: Write,
+>(rt: &H, alloc: Global, order: &Order<'a>, input: &mut R, output: &mut W) -> Exit<'a> {
+    let name = name_of(order);
+    let found = match find(rt, alloc, order) {
+        Ok(found) => found,
+        Err(reason) => return fail(alloc, name, reason, output),
     };
+    let Ok(mut held) = LastLine::new(alloc, Heard::new(output)) else {
+        return refuse(alloc, Fault::OutOfMemory, output);
+    };
+    let mut input = Heard::new(input);
     let Ended {
         status,
         file,
         stopped,
-    } = execute(rt, alloc, order, file.as_slice(), input, output);
-    if let Some(bytes) = file
-        && replace(rt, alloc, name_of(order), bytes.as_slice()).is_err()
-    {
-        return refuse(alloc, &Printed::FileFault, output);
+    } = execute(
+        rt,
+        alloc,
+        order,
+        found.bytes.as_slice(),
+        &mut input,
+        &mut held,
+    );
+    if let (Some(bytes), Some(target)) = (&file, &found.target) {
+        return put(rt, alloc, name, target, bytes.as_slice(), held);
+    }
+    let failure = input.failure.or(held.output().failure);
+    let said = say(held);
+    if status == 0 {
+        return said;
     }
     Exit {
         status,
-        told: told_of(stopped),
+        told: told_of(stopped, failure),
+        unwritten: found.target.is_some().then_some(name),
+    }
+}
+
+// Puts the bytes in the place of FILE, and says then that the work was done.
+fn put<'a, H: Files<File = File>, W: Write + Drop>(
+    rt: &H,
+    alloc: Global,
+    name: &'a str,
+    target: &Target,
+    bytes: &[u8],
+    held: LastLine<W>,
+) -> Exit<'a> {
+    let folder = match target.replace(rt, alloc, bytes) {
+        Ok(folder) => folder,
+        Err(reason) => {
+            let failed = fail(alloc, name, reason, &mut held.give_up());
+            return Exit {
+                status: failed.status,
+                told: failed.told,
+                unwritten: Some(name),
+            };
+        }
+    };
+    match folder.sync_all() {
+        Ok(()) => say(held),
+        Err(reason) => fail(alloc, name, reason, &mut held.give_up()),
+    }
+}
+
+fn say<'a, W: Write + Drop>(held: LastLine<W>) -> Exit<'a> {
+    match held.finish() {
+        Ok(_) => Exit {
+            status: 0,
+            told: Told::Nothing,
+            unwritten: None,
+        },
+        Err(error) => Exit {
+            status: FAILED,
+            told: Told::Broken(error),
+            unwritten: None,
+        },
     }
 }
 
 // A refusal and a line that is no command are told by the output.
-fn told_of(stopped: Option<Stop>) -> Told {
-    match stopped {
-        Some(Stop::Broken(reason)) => Told::Broken(reason),
+fn told_of<'a>(stopped: Option<Stop>, failure: Option<io::Error>) -> Told<'a> {
+    match (stopped, failure) {
+        (Some(Stop::Broken(kind)), Some(error)) if error.kind() == kind => Told::Broken(error),
+        (Some(Stop::Broken(kind)), _) => Told::Broken(io::Error::from(kind)),
         _ => Told::Nothing,
     }
 }
 
-fn refuse<W: Write>(alloc: Global, line: &Printed, output: &mut W) -> Exit {
-    let told = match print(alloc, output, line) {
+fn refuse<'a, W: Write>(alloc: Global, fault: Fault, output: &mut W) -> Exit<'a> {
+    let told = match print(alloc, output, &Printed::Refused(fault)) {
         Ok(()) => Told::Nothing,
-        Err(error) => Told::Broken(error.kind()),
+        Err(error) => Told::Broken(error),
     };
     Exit {
         status: FAILED,
         told,
+        unwritten: None,
+    }
+}
+
+// Says that a file failed. Where the output fails too, the file is what is told.
+fn fail<'a, W: Write>(alloc: Global, file: &'a str, reason: io::Error, output: &mut W) -> Exit<'a> {
+    let _ = print(alloc, output, &Printed::FileFault);
+    Exit {
+        status: FAILED,
+        told: Told::FileFault { file, reason },
+        unwritten: None,
     }
 }
 
 // Prints the help that was asked for, or tells what is wrong with the words.
-fn tell<W: Write>(fault: WordFault, output: &mut W) -> Exit {
+fn tell<'a, W: Write>(fault: WordFault, output: &mut W) -> Exit<'a> {
     match fault {
         WordFault::Help(text) => show_help(text.as_str(), output),
         WordFault::BadWords(text) => Exit {
             status: BAD_WORDS,
             told: Told::BadWords(text),
+            unwritten: None,
         },
         WordFault::OutOfMemory(_) => Exit {
             status: FAILED,
-            told: Told::Broken(ErrorKind::OutOfMemory),
+            told: Told::Broken(io::Error::from(ErrorKind::OutOfMemory)),
+            unwritten: None,
         },
     }
 }
 
-fn show_help<W: Write>(text: &str, output: &mut W) -> Exit {
+fn show_help<'a, W: Write>(text: &str, output: &mut W) -> Exit<'a> {
     match output.write_all(text.as_bytes()) {
         Ok(()) => Exit {
             status: 0,
             told: Told::Nothing,
+            unwritten: None,
         },
         Err(error) => Exit {
             status: FAILED,
-            told: Told::Broken(error.kind()),
+            told: Told::Broken(error),
+            unwritten: None,
         },
     }
 }

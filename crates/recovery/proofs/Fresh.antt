@@ -4,8 +4,7 @@ use Rattle.std.proofs.Math.Nat.{mod-eq_of_lt}
 use Rattle.std.proofs.lemmas.Bool.{and_right, cases_lt}
 use Rattle.std.proofs.lemmas.List.{ext_get_or}
 use Rattle.std.proofs.lemmas.List.FromFn.{length-map-range_with_len, get_or-map-range_with_len}
-use Rattle.base.specs.Layout.{Layout, total_words, is_in_limits}
-use Rattle.base.specs.Machine.{version_lines}
+use Rattle.base.specs.Layout.{Layout, total_words, is_in_limits, version_lines}
 use Rattle.base.specs.Records.{record_word}
 use Rattle.base.specs.Images.{Image, is_formatted, superblock_word}
 use Rattle.pmem.specs.Device.{Device}

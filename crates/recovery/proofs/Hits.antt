@@ -6,10 +6,10 @@ use Rattle.std.proofs.lemmas.List.FromFn.{length-map-range_with_len, get_or-map-
 use Rattle.std.proofs.lemmas.Simd.{map-map}
 use Rattle.base.specs.declared.gap.Gap.{Gap}
 use Rattle.base.specs.Layout.{Layout, slot_start, slot_words, plain_version, opened_version, opened_layout}
-use Rattle.base.specs.Laws.{OpensUpdated}
+use Rattle.machine.specs.Laws.{OpensUpdated}
 use Rattle.base.specs.Records.{Record, is_in, opened_gaps}
 use Rattle.base.specs.Images.{Image, layout_of, ruling, slot_word, begin_of, end_of}
-use Rattle.base.specs.Openings.{lies_in_gap, updated}
+use Rattle.machine.specs.Openings.{lies_in_gap, updated}
 use Rattle.pmem.specs.Device.{Device, flushed}
 use Rattle.pmem.specs.Words.{value_of}
 use Rattle.recovery.specs.declared.slots.Reading.{Reading}

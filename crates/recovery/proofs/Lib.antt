@@ -2,7 +2,6 @@ pub mod Pieces
 pub mod SweptSlots
 pub mod Ruled
 pub mod Opens
-pub mod Keeping
 pub mod Visits
 pub mod Readings
 pub mod Hits

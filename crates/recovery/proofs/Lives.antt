@@ -14,11 +14,11 @@ use Rattle.base.specs.Layout.{Layout, total_words, is_known_version, is_in_limit
 use Rattle.base.specs.Records.{Record, opened_gaps}
 use Rattle.base.specs.Images.{Image, IsSound, damage, layout_of, ruling, is_shown, opening_fault, is_near_limit, needs_sweep, IsRuledBy, log_damage}
 use Rattle.base.specs.Stands.{Stands}
-use Rattle.base.specs.Openings.{IsOpenedGaps, Counts, opening_record, gaps_kept, swept, opened_slots, words_swept, lines_swept, record_counts, StandsOpening}
+use Rattle.machine.specs.Openings.{IsOpenedGaps, Counts, opening_record, gaps_kept, swept, opened_slots, words_swept, lines_swept, record_counts, StandsOpening}
 use Rattle.base.proofs.Histories.{opens-sound}
-use Rattle.base.proofs.OpenedRecords.{formed-kept}
-use Rattle.base.proofs.Opened.{covers-of}
-use Rattle.base.proofs.Sweeps.{unmarked-low, swept-unmarked}
+use Rattle.machine.proofs.OpenedRecords.{formed-kept}
+use Rattle.machine.proofs.Opened.{covers-of}
+use Rattle.machine.proofs.Sweeps.{unmarked-low, swept-unmarked}
 use Rattle.pmem.specs.Device.{Device, IsOrderly}
 use Rattle.pmem.specs.Words.{value_of, IsAtRest, LeavesOnly, image_of, Keeps, OldOr, Spares, Makes, HasOldWords, operations_of}
 use Rattle.pmem.proofs.Images.{leaves_refl, leaves_trans, leaves_weaken, leaves_both}

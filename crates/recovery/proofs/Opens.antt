@@ -12,11 +12,11 @@ use Rattle.base.specs.Records.{Record, is_committed, opened_gaps}
 use Rattle.base.specs.Images.{Image, IsSound, layout_of, is_formatted, has_good_geometry, is_wrong_gate, is_ruled, ruling, ruling_place, slot_word, is_bad_slot, ShownUnder, IsRuledBy}
 use Rattle.base.proofs.Histories.{no_bad_slot}
 use Rattle.base.proofs.Alike.{HasRowsOf, CountsAlike, good-same, tables-same}
-use Rattle.base.proofs.OpenedRecords.{still-committed}
-use Rattle.base.proofs.Opened.{opened-rows, opened-still, opened-counts, covers-of, rising-of}
+use Rattle.machine.proofs.OpenedRecords.{still-committed}
+use Rattle.machine.proofs.Opened.{opened-rows, opened-still, opened-counts, covers-of, rising-of}
 use Rattle.base.proofs.Layouts.{line-words}
 use Rattle.base.specs.Stands.{Stands}
-use Rattle.base.specs.Openings.{StandsOpening, opening_record, opened, gaps_kept, opened_slots}
+use Rattle.machine.specs.Openings.{StandsOpening, opening_record, opened, gaps_kept, opened_slots}
 use Rattle.base.proofs.Options.{or-none, map-none, some_if_not-none}
 use Rattle.base.proofs.Search.{first_below-nowhere}
 use Rattle.recovery.specs.Opened.{HasSlotsOf}

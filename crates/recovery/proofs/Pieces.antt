@@ -5,9 +5,9 @@ use Rattle.std.proofs.lemmas.Bool.{ltb-true, leb-true, lt-ltb, le-leb, eqb-true,
 use Rattle.std.specs.Cmp.{both_ways}
 use Rattle.base.specs.declared.gap.Gap.{Gap}
 use Rattle.base.specs.Records.{Record, is_in, are_apart, are_rising, no_gap, with_gap, opened_gaps}
-use Rattle.base.specs.Openings.{IsOpenedGaps}
+use Rattle.machine.specs.Openings.{IsOpenedGaps}
 use Rattle.base.proofs.WellFormed.{well_formed-parts}
-use Rattle.base.proofs.GapLists.{opened-gaps, one_gap_list}
+use Rattle.machine.proofs.GapLists.{opened-gaps, one_gap_list}
 use Rattle.base.proofs.Lists.{rising-rest}
 use Rattle.base.proofs.GapSets.{Within, In, Tidy, tidy-lower, in-low, in-from, in-test}
 use Rattle.gap_list.specs.GapLists.{is_gap_list}

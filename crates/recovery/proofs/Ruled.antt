@@ -8,13 +8,13 @@ use Rattle.base.specs.Fresh.{superblock_words}
 use Rattle.base.specs.Layout.{Layout, place_start, slot_start, slot_words, total_words}
 use Rattle.base.specs.Records.{Record, record_word, is_in, is_committed, opened_gaps}
 use Rattle.base.specs.Images.{Image, IsSound, layout_of, ruling, slot_word, IsRuledBy}
-use Rattle.base.specs.Openings.{StandsOpening, is_mark}
+use Rattle.machine.specs.Openings.{StandsOpening, is_mark}
 use Rattle.base.specs.Stands.{Stands}
 use Rattle.base.proofs.Alike.{HasRowsOf, CountsAlike}
-use Rattle.base.proofs.OpenedRecords.{uncommitted-in}
-use Rattle.base.proofs.Opened.{covers-of, below-of}
+use Rattle.machine.proofs.OpenedRecords.{uncommitted-in}
+use Rattle.machine.proofs.Opened.{covers-of, below-of}
 use Rattle.base.proofs.Layouts.{line-words}
-use Rattle.base.proofs.Sweeps.{mark-of, unmarked-low}
+use Rattle.machine.proofs.Sweeps.{mark-of, unmarked-low}
 use Rattle.pmem.specs.Device.{Device}
 use Rattle.pmem.specs.Words.{value_of, image_of, Survives, IsAtRest, IsSettledAt, IsWithin, OldOr, Keeps, LeavesOnly}
 use Rattle.pmem.proofs.OperationEffects.{only-settled}

@@ -5,12 +5,11 @@ use Rattle.std.proofs.lemmas.Bool.{false≢true, and_parts, and_from, cases_lt, 
 use Rattle.std.proofs.lemmas.List.{ext_get_or}
 use Rattle.std.proofs.lemmas.List.FromFn.{length-map-range_with_len}
 use Rattle.base.specs.Search.{count_below}
-use Rattle.base.specs.Layout.{Layout, slot_start, slot_words, total_words}
+use Rattle.base.specs.Layout.{Layout, slot_start, slot_words, total_words, version_lines}
 use Rattle.base.specs.Records.{Record, is_in, opened_gaps}
 use Rattle.base.specs.Images.{IsRuledBy}
-use Rattle.base.specs.Machine.{version_lines}
-use Rattle.base.specs.Openings.{is_mark, swept, lies_in_gap, words_swept, lines_swept}
-use Rattle.base.proofs.Sweeps.{mark-of, unmarked-low, swept-at, swept-size}
+use Rattle.machine.specs.Openings.{is_mark, swept, lies_in_gap, words_swept, lines_swept}
+use Rattle.machine.proofs.Sweeps.{mark-of, unmarked-low, swept-at, swept-size}
 use Rattle.pmem.specs.Device.{Device, Entry, IsOrderly, IsAmong, survivors_in, IsReadyIn, stored, flushed, fenced, failed}
 use Rattle.pmem.specs.Words.{value_of, image_of, Survives, IsReady, IsSettled, IsAtRest, Keeps, OldOr, IsWithin, Makes, OnlyShrinks, Spares, HasOldWords, operations_of}
 use Rattle.pmem.proofs.Images.{leaves_trans, leaves_weaken}

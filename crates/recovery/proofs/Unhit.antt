@@ -4,7 +4,7 @@ use Rattle.std.proofs.lemmas.Bool.{or_parts}
 use Rattle.base.specs.Layout.{Layout, slot_start, total_words}
 use Rattle.base.specs.Records.{Record}
 use Rattle.base.specs.Images.{IsRuledBy}
-use Rattle.base.specs.Openings.{lies_in_gap}
+use Rattle.machine.specs.Openings.{lies_in_gap}
 use Rattle.pmem.specs.Device.{Device, IsOrderly}
 use Rattle.pmem.specs.Words.{image_of, OldOr}
 use Rattle.pmem.proofs.Runs.{keeps_none}

@@ -7,15 +7,15 @@ use Rattle.std.proofs.lemmas.List.{ext_get_or, get_or_past}
 use Rattle.base.specs.declared.gap.Gap.{Gap}
 use Rattle.base.specs.Commits.{Commit}
 use Rattle.base.specs.Layout.{Layout, opened_layout, opened_version, total_words}
-use Rattle.base.specs.Laws.{OpensUpdated}
+use Rattle.machine.specs.Laws.{OpensUpdated}
 use Rattle.base.specs.Records.{Record, opened_gaps}
 use Rattle.base.specs.Images.{Image, layout_of, ruling, is_shown, opening_fault, needs_sweep, is_wrong_gate, IsRuledBy}
 use Rattle.base.specs.Search.{first_below}
 use Rattle.base.specs.Stands.{Stands}
-use Rattle.base.specs.Openings.{Counts, opening_record, gaps_kept, opened_slots, record_counts, update_counts, StandsOpening, updated, updates}
+use Rattle.machine.specs.Openings.{Counts, opening_record, gaps_kept, opened_slots, record_counts, update_counts, StandsOpening, updated, updates}
 use Rattle.base.proofs.Histories.{opens-sound}
-use Rattle.base.proofs.Opened.{whole-of, size-of}
-use Rattle.base.proofs.Updated.{updated-open}
+use Rattle.machine.proofs.Opened.{whole-of, size-of}
+use Rattle.machine.proofs.Updated.{updated-open}
 use Rattle.pmem.specs.Device.{Device}
 use Rattle.pmem.specs.Words.{value_of, IsAtRest, IsSettled, IsSettledAt, IsStore, IsWithin, LeavesOnly, image_of, Keeps, Makes, OldOr, Spares, operations_of}
 use Rattle.pmem.proofs.Images.{leaves_trans, leaves_weaken}

@@ -7,7 +7,7 @@ use Rattle.base.specs.declared.fault.Fault.TheVariants.{OutOfMemory, Device as D
 use Rattle.base.specs.Layout.{Layout, opened_layout}
 use Rattle.base.specs.Records.{Record, opened_gaps}
 use Rattle.base.specs.Images.{Image, layout_of, ruling, is_shown, opening_fault, needs_sweep, IsRuledBy}
-use Rattle.base.specs.Openings.{Counts, opening_record, opening_counts, record_counts, gaps_kept, opened_slots, words_swept, lines_swept, updated, updates}
+use Rattle.machine.specs.Openings.{Counts, opening_record, opening_counts, record_counts, gaps_kept, opened_slots, words_swept, lines_swept, updated, updates}
 use Rattle.pmem.specs.Device.{Device}
 use Rattle.pmem.specs.Words.{value_of, image_of, IsSettledAt, Makes, Spares, operations_of}
 use Rattle.log_area.specs.Rulings.{HoldsRecord}

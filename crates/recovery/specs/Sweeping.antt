@@ -5,7 +5,7 @@ use Rattle.base.specs.declared.gap.Gap.{Gap}
 use Rattle.base.specs.Layout.{Layout}
 use Rattle.base.specs.Records.{Record, is_in, opened_gaps}
 use Rattle.base.specs.Images.{Image}
-use Rattle.base.specs.Openings.{is_mark, lies_in_gap}
+use Rattle.machine.specs.Openings.{is_mark, lies_in_gap}
 use Rattle.pmem.specs.Device.{Device, stored, flushed}
 use Rattle.pmem.specs.Words.{value_of}
 use Rattle.recovery.specs.declared.slots.Reading.{Reading}

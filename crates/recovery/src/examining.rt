@@ -49,7 +49,7 @@ pub fn examine<R: Threads + Sync, D: Pmem + Sync>(
         Ok(found) => found,
         Err(fault) => return Err(fault),
     };
-    let readings = match read_slots(rt, alloc, device, found.geometry, found.target) {
+    let readings = match read_slots(rt, alloc, device, found.geometry, found.record) {
         Ok(readings) => readings,
         Err(_) => return Err(Fault::OutOfMemory),
     };
@@ -57,7 +57,7 @@ pub fn examine<R: Threads + Sync, D: Pmem + Sync>(
         Ok(free) => free,
         Err(fault) => return Err(fault),
     };
-    if is_near_limit(found.geometry, found.target) {
+    if is_near_limit(found.geometry, found.record) {
         return Err(Fault::TimestampsOut);
     }
     match gather(alloc, found, free, readings.as_slice()) {
@@ -73,23 +73,23 @@ fn gather(
     free: Vec<bool>,
     readings: &[Reading],
 ) -> Result<Examined, AllocError>
-    requires { MayRule found.target }
+    requires { MayRule found.record }
     ensures layout { IfOk result (λ examined. examined.geometry ≡ found.geometry) }
-    ensures rules { IfOk result (λ examined. examined.ruling ≡ found.target) }
-    ensures gaps { IfOk result (λ examined. examined.gaps ≡ few_gaps found.target) }
+    ensures rules { IfOk result (λ examined. examined.ruling ≡ found.record) }
+    ensures gaps { IfOk result (λ examined. examined.gaps ≡ few_gaps found.record) }
     ensures free { IfOk result (λ examined. examined.free.items ≡ free.items) }
     ensures live { IfOk result (λ examined. (image : Image) → AreReadings image readings.now → examined.live.items ≡ live_below image (length readings.now)) }
-    ensures hits { IfOk result (λ examined. examined.gaps ≡ None → examined.hits.items ≡ map (is_hit_by found.target) readings.now) }
+    ensures hits { IfOk result (λ examined. examined.gaps ≡ None → examined.hits.items ≡ map (is_hit_by found.record) readings.now) }
 {
-    let gaps = opened_gaps(found.target);
+    let gaps = opened_gaps(found.record);
     let hits = match gaps {
         Some(_) => Vec::new(alloc),
-        None => hit_slots(alloc, found.target, readings)?,
+        None => hit_slots(alloc, found.record, readings)?,
     };
     let live = live_slots(alloc, readings)?;
     Ok(Examined {
         geometry: found.geometry,
-        ruling: found.target,
+        ruling: found.record,
         gaps,
         free,
         live,

@@ -1,8 +1,7 @@
 ghost use Rattle.std.specs.Prelude.{◌≡◌, ◌+◌, ◌/◌, ◌<◌, ℕ, IsTrue, IfErr, OnOk, OnErr};
 ghost use Rattle.base.specs.Layout.{is_in_limits, total_words};
 ghost use Rattle.pmem.specs.Words.{LeavesOnly, IsAtRest, image_of, IsSettledAt, Makes};
-ghost use Rattle.base.specs.Fresh.{first_record, fresh_word, fresh_image};
-ghost use Rattle.base.specs.Laws.{StandsEmpty};
+ghost use Rattle.base.specs.Fresh.{first_record, fresh_word, fresh_image, StandsEmpty};
 ghost use Rattle.recovery.specs.Fresh.{IsFormatting, IsFormatRefusal};
 
 use crate::clearing::clear;

@@ -3,7 +3,7 @@ ghost use Rattle.base.specs.Commits.{Commit};
 ghost use Rattle.base.specs.Records.{opened_gaps};
 ghost use Rattle.base.specs.Images.{opening_fault, needs_sweep, IsRuledBy};
 ghost use Rattle.base.specs.Stands.{Stands};
-ghost use Rattle.base.specs.Openings.{StandsOpening, gaps_kept, opened_slots, record_counts, words_swept, lines_swept};
+ghost use Rattle.machine.specs.Openings.{StandsOpening, gaps_kept, opened_slots, record_counts, words_swept, lines_swept};
 ghost use Rattle.pmem.specs.Words.{LeavesOnly, IsAtRest, image_of, Keeps, OldOr, Makes, Spares, operations_of};
 ghost use Rattle.recovery.specs.Gaps.{few_gaps};
 ghost use Rattle.recovery.specs.Sweeping.{is_hit, AreHits, IsSwept};

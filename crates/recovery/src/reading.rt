@@ -44,7 +44,7 @@ fn read_device<R: Threads + Sync, D: Pmem + Sync>(
         Ok(found) => found,
         Err(fault) => return Err(fault),
     };
-    let readings = match read_slots(rt, alloc, device, found.geometry, found.target) {
+    let readings = match read_slots(rt, alloc, device, found.geometry, found.record) {
         Ok(readings) => readings,
         Err(_) => return Err(Fault::OutOfMemory),
     };
@@ -54,7 +54,7 @@ fn read_device<R: Threads + Sync, D: Pmem + Sync>(
     match live_rows(alloc, readings.as_slice()) {
         Ok(rows) => Ok(Found {
             geometry: found.geometry,
-            ruling: found.target,
+            ruling: found.record,
             rows,
         }),
         Err(_) => Err(Fault::OutOfMemory),

@@ -1,7 +1,7 @@
 ghost use Rattle.std.specs.Prelude.{◌≡◌, ◌+◌, ◌<◌, ◌≤◌, false, IfOk, IfErr, OnOk, OnErr, ◌||◌, if◌then◌else◌, map};
 ghost use Rattle.base.specs.Layout.{slot_start, total_words};
 ghost use Rattle.base.specs.Images.{IsRuledBy};
-ghost use Rattle.base.specs.Openings.{swept, words_swept, lines_swept};
+ghost use Rattle.machine.specs.Openings.{swept, words_swept, lines_swept};
 ghost use Rattle.pmem.specs.Words.{value_of, image_of, IsAtRest, Keeps, OldOr, Makes, Spares, operations_of};
 ghost use Rattle.recovery.specs.Gaps.{MayRule};
 ghost use Rattle.recovery.specs.Opened.{sweep_operations};

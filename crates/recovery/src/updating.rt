@@ -2,7 +2,7 @@ ghost use Rattle.std.specs.Prelude.{◌≡◌, ℕ, List, None, false, IfOk, IfE
 ghost use Rattle.base.specs.Commits.{Commit};
 ghost use Rattle.base.specs.Images.{layout_of, opening_fault};
 ghost use Rattle.base.specs.Layout.{opened_layout};
-ghost use Rattle.base.specs.Openings.{StandsOpening, update_counts, updated};
+ghost use Rattle.machine.specs.Openings.{StandsOpening, update_counts, updated};
 ghost use Rattle.base.specs.Stands.{Stands};
 ghost use Rattle.pmem.specs.Words.{LeavesOnly, IsAtRest, image_of, Spares};
 ghost use Rattle.recovery.specs.Opened.{IsCutBefore, MakesAll, is_updated, total};

@@ -18,7 +18,7 @@ use Rattle.base.specs.Batches.{Batch}
 use Rattle.base.specs.Commits.{Commit}
 use Rattle.base.specs.Layout.{total_words}
 use Rattle.base.specs.Records.{Record, is_committed, are_rising}
-use Rattle.base.specs.Machine.{State, Hand, Drawn, Stepped, drawn_of, batch_of, state_covered}
+use Rattle.machine.specs.Machine.{State, Hand, Drawn, Stepped, drawn_of, batch_of, state_covered}
 use Rattle.pmem.specs.Device.{Device, IsOrderly, failed}
 use Rattle.pmem.specs.Trace.{Operation, flush_op, fence_op, failure, applied}
 use Rattle.log_area.specs.declared.stage.WritingStage.{WritingStage}

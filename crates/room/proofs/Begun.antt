@@ -12,14 +12,14 @@ use Rattle.base.specs.Layout.{Layout, slot_start, slot_words, total_words, is_be
 use Rattle.base.specs.Records.{Record, opened_gaps}
 use Rattle.base.specs.Images.{Image, IsSound, layout_of, ruling, is_shown, IsRuledBy}
 use Rattle.base.specs.Stands.{Stands}
-use Rattle.base.specs.Openings.{OpensAs, IsOpenedGaps, opened as opened-state, opening_record, gaps_kept, opened_slots, updated}
-use Rattle.base.specs.Laws.{OpensUpdated}
-use Rattle.base.specs.Machine.{State}
+use Rattle.machine.specs.Openings.{OpensAs, IsOpenedGaps, opened as opened-state, opening_record, gaps_kept, opened_slots, updated}
+use Rattle.machine.specs.Laws.{OpensUpdated}
+use Rattle.machine.specs.Machine.{State}
 use Rattle.base.proofs.Alike.{HasRowsOf, key-same, misfit-same}
 use Rattle.base.proofs.Histories.{history_in, sound-stands, opens-sound}
-use Rattle.base.proofs.Opened.{opened-rows, same_opened, whole-of, size-of, covers-of}
+use Rattle.machine.proofs.Opened.{opened-rows, same_opened, whole-of, size-of, covers-of}
 use Rattle.base.proofs.Layouts.{line-words}
-use Rattle.base.proofs.Updated.{updated-open}
+use Rattle.machine.proofs.Updated.{updated-open}
 use Rattle.pmem.specs.Device.{Device}
 use Rattle.pmem.specs.Words.{image_of, HasNoFailure, IsSettledAt}
 use Rattle.pmem.specs.declared.device.Pmem.{Ghosts}

@@ -11,7 +11,7 @@ use Rattle.base.specs.declared.step.Reply.{Reply}
 use Rattle.base.specs.declared.step.Reply.TheVariants.{Idle, Ticked, Refused}
 use Rattle.base.specs.Batches.{Batch}
 use Rattle.base.specs.Records.{Record, is_committed}
-use Rattle.base.specs.Machine.{State, Hand, is_idle, refusal, taken_in_hand, chosen, passed_over, target_of, batch_of}
+use Rattle.machine.specs.Machine.{State, Hand, is_idle, refusal, taken_in_hand, chosen, passed_over, target_of, batch_of}
 use Rattle.base.proofs.WellFormed.{well_formed-parts}
 use Rattle.pmem.specs.Device.{Device, IsOrderly}
 use Rattle.log_area.specs.declared.stage.WritingStage.TheVariants.{StoreBody, Done}

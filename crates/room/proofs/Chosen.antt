@@ -7,7 +7,8 @@ use Rattle.std.proofs.lemmas.List.{length-map}
 use Rattle.std.proofs.lemmas.Simd.{map-map}
 use Rattle.base.specs.Layout.{most_longs}
 use Rattle.base.specs.Commits.{Commit}
-use Rattle.base.specs.Machine.{State, Drawn, is_stamped, is_nil, is_idle, is_chosen, is_passed, chosen, passed_over, reach, has_other_reason_to_write}
+use Rattle.base.specs.Lists.{is_nil}
+use Rattle.machine.specs.Machine.{State, Drawn, is_stamped, is_idle, is_chosen, is_passed, chosen, passed_over, reach, has_other_reason_to_write}
 use Rattle.txn.specs.declared.drawn.DrawnCommit.{DrawnCommit}
 use Rattle.txn.specs.DrawnCommits.{Walk, walk_on}
 use Rattle.txn.specs.DrawnCommits as drawn

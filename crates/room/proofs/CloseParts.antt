@@ -5,8 +5,8 @@ use Rattle.std.proofs.Math.Logic.{∥∥₁_elim, ∥∥₁_map}
 use Rattle.base.specs.declared.fault.Fault.{Fault}
 use Rattle.base.specs.declared.fault.Fault.TheVariants.{Device as DeviceFault}
 use Rattle.base.specs.Images.{Image}
-use Rattle.base.specs.Machine.{State, StandsClosing}
-use Rattle.base.proofs.Runs.{StandsAt-closing}
+use Rattle.machine.specs.Machine.{State, StandsClosing}
+use Rattle.machine.proofs.Runs.{StandsAt-closing}
 use Rattle.pmem.specs.Device.{Device, IsOrderly, MayLeave}
 use Rattle.pmem.proofs.Images.{leaves_refl, leaves_trans, leaves_weaken}
 use Rattle.device_invariant.proofs.Upheld.{every-image-stands}

@@ -9,7 +9,7 @@ use Rattle.base.specs.declared.fault.Fault.{Fault}
 use Rattle.base.specs.declared.fault.Fault.TheVariants.{Failed, TimestampsOut}
 use Rattle.base.specs.Records.{Record}
 use Rattle.base.specs.Search.{some_if}
-use Rattle.base.specs.Machine.{State, Hand, closing_gate, closing_fault, StandsClosing}
+use Rattle.machine.specs.Machine.{State, Hand, closing_gate, closing_fault, StandsClosing}
 use Rattle.pmem.specs.Device.{Device, IsOrderly}
 use Rattle.pmem.specs.Words.{LeavesOnly}
 use Rattle.pmem.proofs.Images.{leaves_refl}

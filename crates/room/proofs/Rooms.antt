@@ -8,10 +8,10 @@ use Rattle.base.specs.declared.step.Reply.{Reply}
 use Rattle.base.specs.declared.step.Reply.TheVariants.{Refused}
 use Rattle.base.specs.Images.{Image}
 use Rattle.base.specs.Layout.{total_words}
-use Rattle.base.specs.Lives.{is_failure}
-use Rattle.base.specs.Machine.{State, Hand, refused, StandsAt, StandsWithin}
-use Rattle.base.proofs.Failures.{failed-after, failed-refuses}
-use Rattle.base.proofs.Runs.{StandsAt-within}
+use Rattle.base.specs.Replies.{is_failure}
+use Rattle.machine.specs.Machine.{State, Hand, refused, StandsAt, StandsWithin}
+use Rattle.machine.proofs.Failures.{failed-after, failed-refuses}
+use Rattle.machine.proofs.Runs.{StandsAt-within}
 use Rattle.pmem.specs.Device.{Device, IsOrderly, MayLeave}
 use Rattle.pmem.specs.declared.device.Pmem.{Ghosts}
 use Rattle.pmem.proofs.Images.{leaves_refl}

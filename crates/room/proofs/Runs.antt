@@ -7,8 +7,8 @@ use Rattle.base.specs.declared.fault.Fault.TheVariants.{Device as DeviceFault}
 use Rattle.base.specs.declared.step.Step.{Step}
 use Rattle.base.specs.declared.step.Reply.{Reply}
 use Rattle.base.specs.declared.step.Reply.TheVariants.{Refused}
-use Rattle.base.specs.Machine.{State, Run, final, most_operations, most_operations_along, StandsAlong}
-use Rattle.base.proofs.Runs.{Run-append, final-append, StandsAlong-before, StandsAlong-last}
+use Rattle.machine.specs.Machine.{State, Run, final, most_operations, most_operations_along, StandsAlong}
+use Rattle.machine.proofs.Runs.{Run-append, final-append, StandsAlong-before, StandsAlong-last}
 use Rattle.pmem.specs.Device.{Device, IsOrderly}
 use Rattle.pmem.specs.declared.device.Pmem.{Ghosts}
 use Rattle.pmem.proofs.Images.{leaves_refl, leaves_trans, leaves_weaken}

@@ -15,9 +15,9 @@ use Rattle.base.specs.declared.step.Reply.TheVariants as reply
 use Rattle.base.specs.declared.step.SessionStep.TheVariants.{Stamp}
 use Rattle.base.specs.declared.step.SessionReply.{SessionReply}
 use Rattle.base.specs.declared.step.SessionReply.TheVariants.{Refused}
-use Rattle.base.specs.SessionSteps.{as_reply}
+use Rattle.base.specs.Steps.{as_reply}
 use Rattle.base.specs.Stands.{has_timestamp}
-use Rattle.base.specs.Machine.{State, Drawn as PlainDrawn, Drew, IsCovered, IsStamped, IsDrawn, Hand, Stepped, refused, answered, memory_refused, device_failed, refusal, next_state, allows, standing_of, is_stamped, is_last_stamp, timestamp_of, counted, drawn_at, StandsWithin}
+use Rattle.machine.specs.Machine.{State, Drawn as PlainDrawn, Drew, IsCovered, IsStamped, IsDrawn, Hand, Stepped, refused, answered, memory_refused, device_failed, refusal, next_state, allows, standing_of, is_stamped, is_last_stamp, timestamp_of, counted, drawn_at, StandsWithin}
 use Rattle.pmem.specs.Device.{Device}
 use Rattle.pmem.proofs.Images.{leaves_weaken}
 use Rattle.txn.specs.declared.drawn.DrawnCommit.{DrawnCommit}

@@ -14,15 +14,15 @@ use Rattle.base.specs.declared.step.SessionStep.{SessionStep}
 use Rattle.base.specs.declared.step.SessionStep.TheVariants as session
 use Rattle.base.specs.declared.step.SessionReply.{SessionReply}
 use Rattle.base.specs.declared.step.SessionReply.TheVariants.{Began, Row, Rows, Done, Drawn as DrewAs, More, Stamped, Waiting, Committed, Refused}
-use Rattle.base.specs.SessionSteps.{as_step, as_reply}
+use Rattle.base.specs.Steps.{as_step, as_reply}
 use Rattle.base.specs.Batches.{Batch}
 use Rattle.base.specs.Commits.{Commit, Writes}
 use Rattle.base.specs.Layout.{Layout}
-use Rattle.base.specs.Laws.{is_no_tick}
+use Rattle.machine.specs.Laws.{is_no_tick}
 use Rattle.base.specs.Records.{Record, is_committed}
-use Rattle.base.proofs.Visiting.{visit-changes}
-use Rattle.base.specs.Machine.{State, Hand, Drawn, Stepped, refused, answered, memory_refused, device_failed, next_state, state_drawn, drawn_of, writes_of, timestamp_of, session_of}
-use Rattle.base.proofs.Counted.{counted-commits}
+use Rattle.machine.proofs.Visiting.{visit-changes}
+use Rattle.machine.specs.Machine.{State, Hand, Drawn, Stepped, refused, answered, memory_refused, device_failed, next_state, state_drawn, drawn_of, writes_of, timestamp_of, session_of}
+use Rattle.machine.proofs.Counted.{counted-commits}
 use Rattle.pmem.specs.Device.{Device}
 use Rattle.txn.specs.declared.drawn.DrawnCommit.{DrawnCommit}
 use Rattle.collector.specs.declared.visit.Visit.{Visit}

@@ -1,16 +1,16 @@
 -- A tick for the batch in hand, as a part of a close.
-use Rattle.std.proofs.Common.{◌≡◌, ◌≢◌, false, ◌&&◌, not, refl, sym, ◌∙◌, ap, subst, true≢false}
+use Rattle.std.proofs.Common.{◌≡◌, ◌≢◌, true, false, ◌&&◌, not, refl, sym, ◌∙◌, ap, subst, true≢false}
 use Rattle.std.proofs.Math.Bridge.{le_prop}
 use Rattle.std.proofs.Math.Logic.{∥∥₁_elim}
 use Rattle.std.proofs.Math.Nat.{ℕ_set}
-use Rattle.std.specs.Prelude.{Option, Some, None, is_none, IsTrue}
+use Rattle.std.specs.Prelude.{Option, Some, None, is_none, is_some, IsTrue}
 use Rattle.base.specs.declared.fault.Fault.{Fault}
 use Rattle.base.specs.declared.fault.Fault.TheVariants.{Device as DeviceFault, OutOfMemory}
 use Rattle.base.specs.declared.step.Stage.{Stage}
 use Rattle.base.specs.declared.step.Step.TheVariants.{Commit as CommitTick}
 use Rattle.base.specs.declared.step.Reply.{Reply}
 use Rattle.base.specs.declared.step.Reply.TheVariants.{Refused}
-use Rattle.base.specs.Machine.{State, Hand, Stepped, refused, answered, memory_refused, device_failed, refusal, is_idle, ticked, ticked_on, state_ticked, state_ticked_on, next_stage, StandsClosing}
+use Rattle.machine.specs.Machine.{State, Hand, Stepped, refused, answered, memory_refused, device_failed, refusal, is_idle, ticked, ticked_on, state_ticked, state_ticked_on, next_stage, StandsClosing}
 use Rattle.pmem.specs.Device.{Device}
 use Rattle.pmem.specs.Words.{LeavesOnly}
 use Rattle.pmem.proofs.Images.{leaves_weaken}
@@ -18,9 +18,10 @@ use Rattle.group_commit.specs.Cycles.{Cycling}
 use Rattle.cycle_simulation.proofs.Closings.{closes-on}
 use Rattle.cycle_simulation.proofs.Ticks.{refusal-in_hand}
 use Rattle.session_steps.proofs.Effects.{none-failed}
+use Rattle.session_steps.specs.declared.sessions.Sessions.{Sessions}
 use Rattle.room.specs.declared.volatile.VolatileState.{VolatileState}
-use Rattle.room.specs.Committing.{HoldsCycle, ShowsIn, Shows}
-use Rattle.room.specs.Steps.{StepsIn, ShowsSome, ShowsSomeIn}
+use Rattle.room.specs.Committing.{HoldsCycle, Shows}
+use Rattle.room.specs.Steps.{Steps, ShowsSome, ShowsSomeIn}
 use Rattle.room.specs.Closing.{IsDonePart, IsFailedPart}
 use Rattle.room.proofs.CloseParts.{device-fault}
 
@@ -61,35 +62,40 @@ module _ (q q' : State) (hand : Hand) (reply : Reply) (in_hand : q.hand ≡ Some
       by (memory_refused none takes told same) = absurd (un OutOfMemory told)
       by (device_failed none operating told same) = absurd (un DeviceFault told)
 
+-- ---- the cycle in hand
+
+pub with-hand : (s : Sessions) (o : Option Cycling) (cycle : Cycling) (device : Device) → o ≡ Some cycle → ∥ ShowsSomeIn s o device ∥₁ → ∥ ShowsSomeIn s (Some cycle) device ∥₁
+with-hand s o cycle device is some = subst (λ (hand : Option Cycling). ∥ ShowsSomeIn s hand device ∥₁) is some
+
+pub one-hand : (o : Option Cycling) (a b : Cycling) → o ≡ Some a → o ≡ Some b → a ≡ b
+one-hand o a b first second = cc (first, second)
+
 -- ---- a part
 
--- the committer's cycle is this one
-pub shown-with : (old : VolatileState) (cycle : Cycling) (device : Device) → old.cycle ≡ Some cycle → ∥ ShowsSome old device ∥₁ → ∥ ShowsSomeIn old.sessions (Some cycle) device ∥₁
-shown-with old cycle device in_hand some = subst (λ (o : Option Cycling). ∥ ShowsSomeIn old.sessions o device ∥₁) in_hand some
+pub rests : (o : Option Cycling) → is_some o ≡ false → o ≡ None
+rests None is = refl
+rests (Some cycle) is = absurd (cc is)
 
-module _ (old : VolatileState) (cycle : Cycling) (new : VolatileState) (before now : Device) (reply : Reply) (in_hand : old.cycle ≡ Some cycle) (some : ∥ ShowsSome old before ∥₁)
-    (steps : StepsIn old.sessions (Some cycle) new before now CommitTick reply) where
-  with-cycle : (q : State) → Shows old before q → ShowsIn old.sessions (Some cycle) before q
-  with-cycle q shown = subst (λ (o : Option Cycling). ShowsIn old.sessions o before q) in_hand shown
-
+module _ (old new : VolatileState) (before now : Device) (reply : Reply) (busy : is_some old.cycle ≡ true) (some : ∥ ShowsSome old before ∥₁) (steps : Steps old new before now CommitTick reply) where
   hand-of : (q : State) → Shows old before q → (hand : Hand) × (q.hand ≡ Some hand)
-  hand-of q shown = by q.hand refl (with-cycle q shown).cycle_is
+  hand-of q shown = by q.hand old.cycle refl busy shown.cycle_is
     where
-      by : (h : Option Hand) → q.hand ≡ h → HoldsCycle q old.sessions.drawn.commits h (Some cycle) → (hand : Hand) × (q.hand ≡ Some hand)
-      by None is holds = absurd holds
-      by (Some hand) is holds = (hand, is)
+      by : (h : Option Hand) (o : Option Cycling) → q.hand ≡ h → is_some o ≡ true → HoldsCycle q old.sessions.drawn.commits h o → (hand : Hand) × (q.hand ≡ Some hand)
+      by None None is there holds = absurd (cc there)
+      by None (Some cycle) is there holds = absurd holds
+      by (Some hand) o is there holds = (hand, is)
 
   images-of : (q : State) → Shows old before q → q.failed ≡ false → LeavesOnly before now (StandsClosing q)
   images-of q shown works =
-      let to = steps q (with-cycle q shown) works in
+      let to = steps q shown works in
       let hand = hand-of q shown in
       leaves_weaken (λ image s. closes-on.ticking q to.0 hand.0 reply image hand.1 works to.1.stepped s) to.1.effect.images
 
   pub tick-done : ((fault : Fault) → reply ≢ Refused fault) → IsDonePart old new before now
   tick-done un = record {
-    no_failure = ∥∥₁_elim some (ℕ_set _ _) (λ shown. none-failed (steps shown.0 (with-cycle shown.0 shown.1) shown.2).1.effect (un DeviceFault));
+    no_failure = ∥∥₁_elim some (ℕ_set _ _) (λ shown. none-failed (steps shown.0 shown.1 shown.2).1.effect (un DeviceFault));
     goes_on = λ q shown works.
-        let to = steps q (with-cycle q shown) works in
+        let to = steps q shown works in
         let hand = hand-of q shown in
         let works' = works-on q to.0 hand.0 reply hand.1 works to.1.stepped un in (
           to.0,
@@ -105,12 +111,12 @@ module _ (old : VolatileState) (cycle : Cycling) (new : VolatileState) (before n
   pub tick-failed : (fault : Fault) → reply ≡ Refused fault → IsFailedPart old before now fault
   tick-failed fault is = record {
     fault_is = told;
-    failure = ∥∥₁_elim some le_prop (λ shown. (steps shown.0 (with-cycle shown.0 shown.1) shown.2).1.effect.failure.cause (is ∙ ap (λ (f : Fault). Refused f) told));
+    failure = ∥∥₁_elim some le_prop (λ shown. (steps shown.0 shown.1 shown.2).1.effect.failure.cause (is ∙ ap (λ (f : Fault). Refused f) told));
     images = images-of;
   }
     where
       told : fault ≡ DeviceFault
       told = device-fault fault some (λ shown.
-          let to = steps shown.0 (with-cycle shown.0 shown.1) shown.2 in
+          let to = steps shown.0 shown.1 shown.2 in
           let hand = hand-of shown.0 shown.1 in
           fails shown.0 to.0 hand.0 reply hand.1 shown.2 to.1.stepped fault is)

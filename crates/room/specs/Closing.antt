@@ -4,7 +4,7 @@ use Rattle.std.specs.Option.{option_map}
 use Rattle.base.specs.declared.fault.Fault.{Fault}
 use Rattle.base.specs.declared.fault.Fault.TheVariants.{Device as DeviceFault}
 use Rattle.base.specs.Images.{Image}
-use Rattle.base.specs.Machine.{State, closing_fault, StandsClosing, StandsClosed}
+use Rattle.machine.specs.Machine.{State, closing_fault, StandsClosing, StandsClosed}
 use Rattle.pmem.specs.Device.{Device, MayLeave}
 use Rattle.pmem.specs.Words.{LeavesOnly, HasNoFailure}
 use Rattle.log_area.specs.declared.stage.WritingStage.{WritingStage}

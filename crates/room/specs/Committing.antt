@@ -1,7 +1,7 @@
 -- Which plain states a room's volatile state shows on a device.
 use Rattle.std.specs.Prelude.{◌≡◌, ◌≢◌, ℕ, ◌&&◌, nat_eq, List, Option, Some, None}
 use Rattle.std.specs.List.{list_any}
-use Rattle.base.specs.Machine.{State, Hand, batch_of}
+use Rattle.machine.specs.Machine.{State, Hand, batch_of}
 use Rattle.base.specs.Records.{is_committed}
 use Rattle.pmem.specs.Device.{Device}
 use Rattle.log_area.specs.declared.stage.WritingStage.TheVariants.{Done}

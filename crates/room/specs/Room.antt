@@ -7,7 +7,7 @@ use Rattle.base.specs.declared.step.Reply.TheVariants.{Refused}
 use Rattle.base.specs.Layout.{slot_start}
 use Rattle.base.specs.Records.{is_in}
 use Rattle.base.specs.Images.{Image}
-use Rattle.base.specs.Machine.{State, Stepped, most_operations, most_operations_along, Run, final, StandsAt, StandsWithin, StandsAlong}
+use Rattle.machine.specs.Machine.{State, Stepped, most_operations, most_operations_along, Run, final, StandsAt, StandsWithin, StandsAlong}
 use Rattle.pmem.specs.Device.{Device, MayLeave}
 use Rattle.pmem.specs.Words.{LeavesOnly, operations_of}
 use Rattle.pmem.specs.declared.device.Pmem.{Ghosts}

@@ -5,7 +5,7 @@ use Rattle.base.specs.declared.step.Step.TheVariants.{Commit as CommitTick, Coll
 use Rattle.base.specs.declared.step.Reply.{Reply}
 use Rattle.base.specs.declared.step.Reply.TheVariants.{Refused}
 use Rattle.base.specs.Actors.{committer, collector}
-use Rattle.base.specs.Machine.{State, Stepped, session_of, most_operations, StandsWithin}
+use Rattle.machine.specs.Machine.{State, Stepped, session_of, most_operations, StandsWithin}
 use Rattle.pmem.specs.Device.{Device}
 use Rattle.group_commit.specs.Cycles.{Cycling}
 use Rattle.session_steps.specs.declared.sessions.Sessions.{Sessions}

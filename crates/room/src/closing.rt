@@ -5,7 +5,7 @@ use pmem::Pmem;
 impl<D: Pmem + Drop> Room<D> {
     ghost use Rattle.std.specs.Prelude.{◌≡◌, None, IfOk, IfErr, MatchResult};
     ghost use Rattle.base.specs.Images.{Image};
-    ghost use Rattle.base.specs.Machine.{State, StandsClosing, StandsClosed, closing_fault};
+    ghost use Rattle.machine.specs.Machine.{State, StandsClosing, StandsClosed, closing_fault};
     ghost use Rattle.pmem.specs.Device.{MayLeave};
     ghost use Rattle.pmem.specs.Words.{LeavesOnly, HasNoFailure};
     ghost use Rattle.room.specs.Closing.{IsClosingRefusal};

@@ -9,7 +9,7 @@ impl VolatileState {
     ghost use Rattle.std.specs.Prelude.{◌≡◌, ◌+◌, ◌^◌, ◌<◌, false, None, IfErr, OnOk, IsTrue};
     ghost use Rattle.std.specs.List.{list_all};
     ghost use Rattle.base.specs.Images.{Image};
-    ghost use Rattle.base.specs.Machine.{State, StandsClosing, StandsClosed, closing_fault};
+    ghost use Rattle.machine.specs.Machine.{State, StandsClosing, StandsClosed, closing_fault};
     ghost use Rattle.pmem.specs.Device.{MayLeave};
     ghost use Rattle.pmem.specs.Words.{LeavesOnly, HasNoFailure};
     ghost use Rattle.txn.specs.DrawnCommits.{is_stamped};

@@ -15,8 +15,8 @@ impl VolatileState {
         ensures rests { OnOk result (self.new.cycle ≡ None) }
         ensures err { IfErr result (IsFailedPart self.old (D.state device.old) (D.state device.new)) }
     {
-        while let Some(cycle) = self.cycle.take() {
-            if let Reply::Refused(fault) = self.advance(device, cycle) {
+        while self.cycle.is_some() {
+            if let Reply::Refused(fault) = self.advance(device) {
                 return Err(fault);
             }
         }

@@ -1,7 +1,7 @@
 ghost use Rattle.std.specs.Prelude.{List, [], ◌∷◌};
 ghost use Rattle.base.specs.declared.step.Reply.{Reply};
 ghost use Rattle.base.specs.declared.step.Step.{Step};
-ghost use Rattle.base.specs.Machine.{State};
+ghost use Rattle.machine.specs.Machine.{State};
 ghost use Rattle.room.specs.Room.{RunsTo, Shows, StepsTo};
 
 use crate::room::Room;

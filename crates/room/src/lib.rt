@@ -15,6 +15,7 @@ mod step;
 mod tables;
 mod tick;
 mod volatile;
+mod workers;
 
 pub use law::steps_run;
 pub use room::Room;

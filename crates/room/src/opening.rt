@@ -2,7 +2,7 @@ ghost use Rattle.std.specs.Prelude.{ℕ, List, IfOk, IfErr};
 ghost use Rattle.base.specs.Commits.{Commit};
 ghost use Rattle.base.specs.Images.{opening_fault};
 ghost use Rattle.base.specs.Stands.{Stands};
-ghost use Rattle.base.specs.Openings.{StandsOpening};
+ghost use Rattle.machine.specs.Openings.{StandsOpening};
 ghost use Rattle.pmem.specs.Words.{LeavesOnly, IsAtRest, image_of};
 ghost use Rattle.recovery.specs.Opened.{IsRefusal, MakesOpening};
 ghost use Rattle.recovery.specs.Read.{TellsLogFault};
@@ -22,8 +22,8 @@ use std::thread::Threads;
 impl<D: Pmem + Drop + Send + Sync> Room<D> {
     ghost use Rattle.std.specs.Prelude.{◌≡◌, ◌+◌, ◌*◌, ◌<◌, ◌≤◌, true, false, None, slice_index, MatchResult};
     ghost use Rattle.base.specs.Images.{layout_of};
-    ghost use Rattle.base.specs.Machine.{State};
-    ghost use Rattle.base.specs.Openings.{OpensAs, opened_slots, updated};
+    ghost use Rattle.machine.specs.Machine.{State};
+    ghost use Rattle.machine.specs.Openings.{OpensAs, opened_slots, updated};
     ghost use Rattle.pmem.specs.Words.{IsSettledAt, HasNoFailure};
     ghost use Rattle.room.specs.Room.{Shows, device_of};
 

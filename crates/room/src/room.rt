@@ -24,11 +24,12 @@ pub struct Room<D: Pmem> {
 impl<D: Pmem + Drop> Room<D> {
     ghost use Rattle.std.specs.Prelude.{List, IfOk, IfErr, OnErr};
     ghost use Rattle.base.specs.Commits.{after, Lists};
-    ghost use Rattle.base.specs.Machine.{State, closing_gate};
+    ghost use Rattle.machine.specs.Machine.{State, closing_gate};
     ghost use Rattle.base.specs.declared.fault.Fault.TheVariants.{OutOfMemory};
     ghost use Rattle.room.specs.Room.{Shows, StepsTo, RunsTo, ShowsStatus, device_of};
 
     /// One step. A crash within it leaves the history before it or after it, or with the batch in hand.
+    #[inline(never)]
     pub fn step(&mut self, step: Step) -> Reply
         ensures step { (q : State) → Shows D.state self.old q → (q' : State) × StepsTo D.state self.old self.new step result q q' }
     {

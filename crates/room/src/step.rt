@@ -13,10 +13,13 @@ impl VolatileState {
         requires shown { ∥ ShowsSome self.old (D.state device.old) ∥₁ }
         ensures step { Steps self.old self.new (D.state device.old) (D.state device.new) step result }
     {
-        match step.of_session() {
-            Some(step) => Reply::from(self.sessions.step(device, step)),
-            None if matches!(&step, Step::Collect) => self.collect(device),
-            None => self.tick(alloc, device),
+        match step {
+            Step::Commit => self.tick(alloc, device),
+            Step::Collect => self.collect(device),
+            _ => match step.of_session() {
+                Some(step) => Reply::from(self.sessions.step(device, step)),
+                None => unreachable!(),
+            },
         }
     }
 }

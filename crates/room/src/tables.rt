@@ -8,7 +8,7 @@ use std::alloc::Global;
 impl VolatileState {
     ghost use Rattle.std.specs.Prelude.{◌≡◌, IfOk, IfErr};
     ghost use Rattle.base.specs.Commits.{after, Lists};
-    ghost use Rattle.base.specs.Machine.{State};
+    ghost use Rattle.machine.specs.Machine.{State};
     ghost use Rattle.base.specs.declared.fault.Fault.TheVariants.{OutOfMemory};
     ghost use Rattle.session_steps.specs.Shows.{ShowsAny};
     ghost use Rattle.room.specs.Committing.{Shows};

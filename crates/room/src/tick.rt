@@ -6,28 +6,31 @@ use pmem::Pmem;
 use std::alloc::Global;
 
 impl VolatileState {
-    ghost use Rattle.std.specs.Prelude.{◌≡◌, ◌≢◌, ◌<◌, Some, None};
+    ghost use Rattle.std.specs.Prelude.{◌≡◌, ◌≢◌, ◌<◌, None, IsSome};
     ghost use Rattle.base.specs.declared.step.Step.TheVariants.{Commit};
     ghost use Rattle.log_area.specs.declared.stage.WritingStage.TheVariants.{Done};
     ghost use Rattle.base.specs.declared.fault.Fault.{Fault};
     ghost use Rattle.base.specs.declared.step.Reply.TheVariants.{Refused};
-    ghost use Rattle.room.specs.Steps.{ShowsSome, ShowsSomeIn, Steps, StepsIn};
+    ghost use Rattle.room.specs.Steps.{ShowsSome, Steps};
     ghost use Rattle.session_steps.specs.Covering.{MayCoverSome, ShowsCovered};
     ghost use Rattle.room.specs.Ticks.{ShowsResting, TicksQuietly};
     ghost use Rattle.room.specs.Closing.{ticks_left};
 
     // One tick: the choice of a batch, or the next operation of the one in hand.
+    #[inline(always)]
     pub(crate) fn tick<D: Pmem>(&mut self, alloc: Global, device: &mut D) -> Reply
         requires shown { ∥ ShowsSome self.old (D.state device.old) ∥₁ }
         ensures step { Steps self.old self.new (D.state device.old) (D.state device.new) Commit result }
     {
-        match self.cycle.take() {
-            None => self.choose(alloc),
-            Some(cycle) => self.advance(device, cycle),
+        if self.cycle.is_some() {
+            self.advance(device)
+        } else {
+            self.choose(alloc)
         }
     }
 
     // Takes a batch in hand, unless there is nothing to do.
+    #[inline(never)]
     fn choose(&mut self, alloc: Global) -> Reply
         requires rests { self.old.cycle ≡ None }
         requires shown { ∥ ShowsResting self.old.sessions ∥₁ }
@@ -55,28 +58,29 @@ impl VolatileState {
         }
     }
 
-    // Makes the next operation of the cycle that was in hand.
-    pub(crate) fn advance<D: Pmem>(&mut self, device: &mut D, cycle: Cycle) -> Reply
-        requires rests { self.old.cycle ≡ None }
-        requires shown { ∥ ShowsSomeIn self.old.sessions (Some cycle) (D.state device.old) ∥₁ }
-        ensures step { StepsIn self.old.sessions (Some cycle) self.new (D.state device.old) (D.state device.new) Commit result }
-        ensures closer { ((fault : Fault) → result ≢ Refused fault) → ticks_left self.new.sessions.dirty.touches self.new.cycle < ticks_left self.old.sessions.dirty.touches (Some cycle) }
+    // Makes the next operation of the cycle in hand, where it lies: it is moved only once it is done.
+    #[inline(always)]
+    pub(crate) fn advance<D: Pmem>(&mut self, device: &mut D) -> Reply
+        requires hand { IsSome self.old.cycle }
+        requires shown { ∥ ShowsSome self.old (D.state device.old) ∥₁ }
+        ensures step { Steps self.old self.new (D.state device.old) (D.state device.new) Commit result }
+        ensures closer { ((fault : Fault) → result ≢ Refused fault) → ticks_left self.new.sessions.dirty.touches self.new.cycle < ticks_left self.old.sessions.dirty.touches self.old.cycle }
     {
-        let mut cycle = cycle;
+        let Some(cycle) = &mut self.cycle else {
+            unreachable!()
+        };
         match cycle.tick(device, self.sessions.dirty()) {
-            Ok(Some(stage)) => {
-                self.cycle = Some(cycle);
-                Reply::Ticked(stage)
-            }
-            Ok(None) => self.cover(cycle.finish()),
-            Err(fault) => {
-                self.cycle = Some(cycle);
-                Reply::Refused(fault)
-            }
+            Ok(Some(stage)) => Reply::Ticked(stage),
+            Ok(None) => match self.cycle.take() {
+                Some(done) => self.cover(done.finish()),
+                None => unreachable!(),
+            },
+            Err(reason) => Reply::Refused(reason),
         }
     }
 
     // The batch is covered: its record rules.
+    #[inline(never)]
     fn cover(&mut self, covered: Covered) -> Reply
         requires { ∥ MayCoverSome self.old.sessions covered.record ∥₁ }
         ensures reply { result ≡ Reply.Covered covered.batch }

@@ -9,7 +9,7 @@ use Rattle.base.specs.declared.key.Key.{Key}
 use Rattle.base.specs.Commits.{Commit, writes_key, last_writer}
 use Rattle.base.specs.Records.{is_committed, are_rising}
 use Rattle.base.specs.Stands.{has_timestamp}
-use Rattle.base.specs.Machine.{State, Drawn, Hand, ByCommit, drawn_at, drawn_of, state_covered}
+use Rattle.machine.specs.Machine.{State, Drawn, Hand, ByCommit, drawn_at, drawn_of, state_covered}
 use Rattle.base.proofs.Options.{option_or-none}
 use Rattle.base.proofs.Lists.{rising-rest, filter-all}
 use Rattle.state_invariant.specs.Kept.{Origin, Keeps, KeepsHand, commit_at, commits_of_life, covered_since, version_by}

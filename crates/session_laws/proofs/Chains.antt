@@ -9,7 +9,7 @@ use Rattle.base.specs.Commits.{Commit, after, writes_key, last_writer}
 use Rattle.base.specs.Layout.{Layout, total_words}
 use Rattle.base.specs.Records.{is_committed, is_in}
 use Rattle.base.specs.Images.{Image, layout_of, begin_of, end_of, link_of}
-use Rattle.base.specs.Machine.{State, Drawn, Version, ByCommit, drawn_at}
+use Rattle.machine.specs.Machine.{State, Drawn, Version, ByCommit, drawn_at}
 use Rattle.base.proofs.Lists.{all-take}
 use Rattle.pmem.specs.Words.{image_of}
 use Rattle.state_invariant.specs.Kept.{Origin, Keeps, HasSlot, wanted, version_by, last_of}

@@ -10,7 +10,7 @@ use Rattle.base.specs.declared.key.Key.{Key}
 use Rattle.base.specs.Commits.{Commit, writes_key}
 use Rattle.base.specs.Records.{is_in, is_committed}
 use Rattle.base.specs.Stands.{has_timestamp}
-use Rattle.base.specs.Machine.{State, Drawn, drawn_of}
+use Rattle.machine.specs.Machine.{State, Drawn, drawn_of}
 use Rattle.base.proofs.Options.{option_or-none}
 use Rattle.state_invariant.specs.Kept.{Origin, Keeps, KeepsOrigin, commits_of_life}
 use Rattle.state_invariant.specs.Shown.{counts_at}

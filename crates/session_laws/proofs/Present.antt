@@ -9,7 +9,7 @@ use Rattle.std.proofs.lemmas.List.Folds.{list_any-append}
 use Rattle.base.specs.Commits.{Commit}
 use Rattle.base.specs.Records.{is_in, is_committed}
 use Rattle.base.specs.Stands.{has_timestamp}
-use Rattle.base.specs.Machine.{State, Drawn, drawn_of}
+use Rattle.machine.specs.Machine.{State, Drawn, drawn_of}
 use Rattle.base.proofs.Lists.{all-drop}
 use Rattle.state_invariant.specs.Kept.{Origin, Keeps, KeepsOrigin, covered_since}
 use Rattle.state_invariant.specs.Shown.{IsOutOfSwept, counts_at}

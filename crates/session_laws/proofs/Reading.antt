@@ -7,7 +7,7 @@ use Rattle.base.specs.Layout.{slot_words, slot_start, total_words}
 use Rattle.std.proofs.lemmas.Bool.{false_from_ne_true}
 use Rattle.base.specs.Records.{Record, is_in}
 use Rattle.base.specs.Images.{Image, IsRuledBy, layout_of, begin_of, end_of, is_live, Shown}
-use Rattle.base.specs.Machine.{State}
+use Rattle.machine.specs.Machine.{State}
 use Rattle.pmem.specs.Device.{Device, IsOrderly}
 use Rattle.pmem.specs.Words.{image_of, Survives, EachSurvivor}
 use Rattle.log_area.proofs.Heads.{image_size, image_word, laid_size}

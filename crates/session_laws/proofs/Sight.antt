@@ -9,8 +9,8 @@ use Rattle.base.specs.declared.step.Reply.{Reply}
 use Rattle.base.specs.Commits.{Commit, Writes}
 use Rattle.base.specs.Records.{is_committed}
 use Rattle.base.specs.Stands.{has_timestamp}
-use Rattle.base.specs.Machine.{State, Hand, Stepped, refused, answered, memory_refused, device_failed, next_state, next_stage, state_drawn, state_ticked, state_ticked_on, state_covered, is_idle, taken_in_hand, writes_of}
-use Rattle.base.specs.Collecting.{is_at_slot, slot_visited, sweep_ended}
+use Rattle.machine.specs.Machine.{State, Hand, Stepped, refused, answered, memory_refused, device_failed, next_state, next_stage, state_drawn, state_ticked, state_ticked_on, state_covered, is_idle, taken_in_hand, writes_of}
+use Rattle.machine.specs.Collecting.{is_at_slot, slot_visited, sweep_ended}
 use Rattle.base.proofs.Lists.{all-take, all-drop}
 use Rattle.state_invariant.specs.Kept.{Origin, Keeps}
 use Rattle.state_invariant.specs.Shown.{IsOutOfSwept, counts_at}

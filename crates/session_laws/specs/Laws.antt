@@ -8,7 +8,7 @@ use Rattle.base.specs.Commits.{after, writes_key}
 use Rattle.base.specs.Layout.{total_words}
 use Rattle.base.specs.Records.{Record, is_committed}
 use Rattle.base.specs.Images.{Image, layout_of}
-use Rattle.base.specs.Machine.{State, Drawn, Hand, ByCommit, Stepped, drawn_of, state_covered}
+use Rattle.machine.specs.Machine.{State, Drawn, Hand, ByCommit, Stepped, drawn_of, state_covered}
 use Rattle.pmem.specs.Device.{Device, IsOrderly}
 use Rattle.pmem.specs.Words.{image_of}
 use Rattle.state_invariant.specs.Kept.{Origin, Keeps, KeepsHand, IsInUse, commits_of_life, version_by}

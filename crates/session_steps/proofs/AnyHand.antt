@@ -1,7 +1,7 @@
 -- The sessions agree with the plain state whatever is in hand, and whether it failed or not.
 use Rattle.std.proofs.Common.{ℕ, Bool, sym, ap, subst, Option, Some, None}
 use Rattle.std.specs.Prelude.{slice_index_or}
-use Rattle.base.specs.Machine.{State, Hand, Version, Writer, ByCommit, BySession}
+use Rattle.machine.specs.Machine.{State, Hand, Version, Writer, ByCommit, BySession}
 use Rattle.pmem.specs.Device.{Device}
 use Rattle.device_invariant.specs.Upholds.{Upholds}
 use Rattle.device_invariant.specs.Slots.{newest_of}

@@ -5,7 +5,7 @@ use Rattle.std.specs.List.{list_any}
 use Rattle.std.proofs.lemmas.List.Elements.{All-filter}
 use Rattle.std.proofs.lemmas.Cmp.{nat_eq_equiv}
 use Rattle.base.specs.Commits.{Commit}
-use Rattle.base.specs.Machine.{State, Drawn as PlainDrawn, drawn_of}
+use Rattle.machine.specs.Machine.{State, Drawn as PlainDrawn, drawn_of}
 use Rattle.base.specs.Records.{are_rising}
 use Rattle.base.proofs.Lists.{any-map, any-same, any-never, any-or}
 use Rattle.dirty_table.specs.declared.touches.Touch.{Touch}

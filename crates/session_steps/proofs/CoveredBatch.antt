@@ -13,7 +13,7 @@ use Rattle.base.specs.Keys.{key_eq}
 use Rattle.base.specs.Commits.{Commit, last_writer, writes_key}
 use Rattle.base.specs.Records.{Record, is_committed, are_rising}
 use Rattle.base.specs.Stands.{has_timestamp}
-use Rattle.base.specs.Machine.{State, Hand, Drawn as PlainDrawn, Version, Writer, BySession, ByCommit, drawn_at, state_covered}
+use Rattle.machine.specs.Machine.{State, Hand, Drawn as PlainDrawn, Version, Writer, BySession, ByCommit, drawn_at, state_covered}
 use Rattle.base.proofs.Keys.{key_eq-true}
 use Rattle.base.proofs.Lists.{rising-rest}
 use Rattle.txn.specs.declared.drawn.DrawnCommit.{DrawnCommit}

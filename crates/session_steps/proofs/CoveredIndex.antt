@@ -7,7 +7,7 @@ use Rattle.std.proofs.lemmas.List.Elements.{All-head, All-tail}
 use Rattle.base.specs.declared.key.Key.{Key}
 use Rattle.base.specs.Keys.{key_eq, lookup_key}
 use Rattle.base.specs.Commits.{Commit, writes_key}
-use Rattle.base.specs.Machine.{State, Version, Writer, ByCommit, Drawn as PlainDrawn}
+use Rattle.machine.specs.Machine.{State, Version, Writer, ByCommit, Drawn as PlainDrawn}
 use Rattle.base.proofs.Keys.{key_eq-true}
 use Rattle.txn.specs.declared.drawn.DrawnCommit.{DrawnCommit}
 use Rattle.txn.specs.declared.write.Write.{Write}

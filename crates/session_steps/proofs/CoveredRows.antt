@@ -3,7 +3,7 @@ use Rattle.std.proofs.Common.{◌≡◌, inl, ℕ, Bool, true, List, take, lengt
 use Rattle.std.proofs.lemmas.List.{take_all}
 use Rattle.base.specs.declared.key.Key.{Key}
 use Rattle.base.specs.Commits.{Commit, Tables, after, Lists}
-use Rattle.base.specs.Machine.{State}
+use Rattle.machine.specs.Machine.{State}
 use Rattle.pmem.specs.Device.{Device, IsOrderly}
 use Rattle.device_invariant.specs.Upholds.{Upholds}
 use Rattle.base.specs.Layout.{total_words}

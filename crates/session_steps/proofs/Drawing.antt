@@ -12,11 +12,11 @@ use Rattle.std.specs.Cmp.{both_ways}
 use Rattle.std.proofs.Math.Bool.{or-false}
 use Rattle.base.specs.declared.key.Key.{Key}
 use Rattle.base.specs.Commits.{Commit, writes_key, last_writer}
-use Rattle.base.specs.Layout.{Layout, slot_start}
+use Rattle.base.specs.Layout.{Layout, slot_start, version_lines}
 use Rattle.base.specs.Records.{is_committed}
 use Rattle.base.specs.Stands.{has_timestamp}
 use Rattle.base.proofs.Layouts.{line-words, lines-words}
-use Rattle.base.specs.Machine.{State, Drawn as PlainDrawn, Version, Writer, BySession, ByCommit, is_by, by_commit, drawn_at, drawn_of, version_lines}
+use Rattle.machine.specs.Machine.{State, Drawn as PlainDrawn, Version, Writer, BySession, ByCommit, is_by, by_commit, drawn_at, drawn_of}
 use Rattle.base.proofs.Lists.{all-take, all-drop, any-map}
 use Rattle.snapshot.specs.Snapshots.{Seen, covers}
 use Rattle.txn.specs.declared.drawn.DrawnCommit.{DrawnCommit}

@@ -13,7 +13,8 @@ use Rattle.base.specs.declared.step.SessionStep.TheVariants.{Draw}
 use Rattle.base.specs.declared.step.SessionReply.TheVariants.{Done, Drawn as DrewAs, Refused}
 use Rattle.base.specs.Commits.{Writes}
 use Rattle.base.specs.Search.{first_of as first_there, some_if}
-use Rattle.base.specs.Machine.{State, Session, Active as Reads, answered, memory_refused, refusal, conflict_of, writes_of, is_nil, state_drawn, is_too_long, overfills, lacks_slot, chooses, by_commit}
+use Rattle.base.specs.Lists.{is_nil}
+use Rattle.machine.specs.Machine.{State, Session, Active as Reads, answered, memory_refused, refusal, conflict_of, writes_of, state_drawn, is_too_long, overfills, lacks_slot, chooses, by_commit}
 use Rattle.snapshot.specs.Snapshots.{Seen}
 use Rattle.txn.specs.InFlight.{InFlight}
 use Rattle.txn.specs.declared.drawn.DrawnCommit.{DrawnCommit}

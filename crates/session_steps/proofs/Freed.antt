@@ -5,7 +5,7 @@ use Rattle.std.specs.List.{list_any}
 use Rattle.std.proofs.lemmas.Bool.{ne_eqb, true≢false}
 use Rattle.base.specs.declared.key.Key.{Key}
 use Rattle.base.specs.Commits.{Commit, last_writer, writes_key}
-use Rattle.base.specs.Machine.{State, Drawn as PlainDrawn, Version, Writer, BySession, ByCommit, drawn_at}
+use Rattle.machine.specs.Machine.{State, Drawn as PlainDrawn, Version, Writer, BySession, ByCommit, drawn_at}
 use Rattle.collector.specs.declared.rounds.Collector.{Collector}
 use Rattle.txn.specs.declared.drawn.DrawnCommit.{DrawnCommit}
 use Rattle.txn.specs.declared.transaction.Transaction.{Transaction}

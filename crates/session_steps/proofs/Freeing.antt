@@ -12,7 +12,8 @@ use Rattle.base.specs.declared.step.SessionReply.TheVariants.{Done}
 use Rattle.base.specs.Commits.{Writes, with_write}
 use Rattle.base.specs.Keys.{key_eq, lookup_key}
 use Rattle.base.specs.Search.{first_of as first_there, some_if}
-use Rattle.base.specs.Machine.{Session, Active as Reads, Version, BySession, answered, refusal, is_held_by, is_own_at, begun_of, writes_of, replaced, held_after_abort, held_after_delete, most_writes}
+use Rattle.base.specs.Lists.{replaced}
+use Rattle.machine.specs.Machine.{Session, Active as Reads, Version, BySession, answered, refusal, is_held_by, is_own_at, begun_of, writes_of, held_after_abort, held_after_delete, most_writes}
 use Rattle.snapshot.specs.Snapshots.{Seen}
 use Rattle.txn.specs.declared.transaction.Transaction.{Transaction}
 use Rattle.txn.specs.declared.transaction.Transaction.TheVariants.{Active}
@@ -111,8 +112,8 @@ aborts s ts slots n snapshot writes h at gives sets holds = record {
 -- ---- Delete
 
 -- the deletion of a key
-abbrev pub deletion : Key → Write
-deletion key = record { key = key; row = None; slot = None }
+abbrev pub deletion : Key → Option ℕ → Write
+deletion key place = record { key = key; row = None; slot = None; place = place }
 
 -- the writes are full as the machine says
 pub full-plain : (key : Key) (writes : List Write) → (is_none (lookup_key (plain_writes writes) key) && nat_le most_writes (length (plain_writes writes))) ≡ is_full_of key writes
@@ -138,18 +139,18 @@ other-version n key other o apart at own =
     let same : version_by key (BySession n) ≡ version_by other (BySession n) = cc both in
     apart-keys key other apart (version-parts same).1
 
-pub deletes : (s : Sessions) (ts : List (Option Transaction)) (slots : List Bool) (n : ℕ) (key : Key) (snapshot : Seen) (writes : List Write) (h : Hidden) → transaction_at s.transactions n ≡ Some (Active snapshot writes)
-    → is_full_of key writes ≡ false → 3 * count_with key writes ≤ promised_to s.dirty n → slots ≡ given (own_of key writes) s.slots → Sets s.transactions ts n (Some (Active snapshot (with_write_at (deletion key) writes))) → Holds s h
+pub deletes : (s : Sessions) (ts : List (Option Transaction)) (slots : List Bool) (n : ℕ) (key : Key) (place : Option ℕ) (snapshot : Seen) (writes : List Write) (h : Hidden) → transaction_at s.transactions n ≡ Some (Active snapshot writes)
+    → is_full_of key writes ≡ false → 3 * count_with key writes ≤ promised_to s.dirty n → slots ≡ given (own_of key writes) s.slots → Sets s.transactions ts n (Some (Active snapshot (with_write_at (deletion key place) writes))) → Holds s h
     → Goes s (record s { transactions = ts; slots = slots }) (Delete n key) Done h
-deletes s ts slots n key snapshot writes h at full room gives sets holds = record {
+deletes s ts slots n key place snapshot writes h at full room gives sets holds = record {
   next = record h { held = held };
   origin = refl;
   drawers = same-drawers s.drawn.commits;
-  agrees = agrees-changed s h ts slots h.seen held n (Some (Active snapshot (with_write_at (deletion key) writes))) holds.agrees sets (λ slot. moves slot (is_own_at n key (h.held slot)) refl) (λ m apart. refl)
-      (record { covered = session.0.covered; early = session.0.early; gaps = session.0.gaps }, written) (lines-written (deletion key) writes (promised_to s.dirty n) (rising-plain h.origin (plain_of s h) n (h.seen n) writes holds.keeps (found s h n _ at)) room)
+  agrees = agrees-changed s h ts slots h.seen held n (Some (Active snapshot (with_write_at (deletion key place) writes))) holds.agrees sets (λ slot. moves slot (is_own_at n key (h.held slot)) refl) (λ m apart. refl)
+      (record { covered = session.0.covered; early = session.0.early; gaps = session.0.gaps }, written) (lines-written (deletion key place) writes (promised_to s.dirty n) (rising-plain h.origin (plain_of s h) n (h.seen n) writes holds.keeps (found s h n _ at)) room)
       (λ k d lt there. absurd (cc (at, there))) (λ slot lt. free slot lt (is_own_at n key (h.held slot)) refl (own_of key writes) own gives) (counted (own_of key writes) gives);
   stepped = answered (delete-asks s h n key snapshot writes false holds at full) refl
-      (λ i. record (plain_of s h) { sessions = λ m. (sessions-kept s.transactions ts h.seen n (Some (Active snapshot (with_write_at (deletion key) writes))) sets m ∙ ap (λ (x : Option Session). replaced n x (plain_of s h).sessions m) now) i; held = held });
+      (λ i. record (plain_of s h) { sessions = λ m. (sessions-kept s.transactions ts h.seen n (Some (Active snapshot (with_write_at (deletion key place) writes))) sets m ∙ ap (λ (x : Option Session). replaced n x (plain_of s h).sessions m) now) i; held = held });
 }
   where
     held : ℕ → Option Version
@@ -161,8 +162,8 @@ deletes s ts slots n key snapshot writes h at full room gives sets holds = recor
     own : IsSlotOf (plain_of s h) (version_by key (BySession n)) (own_of key writes)
     own = own-is h.origin (plain_of s h) n (h.seen n) writes holds.keeps (found s h n _ at) session.1 key
 
-    now : ◌≡◌ {A = Option Session} (Some (Reads (h.seen n) (plain_writes (with_write_at (deletion key) writes)))) (Some (Reads (begun_of ((plain_of s h).sessions n)) (with_write key None (writes_of ((plain_of s h).sessions n)))))
-    now = ap (λ (ws : Writes). Some (Reads (h.seen n) ws)) (plain_writes-with_write_at (deletion key) writes) ∙ sym (ap (λ (t : Option Transaction). Some (Reads (begun_of (option_map (plain_session (h.seen n)) t)) (with_write key None (writes_of (option_map (plain_session (h.seen n)) t))))) at)
+    now : ◌≡◌ {A = Option Session} (Some (Reads (h.seen n) (plain_writes (with_write_at (deletion key place) writes)))) (Some (Reads (begun_of ((plain_of s h).sessions n)) (with_write key None (writes_of ((plain_of s h).sessions n)))))
+    now = ap (λ (ws : Writes). Some (Reads (h.seen n) ws)) (plain_writes-with_write_at (deletion key place) writes) ∙ sym (ap (λ (t : Option Transaction). Some (Reads (begun_of (option_map (plain_session (h.seen n)) t)) (with_write key None (writes_of (option_map (plain_session (h.seen n)) t))))) at)
 
     moves : (slot : ℕ) (b : Bool) → is_own_at n key (h.held slot) ≡ b → (cond b None (h.held slot) ≡ h.held slot) ⊎ ((is_nobodys_or n (h.held slot) ≡ true) × (is_nobodys_or n (cond b None (h.held slot)) ≡ true))
     moves slot true is = inr (ap (is_nobodys_or n) (own-at n key (h.held slot) is) ∙ held-test n key, refl)
@@ -206,8 +207,8 @@ deletes s ts slots n key snapshot writes h at full room gives sets holds = recor
         let own : is_own_at n key (h.held slot) ≡ true = ap (is_own_at n key) there ∙ own-test n key in
         absurd (cc (own, is))
 
-    written : All (HasItsSlot (plain_of (record s { transactions = ts; slots = slots }) (record h { held = held })) (BySession n)) (with_write_at (deletion key) writes)
+    written : All (HasItsSlot (plain_of (record s { transactions = ts; slots = slots }) (record h { held = held })) (BySession n)) (with_write_at (deletion key place) writes)
     written =
-        all-with_write_at (HasItsSlot (plain_of (record s { transactions = ts; slots = slots }) (record h { held = held })) (BySession n)) (deletion key) writes (rising-plain h.origin (plain_of s h) n (h.seen n) writes holds.keeps (found s h n _ at))
+        all-with_write_at (HasItsSlot (plain_of (record s { transactions = ts; slots = slots }) (record h { held = held })) (BySession n)) (deletion key place) writes (rising-plain h.origin (plain_of s h) n (h.seen n) writes holds.keeps (found s h n _ at))
         (record { slot = λ slot lt there. gone slot (is_own_at n key (h.held slot)) refl there; row = refl })
         (λ k d lt apart. record { slot = kept _ apart _ (session.1 k d lt).slot; row = (session.1 k d lt).row })

@@ -4,8 +4,8 @@ use Rattle.std.specs.Prelude.{Option, Some, None, All}
 use Rattle.std.specs.List.{list_any, range_with_len, flat_map}
 use Rattle.base.specs.declared.key.Key.{Key}
 use Rattle.base.specs.Commits.{Commit, last_writer, writes_key}
-use Rattle.base.specs.Layout.{Layout}
-use Rattle.base.specs.Machine.{State, Version, Writer, BySession, ByCommit, is_by, version_lines}
+use Rattle.base.specs.Layout.{Layout, version_lines}
+use Rattle.machine.specs.Machine.{State, Version, Writer, BySession, ByCommit, is_by}
 use Rattle.txn.specs.declared.drawn.DrawnCommit.{DrawnCommit}
 use Rattle.txn.specs.declared.write.Write.{Write}
 use Rattle.dirty_table.specs.declared.touches.Touch.{Touch}

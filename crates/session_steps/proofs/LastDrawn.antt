@@ -5,7 +5,7 @@ use Rattle.std.specs.List.{list_any}
 use Rattle.std.specs.Option.{option_map}
 use Rattle.base.specs.declared.key.Key.{Key}
 use Rattle.base.specs.Commits.{writes_key}
-use Rattle.base.specs.Machine.{conflict_of, begun_of, writes_of, drawn_of}
+use Rattle.machine.specs.Machine.{conflict_of, begun_of, writes_of, drawn_of}
 use Rattle.snapshot.specs.Snapshots.{Seen}
 use Rattle.txn.specs.declared.transaction.Transaction.TheVariants.{Active}
 use Rattle.txn.specs.declared.write.Write.{Write}

@@ -9,8 +9,9 @@ use Rattle.base.specs.declared.step.Reply.TheVariants as reply
 use Rattle.base.specs.declared.step.SessionStep.{SessionStep}
 use Rattle.base.specs.declared.step.SessionReply.{SessionReply}
 use Rattle.base.specs.declared.step.SessionReply.TheVariants.{Refused}
-use Rattle.base.specs.Machine.{refusal, takes_memory, memory_refused}
-use Rattle.base.specs.SessionSteps.{as_step, SessionStepped}
+use Rattle.machine.specs.Machine.{refusal, takes_memory, memory_refused}
+use Rattle.base.specs.Steps.{as_step}
+use Rattle.machine.specs.SessionSteps.{SessionStepped}
 use Rattle.pmem.specs.Device.{Device, IsOrderly}
 use Rattle.txn.specs.declared.transaction.Transaction.{Transaction}
 use Rattle.txn.specs.declared.transaction.Transaction.TheVariants.{Active, Drawn, ReadOnly}

@@ -11,7 +11,7 @@ use Rattle.std.proofs.lemmas.List.Folds.{find-append}
 use Rattle.std.proofs.lemmas.Option.{slice_get-get_or}
 use Rattle.base.specs.declared.key.Key.{Key}
 use Rattle.base.specs.Keys.{key_eq}
-use Rattle.base.specs.Machine.{State, Version, BySession}
+use Rattle.machine.specs.Machine.{State, Version, BySession}
 use Rattle.base.proofs.Keys.{key_eq-true}
 use Rattle.snapshot.specs.Snapshots.{Seen}
 use Rattle.txn.specs.declared.transaction.Transaction.TheVariants.{Active}

@@ -4,7 +4,8 @@ use Rattle.std.specs.Prelude.{Option, Some, None, is_none, find}
 use Rattle.std.specs.Option.{option_map}
 use Rattle.std.specs.List.{range_with_len}
 use Rattle.std.proofs.lemmas.Bool.Decides.{nat_tests}
-use Rattle.base.specs.Machine.{replaced, most_sessions, free_session}
+use Rattle.base.specs.Lists.{replaced}
+use Rattle.machine.specs.Machine.{most_sessions, free_session}
 use Rattle.txn.specs.declared.transaction.Transaction.{Transaction}
 use Rattle.txn.specs.Transactions.{transaction_at, Sets, IsLowestFree, IsFull}
 use Rattle.session_steps.specs.declared.sessions.Sessions.{Sessions}

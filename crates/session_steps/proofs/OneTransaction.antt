@@ -14,10 +14,11 @@ use Rattle.base.specs.declared.step.SessionStep.{SessionStep}
 use Rattle.base.specs.declared.step.SessionStep.TheVariants.{Begin, End, Poll}
 use Rattle.base.specs.declared.step.SessionReply.{SessionReply}
 use Rattle.base.specs.declared.step.SessionReply.TheVariants.{Began, Done, Waiting, Committed, Refused}
-use Rattle.base.specs.SessionSteps.{as_step, as_reply}
+use Rattle.base.specs.Steps.{as_step, as_reply}
 use Rattle.base.specs.Stands.{has_timestamp}
 use Rattle.base.specs.Records.{is_committed}
-use Rattle.base.specs.Machine.{State, Session, Drawn as PlainDrawn, Active as Reads, IsDrawn, IsStamped, IsCovered, refused, answered, memory_refused, refusal, session_of, allows, standing_of, replaced, with_session, drawn_at, polled}
+use Rattle.base.specs.Lists.{replaced}
+use Rattle.machine.specs.Machine.{State, Session, Drawn as PlainDrawn, Active as Reads, IsDrawn, IsStamped, IsCovered, refused, answered, memory_refused, refusal, session_of, allows, standing_of, with_session, drawn_at, polled}
 use Rattle.base.proofs.Lists.{find-passes}
 use Rattle.snapshot.specs.Snapshots.{Seen, seen_by}
 use Rattle.txn.specs.declared.drawn.DrawnCommit.{DrawnCommit}

@@ -12,7 +12,7 @@ use Rattle.base.specs.Commits.{Commit, after, last_writer}
 use Rattle.base.specs.Layout.{Layout, total_words}
 use Rattle.base.specs.Records.{Record}
 use Rattle.base.specs.Images.{IsRuledBy, layout_of, key_of}
-use Rattle.base.specs.Machine.{State, Session, Drawn as PlainDrawn, Version, Writer, BySession, ByCommit, drawn_of, writes_of}
+use Rattle.machine.specs.Machine.{State, Session, Drawn as PlainDrawn, Version, Writer, BySession, ByCommit, drawn_of, writes_of}
 use Rattle.pmem.specs.Device.{Device, IsOrderly}
 use Rattle.pmem.specs.Words.{value_of, image_of}
 use Rattle.log_area.proofs.Heads.{image_size, image_word, laid_size}

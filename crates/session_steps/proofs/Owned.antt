@@ -8,7 +8,7 @@ use Rattle.std.proofs.lemmas.List.Elements.{All-contains, Contains-get_or, All-h
 use Rattle.std.proofs.lemmas.Option.{slice_get-get_or, slice_get_within, get_or_from_slice_get}
 use Rattle.base.specs.declared.key.Key.{Key}
 use Rattle.base.specs.Keys.{lookup_key, is_rising}
-use Rattle.base.specs.Machine.{State, Session, Active as Reads, Version, BySession, writes_of, own_slot, is_own_at}
+use Rattle.machine.specs.Machine.{State, Session, Active as Reads, Version, BySession, writes_of, own_slot, is_own_at}
 use Rattle.base.proofs.Keys.{key_eq-true, key_eq-same}
 use Rattle.base.proofs.Search.{first_below-nowhere}
 use Rattle.txn.specs.declared.write.Write.{Write}

@@ -18,7 +18,8 @@ use Rattle.base.specs.Commits.{Writes, with_write}
 use Rattle.base.specs.Keys.{key_eq, lookup_key}
 use Rattle.base.specs.Layout.{Layout, row_limit, slot_start, slot_words}
 use Rattle.base.specs.Search.{first_below, first_of as first_there, some_if}
-use Rattle.base.specs.Machine.{State, Session, Active as Reads, Version, BySession, answered, device_failed, refusal, next_state, begun_of, writes_of, replaced, held_at, held_with, held_after_put, own_slot, free_slot, lacks_slot, overfills, most_writes, StandsWithin}
+use Rattle.base.specs.Lists.{replaced}
+use Rattle.machine.specs.Machine.{State, Session, Active as Reads, Version, BySession, answered, device_failed, refusal, next_state, begun_of, writes_of, held_at, held_with, held_after_put, own_slot, free_slot, lacks_slot, overfills, most_writes, StandsWithin}
 use Rattle.base.proofs.Search.{first_below-same}
 use Rattle.pmem.specs.Device.{Device, IsOrderly}
 use Rattle.pmem.specs.Trace.{Operation, store_op, Runs, StopsWithin}
@@ -129,8 +130,8 @@ link-newest s h n v holds is free t slot last lt held = is ∙ by (entry_at s.in
     by (Some other) at = let d = (e.drawn other at).1 in absurd (cc (sym (free.drawn d.0 d.1 d.2) ∙ d.3))
 
 -- the write of a row
-abbrev pub row-at : Key → List ℕ → ℕ → Write
-row-at key row slot = record { key = key; row = Some row; slot = Some slot }
+abbrev pub row-at : Key → List ℕ → ℕ → Option ℕ → Write
+row-at key row slot place = record { key = key; row = Some row; slot = Some slot; place = place }
 
 -- ---- whose operations they are
 
@@ -144,13 +145,13 @@ fill-only n a slot v = stores-only n (slot_start a slot + 1) (λ k. filled_word 
 
 -- ---- the step
 
-module _ (s : Sessions) (h : Hidden) (n : ℕ) (snapshot : Seen) (writes : List Write) (v : Content) (slot : ℕ) (before now : Device) (holds : HoldsOn s h before) (at : transaction_at s.transactions n ≡ Some (Active snapshot writes))
+module _ (s : Sessions) (h : Hidden) (n : ℕ) (snapshot : Seen) (writes : List Write) (v : Content) (slot : ℕ) (place : Option ℕ) (before now : Device) (holds : HoldsOn s h before) (at : transaction_at s.transactions n ≡ Some (Active snapshot writes))
     (room : is_full_of v.key writes ≡ false) (short-row : length v.row ≤ row_limit s.numbers.geometry.version) where
   abbrev q : State
   q = plain_of s h
 
   abbrev new : Write
-  new = record { key = v.key; row = Some v.row; slot = Some slot }
+  new = record { key = v.key; row = Some v.row; slot = Some slot; place = place }
 
   held : Holds s h
   held = held-on s h before holds
@@ -405,13 +406,13 @@ puts-untaken s h n snapshot writes v slots before now fault orderly holds at roo
     by : (fault ≡ SlotsOut) ⊎ (fault ≡ DeviceFault) → GoesOn s s before now (Put n v.key v.row) (Refused fault) h
     by (inl is) =
         let free : free_slot (plain_of s h) ≡ None = sym (free-is s h (held-on s h before holds)) ∙ out is in
-        let own = own_slot-is h.origin (plain_of s h) n v.key (own_of v.key writes) holds.upholds.keeps (own s h n snapshot writes v 0 before now holds at room short-row) ∙ none in
+        let own = own_slot-is h.origin (plain_of s h) n v.key (own_of v.key writes) holds.upholds.keeps (own s h n snapshot writes v 0 None before now holds at room short-row) ∙ none in
         let lacks : lacks_slot (plain_of s h) (step.Put n v.key v.row) ≡ true = (λ i. is_none (own i) && is_none (free i)) in
         subst (λ (d : Device). GoesOn s s before d (Put n v.key v.row) (Refused fault) h) (sym (unmoved is))
         (refused-on s before (Put n v.key v.row) fault h orderly holds (put-asks s h n v.key v.row snapshot writes false true (held-on s h before holds) at short-row room lacks ∙ ap (λ (f : Fault). Some f) (sym is)))
     by (inr is) =
         let stopped = stops is in
-        puts-taken-stopped s h n snapshot writes v stopped.0 before now holds at room short-row none stopped.1 fault is (stops-first (fill_operations s.numbers.geometry stopped.0 v) stopped.2)
+        puts-taken-stopped s h n snapshot writes v stopped.0 None before now holds at room short-row none stopped.1 fault is (stops-first (fill_operations s.numbers.geometry stopped.0 v) stopped.2)
 
 -- the device stopped in filling the slot, which is freed again
 pub puts-returned : (s : Sessions) (h : Hidden) (n : ℕ) (snapshot : Seen) (writes : List Write) (v : Content) (slot : ℕ) (slots : List Bool) (before mid now : Device) (fault : Fault) → HoldsOn s h before → transaction_at s.transactions n ≡ Some (Active snapshot writes)
@@ -419,4 +420,4 @@ pub puts-returned : (s : Sessions) (h : Hidden) (n : ℕ) (snapshot : Seen) (wri
     → Runs (clear_operations s.numbers.geometry n slot) before mid → StopsWithin (fill_operations s.numbers.geometry slot v) mid now → GoesOn s (record s { slots = slots }) before now (Put n v.key v.row) (Refused fault) h
 puts-returned s h n snapshot writes v slot slots before mid now fault holds at room short-row none lowest given is run stops =
     subst (λ (xs : List Bool). GoesOn s (record s { slots = xs }) before now (Put n v.key v.row) (Refused fault) h) (sym (given ∙ given-again s.slots slot lowest))
-    (puts-taken-stopped s h n snapshot writes v slot before now holds at room short-row none lowest fault is (stops-then run stops))
+    (puts-taken-stopped s h n snapshot writes v slot None before now holds at room short-row none lowest fault is (stops-then run stops))

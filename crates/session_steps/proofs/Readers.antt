@@ -2,7 +2,7 @@
 use Rattle.std.proofs.Common.{◌≡◌, ℕ, zero, suc, ◌+◌, ◌<◌, ◌≤◌, Bool, true, false, List, refl, sym, ◌∙◌, arith, Option}
 use Rattle.std.specs.List.{list_all, range_with_len}
 use Rattle.std.proofs.lemmas.Bool.{and_from, false_from_ne_true, true≢false}
-use Rattle.base.specs.Machine.{most_sessions}
+use Rattle.machine.specs.Machine.{most_sessions}
 use Rattle.state_invariant.proofs.Garbage.{range-all}
 use Rattle.txn.specs.declared.transaction.Transaction.{Transaction}
 use Rattle.txn.specs.Transactions.{transaction_at}

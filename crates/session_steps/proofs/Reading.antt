@@ -11,7 +11,7 @@ use Rattle.base.specs.Commits.{after, Tables}
 use Rattle.base.specs.Keys.{lookup_key}
 use Rattle.base.specs.Layout.{total_words}
 use Rattle.base.specs.Images.{layout_of}
-use Rattle.base.specs.Machine.{State, answered, begun_of, writes_of}
+use Rattle.machine.specs.Machine.{State, answered, begun_of, writes_of}
 use Rattle.pmem.specs.Device.{Device, IsOrderly}
 use Rattle.pmem.specs.Words.{image_of}
 use Rattle.log_area.proofs.Heads.{image_size, laid_size}

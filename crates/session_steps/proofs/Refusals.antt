@@ -7,7 +7,7 @@ use Rattle.base.specs.declared.fault.Fault.TheVariants.{Failed, SessionsFull, No
 use Rattle.base.specs.declared.step.Step.{Step}
 use Rattle.base.specs.declared.step.Step.TheVariants.{Begin, Get, Scan, Put, Delete, Draw, Abort}
 use Rattle.base.specs.Search.{first_of as first_there, some_if}
-use Rattle.base.specs.Machine.{State, Session, IsDrawn, IsStamped, IsCovered, refusal, begins, free_session, session_of, is_absent, is_misplaced, is_misplaced_in, is_too_long, overfills, lacks_slot, conflicts, draws, chooses, allows, standing_of}
+use Rattle.machine.specs.Machine.{State, Session, IsDrawn, IsStamped, IsCovered, refusal, begins, free_session, session_of, is_absent, is_misplaced, is_misplaced_in, is_too_long, overfills, lacks_slot, conflicts, draws, chooses, allows, standing_of}
 
 -- a step that names a session opens none
 names-one : (step : Step) (n : ℕ) → session_of step ≡ Some n → begins step ≡ false

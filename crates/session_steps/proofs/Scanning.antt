@@ -10,7 +10,7 @@ use Rattle.base.specs.declared.step.SessionStep.TheVariants.{Scan}
 use Rattle.base.specs.declared.step.SessionReply.TheVariants.{Rows, Refused}
 use Rattle.base.specs.Keys.{key_eq, lookup_key}
 use Rattle.base.specs.Commits.{Tables, Lists, after, overlaid, in_range}
-use Rattle.base.specs.Machine.{answered, memory_refused, begun_of, writes_of}
+use Rattle.machine.specs.Machine.{answered, memory_refused, begun_of, writes_of}
 use Rattle.base.proofs.Keys.{key_eq-true, key_lt-apart}
 use Rattle.pmem.specs.Device.{Device, IsOrderly}
 use Rattle.pmem.specs.Words.{image_of}

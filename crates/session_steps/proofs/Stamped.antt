@@ -15,11 +15,11 @@ use Rattle.base.specs.declared.step.Reply.TheVariants as reply
 use Rattle.base.specs.declared.step.SessionStep.TheVariants.{Stamp}
 use Rattle.base.specs.declared.step.SessionReply.{SessionReply}
 use Rattle.base.specs.declared.step.SessionReply.TheVariants.{Stamped, More, Refused}
-use Rattle.base.specs.SessionSteps.{as_reply}
+use Rattle.base.specs.Steps.{as_reply}
 use Rattle.base.specs.Commits.{Commit, writes_key}
 use Rattle.base.specs.Layout.{Layout}
 use Rattle.base.specs.Stands.{has_timestamp}
-use Rattle.base.specs.Machine.{State, Session, Drawn as PlainDrawn, ByCommit, Drew, IsCovered, IsStamped, IsDrawn, answered, device_failed, refusal, next_state, allows, standing_of, is_stamped, timestamp_of, counted, drawn_at, stamped_write, is_last_stamp, StandsWithin}
+use Rattle.machine.specs.Machine.{State, Session, Drawn as PlainDrawn, ByCommit, Drew, IsCovered, IsStamped, IsDrawn, answered, device_failed, refusal, next_state, allows, standing_of, is_stamped, timestamp_of, counted, drawn_at, stamped_write, is_last_stamp, StandsWithin}
 use Rattle.base.proofs.Lists.{find-passes}
 use Rattle.pmem.specs.Device.{Device}
 use Rattle.pmem.specs.Trace.{Runs, StopsWithin}

@@ -11,11 +11,12 @@ use Rattle.base.specs.declared.step.SessionStep.{SessionStep}
 use Rattle.base.specs.declared.step.SessionStep.TheVariants.{Begin, Get, Scan, Put, Delete, Draw, Stamp, Poll, Abort, End}
 use Rattle.base.specs.declared.step.SessionReply.{SessionReply}
 use Rattle.base.specs.declared.step.SessionReply.TheVariants.{Refused}
-use Rattle.base.specs.SessionSteps.{as_step, as_reply, SessionStepped}
-use Rattle.base.specs.Machine.{State, Answers, answered, refused, memory_refused, device_failed, refusal, operates}
-use Rattle.base.specs.Lives.{is_failure}
-use Rattle.base.proofs.Failures.{refusal-quiet, answer-quiet}
-use Rattle.base.proofs.Runs.{Answers-answer}
+use Rattle.base.specs.Steps.{as_step, as_reply}
+use Rattle.machine.specs.SessionSteps.{SessionStepped}
+use Rattle.machine.specs.Machine.{State, Answers, answered, refused, memory_refused, device_failed, refusal, operates}
+use Rattle.base.specs.Replies.{is_failure}
+use Rattle.machine.proofs.Failures.{refusal-quiet, answer-quiet}
+use Rattle.machine.proofs.Runs.{Answers-answer}
 use Rattle.pmem.specs.Device.{Device, IsOrderly}
 use Rattle.state_invariant.specs.Kept.{Origin}
 use Rattle.device_invariant.specs.Upholds.{Upholds}

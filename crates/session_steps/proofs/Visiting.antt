@@ -18,8 +18,9 @@ use Rattle.base.specs.Commits.{Writes, last_writer}
 use Rattle.base.specs.Layout.{Layout, slot_start, total_words}
 use Rattle.base.specs.Records.{is_in}
 use Rattle.base.specs.Images.{layout_of}
-use Rattle.base.specs.Machine.{State, Active as Reads, Drawn as PlainDrawn, Version, ByCommit, answered, device_failed, refusal, replaced, is_nil, session_numbers, StandsWithin}
-use Rattle.base.specs.Collecting.{is_garbage, is_at_slot, is_sweeping, held_after_visit, slot_visited, sweep_ended, visited, collected, replace, sees_replaced}
+use Rattle.base.specs.Lists.{replaced, is_nil}
+use Rattle.machine.specs.Machine.{State, Active as Reads, Drawn as PlainDrawn, Version, ByCommit, answered, device_failed, refusal, session_numbers, StandsWithin}
+use Rattle.machine.specs.Collecting.{is_garbage, is_at_slot, is_sweeping, held_after_visit, slot_visited, sweep_ended, visited, collected, replace, sees_replaced}
 use Rattle.base.proofs.Keys.{key_eq-true, key_eq-same}
 use Rattle.pmem.specs.Device.{Device, IsOrderly}
 use Rattle.pmem.specs.Trace.{Operation, store_op, flush_op, fence_op, after, Runs, StopsWithin}
@@ -30,13 +31,11 @@ use Rattle.snapshot.specs.Snapshots.{Seen, covers, seen_by}
 use Rattle.txn.specs.declared.transaction.Transaction.{Transaction}
 use Rattle.txn.specs.declared.transaction.Transaction.TheVariants.{Active, Drawn, ReadOnly}
 use Rattle.txn.specs.Transactions.{transaction_at}
-use Rattle.version_slot.specs.declared.words.Slot.{Slot as Content}
-use Rattle.version_slot.specs.Words.{IsSlot, slot_at}
+use Rattle.version_slot.specs.Words.{key_in, slot_at}
 use Rattle.pmem.proofs.Traces.{after-append}
 use Rattle.slot_alloc.specs.Free.{is_free}
 use Rattle.index.specs.declared.entry.Entry.{Entry}
 use Rattle.index.specs.Entries.{entry_at, forgotten, KeepsRoom}
-use Rattle.index.proofs.Slots.{no-slot}
 use Rattle.collector.specs.declared.rounds.Collector.{Collector}
 use Rattle.collector.specs.declared.visit.Visit.{Visit}
 use Rattle.collector.specs.declared.visit.Visit.TheVariants.{Slot, SweepEnd}
@@ -58,11 +57,11 @@ use Rattle.collect_simulation.proofs.Garbage.{ends-tell-garbage}
 use Rattle.session_steps.specs.declared.sessions.Sessions.{Sessions}
 use Rattle.session_steps.specs.Shows.{Hidden, plain_of, plain_session, HoldsSession, HoldsEntry, Agrees, ShowsAny}
 use Rattle.session_steps.specs.Steps.{is_by_actor, HoldsOn, ShowsSome}
-use Rattle.session_steps.specs.Collecting.{is_covered_in, all_cover, as_reply, CollectsTo, Collects, ForgetsAt, taken, bare, gone}
+use Rattle.session_steps.specs.Collecting.{is_covered_in, all_cover, as_reply, CollectsTo, Collects, ForgetsFreed, taken, known, gone}
 use Rattle.session_steps.proofs.Failing.{failed-agrees}
 use Rattle.session_steps.proofs.Freed.{agrees-freed, entry-left, entry-forgotten}
 use Rattle.session_steps.proofs.GivenBack.{given-same, given-other}
-use Rattle.session_steps.proofs.OpenedSlots.{read-key}
+use Rattle.session_steps.proofs.OpenedSlots.{key-read}
 use Rattle.session_steps.proofs.Reading.{laid-out, words-are}
 use Rattle.session_steps.proofs.Effects.{stopped-by, all-made, last-failed}
 use Rattle.session_steps.proofs.CodeTests.{same-drawers}
@@ -304,7 +303,7 @@ module _ (s : Sessions) (h : Hidden) (before now : Device) (holds : HoldsOn s h 
     -- the index
 
     module _ (collector : Collector) (went : collector ≡ record { place = place + 1; swept = s.collector.swept }) (slots : List Bool) (freed : slots ≡ cond covered (slice_set s.slots place true) s.slots) (index : List (Key × Entry))
-        (forgets : ForgetsAt a (value_of now) place slots s.index index) (room : KeepsRoom s.index index) where
+        (forgets : ForgetsFreed a (value_of now) place (is_free s.slots place) slots s.index index) (room : KeepsRoom s.index index) where
       abbrev new : Sessions
       new = record s { collector = collector; slots = slots; index = index }
 
@@ -335,19 +334,26 @@ module _ (s : Sessions) (h : Hidden) (before now : Device) (holds : HoldsOn s h 
       garbage-none : is_garbage q place ≡ true → held place ≡ None
       garbage-none is = ap (λ (b : Bool). cond b (replaced place None h.held) h.held place) is ∙ replaced-same place None h.held place refl
 
-      module _ (found : Content) (free : is_free slots place ≡ true) (read : IsSlot a (slot_at a place (value_of now)) found) where
-        found-key : (g : IsGarbage q place) → found.version.key ≡ g.key
-        found-key g = sym (read-key now a place size lt laid found read) ∙ (spelt g).1.at
+      nothing : (o : Option Version) → is_none o ≡ true → o ≡ None
+      nothing None is = refl
+      nothing (Some v) is = absurd (cc is)
+
+      -- a slot that was free before holds nothing
+      held-before : is_free s.slots place ≡ true → h.held place ≡ None
+      held-before free = nothing (h.held place) (sym (get_or_from_slice_get s.slots place (is_none (h.held place)) false (holds.agrees.free place lt)) ∙ free)
+
+      abbrev found : Key
+      found = key_in (slot_at a place (value_of now))
+
+      module _ (free : is_free slots place ≡ true) where
+        found-key : (g : IsGarbage q place) → found ≡ g.key
+        found-key g = sym (key-read now a place size lt laid) ∙ (spelt g).1.at
 
         held-none : is_garbage q place ≡ false → h.held place ≡ None
         held-none live = nothing (h.held place) (sym (ap (λ (o : Option Version). is_none o) (held-other place (λ same. live))) ∙ sym free-at ∙ free)
-          where
-            nothing : (o : Option Version) → is_none o ≡ true → o ≡ None
-            nothing None is = refl
-            nothing (Some v) is = absurd (cc is)
 
         -- the key of the version that is there
-        entry-found : (key : Key) → found.version.key ≡ key → HoldsEntry h.origin then key (forgotten place (entry_at s.index key))
+        entry-found : (key : Key) → found ≡ key → HoldsEntry h.origin then key (forgotten place (entry_at s.index key))
         entry-found key is = by (option_eq nat_eq (entry_at s.index key).newest (Some place)) refl (is_garbage q place) refl
           where
             by : (b : Bool) → option_eq nat_eq (entry_at s.index key).newest (Some place) ≡ b → (g : Bool) → is_garbage q place ≡ g
@@ -363,7 +369,7 @@ module _ (s : Sessions) (h : Hidden) (before now : Device) (holds : HoldsOn s h 
         same-key : (v w : Version) → Some v ≡ Some w → v.key ≡ w.key
         same-key v w e = cc e
 
-        entry-other : (key : Key) → (found.version.key ≡ key → ⊥) → HoldsEntry h.origin then key (entry_at s.index key)
+        entry-other : (key : Key) → (found ≡ key → ⊥) → HoldsEntry h.origin then key (entry_at s.index key)
         entry-other key apart = by (is_garbage q place) refl
           where
             by : (b : Bool) → is_garbage q place ≡ b → HoldsEntry h.origin then key (entry_at s.index key)
@@ -380,24 +386,20 @@ module _ (s : Sessions) (h : Hidden) (before now : Device) (holds : HoldsOn s h 
           at-index : index ≡ s.index → is_garbage q place ≡ false → HoldsEntry h.origin then key (entry_at index key)
           at-index same live = subst (λ (es : List (Key × Entry)). HoldsEntry h.origin then key (entry_at es key)) (sym same) (live-kept live key)
 
-          by : ForgetsAt a (value_of now) place slots s.index index → HoldsEntry h.origin then key (entry_at index key)
+          by : ForgetsFreed a (value_of now) place (is_free s.slots place) slots s.index index → HoldsEntry h.origin then key (entry_at index key)
           by (taken held_by same) = at-index same (live (is_garbage q place) refl)
             where
               live : (b : Bool) → is_garbage q place ≡ b → b ≡ false
               live false is = refl
               live true is = absurd (true≢false (sym (free-at ∙ ap (λ (o : Option Version). is_none o) (garbage-none is)) ∙ held_by))
-          by (bare none same) = at-index same (live (is_garbage q place) refl)
+          by (known free same) = at-index same (bare-live (held-before free))
+          by (gone was free sets) = subst (HoldsEntry h.origin then key) (sym (sets key)) (which (key_eq found key) refl)
             where
-              live : (b : Bool) → is_garbage q place ≡ b → b ≡ false
-              live false is = refl
-              live true is = absurd (no-slot now a place size lt laid orderly' none (spelt (garbage-is h.origin q place u.keeps is)).1.fits)
-          by (gone found free read sets) = subst (HoldsEntry h.origin then key) (sym (sets key)) (which (key_eq found.version.key key) refl)
-            where
-              which : (b : Bool) → key_eq found.version.key key ≡ b → HoldsEntry h.origin then key (cond b (forgotten place (entry_at s.index found.version.key)) (entry_at s.index key))
+              which : (b : Bool) → key_eq found key ≡ b → HoldsEntry h.origin then key (cond b (forgotten place (entry_at s.index found)) (entry_at s.index key))
               which true is =
-                  let same : found.version.key ≡ key = key_eq-true found.version.key key is in
-                  subst (λ (k : Key). HoldsEntry h.origin then key (forgotten place (entry_at s.index k))) (sym same) (entry-found found free read key same)
-              which false is = entry-other found free read key (λ same. true≢false (sym (ap (key_eq found.version.key) (sym same) ∙ key_eq-same found.version.key) ∙ is))
+                  let same : found ≡ key = key_eq-true found key is in
+                  subst (λ (k : Key). HoldsEntry h.origin then key (forgotten place (entry_at s.index k))) (sym same) (entry-found free key same)
+              which false is = entry-other free key (λ same. true≢false (sym (ap (key_eq found) (sym same) ∙ key_eq-same found) ∙ is))
 
       pub collects-slot : (q' : State) × CollectsTo s new before now (Ok (Slot place)) q q'
       collects-slot =
@@ -408,11 +410,11 @@ module _ (s : Sessions) (h : Hidden) (before now : Device) (holds : HoldsOn s h 
           (λ slot below. ap (λ (xs : List Bool). slice_get xs slot) freed ∙ free-then slot below) (ap (λ (xs : List Bool). length xs) freed ∙ counted-then covered) room entries)
 
   -- by what the code has of it
-  pub collects-at : (slot : ℕ) (ruling : Seen) (collector : Collector) (slots : List Bool) (index : List (Key × Entry)) → ruling ≡ seen_by s.numbers.record
+  pub collects-at : (slot : ℕ) (ruling : Seen) (collector : Collector) (was_free : Bool) (slots : List Bool) (index : List (Key × Entry)) → ruling ≡ seen_by s.numbers.record
       → Slot slot ≡ visit_at a place → collector ≡ moved_on a s.collector → slots ≡ freed_at a place (all_cover ruling s.transactions) (value_of before) s.slots → Runs ops before now
-      → ForgetsAt a (value_of now) slot slots s.index index → KeepsRoom s.index index
+      → was_free ≡ is_free s.slots place → ForgetsFreed a (value_of now) slot was_free slots s.index index → KeepsRoom s.index index
       → (q' : State) × CollectsTo s (record s { collector = collector; slots = slots; index = index }) before now (Ok (Slot slot)) q q'
-  collects-at slot ruling collector slots index ruled visit moved freed run forgets room = by (nat_lt place a.slots) refl
+  collects-at slot ruling collector was_free slots index ruled visit moved freed run was forgets room = by (nat_lt place a.slots) refl
     where
       by : (b : Bool) → nat_lt place a.slots ≡ b → (q' : State) × CollectsTo s (record s { collector = collector; slots = slots; index = index }) before now (Ok (Slot slot)) q q'
       by false at = let same : Slot slot ≡ SweepEnd = visit ∙ ap (λ (b : Bool). cond b (Slot place) SweepEnd) at in absurd (cc same)
@@ -421,7 +423,8 @@ module _ (s : Sessions) (h : Hidden) (before now : Device) (holds : HoldsOn s h 
           let is : slot ≡ place = cc same in
           let c : collector ≡ record { place = place + 1; swept = s.collector.swept } = moved ∙ ap (λ (b : Bool). cond b (let c : Collector = record { place = place + 1; swept = s.collector.swept } in c) (record { place = 0; swept = true })) at in
           let f : slots ≡ cond (all_cover ruling s.transactions (value_of before (slot_start a place + 1))) (slice_set s.slots place true) s.slots = freed ∙ ap (λ (b : Bool). cond b (cond (all_cover ruling s.transactions (value_of before (slot_start a place + 1))) (slice_set s.slots place true) s.slots) s.slots) at in
-          let collects = collects-slot (ltb-true place a.slots at) at ruling ruled run collector c slots f index (subst (λ (k : ℕ). ForgetsAt a (value_of now) k slots s.index index) is forgets) room in
+          let collects = collects-slot (ltb-true place a.slots at) at ruling ruled run collector c slots f index
+          (subst (λ (k : ℕ). ForgetsFreed a (value_of now) k (is_free s.slots place) slots s.index index) is (subst (λ (b : Bool). ForgetsFreed a (value_of now) slot b slots s.index index) was forgets)) room in
           subst (λ (k : ℕ). (q' : State) × CollectsTo s (record s { collector = collector; slots = slots; index = index }) before now (Ok (Slot k)) q q') (sym is) collects
 
 -- what is so of every hidden part is so of every state that is shown
@@ -439,6 +442,11 @@ shown-any s device some = (some.0, some.1)
 
 pub counted-shown : (s : Sessions) (device : Device) → ShowsSome s device → length s.slots ≡ s.numbers.geometry.slots
 counted-shown s device some = let agrees = subst (λ (p : State). Agrees s some.1.hidden.origin some.1.hidden.seen p) some.1.plain some.1.agrees in agrees.counted
+
+-- the operations of a visit don't ask for the gaps once these are swept
+pub same-operations : (a : Layout) (given gaps : List Gap) (swept : Bool) (spot : ℕ) (value : ℕ → ℕ) → (swept ≡ false → given ≡ gaps) → tick_operations a given swept spot value ≡ tick_operations a gaps swept spot value
+same-operations a given gaps true spot value are = refl
+same-operations a given gaps false spot value are = ap (λ (gaps : List Gap). tick_operations a gaps false spot value) (are refl)
 
 -- the operations of a visit keep the device's size
 pub words-kept : (a : Layout) (gaps : List Gap) (swept : Bool) (place : ℕ) (before now : Device) → Runs (tick_operations a gaps swept place (value_of before)) before now → now.words ≡ before.words

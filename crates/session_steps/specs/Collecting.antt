@@ -8,14 +8,13 @@ use Rattle.base.specs.declared.fault.Fault.{Fault}
 use Rattle.base.specs.declared.step.Step.TheVariants.{Collect}
 use Rattle.base.specs.declared.step.Reply.{Reply}
 use Rattle.base.specs.declared.step.Reply.TheVariants.{Visited, SweepEnd as SweepEnded, Refused}
-use Rattle.base.specs.Machine.{State, Stepped, session_numbers, most_operations, StandsWithin}
+use Rattle.machine.specs.Machine.{State, Stepped, session_numbers, most_operations, StandsWithin}
 use Rattle.pmem.specs.Device.{Device}
 use Rattle.snapshot.specs.Snapshots.{Seen, covers}
 use Rattle.txn.specs.declared.transaction.Transaction.{Transaction}
 use Rattle.txn.specs.declared.transaction.Transaction.TheVariants.{Active, Drawn, ReadOnly}
 use Rattle.txn.specs.Transactions.{transaction_at}
-use Rattle.version_slot.specs.declared.words.Slot.{Slot as Content}
-use Rattle.version_slot.specs.Words.{IsSlot, slot_at}
+use Rattle.version_slot.specs.Words.{key_in, slot_at}
 use Rattle.slot_alloc.specs.Free.{is_free}
 use Rattle.index.specs.declared.entry.Entry.{Entry}
 use Rattle.index.specs.Entries.{entry_at, forgotten, Sets}
@@ -63,9 +62,9 @@ Collects old new before now result = (q : State) → Shows old before q → q.fa
 
 -- ---- the index
 
--- What is done once a slot was visited: nothing where it is taken, or has no version; else this version is forgotten
-pub data ForgetsAt (a : Layout) (value : ℕ → ℕ) (slot : ℕ) (free : List Bool) (old new : List (Key × Entry)) : Type 0 where
-  taken : is_free free slot ≡ false → new ≡ old → ForgetsAt a value slot free old new
-  bare : ((found : Content) → IsSlot a (slot_at a slot value) found → ⊥) → new ≡ old → ForgetsAt a value slot free old new
-  gone : (found : Content) → is_free free slot ≡ true → IsSlot a (slot_at a slot value) found
-      → Sets old new found.version.key (forgotten slot (entry_at old found.version.key)) → ForgetsAt a value slot free old new
+-- What is done once a slot was visited: nothing where it is taken, or was free before; else the version in it is forgotten
+pub data ForgetsFreed (a : Layout) (value : ℕ → ℕ) (slot : ℕ) (was_free : Bool) (free : List Bool) (old new : List (Key × Entry)) : Type 0 where
+  taken : is_free free slot ≡ false → new ≡ old → ForgetsFreed a value slot was_free free old new
+  known : was_free ≡ true → new ≡ old → ForgetsFreed a value slot was_free free old new
+  gone : was_free ≡ false → is_free free slot ≡ true
+      → Sets old new (key_in (slot_at a slot value)) (forgotten slot (entry_at old (key_in (slot_at a slot value)))) → ForgetsFreed a value slot was_free free old new

@@ -3,7 +3,7 @@ use Rattle.std.specs.Prelude.{◌≡◌, true, not, List, filter, ◌++◌, fold
 use Rattle.base.specs.declared.key.Key.{Key}
 use Rattle.base.specs.Keys.{key_eq}
 use Rattle.base.specs.Records.{Record, is_committed}
-use Rattle.base.specs.Machine.{State, Hand, state_covered}
+use Rattle.machine.specs.Machine.{State, Hand, state_covered}
 use Rattle.pmem.specs.Device.{Device}
 use Rattle.txn.specs.declared.drawn.DrawnCommit.{DrawnCommit}
 use Rattle.txn.specs.declared.write.Write.{Write}

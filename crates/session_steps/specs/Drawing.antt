@@ -3,8 +3,7 @@ use Rattle.std.specs.Prelude.{◌≡◌, ℕ, ◌+◌, ◌/◌, Bool, false, ◌
 use Rattle.std.specs.List.{list_all, range_with_len}
 use Rattle.std.specs.Option.{option_map_or}
 use Rattle.base.specs.declared.key.Key.{Key}
-use Rattle.base.specs.Layout.{Layout, slot_start}
-use Rattle.base.specs.Machine.{version_lines}
+use Rattle.base.specs.Layout.{Layout, slot_start, version_lines}
 use Rattle.snapshot.specs.Snapshots.{Seen}
 use Rattle.txn.specs.declared.write.Write.{Write}
 use Rattle.dirty_table.specs.Touches.{Table, Touches, promised_to}

@@ -2,7 +2,7 @@
 -- function promises it.
 use Rattle.std.specs.Prelude.{◌≡◌, ℕ, Bool, ◌&&◌, nat_eq, List, map, filter, Option, IsTrue}
 use Rattle.std.specs.List.{list_any}
-use Rattle.base.specs.Machine.{State, Hand, drawn_of}
+use Rattle.machine.specs.Machine.{State, Hand, drawn_of}
 use Rattle.base.specs.Records.{are_rising}
 use Rattle.pmem.specs.Device.{Device}
 use Rattle.device_invariant.specs.Upholds.{Upholds}

@@ -4,7 +4,7 @@ use Rattle.base.specs.declared.key.Key.{Key}
 use Rattle.base.specs.Layout.{Layout}
 use Rattle.base.specs.Records.{Record}
 use Rattle.base.specs.Images.{Image, key_of, is_misfit}
-use Rattle.base.specs.Machine.{State}
+use Rattle.machine.specs.Machine.{State}
 use Rattle.pmem.specs.Device.{Device}
 use Rattle.index.specs.declared.entry.Entry.{Entry}
 use Rattle.index.specs.Entries.{blank, entry_at}

@@ -4,7 +4,7 @@ use Rattle.std.specs.List.{list_any}
 use Rattle.std.specs.Option.{option_map}
 use Rattle.base.specs.declared.key.Key.{Key}
 use Rattle.base.specs.Commits.{Commit, writes_key}
-use Rattle.base.specs.Machine.{State, Session, Active as Reads, Drew, WroteNothing, Drawn as PlainDrawn, Hand, Version, Writer, BySession, ByCommit, drawn_at}
+use Rattle.machine.specs.Machine.{State, Session, Active as Reads, Drew, WroteNothing, Drawn as PlainDrawn, Hand, Version, Writer, BySession, ByCommit, drawn_at}
 use Rattle.pmem.specs.Device.{Device}
 use Rattle.txn.specs.declared.drawn.DrawnCommit.{DrawnCommit}
 use Rattle.txn.specs.declared.transaction.Transaction.{Transaction}

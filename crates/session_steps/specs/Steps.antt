@@ -6,9 +6,10 @@ use Rattle.base.specs.declared.fault.Fault.TheVariants.{Device as DeviceFault, N
 use Rattle.base.specs.declared.step.SessionStep.{SessionStep}
 use Rattle.base.specs.declared.step.SessionReply.{SessionReply}
 use Rattle.base.specs.declared.step.SessionReply.TheVariants.{Refused}
-use Rattle.base.specs.Machine.{State, session_of, most_operations, StandsWithin}
+use Rattle.machine.specs.Machine.{State, session_of, most_operations, StandsWithin}
 use Rattle.base.specs.Images.{Image}
-use Rattle.base.specs.SessionSteps.{as_step, SessionStepped}
+use Rattle.base.specs.Steps.{as_step}
+use Rattle.machine.specs.SessionSteps.{SessionStepped}
 use Rattle.pmem.specs.Device.{Device}
 use Rattle.pmem.specs.Trace.{Operation, store_op, flush_op, fence_op, failure, after}
 use Rattle.pmem.specs.Words.{LeavesOnly, operations_of}

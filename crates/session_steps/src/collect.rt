@@ -2,24 +2,26 @@ ghost use Rattle.std.specs.Prelude.{◌≡◌, ◌<◌};
 ghost use Rattle.base.specs.Layout.{total_words};
 ghost use Rattle.index.specs.Entries.{KeepsRoom};
 ghost use Rattle.pmem.specs.Words.{value_of};
-ghost use Rattle.session_steps.specs.Collecting.{all_cover, each_covers, ForgetsAt};
+ghost use Rattle.snapshot.specs.Snapshots.{seen_by};
+ghost use Rattle.session_steps.specs.Collecting.{all_cover, each_covers, ForgetsFreed};
 
+use crate::numbers::Numbers;
 use crate::sessions::Sessions;
 use base::fault::Fault;
 use base::geometry::Geometry;
 use base::{SlotNo, Ts};
 use collector::{Readers, Visit};
+use gap_list::GapList;
 use index::Index;
 use pmem::Pmem;
 use slot_alloc::SlotAlloc;
-use snapshot::Snapshot;
 use txn::{Transaction, Transactions};
-use version_slot::read;
+use version_slot::key;
 
 // All who may still read a version: at the ruling record, and at the snapshot of each Active session.
 #[derive(Drop)]
 struct SnapshotsInUse<'a> {
-    ruling: Snapshot,
+    numbers: &'a Numbers,
     transactions: &'a Transactions,
 }
 
@@ -40,16 +42,17 @@ impl<'a> SnapshotsInUse<'a> {
 }
 
 impl<'a> Readers for SnapshotsInUse<'a> {
-    ghost covered = { λ readers ts. all_cover readers.ruling readers.transactions.now ts };
+    ghost covered = { λ readers ts. all_cover (seen_by readers.numbers.now.record) readers.transactions.now ts };
 
     fn cover(&self, ts: Ts) -> bool {
-        self.ruling.covers(ts) && self.each_covers(ts)
+        self.numbers.record.commits(ts) && self.each_covers(ts)
     }
 }
 
-// The index forgets the version in a slot that was visited, if the slot is free.
-fn forget_at<D: Pmem>(
+// The index forgets the version in a slot that was visited, if the visit freed it: no entry names a slot that was free before.
+fn forget_freed<D: Pmem>(
     index: &mut Index,
+    was_free: bool,
     slots: &SlotAlloc,
     device: &D,
     geometry: Geometry,
@@ -57,18 +60,17 @@ fn forget_at<D: Pmem>(
 )
     requires slot { slot < geometry.slots }
     requires device { (D.state device.now).words ≡ total_words geometry }
-    ensures forgets { ForgetsAt geometry (value_of (D.state device.now)) slot slots.now index.old index.new }
+    ensures forgets { ForgetsFreed geometry (value_of (D.state device.now)) slot was_free slots.now index.old index.new }
     ensures room { KeepsRoom index.old index.new }
 {
-    if slots.is_free(slot) {
-        if let Some(found) = read(device, geometry, slot) {
-            index.forget(found.version.key, slot);
-        }
+    if !was_free && slots.is_free(slot) {
+        index.forget(key(device, geometry, slot), slot);
     }
 }
 
 impl Sessions {
-    ghost use Rattle.std.specs.Prelude.{IfErr};
+    ghost use Rattle.std.specs.Prelude.{false, IsTrue, IfErr};
+    ghost use Rattle.gap_list.specs.GapLists.{is_gap_list};
     ghost use Rattle.session_steps.specs.Steps.{ShowsSome};
     ghost use Rattle.session_steps.specs.Collecting.{Collects};
 
@@ -79,26 +81,47 @@ impl Sessions {
         self.collector.has_swept()
     }
 
+    // The gaps that the ruling record names, until they are swept: no visit asks for them then.
+    fn gaps_to_sweep(&self) -> GapList
+        requires { IsTrue (is_gap_list self.now.numbers.record.gaps) }
+        ensures { self.now.collector.swept ≡ false → result ≡ self.now.numbers.record.gaps }
+    {
+        if self.collector.has_swept() {
+            GapList::none()
+        } else {
+            GapList::of(self.numbers.record.gaps())
+        }
+    }
+
     /// One visit of the collector, on the device on which the sessions show a plain state. It frees the slot of its place
     /// where nobody reads the version any more, and sweeps it where that is due. It takes no memory, and looks at the
     /// snapshots of the open sessions alone. A crash within it leaves the history that was.
+    #[inline(always)]
     pub fn collect<D: Pmem>(&mut self, device: &mut D) -> Result<Visit, Fault>
         requires shown { ∥ ShowsSome self.old (D.state device.old) ∥₁ }
         ensures step { Collects self.old self.new (D.state device.old) (D.state device.new) result }
         ensures fault { IfErr result (λ fault. fault ≡ Fault.Device) }
     {
         let geometry = self.numbers.geometry;
-        let ruling = self.numbers.snapshot();
+        let gaps = self.gaps_to_sweep();
+        let was_free = self.slots.is_free(self.collector.place());
         let readers = SnapshotsInUse {
-            ruling,
+            numbers: &self.numbers,
             transactions: &self.transactions,
         };
         match self
             .collector
-            .tick(device, geometry, ruling.gaps(), &mut self.slots, &readers)
+            .tick(device, geometry, gaps, &mut self.slots, &readers)
         {
             Ok(Visit::Slot(slot)) => {
-                forget_at(&mut self.index, &self.slots, device, geometry, slot);
+                forget_freed(
+                    &mut self.index,
+                    was_free,
+                    &self.slots,
+                    device,
+                    geometry,
+                    slot,
+                );
                 Ok(Visit::Slot(slot))
             }
             Ok(Visit::SweepEnd) => Ok(Visit::SweepEnd),

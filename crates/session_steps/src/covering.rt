@@ -16,7 +16,7 @@ fn cover_writes(index: &mut Index, writes: &WriteSet)
     ensures { CoversWrites writes.now index.old index.new }
 {
     for write in writes.as_slice() {
-        index.cover(write.key, write.slot);
+        index.cover(write.key, write.place, write.slot);
     }
 }
 

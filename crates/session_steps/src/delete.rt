@@ -31,6 +31,7 @@ impl Sessions {
             key,
             row: None,
             slot: None,
+            place: self.index.place(key),
         };
         self.transactions.write(session, deletion);
         SessionReply::Done

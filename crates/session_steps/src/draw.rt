@@ -96,7 +96,7 @@ fn conflict(index: &Index, snapshot: &Snapshot, writes: &WriteSet) -> Option<Key
     ensures { result ≡ conflict_in index.now snapshot.now writes.now }
 {
     for write in writes.as_slice() {
-        if let Some(timestamp) = index.entry(write.key).last {
+        if let Some(timestamp) = index.entry(write.key, write.place).last {
             if !snapshot.covers(timestamp) {
                 return Some(write.key);
             }
@@ -113,7 +113,7 @@ fn reserve_keys(index: &mut Index, writes: &WriteSet) -> Result<(), Fault>
     ensures fault { IfErr result (λ fault. fault ≡ OutOfMemory) }
 {
     for write in writes.as_slice() {
-        match index.reserve(write.key) {
+        match index.reserve(write.key, write.place) {
             Ok(()) => {}
             Err(fault) => return Err(fault),
         }
@@ -128,6 +128,6 @@ fn note_draws(index: &mut Index, writes: &WriteSet, timestamp: Ts)
     ensures rooms { KeepsRoom index.old index.new }
 {
     for write in writes.as_slice() {
-        index.draw(write.key, write.slot, timestamp);
+        index.draw(write.key, write.place, write.slot, timestamp);
     }
 }

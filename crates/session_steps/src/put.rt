@@ -73,14 +73,16 @@ impl Sessions {
         ensures link { result ≡ Done → IsVersion self.old.numbers.geometry (slot_at self.old.numbers.geometry slot (value_of (D.state device.new)))
             (record { key = key; row = row; previous = head_of (entry_at self.old.index key) }) }
     {
+        let place = self.index.place(key);
         let version = Version {
             key,
             row,
-            previous: self.index.link(key),
+            previous: self.index.link(key, place),
         };
         match fill(device, self.numbers.geometry, slot, &version) {
             Ok(()) => {
-                self.transactions.write(session, row_write(key, row, slot));
+                self.transactions
+                    .write(session, row_write(key, row, slot, place));
                 SessionReply::Done
             }
             Err(fault) => SessionReply::Refused(fault),
@@ -131,10 +133,11 @@ impl Sessions {
             (record { key = key; row = row; previous = head_of (entry_at self.old.index key) }) }
     {
         let geometry = self.numbers.geometry;
+        let place = self.index.place(key);
         let version = Version {
             key,
             row,
-            previous: self.index.link(key),
+            previous: self.index.link(key, place),
         };
         let slot = match self.slots.take(device, geometry, Actor::session(session)) {
             Ok(slot) => slot,
@@ -142,7 +145,8 @@ impl Sessions {
         };
         match fill(device, geometry, slot, &version) {
             Ok(()) => {
-                self.transactions.write(session, row_write(key, row, slot));
+                self.transactions
+                    .write(session, row_write(key, row, slot, place));
                 SessionReply::Done
             }
             Err(fault) => {
@@ -154,12 +158,13 @@ impl Sessions {
 }
 
 // The write of a row that lies in the slot.
-fn row_write(key: Key, row: Row, slot: SlotNo) -> Write
-    ensures { result ≡ record { key = key; row = Some row; slot = Some slot } }
+fn row_write(key: Key, row: Row, slot: SlotNo, place: Option<usize>) -> Write
+    ensures { result ≡ record { key = key; row = Some row; slot = Some slot; place = place } }
 {
     Write {
         key,
         row: Some(row),
         slot: Some(slot),
+        place,
     }
 }

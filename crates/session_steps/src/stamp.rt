@@ -59,7 +59,7 @@ impl Sessions {
             Err(fault) => return SessionReply::Refused(fault),
         };
         let geometry = self.numbers.geometry;
-        let ended = self.index.live(next.write.key);
+        let ended = self.index.live(next.write.key, next.write.place);
         match stamp_write(device, geometry, next.write.slot, ended, next.timestamp) {
             Ok(()) => {
                 self.drawn.stamp(next.timestamp);

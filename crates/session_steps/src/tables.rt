@@ -9,7 +9,7 @@ use std::alloc::Global;
 impl Sessions {
     ghost use Rattle.std.specs.Prelude.{◌≡◌, IfOk, IfErr};
     ghost use Rattle.base.specs.Commits.{after, Lists};
-    ghost use Rattle.base.specs.Machine.{State};
+    ghost use Rattle.machine.specs.Machine.{State};
     ghost use Rattle.base.specs.declared.fault.Fault.TheVariants.{OutOfMemory};
     ghost use Rattle.session_steps.specs.Shows.{Shows, ShowsAny};
 

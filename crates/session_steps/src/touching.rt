@@ -26,7 +26,7 @@ pub fn touch_lines(
 {
     for write in writes.as_slice() {
         touch_own(dirty, session, geometry, write.slot);
-        touch_ended(dirty, session, geometry, index.live(write.key));
+        touch_ended(dirty, session, geometry, index.live(write.key, write.place));
     }
 }
 

@@ -9,7 +9,7 @@ use Rattle.base.specs.Layout.{most_longs}
 use Rattle.base.specs.declared.gap.Gap.{Gap}
 use Rattle.base.specs.Records.{Record, is_committed, is_in, is_well_formed, are_rising}
 use Rattle.base.specs.Stands.{has_timestamp}
-use Rattle.base.specs.Machine.{State, Drawn, drawn_at, drawn_of, is_stamped, may_be_covered, unstamped_below, is_chosen, is_passed, chosen, reach, passed_over, standing_gaps, target_of, taken_in_hand}
+use Rattle.machine.specs.Machine.{State, Drawn, drawn_at, drawn_of, is_stamped, may_be_covered, unstamped_below, is_chosen, is_passed, chosen, reach, passed_over, standing_gaps, target_of, taken_in_hand}
 use Rattle.state_invariant.specs.Kept.{Origin, KeepsHand, Keeps, commit_at, commits_of_life, covered_since}
 use Rattle.state_invariant.proofs.Lookups.{find-all}
 use Rattle.state_invariant.proofs.Lists.{all-map, find-map, rising-above, rising-filter}

@@ -6,8 +6,9 @@ use Rattle.base.specs.declared.gap.Gap.{Gap}
 use Rattle.base.specs.declared.key.Key.{Key}
 use Rattle.base.specs.Commits.{Commit, last_writer}
 use Rattle.base.specs.Records.{is_committed}
-use Rattle.base.specs.Machine.{State, Drawn, Hand, Version, BySession, ByCommit, drawn_at, replaced}
-use Rattle.base.specs.Collecting.{is_garbage, is_at_slot, held_after_visit, slot_visited, sweep_ended, visited}
+use Rattle.base.specs.Lists.{replaced}
+use Rattle.machine.specs.Machine.{State, Drawn, Hand, Version, BySession, ByCommit, drawn_at}
+use Rattle.machine.specs.Collecting.{is_garbage, is_at_slot, held_after_visit, slot_visited, sweep_ended, visited}
 use Rattle.state_invariant.specs.Kept.{Origin, KeepsHand, Keeps, IsInUse, HasSlot, version_by, last_of}
 use Rattle.state_invariant.specs.Shown.{word_of, IsNever, is_drawn_on, Class, Free, Waiting, Begun, Newest, Replaced, class_of, class_of_version, ShowsAs, SlotShows, SlotsShow}
 use Rattle.state_invariant.proofs.Lookups.{replaced-same, replaced-other}

@@ -12,7 +12,8 @@ use Rattle.base.specs.Keys.{lookup_key, key_eq, is_rising}
 use Rattle.base.specs.Commits.{Writes, Commit, writes_key, last_writer}
 use Rattle.base.specs.Records.{is_committed, are_rising}
 use Rattle.base.specs.Stands.{has_timestamp}
-use Rattle.base.specs.Machine.{State, Session, Active, Drew, WroteNothing, Drawn, Hand, Version, Writer, BySession, ByCommit, drawn_at, drawn_of, writes_of, begun_of, is_by, by_commit, state_drawn, next_state, refusal, unseen_by, conflict_of, is_nil}
+use Rattle.base.specs.Lists.{is_nil}
+use Rattle.machine.specs.Machine.{State, Session, Active, Drew, WroteNothing, Drawn, Hand, Version, Writer, BySession, ByCommit, drawn_at, drawn_of, writes_of, begun_of, is_by, by_commit, state_drawn, next_state, refusal, unseen_by, conflict_of}
 use Rattle.base.proofs.Keys.{key_eq-true}
 use Rattle.base.proofs.Lists.{all-drop}
 use Rattle.base.proofs.Options.{option_or-none}

@@ -7,7 +7,7 @@ use Rattle.std.proofs.lemmas.List.Sums.{fold-append}
 use Rattle.base.specs.declared.key.Key.{Key}
 use Rattle.base.specs.Commits.{Commit, writes_key}
 use Rattle.base.specs.Stands.{has_timestamp}
-use Rattle.base.specs.Machine.{State, Session, Active, Drew, WroteNothing, Drawn, Hand, Version, ByCommit, drawn_at, begun_of, state_covered}
+use Rattle.machine.specs.Machine.{State, Session, Active, Drew, WroteNothing, Drawn, Hand, Version, ByCommit, drawn_at, begun_of, state_covered}
 use Rattle.state_invariant.specs.Kept.{Origin, KeepsHand, Keeps, row_in, version_by}
 use Rattle.state_invariant.specs.Links.{last_row, IsFreeToDraw, ComesAfter, by_session, by_draw, by_commit, Links}
 use Rattle.state_invariant.proofs.Log.{found-place}

@@ -8,7 +8,7 @@ use Rattle.base.specs.declared.key.Key.{Key}
 use Rattle.base.specs.Keys.{lookup_key}
 use Rattle.base.specs.Commits.{Commit, Writes, writes_key}
 use Rattle.base.specs.Records.{is_committed}
-use Rattle.base.specs.Machine.{State, Drew, Drawn, Version, BySession, ByCommit, drawn_at, drawn_of, begun_of, writes_of, state_drawn, unseen_by, conflict_of}
+use Rattle.machine.specs.Machine.{State, Drew, Drawn, Version, BySession, ByCommit, drawn_at, drawn_of, begun_of, writes_of, state_drawn, unseen_by, conflict_of}
 use Rattle.base.proofs.Lists.{all-take}
 use Rattle.state_invariant.specs.Kept.{Origin, Keeps, version_by}
 use Rattle.state_invariant.specs.Links.{last_row, IsFreeToDraw, ComesAfter, by_session, by_draw, by_commit, LinksTo, Links}

@@ -7,7 +7,8 @@ use Rattle.base.specs.declared.key.Key.{Key}
 use Rattle.base.specs.declared.step.Step.TheVariants.{Put}
 use Rattle.base.specs.Commits.{Commit, with_write}
 use Rattle.base.specs.Layout.{Layout}
-use Rattle.base.specs.Machine.{State, Active, Drawn, Version, BySession, ByCommit, drawn_at, begun_of, writes_of, replaced, own_slot, free_slot, held_with, held_at, held_after_put, next_state, refusal}
+use Rattle.base.specs.Lists.{replaced}
+use Rattle.machine.specs.Machine.{State, Active, Drawn, Version, BySession, ByCommit, drawn_at, begun_of, writes_of, own_slot, free_slot, held_with, held_at, held_after_put, next_state, refusal}
 use Rattle.state_invariant.specs.Kept.{Origin, Keeps, version_by}
 use Rattle.state_invariant.specs.Links.{last_row, IsFreeToDraw, ComesAfter, by_session, by_draw, by_commit, LinksTo, Links, NamesNewest, SameRows}
 use Rattle.state_invariant.specs.Shown.{SameWords, StoresPut, StopsPut}

@@ -9,9 +9,10 @@ use Rattle.base.specs.declared.step.Step.TheVariants.{Begin, Get, Scan, Put, Del
 use Rattle.base.specs.declared.step.Stage.{Stage}
 use Rattle.base.specs.Keys.{lookup_key}
 use Rattle.base.specs.Commits.{Commit, Writes, with_write}
-use Rattle.base.specs.Machine.{State, Session, Active, WroteNothing, Drawn, Hand, Version, BySession, drawn_at, begun_of, writes_of, replaced, is_own_at, is_held_by, free_session, state_drawn, counted, timestamp_of, held_after_delete, held_after_abort, state_ticked, state_ticked_on, next_stage, taken_in_hand, is_idle, next_state, refusal, refused, answered, memory_refused, device_failed}
-use Rattle.base.specs.Collecting.{is_at_slot, held_after_visit, slot_visited, sweep_ended}
-use Rattle.base.proofs.Counted.{counted-commit}
+use Rattle.base.specs.Lists.{replaced}
+use Rattle.machine.specs.Machine.{State, Session, Active, WroteNothing, Drawn, Hand, Version, BySession, drawn_at, begun_of, writes_of, is_own_at, is_held_by, free_session, state_drawn, counted, timestamp_of, held_after_delete, held_after_abort, state_ticked, state_ticked_on, next_stage, taken_in_hand, is_idle, next_state, refusal, refused, answered, memory_refused, device_failed}
+use Rattle.machine.specs.Collecting.{is_at_slot, held_after_visit, slot_visited, sweep_ended}
+use Rattle.machine.proofs.Counted.{counted-commit}
 use Rattle.state_invariant.specs.Kept.{Origin, Keeps, row_in, version_by}
 use Rattle.state_invariant.specs.Links.{Links}
 use Rattle.state_invariant.specs.Laws.{fills, StepsLink, CoveringLinks}

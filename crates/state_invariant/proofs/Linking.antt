@@ -5,7 +5,7 @@ use Rattle.std.proofs.lemmas.Option.{slice_get_within}
 use Rattle.base.specs.declared.key.Key.{Key}
 use Rattle.base.specs.Commits.{Commit, writes_key}
 use Rattle.base.specs.Layout.{Layout}
-use Rattle.base.specs.Machine.{State, Session, Drawn, Version, BySession, ByCommit, drawn_at, begun_of, writes_of}
+use Rattle.machine.specs.Machine.{State, Session, Drawn, Version, BySession, ByCommit, drawn_at, begun_of, writes_of}
 use Rattle.state_invariant.specs.Kept.{Origin, Keeps, version_by, row_in, origin_of}
 use Rattle.state_invariant.specs.Links.{last_row, ComesAfter, by_session, by_draw, by_commit, LinksTo, Links, SameRows}
 use Rattle.state_invariant.specs.Laws.{OpenedLinks, StoresLink}

@@ -14,11 +14,11 @@ use Rattle.base.specs.Records.{Record, is_in, is_committed, opened_gaps}
 use Rattle.base.specs.Images.{Image, layout_of, key_of, row_of, begin_of, end_of, is_shown, is_ahead, is_misfit, is_second, ruling, is_bad_slot, opening_fault}
 use Rattle.base.specs.Search.{first_below}
 use Rattle.base.specs.Stands.{Stands}
-use Rattle.base.specs.Openings.{IsOpenedGaps, IsUpToDate, OpensAs, opening_record, opened_under, held_under, gaps_kept, opened_slots}
-use Rattle.base.specs.Machine.{State, Version, ByCommit}
+use Rattle.machine.specs.Openings.{IsOpenedGaps, IsUpToDate, OpensAs, opening_record, opened_under, held_under, gaps_kept, opened_slots}
+use Rattle.machine.specs.Machine.{State, Version, ByCommit}
 use Rattle.base.proofs.WellFormed.{well_formed-parts}
-use Rattle.base.proofs.OpenedRecords.{same-committed, formed-over}
-use Rattle.base.proofs.Opened.{IsOpening, ruled_before, opening-of, same_opened}
+use Rattle.machine.proofs.OpenedRecords.{same-committed, formed-over}
+use Rattle.machine.proofs.Opened.{IsOpening, ruled_before, opening-of, same_opened}
 use Rattle.base.proofs.Keys.{key_eq-same}
 use Rattle.base.proofs.Options.{is_some-none}
 use Rattle.base.proofs.Search.{first_below-none}

@@ -5,7 +5,8 @@ use Rattle.base.specs.declared.key.Key.{Key}
 use Rattle.base.specs.Keys.{key_eq, key_lt, lookup_key, is_rising}
 use Rattle.base.specs.Commits.{Writes, with_write}
 use Rattle.base.specs.Stands.{has_timestamp}
-use Rattle.base.specs.Machine.{State, Session, Active, Drew, Drawn, Version, Writer, BySession, ByCommit, drawn_at, writes_of, replaced, with_session}
+use Rattle.base.specs.Lists.{replaced}
+use Rattle.machine.specs.Machine.{State, Session, Active, Drew, Drawn, Version, Writer, BySession, ByCommit, drawn_at, writes_of, with_session}
 use Rattle.base.proofs.Keys.{key_eq-true, key_lt-swap}
 use Rattle.state_invariant.specs.Kept.{Origin, IsSessionNumber, KeepsNumbers, DrawsInOrder, Owns, Keeps, IsInUse, wanted, row_in, version_by}
 use Rattle.state_invariant.proofs.Lookups.{replaced-same, replaced-other}

@@ -9,8 +9,8 @@ use Rattle.base.specs.Keys.{lookup_key, is_rising}
 use Rattle.base.specs.Commits.{Commit, writes_key}
 use Rattle.base.specs.Records.{is_committed, are_rising}
 use Rattle.base.specs.Stands.{has_timestamp}
-use Rattle.base.specs.Machine.{State, Drew, Drawn, Hand, Version, Writer, BySession, ByCommit, drawn_at, drawn_of, timestamp_of, counted, is_stamped, next_state, refusal}
-use Rattle.base.proofs.Counted.{counted-commit}
+use Rattle.machine.specs.Machine.{State, Drew, Drawn, Hand, Version, Writer, BySession, ByCommit, drawn_at, drawn_of, timestamp_of, counted, is_stamped, next_state, refusal}
+use Rattle.machine.proofs.Counted.{counted-commit}
 use Rattle.state_invariant.specs.Kept.{Origin, KeepsHand, KeepsOrigin, Keeps, wanted, row_by, row_from, commit_at, covered_since}
 use Rattle.state_invariant.proofs.Refusals.{allowed, stamping}
 

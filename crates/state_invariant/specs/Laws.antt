@@ -4,12 +4,12 @@ use Rattle.base.specs.declared.key.Key.{Key}
 use Rattle.base.specs.declared.step.Step.{Step}
 use Rattle.base.specs.declared.step.Step.TheVariants.{Put, Stamp, Collect}
 use Rattle.base.specs.declared.step.Reply.{Reply}
-use Rattle.base.specs.Machine.{State, Hand, Version, BySession, Stepped, Run, final, state_covered, refusal, next_state, held_after_put, stamped_write, timestamp_of}
+use Rattle.machine.specs.Machine.{State, Hand, Version, BySession, Stepped, Run, final, state_covered, refusal, next_state, held_after_put, stamped_write, timestamp_of}
 use Rattle.base.specs.Commits.{Commit}
 use Rattle.base.specs.Layout.{total_words}
 use Rattle.base.specs.Images.{Image, layout_of, opening_fault}
 use Rattle.base.specs.Stands.{Stands}
-use Rattle.base.specs.Openings.{IsUpToDate, OpensAs, opened_slots}
+use Rattle.machine.specs.Openings.{IsUpToDate, OpensAs, opened_slots}
 use Rattle.state_invariant.specs.Kept.{Origin, origin_of, Keeps, IsInUse, version_by}
 use Rattle.state_invariant.specs.Links.{Links, NamesNewest, SameRows}
 use Rattle.state_invariant.specs.Shown.{SlotsShow, ReadsAs, StoresPut, StopsPut, StoresStamp}

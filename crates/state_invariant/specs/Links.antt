@@ -4,7 +4,7 @@ use Rattle.base.specs.declared.key.Key.{Key}
 use Rattle.base.specs.Commits.{Commit, writes_key}
 use Rattle.base.specs.Layout.{Layout, slot_words, total_words}
 use Rattle.base.specs.Images.{Image, layout_of, link_of}
-use Rattle.base.specs.Machine.{State, Version, BySession, ByCommit, Drawn, drawn_at, begun_of}
+use Rattle.machine.specs.Machine.{State, Version, BySession, ByCommit, Drawn, drawn_at, begun_of}
 use Rattle.state_invariant.specs.Kept.{Origin, row_in, version_by}
 use Rattle.state_invariant.specs.Shown.{word_of}
 

@@ -4,7 +4,7 @@ use Rattle.std.specs.List.{range_with_len}
 use Rattle.std.proofs.lemmas.List.{length-append}
 use Rattle.std.proofs.lemmas.List.FromFn.{length-map-range_with_len}
 use Rattle.base.specs.Layout.{slot_start, slot_words}
-use Rattle.base.specs.Machine.{State, own_slot}
+use Rattle.machine.specs.Machine.{State, own_slot}
 use Rattle.base.proofs.Layouts.{line-words}
 use Rattle.pmem.specs.Device.{Device}
 use Rattle.pmem.specs.Trace.{Operation, store_op, flush_op, fence_op, failure, Runs, StopsWithin}

@@ -8,7 +8,8 @@ use Rattle.base.specs.declared.key.Key.{Key}
 use Rattle.base.specs.Commits.{Writes, last_writer, writes_key}
 use Rattle.base.specs.Stands.{has_timestamp}
 use Rattle.base.specs.Records.{is_committed}
-use Rattle.base.specs.Machine.{State, Drawn, Hand, Version, Writer, BySession, ByCommit, drawn_at, is_by, by_commit, state_drawn, version_lines}
+use Rattle.base.specs.Layout.{version_lines}
+use Rattle.machine.specs.Machine.{State, Drawn, Hand, Version, Writer, BySession, ByCommit, drawn_at, is_by, by_commit, state_drawn}
 use Rattle.pmem.specs.Device.{Device}
 use Rattle.pmem.specs.Words.{EachSurvivor, IsSettledAt}
 use Rattle.pmem.proofs.Changes.{each-settled, each-weaken}

@@ -4,7 +4,7 @@ use Rattle.std.specs.List.{range_with_len}
 use Rattle.std.proofs.lemmas.Bool.{cases_eq, eq-eqb, ne_eqb}
 use Rattle.base.specs.Layout.{Layout, slot_start, slot_words, total_words}
 use Rattle.base.specs.Images.{Image, layout_of, slot_word}
-use Rattle.base.specs.Machine.{State}
+use Rattle.machine.specs.Machine.{State}
 use Rattle.base.specs.Records.{is_in}
 use Rattle.pmem.specs.Device.{Device, IsReadyIn, stored, flushed, marked}
 use Rattle.pmem.specs.Words.{value_of, IsReady, IsSettledAt}

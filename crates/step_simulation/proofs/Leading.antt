@@ -1,6 +1,6 @@
 -- From what holds before, between and after operations to where a step leads.
 use Rattle.std.proofs.Common.{zero, suc, ℕ, true, List, [], ◌∷◌, ◌++◌, take, refl, sym, subst}
-use Rattle.base.specs.Machine.{State, StandsWithin}
+use Rattle.machine.specs.Machine.{State, StandsWithin}
 use Rattle.pmem.specs.Device.{Device, MayLeave, failed}
 use Rattle.pmem.specs.Trace.{Operation, failure, applied, Along, Runs, StopsWithin}
 use Rattle.pmem.proofs.Traces.{along-last, along-first}

@@ -8,5 +8,4 @@ pub mod Stamping
 mod Filling
 pub mod Putting
 pub mod Counting
-pub mod Composing
 pub mod Operating

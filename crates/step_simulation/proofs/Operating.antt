@@ -8,7 +8,7 @@ use Rattle.base.specs.Keys.{key_eq, lookup_key, is_rising}
 use Rattle.base.specs.Commits.{Commit, Writes, after}
 use Rattle.base.specs.Records.{is_committed}
 use Rattle.base.specs.Stands.{has_timestamp}
-use Rattle.base.specs.Machine.{State, Drawn, ByCommit, drawn_of, timestamp_of, operates_for}
+use Rattle.machine.specs.Machine.{State, Drawn, ByCommit, drawn_of, timestamp_of, operates_for}
 use Rattle.base.proofs.Keys.{key_eq-true, key_eq-same, keys-rest}
 use Rattle.base.proofs.Lists.{all-drop}
 use Rattle.state_invariant.specs.Kept.{Origin, Keeps, version_by, wanted, row_by, commit_at, commits_of_life, covered_since}

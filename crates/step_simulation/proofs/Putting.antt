@@ -5,7 +5,8 @@ use Rattle.base.specs.declared.key.Key.{Key}
 use Rattle.base.specs.declared.step.Step.TheVariants.{Put}
 use Rattle.base.specs.Commits.{with_write}
 use Rattle.base.specs.Layout.{slot_start, slot_words}
-use Rattle.base.specs.Machine.{State, Active, BySession, replaced, held_at, held_with, held_after_put, own_slot, free_slot, writes_of, begun_of, next_state, refusal}
+use Rattle.base.specs.Lists.{replaced}
+use Rattle.machine.specs.Machine.{State, Active, BySession, held_at, held_with, held_after_put, own_slot, free_slot, writes_of, begun_of, next_state, refusal}
 use Rattle.pmem.specs.Device.{Device, stored, flushed, fenced}
 use Rattle.pmem.specs.Words.{value_of, IsSettledAt}
 use Rattle.pmem.specs.Trace.{Operation, after, Along, Runs}

@@ -9,7 +9,7 @@ use Rattle.base.specs.declared.step.Step.TheVariants.{Stamp}
 use Rattle.base.specs.Keys.{key_eq}
 use Rattle.base.specs.Commits.{Commit, writes_key, last_writer}
 use Rattle.base.specs.Layout.{slot_start, slot_words}
-use Rattle.base.specs.Machine.{State, Drawn, Hand, Version, BySession, ByCommit, drawn_at, is_stamped, counted, timestamp_of, stamped_write, next_state, refusal}
+use Rattle.machine.specs.Machine.{State, Drawn, Hand, Version, BySession, ByCommit, drawn_at, is_stamped, counted, timestamp_of, stamped_write, next_state, refusal}
 use Rattle.base.proofs.Keys.{key_eq-same}
 use Rattle.pmem.specs.Device.{Device, stored}
 use Rattle.pmem.specs.Words.{value_of, IsSettledAt, OnlyShrinks}

@@ -6,7 +6,8 @@ use Rattle.base.specs.declared.step.Step.{Step}
 use Rattle.base.specs.declared.step.Step.TheVariants.{Begin, Get, Scan, Put, Delete, Draw, Stamp, Poll, Abort, End, Commit as CommitTick, Collect}
 use Rattle.base.specs.declared.step.Reply.{Reply}
 use Rattle.base.specs.Commits.{Writes, with_write}
-use Rattle.base.specs.Machine.{State, Session, Active, WroteNothing, Stepped, refused, answered, memory_refused, device_failed, replaced, free_session, writes_of, begun_of, is_own_at, is_held_by, held_after_delete, held_after_abort, state_drawn, next_state, operates}
+use Rattle.base.specs.Lists.{replaced}
+use Rattle.machine.specs.Machine.{State, Session, Active, WroteNothing, Stepped, refused, answered, memory_refused, device_failed, free_session, writes_of, begun_of, is_own_at, is_held_by, held_after_delete, held_after_abort, state_drawn, next_state, operates}
 use Rattle.pmem.specs.Device.{Device}
 use Rattle.pmem.specs.Words.{value_of}
 use Rattle.pmem.proofs.Images.{leaves_refl}

@@ -5,7 +5,7 @@ use Rattle.base.specs.declared.key.Key.{Key}
 use Rattle.base.specs.declared.step.Step.{Step}
 use Rattle.base.specs.declared.step.Step.TheVariants.{Put, Stamp}
 use Rattle.base.specs.declared.step.Reply.{Reply}
-use Rattle.base.specs.Machine.{State, BySession, ByCommit, Stepped, refusal, next_state, held_after_put, stamped_write, timestamp_of, operates, most_operations}
+use Rattle.machine.specs.Machine.{State, BySession, ByCommit, Stepped, refusal, next_state, held_after_put, stamped_write, timestamp_of, operates, most_operations}
 use Rattle.pmem.specs.Device.{Device, IsOrderly}
 use Rattle.pmem.specs.Words.{operations_of}
 use Rattle.pmem.specs.Trace.{Operation, Runs, StopsWithin}

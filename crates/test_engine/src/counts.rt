@@ -17,6 +17,8 @@ pub fn operations(device: &SimPmem) -> u128 {
 fn format_is_counted(rt: HostRuntime) -> Result<(), Fault> {
     let device = formatted(rt.alloc(), Geometry::new(4, 2, 8)?)?;
     assert_eq!(rt; operations(&device), 163);
+    let device = formatted(rt.alloc(), Geometry::wide(4, 2, 8)?)?;
+    assert_eq!(rt; operations(&device), 199);
     Ok(())
 }
 

@@ -8,7 +8,7 @@ use base::fault::Fault;
 use base::geometry::Geometry;
 use base::key::Key;
 use base::row::Row;
-use database::{Database, Refused};
+use database::{CommitError, Database, Refused};
 use pmem_file::{FilePmem, MemoryLines};
 use recovery::format;
 use std::alloc::Global;
@@ -17,27 +17,27 @@ use std::sync::Wait;
 use std::thread;
 use std::thread::Threads;
 
-type Device = FilePmem<MemoryLines>;
+pub type Device = FilePmem<MemoryLines>;
 
-const KEY: Key = Key { table: 1, key: 7 };
+pub const KEY: Key = Key { table: 1, key: 7 };
 
 const OTHER: Key = Key { table: 1, key: 8 };
 
 const COMMITS: u8 = 20;
 
-fn row(number: u8) -> Result<Row, Fault> {
+pub fn row(number: u8) -> Result<Row, Fault> {
     Row::new(&[number])
 }
 
 // A device at rest with what was found.
-fn found(alloc: Global, words: Vec<u64>) -> Result<Device, Fault>
+pub fn found(alloc: Global, words: Vec<u64>) -> Result<Device, Fault>
     ensures { IfOk result (λ device. IsAtRest (device_of device.trace)) }
 {
     FilePmem::of_lines(alloc, MemoryLines::new(words))
 }
 
 // A new image, at rest.
-fn fresh(alloc: Global, slots: u64) -> Result<Device, Fault>
+pub fn fresh(alloc: Global, slots: u64) -> Result<Device, Fault>
     ensures { IfOk result (λ device. IsAtRest (device_of device.trace)) }
 {
     let geometry = Geometry::new(slots, 2, 64)?;
@@ -51,14 +51,14 @@ fn fresh(alloc: Global, slots: u64) -> Result<Device, Fault>
     }
 }
 
-fn device_in(closed: Result<Device, Refused<Device>>) -> Result<Vec<u64>, Fault> {
+pub fn device_in(closed: Result<Device, Refused<Device>>) -> Result<Vec<u64>, Fault> {
     match closed {
         Ok(device) => Ok(device.into_lines().into_words()),
         Err(refused) => Err(refused.fault),
     }
 }
 
-fn opened<R: Threads + Wait + Copy + Drop + Send + Sync + 'static>(
+pub fn opened<R: Threads + Wait + Copy + Drop + Send + Sync + 'static>(
     rt: &R,
     alloc: Global,
     words: Vec<u64>,
@@ -77,10 +77,10 @@ fn commit<R: Wait + Drop>(
 ) -> Result<Option<Ts>, Fault> {
     let mut transaction = database.begin()?;
     transaction.put(key, row(number)?)?;
-    transaction.commit()
+    Ok(transaction.commit()?)
 }
 
-fn get<R: Wait + Drop>(database: &Database<Device, R>, key: Key) -> Result<Option<Row>, Fault> {
+pub fn get<R: Wait + Drop>(database: &Database<Device, R>, key: Key) -> Result<Option<Row>, Fault> {
     let transaction = database.begin()?;
     let row = transaction.get(key);
     transaction.abort()?;
@@ -120,7 +120,9 @@ fn a_reopened_database_has_what_was_committed(rt: HostRuntime) -> Result<(), Fau
     let database = opened(&rt, alloc, words)?;
     let kept = get(&database, KEY)?;
     let deleted = get(&database, OTHER)?;
+    let status = database.status();
     assert!(rt; kept == Some(row(1)?) && deleted.is_none());
+    assert!(rt; status.gaps.as_slice().is_empty());
     device_in(database.close())?;
     Ok(())
 }
@@ -135,7 +137,8 @@ fn the_second_of_two_that_write_a_key_conflicts(rt: HostRuntime) -> Result<(), F
     second.put(KEY, row(2)?)?;
     let committed = first.commit()?;
     let conflict = second.commit();
-    assert!(rt; committed == Some(1) && conflict == Err(Fault::Conflict(KEY)));
+    let refused = Err(CommitError::Refused(Fault::Conflict(KEY)));
+    assert!(rt; committed == Some(1) && conflict == refused);
     let kept = get(&database, KEY)?;
     assert!(rt; kept == Some(row(1)?));
     device_in(database.close())?;

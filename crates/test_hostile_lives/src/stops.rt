@@ -12,7 +12,8 @@ use std::thread::Threads;
 // Where more words than this have several survivors, each of them alone is the oldest or the newest.
 const MOST_WORDS: usize = 10;
 
-// After each number of operations that this divides, the openings that follow are stopped too.
+// After each number of operations that this divides, the openings of the oldest and the newest image are stopped too, where
+// a story doesn't ask for those of all.
 const REOPENED: u64 = 10;
 
 /// Lets the story's life stop after each number of operations, and each one operation fail.
@@ -49,8 +50,8 @@ fn stop_once<R: Threads + Sync>(
     counts.expect(operations(&left.device) == made);
     counts.expect(left.failed == (made < story.operations));
     let allowed = allowed_after(story, made, left.acknowledged);
-    judge_each(rt, alloc, &left.device, &allowed, counts)?;
-    if made % REOPENED != 0 {
+    judge_each(rt, alloc, &left.device, story, &allowed, counts)?;
+    if made % REOPENED != 0 || story.reopens {
         return Ok(());
     }
     open_again(rt, alloc, &left.device, story.opening, &allowed, counts)
@@ -113,16 +114,35 @@ fn judge_each<R: Threads + Sync>(
     rt: &R,
     alloc: Global,
     device: &SimPmem,
+    story: &Story,
     allowed: &Allowed,
     counts: &mut Counts,
 ) -> Result<(), Fault> {
     let several = with_several(alloc, device)?;
     if several.len() > MOST_WORDS {
-        return judge_apart(rt, alloc, device, &several, allowed, counts);
+        return judge_apart(rt, alloc, device, story, &several, allowed, counts);
     }
     for number in 0..choices(device, &several) {
         let choice = numbered(alloc, device, &several, number)?;
-        judge(rt, alloc, device, &choice, allowed, counts);
+        judge_one(rt, alloc, device, story, &choice, allowed, counts)?;
+    }
+    Ok(())
+}
+
+// Judges an image. Where the story asks for that, its opening is stopped everywhere too.
+fn judge_one<R: Threads + Sync>(
+    rt: &R,
+    alloc: Global,
+    device: &SimPmem,
+    story: &Story,
+    choice: &Choice,
+    allowed: &Allowed,
+    counts: &mut Counts,
+) -> Result<(), Fault> {
+    judge(rt, alloc, device, choice, allowed, counts);
+    if story.reopens {
+        let words = crashed_words(device, choice)?;
+        return open_each(rt, alloc, &words, story.opening, allowed, counts);
     }
     Ok(())
 }
@@ -132,17 +152,18 @@ fn judge_apart<R: Threads + Sync>(
     rt: &R,
     alloc: Global,
     device: &SimPmem,
+    story: &Story,
     several: &[usize],
     allowed: &Allowed,
     counts: &mut Counts,
 ) -> Result<(), Fault> {
-    judge(rt, alloc, device, &Choice::Oldest, allowed, counts);
-    judge(rt, alloc, device, &Choice::Newest, allowed, counts);
+    judge_one(rt, alloc, device, story, &Choice::Oldest, allowed, counts)?;
+    judge_one(rt, alloc, device, story, &Choice::Newest, allowed, counts)?;
     for word in several {
         let newest = apart(alloc, device, *word, true)?;
-        judge(rt, alloc, device, &newest, allowed, counts);
+        judge_one(rt, alloc, device, story, &newest, allowed, counts)?;
         let oldest = apart(alloc, device, *word, false)?;
-        judge(rt, alloc, device, &oldest, allowed, counts);
+        judge_one(rt, alloc, device, story, &oldest, allowed, counts)?;
     }
     Ok(())
 }

@@ -21,6 +21,7 @@ fn a_session_takes_the_lowest_number_that_is_free(rt: HostRuntime) -> Result<(),
             key: Key { table: 1, key: 5 },
             row: None,
             slot: None,
+            place: None,
         },
     );
     match transactions.get(first) {
@@ -57,6 +58,7 @@ fn commits_are_covered_as_far_as_they_are_stamped(rt: HostRuntime) -> Result<(),
             key: Key { table: 1, key: 5 },
             row: None,
             slot: None,
+            place: None,
         });
         drawn.reserve()?;
         drawn.push(DrawnCommit {

@@ -1,6 +1,7 @@
 use crate::slots::{KEYS, SLOTS, Slots, Version, Writer};
 use base::fault::Fault;
 use base::gap::Gap;
+use base::geometry::Geometry;
 use base::key::Key;
 use base::row::Row;
 use base::rows::Rows;
@@ -56,8 +57,7 @@ struct Cycle {
 #[derive(Drop)]
 pub struct Model {
     alloc: Global,
-    /// How many long commits a record may name.
-    most_longs: usize,
+    geometry: Geometry,
     covered: Vec<Commit>,
     drawn: Vec<Commit>,
     sessions: [Option<Session>; 4],
@@ -74,11 +74,11 @@ pub struct Model {
 }
 
 impl Model {
-    /// A fresh device that was opened.
-    pub fn new(alloc: Global, most_longs: usize) -> Model {
+    /// A fresh device of this layout, which was opened.
+    pub fn new(alloc: Global, geometry: Geometry) -> Model {
         Model {
             alloc,
-            most_longs,
+            geometry,
             covered: Vec::new(alloc),
             drawn: Vec::new(alloc),
             sessions: [None; 4],
@@ -117,6 +117,22 @@ impl Model {
             }
         }
         Ok(longs)
+    }
+
+    /// A row that begins with this byte: one in eight is as long as any may be.
+    pub fn row(&self, byte: u8) -> Result<Row, Fault> {
+        if byte % 8 > 0 {
+            Row::new(&[byte])
+        } else if self.geometry.is_wide() {
+            Row::new(&[byte; 96])
+        } else {
+            Row::new(&[byte; 32])
+        }
+    }
+
+    /// The layout of the device.
+    pub fn geometry(&self) -> Geometry {
+        self.geometry
     }
 
     fn tables_after(&self, commits: usize) -> Tables {
@@ -226,8 +242,10 @@ impl Model {
         let at = key as usize;
         let tables = self.tables_after(session.begun);
         let seen = tables.get(at).copied().flatten();
-        let row = session.writes.get(at).copied().flatten().unwrap_or(seen);
-        row.and_then(|byte| Row::new(&[byte]).ok())
+        match session.writes.get(at).copied().flatten().unwrap_or(seen) {
+            Some(byte) => self.row(byte).ok(),
+            None => None,
+        }
     }
 
     fn scan(&self, session: &Session, table: u16, lo: u64, hi: u64) -> Note {
@@ -264,8 +282,9 @@ impl Model {
                     return (Note::Refused(fault), Some(session));
                 }
                 drawn.stamps_left = drawn.stamps_left.saturating_add(1);
-                let lines = u64::from(written.is_some()) + u64::from(row.is_some());
-                drawn.lines = drawn.lines.saturating_add(lines);
+                drawn.lines = drawn
+                    .lines
+                    .saturating_add(self.lines(written.is_some(), row.is_some()));
             }
         }
         if drawn.stamps_left == 0 {
@@ -286,6 +305,14 @@ impl Model {
             Note::Drawn(drawn.timestamp),
             Some(Session { state, ..session }),
         )
+    }
+
+    // How many lines a write touches: those of the slot of its row, and the first one of the slot of the row that it ends.
+    fn lines(&self, writes: bool, ends: bool) -> u64 {
+        match (writes, self.geometry.is_wide()) {
+            (true, true) => 2 + u64::from(ends),
+            _ => u64::from(writes) + u64::from(ends),
+        }
     }
 
     fn is_written_after(&self, begun: usize, key: usize) -> bool {
@@ -374,7 +401,7 @@ impl Model {
         for commit in &self.drawn {
             if commit.stamps_left > 0 {
                 unstamped = unstamped.saturating_add(1);
-            } else if unstamped <= self.most_longs {
+            } else if unstamped <= self.geometry.most_longs() {
                 reach = reach.max(commit.timestamp);
             }
         }

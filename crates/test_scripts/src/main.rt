@@ -2,7 +2,7 @@
 //!
 //! A file `.lives` is a script of whole lives, each on a device of its own, which the subcommand `lives` plays. A file
 //! `.script` says what `wbl` is asked to do with one file. A command of it begins with `$`, and the lines after it are its
-//! input. Of `torn wbl` the input fails after these lines, and of `short N wbl` the output after so many bytes. The file of
+//! input. `beside FILE program` has FILE locked by another meanwhile. Of `torn wbl` the input fails after these lines, and of `short N wbl` the output after so many bytes. The file of
 //! `wbl` is kept in memory, and those of `program` lie where this program runs.
 #![tactic(auto)]
 
@@ -12,7 +12,7 @@ mod whole;
 
 use crate::failing::{Short, Torn};
 use crate::image::{print_words, set_words};
-use crate::whole::{ask_program, run_program};
+use crate::whole::{ask_program, run_beside, run_program};
 use anyhow::Error;
 use command_line::orders::{Order, WordFault};
 use command_line::words::order;
@@ -20,6 +20,7 @@ use console::ended::Ended;
 use console::execute::execute;
 use console::stop::Stop;
 use std::alloc::Global;
+use std::fs::File;
 use std::io::{Read, Write};
 use std::rt::Files;
 use std::sync::Wait;
@@ -59,7 +60,7 @@ fn play_lives<H: Print + Threads + Wait + Copy + Drop + Send + Sync + 'static>(
 }
 
 // Obeys a command with its input.
-fn obey<H: Files + Print + Threads + Wait + Copy + Drop + Send + Sync + 'static>(
+fn obey<H: Files<File = File> + Print + Threads + Wait + Copy + Drop + Send + Sync + 'static>(
     rt: &H,
     alloc: Global,
     part: &str,
@@ -78,6 +79,7 @@ fn obey<H: Files + Print + Threads + Wait + Copy + Drop + Send + Sync + 'static>
         ["more", times] => add_text(file, input, times),
         ["save", name] => Ok(fs::write(rt, *name, file.as_slice())?),
         ["program", words @ ..] => run_program(rt, alloc, words, input),
+        ["beside", held, "program", words @ ..] => run_beside(rt, alloc, held, words, input),
         ["ask", words @ ..] => ask_program(rt, alloc, words, input),
         ["wbl", words @ ..] => {
             let mut input = input.as_bytes();

@@ -1,5 +1,5 @@
 //! Each call of a session and of an engine once: transactions of two keys, by `commit` alone, with `prepare` first, with a
-//! refusal between, and one that conflicts; a close that is refused since a session is missing, and the close after it.
+//! refusal between, and one that conflicts; a close that is refused since a session is missing, a commit after it, and a close.
 ghost use Rattle.std.specs.Prelude.{◌≡◌};
 ghost use Rattle.pmem.specs.Words.{IsAtRest, image_of};
 
@@ -179,22 +179,24 @@ fn take_readers<D: Pmem + Drop, J: Origin, B: Drop>(
     })
 }
 
-// Closes the engine without its second session, which is refused, and then with both.
+// Closes the engine without its second session, which is refused. That session commits then, and the engine is closed with both.
 fn close_twice<D: Pmem + Drop, J: Origin, B: Drop, R: Threads + Wait>(
     rt: &R,
     alloc: Global,
     engine: Engine<D, J, B>,
     first: Session<D, J, B>,
     second: Session<D, J, B>,
-) -> Result<(), Fault> {
+) -> Result<Option<u64>, Fault> {
+    let mut second = second;
     let sessions = granted(Vec::from_array(alloc, [first]))?;
     let (engine, mut sessions) = match engine.close(rt, sessions) {
         Err((Fault::WrongState, engine, sessions)) => (engine, sessions),
         _ => return Err(Fault::Failed),
     };
+    let committed = commit_two(rt, &mut second)?;
     granted(sessions.push(second))?;
     let _audited = closed(rt, engine, sessions)?;
-    Ok(())
+    Ok(committed)
 }
 
 // A life of the device in which all is called, and what was answered.
@@ -202,7 +204,7 @@ fn call_all<
     D: Pmem + Drop + Send + Sync + 'static,
     J: Origin + Send + Sync + 'static,
     R: Threads + Wait + Copy + Drop + Send + Sync + 'static,
->(rt: &R, alloc: Global, history: History, device: D) -> Result<(Lent, Answers), Fault>
+>(rt: &R, alloc: Global, history: History, device: D) -> Result<(Lent, Answers, Option<u64>), Fault>
     requires name { history ≡ J.book }
     requires image { image_of (D.state device) ≡ J.image }
     requires at_rest { IsAtRest (D.state device) }
@@ -212,14 +214,19 @@ fn call_all<
     let mut first = engine.session(rt)?;
     let mut second = engine.session(rt)?;
     let answers = call_sessions(rt, &mut first, &mut second)?;
-    close_twice(rt, alloc, engine, first, second)?;
-    Ok((lent, answers))
+    let committed = close_twice(rt, alloc, engine, first, second)?;
+    Ok((lent, answers, committed))
 }
 
 #[test]
 fn each_call_of_a_session(rt: HostRuntime) -> Result<(), Fail> {
     let alloc = rt.alloc();
-    let (lent, told) = call_all::<_, Brand, _>(&rt, alloc, History::new(), fresh(alloc, 8, 8)?)?;
+    let (lent, told, between) = call_all::<_, Brand, _>(
+        &rt,
+        alloc,
+        History::new(),
+        fresh(alloc, 8, 8)?,
+    )?;
     assert_eq!(rt; lent.first, 0);
     assert_eq!(rt; lent.opening.gate, 2);
     assert_eq!(rt; lent.opening.dirty, 9);
@@ -241,5 +248,6 @@ fn each_call_of_a_session(rt: HostRuntime) -> Result<(), Fail> {
     assert_eq!(rt; told.polled.prepared, Some(4));
     assert_eq!(rt; told.polled.polled, Some(4));
     assert_eq!(rt; told.polled.committed, Some(4));
+    assert_eq!(rt; between, Some(5));
     Ok(())
 }

@@ -7,7 +7,7 @@ use Rattle.std.proofs.Math.ListN.{get_or-map}
 use Rattle.std.proofs.lemmas.List.{get_or-set_other, get_or_past}
 use Rattle.std.proofs.lemmas.Grind.{get_or-set_at}
 use Rattle.slab.specs.Slab.{Slab, get, Updates, with_value}
-use Rattle.base.specs.Machine.{replaced}
+use Rattle.base.specs.Lists.{replaced}
 use Rattle.txn.specs.Tables.{entry_at, found, listed, IsTable}
 
 -- what is listed under a number is what its place finds

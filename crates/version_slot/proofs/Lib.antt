@@ -1,3 +1,4 @@
 pub mod Decoding
 pub mod ImageSlots
 pub mod Operations
+pub mod Parts

@@ -7,17 +7,24 @@ pub fn word_at(bytes: &[u8], from: usize) -> u64
     requires { from ≤ 96 }
     ensures { result ≡ from_le_bytes w64 (drop from bytes.now) }
 {
-    let mut eight = [0; 8];
-    for i in 0..8 {
-        eight[i] = byte_or_zero(bytes, from + i);
+    if bytes.len() <= from {
+        return 0;
     }
-    u64::from_le_bytes(eight)
+    let rest = &bytes[from..];
+    match rest.first_chunk::<8>() {
+        Some(eight) => u64::from_le_bytes(*eight),
+        None => last_word(rest),
+    }
 }
 
-fn byte_or_zero(bytes: &[u8], i: usize) -> u8
-    ensures { result ≡ slice_index bytes.now i }
+// Fewer than eight bytes as a number, with 0 past the end.
+fn last_word(bytes: &[u8]) -> u64
+    requires { length bytes.now < 8 }
+    ensures { result ≡ from_le_bytes w64 bytes.now }
 {
-    if i < bytes.len() { bytes[i] } else { 0 }
+    let mut eight = [0; 8];
+    eight[..bytes.len()].copy_from_slice(bytes);
+    u64::from_le_bytes(eight)
 }
 
 // The bytes of the row words of a slot of two lines, the lowest of each word first. In a slot of one line the first 32 count.
@@ -26,8 +33,8 @@ pub fn row_bytes(words: &[u64; 16]) -> [u8; 96]
     ensures bytes { (i : ℕ) → i < 96 → slice_index result i ≡ slot_byte (slice_index words.now) i }
 {
     let mut bytes = [0; 96];
-    for i in 0..96 {
-        bytes[i] = words[4 + i / 8].to_le_bytes()[i % 8];
+    for k in 0..12 {
+        bytes[8 * k..8 * k + 8].copy_from_slice(&words[4 + k].to_le_bytes());
     }
     bytes
 }

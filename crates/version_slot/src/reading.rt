@@ -1,10 +1,11 @@
 ghost use Rattle.std.specs.Prelude.{◌≡◌, ◌<◌, IfSome, IfNone};
 ghost use Rattle.base.specs.Layout.{slot_start, total_words};
 ghost use Rattle.pmem.specs.Words.{value_of};
-ghost use Rattle.version_slot.specs.Words.{IsSlot, slot_at};
+ghost use Rattle.version_slot.specs.Words.{IsSlot, key_in, slot_at};
 
 use crate::words::Slot;
 use base::geometry::Geometry;
+use base::key::Key;
 use pmem::Pmem;
 
 /// What the last values of a slot's words hold.
@@ -20,6 +21,19 @@ pub fn read<D: Pmem>(device: &D, geometry: Geometry, slot: u64) -> Option<Slot>
         words[w] = device.load(start + w);
     }
     Slot::from_words(&words, geometry)
+}
+
+/// The key of the version that a slot's words hold, of words that hold one.
+pub fn key<D: Pmem>(device: &D, geometry: Geometry, slot: u64) -> Key
+    requires slot { slot < geometry.slots }
+    requires device { (D.state device.now).words ≡ total_words geometry }
+    ensures { result ≡ key_in (slot_at geometry slot (value_of (D.state device.now))) }
+{
+    let start = geometry.slot_start(slot);
+    Key {
+        table: (device.load(start + 3) % 65_536) as u16,
+        key: device.load(start + 2),
+    }
 }
 
 /// The timestamp in a slot's begin.

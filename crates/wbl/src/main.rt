@@ -1,7 +1,8 @@
 //! The program wbl: the process round what the words ask for.
 #![tactic(auto)]
 
-use program::{Told, run_words};
+use program::{Exit, Told, run_words};
+use standard_streams::reserve;
 use std::alloc::Global;
 use std::io::ErrorKind;
 use std::process::ExitCode;
@@ -15,6 +16,10 @@ const FAILED: u8 = 1;
 
 fn main(rt: HostRuntime) -> ExitCode {
     let alloc = rt.alloc();
+    let _reserved = match reserve(&rt) {
+        Ok(reserved) => reserved,
+        Err(reason) => return fail(&rt, reason),
+    };
     let words = match words_given(&rt, alloc) {
         Ok(words) => words,
         Err(reason) => return fail(&rt, reason),
@@ -24,7 +29,7 @@ fn main(rt: HostRuntime) -> ExitCode {
         .map(|word| word.as_str())
         .collect::<Vec<&str>>(alloc)
     else {
-        return fail(&rt, ErrorKind::OutOfMemory);
+        return fail(&rt, io::Error::from(ErrorKind::OutOfMemory));
     };
     let exit = run_words(
         &rt,
@@ -33,24 +38,18 @@ fn main(rt: HostRuntime) -> ExitCode {
         &mut rt.reader(),
         &mut io::writer(&rt),
     );
-    let _ = tell(&rt, &exit.told);
+    let _ = tell(&rt, &exit);
     ExitCode::from(exit.status)
 }
 
 // The words after the program's name, or why they can't be had.
-fn words_given(rt: &HostRuntime, alloc: Global) -> Result<Vec<String>, ErrorKind> {
-    match env::args(rt) {
-        Ok(words) => match words.skip(1).collect::<Vec<String>>(alloc) {
-            Ok(words) => Ok(words),
-            Err(_) => Err(ErrorKind::OutOfMemory),
-        },
-        Err(error) => Err(error.kind()),
-    }
+fn words_given(rt: &HostRuntime, alloc: Global) -> io::Result<Vec<String>> {
+    Ok(env::args(rt)?.skip(1).collect::<Vec<String>>(alloc)?)
 }
 
 // Tells why there are no words, which takes no memory, and how the process ends then.
-fn fail(rt: &impl Eprint, reason: ErrorKind) -> ExitCode {
-    if matches!(reason, ErrorKind::InvalidData) {
+fn fail(rt: &impl Eprint, reason: io::Error) -> ExitCode {
+    if reason.kind() == ErrorKind::InvalidData {
         let _ = eprint!(rt; "error: an argument is no text in UTF-8\n");
         return ExitCode::from(NO_TEXT);
     }
@@ -59,10 +58,15 @@ fn fail(rt: &impl Eprint, reason: ErrorKind) -> ExitCode {
 }
 
 // What standard error is told takes no memory.
-fn tell(rt: &impl Eprint, told: &Told) -> io::Result<()> {
-    match told {
-        Told::Nothing => Ok(()),
-        Told::BadWords(text) => eprint!(rt; "{text}"),
-        Told::Broken(reason) => eprint!(rt; "error: {reason}\n"),
+fn tell(rt: &impl Eprint, exit: &Exit) -> io::Result<()> {
+    match &exit.told {
+        Told::Nothing => {}
+        Told::BadWords(text) => eprint!(rt; "{text}")?,
+        Told::Broken(reason) => eprint!(rt; "error: {reason}\n")?,
+        Told::FileFault { file, reason } => eprint!(rt; "error: {file}: {reason}\n")?,
+    }
+    match exit.unwritten {
+        Some(file) => eprint!(rt; "{file} was not written\n"),
+        None => Ok(()),
     }
 }

@@ -7,7 +7,7 @@ use Rattle.base.specs.Keys.{key_eq}
 use Rattle.base.specs.Commits.{after}
 use Rattle.base.specs.Images.{TablesOf, ruling}
 use Rattle.base.specs.Stands.{Stands}
-use Rattle.base.specs.Openings.{IsOpenedGaps}
+use Rattle.machine.specs.Openings.{IsOpenedGaps}
 use Rattle.base.proofs.Keys.{key_eq-true}
 use Rattle.worked.specs.Images.{formatted_image, covered_image, commit_1, key_7 as k, FirstRunImages, DamagedImages, NinthGap, ReadImages, LongCommits}
 

@@ -9,7 +9,7 @@ use Rattle.base.specs.Commits.{Commit}
 use Rattle.base.specs.Records.{Record, record_word, is_well_formed, is_committed, opened_gaps}
 use Rattle.base.specs.Images.{Image, damage, opening_fault, needs_sweep, ruling, place_words, is_live, key_of, row_of, superblock_word}
 use Rattle.base.specs.Stands.{Stands}
-use Rattle.base.specs.Openings.{IsOpenedGaps, gaps_kept, opened_slots, words_swept, lines_swept}
+use Rattle.machine.specs.Openings.{IsOpenedGaps, gaps_kept, opened_slots, words_swept, lines_swept}
 
 -- words by number, each with its value
 abbrev pub Words : Type 0

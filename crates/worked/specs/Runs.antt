@@ -9,9 +9,10 @@ use Rattle.base.specs.declared.step.Stage.TheVariants.{Chosen, LineFlushed, Line
 use Rattle.base.specs.declared.step.Reply.{Reply}
 use Rattle.base.specs.declared.step.Reply.TheVariants.{Began, Row, Rows, Done, Drawn as DrewAs, More, Stamped, Waiting, Committed, Idle, Ticked, Covered, Visited, SweepEnd, Refused}
 use Rattle.base.specs.Commits.{Commit, after}
-use Rattle.base.specs.Machine.{State, Session, Active, BySession, ByCommit, replaced, Stepped, most_operations, operates, chooses, refusal, closed}
-use Rattle.base.specs.Openings.{opened}
-use Rattle.base.specs.Replay.{replies, end}
+use Rattle.base.specs.Lists.{replaced}
+use Rattle.machine.specs.Machine.{State, Session, Active, BySession, ByCommit, Stepped, most_operations, operates, chooses, refusal, closed}
+use Rattle.machine.specs.Openings.{opened}
+use Rattle.machine.specs.Replay.{replies, end}
 use Rattle.worked.specs.Images.{with_words, formatted_image, covered_image, stamped_image, half_written_image, key_7, ab, commit_1, gap, record_of}
 
 -- gate, persisted, dirty and next

@@ -4,7 +4,7 @@ use Rattle.std.specs.Prelude.{MatchBool, min}
 use Rattle.std.proofs.lemmas.Bool.{leb-true, leb-false}
 use Rattle.base.specs.declared.key.Key.{Key}
 use Rattle.base.specs.Commits.{Lists, after}
-use Rattle.base.specs.Machine.{State}
+use Rattle.machine.specs.Machine.{State}
 use Rattle.workload.specs.Load.{HasFree, LacksFree}
 
 pub slots-suffice : (q : State) (rows : List (Key × List ℕ)) (sessions twice count wanted slots : ℕ) (b : Bool) → Lists rows (after q.history) → slots ≡ q.layout.slots → slots ≤ 65536

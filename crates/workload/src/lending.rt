@@ -7,7 +7,7 @@ ghost use Rattle.workload.specs.Load.{HasFree, HasRunFrom, IsLoadFault, OpensTo}
 use crate::committing::commit_all;
 use crate::gate::Always;
 use crate::load::Load;
-use crate::opening::has_slots;
+use crate::opening::{has_numbers, has_slots};
 use audited::Audited;
 use base::fault::Fault;
 use board::{Board, History};
@@ -59,6 +59,9 @@ fn worked_on<
     ensures from { IfOk result (IsFrom D.state J.image) }
     ensures fault { IfErr result (λ fault. fault ≢ SlotsOut) }
 {
+    if !has_numbers(&audited, load) {
+        return Err(Fault::TimestampsOut);
+    }
     let engine = match Engine::<D, J, Board<J, T>>::start(
         rt, alloc, history, audited, Always, Always,
     ) {

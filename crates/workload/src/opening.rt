@@ -1,10 +1,12 @@
 ghost use Rattle.std.specs.Prelude.{◌≡◌, ◌*◌, IfErr, IfOk, MatchBool};
-ghost use Rattle.base.specs.Machine.{State};
+ghost use Rattle.machine.specs.Machine.{State};
 ghost use Rattle.base.specs.declared.fault.Fault.TheVariants.{OutOfMemory};
 ghost use Rattle.room.specs.Room.{Shows};
 ghost use Rattle.workload.specs.Load.{HasFree, LacksFree};
 
+use crate::load::Load;
 use audited::Audited;
+use base::NUMBER_LIMIT;
 use base::fault::Fault;
 use pmem::Pmem;
 
@@ -16,4 +18,22 @@ pub fn has_slots<D: Pmem + Drop>(audited: &Audited<D>, sessions: u64) -> Result<
     let rows = audited.tables()?;
     let wanted = sessions.saturating_mul(2).saturating_add(rows.len() as u64);
     Ok(wanted <= audited.geometry().slots())
+}
+
+/// Whether record numbers and timestamps are left for all commits of the load: at most two records a commit, one that reserves
+/// timestamps and one that covers it, and a timestamp each. Where they end the committer writes no record any more, and who waits
+/// for one would wait for ever.
+pub fn has_numbers<D: Pmem + Drop>(audited: &Audited<D>, load: Load) -> bool {
+    let commits = load.sessions.saturating_mul(load.commits);
+    let opening = audited.opening();
+    let window = audited.geometry().window();
+    let last_record = commits
+        .saturating_mul(2)
+        .saturating_add(opening.gate)
+        .saturating_add(2);
+    let last_timestamp = commits
+        .saturating_add(opening.dirty)
+        .saturating_add(window)
+        .saturating_add(2);
+    last_record < NUMBER_LIMIT && last_timestamp < NUMBER_LIMIT
 }

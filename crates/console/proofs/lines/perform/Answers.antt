@@ -2,7 +2,7 @@ use Rattle.std.proofs.Common.{subst, refl}
 use Rattle.base.specs.declared.fault.Fault.TheVariants.{TooLong}
 use Rattle.base.specs.declared.step.Step.{Step}
 use Rattle.base.specs.declared.step.Reply.TheVariants as reply
-use Rattle.base.specs.Machine.{State, Stepped}
+use Rattle.machine.specs.Machine.{State, Stepped}
 use Rattle.command_line.specs.declared.command.Command.TheVariants as asks
 use Rattle.console.specs.Kept.{Leads}
 use Rattle.console.specs.Obeyed.{Answers}

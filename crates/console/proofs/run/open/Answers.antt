@@ -5,8 +5,8 @@ use Rattle.console.proofs.Refusals.{opening-fault}
 use Rattle.std.proofs.Common.{ap, sym, ◌≡◌, ◌∙◌, subst, []}
 use Rattle.std.specs.Prelude.{None}
 use Rattle.base.specs.Images.{Image, opening_fault}
-use Rattle.base.specs.Machine.{State}
-use Rattle.base.specs.Openings.{OpensAs}
+use Rattle.machine.specs.Machine.{State}
+use Rattle.machine.specs.Openings.{OpensAs}
 use Rattle.base.specs.Stands.{Stands}
 use Rattle.pmem.specs.Words.{IsAtRest, image_of}
 use Rattle.pmem.proofs.Restarted.{restarted-rests, image-restarted}

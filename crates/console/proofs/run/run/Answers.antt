@@ -2,17 +2,16 @@ use Rattle.std.proofs.Common.{◌≡◌, ◌++◌, [], List, ℕ, subst}
 use Rattle.base.specs.Commits.{Commit}
 use Rattle.std.specs.Prelude.{None}
 use Rattle.base.specs.Images.{Image, opening_fault}
-use Rattle.base.specs.Machine.{State}
-use Rattle.base.specs.Openings.{OpensAs}
+use Rattle.machine.specs.Machine.{State}
+use Rattle.machine.specs.Openings.{OpensAs}
 use Rattle.base.specs.Stands.{Stands}
 use Rattle.pmem_model.specs.Sim.{device_of}
-use Rattle.room.specs.Room.{Shows}
+use Rattle.room.specs.Room.{Shows, device_of as device_in}
 use Rattle.console.proofs.BadLine.{ends-at, passed_on, unblamed}
 use Rattle.console.proofs.Lives.{life-of, lives-keep}
 use Rattle.console.proofs.Obeyed.{appends-more}
 use Rattle.std.proofs.Common.{◌⊎◌}
 use Rattle.base.specs.declared.fault.Fault.TheVariants.{OutOfMemory}
-use Rattle.room.specs.Room.{Shows}
 use Rattle.console.specs.Refusals.{IsClosingFault, IsOpeningFault}
 use Rattle.console.proofs.Refusals.{at-end, fault-on, opening-of-file}
 use Rattle.console.proofs.run.run.Goals as goal
@@ -38,6 +37,8 @@ returns-clause-lives g c =
       prints = appends-more (g.W.Write.contents c.args.output.now) (g.W.Write.contents c.obey_lines.new.output) (g.W.Write.contents c.end.new.output) (told.0 ++ made.2) over.0
           (appends-more (g.W.Write.contents c.args.output.now) (g.W.Write.contents c.show_opened.new.output) (g.W.Write.contents c.obey_lines.new.output) told.0 made.2 told.1 made.3)
           over.1;
+      device = device_in device_of c.obey_lines.new.room;
+      kept = c.in_ok-left.ensures.kept;
       each = λ image held history drawn next stands.
           life-of device_of c.in_ok-room.room c.obey_lines.new.room c.args.file.now c.in_ok-words.words.items image history drawn next made.0 c.in_ok-keeps.keeps
           told.0 made.2 over.0 c.in_ok-left.left.items c.in_ok-words.ensures.ok held stands

@@ -7,4 +7,4 @@ use Rattle.console.proofs.script.print_lives.Given as goal
 -- what is printed so far, and the lines of the lives that are left
 abbrev pub invariant-loop-index : goal.invariant-loop-index
 invariant-loop-index g l = (said : Text) × Appends (g.W.Write.contents l.initial.output) (g.W.Write.contents l.output) said
-    × (said ++ lives_text l.geometry (l.index + 1) (drop l.index l.lives) (drop l.index l.reports) ≡ lives_text l.geometry 1 l.lives l.reports)
+    × (said ++ lives_text (l.index + 1) (drop l.index l.reports) ≡ lives_text 1 l.reports)

@@ -1,6 +1,6 @@
 use Rattle.std.proofs.Common.{◌∙◌, List, ℕ, ap, subst, sym}
 use Rattle.std.proofs.lemmas.Result.{IfOk-weaker}
-use Rattle.base.specs.Machine.{StandsClosed}
+use Rattle.machine.specs.Machine.{StandsClosed}
 use Rattle.pmem.specs.Words.{image_of}
 use Rattle.pmem.proofs.Restarted.{image-restarted}
 use Rattle.console.proofs.threads.closed_image.Goals as goal

@@ -4,7 +4,7 @@ use Rattle.std.specs.Io.KnownBytes.{Appends}
 use Rattle.base.specs.declared.fault.Fault.TheVariants.{OutOfMemory}
 use Rattle.base.specs.declared.key.Key.{Key}
 use Rattle.base.specs.Images.{Image, opening_fault}
-use Rattle.base.specs.Machine.{State}
+use Rattle.machine.specs.Machine.{State}
 use Rattle.image_check.specs.Checked.{ListsTables}
 use Rattle.command_line.specs.ImageFile.{IsFileOf}
 use Rattle.pmem_model.specs.Sim.{device_of}

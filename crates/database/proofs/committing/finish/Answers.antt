@@ -1,6 +1,17 @@
-use Rattle.std.proofs.Common.{◌∙◌, ap, Ok}
-use Rattle.database.proofs.Covering.{covers-finish}
+use Rattle.std.proofs.Common.{◌∙◌, ap, inr, Ok}
+use Rattle.database.proofs.Covering.{obeys-as, covers-finish, stays-polled}
 use Rattle.database.proofs.committing.finish.Goals as goal
 
-pub returns-in_ok-end-in-Some : goal.returns-in_ok-end-in-Some
-returns-in_ok-end-in-Some g c = covers-finish _ _ _ _ _ _ _ _ _ c.poll.ensures (c.in_ok-timestamp.was ∙ ap Ok c.in-Some.is) c.end.ensures
+pub returns-in-Ok-end-clause-steps : goal.returns-in-Ok-end-clause-steps
+returns-in-Ok-end-clause-steps g c =
+    (c.poll.new.room, obeys-as _ _ _ _ _ _ _ c.poll.ensures (c.in-Ok.is ∙ ap Ok c.in-Some.is), obeys-as _ _ _ _ _ _ _ c.end.ensures c.in-Ok-end.is)
+
+pub returns-in-Ok-end-clause-covers : goal.returns-in-Ok-end-clause-covers
+returns-in-Ok-end-clause-covers g c = covers-finish _ _ _ _ _ _ _ _ _ c.poll.ensures (c.in-Ok.is ∙ ap Ok c.in-Some.is) c.end.ensures
+
+pub returns-in-Err-end-clause-steps : goal.returns-in-Err-end-clause-steps
+returns-in-Err-end-clause-steps g c =
+    inr (c.poll.new.room, c.in-Some.timestamp, obeys-as _ _ _ _ _ _ _ c.poll.ensures (c.in-Ok.is ∙ ap Ok c.in-Some.is), obeys-as _ _ _ _ _ _ _ c.end.ensures c.in-Err-end.is)
+
+pub returns-in-None-clause-steps : goal.returns-in-None-clause-steps
+returns-in-None-clause-steps g c = (obeys-as _ _ _ _ _ _ _ c.poll.ensures (c.in-Ok.is ∙ ap Ok c.in-None.is), stays-polled _ _ _ _ _ _ c.poll.ensures)

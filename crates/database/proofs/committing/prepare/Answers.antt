@@ -1,10 +1,26 @@
-use Rattle.std.proofs.Common.{◌∙◌, ap, refl, Ok}
-use Rattle.database.proofs.Covering.{goes-none, goes-more, prepares}
+use Rattle.std.proofs.Common.{◌∙◌, ap, inr, Ok}
+use Rattle.database.proofs.Covering.{obeys-as, stamps-as, nothing-refused, nothing-ended}
 use Rattle.database.proofs.committing.prepare.Goals as goal
 
-pub returns-in_ok-stamp_all-in-Some : goal.returns-in_ok-stamp_all-in-Some
-returns-in_ok-stamp_all-in-Some g c = prepares _ _ _ _ _ _ _ _ c.draw.ensures (c.in_ok-draw.was ∙ ap Ok c.in-Some.is) c.in_ok-stamp_all-in-Some.ensures refl
+pub returns-in-Ok-stamp_all-clause-steps : goal.returns-in-Ok-stamp_all-clause-steps
+returns-in-Ok-stamp_all-clause-steps g c =
+    (c.in-Some.field-0, (c.draw.new.room, obeys-as _ _ _ _ _ _ _ c.draw.ensures (c.in-Ok.is ∙ ap Ok c.in-Some.is), stamps-as _ _ _ _ _ _ c.stamp_all.ensures c.in-Ok-stamp_all.is))
 
-pub returns-in_ok-end-in-None : goal.returns-in_ok-end-in-None
-returns-in_ok-end-in-None g c =
-    prepares _ _ _ _ _ _ _ _ c.draw.ensures (c.in_ok-draw.was ∙ ap Ok c.in-None.is) (goes-more _ _ _ _ _ _ _ (goes-none g.D.Pmem.state c.draw.new.room) c.end.ensures) refl
+pub returns-in-Err-stamp_all-clause-steps : goal.returns-in-Err-stamp_all-clause-steps
+returns-in-Err-stamp_all-clause-steps g c =
+    (c.in-Some.field-0, (c.draw.new.room, obeys-as _ _ _ _ _ _ _ c.draw.ensures (c.in-Ok.is ∙ ap Ok c.in-Some.is), stamps-as _ _ _ _ _ _ c.stamp_all.ensures c.in-Err-stamp_all.is))
+
+pub returns-in-Ok-end-clause-steps : goal.returns-in-Ok-end-clause-steps
+returns-in-Ok-end-clause-steps g c =
+    (c.draw.new.room, obeys-as _ _ _ _ _ _ _ c.draw.ensures (c.in-Ok.is ∙ ap Ok c.in-None.is), obeys-as _ _ _ _ _ _ _ c.end.ensures c.in-Ok-end.is)
+
+pub returns-in-Err-end-clause-steps : goal.returns-in-Err-end-clause-steps
+returns-in-Err-end-clause-steps g c =
+    inr (c.draw.new.room, obeys-as _ _ _ _ _ _ _ c.draw.ensures (c.in-Ok.is ∙ ap Ok c.in-None.is), obeys-as _ _ _ _ _ _ _ c.end.ensures c.in-Err-end.is)
+
+pub returns-in-Err-end-clause-refused : goal.returns-in-Err-end-clause-refused
+returns-in-Err-end-clause-refused g c =
+    nothing-ended _ _ _ _ _ _ _ (obeys-as _ _ _ _ _ _ _ c.draw.ensures (c.in-Ok.is ∙ ap Ok c.in-None.is)) c.end.ensures
+
+pub returns-in-Err-clause-refused : goal.returns-in-Err-clause-refused
+returns-in-Err-clause-refused g c = nothing-refused _ _ _ _ _ (obeys-as _ _ _ _ _ _ _ c.draw.ensures c.in-Err.is)

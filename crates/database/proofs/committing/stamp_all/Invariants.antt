@@ -1,5 +1,6 @@
-use Rattle.database.specs.Obeys.{GoesOn}
+use Rattle.base.specs.declared.step.Step.TheVariants.{Stamp}
+use Rattle.database.specs.Obeys.{Repeats}
 use Rattle.database.proofs.committing.stamp_all.Given as goal
 
 abbrev pub invariant-loop : goal.invariant-loop
-invariant-loop g l = GoesOn g.D.Pmem.state l.fn.room l.room
+invariant-loop g l = Repeats g.D.Pmem.state l.fn.room l.room (Stamp l.session)

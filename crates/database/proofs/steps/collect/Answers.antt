@@ -1,7 +1,9 @@
+use Rattle.base.specs.declared.step.Step.TheVariants.{Collect}
+use Rattle.database.proofs.Covering.{repeats-none, repeats-then}
 use Rattle.database.proofs.steps.collect.Goals as goal
 
+pub loop-init : goal.loop-init
+loop-init g c = repeats-none g.D.Pmem.state c.args.room.now Collect (g.met.D.Pmem.orderly c.args.room.now.device)
+
 pub loop-preserved : goal.loop-preserved
-loop-preserved g c q shows =
-    let a = c.loop.invariant q shows in
-    let s = c.step-reply.ensures.step a.0 a.1 in
-    (s.0, s.1.shows)
+loop-preserved g c = repeats-then g.D.Pmem.state c.args.room.now c.loop.room c.step-reply.new.self Collect (λ q. c.step-reply.result) c.loop.invariant c.step-reply.ensures.step

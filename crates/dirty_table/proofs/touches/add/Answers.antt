@@ -8,7 +8,7 @@ insert-requires c = omega (arith, place_le c.args.touch.line c.as_slice-2.result
 
 pub returns-clause-items : goal.returns-clause-items
 returns-clause-items c =
-    let ok : is_ok c.insert.result ≡ true = c.insert.ensures.succeeds c.requires in
+    let ok : is_ok c.insert.result ≡ true = c.insert.ensures.succeeds c.requires.room in
     added c.args.touch c.args.touches.now.items c.as_slice.result.now c.as_slice-2.result.now c.insert.new.self.items c.place-place.result
     c.as_slice.ensures.value c.as_slice-2.ensures.value (sym c.is_touched.ensures ∙ c.if-is_touched.false) c.place-place.ensures
     (c.insert.ensures.items ∙ ap (λ (b : Bool). cond b (insert c.args.touches.now.items c.place-place.result c.args.touch) c.args.touches.now.items) ok)

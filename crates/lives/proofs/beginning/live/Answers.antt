@@ -1,5 +1,7 @@
 use Rattle.std.proofs.Common.{◌∙◌, ap, sym, subst}
+use Rattle.std.specs.Prelude.{List}
 use Rattle.std.proofs.lemmas.Result.{IfOk-weaker}
+use Rattle.base.specs.declared.step.Reply.{Reply}
 use Rattle.base.specs.Images.{Image}
 use Rattle.pmem.specs.Device.{limited, restarted}
 use Rattle.pmem.specs.Words.{IsAtRest, image_of}
@@ -16,22 +18,23 @@ live_under_fuse-requires-after_bounds g c κs within =
 
 pub returns-clause-ok : goal.returns-clause-ok
 returns-clause-ok g c =
-    IfOk-weaker c.live_under_fuse.result
-    (λ lived. HasLived (image_of (device_of c.set_fuse.new.self)) c.args.life.now lived.0 (image_of (device_of lived.1)))
-    (λ lived. HasLived (image_of (device_of c.args.device)) c.args.life.now lived.0 (image_of (device_of lived.1)))
-    (λ lived has. subst (λ (i : Image). HasLived i c.args.life.now lived.0 (image_of (device_of lived.1))) (ap image_of c.set_fuse.ensures.device) has)
-    c.live_under_fuse.ensures.ok
-
-pub returns-clause-stopped : goal.returns-clause-stopped
-returns-clause-stopped g c =
     let life = c.args.life.now in
     let device = device_of c.args.device in
     let begun = device_of c.set_fuse.new.self in
     IfOk-weaker c.live_under_fuse.result
-    (λ lived. WhereItStands (image_of begun) (λ before. StopsBy life.choice begun (ReportsDevice lived.0) (LivesOn begun before life lived.0) (image_of (device_of lived.1))))
-    (λ lived. WhereItStands (image_of device) (λ before. IsStopped life lived.0 before (image_of (device_of lived.1))))
-    (λ lived stops before w same.
-    is-stopped life lived.0 before (image_of (device_of lived.1)) begun
-    (c.set_fuse.ensures.device ∙ ap (limited life.fuse) c.requires ∙ ap (λ (i : Image). limited life.fuse (restarted i)) (sym same))
-    (stops before w (same ∙ sym (ap image_of c.set_fuse.ensures.device))))
-    c.live_under_fuse.ensures.stopped
+    (λ lived. WhereItStands (image_of begun) (λ before. HasLived before life lived.0 (image_of (device_of lived.1))
+    (λ (replies : List Reply). StopsBy life.choice begun (ReportsDevice lived.0) (LivesOn begun before life lived.0 replies) (image_of (device_of lived.1)))))
+    (λ lived. WhereItStands (image_of device) (λ before. HasLived before life lived.0 (image_of (device_of lived.1))
+    (λ (replies : List Reply). IsStopped life lived.0 replies before (image_of (device_of lived.1)))))
+    (λ lived lives before w same.
+    let one = lives before w (same ∙ sym (ap image_of c.set_fuse.ensures.device)) in
+    record {
+      replies = one.replies;
+      tells = one.tells;
+      after = one.after;
+      leaves = one.leaves;
+      lives = one.lives;
+      so = is-stopped life lived.0 one.replies before (image_of (device_of lived.1)) begun
+          (c.set_fuse.ensures.device ∙ ap (limited life.fuse) c.requires ∙ ap (λ (i : Image). limited life.fuse (restarted i)) (sym same)) one.so;
+    })
+    c.live_under_fuse.ensures.ok

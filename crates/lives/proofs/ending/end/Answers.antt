@@ -1,6 +1,6 @@
 use Rattle.std.proofs.Common.{◌≡◌, Bool, true, false, sym, subst, rules}
 use Rattle.std.specs.Prelude.{Some, None, Err}
-use Rattle.base.specs.Machine.{StandsClosing}
+use Rattle.machine.specs.Machine.{StandsClosing}
 use Rattle.pmem.specs.Device.{Device, MayLeave}
 use Rattle.pmem.specs.Words.{image_of}
 use Rattle.pmem_model.specs.Sim.{device_of}

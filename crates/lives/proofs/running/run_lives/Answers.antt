@@ -33,7 +33,7 @@ loop-life-preserved g c =
     ap (λ n. take n lives) (add-one i) ∙ take-suc lives i life c.loop-life-test.true ∙ ap (λ (l : Life). take i lives ++ l ∷ []) (sym c.life-item.is) in (
       subst (λ (l : List Life). Chain c.args.geometry l c.push.new.self.items image) (sym lived)
           (subst (λ (r : List LifeReport). Chain c.args.geometry (take i lives ++ life ∷ []) r image) (sym c.in-Ok.ensures.items)
-          (chain-more c.args.geometry (take i lives) c.loop-life.reports.items (image_of (device_of c.loop-life.device)) image life c.in_ok-report.report before.2 before.0 c.in_ok-report.ensures.ok c.in_ok-report.ensures.stopped)),
+          (chain-more c.args.geometry (take i lives) c.loop-life.reports.items (image_of (device_of c.loop-life.device)) image life c.in_ok-report.report before.2 before.0 c.in_ok-report.ensures.ok)),
       c.in_ok-report.ensures.rests,
       before.2,
     )

@@ -1,7 +1,7 @@
 use Rattle.std.proofs.Common.{take}
 use Rattle.pmem.specs.Words.{image_of}
 use Rattle.pmem_model.specs.Sim.{device_of}
-use Rattle.base.specs.Lives.{IsWorld}
+use Rattle.machine.specs.Lives.{IsWorld}
 use Rattle.lives.specs.Chains.{fresh_world}
 use Rattle.lives.specs.Stops.{IsRestarted}
 use Rattle.lives.proofs.Chains.{Chain}

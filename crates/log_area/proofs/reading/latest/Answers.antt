@@ -9,7 +9,7 @@ returns-in-Err-clause-fault g c = damage_first (image_of (g.D.Pmem.state c.args.
 pub returns-in-Some-read_record-clause-ok : goal.returns-in-Some-read_record-clause-ok
 returns-in-Some-read_record-clause-ok g c =
     ruled_by_read c.in-Ok.geometry (image_of (g.D.Pmem.state c.args.device.now)) c.in-Ok.ensures.ok (sym c.first_wrong_gate.ensures ∙ c.in_default.is)
-    (λ e. c.if-gate-eq0.false (c.greatest_gate-gate.ensures ∙ e)) (c.greatest_gate-gate.result % c.places.result) c.in-Some-read_record.target
+    (λ e. c.if-gate-eq0.false (c.greatest_gate-gate.ensures ∙ e)) (c.greatest_gate-gate.result % c.places.result) c.in-Some-read_record.record
     (λ i. c.greatest_gate-gate.ensures i % c.places.ensures.places i) c.in-Some-read_record.ensures.read
 
 pub returns-in-None-clause-fault : goal.returns-in-None-clause-fault

@@ -20,16 +20,16 @@ returns-in-Err-clause-log g c = inl c.in-Err.ensures.fault
 -- ---- the slots
 
 pub read_slots-requires-clause-size : goal.read_slots-requires-clause-size
-read_slots-requires-clause-size g c κs within = ruled-size (g.D.Pmem.state c.args.device.now) c.in-Ok.found.geometry c.in-Ok.found.target c.in-Ok.ensures.ok
+read_slots-requires-clause-size g c κs within = ruled-size (g.D.Pmem.state c.args.device.now) c.in-Ok.found.geometry c.in-Ok.found.record c.in-Ok.ensures.ok
 
 pub read_slots-requires-clause-under : goal.read_slots-requires-clause-under
-read_slots-requires-clause-under g c κs within = under c.in-Ok.found.geometry c.in-Ok.found.target (image_of (g.D.Pmem.state c.args.device.now)) c.in-Ok.ensures.ok
+read_slots-requires-clause-under g c κs within = under c.in-Ok.found.geometry c.in-Ok.found.record (image_of (g.D.Pmem.state c.args.device.now)) c.in-Ok.ensures.ok
 
 pub returns-in-Err-read_slots-clause-fault : goal.returns-in-Err-read_slots-clause-fault
-returns-in-Err-read_slots-clause-fault g c = refuses-memory c.in-Ok.found.geometry c.in-Ok.found.target (image_of (g.D.Pmem.state c.args.device.now)) c.in-Ok.ensures.ok
+returns-in-Err-read_slots-clause-fault g c = refuses-memory c.in-Ok.found.geometry c.in-Ok.found.record (image_of (g.D.Pmem.state c.args.device.now)) c.in-Ok.ensures.ok
 
 pub returns-in-Err-read_slots-clause-log : goal.returns-in-Err-read_slots-clause-log
-returns-in-Err-read_slots-clause-log g c = tells-later c.in-Ok.found.geometry c.in-Ok.found.target (image_of (g.D.Pmem.state c.args.device.now)) c.in-Ok.ensures.ok _
+returns-in-Err-read_slots-clause-log g c = tells-later c.in-Ok.found.geometry c.in-Ok.found.record (image_of (g.D.Pmem.state c.args.device.now)) c.in-Ok.ensures.ok _
 
 pub free_slots-requires : goal.free_slots-requires
 free_slots-requires g c =
@@ -38,34 +38,34 @@ free_slots-requires g c =
 pub returns-in-Err-free_slots-clause-fault : goal.returns-in-Err-free_slots-clause-fault
 returns-in-Err-free_slots-clause-fault g c =
     let image = image_of (g.D.Pmem.state c.args.device.now) in
-    refuses-slots c.in-Ok.found.geometry c.in-Ok.found.target image c.in-Ok.ensures.ok c.in-Err-free_slots.fault (c.in-Err-free_slots.ensures.fault image (c.as_slice.ensures.value ∙ c.in-Ok-read_slots.ensures))
+    refuses-slots c.in-Ok.found.geometry c.in-Ok.found.record image c.in-Ok.ensures.ok c.in-Err-free_slots.fault (c.in-Err-free_slots.ensures.fault image (c.as_slice.ensures.value ∙ c.in-Ok-read_slots.ensures))
 
 pub returns-in-Err-free_slots-clause-log : goal.returns-in-Err-free_slots-clause-log
-returns-in-Err-free_slots-clause-log g c = tells-later c.in-Ok.found.geometry c.in-Ok.found.target (image_of (g.D.Pmem.state c.args.device.now)) c.in-Ok.ensures.ok c.in-Err-free_slots.fault
+returns-in-Err-free_slots-clause-log g c = tells-later c.in-Ok.found.geometry c.in-Ok.found.record (image_of (g.D.Pmem.state c.args.device.now)) c.in-Ok.ensures.ok c.in-Err-free_slots.fault
 
 -- ---- the limit
 
 pub is_near_limit-requires-clause-window : goal.is_near_limit-requires-clause-window
-is_near_limit-requires-clause-window g c = window-small c.in-Ok.found.geometry c.in-Ok.found.target (image_of (g.D.Pmem.state c.args.device.now)) c.in-Ok.ensures.ok
+is_near_limit-requires-clause-window g c = window-small c.in-Ok.found.geometry c.in-Ok.found.record (image_of (g.D.Pmem.state c.args.device.now)) c.in-Ok.ensures.ok
 
 pub is_near_limit-requires-clause-dirty : goal.is_near_limit-requires-clause-dirty
-is_near_limit-requires-clause-dirty g c = (formed-parts c.in-Ok.found.geometry c.in-Ok.found.target (image_of (g.D.Pmem.state c.args.device.now)) c.in-Ok.ensures.ok).limit
+is_near_limit-requires-clause-dirty g c = (formed-parts c.in-Ok.found.geometry c.in-Ok.found.record (image_of (g.D.Pmem.state c.args.device.now)) c.in-Ok.ensures.ok).limit
 
 pub is_near_limit-requires-clause-gate : goal.is_near_limit-requires-clause-gate
-is_near_limit-requires-clause-gate g c = (fits_image c.in-Ok.found.geometry c.in-Ok.found.target (image_of (g.D.Pmem.state c.args.device.now)) c.in-Ok.ensures.ok).in_range
+is_near_limit-requires-clause-gate g c = (fits_image c.in-Ok.found.geometry c.in-Ok.found.record (image_of (g.D.Pmem.state c.args.device.now)) c.in-Ok.ensures.ok).in_range
 
 pub returns-then-is_near_limit-clause-fault : goal.returns-then-is_near_limit-clause-fault
 returns-then-is_near_limit-clause-fault g c =
     let image = image_of (g.D.Pmem.state c.args.device.now) in
-    refuses-limit c.in-Ok.found.geometry c.in-Ok.found.target image c.in-Ok.ensures.ok (c.in-Ok-free_slots.ensures.good image (c.as_slice.ensures.value ∙ c.in-Ok-read_slots.ensures)) (sym c.is_near_limit.ensures ∙ c.if-is_near_limit.true)
+    refuses-limit c.in-Ok.found.geometry c.in-Ok.found.record image c.in-Ok.ensures.ok (c.in-Ok-free_slots.ensures.good image (c.as_slice.ensures.value ∙ c.in-Ok-read_slots.ensures)) (sym c.is_near_limit.ensures ∙ c.if-is_near_limit.true)
 
 pub returns-then-is_near_limit-clause-log : goal.returns-then-is_near_limit-clause-log
-returns-then-is_near_limit-clause-log g c = tells-later c.in-Ok.found.geometry c.in-Ok.found.target (image_of (g.D.Pmem.state c.args.device.now)) c.in-Ok.ensures.ok _
+returns-then-is_near_limit-clause-log g c = tells-later c.in-Ok.found.geometry c.in-Ok.found.record (image_of (g.D.Pmem.state c.args.device.now)) c.in-Ok.ensures.ok _
 
 -- ---- what is told
 
 pub gather-requires : goal.gather-requires
-gather-requires g c = may-rule c.in-Ok.found.geometry c.in-Ok.found.target (image_of (g.D.Pmem.state c.args.device.now)) c.in-Ok.ensures.ok
+gather-requires g c = may-rule c.in-Ok.found.geometry c.in-Ok.found.record (image_of (g.D.Pmem.state c.args.device.now)) c.in-Ok.ensures.ok
 
 pub returns-in-Ok-gather-clause-ok : goal.returns-in-Ok-gather-clause-ok
 returns-in-Ok-gather-clause-ok g c =
@@ -77,7 +77,7 @@ returns-in-Ok-gather-clause-ok g c =
     let good = c.in-Ok-free_slots.ensures.good image are in
     subst (λ (l : Layout). Examined image l e.ruling e.gaps e.free.items e.live.items) (sym tells.layout)
     (subst (λ (r : Record). Examined image found.geometry r e.gaps e.free.items e.live.items) (sym tells.rules)
-    (examined found.geometry found.target image c.in-Ok.ensures.ok good (sym c.is_near_limit.ensures ∙ c.if-is_near_limit.false) e.gaps tells.gaps
+    (examined found.geometry found.record image c.in-Ok.ensures.ok good (sym c.is_near_limit.ensures ∙ c.if-is_near_limit.false) e.gaps tells.gaps
     e.free.items (tells.free ∙ c.in-Ok-free_slots.ensures.free image are)
     e.live.items (all-live image found.geometry.slots c.as_slice-2.result.now e.live.items (c.as_slice-2.ensures.value ∙ c.in-Ok-read_slots.ensures) good tells.live)))
 
@@ -88,10 +88,10 @@ returns-in-Ok-gather-clause-hits g c =
     let tells = c.in-Ok-gather.ensures in
     let e = c.in-Ok-gather.examined in
     subst (λ (l : Layout). AreHits image l e.gaps e.hits.items) (sym tells.layout)
-    (are-hits image found.geometry found.target e.gaps c.as_slice-2.result.now e.hits.items c.in-Ok.ensures.ok.by_record (c.as_slice-2.ensures.value ∙ c.in-Ok-read_slots.ensures) tells.hits)
+    (are-hits image found.geometry found.record e.gaps c.as_slice-2.result.now e.hits.items c.in-Ok.ensures.ok.by_record (c.as_slice-2.ensures.value ∙ c.in-Ok-read_slots.ensures) tells.hits)
 
 pub returns-clause-fault : goal.returns-clause-fault
-returns-clause-fault g c = refuses-memory c.in-Ok.found.geometry c.in-Ok.found.target (image_of (g.D.Pmem.state c.args.device.now)) c.in-Ok.ensures.ok
+returns-clause-fault g c = refuses-memory c.in-Ok.found.geometry c.in-Ok.found.record (image_of (g.D.Pmem.state c.args.device.now)) c.in-Ok.ensures.ok
 
 pub returns-clause-log : goal.returns-clause-log
-returns-clause-log g c = tells-later c.in-Ok.found.geometry c.in-Ok.found.target (image_of (g.D.Pmem.state c.args.device.now)) c.in-Ok.ensures.ok _
+returns-clause-log g c = tells-later c.in-Ok.found.geometry c.in-Ok.found.record (image_of (g.D.Pmem.state c.args.device.now)) c.in-Ok.ensures.ok _

@@ -1,7 +1,7 @@
 use Rattle.std.proofs.Common.{◌≡◌, ◌∙◌, arith, subst, sym}
 use Rattle.base.specs.Layout.{total_words}
 use Rattle.base.specs.Images.{Image}
-use Rattle.base.specs.Laws.{StandsEmpty}
+use Rattle.base.specs.Fresh.{StandsEmpty}
 use Rattle.base.proofs.Fresh.{fresh-stands}
 use Rattle.recovery.proofs.Fresh.{image-fresh}
 use Rattle.recovery.proofs.formatting.format.Goals as goal

@@ -9,10 +9,10 @@ pub returns-in-Err-clause-fault : goal.returns-in-Err-clause-fault
 returns-in-Err-clause-fault g c = refusal-log (image_of (g.D.Pmem.state c.args.device.now)) c.in-Err.fault c.in-Err.ensures.fault
 
 pub read_slots-requires-clause-size : goal.read_slots-requires-clause-size
-read_slots-requires-clause-size g c κs within = ruled-size (g.D.Pmem.state c.args.device.now) c.in-Ok.found.geometry c.in-Ok.found.target c.in-Ok.ensures.ok
+read_slots-requires-clause-size g c κs within = ruled-size (g.D.Pmem.state c.args.device.now) c.in-Ok.found.geometry c.in-Ok.found.record c.in-Ok.ensures.ok
 
 pub read_slots-requires-clause-under : goal.read_slots-requires-clause-under
-read_slots-requires-clause-under g c κs within = under c.in-Ok.found.geometry c.in-Ok.found.target (image_of (g.D.Pmem.state c.args.device.now)) c.in-Ok.ensures.ok
+read_slots-requires-clause-under g c κs within = under c.in-Ok.found.geometry c.in-Ok.found.record (image_of (g.D.Pmem.state c.args.device.now)) c.in-Ok.ensures.ok
 
 pub free_slots-requires : goal.free_slots-requires
 free_slots-requires g c =
@@ -21,15 +21,15 @@ free_slots-requires g c =
 pub returns-in-Err-free_slots-clause-fault : goal.returns-in-Err-free_slots-clause-fault
 returns-in-Err-free_slots-clause-fault g c =
     let image = image_of (g.D.Pmem.state c.args.device.now) in
-    refusal-slots c.in-Ok.found.geometry c.in-Ok.found.target image c.in-Ok.ensures.ok c.in-Err-free_slots.fault (c.in-Err-free_slots.ensures.fault image (c.as_slice.ensures.value ∙ c.in-Ok-read_slots.ensures))
+    refusal-slots c.in-Ok.found.geometry c.in-Ok.found.record image c.in-Ok.ensures.ok c.in-Err-free_slots.fault (c.in-Err-free_slots.ensures.fault image (c.as_slice.ensures.value ∙ c.in-Ok-read_slots.ensures))
 
 pub returns-in-Ok-live_rows-clause-ok : goal.returns-in-Ok-live_rows-clause-ok
 returns-in-Ok-live_rows-clause-ok g c =
     let image = image_of (g.D.Pmem.state c.args.device.now) in
     let found = c.in-Ok.found in
     let good = c.in_default.ensures.good image (c.as_slice.ensures.value ∙ c.in-Ok-read_slots.ensures) in
-    is-read found.geometry found.target image c.in-Ok.ensures.ok good c.in-Ok-live_rows.rows.items
+    is-read found.geometry found.record image c.in-Ok.ensures.ok good c.in-Ok-live_rows.rows.items
     (all-rows image found.geometry.slots c.as_slice-2.result.now c.in-Ok-live_rows.rows.items (c.as_slice-2.ensures.value ∙ c.in-Ok-read_slots.ensures) good c.in-Ok-live_rows.ensures)
 
 pub returns-in-Err-read_slots-clause-fault : goal.returns-in-Err-read_slots-clause-fault
-returns-in-Err-read_slots-clause-fault g c = refusal-memory c.in-Ok.found.geometry c.in-Ok.found.target (image_of (g.D.Pmem.state c.args.device.now)) c.in-Ok.ensures.ok
+returns-in-Err-read_slots-clause-fault g c = refusal-memory c.in-Ok.found.geometry c.in-Ok.found.record (image_of (g.D.Pmem.state c.args.device.now)) c.in-Ok.ensures.ok

@@ -1,4 +1,4 @@
-use Rattle.base.specs.Machine.{note_of}
+use Rattle.base.specs.Replies.{note_of}
 use Rattle.base.specs.declared.step.Step.{Step}
 use Rattle.base.specs.declared.step.Note.{Note}
 use Rattle.engine.proofs.Fitting.{fits-last}
@@ -45,6 +45,6 @@ returns-clause-moved g c =
     ∙ (ap (λ (s : Step). phase_after_step c.args.self.now.phase s r.note) kept.asked
     ∙ ap (λ (n : Note). phase_after_step c.args.self.now.phase c.args.step n) kept.note)
 
-pub invariant_of-deref_mut : goal.invariant_of-deref_mut
-invariant_of-deref_mut g c =
-    record { from = from-stepped g.D.Pmem.state g.J.Origin.image c.deref_mut.result.now.audited c.in-Some.audited c.step-reply.new.self c.deref_mut.result.now.from c.in-Some.is c.step-reply.ensures.audited }
+pub invariant_of-deref_mut-clause-from : goal.invariant_of-deref_mut-clause-from
+invariant_of-deref_mut-clause-from g c =
+    from-stepped g.D.Pmem.state g.J.Origin.image c.deref_mut.result.now.audited c.in-Some.audited c.step-reply.new.self c.deref_mut.result.now.from c.in-Some.is c.step-reply.ensures.audited

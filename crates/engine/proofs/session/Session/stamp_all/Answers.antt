@@ -2,7 +2,7 @@ use Rattle.std.proofs.Common.{◌≡◌, ◌∙◌, ap, inr, refl}
 use Rattle.std.proofs.lemmas.List.Elements.{All-push}
 use Rattle.base.specs.declared.step.Step.TheVariants.{Stamp}
 use Rattle.base.specs.declared.step.Reply.{Reply}
-use Rattle.base.specs.Machine.{note_of}
+use Rattle.base.specs.Replies.{note_of}
 use Rattle.audited.specs.declared.receipt.Receipt.{Receipt}
 use Rattle.engine.specs.Phases.{phase_after_step}
 use Rattle.engine.proofs.Calls.{Called-more}

@@ -1,7 +1,7 @@
-use Rattle.std.proofs.Common.{◌≡◌, ◌∙◌, ap, inr, refl}
+use Rattle.std.proofs.Common.{◌≡◌, ◌∙◌, ap, inl, inr, refl}
 use Rattle.std.proofs.lemmas.List.Elements.{All-push}
 use Rattle.base.specs.declared.step.Step.TheVariants.{Poll}
-use Rattle.base.specs.Machine.{note_of}
+use Rattle.base.specs.Replies.{note_of}
 use Rattle.audited.specs.declared.receipt.Receipt.{Receipt}
 use Rattle.engine.proofs.Calls.{Called-more}
 use Rattle.engine.proofs.session.Session.wait.Goals as goal
@@ -28,5 +28,5 @@ pub returns-in-Refused : goal.returns-in-Refused
 returns-in-Refused g c =
     record {
       steps = Called-more _ _ _ _ _ _ _ c.loop.invariant c.in_ok-make.ensures.ok (λ added r all step note.
-          (All-push (λ (s : Receipt). s.step ≡ Poll c.args.number) added r all step, inr (added, r, refl, note ∙ ap note_of c.in-Refused.is)));
+          (All-push (λ (s : Receipt). s.step ≡ Poll c.args.number) added r all step, inl (inr (added, r, refl, note ∙ ap note_of c.in-Refused.is))));
     }

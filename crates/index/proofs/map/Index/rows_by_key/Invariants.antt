@@ -11,4 +11,4 @@ use Rattle.index.proofs.map.Index.rows_by_key.Given as goal
 abbrev pub invariant-loop-key : goal.invariant-loop-key
 invariant-loop-key g l =
     (counts : ℕ → Bool) (tables : Tables) → CountsAs counts l.snapshot l.geometry (image_of (g.D.Pmem.state l.device)) → AreLinked l.snapshot (image_of (g.D.Pmem.state l.device)) l.self
-    → ShowsTables counts l.geometry (image_of (g.D.Pmem.state l.device)) tables → HasUpTo tables l.self l.initial.key-iterator l.key-iterator (get key_cmp l.seen)
+    → ShowsTables counts l.geometry (image_of (g.D.Pmem.state l.device)) tables → HasUpTo tables l.initial.key-iterator l.key-iterator (get key_cmp l.seen)

@@ -4,9 +4,9 @@ use Rattle.base.specs.declared.fault.Fault.{Fault}
 use Rattle.base.specs.declared.gap.Gap.{Gap}
 use Rattle.base.specs.Images.{opening_fault}
 use Rattle.base.specs.Layout.{Layout, opened_layout}
-use Rattle.base.specs.Openings.{record_counts, update_counts, updated}
+use Rattle.machine.specs.Openings.{record_counts, update_counts, updated}
 use Rattle.base.specs.Records.{Record}
-use Rattle.base.proofs.Updated.{updated-open}
+use Rattle.machine.proofs.Updated.{updated-open}
 use Rattle.pmem.specs.Device.{Device}
 use Rattle.pmem.specs.Words.{image_of, Spares}
 use Rattle.base.specs.Images.{Image}

@@ -1,6 +1,6 @@
 use Rattle.std.proofs.Common.{◌∙◌}
-use Rattle.base.specs.Machine.{StandsClosing}
-use Rattle.base.proofs.Runs.{StandsAt-closing}
+use Rattle.machine.specs.Machine.{StandsClosing}
+use Rattle.machine.proofs.Runs.{StandsAt-closing}
 use Rattle.pmem.proofs.Images.{leaves_refl}
 use Rattle.room.proofs.Rooms.{shows-some}
 use Rattle.room.proofs.room.Room.close.Goals as goal

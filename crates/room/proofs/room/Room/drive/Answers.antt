@@ -3,7 +3,7 @@ use Rattle.std.proofs.Math.Seq.{take-suc}
 use Rattle.std.proofs.lemmas.List.{take_all}
 use Rattle.base.specs.declared.step.Step.{Step}
 use Rattle.base.specs.declared.step.Reply.{Reply}
-use Rattle.base.specs.Machine.{final}
+use Rattle.machine.specs.Machine.{final}
 use Rattle.room.specs.Room.{RunsTo}
 use Rattle.room.proofs.Runs.{run-none, run-then}
 use Rattle.room.proofs.room.Room.drive.Goals as goal

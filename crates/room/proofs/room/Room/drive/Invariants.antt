@@ -1,6 +1,6 @@
 use Rattle.std.proofs.Common.{◌≡◌, ◌≤◌, List, length, take}
 use Rattle.std.specs.Vec.{vec_len, vec_capacity}
-use Rattle.base.specs.Machine.{State}
+use Rattle.machine.specs.Machine.{State}
 use Rattle.room.specs.Room.{Shows, RunsTo}
 use Rattle.room.proofs.room.Room.drive.Given as goal
 

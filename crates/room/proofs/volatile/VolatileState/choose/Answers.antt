@@ -5,7 +5,7 @@ use Rattle.std.proofs.Math.Bridge.{le_prop}
 use Rattle.std.proofs.Math.Logic.{∥∥₁_elim}
 use Rattle.base.specs.declared.step.Step.TheVariants.{Commit as CommitTick}
 use Rattle.base.specs.declared.step.Reply.TheVariants.{Idle, Refused}
-use Rattle.base.specs.Machine.{State}
+use Rattle.machine.specs.Machine.{State}
 use Rattle.base.specs.Records.{is_committed}
 use Rattle.group_commit.specs.Choosing.{longs_of, is_idle, batch_of, record_of, IsBeginFault}
 use Rattle.group_commit.specs.Cycles.{Cycling}

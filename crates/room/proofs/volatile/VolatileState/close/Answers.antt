@@ -1,7 +1,7 @@
 use Rattle.std.proofs.Common.{◌≡◌, Bool, false}
 use Rattle.std.proofs.lemmas.Result.{on_ok_weaker}
 use Rattle.base.specs.declared.fault.Fault.{Fault}
-use Rattle.base.specs.Machine.{State}
+use Rattle.machine.specs.Machine.{State}
 use Rattle.base.proofs.Results.{reported}
 use Rattle.room.specs.Committing.{Shows}
 use Rattle.room.specs.Closing.{IsDonePart, IsClosingRefusal}

@@ -37,7 +37,7 @@ pub returns : goal.returns
 returns c = record {
   step = λ h holds.
       goes-from c.args.self.now _ h c.promise.new.self (Delete c.args.session c.args.key) Done
-      (deletes (record c.args.self.now { dirty = c.promise.new.self }) c.write.new.self c.give.new.slots c.args.session c.args.key _ _ h c.in-Ok.ensures.ok (sym c.is_full_for.ensures.full ∙ c.if-is_full_for.false)
+      (deletes (record c.args.self.now { dirty = c.promise.new.self }) c.write.new.self c.give.new.slots c.args.session c.args.key c.place.result _ _ h c.in-Ok.ensures.ok (sym c.is_full_for.ensures.full ∙ c.if-is_full_for.false)
       (room-promised c.args.key (Some (Active c.in-Ok.active.snapshot.now c.in-Ok.active.writes.now)) c.args.session _ c.args.self.now.dirty c.promise.new.self c.in-Ok-promise.ensures.ok (omega (arith, c.lines_with.ensures)))
       (c.give.ensures ∙ ap (λ (o : Option ℕ). given o c.args.self.now.slots) c.own_slot.ensures) (c.write.ensures _ _ c.in-Ok.ensures.ok)
       (holds-promised c.args.self.now h c.args.session _ c.promise.new.self c.in-Ok-promise.ensures.ok holds));

@@ -48,7 +48,7 @@ returns-in-Err-clause-step g c = λ h holds.
 
 pub returns-in-Ok-fill-clause-step : goal.returns-in-Ok-fill-clause-step
 returns-in-Ok-fill-clause-step g c = λ h holds.
-    puts-taken c.args.self.now h c.args.session c.requires.ready.snapshot c.requires.ready.writes (record { key = c.args.key; row = c.args.row; previous = _ }) c.in-Ok.slot (g.D.Pmem.state c.args.device.now) (g.D.Pmem.state c.fill.new.device) holds
+    puts-taken c.args.self.now h c.args.session c.requires.ready.snapshot c.requires.ready.writes (record { key = c.args.key; row = c.args.row; previous = _ }) c.in-Ok.slot c.place-place.result (g.D.Pmem.state c.args.device.now) (g.D.Pmem.state c.fill.new.device) holds
     c.requires.ready.active c.requires.ready.fits c.requires.row c.requires.ready.slot c.in-Ok.ensures.lowest c.write.new.self c.take.new.self
     (subst (λ (t : Option Transaction). HasLinesWith c.args.key (promised_to c.args.self.now.dirty c.args.session) t) c.requires.ready.active c.requires.lines) c.in-Ok.ensures.taken
     (subst (λ (w : Write). Sets c.args.self.now.transactions c.write.new.self c.args.session (Some (Active c.requires.ready.snapshot (with_write_at w c.requires.ready.writes)))) c.row_write.ensures (c.write.ensures _ _ c.requires.ready.active))

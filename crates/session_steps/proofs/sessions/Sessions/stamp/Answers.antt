@@ -6,7 +6,7 @@ use Rattle.std.specs.Prelude.{Option, ◌++◌}
 use Rattle.base.specs.declared.step.SessionStep.TheVariants.{Stamp}
 use Rattle.pmem.specs.Trace.{Runs, StopsWithin}
 use Rattle.version_slot.specs.Operations.{begin_operations, end_operations}
-use Rattle.base.specs.Machine.{ByCommit}
+use Rattle.machine.specs.Machine.{ByCommit}
 use Rattle.index.specs.Entries.{entry_at, live_of}
 use Rattle.state_invariant.specs.Kept.{version_by}
 use Rattle.device_invariant.specs.Slots.{newest_of}

@@ -1,9 +1,0 @@
-use Rattle.base.proofs.Cycles.{cycle-whole}
-use Rattle.base.proofs.Staying.{others-keep}
-use Rattle.base.proofs.law.cycles_are_whole.Goals as goal
-
-pub returns-clause-whole : goal.returns-clause-whole
-returns-clause-whole c = cycle-whole
-
-pub returns-clause-others : goal.returns-clause-others
-returns-clause-others c = others-keep

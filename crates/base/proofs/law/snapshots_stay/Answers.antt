@@ -1,5 +1,0 @@
-use Rattle.base.proofs.Snapshots.{sees-opened, sees-kept, sees-the-same}
-use Rattle.base.proofs.law.snapshots_stay.Goals as goal
-
-pub returns : goal.returns
-returns c = record { opened = sees-opened; kept = sees-kept; stays = sees-the-same }

@@ -1,6 +1,0 @@
-use Rattle.base.proofs.Growth.{run-rise}
-use Rattle.base.proofs.Returns.{lives-lived}
-use Rattle.base.proofs.law.timestamps_are_drawn_once.Goals as goal
-
-pub returns : goal.returns
-returns c = record { run = run-rise; lives = λ before asked reports after w lives. (lives-lived before asked reports after w lives).1 }

@@ -1,0 +1,143 @@
+use base::fault::Fault;
+use base::key::Key;
+use base::row::Row;
+use base::step::{Reply, Stage, Step};
+use pmem::Pmem;
+use room::Room;
+
+// Each kind of call has a function of its own, which isn't inlined: its instructions are counted by its name.
+
+// How many words a record's body stores.
+const WORDS: u64 = 31;
+
+// Whether the step was refused.
+fn told(reply: &Reply) -> Result<(), Fault> {
+    match reply {
+        Reply::Refused(fault) => Err(*fault),
+        _ => Ok(()),
+    }
+}
+
+/// Begins a session. Its number.
+#[inline(never)]
+pub fn begin<D: Pmem + Drop>(room: &mut Room<D>) -> Result<u8, Fault> {
+    match &room.step(Step::Begin) {
+        Reply::Began(session) => Ok(*session),
+        Reply::Refused(fault) => Err(*fault),
+        _ => Err(Fault::WrongState),
+    }
+}
+
+#[inline(never)]
+pub fn put<D: Pmem + Drop>(
+    room: &mut Room<D>,
+    session: u8,
+    key: Key,
+    number: u64,
+) -> Result<(), Fault> {
+    let row = Row::new(&number.to_le_bytes())?;
+    told(&room.step(Step::Put { session, key, row }))
+}
+
+#[inline(never)]
+pub fn draw<D: Pmem + Drop>(room: &mut Room<D>, session: u8) -> Result<(), Fault> {
+    told(&room.step(Step::Draw { session }))
+}
+
+#[inline(never)]
+pub fn stamp<D: Pmem + Drop>(room: &mut Room<D>, session: u8) -> Result<(), Fault> {
+    told(&room.step(Step::Stamp { session }))
+}
+
+#[inline(never)]
+pub fn poll<D: Pmem + Drop>(room: &mut Room<D>, session: u8) -> Result<(), Fault> {
+    told(&room.step(Step::Poll { session }))
+}
+
+#[inline(never)]
+pub fn end<D: Pmem + Drop>(room: &mut Room<D>, session: u8) -> Result<(), Fault> {
+    told(&room.step(Step::End { session }))
+}
+
+/// Reads the row of the key. Whether there is one.
+#[inline(never)]
+pub fn get<D: Pmem + Drop>(room: &mut Room<D>, session: u8, key: Key) -> Result<bool, Fault> {
+    match &room.step(Step::Get { session, key }) {
+        Reply::Row(row) => Ok(row.is_some()),
+        Reply::Refused(fault) => Err(*fault),
+        _ => Err(Fault::WrongState),
+    }
+}
+
+/// Lets the collector make a visit.
+#[inline(never)]
+pub fn visit<D: Pmem + Drop>(room: &mut Room<D>) -> Result<(), Fault> {
+    told(&room.visit())
+}
+
+/// A round of the collector: a visit of each slot, and of the closing place.
+pub fn collect<D: Pmem + Drop>(room: &mut Room<D>, slots: u64) -> Result<(), Fault> {
+    for _ in 0..slots {
+        visit(room)?;
+    }
+    visit(room)
+}
+
+// A tick that stores a word of the record's body.
+#[inline(never)]
+fn store_word<D: Pmem + Drop>(room: &mut Room<D>) -> Result<(), Fault> {
+    told(&room.tick())
+}
+
+// A tick that flushes a line of the batch. Whether it was one: the tick after the last fences them.
+#[inline(never)]
+fn flush_line<D: Pmem + Drop>(room: &mut Room<D>) -> Result<bool, Fault> {
+    match &room.tick() {
+        Reply::Ticked(Stage::LineFlushed(_)) => Ok(true),
+        Reply::Refused(fault) => Err(*fault),
+        _ => Ok(false),
+    }
+}
+
+// Another tick. Whether a batch is in hand after it.
+#[inline(never)]
+fn tick<D: Pmem + Drop>(room: &mut Room<D>) -> Result<bool, Fault> {
+    match &room.tick() {
+        Reply::Ticked(_) => Ok(true),
+        Reply::Refused(fault) => Err(*fault),
+        _ => Ok(false),
+    }
+}
+
+// Flushes the lines of the batch in hand, and fences them. How many ticks that takes.
+fn flush_lines<D: Pmem + Drop>(room: &mut Room<D>) -> Result<u64, Fault> {
+    for ticks in 1..u64::MAX {
+        if !flush_line(room)? {
+            return Ok(ticks);
+        }
+    }
+    Ok(u64::MAX)
+}
+
+// Ticks until nothing is in hand. How often.
+fn finish<D: Pmem + Drop>(room: &mut Room<D>) -> Result<u64, Fault> {
+    for ticks in 1..u64::MAX {
+        if !tick(room)? {
+            return Ok(ticks);
+        }
+    }
+    Ok(u64::MAX)
+}
+
+/// Ticks the committer until it has covered a batch, or has nothing to do. How often.
+pub fn cover<D: Pmem + Drop>(room: &mut Room<D>) -> Result<u64, Fault> {
+    if !tick(room)? {
+        return Ok(1);
+    }
+    let lines = flush_lines(room)?;
+    for _ in 0..WORDS {
+        store_word(room)?;
+    }
+    let rest = finish(room)?;
+    Ok(lines.saturating_add(rest).saturating_add(1 + WORDS))
+}

@@ -1,0 +1,135 @@
+-- Touches by rising line: those from a line on.
+use Rattle.std.proofs.Common.{◌≡◌, ◌⊎◌, ℕ, zero, suc, ◌+◌, ◌<◌, ◌≤◌, Bool, true, false, cond, ◌&&◌, ◌||◌, not, nat_eq, nat_le, nat_lt, List, [], ◌∷◌, length, drop, Option, Some, None, refl, sym, ◌∙◌, ap, subst, arith, get_or}
+use Rattle.std.specs.List.{list_any, find, position_or_len}
+use Rattle.std.specs.List.Sorted.{IsNonDecreasingBy, IsPartitionPoint}
+use Rattle.std.proofs.lemmas.Bool.{and_parts, and_from, leb-true, leb-false, ltb-true, ltb-false, lt-ltb, le-leb, eqb-true}
+use Rattle.std.proofs.lemmas.Bool.Decides.{nat_tests}
+use Rattle.std.proofs.lemmas.List.Sums.{position_or_len_is}
+use Rattle.dirty_table.specs.declared.touches.Touch.{Touch}
+use Rattle.dirty_table.specs.Touches.{is_touched, are_from, are_in_order}
+
+-- the first line isn't below the number that they are from, and each isn't below those before it
+no_lower : (low : ℕ) (touches : List Touch) → are_from low touches ≡ true → (i j : ℕ) (d : Touch) → i ≤ j → j < length touches → (low ≤ (get_or touches i d).line) × ((get_or touches i d).line ≤ (get_or touches j d).line)
+no_lower low [] o i j d le lt = absurd (omega (arith, lt))
+no_lower low (touch ∷ touches) o zero zero d le lt = (leb-true low touch.line (and_parts (nat_le low touch.line) (are_from touch.line touches) o).0, omega arith)
+no_lower low (touch ∷ touches) o zero (suc j) d le lt =
+    let parts = and_parts (nat_le low touch.line) (are_from touch.line touches) o in
+    (leb-true low touch.line parts.0, (no_lower touch.line touches parts.1 j j d (omega arith) (omega (arith, lt))).0)
+no_lower low (touch ∷ touches) o (suc i) zero d le lt = absurd (omega (arith, le))
+no_lower low (touch ∷ touches) o (suc i) (suc j) d le lt =
+    let parts = and_parts (nat_le low touch.line) (are_from touch.line touches) o in
+    let first = leb-true low touch.line parts.0 in
+    let rest = no_lower touch.line touches parts.1 i j d (omega (arith, le)) (omega (arith, lt)) in
+    (omega (arith, first, rest.0), rest.1)
+
+pub rising : (touches : List Touch) → are_in_order touches ≡ true → IsNonDecreasingBy (λ (touch : Touch). touch.line) touches
+rising touches o i j d le lt = (no_lower 0 touches o i j d le lt).1
+
+-- where a search by halving ends
+pub halved : (line : ℕ) (touches : List Touch) (place : ℕ) → place ≤ length touches → IsPartitionPoint (λ (touch : Touch). nat_lt touch.line line ≡ true) (λ (touch : Touch). nat_lt touch.line line ≡ false) touches place
+    → place ≡ position_or_len (λ touch. nat_le line touch.line) touches
+halved line touches place le point =
+    let none : Touch = record { line = 0; session = 0 } in
+    sym (position_or_len_is (λ (touch : Touch). nat_le line touch.line) touches place none le
+    (λ k lt. below (get_or touches k none).line (point.0 k none (omega arith) lt))
+    (λ lt. above (get_or touches place none).line (point.1 place none (omega arith) lt)))
+  where
+    below : (l : ℕ) → nat_lt l line ≡ true → nat_le line l ≡ false
+    below l is = grind (arith, nat_tests)
+
+    above : (l : ℕ) → nat_lt l line ≡ false → nat_le line l ≡ true
+    above l is = grind (arith, nat_tests)
+
+-- ---- what is left out
+
+past : (k : ℕ) (touch : Touch) (touches : List Touch) → drop (1 + k) (touch ∷ touches) ≡ drop k touches
+past k touch touches = let one : 1 + k ≡ suc k = omega arith in ap (λ (n : ℕ). drop n (touch ∷ touches)) one
+
+abbrev from : ℕ → Touch → Bool
+from line touch = nat_le line touch.line
+
+-- those from a line on are in order from it on
+pub rest-from : (line low : ℕ) (touches : List Touch) → are_from low touches ≡ true → are_from line (drop (position_or_len (from line) touches) touches) ≡ true
+rest-from line low [] o = refl
+rest-from line low (touch ∷ touches) o = by (nat_le line touch.line) refl (rest-from line touch.line touches parts.1)
+  where
+    parts : (nat_le low touch.line ≡ true) × (are_from touch.line touches ≡ true)
+    parts = and_parts (nat_le low touch.line) (are_from touch.line touches) o
+
+    by : (b : Bool) → nat_le line touch.line ≡ b → are_from line (drop (position_or_len (from line) touches) touches) ≡ true → are_from line (drop (cond (not b) (1 + position_or_len (from line) touches) 0) (touch ∷ touches)) ≡ true
+    by true is rest = and_from (nat_le line touch.line) (are_from touch.line touches) is parts.1
+    by false is rest = ap (λ (ts : List Touch). are_from line ts) (past (position_or_len (from line) touches) touch touches) ∙ rest
+
+-- a search that takes none below the line needs these alone
+pub found-rest : (line : ℕ) (test : Touch → Bool) (touches : List Touch) → find (λ touch. nat_le line touch.line && test touch) touches ≡ find (λ touch. nat_le line touch.line && test touch) (drop (position_or_len (from line) touches) touches)
+found-rest line test [] = refl
+found-rest line test (touch ∷ touches) = by (nat_le line touch.line) refl (found-rest line test touches)
+  where
+    wanted : Touch → Bool
+    wanted touch = nat_le line touch.line && test touch
+
+    by : (b : Bool) → nat_le line touch.line ≡ b → find wanted touches ≡ find wanted (drop (position_or_len (from line) touches) touches)
+        → cond (b && test touch) (Some touch) (find wanted touches) ≡ find wanted (drop (cond (not b) (1 + position_or_len (from line) touches) 0) (touch ∷ touches))
+    by true is rest = ap (λ (b : Bool). cond (b && test touch) (Some touch) (find wanted touches)) (sym is)
+    by false is rest = rest ∙ sym (ap (λ (ts : List Touch). find wanted ts) (past (position_or_len (from line) touches) touch touches))
+
+-- the line is touched where one of these touches it
+pub touched-rest : (session line : ℕ) (touches : List Touch) → is_touched touches session line ≡ is_touched (drop (position_or_len (from line) touches) touches) session line
+touched-rest session line [] = refl
+touched-rest session line (touch ∷ touches) = by (nat_le line touch.line) refl (touched-rest session line touches)
+  where
+    apart : (l : ℕ) → nat_le line l ≡ false → nat_eq l line ≡ false
+    apart l is = grind (arith, nat_tests)
+
+    none : (x y : Bool) → x ≡ false → (b : Bool) → ((b && x) || y) ≡ y
+    none true y is b = absurd (cc is)
+    none false y is true = refl
+    none false y is false = refl
+
+    by : (b : Bool) → nat_le line touch.line ≡ b → is_touched touches session line ≡ is_touched (drop (position_or_len (from line) touches) touches) session line
+        → is_touched (touch ∷ touches) session line ≡ is_touched (drop (cond (not b) (1 + position_or_len (from line) touches) 0) (touch ∷ touches)) session line
+    by true is rest = refl
+    by false is rest = none (nat_eq touch.line line) (is_touched touches session line) (apart touch.line is) (nat_eq touch.session session) ∙ rest ∙ sym (ap (λ (ts : List Touch). is_touched ts session line) (past (position_or_len (from line) touches) touch touches))
+
+-- ---- a line among those that aren't below it
+
+above-untouched : (session line low : ℕ) (touches : List Touch) → line < low → are_from low touches ≡ true → is_touched touches session line ≡ false
+above-untouched session line low [] lt o = refl
+above-untouched session line low (touch ∷ touches) lt o =
+    let parts = and_parts (nat_le low touch.line) (are_from touch.line touches) o in
+    let first = leb-true low touch.line parts.0 in
+    neither (nat_eq touch.session session) (nat_eq touch.line line) (is_touched touches session line) (apart touch.line (omega (arith, lt, first)))
+    (above-untouched session line touch.line touches (omega (arith, lt, first)) parts.1)
+  where
+    apart : (l : ℕ) → line < l → nat_eq l line ≡ false
+    apart l lt = grind (arith, nat_tests)
+
+    neither : (a b c : Bool) → b ≡ false → c ≡ false → ((a && b) || c) ≡ false
+    neither true b c is none = (λ i. is i || none i)
+    neither false b c is none = none
+
+-- the first that is of the session or above the line
+abbrev pub ends : ℕ → ℕ → Touch → Bool
+ends session line touch = not (nat_eq touch.line line) || nat_eq touch.session session
+
+abbrev pub told : ℕ → Option Touch → Bool
+told line None = false
+told line (Some touch) = nat_eq touch.line line
+
+-- tells whether the session touches the line
+pub first-tells : (session line : ℕ) (touches : List Touch) → are_from line touches ≡ true → is_touched touches session line ≡ told line (find (ends session line) touches)
+first-tells session line [] o = refl
+first-tells session line (touch ∷ touches) o =
+    let parts = and_parts (nat_le line touch.line) (are_from touch.line touches) o in
+    by (nat_eq touch.line line) refl (nat_eq touch.session session) parts.0 parts.1 (first-tells session line touches)
+  where
+    higher : (l : ℕ) → nat_le line l ≡ true → nat_eq l line ≡ false → line < l
+    higher l le is = grind (arith, nat_tests)
+
+    by : (b : Bool) → nat_eq touch.line line ≡ b → (c : Bool) → nat_le line touch.line ≡ true → are_from touch.line touches ≡ true
+        → (are_from line touches ≡ true → is_touched touches session line ≡ told line (find (ends session line) touches))
+        → ((c && b) || is_touched touches session line) ≡ told line (cond (not b || c) (Some touch) (find (ends session line) touches))
+    by true is true le o rest = sym is
+    by true is false le o rest = rest (subst (λ (low : ℕ). are_from low touches ≡ true) (eqb-true touch.line line is) o)
+    by false is true le o rest = above-untouched session line touch.line touches (higher touch.line le is) o ∙ sym is
+    by false is false le o rest = above-untouched session line touch.line touches (higher touch.line le is) o ∙ sym is

@@ -1,0 +1,197 @@
+ghost use Rattle.std.specs.Option.{ForSome};
+ghost use Rattle.engine.specs.Origins.{IsFrom, HasHalted};
+
+use crate::origin::Origin;
+use audited::{Audited, Receipt};
+use base::Ts;
+use base::fault::Fault;
+use base::step::{Note, Reply, Step};
+use pmem::Pmem;
+use room::Status;
+use std::marker::PhantomData;
+
+/// How often in a row a worker may be refused memory before it sleeps, and whoever waits for the committer is told so.
+pub const REFUSALS: u64 = 100;
+
+/// What lies under the room's lock.
+#[derive(Drop)]
+pub struct Desk<D: Pmem, J: Origin> {
+    /// Taken out once the engine is closed.
+    pub audited: Option<Audited<D>>,
+    /// How many sessions were handed out.
+    pub handed: u64,
+    /// The workers are to end.
+    pub closing: bool,
+    /// A worker sleeps, since it was refused memory.
+    pub asleep: bool,
+    /// How often in a row the committer was refused memory.
+    pub refusals: u64,
+    /// What the committer was refused with, which ended it.
+    halted: Option<Fault>,
+    of: PhantomData<J>,
+    ghost from: { ForSome audited (IsFrom D.state J.image) },
+    ghost ended: { ForSome halted (HasHalted J.image) },
+}
+
+impl<D: Pmem + Drop, J: Origin> Desk<D, J> {
+    ghost use Rattle.std.specs.Prelude.{◌≡◌, ◌↔◌, ◌+◌, ◌⊎◌, IsTrue, false, nat_lt, None, IfSome, IfNone, IfErr, MatchOption, MatchResult};
+    ghost use Rattle.base.specs.declared.fault.Fault.TheVariants.{OutOfMemory};
+    ghost use Rattle.base.specs.Replies.{note_of};
+    ghost use Rattle.machine.specs.Machine.{State};
+    ghost use Rattle.room.specs.Room.{Shows};
+    ghost use Rattle.engine.specs.Lending.{HasMade, has_failed, is_covered, halted_after, why_not, waited};
+
+    /// No room yet.
+    pub fn new() -> Desk<D, J> {
+        Desk {
+            audited: None,
+            handed: 0,
+            closing: false,
+            asleep: false,
+            refusals: 0,
+            halted: None,
+            of: PhantomData,
+        }
+    }
+
+    /// Whether the room is there, and has made so many steps at least.
+    pub fn has_made(&self, steps: u64) -> bool
+        ensures { IsTrue result ↔ HasMade steps self.now.audited }
+    {
+        match &self.audited {
+            Some(audited) => steps <= audited.history().len() as u64,
+            None => false,
+        }
+    }
+
+    /// Counts one more session that is handed out.
+    pub fn hand_out(&mut self) -> Result<(), Fault>
+        ensures handed { MatchResult result (λ _. self.new.handed ≡ self.old.handed + 1) (λ fault. (fault ≡ OutOfMemory) × (self.new.handed ≡ self.old.handed)) }
+        ensures closing { self.new.closing ≡ self.old.closing }
+        ensures room { self.new.audited ≡ self.old.audited }
+    {
+        match self.handed.checked_add(1) {
+            Some(handed) => {
+                self.handed = handed;
+                Ok(())
+            }
+            None => Err(Fault::OutOfMemory),
+        }
+    }
+
+    /// A worker's step, unless the engine is being closed. Without memory it has no receipt. What the committer is refused with
+    /// stays here.
+    pub fn tick(&mut self, step: &Step) -> Option<(Reply, Option<Receipt>)>
+        ensures made { IfSome result (λ made. IfSome made.1 (λ receipt. (receipt.step ≡ step.now) × (receipt.note ≡ note_of made.0))) }
+        ensures halted { IfSome result (λ made. MatchOption made.1 (self.new.halted ≡ self.old.halted) (λ receipt. self.new.halted ≡ halted_after self.old.halted receipt.step receipt.note)) }
+        ensures closing { IsTrue self.old.closing → result ≡ None }
+    {
+        if self.closing {
+            return None;
+        }
+        let Some(audited) = &mut self.audited else {
+            return None;
+        };
+        let (reply, receipt) = audited.step(*step);
+        match receipt {
+            Some(receipt) => {
+                let halted = newer(halting(&receipt.step, &receipt.note), self.halted);
+                self.halted = halted;
+                self.refusals = refusals_after(self.refusals, step, true);
+                Some((reply, Some(receipt)))
+            }
+            None => {
+                self.refusals = refusals_after(self.refusals, step, false);
+                Some((reply, None))
+            }
+        }
+    }
+
+    /// Why nothing will be covered: the fault that ended the committer, or that it was refused memory too often in a row.
+    pub fn why_not(&self) -> Option<Fault>
+        ensures why { result ≡ why_not self.now.halted self.now.refusals }
+        ensures told { IfSome result (λ fault. (fault ≡ OutOfMemory) ⊎ HasHalted J.image fault) }
+    {
+        match self.halted {
+            Some(fault) => Some(fault),
+            None => if REFUSALS < self.refusals {
+                Some(Fault::OutOfMemory)
+            } else {
+                None
+            },
+        }
+    }
+
+    /// Whether a wait for the timestamp is over: with Ok where it is persisted and not long, or where the device has failed;
+    /// with Err where it isn't persisted and nothing will be.
+    pub fn waited(&self, timestamp: Ts) -> Option<Result<(), Fault>>
+        ensures over { MatchOption self.now.audited (result ≡ None)
+            (λ audited. (q : State) → Shows D.state audited.room q → result ≡ waited (is_covered q.ruling timestamp) (why_not self.now.halted self.now.refusals) (has_failed audited.entries.items)) }
+        ensures told { IfSome result (λ over. IfErr over (λ fault. (fault ≡ OutOfMemory) ⊎ HasHalted J.image fault)) }
+    {
+        let Some(audited) = &self.audited else {
+            return None;
+        };
+        if is_covered(&audited.status(), timestamp) {
+            return Some(Ok(()));
+        }
+        if let Some(fault) = self.why_not() {
+            return Some(Err(fault));
+        }
+        if has_failed(audited.history()) {
+            return Some(Ok(()));
+        }
+        None
+    }
+}
+
+ghost use Rattle.std.specs.Prelude.{◌≡◌, IfSome};
+ghost use Rattle.base.specs.declared.step.Step.TheVariants.{Commit};
+ghost use Rattle.base.specs.declared.step.Note.TheVariants.{Refused};
+ghost use Rattle.engine.specs.Lending.{first_of, has_failed, is_covered_in, halting};
+
+// Whether the record covers the timestamp, where that was drawn since the opening.
+fn is_covered(status: &Status, timestamp: Ts) -> bool
+    ensures { result ≡ is_covered_in status.now.persisted status.now.longs timestamp }
+{
+    timestamp <= status.persisted && !status.longs.contains(timestamp)
+}
+
+// Whether the device had failed by the last of these steps.
+fn has_failed(entries: &[(Step, Note)]) -> bool
+    ensures { result ≡ has_failed entries.now }
+{
+    match entries.last() {
+        Some((_, note)) => matches!(note, Note::Refused(Fault::Device | Fault::Failed)),
+        None => false,
+    }
+}
+
+// The fault with which the step was refused, where it is the committer's.
+fn halting(step: &Step, note: &Note) -> Option<Fault>
+    ensures fault { result ≡ halting step.now note.now }
+    ensures some { IfSome result (λ fault. (step.now ≡ Commit) × (note.now ≡ Refused fault)) }
+{
+    match (step, note) {
+        (Step::Commit, Note::Refused(fault)) => Some(*fault),
+        _ => None,
+    }
+}
+
+// The first of the two that there is.
+fn newer(found: Option<Fault>, before: Option<Fault>) -> Option<Fault>
+    ensures { result ≡ first_of found before }
+{
+    match found {
+        Some(fault) => Some(fault),
+        None => before,
+    }
+}
+
+// How often in a row the committer was refused memory, after a step that was kept or wasn't.
+fn refusals_after(refusals: u64, step: &Step, kept: bool) -> u64 {
+    match step {
+        Step::Commit => if kept { 0 } else { refusals.saturating_add(1) },
+        _ => refusals,
+    }
+}

@@ -1,0 +1,136 @@
+-- What may be found of such a device is an image of an earlier moment with the gates of now.
+use Rattle.std.proofs.Common.{◌≡◌, ◌⊎◌, inl, inr, ℕ, ◌+◌, ◌*◌, ◌/◌, ◌%◌, ◌<◌, Bool, true, false, ◌&&◌, ◌||◌, List, [], ◌∷◌, ◌==◌, refl, sym, ◌∙◌, ap, subst, arith, nat_eq, nat_lt}
+use Rattle.std.specs.Prelude.{slice_index}
+use Rattle.std.proofs.Math.Logic.{∥∥₁_elim, ∥∥₁_map}
+use Rattle.std.proofs.lemmas.Bool.{and_from, or_right, eq-eqb, eqb-true, eqb-false, lt-ltb}
+use Rattle.base.specs.Layout.{Layout, place_start}
+use Rattle.base.specs.Commits.{Commit}
+use Rattle.base.specs.Fresh.{fresh_image}
+use Rattle.base.specs.Images.{Image, is_formatted}
+use Rattle.base.specs.declared.step.Step.{Step}
+use Rattle.base.specs.declared.step.Reply.{Reply}
+use Rattle.machine.specs.Machine.{State, final, StandsAt, StandsWithin, StandsClosing, StandsClosed}
+use Rattle.pmem.specs.Device.{Device, survivors_in, survivors_at, IsAmong, MayLeave, MightHaveLeft, IsOrderly}
+use Rattle.machine.specs.Openings.{OpensAs, StandsOpening}
+use Rattle.pmem.specs.Words.{Survives, Continues, LeavesOnly, image_of}
+use Rattle.pmem.specs.declared.device.Pmem as pmem
+use Rattle.pmem.proofs.Images.{left_still, continues_refl}
+use Rattle.journal.specs.declared.images.Images.{Ghosts}
+use Rattle.pmem_file.specs.Journaled.{is_gate}
+use Rattle.pmem_file.specs.Orderly.{orderly_of}
+use Rattle.pmem_file.specs.declared.journaled.JournaledPmem.{JournaledPmem}
+use Rattle.room.specs.declared.room.Room.{Room}
+use Rattle.recovery.specs.Fresh.{IsFormatting}
+use Rattle.room.specs.Room.{Shows, StepsTo, device_of}
+use Rattle.room.proofs.Runs.{run-none}
+use Rattle.file_laws.specs.Found.{IsFound, ComesFrom, RunsSince}
+use Rattle.file_laws.proofs.FoundRuns.{found-now, found-within, found-closing, found-closed, comes-opened, comes-formatted}
+use Rattle.file_laws.specs.Finding.{state_of, HasPlaces}
+
+-- one of a list of numbers is seen to be
+pub among : (values : List ℕ) (x : ℕ) → ∥ IsAmong values x ∥₁ → IsAmong values x
+among [] x merely_one = ∥∥₁_elim merely_one (λ a b. absurd a) (λ a. a)
+among (value ∷ values) x merely_one = by (λ is. among values x (∥∥₁_map merely_one (rest is))) (nat_eq x value) refl
+  where
+    rest : (nat_eq x value ≡ false) → (x ≡ value) ⊎ IsAmong values x → IsAmong values x
+    rest is (inl e) = absurd (eqb-false x value is e)
+    rest is (inr later) = later
+
+    by : ((nat_eq x value ≡ false) → IsAmong values x) → (b : Bool) → nat_eq x value ≡ b → IsAmong (value ∷ values) x
+    by others true is = inl (eqb-true x value is)
+    by others false is = inr (others is)
+
+-- the superblock's line, and the first line of each place
+head : (places word : ℕ) → word < 8 → is_gate places (word / 8) ≡ true
+head places word low =
+    let none : word / 8 ≡ 0 = omega (arith, low) in
+    ap (λ (b : Bool). b || (((word / 8) % 4 == 1) && nat_lt (word / 8) (1 + 4 * places))) (eq-eqb (word / 8) 0 none)
+
+first : (places place : ℕ) → place < places → is_gate places (place_start place / 8) ≡ true
+first places place h =
+    let line : place_start place / 8 ≡ 1 + 4 * place = omega arith in
+    or_right (place_start place / 8 == 0) ((place_start place / 8 % 4 == 1) && nat_lt (place_start place / 8) (1 + 4 * places))
+    (and_from (place_start place / 8 % 4 == 1) (nat_lt (place_start place / 8) (1 + 4 * places)) (eq-eqb (place_start place / 8 % 4) 1 (omega (arith, line))) (lt-ltb (place_start place / 8) (1 + 4 * places) (omega (arith, line, h))))
+
+-- what a device left, and whose gates survive, is found at that moment of what it becomes
+pub is-found : (layout : Layout) (places : ℕ) (device later : Device) (since : ℕ) (image : Image) → places ≡ layout.places → IsOrderly device → Continues device later
+    → ((word : ℕ) → is_gate places (word / 8) ≡ true → word < device.words → ∥ Survives device word (slice_index image word) ∥₁)
+    → MightHaveLeft device since image → IsFound layout later 0 device.clock image
+is-found layout places device later since image same orderly continues gates might = record {
+  before = might.moment;
+  from = omega arith;
+  to = might.to;
+  left = left_still might.moment continues might.to might.left;
+  superblock = λ word low within. survives word (head places word low) within;
+  gates = λ place h within. survives (place_start place) (first places place (omega (arith, h, same))) within;
+}
+  where
+    survives : (word : ℕ) → is_gate places (word / 8) ≡ true → word < later.words → IsAmong (survivors_at device.clock (later.history word)) (slice_index image word)
+    survives word is within =
+        subst (λ (l : List ℕ). IsAmong l (slice_index image word)) (sym (continues.past device.clock word (omega arith) ∙ orderly.now word))
+        (among (survivors_in (device.history word)) (slice_index image word) (gates word is (omega (arith, within, continues.same_words))))
+
+module _ {I : Type 0} {H : Ghosts I} where
+  -- what is known of an image that may be found of the device
+  pub record Found (device : JournaledPmem I H) (since : ℕ) (image : Image) : Type 0 where
+    pub left : ∥ MightHaveLeft (state_of device) since image ∥₁
+    pub gates : (word : ℕ) → is_gate device.places (word / 8) ≡ true → word < (state_of device).words → ∥ Survives (state_of device) word (slice_index image word) ∥₁
+
+  orderly : (device : JournaledPmem I H) → IsOrderly (state_of device)
+  orderly device = orderly_of (state_of device) device.words.items device.shown
+
+  -- a room comes from the beginning of the device that it was opened on
+  begins : {G : pmem.Ghosts (JournaledPmem I H)} (room : Room (JournaledPmem I H) G) (since : ℕ) (q : State) → since ≡ 0 → Shows state_of room q → ComesFrom (device_of state_of room) since q
+      → RunsSince state_of room room 0 [] [] q []
+  begins room since q zero_is shows comes = record {
+    shows = shows;
+    comes = subst (λ (n : ℕ). ComesFrom (device_of state_of room) n q) zero_is comes;
+    runs = run-none state_of room q (orderly room.device) shows;
+  }
+
+  pub begins-opened : {G : pmem.Ghosts (JournaledPmem I H)} (device : JournaledPmem I H) (room : Room (JournaledPmem I H) G) (history : List Commit) (next : ℕ) (lost : List ℕ) (q : State)
+      → (state_of device).clock ≡ 0 → OpensAs (image_of (state_of device)) history lost q → Shows state_of room q
+      → LeavesOnly (state_of device) (device_of state_of room) (StandsOpening (image_of (state_of device)) history next) → RunsSince state_of room room 0 [] [] q []
+  begins-opened device room history next lost q zero_is opens shows leaves =
+      begins room (state_of device).clock q zero_is shows (comes-opened (state_of device) (device_of state_of room) history next lost q opens leaves)
+
+  -- and was formatted before
+  pub begins-formatted : {G : pmem.Ghosts (JournaledPmem I H)} (unformatted device : JournaledPmem I H) (room : Room (JournaledPmem I H) G) (layout : Layout) (history : List Commit) (next : ℕ) (lost : List ℕ) (q : State)
+      → (state_of unformatted).clock ≡ 0 → ((image : Image) → MayLeave (state_of unformatted) image → is_formatted image ≡ false)
+      → LeavesOnly (state_of unformatted) (state_of device) (IsFormatting (state_of unformatted) layout) → image_of (state_of device) ≡ fresh_image layout
+      → OpensAs (image_of (state_of device)) history lost q → Shows state_of room q
+      → LeavesOnly (state_of device) (device_of state_of room) (StandsOpening (image_of (state_of device)) history next) → RunsSince state_of room room 0 [] [] q []
+  begins-formatted unformatted device room layout history next lost q zero_is nothing formats fresh opens shows leaves =
+      begins room (state_of unformatted).clock q zero_is shows
+      (comes-formatted (state_of unformatted) (state_of device) (device_of state_of room) layout history lost q nothing formats fresh opens leaves.continues
+      (comes-opened (state_of device) (device_of state_of room) history next lost q opens leaves))
+
+  -- of what the device becomes it is found at that moment
+  found-of : (device : JournaledPmem I H) (later : Device) (q : State) (since : ℕ) (image : Image) → HasPlaces device q → Continues (state_of device) later → Found device since image
+      → ∥ IsFound q.layout later 0 (state_of device).clock image ∥₁
+  found-of device later q since image places continues found =
+      ∥∥₁_map found.left (λ might. is-found q.layout device.places (state_of device) later since image places (orderly device) continues found.gates might)
+
+  module _ {G : pmem.Ghosts (JournaledPmem I H)} (first next last : Room (JournaledPmem I H) G) (found : JournaledPmem I H) (since : ℕ) (steps : List Step) (replies : List Reply) (q : State) (states : List State) (image : Image) where
+    pub found-between : RunsSince state_of first last 0 steps replies q states → state_of found ≡ device_of state_of last → HasPlaces found (final q states) → Found found since image → ∥ StandsAt (final q states) image ∥₁
+    found-between runs same places is =
+        ∥∥₁_map (found-of found (state_of found) (final q states) since image places (continues_refl (state_of found)) is) (λ one.
+        found-now state_of first last 0 steps replies q states image (subst IsOrderly same (orderly found)) runs.shows runs.comes runs.runs
+        (subst (λ (d : Device). IsFound (final q states).layout d 0 d.clock image) same one))
+
+    pub found-meanwhile : (step : Step) (reply : Reply) (q' : State) → RunsSince state_of first next 0 steps replies q states → StepsTo state_of next last step reply (final q states) q'
+        → Continues (device_of state_of next) (state_of found) → Continues (state_of found) (device_of state_of last) → HasPlaces found (final q states) → Found found since image → ∥ StandsWithin (final q states) q' image ∥₁
+    found-meanwhile step reply q' runs one before after places is =
+        ∥∥₁_map (found-of found (device_of state_of last) (final q states) since image places after is) (λ here.
+        found-within state_of first next last 0 (state_of found).clock steps replies step reply q states q' image runs.shows runs.comes runs.runs one before.later after.later here)
+
+    module _ (device : JournaledPmem I H) (runs : RunsSince state_of first last 0 steps replies q states) (leaves : LeavesOnly (device_of state_of last) (state_of device) (StandsClosing (final q states))) where
+      pub found-in-close : Continues (device_of state_of last) (state_of found) → Continues (state_of found) (state_of device) → HasPlaces found (final q states) → Found found since image → ∥ StandsClosing (final q states) image ∥₁
+      found-in-close before after places is =
+          ∥∥₁_map (found-of found (state_of device) (final q states) since image places after is) (λ here.
+          found-closing state_of first last (state_of device) 0 (state_of found).clock steps replies q states image runs.shows runs.comes runs.runs leaves before.later after.later here)
+
+      pub found-after-close : ((other : Image) → MayLeave (state_of device) other → StandsClosed (final q states) other) → HasPlaces device (final q states) → Found device since image → ∥ StandsClosed (final q states) image ∥₁
+      found-after-close stands places is =
+          ∥∥₁_map (found-of device (state_of device) (final q states) since image places (continues_refl (state_of device)) is) (λ here.
+          found-closed state_of first last (state_of device) 0 steps replies q states image (orderly device) runs.shows runs.comes runs.runs leaves stands here)

@@ -1,0 +1,4 @@
+pub mod Covers
+pub mod Found
+pub mod FoundRuns
+pub mod Finding

@@ -1,0 +1,85 @@
+ghost use Rattle.std.specs.Prelude.{◌≡◌, ℕ, false, List, []};
+ghost use Rattle.base.specs.Commits.{Commit};
+ghost use Rattle.base.specs.Fresh.{fresh_image};
+ghost use Rattle.base.specs.Images.{Image, is_formatted};
+ghost use Rattle.base.specs.Layout.{Layout};
+ghost use Rattle.base.specs.declared.step.Reply.{Reply};
+ghost use Rattle.base.specs.declared.step.Step.{Step};
+ghost use Rattle.file_laws.specs.Finding.{HasPlaces, MayFind, state_of};
+ghost use Rattle.machine.specs.Machine.{State, StandsAt, StandsClosed, StandsClosing, StandsWithin, final};
+ghost use Rattle.machine.specs.Openings.{OpensAs, StandsOpening};
+ghost use Rattle.pmem.specs.Device.{MayLeave};
+ghost use Rattle.pmem.specs.Words.{Continues, LeavesOnly, image_of};
+ghost use Rattle.recovery.specs.Fresh.{IsFormatting};
+ghost use Rattle.file_laws.specs.Found.{RunsSince};
+ghost use Rattle.room.specs.Room.{Shows, StepsTo, device_of};
+
+use pmem_file::{Images, JournaledPmem};
+use room::Room;
+
+/// A room that was opened on a device at rest, which held an image or was formatted first, comes from the device's beginning.
+pub fn journaled_rooms_begin<I: Images>(
+    unformatted: &JournaledPmem<I>,
+    device: &JournaledPmem<I>,
+    room: &Room<JournaledPmem<I>>,
+)
+    ensures opened { (history : List Commit) (next : ℕ) (lost : List ℕ) (q : State)
+        → (state_of device.now).clock ≡ 0
+        → OpensAs (image_of (state_of device.now)) history lost q → Shows state_of room.now q
+        → LeavesOnly (state_of device.now) (device_of state_of room.now) (StandsOpening (image_of (state_of device.now)) history next)
+        → RunsSince state_of room.now room.now 0 [] [] q [] }
+    ensures formatted { (layout : Layout) (history : List Commit) (next : ℕ) (lost : List ℕ) (q : State)
+        → (state_of unformatted.now).clock ≡ 0 → ((image : Image) → MayLeave (state_of unformatted.now) image → is_formatted image ≡ false)
+        → LeavesOnly (state_of unformatted.now) (state_of device.now) (IsFormatting (state_of unformatted.now) layout)
+        → image_of (state_of device.now) ≡ fresh_image layout
+        → OpensAs (image_of (state_of device.now)) history lost q → Shows state_of room.now q
+        → LeavesOnly (state_of device.now) (device_of state_of room.now) (StandsOpening (image_of (state_of device.now)) history next)
+        → RunsSince state_of room.now room.now 0 [] [] q [] }
+{}
+
+/// Whatever is found of a room's device, once all has stopped, stands for what was covered by then: between two steps for
+/// the state that the room shows, and at an instant within a step, when the device was as `found`, as that says.
+pub fn journaled_images_stand<I: Images>(
+    first: &Room<JournaledPmem<I>>,
+    next: &Room<JournaledPmem<I>>,
+    last: &Room<JournaledPmem<I>>,
+    found: &JournaledPmem<I>,
+)
+    ensures now { (steps : List Step) (replies : List Reply) (q : State) (states : List State) (image : Image)
+        → RunsSince state_of first.now last.now 0 steps replies q states
+        → state_of found.now ≡ device_of state_of last.now → HasPlaces found.now (final q states)
+        → MayFind I.may_hold found.now image
+        → ∥ StandsAt (final q states) image ∥₁ }
+    ensures within { (steps : List Step) (replies : List Reply) (step : Step) (reply : Reply) (q q' : State) (states : List State) (image : Image)
+        → RunsSince state_of first.now next.now 0 steps replies q states → StepsTo state_of next.now last.now step reply (final q states) q'
+        → Continues (device_of state_of next.now) (state_of found.now) → Continues (state_of found.now) (device_of state_of last.now) → HasPlaces found.now (final q states)
+        → MayFind I.may_hold found.now image
+        → ∥ StandsWithin (final q states) q' image ∥₁ }
+{
+    found.found_image_was_left();
+}
+
+/// So it does at an instant within a close, which left the device as `device`, and after that.
+pub fn journaled_images_stand_at_a_close<I: Images>(
+    first: &Room<JournaledPmem<I>>,
+    last: &Room<JournaledPmem<I>>,
+    device: &JournaledPmem<I>,
+    found: &JournaledPmem<I>,
+)
+    ensures meanwhile { (steps : List Step) (replies : List Reply) (q : State) (states : List State) (image : Image)
+        → RunsSince state_of first.now last.now 0 steps replies q states
+        → LeavesOnly (device_of state_of last.now) (state_of device.now) (StandsClosing (final q states))
+        → Continues (device_of state_of last.now) (state_of found.now) → Continues (state_of found.now) (state_of device.now) → HasPlaces found.now (final q states)
+        → MayFind I.may_hold found.now image
+        → ∥ StandsClosing (final q states) image ∥₁ }
+    ensures after { (steps : List Step) (replies : List Reply) (q : State) (states : List State) (image : Image)
+        → RunsSince state_of first.now last.now 0 steps replies q states
+        → LeavesOnly (device_of state_of last.now) (state_of device.now) (StandsClosing (final q states))
+        → ((other : Image) → MayLeave (state_of device.now) other → StandsClosed (final q states) other)
+        → HasPlaces device.now (final q states)
+        → MayFind I.may_hold device.now image
+        → ∥ StandsClosed (final q states) image ∥₁ }
+{
+    found.found_image_was_left();
+    device.found_image_was_left();
+}

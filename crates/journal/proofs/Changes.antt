@@ -1,0 +1,147 @@
+-- Lines that put what differs.
+use Rattle.std.proofs.Common.{◌≡◌, ◌⊎◌, inl, inr, ℕ, zero, suc, ◌+◌, ◌-◌, ◌*◌, ◌/◌, ◌%◌, ◌<◌, ◌≤◌, ◌^◌, Bool, true, false, cond, ◌||◌, List, [], ◌∷◌, ◌++◌, length, map, get_or, ◌==◌, refl, sym, ◌∙◌, ap, subst, arith}
+use Rattle.std.specs.Prelude.{All}
+use Rattle.std.proofs.lemmas.Bool.{cases_lt, eqb-true, false≢true}
+use Rattle.std.proofs.lemmas.List.{length-append, length-map, ext_get_or}
+use Rattle.std.proofs.lemmas.List.Elements.{All-append, All-cons}
+use Rattle.journal.specs.declared.line.Line.{Line}
+use Rattle.journal.specs.Kept.{IsPut, is_put_at}
+use Rattle.journal.specs.Entries.{marked, entry}
+use Rattle.journal.specs.LinePayloads.{low, packed, line_payloads, payloads_of_lines, IsLine}
+use Rattle.journal.specs.InPlace.{put_over}
+use Rattle.journal.specs.Opened.{AreLines}
+use Rattle.journal.specs.Changes.{AreChanged}
+use Rattle.journal.proofs.LineRuns.{put-parts, at-more, at-last}
+use Rattle.journal.proofs.Opened.{size}
+
+-- a word that lines are put over is one that they put, or as it was
+pub over_puts : (lines : List Line) (word v : ℕ) → IsPut lines word (put_over lines word v) ⊎ ((is_put_at lines (word / 8) ≡ false) × (put_over lines word v ≡ v))
+over_puts [] word v = inr (refl, refl)
+over_puts (line ∷ lines) word v = by_test (line.number == word / 8) refl (over_puts lines word (get_or line.words (word % 8) 0)) (over_puts lines word v)
+  where
+    by_test : (b : Bool) → (line.number == word / 8) ≡ b
+        → IsPut lines word (put_over lines word (get_or line.words (word % 8) 0)) ⊎ ((is_put_at lines (word / 8) ≡ false) × (put_over lines word (get_or line.words (word % 8) 0) ≡ get_or line.words (word % 8) 0))
+        → IsPut lines word (put_over lines word v) ⊎ ((is_put_at lines (word / 8) ≡ false) × (put_over lines word v ≡ v))
+        → IsPut (line ∷ lines) word (put_over (line ∷ lines) word v) ⊎ ((is_put_at (line ∷ lines) (word / 8) ≡ false) × (put_over (line ∷ lines) word v ≡ v))
+    by_test true here put left =
+        let is : put_over (line ∷ lines) word v ≡ put_over lines word (get_or line.words (word % 8) 0) = ap (λ (b : Bool). put_over lines word (cond b (get_or line.words (word % 8) 0) v)) here in
+        elim put [
+          | inl among ↦ inl (inr (subst (λ (y : ℕ). IsPut lines word y) (sym is) among))
+          | inr none ↦ inl (inl (eqb-true line.number (word / 8) here, is ∙ none.1))
+        ]
+    by_test false here put left =
+        let is : put_over (line ∷ lines) word v ≡ put_over lines word v = ap (λ (b : Bool). put_over lines word (cond b (get_or line.words (word % 8) 0) v)) here in
+        elim left [
+          | inl among ↦ inl (inr (subst (λ (y : ℕ). IsPut lines word y) (sym is) among))
+          | inr none ↦ inr (ap (λ (b : Bool). b || is_put_at lines (word / 8)) here ∙ none.0, is ∙ none.1)
+        ]
+
+-- so the changed lines make the words of the durable ones
+pub changed-over : (lines : List Line) (durable words : List ℕ) (count : ℕ) → AreChanged lines durable words count → (word : ℕ) → word < 8 * count → put_over lines word (get_or durable word 0) ≡ get_or words word 0
+changed-over lines durable words count changed word lt = elim (over_puts lines word (get_or durable word 0)) [
+  | inl put ↦ changed.puts word (put_over lines word (get_or durable word 0)) put
+  | inr none ↦ elim (changed.has word lt) [
+    | inl at ↦ absurd (false≢true (sym none.0 ∙ at))
+    | inr same ↦ none.1 ∙ same
+  ]
+]
+
+-- ---- one line more
+
+pub changed-none : (durable words : List ℕ) → AreChanged [] durable words 0
+changed-none durable words = record {
+  puts = λ word x put. absurd put;
+  has = λ word lt. absurd (omega (arith, lt));
+  lines_are = λ k d lt. absurd (omega (arith, lt));
+  within = λ k d lt. absurd (omega (arith, lt));
+}
+
+all_more : (P : Line → Type 0) (lines : List Line) (line : Line) → All P lines → P line → All P (lines ++ line ∷ [])
+all_more P lines line all here = All-append P lines (line ∷ []) all (All-cons P line [] here (λ k d lt. absurd (omega (arith, lt))))
+
+pub changed-pushed : (lines : List Line) (line : Line) (durable words : List ℕ) (count : ℕ) → AreChanged lines durable words count → IsLine line → 8 * line.number + 8 ≤ length words
+    → ((place : ℕ) → place < 8 → get_or line.words place 0 ≡ get_or words (8 * line.number + place) 0) → AreChanged (lines ++ line ∷ []) durable words count
+changed-pushed lines line durable words count before is inside same = record {
+  puts = λ word x put. elim (put-parts lines line word x put) [
+    | inl among ↦ before.puts word x among
+    | inr last ↦ last.1 ∙ same (word % 8) (omega arith) ∙ ap (λ (n : ℕ). get_or words n 0) (omega (arith, last.0))
+  ];
+  has = λ word lt. elim (before.has word lt) [
+    | inl at ↦ inl (at-more lines line (word / 8) at)
+    | inr stood ↦ inr stood
+  ];
+  lines_are = all_more (λ l. IsLine l) lines line before.lines_are is;
+  within = all_more (λ l. 8 * l.number + 8 ≤ length words) lines line before.within inside;
+}
+
+pub changed-more : (lines : List Line) (line : Line) (durable words : List ℕ) (count : ℕ) → AreChanged lines durable words count → IsLine line → line.number ≡ count → 8 * count + 8 ≤ length words
+    → ((place : ℕ) → place < 8 → get_or line.words place 0 ≡ get_or words (8 * count + place) 0) → AreChanged (lines ++ line ∷ []) durable words (count + 1)
+changed-more lines line durable words count before is number inside same =
+    let pushed = changed-pushed lines line durable words count before is (omega (arith, number, inside)) (λ place lt. same place lt ∙ ap (λ (n : ℕ). get_or words (8 * n + place) 0) (sym number)) in
+    record {
+      puts = pushed.puts;
+      has = λ word lt. elim (cases_lt word (8 * count)) [
+        | inl below ↦ pushed.has word below
+        | inr above ↦ inl (at-last lines line (word / 8) (omega (arith, above, lt, number)))
+      ];
+      lines_are = pushed.lines_are;
+      within = pushed.within;
+    }
+
+pub changed-same : (lines : List Line) (durable words : List ℕ) (count : ℕ) → AreChanged lines durable words count
+    → ((place : ℕ) → place < 8 → get_or durable (8 * count + place) 0 ≡ get_or words (8 * count + place) 0) → AreChanged lines durable words (count + 1)
+changed-same lines durable words count before same = record {
+  puts = before.puts;
+  has = λ word lt. elim (cases_lt word (8 * count)) [
+    | inl below ↦ before.has word below
+    | inr above ↦
+        let is : 8 * count + (word - 8 * count) ≡ word = omega (arith, above) in
+        inr (ap (λ (n : ℕ). get_or durable n 0) (sym is) ∙ same (word - 8 * count) (omega (arith, above, lt)) ∙ ap (λ (n : ℕ). get_or words n 0) is)
+  ];
+  lines_are = before.lines_are;
+  within = before.within;
+}
+
+-- where no line is, nothing changed
+pub unchanged : (durable words : List ℕ) → AreChanged [] durable words (length durable / 8) → length durable % 8 ≡ 0 → length words ≡ length durable → words ≡ durable
+unchanged durable words changed whole same = ext_get_or 0 words durable same (λ word lt. elim (changed.has word (omega (arith, lt, whole, same))) [
+  | inl at ↦ absurd (false≢true at)
+  | inr is ↦ sym is
+])
+
+-- ---- as an entry
+
+pub numbers-below : (lines : List Line) (words : List ℕ) → All (λ line. 8 * line.number + 8 ≤ length words) lines → length words < 2 ^ 58 → All (λ line. line.number < 2 ^ 55) lines
+numbers-below lines words all fits k d lt = omega (arith, all k d lt, fits)
+
+twice : ℕ → ℕ
+twice zero = 1
+twice (suc n) = 2 * twice n
+
+small_packed : (number : ℕ) (words : List ℕ) → number < 2 ^ 55 → ((at : ℕ) → at < length words → get_or words at 0 < 2 ^ 64) → packed number words + 1 ≤ twice (length words) * 2 ^ 55
+unfolding twice
+small_packed number [] small fits = omega (arith, small)
+small_packed number (word ∷ words) small fits =
+    omega (arith, small_packed number words small (λ at lt. fits (suc at) (omega (arith, lt))), fits 0 (omega arith))
+
+small_lows : (words : List ℕ) (k d : ℕ) → k < length (map low words) → get_or (map low words) k d < 2 ^ 63
+small_lows [] k d lt = absurd (omega (arith, lt))
+small_lows (word ∷ words) zero d lt = omega arith
+small_lows (word ∷ words) (suc k) d lt = small_lows words k d (omega (arith, lt))
+
+small_line : (line : Line) → IsLine line → line.number < 2 ^ 55 → All (λ payload. payload < 2 ^ 63) (line_payloads line)
+unfolding twice
+small_line line is small =
+    let eight : twice (length line.words) ≡ 256 = ap twice is.size in
+    let last : packed line.number line.words < 2 ^ 63 = omega (arith, eight, small_packed line.number line.words small (λ at lt. is.fits at (omega (arith, lt, is.size)))) in
+    All-append (λ payload. payload < 2 ^ 63) (map low line.words) (packed line.number line.words ∷ []) (small_lows line.words)
+    (All-cons (λ payload. payload < 2 ^ 63) (packed line.number line.words) [] last (λ k d lt. absurd (omega (arith, lt))))
+
+pub small_payloads : (lines : List Line) → AreLines lines → All (λ line. line.number < 2 ^ 55) lines → All (λ payload. payload < 2 ^ 63) (payloads_of_lines lines)
+small_payloads [] are small = λ k d lt. absurd (omega (arith, lt))
+small_payloads (line ∷ lines) are small =
+    All-append (λ payload. payload < 2 ^ 63) (line_payloads line) (payloads_of_lines lines) (small_line line (are 0 line (omega arith)) (small 0 line (omega arith)))
+    (small_payloads lines (λ k d lt. are (suc k) d (omega (arith, lt))) (λ k d lt. small (suc k) d (omega (arith, lt))))
+
+pub entry_size : (pass : Bool) (lines : List Line) → AreLines lines → length (entry pass (payloads_of_lines lines)) ≡ 1 + 9 * length lines
+entry_size pass lines are = omega (arith, length-map (length (payloads_of_lines lines) ∷ payloads_of_lines lines) (marked pass), size lines are)

@@ -1,0 +1,14 @@
+pub mod Torn
+pub mod Several
+pub mod LinePayloads
+pub mod InPlace
+pub mod Passes
+pub mod Pointwise
+pub mod Opened
+pub mod Reading
+pub mod LineRuns
+pub mod Files
+pub mod Changes
+pub mod Appended
+pub mod Placed
+pub mod Settled

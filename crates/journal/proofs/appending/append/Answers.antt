@@ -1,0 +1,72 @@
+use Rattle.std.proofs.Common.{◌≡◌, ℕ, ◌+◌, ◌*◌, ◌<◌, ◌^◌, true, List, length, get_or, sym, ◌∙◌, ap, subst, arith}
+use Rattle.std.proofs.Math.Logic.{∥∥₁_map}
+use Rattle.journal.specs.Entries.{entry}
+use Rattle.journal.specs.States.{Rests}
+use Rattle.journal.proofs.Changes.{changed-over, numbers-below, small_payloads, entry_size}
+use Rattle.journal.proofs.Files.{Puts, Keeps}
+use Rattle.journal.proofs.Appended.{rests-either, append-either, append-kept}
+use Rattle.journal.proofs.appending.append.Goals as goal
+
+pub returns-in_err-payloads-clause-either : goal.returns-in_err-payloads-clause-either
+returns-in_err-payloads-clause-either g c =
+    let durable = c.args.durable.now in
+    rests-either (g.S.Storage.may_hold c.args.storage.now) (length durable) c.args.room true c.args.position durable c.args.words.now c.requires.known
+
+pub entry_words-requires : goal.entry_words-requires
+entry_words-requires g c =
+    let changed = c.requires.changed in
+    let small = small_payloads c.args.changed.now changed.lines_are (numbers-below c.args.changed.now c.args.words.now changed.within (omega (arith, c.requires.same, c.requires.fits))) in
+    let P : List ℕ → Type 0 = λ l. (at : ℕ) → at < length l → get_or l at 0 < 2 ^ 63 in
+    subst P (sym (c.as_slice.ensures.value ∙ c.in_ok-payloads.ensures)) (λ at lt. small at 0 lt)
+
+pub returns-in_err-entry-clause-either : goal.returns-in_err-entry-clause-either
+returns-in_err-entry-clause-either g c =
+    let durable = c.args.durable.now in
+    rests-either (g.S.Storage.may_hold c.args.storage.now) (length durable) c.args.room true c.args.position durable c.args.words.now c.requires.known
+
+pub returns-in_err-put-clause-either : goal.returns-in_err-put-clause-either
+returns-in_err-put-clause-either g c =
+    let durable = c.args.durable.now in
+    let lines = c.args.changed.now in
+    let changed = c.requires.changed in
+    let old = g.S.Storage.may_hold c.args.storage.now in
+    let new = g.S.Storage.may_hold c.put.new.self in
+    let P : List ℕ → Type 0 = λ l. Puts old new (length durable + c.args.position) l in
+    let is = c.as_slice-2.ensures.value ∙ c.in_ok-entry.ensures ∙ ap (λ (l : List ℕ). entry true l) (c.as_slice.ensures.value ∙ c.in_ok-payloads.ensures) in
+    append-either old new (length durable) c.args.room true c.args.position durable c.args.words.now lines c.requires.known changed.lines_are
+    (omega (arith, entry_size true lines changed.lines_are, c.requires.within)) c.requires.same (λ word lt. changed-over lines durable c.args.words.now _ changed word (omega (arith, lt, c.requires.whole)))
+    (subst P is c.put.ensures.puts)
+
+pub returns-clause-either : goal.returns-clause-either
+returns-clause-either g c =
+    let durable = c.args.durable.now in
+    let lines = c.args.changed.now in
+    let changed = c.requires.changed in
+    let old = g.S.Storage.may_hold c.args.storage.now in
+    let new = g.S.Storage.may_hold c.put.new.self in
+    let P : List ℕ → Type 0 = λ l. Puts old new (length durable + c.args.position) l in
+    let is = c.as_slice-2.ensures.value ∙ c.in_ok-entry.ensures ∙ ap (λ (l : List ℕ). entry true l) (c.as_slice.ensures.value ∙ c.in_ok-payloads.ensures) in
+    append-either old new (length durable) c.args.room true c.args.position durable c.args.words.now lines c.requires.known changed.lines_are
+    (omega (arith, entry_size true lines changed.lines_are, c.requires.within)) c.requires.same (λ word lt. changed-over lines durable c.args.words.now _ changed word (omega (arith, lt, c.requires.whole)))
+    (subst P is c.put.ensures.puts)
+
+pub returns-clause-rests : goal.returns-clause-rests
+returns-clause-rests g c =
+    let durable = c.args.durable.now in
+    let words = c.args.words.now in
+    let lines = c.args.changed.now in
+    let changed = c.requires.changed in
+    let old = g.S.Storage.may_hold c.args.storage.now in
+    let new = g.S.Storage.may_hold c.put.new.self in
+    let start : ℕ = length durable + c.args.position in
+    let P : List ℕ → Type 0 = λ l. Puts old new start l in
+    let K : List ℕ → Type 0 = λ l. Keeps new start l in
+    let R : List ℕ → Type 0 = λ l. ∥ Rests new (length durable) c.args.room true (c.args.position + length l) words ∥₁ in
+    let made = c.in_ok-entry.ensures ∙ ap (λ (l : List ℕ). entry true l) (c.as_slice.ensures.value ∙ c.in_ok-payloads.ensures) in
+    let is = c.as_slice-2.ensures.value ∙ made in
+    let count : c.len.result ≡ length c.in_ok-entry.entry.items = omega (arith, c.len.ensures, c.in_ok-entry.entry.ok.0) in
+    let N : ℕ → Type 0 = λ n. ∥ Rests new (length durable) c.args.room true (c.args.position + n) words ∥₁ in
+    subst N (sym count) (subst R (sym made) (∥∥₁_map c.requires.known (λ r.
+    append-kept old new (length durable) c.args.room true c.args.position durable words lines r changed.lines_are
+    (omega (arith, entry_size true lines changed.lines_are, c.requires.within)) c.requires.same (λ word lt. changed-over lines durable words _ changed word (omega (arith, lt, c.requires.whole)))
+    (subst P is c.put.ensures.puts) (subst K is c.in_ok-put.ensures.kept))))

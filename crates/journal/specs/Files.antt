@@ -1,0 +1,65 @@
+-- A file: an image in place, a journal behind it, and a tail of one line.
+use Rattle.std.specs.Prelude.{◌≡◌, ◌⊎◌, ℕ, ◌+◌, ◌-◌, ◌%◌, ◌<◌, ◌≤◌, ◌^◌, Bool, true, false, ◌==◌, if◌then◌else◌, List, [], ◌∷◌, ◌++◌, length, take, drop, slice_index}
+use Rattle.journal.specs.declared.line.Line.{Line}
+use Rattle.journal.specs.Kept.{IsFound}
+use Rattle.journal.specs.InPlace.{put_over}
+use Rattle.journal.specs.Opened.{lines_found}
+
+-- the tail's first word while the journal counts; its letters are WBL-JRN1
+abbrev pub magic : ℕ
+magic = 6287671787166780977
+
+-- so a journal of zeros has nothing of its pass
+abbrev pub pass_word : Bool → ℕ
+pass_word true = 0
+pass_word false = 1
+
+abbrev pub pass_of : ℕ → Bool
+pass_of word = word == 0
+
+abbrev pub tail_of : ℕ → ℕ → ℕ → Bool → List ℕ
+tail_of first words room pass = first ∷ words ∷ room ∷ pass_word pass ∷ 0 ∷ 0 ∷ 0 ∷ 0 ∷ []
+
+abbrev pub journal_in : ℕ → ℕ → List ℕ → List ℕ
+journal_in words room file = take room (drop words file)
+
+-- does the journal count?
+abbrev pub is_on : ℕ → ℕ → List ℕ → Bool
+is_on words room file = slice_index file (words + room) == magic
+
+-- the lines that lie over the image in place
+abbrev pub lines_in : ℕ → ℕ → List ℕ → List Line
+lines_in words room file = if is_on words room file then lines_found (pass_of (slice_index file (words + room + 3))) (journal_in words room file) else []
+
+-- the file stands for this image
+pub record Opens (words room : ℕ) (file image : List ℕ) : Type 0 where
+  pub size : length image ≡ words
+  pub each : (word : ℕ) → word < words → slice_index image word ≡ put_over (lines_in words room file) word (slice_index file word)
+
+-- whatever is found stands for this image
+abbrev pub FoundOpens : (ℕ → ℕ → Type 0) → ℕ → ℕ → List ℕ → Type 0
+FoundOpens may_hold words room durable = (file image : List ℕ) → IsFound may_hold (words + room + 8) file → Opens words room file image → ∥ image ≡ durable ∥₁
+
+-- whatever is found stands for one of two images
+abbrev pub FoundEither : (ℕ → ℕ → Type 0) → ℕ → ℕ → List ℕ → List ℕ → Type 0
+FoundEither may_hold words room durable next = (file image : List ℕ) → IsFound may_hold (words + room + 8) file → Opens words room file image → (image ≡ durable) ⊎ (image ≡ next)
+
+-- some file that may be found stands for this image
+pub record IsStoodFor (may_hold : ℕ → ℕ → Type 0) (words room : ℕ) (image : List ℕ) : Type 0 where
+  pub file : List ℕ
+  pub found : IsFound may_hold (words + room + 8) file
+  pub opens : Opens words room file image
+
+-- the image that was kept last, or one that a file stands for which may be found
+abbrev pub MayBe : (ℕ → ℕ → Type 0) → ℕ → List ℕ → List ℕ → Type 0
+MayBe may_hold room durable image = (image ≡ durable) ⊎ IsStoodFor may_hold (length durable) room image
+
+-- a file of so many words has an image of so many, a journal of so much room, and a tail
+pub record IsFile (words room count : ℕ) : Type 0 where
+  pub whole : words % 8 ≡ 0
+  pub fits : words + room + 8 < 2 ^ 58
+  pub size : count ≡ words + room + 8
+
+-- a run of words, from this one on, puts x into the word
+abbrev pub IsInRun : ℕ → List ℕ → ℕ → ℕ → Type 0
+IsInRun start news word x = (start ≤ word) × (word < start + length news) × (x ≡ slice_index news (word - start))

@@ -1,0 +1,12 @@
+pub mod Entries
+pub mod Several
+pub mod LinePayloads
+pub mod InPlace
+pub mod Passes
+pub mod Pointwise
+pub mod Opened
+pub mod Reading
+pub mod Kept
+pub mod Files
+pub mod States
+pub mod Changes

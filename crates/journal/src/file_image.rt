@@ -1,0 +1,73 @@
+ghost use Rattle.std.specs.Prelude.{◌≡◌, ℕ, ◌+◌, ◌*◌, ◌/◌, ◌%◌, ◌<◌, ◌≤◌, [], ◌∷◌, length, slice_index, IfOk, OnOk, IsTrue};
+ghost use Rattle.journal.specs.LinePayloads.{lines_of};
+ghost use Rattle.journal.specs.InPlace.{put_over};
+ghost use Rattle.journal.specs.Files.{IsFile, Opens};
+
+use crate::journal::read_journal;
+use crate::line::{Line, line_of};
+use crate::rewriting::MAGIC;
+use std::alloc::Global;
+use std::io;
+use std::io::ErrorKind;
+
+/// The image that a file stands for: its first words, and over them the lines of the journal's entries, where it counts. Fails
+/// with `InvalidInput` where a file of an image of so many words and a journal of so much room has another length, and with
+/// `InvalidData` where its pass is none.
+pub fn image_in(alloc: Global, file: &[u64], words: usize, room: usize) -> io::Result<Vec<u64>>
+    ensures file { OnOk result (IsFile words room (length file.now)) }
+    ensures pass { OnOk result (slice_index file.now (words + room + 3) < 2) }
+    ensures stands { IfOk result (λ image. Opens words room file.now image.items) }
+{
+    if !is_file(words, room, file.len()) {
+        return Err(io::Error::from(ErrorKind::InvalidInput));
+    }
+    let pass = file[words + room + 3];
+    if pass > 1 {
+        return Err(io::Error::from(ErrorKind::InvalidData));
+    }
+    let mut image = Vec::from_slice(alloc, &file[..words])?;
+    if file[words + room] != MAGIC {
+        return Ok(image);
+    }
+    let payloads = read_journal(alloc, &file[words..words + room], pass == 0)?;
+    put_lines(&mut image, payloads.as_slice());
+    Ok(image)
+}
+
+// As many words of an image, or of a journal, are in no memory.
+const TOO_MANY: usize = 1 << 56;
+
+// Whether a file of so many words has an image of so many, and a journal of so much room.
+fn is_file(words: usize, room: usize, count: usize) -> bool
+    ensures { IsTrue result → IsFile words room count }
+{
+    words < TOO_MANY && room < TOO_MANY && words % 8 == 0 && count == words + room + 8
+}
+
+// Puts the lines of these payloads over the image, one after the other.
+fn put_lines(image: &mut Vec<u64>, payloads: &[u64])
+    requires { length image.old.items % 8 ≡ 0 }
+    ensures size { length image.new.items ≡ length image.old.items }
+    ensures each { (word : ℕ) → word < length image.old.items
+        → slice_index image.new.items word ≡ put_over (lines_of (length payloads.now / 9) payloads.now) word (slice_index image.old.items word) }
+{
+    for at in 0..payloads.len() / 9 {
+        let line = line_of(&payloads[9 * at..]);
+        put_line(image, &line);
+    }
+}
+
+// Puts the line over the image, where it lies within it.
+fn put_line(image: &mut Vec<u64>, line: &Line)
+    requires { length image.old.items % 8 ≡ 0 }
+    ensures size { length image.new.items ≡ length image.old.items }
+    ensures each { (word : ℕ) → word < length image.old.items → slice_index image.new.items word ≡ put_over (line.now ∷ []) word (slice_index image.old.items word) }
+{
+    if line.number >= image.len() / 8 {
+        return;
+    }
+    let first = 8 * line.number;
+    for place in 0..8 {
+        image[first + place] = line.words[place];
+    }
+}

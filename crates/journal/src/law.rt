@@ -1,0 +1,52 @@
+ghost use Rattle.journal.specs.Entries.{TornIsNone};
+ghost use Rattle.journal.specs.InPlace.{InPlaceKeeps, InPlaceIsAll};
+ghost use Rattle.journal.specs.LinePayloads.{LinesReturn};
+ghost use Rattle.journal.specs.Opened.{FileStates};
+ghost use Rattle.journal.specs.Passes.{FillingIsNothing, NextIsEmpty};
+ghost use Rattle.journal.specs.Pointwise.{ByPlaces};
+ghost use Rattle.journal.specs.Several.{AppendIsWhole, NoneIsNothing, ScrubIsNone};
+
+/// Of an entry that was being written, the reader answers it where all of its words are found, and else that there is none.
+pub fn torn_entries_are_seen()
+    ensures { TornIsNone }
+{}
+
+/// While an entry is appended, the entries before it are found, and it too where all of its words are found.
+pub fn appends_are_whole()
+    ensures append { AppendIsWhole }
+    ensures nothing { NoneIsNothing }
+{}
+
+/// A torn entry isn't found while words of the other pass are written over it.
+pub fn scrubbed_entries_stay_torn()
+    ensures { ScrubIsNone }
+{}
+
+/// Lines are read as they were written.
+pub fn lines_return()
+    ensures { LinesReturn }
+{}
+
+/// While the image is written in place, the journal's lines make the same of it at each instant, and once it is written it is
+/// so without them.
+pub fn images_in_place_stay()
+    ensures keeps { InPlaceKeeps }
+    ensures all { InPlaceIsAll }
+{}
+
+/// While the rest of the journal is filled the same is found, and once it is full the next pass begins with nothing.
+pub fn passes_follow()
+    ensures filling { FillingIsNothing }
+    ensures next { NextIsEmpty }
+{}
+
+/// What is said of stretches word after word follows from what each place may hold.
+pub fn stretches_are_by_places()
+    ensures { ByPlaces }
+{}
+
+/// What is found of a file at each instant: at rest, while lines are appended, while the image is written in place, and in
+/// the next pass.
+pub fn files_are_whole()
+    ensures { FileStates }
+{}

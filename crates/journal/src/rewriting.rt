@@ -1,0 +1,105 @@
+ghost use Rattle.std.specs.Prelude.{◌≡◌, ◌⊎◌, ℕ, ◌+◌, ◌<◌, ◌^◌, true, length, OnOk};
+ghost use Rattle.journal.specs.Files.{tail_of, FoundOpens};
+ghost use Rattle.journal.specs.States.{Knows, IsInPlace, IsOff, IsClear, Rests};
+
+use crate::storage::Storage;
+use std::alloc::Global;
+use std::io;
+
+// The tail's first word while the journal counts: its letters, in a file, are WBL-JRN1 from the last to the first.
+pub(crate) const MAGIC: u64 = 0x5742_4C2D_4A52_4E31;
+
+/// Brings a file to rest, with its image in place and nothing in the journal, whatever its journal held. At each instant, and
+/// where a write fails, the file stands for this image. The journal has `room` words, and `pass` is the one that it counts in.
+/// Four writes, and a wait after each: the image in place; then the journal counts no more; it is cleared; it counts again.
+pub fn rewrite<S: Storage>(
+    alloc: Global,
+    storage: &mut S,
+    image: &[u64],
+    room: usize,
+    pass: bool,
+) -> io::Result<()>
+    requires fits { length image.now + room + 8 < 2 ^ 63 }
+    requires known { ∥ Knows (S.may_hold storage.old) (length image.now) room pass image.now ∥₁ }
+    ensures opens { FoundOpens (S.may_hold storage.new) (length image.now) room image.now }
+    ensures rests { OnOk result (∥ Rests (S.may_hold storage.new) (length image.now) room true 0 image.now ∥₁) }
+{
+    settle(storage, image, room, pass)?;
+    clear(alloc, storage, image, room)?;
+    turn_on(storage, image, room)
+}
+
+/// Brings the image in place, after which the journal counts no more: the file's first words are the image then, whatever
+/// stands behind them. At each instant, and where a write fails, the file stands for this image. Two writes, and a wait after
+/// each.
+pub(crate) fn settle<S: Storage>(
+    storage: &mut S,
+    image: &[u64],
+    room: usize,
+    pass: bool,
+) -> io::Result<()>
+    requires fits { length image.now + room < 2 ^ 63 }
+    requires known { ∥ Knows (S.may_hold storage.old) (length image.now) room pass image.now ∥₁ }
+    ensures opens { FoundOpens (S.may_hold storage.new) (length image.now) room image.now }
+    ensures off { OnOk result (∥ IsOff (S.may_hold storage.new) (length image.now) room image.now ∥₁) }
+{
+    put_in_place(storage, image, room, pass)?;
+    turn_off(storage, image, room, pass)
+}
+
+// Puts the image in place.
+fn put_in_place<S: Storage>(
+    storage: &mut S,
+    image: &[u64],
+    room: usize,
+    pass: bool,
+) -> io::Result<()>
+    requires { ∥ Knows (S.may_hold storage.old) (length image.now) room pass image.now ∥₁ }
+    ensures opens { FoundOpens (S.may_hold storage.new) (length image.now) room image.now }
+    ensures done { OnOk result (∥ IsInPlace (S.may_hold storage.new) (length image.now) room pass image.now ∥₁) }
+{
+    storage.put(0, image)
+}
+
+// From now on the journal doesn't count.
+fn turn_off<S: Storage>(storage: &mut S, image: &[u64], room: usize, pass: bool) -> io::Result<()>
+    requires fits { length image.now + room < 2 ^ 63 }
+    requires known { ∥ IsInPlace (S.may_hold storage.old) (length image.now) room pass image.now ∥₁ }
+    ensures opens { FoundOpens (S.may_hold storage.new) (length image.now) room image.now }
+    ensures done { OnOk result (∥ IsOff (S.may_hold storage.new) (length image.now) room image.now ∥₁) }
+{
+    let words = image.len();
+    storage.put(words + room, &tail(0, words, room, pass))
+}
+
+// Leaves nothing in it.
+fn clear<S: Storage>(alloc: Global, storage: &mut S, image: &[u64], room: usize) -> io::Result<()>
+    requires fits { length image.now + room + 8 < 2 ^ 63 }
+    requires known { ∥ IsOff (S.may_hold storage.old) (length image.now) room image.now ∥₁ }
+    ensures opens { FoundOpens (S.may_hold storage.new) (length image.now) room image.now }
+    ensures done { OnOk result (∥ IsClear (S.may_hold storage.new) (length image.now) room image.now ∥₁) }
+{
+    let words = image.len();
+    let mut rest = Vec::from_elem(alloc, 0, room)?;
+    rest.extend_from_slice(&tail(0, words, room, true))?;
+    storage.put(words, rest.as_slice())
+}
+
+// From now on the journal counts.
+fn turn_on<S: Storage>(storage: &mut S, image: &[u64], room: usize) -> io::Result<()>
+    requires fits { length image.now + room < 2 ^ 63 }
+    requires known { ∥ IsClear (S.may_hold storage.old) (length image.now) room image.now ∥₁ }
+    ensures opens { FoundOpens (S.may_hold storage.new) (length image.now) room image.now }
+    ensures done { OnOk result (∥ Rests (S.may_hold storage.new) (length image.now) room true 0 image.now ∥₁) }
+{
+    let words = image.len();
+    storage.put(words + room, &tail(MAGIC, words, room, true))
+}
+
+// The tail's words.
+fn tail(first: u64, words: usize, room: usize, pass: bool) -> [u64; 8]
+    ensures { result ≡ tail_of first words room pass }
+{
+    let pass = if pass { 0 } else { 1 };
+    [first, words as u64, room as u64, pass, 0, 0, 0, 0]
+}

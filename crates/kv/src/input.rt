@@ -1,0 +1,60 @@
+use std::alloc::Global;
+use std::io::{BufRead, BufReader, Read};
+use std::{io, str};
+
+/// The greatest length of a line, in bytes.
+pub const MOST_BYTES: usize = 4_096;
+
+const LINE_FEED: u8 = b'\n';
+
+/// A line of the input.
+#[derive(Clone, Copy)]
+pub enum Line<'a> {
+    Text(&'a str),
+    NotText,
+    TooLong,
+}
+
+/// The lines of an input. They take no more memory than one line may have.
+#[derive(Drop)]
+pub struct Lines<R: Read + Drop> {
+    input: BufReader<R>,
+    line: Vec<u8>,
+    number: u64,
+}
+
+impl<R: BufRead + Drop> Lines<R> {
+    pub fn new(alloc: Global, input: R) -> io::Result<Lines<R>> {
+        Ok(Lines {
+            input: BufReader::new(alloc, input)?,
+            line: Vec::with_capacity(alloc, MOST_BYTES + 1)?,
+            number: 0,
+        })
+    }
+
+    /// The number of the line that was read last, from 1 on.
+    pub fn number(&self) -> u64 {
+        self.number
+    }
+
+    /// Reads the next line, without its line feed. `None` at the end.
+    pub fn next_line(&mut self) -> io::Result<Option<Line<'_>>> {
+        self.number = self.number.saturating_add(1);
+        self.line.clear();
+        let most = MOST_BYTES as u64 + 1;
+        let mut start = self.input.by_ref().take(most);
+        if start.read_until(LINE_FEED, &mut self.line)? == 0 {
+            return Ok(None);
+        }
+        if self.line.last() == Some(&LINE_FEED) {
+            self.line.pop();
+        } else if self.line.len() > MOST_BYTES {
+            self.input.skip_until(LINE_FEED)?;
+            return Ok(Some(Line::TooLong));
+        }
+        match str::from_utf8(self.line.as_slice()) {
+            Ok(text) => Ok(Some(Line::Text(text))),
+            Err(_) => Ok(Some(Line::NotText)),
+        }
+    }
+}

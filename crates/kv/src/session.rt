@@ -1,0 +1,232 @@
+use crate::command::{Command, Range};
+use crate::opening::Device;
+use crate::refusal::{Refusal, Stop};
+use base::Ts;
+use base::fault::Fault;
+use base::key::Key;
+use base::row::Row;
+use database::{CommitError, Database, Transaction};
+use std::alloc::Global;
+use std::sync::Wait;
+
+/// What is answered to a line.
+#[derive(Drop)]
+pub enum Answer {
+    Help,
+    Begun,
+    Written,
+    Aborted,
+    /// What was written persists.
+    Committed(Ts),
+    /// Nothing was written.
+    Done,
+    Row(Option<Row>),
+    Rows(Vec<(Key, Row)>),
+    Count(usize),
+    /// The rows of all tables, to be counted.
+    Tables(Vec<(Key, Row)>),
+    /// The same, as lines that write them.
+    Dump(Vec<(Key, Row)>),
+    Quit,
+}
+
+/// A line that isn't obeyed: it is refused, or no further one can be obeyed either.
+#[derive(Drop)]
+pub enum Failed {
+    Refused(Refusal),
+    Stopped(Stop),
+}
+
+impl From<Fault> for Failed {
+    fn from(fault: Fault) -> Failed {
+        match fault {
+            Fault::Device | Fault::Failed => Failed::Stopped(Stop::Device),
+            Fault::SlotsOut => Failed::Refused(Refusal::Full),
+            fault => Failed::Refused(Refusal::Fault(fault)),
+        }
+    }
+}
+
+/// A database, and the transaction that is open on it.
+#[derive(Drop)]
+pub struct Session<'a, R: Wait + Drop> {
+    alloc: Global,
+    database: &'a Database<Device, R>,
+    open: Option<Transaction<'a, Device, R>>,
+    // The line of the transaction that was refused: it is aborted, and isn't ended yet.
+    broken: Option<u64>,
+}
+
+impl<'a, R: Wait + Drop> Session<'a, R> {
+    pub fn new(alloc: Global, database: &'a Database<Device, R>) -> Session<'a, R> {
+        Session {
+            alloc,
+            database,
+            open: None,
+            broken: None,
+        }
+    }
+
+    /// Whether a transaction was begun and isn't ended.
+    pub fn is_open(&self) -> bool {
+        self.open.is_some() || self.broken.is_some()
+    }
+
+    /// Aborts the transaction that is open, or that this line was to begin, since the line was refused. Its commit is refused then.
+    pub fn break_off(&mut self, line: u64, begins: bool) {
+        if self.open.is_some() || begins && self.broken.is_none() {
+            self.open = None;
+            self.broken = Some(line);
+        }
+    }
+
+    /// Obeys a line. Outside a transaction it is one by itself.
+    pub fn obey(&mut self, command: Command) -> Result<Answer, Failed> {
+        match command {
+            Command::Help => Ok(Answer::Help),
+            Command::Begin => self.begin(),
+            Command::Commit => self.commit(),
+            Command::Abort => self.abort(),
+            Command::Put { key, row } => self.write(key, Some(row)),
+            Command::Delete { key } => self.write(key, None),
+            Command::Get { key } => self.get(key),
+            Command::Scan(range) => Ok(Answer::Rows(self.scan(range)?)),
+            Command::Count { table } => self.count(table),
+            Command::Tables => Ok(Answer::Tables(self.all()?)),
+            Command::Dump => Ok(Answer::Dump(self.all()?)),
+            Command::Quit => Ok(Answer::Quit),
+        }
+    }
+
+    fn begin(&mut self) -> Result<Answer, Failed> {
+        if self.is_open() {
+            return Err(Failed::Refused(Refusal::Open));
+        }
+        self.open = Some(self.database.begin()?);
+        Ok(Answer::Begun)
+    }
+
+    fn commit(&mut self) -> Result<Answer, Failed> {
+        if let Some(line) = self.broken.take() {
+            return Err(Failed::Refused(Refusal::NotCommitted(line)));
+        }
+        match self.open.take() {
+            Some(transaction) => commit(transaction),
+            None => Err(Failed::Refused(Refusal::NotOpen)),
+        }
+    }
+
+    fn abort(&mut self) -> Result<Answer, Failed> {
+        if self.broken.take().is_some() {
+            return Ok(Answer::Aborted);
+        }
+        match self.open.take() {
+            Some(transaction) => {
+                transaction.abort()?;
+                Ok(Answer::Aborted)
+            }
+            None => Err(Failed::Refused(Refusal::NotOpen)),
+        }
+    }
+
+    // Writes the row under the key, or deletes what is there.
+    fn write(&mut self, key: Key, row: Option<Row>) -> Result<Answer, Failed> {
+        self.test_whole()?;
+        if let Some(transaction) = &mut self.open {
+            write(transaction, key, row)?;
+            return Ok(Answer::Written);
+        }
+        let mut transaction = self.database.begin()?;
+        write(&mut transaction, key, row)?;
+        commit(transaction)
+    }
+
+    fn get(&mut self, key: Key) -> Result<Answer, Failed> {
+        self.test_whole()?;
+        if let Some(transaction) = &self.open {
+            return Ok(Answer::Row(transaction.get(key)?));
+        }
+        let transaction = self.database.begin()?;
+        Ok(Answer::Row(transaction.get(key)?))
+    }
+
+    fn scan(&mut self, range: Range) -> Result<Vec<(Key, Row)>, Failed> {
+        self.test_whole()?;
+        let mut rows = match &self.open {
+            Some(transaction) => transaction.scan(range.table, range.lo, range.hi)?,
+            None => {
+                let transaction = self.database.begin()?;
+                transaction.scan(range.table, range.lo, range.hi)?
+            }
+        };
+        if range.is_reverse {
+            rows.as_mut_slice().reverse();
+        }
+        if range.limit < rows.len() as u64 {
+            rows.truncate(range.limit as usize);
+        }
+        Ok(rows)
+    }
+
+    fn count(&mut self, table: u16) -> Result<Answer, Failed> {
+        let rows = self.scan(Range {
+            table,
+            lo: 0,
+            hi: u64::MAX,
+            limit: u64::MAX,
+            is_reverse: false,
+        })?;
+        Ok(Answer::Count(rows.len()))
+    }
+
+    // The rows of all tables, of one snapshot.
+    fn all(&mut self) -> Result<Vec<(Key, Row)>, Failed> {
+        self.test_whole()?;
+        if let Some(transaction) = &self.open {
+            return Ok(all_rows(self.alloc, transaction)?);
+        }
+        let transaction = self.database.begin()?;
+        Ok(all_rows(self.alloc, &transaction)?)
+    }
+
+    fn test_whole(&self) -> Result<(), Failed> {
+        match self.broken {
+            Some(line) => Err(Failed::Refused(Refusal::Broken(line))),
+            None => Ok(()),
+        }
+    }
+}
+
+fn all_rows<R: Wait + Drop>(
+    alloc: Global,
+    transaction: &Transaction<'_, Device, R>,
+) -> Result<Vec<(Key, Row)>, Fault> {
+    let mut rows = Vec::new(alloc);
+    for table in 0..=u16::MAX {
+        let found = transaction.scan(table, 0, u64::MAX)?;
+        if rows.extend_from_slice(found.as_slice()).is_err() {
+            return Err(Fault::OutOfMemory);
+        }
+    }
+    Ok(rows)
+}
+
+fn write<R: Wait + Drop>(
+    transaction: &mut Transaction<'_, Device, R>,
+    key: Key,
+    row: Option<Row>,
+) -> Result<(), Fault> {
+    match row {
+        Some(row) => transaction.put(key, row),
+        None => transaction.delete(key),
+    }
+}
+
+fn commit<R: Wait + Drop>(transaction: Transaction<'_, Device, R>) -> Result<Answer, Failed> {
+    match transaction.commit() {
+        Ok(Some(timestamp)) => Ok(Answer::Committed(timestamp)),
+        Ok(None) => Ok(Answer::Done),
+        Err(CommitError::Open(_)) => Err(Failed::Stopped(Stop::InCommit)),
+        Err(CommitError::Refused(fault)) => Err(Failed::from(fault)),
+    }
+}

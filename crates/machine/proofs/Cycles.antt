@@ -1,0 +1,114 @@
+-- How many ticks a cycle takes.
+use Rattle.std.proofs.Common.{◌≡◌, ℕ, suc, ◌+◌, ◌<◌, Bool, true, false, cond, List, [], ◌∷◌, ◌++◌, length, map, replicate, refl, sym, ◌∙◌, ap, subst, append-nil, append_assoc, arith}
+use Rattle.std.specs.Prelude.{Option, Some, None, slice_get, is_none, IsTrue, not}
+use Rattle.std.specs.List.{range_with_len}
+use Rattle.std.proofs.Math.ListN.{length-append}
+use Rattle.std.proofs.Math.Seq.{get_or-append_seam}
+use Rattle.std.proofs.lemmas.Bool.{and_parts, not-true}
+use Rattle.std.proofs.lemmas.List.FromFn.{length-map-range_with_len}
+use Rattle.std.proofs.lemmas.Option.{slice_get-get_or, slice_get_past}
+use Rattle.base.specs.declared.fault.Fault.{Fault}
+use Rattle.base.specs.declared.step.Step.{Step}
+use Rattle.base.specs.declared.step.Step.TheVariants.{Commit as CommitTick}
+use Rattle.base.specs.declared.step.Stage.{Stage}
+use Rattle.base.specs.declared.step.Stage.TheVariants.{Chosen, LineFlushed, LinesFenced, BodyStored, BodyFlushed, BodyFenced, GateStored, GateFlushed}
+use Rattle.base.specs.declared.step.Reply.{Reply}
+use Rattle.base.specs.declared.step.Reply.TheVariants.{Ticked, Covered}
+use Rattle.machine.specs.Machine.{State, Hand, refusal, chooses, chosen, is_idle, stages, lines_of, next_stage, batch_of, taken_in_hand, state_covered, ticked_on, state_ticked_on, ticked, state_ticked}
+use Rattle.machine.specs.Replay.{reply_on, state_on, reply_of, state_of, replies, end}
+use Rattle.machine.specs.Laws.{CycleIsWhole}
+
+-- the state with this batch in hand, after so many ticks
+abbrev at : State → Hand → ℕ → State
+at q hand k = record q { hand = Some (record { commits = hand.commits; target = hand.target; ticks = k }) }
+
+not-refused : (q : State) (hand : Hand) (k : ℕ) → q.failed ≡ false → refusal (at q hand k) CommitTick ≡ None
+not-refused q hand k works = rw works refl
+
+-- one tick
+tick-reply : (q : State) (hand : Hand) (k : ℕ) (o : Option Stage) → q.failed ≡ false → next_stage (at q hand k) (record { commits = hand.commits; target = hand.target; ticks = k }) ≡ o
+    → reply_of (at q hand k) CommitTick ≡ ticked_on (at q hand k) (record { commits = hand.commits; target = hand.target; ticks = k }) o
+tick-reply q hand k o works e =
+    ap (reply_on (at q hand k) CommitTick) (not-refused q hand k works) ∙ ap (ticked_on (at q hand k) (record { commits = hand.commits; target = hand.target; ticks = k })) e
+
+tick-state : (q : State) (hand : Hand) (k : ℕ) (o : Option Stage) → q.failed ≡ false → next_stage (at q hand k) (record { commits = hand.commits; target = hand.target; ticks = k }) ≡ o
+    → state_of (at q hand k) CommitTick ≡ state_ticked_on (at q hand k) (record { commits = hand.commits; target = hand.target; ticks = k }) o
+tick-state q hand k o works e =
+    ap (state_on (at q hand k) CommitTick) (not-refused q hand k works) ∙ ap (state_ticked_on (at q hand k) (record { commits = hand.commits; target = hand.target; ticks = k })) e
+
+seam : (done : List Stage) (stage : Stage) (rest : List Stage) → slice_get (done ++ stage ∷ rest) (length done) ≡ Some stage
+seam done stage rest =
+    let within : length done < length (done ++ stage ∷ rest) = omega (arith, length-append done (stage ∷ rest)) in
+    slice_get-get_or (done ++ stage ∷ rest) (length done) stage within ∙ ap (λ (s : Stage). Some s) (get_or-append_seam done stage rest stage)
+
+-- the ticks of these stages, and the one that covers
+abbrev IsRest : State → Hand → ℕ → List Stage → Type 0
+IsRest q hand k rest =
+    (replies (at q hand k) (replicate (suc (length rest)) CommitTick) ≡ map Ticked rest ++ Covered (batch_of q hand) ∷ [])
+    × (end (at q hand k) (replicate (suc (length rest)) CommitTick) ≡ state_covered q hand)
+
+rest-of : (q : State) (hand : Hand) (done rest : List Stage) → q.failed ≡ false → stages (lines_of q hand.commits) ≡ done ++ rest → IsRest q hand (length done) rest
+rest-of q hand done [] works e =
+    let all : stages (lines_of q hand.commits) ≡ done = e ∙ append-nil done in
+    let past : slice_get (stages (lines_of q hand.commits)) (length done) ≡ None =
+    ap (λ (l : List Stage). slice_get l (length done)) all ∙ slice_get_past done (length done) (omega arith) in
+    (ap (λ (r : Reply). r ∷ []) (tick-reply q hand (length done) None works past), tick-state q hand (length done) None works past)
+rest-of q hand done (stage ∷ rest) works e =
+    let here : slice_get (stages (lines_of q hand.commits)) (length done) ≡ Some stage =
+    ap (λ (l : List Stage). slice_get l (length done)) e ∙ seam done stage rest in
+    let on : IsRest q hand (length (done ++ stage ∷ [])) rest = rest-of q hand (done ++ stage ∷ []) rest works (e ∙ sym (append_assoc done (stage ∷ []) rest)) in
+    let count : length (done ++ stage ∷ []) ≡ length done + 1 = length-append done (stage ∷ []) in
+    let next : IsRest q hand (length done + 1) rest = subst (λ (k : ℕ). IsRest q hand k rest) count on in
+    let ticks : List Step = replicate (suc (length rest)) CommitTick in
+    let moved = tick-state q hand (length done) (Some stage) works here in (
+      ap (λ (r : Reply). r ∷ replies (state_of (at q hand (length done)) CommitTick) ticks) (tick-reply q hand (length done) (Some stage) works here)
+          ∙ ap (λ (p : State). Ticked stage ∷ replies p ticks) moved ∙ ap (λ (rs : List Reply). Ticked stage ∷ rs) next.0,
+      ap (λ (p : State). end p ticks) moved ∙ next.1,
+    )
+
+-- the first tick chooses
+first-reply : (q : State) → q.hand ≡ None → is_idle q ≡ false → refusal q CommitTick ≡ None → reply_of q CommitTick ≡ Ticked Chosen
+first-reply q none busy ok =
+    ap (reply_on q CommitTick) ok ∙ ap (ticked q) none ∙ ap (λ (b : Bool). cond b Rattle.base.specs.declared.step.Reply.TheVariants.Idle (Ticked Chosen)) busy
+
+first-state : (q : State) → q.hand ≡ None → is_idle q ≡ false → refusal q CommitTick ≡ None → state_of q CommitTick ≡ at q (taken_in_hand q) 1
+first-state q none busy ok =
+    ap (state_on q CommitTick) ok ∙ ap (state_ticked q) none ∙ ap (λ (b : Bool). cond b q (record q { hand = Some (taken_in_hand q) })) busy
+
+-- the stages after the first
+abbrev later : ℕ → List Stage
+later lines =
+    map LineFlushed (range_with_len 0 lines) ++ (LinesFenced ∷ map BodyStored (range_with_len 1 31))
+    ++ map BodyFlushed (range_with_len 0 4) ++ (BodyFenced ∷ GateStored ∷ GateFlushed ∷ [])
+
+later-length : (lines : ℕ) → length (later lines) ≡ lines + 39
+later-length lines =
+    let a : List Stage = map LineFlushed (range_with_len 0 lines) in
+    let b : List Stage = LinesFenced ∷ map BodyStored (range_with_len 1 31) in
+    let c : List Stage = map BodyFlushed (range_with_len 0 4) in
+    let d : List Stage = BodyFenced ∷ GateStored ∷ GateFlushed ∷ [] in
+    omega (arith, length-append (a ++ b ++ c) d, length-append (a ++ b) c, length-append a b, length-map-range_with_len LineFlushed 0 lines, length-map-range_with_len BodyStored 1 31, length-map-range_with_len BodyFlushed 0 4)
+
+pub cycle-whole : (q : State) → q.hand ≡ None → IsTrue (chooses q CommitTick) → refusal q CommitTick ≡ None → CycleIsWhole q
+cycle-whole q none chooses_now ok =
+    let lines : ℕ = lines_of q (chosen q) in
+    let busy : is_idle q ≡ false = not-true (is_idle q) (and_parts (is_none q.hand) (not (is_idle q)) chooses_now).1 in
+    let works : q.failed ≡ false = by q.failed refl in
+    let on = rest-of q (taken_in_hand q) (Chosen ∷ []) (later lines) works refl in
+    let count : lines + 41 ≡ suc (suc (length (later lines))) = omega (arith, later-length lines) in
+    let moved = first-state q none busy ok in
+    let ticks : List Step = replicate (suc (length (later lines))) CommitTick in
+    record {
+      replies =
+          ap (λ (n : ℕ). replies q (replicate n CommitTick)) count
+          ∙ ap (λ (r : Reply). r ∷ replies (state_of q CommitTick) ticks) (first-reply q none busy ok)
+          ∙ ap (λ (p : State). Ticked Chosen ∷ replies p ticks) moved ∙ ap (λ (rs : List Reply). Ticked Chosen ∷ rs) on.0;
+      covers = ap (λ (n : ℕ). end q (replicate n CommitTick)) count ∙ ap (λ (p : State). end p ticks) moved ∙ on.1;
+    }
+  where
+    by : (b : Bool) → q.failed ≡ b → b ≡ false
+    by false is = refl
+    by true is =
+        let some : is_none (refusal q CommitTick) ≡ false = rw is refl in
+        let nothing : is_none (refusal q CommitTick) ≡ true = ap (λ (o : Option Fault). is_none o) ok in
+        cc

@@ -1,0 +1,119 @@
+-- Which replies report a failing device, and what a failed state answers.
+use Rattle.std.proofs.Common.{◌≡◌, ℕ, ◌+◌, ◌*◌, ◌^◌, ◌&&◌, ◌||◌, nat_eq, Bool, true, false, cond, [], ◌∷◌, refl, sym, ◌∙◌, ap, subst}
+use Rattle.std.specs.Prelude.{Option, Some, None, is_none, nat_le}
+use Rattle.std.specs.Option.{option_or, option_map}
+use Rattle.base.specs.declared.key.Key.{Key}
+use Rattle.base.specs.declared.fault.Fault.{Fault}
+use Rattle.base.specs.declared.fault.Fault.TheVariants.{Failed, SessionsFull, NoSession, WrongState, TooLong, WriteSetFull, SlotsOut, Conflict, WindowFull, TimestampsOut}
+use Rattle.base.specs.declared.step.Step.{Step}
+use Rattle.base.specs.declared.step.Step.TheVariants.{Begin, Get, Scan, Put, Delete, Draw, Stamp, Poll, Abort, End, Commit as CommitTick, Collect}
+use Rattle.base.specs.declared.step.Stage.{Stage}
+use Rattle.base.specs.declared.step.Reply.{Reply}
+use Rattle.base.specs.declared.step.Reply.TheVariants.{Began, Row, Rows, Done, Drawn, More, Stamped, Waiting, Committed, Idle, Ticked, Covered, Visited, SweepEnd, Refused}
+use Rattle.base.specs.Commits.{Writes}
+use Rattle.base.specs.Search.{some_if}
+use Rattle.machine.specs.Machine.{State, Hand, Stepped, refused, answered, memory_refused, device_failed, refusal, conflicts, begins, free_session, is_absent, is_misplaced, is_too_long, overfills, lacks_slot, draws, chooses, is_idle, writes_of, next_stage, taken_in_hand, next_state, state_drawn, state_ticked, state_ticked_on}
+use Rattle.base.specs.Replies.{is_failure}
+use Rattle.machine.proofs.Runs.{IsAnswer, Answers-answer}
+use Rattle.machine.proofs.Visiting.{visit-changes}
+
+-- ---- no refusal of a step that is not made reports one
+
+-- where it is some fault, that fault reports none
+abbrev Quiet : Option Fault → Type 0
+Quiet o = (fault : Fault) → o ≡ Some fault → is_failure (Refused fault) ≡ false
+
+quiet-none : Quiet None
+quiet-none fault e = absurd (cc e)
+
+quiet-some : (known : Fault) → is_failure (Refused known) ≡ false → Quiet (Some known)
+quiet-some known quiet fault e = let same : known ≡ fault = cc e in subst (λ (f : Fault). is_failure (Refused f) ≡ false) same quiet
+
+quiet-if : (test : Bool) (known : Fault) → is_failure (Refused known) ≡ false → Quiet (some_if test known)
+quiet-if true known quiet = quiet-some known quiet
+quiet-if false known quiet = quiet-none
+
+quiet-conflict : (o : Option Key) → Quiet (option_map Conflict o)
+quiet-conflict None = quiet-none
+quiet-conflict (Some key) = quiet-some (Conflict key) refl
+
+quiet-or : (a b : Option Fault) → Quiet a → Quiet b → Quiet (option_or a b)
+quiet-or None b p r = r
+quiet-or (Some fault) b p r = p
+
+pub refusal-quiet : (q : State) (step : Step) (fault : Fault) → refusal q step ≡ Some fault → is_failure (Refused fault) ≡ false
+refusal-quiet q step =
+    quiet-or _ _ (quiet-if q.failed Failed refl)
+    (quiet-or _ _ (quiet-if (begins step && is_none (free_session q)) SessionsFull refl)
+    (quiet-or _ _ (quiet-if (is_absent q step) NoSession refl)
+    (quiet-or _ _ (quiet-if (is_misplaced q step) WrongState refl)
+    (quiet-or _ _ (quiet-if (is_too_long q step) TooLong refl)
+    (quiet-or _ _ (quiet-if (overfills q step) WriteSetFull refl)
+    (quiet-or _ _ (quiet-if (lacks_slot q step) SlotsOut refl)
+    (quiet-or _ _ (quiet-conflict (conflicts q step))
+    (quiet-or _ _ (quiet-if (draws q step && nat_eq q.next q.ruling.dirty) WindowFull refl)
+    (quiet-or _ _ (quiet-if (draws q step && nat_le (2 ^ 62) (q.next + 2 * q.layout.window) || chooses q step && nat_le (2 ^ 62) (q.ruling.gate + 1)) TimestampsOut refl)
+    quiet-none)))))))))
+
+pub answer-quiet : (reply : Reply) → IsAnswer reply → is_failure reply ≡ false
+answer-quiet (Began n) a = refl
+answer-quiet (Row row) a = refl
+answer-quiet (Rows rows) a = refl
+answer-quiet Done a = refl
+answer-quiet (Drawn t) a = refl
+answer-quiet More a = refl
+answer-quiet Stamped a = refl
+answer-quiet Waiting a = refl
+answer-quiet (Committed t) a = refl
+answer-quiet Idle a = refl
+answer-quiet (Ticked stage) a = refl
+answer-quiet (Covered batch) a = refl
+answer-quiet (Visited slot) a = refl
+answer-quiet SweepEnd a = refl
+answer-quiet (Refused fault) a = absurd a
+
+-- ---- the state fails with the device, and never else
+
+choice : (b : Bool) (x y : State) (v : Bool) → x.failed ≡ v → y.failed ≡ v → (cond b x y).failed ≡ v
+choice true x y v p r = p
+choice false x y v p r = r
+
+drawn-works : (q : State) (n : ℕ) (writes : Writes) → (state_drawn q n writes).failed ≡ q.failed
+drawn-works q n [] = refl
+drawn-works q n (write ∷ writes) = refl
+
+ticked-on-works : (q : State) (hand : Hand) (o : Option Stage) → (state_ticked_on q hand o).failed ≡ q.failed
+ticked-on-works q hand None = refl
+ticked-on-works q hand (Some stage) = refl
+
+ticked-works : (q : State) (o : Option Hand) → (state_ticked q o).failed ≡ q.failed
+ticked-works q None = choice (is_idle q) q (record q { hand = Some (taken_in_hand q) }) q.failed refl refl
+ticked-works q (Some hand) = ticked-on-works q hand (next_stage q hand)
+
+answered-works : (q : State) (step : Step) → (next_state q step).failed ≡ q.failed
+answered-works q Begin = refl
+answered-works q (Get n key) = refl
+answered-works q (Scan n table lo hi) = refl
+answered-works q (Put n key row) = refl
+answered-works q (Delete n key) = refl
+answered-works q (Draw n) = drawn-works q n (writes_of (q.sessions n))
+answered-works q (Stamp n) = refl
+answered-works q (Poll n) = refl
+answered-works q (Abort n) = refl
+answered-works q (End n) = refl
+answered-works q CommitTick = ticked-works q q.hand
+answered-works q Collect = (visit-changes q).failed
+
+pub failed-after : (q : State) (step : Step) (reply : Reply) (q' : State) → Stepped q step reply q' → q.failed ≡ false → q'.failed ≡ is_failure reply
+failed-after q step reply q' (refused fault e r s) works = ap (λ (x : State). x.failed) s ∙ works ∙ sym (refusal-quiet q step fault e) ∙ sym (ap is_failure r)
+failed-after q step reply q' (answered e a s) works = ap (λ (x : State). x.failed) s ∙ answered-works q step ∙ works ∙ sym (answer-quiet reply (Answers-answer q step reply a))
+failed-after q step reply q' (memory_refused e m r s) works = ap (λ (x : State). x.failed) s ∙ works ∙ sym (ap is_failure r)
+failed-after q step reply q' (device_failed e m r s) works = ap (λ (x : State). x.failed) s ∙ sym (ap is_failure r)
+
+-- a failed state refuses each step
+pub failed-refuses : (q : State) (step : Step) → q.failed ≡ true → refusal q step ≡ Some Failed
+failed-refuses q step failed = by q.failed _ failed
+  where
+    by : (b : Bool) (rest : Option Fault) → b ≡ true → option_or (some_if b Failed) rest ≡ Some Failed
+    by true rest e = refl
+    by false rest e = absurd (cc e)

@@ -1,0 +1,201 @@
+-- What only grows from step to step: the history, and the timestamps that were drawn.
+use Rattle.std.proofs.Common.{◌≡◌, ℕ, ◌+◌, Bool, true, false, ◌||◌, nat_eq, List, [], ◌∷◌, ◌++◌, refl, sym, ◌∙◌, ap, subst, append-nil, append_assoc, arith, ◌⊎◌, inl, inr}
+use Rattle.std.specs.Prelude.{Option, Some, None, IsTrue, if◌then◌else◌}
+use Rattle.base.specs.declared.fault.Fault.{Fault}
+use Rattle.base.specs.declared.fault.Fault.TheVariants.{Device}
+use Rattle.base.specs.declared.step.Step.{Step}
+use Rattle.base.specs.declared.step.Step.TheVariants.{Begin, Get, Scan, Put, Delete, Draw, Stamp, Poll, Abort, End, Commit as CommitTick, Collect}
+use Rattle.base.specs.declared.step.Stage.{Stage}
+use Rattle.base.specs.declared.step.Stage.TheVariants.{Chosen}
+use Rattle.base.specs.declared.step.Reply.{Reply}
+use Rattle.base.specs.declared.step.Reply.TheVariants.{Rows, Done, Drawn as DrewAs, More, Stamped, Waiting, Committed, Idle, Ticked, Visited, SweepEnd, Refused}
+use Rattle.base.specs.Commits.{Commit, Writes}
+use Rattle.base.specs.Stands.{has_timestamp}
+use Rattle.base.specs.Lists.{is_nil}
+use Rattle.machine.specs.Machine.{State, Session, Active, Drew, WroteNothing, Hand, Stepped, refused, answered, memory_refused, device_failed, Answers, Run, final, next_state, state_ticked, state_ticked_on, state_drawn, next_stage, is_idle, writes_of, polled, ticked, ticked_on, is_last_stamp}
+use Rattle.machine.specs.Laws.{drawn_by, drawn_in, RiseBetween}
+use Rattle.machine.specs.Collecting.{is_at_slot, visited}
+use Rattle.machine.proofs.Runs.{Answers-answer}
+use Rattle.machine.proofs.Visiting.{visit-changes}
+
+-- Refusals
+
+same_fault : (fault other : Fault) → Refused fault ≡ Refused other → fault ≡ other
+same_fault fault other e = cc
+
+pub refused-keeps : (q : State) (step : Step) (fault : Fault) (q' : State) → Stepped q step (Refused fault) q' → (q' ≡ q) ⊎ ((fault ≡ Device) × (q' ≡ record q { failed = true }))
+refused-keeps q step fault q' (refused other e r s) = inl s
+refused-keeps q step fault q' (answered e a s) = absurd (Answers-answer q step (Refused fault) a)
+refused-keeps q step fault q' (memory_refused e m r s) = inl s
+refused-keeps q step fault q' (device_failed e m r s) = inr (same_fault fault Device r, s)
+
+-- The history
+
+-- the state has this history and more
+abbrev pub Extends : List Commit → State → Type 0
+Extends history q = (more : List Commit) × (q.history ≡ history ++ more)
+
+none_more : (history : List Commit) → history ≡ history ++ []
+none_more history = sym (append-nil history)
+
+pub extends-same : (history : List Commit) (q : State) → q.history ≡ history → Extends history q
+extends-same history q e = ([], e ∙ sym (append-nil history))
+
+extends-idle : (q : State) (hand : Hand) (b : Bool) → Extends q.history (if b then q else record q { hand = Some hand })
+extends-idle q hand true = ([], none_more q.history)
+extends-idle q hand false = ([], none_more q.history)
+
+extends-on : (q : State) (hand : Hand) (o : Option Stage) → Extends q.history (state_ticked_on q hand o)
+extends-on q hand None = (hand.commits, refl)
+extends-on q hand (Some stage) = ([], none_more q.history)
+
+extends-ticked : (q : State) (o : Option Hand) → Extends q.history (state_ticked q o)
+extends-ticked q None = extends-idle q _ (is_idle q)
+extends-ticked q (Some hand) = extends-on q hand (next_stage q hand)
+
+extends-drawn : (q : State) (n : ℕ) (writes : Writes) → Extends q.history (state_drawn q n writes)
+extends-drawn q n [] = ([], none_more q.history)
+extends-drawn q n (write ∷ writes) = ([], none_more q.history)
+
+extends-next : (q : State) (step : Step) → Extends q.history (next_state q step)
+extends-next q Begin = ([], none_more q.history)
+extends-next q (Get n key) = ([], none_more q.history)
+extends-next q (Scan n table lo hi) = ([], none_more q.history)
+extends-next q (Put n key row) = ([], none_more q.history)
+extends-next q (Delete n key) = ([], none_more q.history)
+extends-next q (Draw n) = extends-drawn q n (writes_of (q.sessions n))
+extends-next q (Stamp n) = ([], none_more q.history)
+extends-next q (Poll n) = ([], none_more q.history)
+extends-next q (Abort n) = ([], none_more q.history)
+extends-next q (End n) = ([], none_more q.history)
+extends-next q CommitTick = extends-ticked q q.hand
+extends-next q Collect = extends-same q.history (visited q) (visit-changes q).history
+
+pub extends-stepped : (q : State) (step : Step) (reply : Reply) (q' : State) → Stepped q step reply q' → Extends q.history q'
+extends-stepped q step reply q' (refused fault e r s) = extends-same q.history q' (ap (λ (p : State). p.history) s)
+extends-stepped q step reply q' (answered e a s) = subst (Extends q.history) (sym s) (extends-next q step)
+extends-stepped q step reply q' (memory_refused e m r s) = extends-same q.history q' (ap (λ (p : State). p.history) s)
+extends-stepped q step reply q' (device_failed e m r s) = extends-same q.history q' (ap (λ (p : State). p.history) s)
+
+pub extends-trans : (history : List Commit) (q q' : State) → Extends history q → Extends q.history q' → Extends history q'
+extends-trans history q q' (a, e) (b, f) = (a ++ b, f ∙ (ap (λ (l : List Commit). l ++ b) e ∙ append_assoc history a b))
+
+pub extends-run : (q : State) (steps : List Step) (replies : List Reply) (states : List State) → Run q steps replies states → Extends q.history (final q states)
+extends-run q [] [] [] run = ([], none_more q.history)
+extends-run q (step ∷ steps) (reply ∷ replies) (q1 ∷ states) run = extends-trans q.history q1 (final q1 states) (extends-stepped q step reply q1 run.0) (extends-run q1 steps replies states run.1)
+extends-run q [] [] (q1 ∷ states) run = absurd run
+extends-run q [] (r1 ∷ replies) states run = absurd run
+extends-run q (s1 ∷ steps) [] states run = absurd run
+extends-run q (s1 ∷ steps) (r1 ∷ replies) [] run = absurd run
+
+-- a timestamp stays in the history
+
+or-more : (a b c : Bool) → (b ≡ true → c ≡ true) → a || b ≡ true → a || c ≡ true
+or-more true b c more e = refl
+or-more false b c more e = more e
+
+pub any-append : (xs ys : List Commit) (t : ℕ) → has_timestamp xs t ≡ true → has_timestamp (xs ++ ys) t ≡ true
+any-append [] ys t e = cc
+any-append (x ∷ xs) ys t e = or-more (nat_eq x.timestamp t) (has_timestamp xs t) (has_timestamp (xs ++ ys) t) (any-append xs ys t) e
+
+pub stays-in : (history : List Commit) (q : State) (t : ℕ) → Extends history q → has_timestamp history t ≡ true → has_timestamp q.history t ≡ true
+stays-in history q t (more, e) h = subst (λ (l : List Commit). has_timestamp l t ≡ true) (sym e) (any-append history more t h)
+
+committed_is : (t other : ℕ) → Committed t ≡ Committed other → t ≡ other
+committed_is t other e = cc
+
+pub polled-in : (q : State) (o : Option Session) (t : ℕ) → Committed t ≡ polled q o → has_timestamp q.history t ≡ true
+polled-in q None t e = cc
+polled-in q (Some (Active begun writes)) t e = cc
+polled-in q (Some WroteNothing) t e = cc
+polled-in q (Some (Drew u)) t e = by (has_timestamp q.history u) refl e
+  where
+    by : (b : Bool) → has_timestamp q.history u ≡ b → Committed t ≡ (if b then Committed u else Waiting) → has_timestamp q.history t ≡ true
+    by true is f = subst (λ (v : ℕ). has_timestamp q.history v ≡ true) (sym (committed_is t u f)) is
+    by false is f = cc
+
+poll-in : (q : State) (n t : ℕ) (q' : State) → Stepped q (Poll n) (Committed t) q' → has_timestamp q.history t ≡ true
+poll-in q n t q' (refused fault e r s) = cc
+poll-in q n t q' (answered e a s) = polled-in q (q.sessions n) t a
+poll-in q n t q' (memory_refused e m r s) = cc
+poll-in q n t q' (device_failed e m r s) = cc
+
+pub acknowledged-stays : (q : State) (n t : ℕ) (q' : State) (steps : List Step) (replies : List Reply) (states : List State)
+    → Stepped q (Poll n) (Committed t) q' → Run q' steps replies states → IsTrue (has_timestamp (final q' states).history t)
+acknowledged-stays q n t q' steps replies states s run =
+    stays-in q'.history (final q' states) t (extends-run q' steps replies states run) (stays-in q.history q' t (extends-stepped q (Poll n) (Committed t) q' s) (poll-in q n t q' s))
+
+-- Timestamps
+
+pub rise-append : (from mid to : ℕ) (xs ys : List ℕ) → RiseBetween from xs mid → RiseBetween mid ys to → RiseBetween from (xs ++ ys) to
+rise-append from mid to [] [] a b = omega (arith, a, b)
+rise-append from mid to [] (y ∷ ys) a b = (omega (arith, a, b.0), b.1)
+rise-append from mid to (x ∷ xs) ys a b = (a.0, rise-append (x + 1) mid to xs ys a.1 b)
+
+-- a reply that draws nothing, and the next timestamp stays
+abbrev Same : State → Reply → State → Type 0
+Same q reply q' = (drawn_by reply ≡ []) × (q'.next ≡ q.next)
+
+same-rise : (q : State) (reply : Reply) (q' : State) → Same q reply q' → RiseBetween q.next (drawn_by reply) q'.next
+same-rise q reply q' (none, same) = subst (λ (l : List ℕ). RiseBetween q.next l q'.next) (sym none) (omega (arith, same))
+
+either_none : (b : Bool) (x y : Reply) → drawn_by x ≡ [] → drawn_by y ≡ [] → drawn_by (if b then x else y) ≡ []
+either_none true x y p q = p
+either_none false x y p q = q
+
+polled_none : (q : State) (o : Option Session) → drawn_by (polled q o) ≡ []
+polled_none q None = refl
+polled_none q (Some (Active begun writes)) = refl
+polled_none q (Some (Drew t)) = either_none (has_timestamp q.history t) (Committed t) Waiting refl refl
+polled_none q (Some WroteNothing) = refl
+
+idle-same : (q : State) (hand : Hand) (b : Bool) → Same q (if b then Idle else Ticked Chosen) (if b then q else record q { hand = Some hand })
+idle-same q hand true = (refl, refl)
+idle-same q hand false = (refl, refl)
+
+on-same : (q : State) (hand : Hand) (o : Option Stage) → Same q (ticked_on q hand o) (state_ticked_on q hand o)
+on-same q hand None = (refl, refl)
+on-same q hand (Some stage) = (refl, refl)
+
+ticked-same : (q : State) (o : Option Hand) → Same q (ticked q o) (state_ticked q o)
+ticked-same q None = idle-same q _ (is_idle q)
+ticked-same q (Some hand) = on-same q hand (next_stage q hand)
+
+drawn-rise : (q : State) (n : ℕ) (writes : Writes) → RiseBetween q.next (drawn_by (if is_nil writes then Done else DrewAs q.next)) (state_drawn q n writes).next
+drawn-rise q n [] = omega arith
+drawn-rise q n (write ∷ writes) = (omega arith, omega arith)
+
+along : (q : State) (reply other : Reply) (q' : State) → reply ≡ other → RiseBetween q.next (drawn_by other) q'.next → RiseBetween q.next (drawn_by reply) q'.next
+along q reply other q' e r = subst (λ (x : Reply). RiseBetween q.next (drawn_by x) q'.next) (sym e) r
+
+next-rise : (q : State) (step : Step) (reply : Reply) → Answers q step reply → RiseBetween q.next (drawn_by reply) (next_state q step).next
+next-rise q Begin reply a = along q reply _ (next_state q Begin) a (omega arith)
+next-rise q (Get n key) reply a = along q reply _ (next_state q (Get n key)) a (omega arith)
+next-rise q (Scan n table lo hi) reply a = along q reply (Rows a.0) (next_state q (Scan n table lo hi)) a.1 (omega arith)
+next-rise q (Put n key row) reply a = along q reply _ (next_state q (Put n key row)) a (omega arith)
+next-rise q (Delete n key) reply a = along q reply _ (next_state q (Delete n key)) a (omega arith)
+next-rise q (Draw n) reply a = along q reply _ (next_state q (Draw n)) a (drawn-rise q n (writes_of (q.sessions n)))
+next-rise q (Stamp n) reply a = along q reply _ (next_state q (Stamp n)) a (same-rise q _ (next_state q (Stamp n)) (either_none (is_last_stamp q n) Stamped More refl refl, refl))
+next-rise q (Poll n) reply a = along q reply _ q a (same-rise q _ q (polled_none q (q.sessions n), refl))
+next-rise q (Abort n) reply a = along q reply _ (next_state q (Abort n)) a (omega arith)
+next-rise q (End n) reply a = along q reply _ (next_state q (End n)) a (omega arith)
+next-rise q CommitTick reply a = along q reply _ (next_state q CommitTick) a (same-rise q _ (next_state q CommitTick) (ticked-same q q.hand))
+next-rise q Collect reply a = along q reply _ (visited q) a (same-rise q _ (visited q) (either_none (is_at_slot q) (Visited q.place) SweepEnd refl refl, (visit-changes q).next))
+
+refused-rise : (q : State) (reply : Reply) (fault : Fault) (q' : State) → reply ≡ Refused fault → q'.next ≡ q.next → RiseBetween q.next (drawn_by reply) q'.next
+refused-rise q reply fault q' r s = same-rise q reply q' (ap drawn_by r, s)
+
+pub stepped-rise : (q : State) (step : Step) (reply : Reply) (q' : State) → Stepped q step reply q' → RiseBetween q.next (drawn_by reply) q'.next
+stepped-rise q step reply q' (refused fault e r s) = refused-rise q reply fault q' r (ap (λ (p : State). p.next) s)
+stepped-rise q step reply q' (answered e a s) = subst (λ (p : State). RiseBetween q.next (drawn_by reply) p.next) (sym s) (next-rise q step reply a)
+stepped-rise q step reply q' (memory_refused e m r s) = refused-rise q reply _ q' r (ap (λ (p : State). p.next) s)
+stepped-rise q step reply q' (device_failed e m r s) = refused-rise q reply _ q' r (ap (λ (p : State). p.next) s)
+
+pub run-rise : (q : State) (steps : List Step) (replies : List Reply) (states : List State) → Run q steps replies states → RiseBetween q.next (drawn_in replies) (final q states).next
+run-rise q [] [] [] run = omega arith
+run-rise q (step ∷ steps) (reply ∷ replies) (q1 ∷ states) run =
+    rise-append q.next q1.next (final q1 states).next (drawn_by reply) (drawn_in replies) (stepped-rise q step reply q1 run.0) (run-rise q1 steps replies states run.1)
+run-rise q [] [] (q1 ∷ states) run = absurd run
+run-rise q [] (r1 ∷ replies) states run = absurd run
+run-rise q (s1 ∷ steps) [] states run = absurd run
+run-rise q (s1 ∷ steps) (r1 ∷ replies) [] run = absurd run

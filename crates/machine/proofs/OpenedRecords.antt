@@ -1,0 +1,171 @@
+-- What the record that an opening writes commits, with and without a sweep.
+use Rattle.std.proofs.Common.{◌≡◌, inl, inr, ℕ, ◌+◌, ◌-◌, ◌^◌, ◌<◌, ◌≤◌, Bool, true, false, cond, not, ◌&&◌, ◌||◌, List, [], ◌∷◌, length, refl, sym, ◌∙◌, subst, arith, nat_eq, nat_lt, nat_le}
+use Rattle.std.specs.List.{list_any, list_all}
+use Rattle.std.proofs.lemmas.Bool.{and_parts, and_from, or_cases, or_left, or_right, leb-true, ltb-true, ltb-false, le-leb, eqb-true, false≢true}
+use Rattle.std.proofs.lemmas.Bool.Decides.{nat_tests}
+use Rattle.base.specs.declared.gap.Gap.{Gap}
+use Rattle.base.specs.Layout.{Layout}
+use Rattle.base.specs.Records.{Record, is_committed, is_in, is_well_formed}
+use Rattle.machine.specs.Openings.{IsOpenedGaps, opening_record, gaps_kept}
+use Rattle.base.proofs.WellFormed.{WellFormed, are_up_to, well_formed-parts, well_formed-from}
+
+uncovered : (p q y z : Bool) → (y || z) ≡ true → (p && not true && not false) ≡ (q && not y && not z)
+uncovered true true true z e = refl
+uncovered true true false true e = refl
+uncovered true false y z e = refl
+uncovered false true true z e = refl
+uncovered false true false true e = refl
+uncovered false false y z e = refl
+uncovered true true false false e = absurd (cc e)
+uncovered false true false false e = absurd (cc e)
+
+-- below the old dirty timestamp both records commit the same
+pub same-committed : (a : Layout) (r : Record) (gaps : List Gap) (t : ℕ) → IsOpenedGaps r gaps → t < r.dirty → is_committed (opening_record a r gaps) t ≡ is_committed r t
+same-committed a r gaps t covers below = by (is_in gaps t) (is_in r.gaps t) (list_any (nat_eq t) r.longs) (covers.same t)
+  where
+    by : (x y z : Bool) → x ≡ (y || z || (nat_lt r.persisted t && nat_lt t r.dirty)) → (nat_le 1 t && nat_le t (r.dirty - 1) && not x && not false) ≡ (nat_le 1 t && nat_le t r.persisted && not y && not z)
+    by x true z is = let h : x ≡ true = is in rw h (uncovered (nat_le 1 t && nat_le t (r.dirty - 1)) (nat_le 1 t && nat_le t r.persisted) true z refl)
+    by x false true is = let h : x ≡ true = is in rw h (uncovered (nat_le 1 t && nat_le t (r.dirty - 1)) (nat_le 1 t && nat_le t r.persisted) false true refl)
+    by x false false is = let h : x ≡ (nat_lt r.persisted t && nat_lt t r.dirty) = is in grind (arith, nat_tests)
+
+-- what lies in a gap of the opening counts for nothing before
+pub uncommitted-in : (r : Record) (gaps : List Gap) (t : ℕ) → IsOpenedGaps r gaps → is_in gaps t ≡ true → is_committed r t ≡ false
+uncommitted-in r gaps t covers there = by (is_in r.gaps t) (list_any (nat_eq t) r.longs) (sym (covers.same t) ∙ there)
+  where
+    by : (y z : Bool) → (y || z || (nat_lt r.persisted t && nat_lt t r.dirty)) ≡ true → (nat_le 1 t && nat_le t r.persisted && not y && not z) ≡ false
+    by true z is = sym (uncovered false (nat_le 1 t && nat_le t r.persisted) true z refl)
+    by false true is = sym (uncovered false (nat_le 1 t && nat_le t r.persisted) false true refl)
+    by false false is = let h : (nat_lt r.persisted t && nat_lt t r.dirty) ≡ true = is in grind (arith, nat_tests)
+
+-- with its gaps swept, a record without gaps commits of what is left what the old one committed
+pub swept-committed : (a : Layout) (r : Record) (gaps : List Gap) (t : ℕ) → IsOpenedGaps r gaps → t < r.dirty → is_committed (opening_record a r []) (cond (is_in gaps t) 0 t) ≡ is_committed r t
+swept-committed a r gaps t covers below = by (is_in gaps t) refl
+  where
+    by : (x : Bool) → is_in gaps t ≡ x → is_committed (opening_record a r []) (cond x 0 t) ≡ is_committed r t
+    by true is = sym (uncommitted-in r gaps t covers is)
+    by false is = sides (is_in r.gaps t) (list_any (nat_eq t) r.longs) (sym (covers.same t) ∙ is)
+      where
+        sides : (y z : Bool) → (y || z || (nat_lt r.persisted t && nat_lt t r.dirty)) ≡ false → (nat_le 1 t && nat_le t (r.dirty - 1) && true && true) ≡ (nat_le 1 t && nat_le t r.persisted && not y && not z)
+        sides true z e = absurd (cc e)
+        sides false true e = absurd (cc e)
+        sides false false e = let h : (nat_lt r.persisted t && nat_lt t r.dirty) ≡ false = e in grind (arith, nat_tests)
+
+-- with the gaps kept or swept, it commits what was committed
+pub still-committed : (a : Layout) (r : Record) (gaps : List Gap) (t : ℕ) → IsOpenedGaps r gaps → t < r.dirty → is_committed r t ≡ true → is_committed (opening_record a r (gaps_kept gaps)) t ≡ true
+still-committed a r gaps t covers below counts = by (nat_lt 8 (length gaps))
+  where
+    by : (b : Bool) → is_committed (opening_record a r (cond b [] gaps)) t ≡ true
+    by false = same-committed a r gaps t covers below ∙ counts
+    by true = sides (is_in gaps t) refl
+      where
+        sides : (x : Bool) → is_in gaps t ≡ x → is_committed (opening_record a r []) t ≡ true
+        sides true is = absurd (false≢true (sym (uncommitted-in r gaps t covers is) ∙ counts))
+        sides false is = subst (λ (x : Bool). is_committed (opening_record a r []) (cond x 0 t) ≡ is_committed r t) is (swept-committed a r gaps t covers below) ∙ counts
+
+-- ---- the form of the record
+
+-- between 1 and a bound
+abbrev pub IsUpTo : ℕ → ℕ → Type 0
+IsUpTo bound t = (1 ≤ t) × (t ≤ bound)
+
+in-up_to : (bound t : ℕ) (gaps : List Gap) → are_up_to bound gaps ≡ true → is_in gaps t ≡ true → IsUpTo bound t
+in-up_to bound t [] all there = absurd (false≢true there)
+in-up_to bound t (gap ∷ gaps) all there =
+    let both = and_parts (nat_le 1 gap.first && nat_le gap.first gap.last && nat_le gap.last bound) (are_up_to bound gaps) all in
+    elim (or_cases (nat_le gap.first t && nat_le t gap.last) (is_in gaps t) there) [
+      | inl here ↦ between here both.0
+      | inr later ↦ in-up_to bound t gaps both.1 later
+    ]
+  where
+    between : nat_le gap.first t && nat_le t gap.last ≡ true → nat_le 1 gap.first && nat_le gap.first gap.last && nat_le gap.last bound ≡ true → IsUpTo bound t
+    between here fits =
+        let h = and_parts (nat_le gap.first t) (nat_le t gap.last) here in
+        let f = and_parts (nat_le 1 gap.first && nat_le gap.first gap.last) (nat_le gap.last bound) fits in
+        let from = leb-true gap.first t h.0 in
+        let to = leb-true t gap.last h.1 in
+        let one = leb-true 1 gap.first (and_parts (nat_le 1 gap.first) (nat_le gap.first gap.last) f.0).0 in
+        let last = leb-true gap.last bound f.1 in
+        (omega (arith, from, one), omega (arith, to, last))
+
+long-up_to : (bound t : ℕ) (gaps : List Gap) (longs : List ℕ) → list_all (λ t. nat_le 1 t && nat_le t bound && not (is_in gaps t)) longs ≡ true
+    → list_any (nat_eq t) longs ≡ true → IsUpTo bound t
+long-up_to bound t gaps [] all there = absurd (false≢true there)
+long-up_to bound t gaps (long ∷ longs) all there =
+    let both = and_parts (nat_le 1 long && nat_le long bound && not (is_in gaps long)) (list_all (λ t. nat_le 1 t && nat_le t bound && not (is_in gaps t)) longs) all in
+    elim (or_cases (nat_eq t long) (list_any (nat_eq t) longs) there) [
+      | inl here ↦
+          let parts = and_parts (nat_le 1 long) (nat_le long bound) (and_parts (nat_le 1 long && nat_le long bound) (not (is_in gaps long)) both.0).0 in
+          subst (IsUpTo bound) (sym (eqb-true t long here)) (leb-true 1 long parts.0, leb-true long bound parts.1)
+      | inr later ↦ long-up_to bound t gaps longs both.1 later
+    ]
+
+up_to-in : (bound : ℕ) (gaps : List Gap) → list_all (λ gap. nat_le gap.first gap.last) gaps ≡ true → ((t : ℕ) → is_in gaps t ≡ true → IsUpTo bound t) → are_up_to bound gaps ≡ true
+up_to-in bound [] ordered each = refl
+up_to-in bound (gap ∷ gaps) ordered each =
+    let both = and_parts (nat_le gap.first gap.last) (list_all (λ gap. nat_le gap.first gap.last) gaps) ordered in
+    let order = leb-true gap.first gap.last both.0 in
+    let first = each gap.first (or_left (nat_le gap.first gap.first && nat_le gap.first gap.last) (is_in gaps gap.first)
+    (and_from (nat_le gap.first gap.first) (nat_le gap.first gap.last) (le-leb gap.first gap.first (omega arith)) both.0)) in
+    let last = each gap.last (or_left (nat_le gap.first gap.last && nat_le gap.last gap.last) (is_in gaps gap.last)
+    (and_from (nat_le gap.first gap.last) (nat_le gap.last gap.last) both.0 (le-leb gap.last gap.last (omega arith)))) in
+    and_from (nat_le 1 gap.first && nat_le gap.first gap.last && nat_le gap.last bound) (are_up_to bound gaps)
+    (and_from (nat_le 1 gap.first && nat_le gap.first gap.last) (nat_le gap.last bound)
+    (and_from (nat_le 1 gap.first) (nat_le gap.first gap.last) (le-leb 1 gap.first first.0) both.0) (le-leb gap.last bound last.1))
+    (up_to-in bound gaps both.1 (λ t there. each t (or_right (nat_le gap.first t && nat_le t gap.last) (is_in gaps t) there)))
+
+-- the gaps lie below the old dirty timestamp
+gaps-below : (version : ℕ) (r : Record) (gaps : List Gap) → WellFormed version r → IsOpenedGaps r gaps → are_up_to (r.dirty - 1) gaps ≡ true
+gaps-below version r gaps formed opened = up_to-in (r.dirty - 1) gaps opened.ordered (λ t there. within t (sym (opened.same t) ∙ there))
+  where
+    wider : (t : ℕ) → IsUpTo r.persisted t → IsUpTo (r.dirty - 1) t
+    wider t h = let less = formed.below in (h.0, omega (arith, h.1, less))
+
+    within : (t : ℕ) → (is_in r.gaps t || list_any (nat_eq t) r.longs || (nat_lt r.persisted t && nat_lt t r.dirty)) ≡ true → IsUpTo (r.dirty - 1) t
+    within t e =
+        elim (or_cases (is_in r.gaps t || list_any (nat_eq t) r.longs) (nat_lt r.persisted t && nat_lt t r.dirty) e) [
+          | inl before ↦ elim (or_cases (is_in r.gaps t) (list_any (nat_eq t) r.longs) before) [
+            | inl gap ↦ wider t (in-up_to r.persisted t r.gaps formed.each gap)
+            | inr long ↦ wider t (long-up_to r.persisted t r.gaps r.longs formed.within long)
+          ]
+          | inr between ↦
+              let both = and_parts (nat_lt r.persisted t) (nat_lt t r.dirty) between in
+              let from = ltb-true r.persisted t both.0 in
+              let to = ltb-true t r.dirty both.1 in
+              (omega (arith, from), omega (arith, to))
+        ]
+
+pub formed-over : (version : ℕ) (a : Layout) (r : Record) (gaps : List Gap) → is_well_formed version r ≡ true → IsOpenedGaps r gaps → length gaps ≤ 8 → 0 < a.window → r.dirty + a.window < 2 ^ 62
+    → is_well_formed version (opening_record a r gaps) ≡ true
+formed-over version a r gaps well opened few some room =
+    let formed = well_formed-parts version r well in
+    let less = formed.below in
+    well_formed-from version (opening_record a r gaps) (record {
+      below = omega (arith, less, some);
+      limit = room;
+      few = few;
+      fewer = omega arith;
+      each = gaps-below version r gaps formed opened;
+      apart = opened.apart;
+      within = refl;
+      rising = refl;
+    })
+
+-- with the gaps kept or swept, the record is well formed
+pub formed-kept : (version : ℕ) (a : Layout) (r : Record) (gaps : List Gap) → is_well_formed version r ≡ true → IsOpenedGaps r gaps → 0 < a.window → r.dirty + a.window < 2 ^ 62
+    → is_well_formed version (opening_record a r (gaps_kept gaps)) ≡ true
+formed-kept version a r gaps well opened some room = by (nat_lt 8 (length gaps)) refl
+  where
+    by : (b : Bool) → nat_lt 8 (length gaps) ≡ b → is_well_formed version (opening_record a r (cond b [] gaps)) ≡ true
+    by false is = formed-over version a r gaps well opened (ltb-false 8 (length gaps) is) some room
+    by true is =
+        let less = (well_formed-parts version r well).below in
+        well_formed-from version (opening_record a r []) (record {
+          below = omega (arith, less);
+          limit = room;
+          few = omega arith;
+          fewer = omega arith;
+          each = refl;
+          apart = refl;
+          within = refl;
+          rising = refl;
+        })

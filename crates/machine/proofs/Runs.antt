@@ -1,0 +1,100 @@
+-- Laws of steps and runs.
+use Rattle.std.proofs.Common.{◌≡◌, Bool, true, false, List, [], ◌∷◌, ◌++◌, refl, sym, subst, inl, inr}
+use Rattle.std.specs.Prelude.{Option, Some, None, if◌then◌else◌}
+use Rattle.std.proofs.lemmas.List.Elements.{Contains-append_left}
+use Rattle.base.specs.declared.fault.Fault.TheVariants.{OutOfMemory}
+use Rattle.base.specs.declared.step.Step.{Step}
+use Rattle.base.specs.declared.step.Step.TheVariants.{Begin, Get, Scan, Put, Delete, Draw, Stamp, Poll, Abort, End, Commit as CommitTick, Collect}
+use Rattle.base.specs.declared.step.Stage.{Stage}
+use Rattle.base.specs.declared.step.Note.{Note}
+use Rattle.base.specs.declared.step.Reply.{Reply}
+use Rattle.base.specs.declared.step.Reply.TheVariants.{Rows, Done, Drawn as DrewAs, More, Stamped, Waiting, Committed, Idle, Ticked, Visited, SweepEnd, Refused}
+use Rattle.base.specs.Lists.{is_nil}
+use Rattle.base.specs.Replies.{note_of}
+use Rattle.machine.specs.Machine.{State, Hand, Session, Active, Drew, WroteNothing, Stepped, refused, answered, memory_refused, device_failed, Answers, Noted, Run, final, StandsAt, StandsWithin, StandsAlong, StandsClosing, covers_at, of_hand, present, closed, polled, ticked, ticked_on, next_stage, is_idle, writes_of, is_last_stamp}
+use Rattle.base.specs.Stands.{has_timestamp}
+use Rattle.machine.specs.Collecting.{is_at_slot}
+use Rattle.base.specs.Images.{Image}
+
+-- a reply that is no refusal
+abbrev pub IsAnswer : Reply → Type 0
+IsAnswer (Refused fault) = ⊥
+IsAnswer _ = Unit {0}
+
+either_answer : (b : Bool) (x y : Reply) → IsAnswer x → IsAnswer y → IsAnswer (if b then x else y)
+either_answer true x y p q = p
+either_answer false x y p q = q
+
+polled_answer : (q : State) (o : Option Session) → IsAnswer (polled q o)
+polled_answer q None = tt
+polled_answer q (Some (Active begun writes)) = tt
+polled_answer q (Some (Drew t)) = either_answer (has_timestamp q.history t) (Committed t) Waiting tt tt
+polled_answer q (Some WroteNothing) = tt
+
+ticked_on_answer : (q : State) (hand : Hand) (o : Option Stage) → IsAnswer (ticked_on q hand o)
+ticked_on_answer q hand None = tt
+ticked_on_answer q hand (Some stage) = tt
+
+ticked_answer : (q : State) (o : Option Hand) → IsAnswer (ticked q o)
+ticked_answer q None = either_answer (is_idle q) Idle (Ticked Rattle.base.specs.declared.step.Stage.TheVariants.Chosen) tt tt
+ticked_answer q (Some hand) = ticked_on_answer q hand (next_stage q hand)
+
+along : (reply other : Reply) → reply ≡ other → IsAnswer other → IsAnswer reply
+along reply other e p = subst (λ r. IsAnswer r) (sym e) p
+
+-- an answer is no refusal
+pub Answers-answer : (q : State) (step : Step) (reply : Reply) → Answers q step reply → IsAnswer reply
+Answers-answer q Begin reply a = along reply _ a tt
+Answers-answer q (Get n key) reply a = along reply _ a tt
+Answers-answer q (Scan n table lo hi) reply a = along reply (Rows a.0) a.1 tt
+Answers-answer q (Put n key row) reply a = along reply _ a tt
+Answers-answer q (Delete n key) reply a = along reply _ a tt
+Answers-answer q (Draw n) reply a = along reply _ a (either_answer (is_nil (writes_of (q.sessions n))) Done (DrewAs q.next) tt tt)
+Answers-answer q (Stamp n) reply a = along reply _ a (either_answer (is_last_stamp q n) Stamped More tt tt)
+Answers-answer q (Poll n) reply a = along reply _ a (polled_answer q (q.sessions n))
+Answers-answer q (Abort n) reply a = along reply _ a tt
+Answers-answer q (End n) reply a = along reply _ a tt
+Answers-answer q CommitTick reply a = along reply _ a (ticked_answer q q.hand)
+Answers-answer q Collect reply a = along reply _ a (either_answer (is_at_slot q) (Visited q.place) SweepEnd tt tt)
+
+-- want of memory changes nothing
+pub memory_unchanged : (q : State) (step : Step) (q' : State) → Stepped q step (Refused OutOfMemory) q' → q' ≡ q
+memory_unchanged q step q' (refused fault e r s) = s
+memory_unchanged q step q' (answered e a s) = absurd (Answers-answer q step (Refused OutOfMemory) a)
+memory_unchanged q step q' (memory_refused e m r s) = s
+memory_unchanged q step q' (device_failed e m r s) = cc
+
+-- a run goes on by a step
+pub Noted-append : (q : State) (entries : List (Step × Note)) (mid : State) (step : Step) (reply : Reply) (q' : State)
+    → Noted q entries mid → Stepped mid step reply q' → Noted q (entries ++ (step, note_of reply) ∷ []) q'
+Noted-append q [] mid step reply q' e s = (reply, q', subst (λ (m : State). Stepped m step reply q') e s, refl, refl)
+Noted-append q (entry ∷ entries) mid step reply q' (r, m, s1, n, rest) s = (r, m, s1, n, Noted-append m entries mid step reply q' rest s)
+
+pub Run-append : (q : State) (steps : List Step) (replies : List Reply) (states : List State) (step : Step) (reply : Reply) (q' : State)
+    → Run q steps replies states → Stepped (final q states) step reply q' → Run q (steps ++ step ∷ []) (replies ++ reply ∷ []) (states ++ q' ∷ [])
+Run-append q [] [] [] step reply q' run s = (s, tt)
+Run-append q (s1 ∷ steps) (r1 ∷ replies) (q1 ∷ states) step reply q' run s = (run.0, Run-append q1 steps replies states step reply q' run.1 s)
+Run-append q [] [] (q1 ∷ states) step reply q' run s = absurd run
+Run-append q [] (r1 ∷ replies) states step reply q' run s = absurd run
+Run-append q (s1 ∷ steps) [] states step reply q' run s = absurd run
+Run-append q (s1 ∷ steps) (r1 ∷ replies) [] step reply q' run s = absurd run
+
+pub final-append : (q : State) (states : List State) (q' : State) → final q (states ++ q' ∷ []) ≡ q'
+final-append q [] q' = refl
+final-append q (q1 ∷ states) q' = final-append q1 states q'
+
+-- between two steps, and so within the next
+pub StandsAt-within : (q q' : State) (image : Image) → StandsAt q image → StandsWithin q q' image
+StandsAt-within q q' image s = (s.0, Contains-append_left (covers_at q) (of_hand q q'.hand ++ present q' ∷ []) s.0 s.1, s.2)
+
+pub StandsAt-closing : (q : State) (image : Image) → StandsAt q image → StandsClosing q image
+StandsAt-closing q image s = (s.0, Contains-append_left (covers_at q) (closed q ∷ []) s.0 s.1, s.2)
+
+pub StandsAlong-before : (q : State) (states : List State) (q' : State) (image : Image) → StandsAlong q states image → StandsAlong q (states ++ q' ∷ []) image
+StandsAlong-before q [] q' image s = inl (StandsAt-within q q' image s)
+StandsAlong-before q (q1 ∷ states) q' image (inl s) = inl s
+StandsAlong-before q (q1 ∷ states) q' image (inr s) = inr (StandsAlong-before q1 states q' image s)
+
+pub StandsAlong-last : (q : State) (states : List State) (q' : State) (image : Image) → StandsWithin (final q states) q' image → StandsAlong q (states ++ q' ∷ []) image
+StandsAlong-last q [] q' image s = inl s
+StandsAlong-last q (q1 ∷ states) q' image s = inr (StandsAlong-last q1 states q' image s)

@@ -1,0 +1,316 @@
+-- The rows of a scan: there is one list of them, and it lists the tables that the session sees.
+use Rattle.std.proofs.Common.{◌≡◌, ℕ, Bool, true, false, cond, List, [], ◌∷◌, map, take, filter, refl, sym, ◌∙◌, ap, subst, arith, true≢false}
+use Rattle.std.specs.Prelude.{Option, Some, None, unwrap_or}
+use Rattle.std.specs.List.{list_all}
+use Rattle.std.proofs.lemmas.Bool.{and_parts, and_from}
+use Rattle.std.proofs.lemmas.Bool.Decides.{nat_tests}
+use Rattle.std.proofs.lemmas.Option.{same_Some, none-some}
+use Rattle.base.specs.declared.key.Key.{Key}
+use Rattle.base.specs.Keys.{key_eq, key_lt, is_rising, lookup_key, is_in_range}
+use Rattle.base.specs.Commits.{Commit, Writes, Tables, overlaid, laid, after, in_range, Lists, with_write}
+use Rattle.machine.specs.Machine.{State, writes_of, begun_of, seen_by}
+use Rattle.machine.specs.Replay.{merged, written, with_row, rows_among, written_for, scanned}
+use Rattle.base.proofs.Keys.{key_eq-true, key_eq-same, key_lt-trans, key_lt-swap}
+
+-- ---- lists by rising key
+
+module _ {X : Type 0} where
+  abbrev keys : List (Key × X) → List Key
+  keys pairs = map (λ pair. pair.0) pairs
+
+  -- each key of the list is above this
+  abbrev above : Key → List (Key × X) → Bool
+  above key pairs = list_all (λ pair. key_lt key pair.0) pairs
+
+  -- so a key up to it isn't there
+  absent : (key : Key) (pairs : List (Key × X)) → above key pairs ≡ true → lookup_key pairs key ≡ None
+  absent key [] all = refl
+  absent key (pair ∷ pairs) all =
+      let both = and_parts (key_lt key pair.0) (list_all (λ (p : Key × X). key_lt key p.0) pairs) all in
+      let apart : key_eq pair.0 key ≡ false = higher key pair.0 both.0 in
+      ap (λ (b : Bool). cond b (Some pair.1) (lookup_key pairs key)) apart ∙ absent key pairs both.1
+    where
+      higher : (a b : Key) → key_lt a b ≡ true → key_eq b a ≡ false
+      higher a b less = grind (arith, nat_tests)
+
+  above-lower : (low key : Key) (pairs : List (Key × X)) → key_lt low key ≡ true → above key pairs ≡ true → above low pairs ≡ true
+  above-lower low key [] less all = refl
+  above-lower low key (pair ∷ pairs) less all =
+      let both = and_parts (key_lt key pair.0) (list_all (λ (p : Key × X). key_lt key p.0) pairs) all in
+      and_from _ _ (key_lt-trans low key pair.0 less both.0) (above-lower low key pairs less both.1)
+
+  abbrev rising : List (Key × X) → Bool
+  rising pairs = is_rising (keys pairs)
+
+  rising-rest : (pair : Key × X) (pairs : List (Key × X)) → rising (pair ∷ pairs) ≡ true → rising pairs ≡ true
+  rising-rest pair [] r = refl
+  rising-rest pair (next ∷ pairs) r = (and_parts (key_lt pair.0 next.0) (is_rising (map (λ (p : Key × X). p.0) (next ∷ pairs))) r).1
+
+  rising-above : (pair : Key × X) (pairs : List (Key × X)) → rising (pair ∷ pairs) ≡ true → above pair.0 pairs ≡ true
+  rising-above pair [] r = refl
+  rising-above pair (next ∷ pairs) r =
+      let both = and_parts (key_lt pair.0 next.0) (is_rising (map (λ (p : Key × X). p.0) (next ∷ pairs))) r in
+      and_from _ _ both.0 (above-lower pair.0 next.0 pairs both.0 (rising-above next pairs both.1))
+
+  rising-with : (pair : Key × X) (pairs : List (Key × X)) → above pair.0 pairs ≡ true → rising pairs ≡ true → rising (pair ∷ pairs) ≡ true
+  rising-with pair [] all r = refl
+  rising-with pair (next ∷ pairs) all r =
+      and_from _ _ (and_parts (key_lt pair.0 next.0) (list_all (λ (p : Key × X). key_lt pair.0 p.0) pairs) all).0 r
+
+  head-found : (pair : Key × X) (pairs : List (Key × X)) → lookup_key (pair ∷ pairs) pair.0 ≡ Some pair.1
+  head-found pair pairs = ap (λ (b : Bool). cond b (Some pair.1) (lookup_key pairs pair.0)) (key_eq-same pair.0)
+
+  -- what the lists have past the head, which they share
+  past-head : (pair : Key × X) (xs ys : List (Key × X)) → above pair.0 xs ≡ true → above pair.0 ys ≡ true
+      → ((key : Key) → lookup_key (pair ∷ xs) key ≡ lookup_key (pair ∷ ys) key) → (key : Key) → lookup_key xs key ≡ lookup_key ys key
+  past-head pair xs ys above_xs above_ys same key = by (key_eq pair.0 key) refl (same key)
+    where
+      by : (b : Bool) → key_eq pair.0 key ≡ b → cond b (Some pair.1) (lookup_key xs key) ≡ cond b (Some pair.1) (lookup_key ys key) → lookup_key xs key ≡ lookup_key ys key
+      by true is e =
+          let at : pair.0 ≡ key = key_eq-true pair.0 key is in
+          subst (λ (k : Key). lookup_key xs k ≡ lookup_key ys k) at (absent pair.0 xs above_xs ∙ sym (absent pair.0 ys above_ys))
+      by false is e = e
+
+  -- lists by rising key that have the same at each key are one
+  pub one-list : (xs ys : List (Key × X)) → rising xs ≡ true → rising ys ≡ true → ((key : Key) → lookup_key xs key ≡ lookup_key ys key) → xs ≡ ys
+  one-list [] [] rx ry same = refl
+  one-list [] (y ∷ ys) rx ry same = absurd (none-some y.1 (same y.0 ∙ head-found y ys))
+  one-list (x ∷ xs) [] rx ry same = absurd (none-some x.1 (sym (same x.0) ∙ head-found x xs))
+  one-list (x ∷ xs) (y ∷ ys) rx ry same = by (one-list xs ys (rising-rest x xs rx) (rising-rest y ys ry)) (key_eq x.0 y.0) refl (key_lt x.0 y.0) refl
+    where
+      lower : (a b : Key × X) (under over : List (Key × X)) → rising (b ∷ over) ≡ true → key_lt a.0 b.0 ≡ true → lookup_key (a ∷ under) a.0 ≡ lookup_key (b ∷ over) a.0 → ⊥
+      lower a b under over rb less e =
+          none-some a.1 (sym (absent a.0 (b ∷ over) (and_from _ _ less (above-lower a.0 b.0 over less (rising-above b over rb)))) ∙ (sym e ∙ head-found a under))
+
+      heads : key_eq x.0 y.0 ≡ true → x ≡ y
+      heads is =
+          let at : x.0 ≡ y.0 = key_eq-true x.0 y.0 is in
+          let value : x.1 ≡ y.1 = same_Some x.1 y.1 (sym (head-found x xs) ∙ (same x.0 ∙ (ap (lookup_key (y ∷ ys)) at ∙ head-found y ys))) in
+          λ i. (at i, value i)
+
+      by : (((key : Key) → lookup_key xs key ≡ lookup_key ys key) → xs ≡ ys) → (b : Bool) → key_eq x.0 y.0 ≡ b → (l : Bool) → key_lt x.0 y.0 ≡ l → x ∷ xs ≡ y ∷ ys
+      by more true is l less =
+          let head : x ≡ y = heads is in
+          let along : (key : Key) → lookup_key (x ∷ xs) key ≡ lookup_key (x ∷ ys) key = λ key. same key ∙ ap (λ (p : Key × X). lookup_key (p ∷ ys) key) (sym head) in
+          let above_ys : above x.0 ys ≡ true = subst (λ (p : Key × X). above p.0 ys ≡ true) (sym head) (rising-above y ys ry) in
+          let rest : xs ≡ ys = more (past-head x xs ys (rising-above x xs rx) above_ys along) in
+          λ i. head i ∷ rest i
+      by more false is true less = absurd (lower x y xs ys ry less (same x.0))
+      by more false is false less = absurd (lower y x ys xs rx (key_lt-swap x.0 y.0 is less) (sym (same y.0)))
+
+  -- the pairs whose keys pass a test
+  filter-lookup : (test : Key → Bool) (pairs : List (Key × X)) (key : Key) → lookup_key (filter (λ pair. test pair.0) pairs) key ≡ cond (test key) (lookup_key pairs key) None
+  filter-lookup test [] key = by (test key)
+    where
+      by : (b : Bool) → ◌≡◌ {A = Option X} None (cond b None None)
+      by true = refl
+      by false = refl
+  filter-lookup test (pair ∷ pairs) key = by (test pair.0) refl (key_eq pair.0 key) refl (filter-lookup test pairs key)
+    where
+      rest : List (Key × X)
+      rest = filter (λ pair. test pair.0) pairs
+
+      by : (t : Bool) → test pair.0 ≡ t → (b : Bool) → key_eq pair.0 key ≡ b → lookup_key rest key ≡ cond (test key) (lookup_key pairs key) None
+          → lookup_key (cond t (pair ∷ rest) rest) key ≡ cond (test key) (cond b (Some pair.1) (lookup_key pairs key)) None
+      by true passes true is more =
+          let here : test key ≡ true = subst (λ (k : Key). test k ≡ true) (key_eq-true pair.0 key is) passes in
+          ap (λ (b : Bool). cond b (Some pair.1) (lookup_key rest key)) is ∙ sym (ap (λ (b : Bool). cond b (Some pair.1) None) here)
+      by true passes false is more = ap (λ (b : Bool). cond b (Some pair.1) (lookup_key rest key)) is ∙ more
+      by false fails true is more =
+          let here : test key ≡ false = subst (λ (k : Key). test k ≡ false) (key_eq-true pair.0 key is) fails in
+          more ∙ (ap (λ (b : Bool). cond b (lookup_key pairs key) None) here ∙ sym (ap (λ (b : Bool). cond b (Some pair.1) None) here))
+      by false fails false is more = more
+
+  filter-above : (test : Key → Bool) (low : Key) (pairs : List (Key × X)) → above low pairs ≡ true → above low (filter (λ pair. test pair.0) pairs) ≡ true
+  filter-above test low [] all = refl
+  filter-above test low (pair ∷ pairs) all =
+      let both = and_parts (key_lt low pair.0) (list_all (λ (p : Key × X). key_lt low p.0) pairs) all in
+      by (test pair.0) both.0 (filter-above test low pairs both.1)
+    where
+      rest : List (Key × X)
+      rest = filter (λ pair. test pair.0) pairs
+
+      by : (t : Bool) → key_lt low pair.0 ≡ true → above low rest ≡ true → above low (cond t (pair ∷ rest) rest) ≡ true
+      by true here more = and_from _ _ here more
+      by false here more = more
+
+  filter-rising : (test : Key → Bool) (pairs : List (Key × X)) → rising pairs ≡ true → rising (filter (λ pair. test pair.0) pairs) ≡ true
+  filter-rising test [] r = r
+  filter-rising test (pair ∷ pairs) r =
+      by (test pair.0) (filter-above test pair.0 pairs (rising-above pair pairs r)) (filter-rising test pairs (rising-rest pair pairs r))
+    where
+      rest : List (Key × X)
+      rest = filter (λ pair. test pair.0) pairs
+
+      by : (t : Bool) → above pair.0 rest ≡ true → rising rest ≡ true → rising (cond t (pair ∷ rest) rest) ≡ true
+      by true low more = rising-with pair rest low more
+      by false low more = more
+
+-- ---- writes
+
+abbrev Write : Type 0
+Write = Key × Option (List ℕ)
+
+with-lookup : (key : Key) (value : Option (List ℕ)) (writes : Writes) (other : Key)
+    → lookup_key (with_write key value writes) other ≡ cond (key_eq key other) (Some value) (lookup_key writes other)
+with-lookup key value [] other = refl
+with-lookup key value (write ∷ writes) other = by (key_eq key write.0) refl (key_lt key write.0) (with-lookup key value writes other)
+  where
+    same_key : key_eq key write.0 ≡ true → key_eq write.0 other ≡ key_eq key other
+    same_key is = ap (λ (k : Key). key_eq k other) (sym (key_eq-true key write.0 is))
+
+    apart : key_eq key write.0 ≡ false → key_eq write.0 other ≡ true → key_eq key other ≡ false
+    apart not_it there = subst (λ (k : Key). key_eq key k ≡ false) (key_eq-true write.0 other there) not_it
+
+    later : key_eq key write.0 ≡ false → (b : Bool) → key_eq write.0 other ≡ b → lookup_key (with_write key value writes) other ≡ cond (key_eq key other) (Some value) (lookup_key writes other)
+        → cond b (Some write.1) (lookup_key (with_write key value writes) other) ≡ cond (key_eq key other) (Some value) (cond b (Some write.1) (lookup_key writes other))
+    later not_it true there more = sym (ap (λ (b : Bool). cond b (Some value) (Some write.1)) (apart not_it there))
+    later not_it false there more = more
+
+    first : (c b : Bool) → key_eq write.0 other ≡ b → (key_eq write.0 other ≡ key_eq key other) → cond c (Some value) (lookup_key writes other) ≡ cond c (Some value) (cond b (Some write.1) (lookup_key writes other)) → cond c (Some value) (lookup_key writes other) ≡ cond c (Some value) (cond b (Some write.1) (lookup_key writes other))
+    first c b is same e = e
+
+    by : (e : Bool) → key_eq key write.0 ≡ e → (l : Bool) → lookup_key (with_write key value writes) other ≡ cond (key_eq key other) (Some value) (lookup_key writes other)
+        → lookup_key (cond e ((key, value) ∷ writes) (cond l ((key, value) ∷ write ∷ writes) (write ∷ with_write key value writes))) other
+        ≡ cond (key_eq key other) (Some value) (lookup_key (write ∷ writes) other)
+    by true is l more = replaced (key_eq key other) (key_eq write.0 other) (same_key is)
+      where
+        replaced : (c b : Bool) → b ≡ c → cond c (Some value) (lookup_key writes other) ≡ cond c (Some value) (cond b (Some write.1) (lookup_key writes other))
+        replaced true b e = refl
+        replaced false true e = absurd (true≢false e)
+        replaced false false e = refl
+    by false is true more = refl
+    by false is false more = later is (key_eq write.0 other) refl more
+
+with-above : (low key : Key) (value : Option (List ℕ)) (writes : Writes) → key_lt low key ≡ true → above low writes ≡ true → above low (with_write key value writes) ≡ true
+with-above low key value [] less all = and_from _ _ less refl
+with-above low key value (write ∷ writes) less all =
+    let both = and_parts (key_lt low write.0) (list_all (λ (p : Write). key_lt low p.0) writes) all in
+    by (key_eq key write.0) (key_lt key write.0) both.0 both.1 (with-above low key value writes less both.1)
+  where
+    by : (e l : Bool) → key_lt low write.0 ≡ true → above low writes ≡ true → above low (with_write key value writes) ≡ true
+        → above low (cond e ((key, value) ∷ writes) (cond l ((key, value) ∷ write ∷ writes) (write ∷ with_write key value writes))) ≡ true
+    by true l here rest more = and_from _ _ less rest
+    by false true here rest more = and_from _ _ less (and_from _ _ here rest)
+    by false false here rest more = and_from _ _ here more
+
+with-rising : (key : Key) (value : Option (List ℕ)) (writes : Writes) → rising writes ≡ true → rising (with_write key value writes) ≡ true
+with-rising key value [] r = rising-with (key, value) [] (nothing key) r
+  where
+    nothing : (low : Key) → above {X = Option (List ℕ)} low [] ≡ true
+    nothing low = refl
+with-rising key value (write ∷ writes) r =
+    by (key_eq key write.0) refl (key_lt key write.0) refl (rising-above write writes r) (rising-rest write writes r) (with-rising key value writes (rising-rest write writes r))
+  where
+    whole : key_lt key write.0 ≡ true → above write.0 writes ≡ true → above key (write ∷ writes) ≡ true
+    whole less low = and_from _ _ less (above-lower key write.0 writes less low)
+
+    by : (e : Bool) → key_eq key write.0 ≡ e → (l : Bool) → key_lt key write.0 ≡ l → above write.0 writes ≡ true → rising writes ≡ true → rising (with_write key value writes) ≡ true
+        → rising (cond e ((key, value) ∷ writes) (cond l ((key, value) ∷ write ∷ writes) (write ∷ with_write key value writes))) ≡ true
+    by true is l less low rest more =
+        rising-with (key, value) writes (subst (λ (k : Key). above k writes ≡ true) (sym (key_eq-true key write.0 is)) low) rest
+    by false is true less low rest more = rising-with (key, value) (write ∷ writes) (whole less low) (rising-with write writes low rest)
+    by false is false less low rest more =
+        rising-with write (with_write key value writes) (with-above write.0 key value writes (key_lt-swap key write.0 is less) low) more
+
+merged-rising : (writes under : Writes) → rising under ≡ true → rising (merged writes under) ≡ true
+merged-rising [] under r = r
+merged-rising (write ∷ writes) under r = with-rising write.0 write.1 (merged writes under) (merged-rising writes under r)
+
+written-rising : (under : Writes) (commits : List Commit) → rising under ≡ true → rising (written under commits) ≡ true
+written-rising under [] r = r
+written-rising under (commit ∷ commits) r = written-rising (merged commit.writes under) commits (merged-rising commit.writes under r)
+
+-- the tables that writes make
+abbrev tables_in : Writes → Tables
+tables_in writes key = unwrap_or (lookup_key writes key) None
+
+merged-tables : (writes under : Writes) (key : Key) → tables_in (merged writes under) key ≡ overlaid writes (tables_in under) key
+merged-tables [] under key = refl
+merged-tables (write ∷ writes) under key =
+    ap (λ (o : Option (Option (List ℕ))). unwrap_or o None) (with-lookup write.0 write.1 (merged writes under) key) ∙ by (key_eq write.0 key) (merged-tables writes under key)
+  where
+    by : (b : Bool) → tables_in (merged writes under) key ≡ overlaid writes (tables_in under) key
+        → unwrap_or (cond b (Some write.1) (lookup_key (merged writes under) key)) None ≡ unwrap_or (cond b (Some write.1) (lookup_key writes key)) (tables_in under key)
+    by true more = refl
+    by false more = more
+
+written-tables : (under : Writes) (commits : List Commit) (key : Key) → tables_in (written under commits) key ≡ laid (tables_in under) commits key
+written-tables under [] key = refl
+written-tables under (commit ∷ commits) key =
+    let same : tables_in (merged commit.writes under) ≡ overlaid commit.writes (tables_in under) = λ i k. merged-tables commit.writes under k i in
+    written-tables (merged commit.writes under) commits key ∙ ap (λ (t : Tables). laid t commits key) same
+
+-- ---- the rows among writes
+
+rows-lookup : (writes : Writes) (key : Key) → rising writes ≡ true → lookup_key (rows_among writes) key ≡ tables_in writes key
+rows-lookup [] key r = refl
+rows-lookup (write ∷ writes) key r = by write.1 (key_eq write.0 key) refl (rows-lookup writes key (rising-rest write writes r))
+  where
+    gone : key_eq write.0 key ≡ true → lookup_key (rows_among writes) key ≡ tables_in writes key → lookup_key (rows_among writes) key ≡ None
+    gone is more =
+        let nothing : lookup_key writes key ≡ None = subst (λ (k : Key). lookup_key writes k ≡ None) (key_eq-true write.0 key is) (absent write.0 writes (rising-above write writes r)) in
+        more ∙ ap (λ (o : Option (Option (List ℕ))). unwrap_or o None) nothing
+
+    by : (value : Option (List ℕ)) (b : Bool) → key_eq write.0 key ≡ b → lookup_key (rows_among writes) key ≡ tables_in writes key
+        → lookup_key (with_row write.0 value (rows_among writes)) key ≡ unwrap_or (cond b (Some value) (lookup_key writes key)) None
+    by None true is more = gone is more
+    by None false is more = more
+    by (Some row) true is more = ap (λ (b : Bool). cond b (Some row) (lookup_key (rows_among writes) key)) is
+    by (Some row) false is more = ap (λ (b : Bool). cond b (Some row) (lookup_key (rows_among writes) key)) is ∙ more
+
+rows-above : (low : Key) (writes : Writes) → above low writes ≡ true → above low (rows_among writes) ≡ true
+rows-above low [] all = refl
+rows-above low (write ∷ writes) all =
+    let both = and_parts (key_lt low write.0) (list_all (λ (p : Write). key_lt low p.0) writes) all in by write.1 both.0 (rows-above low writes both.1)
+  where
+    by : (value : Option (List ℕ)) → key_lt low write.0 ≡ true → above low (rows_among writes) ≡ true → above low (with_row write.0 value (rows_among writes)) ≡ true
+    by None here more = more
+    by (Some row) here more = and_from _ _ here more
+
+rows-rising : (writes : Writes) → rising writes ≡ true → rising (rows_among writes) ≡ true
+rows-rising [] r = empty
+  where
+    empty : rising {X = List ℕ} [] ≡ true
+    empty = refl
+rows-rising (write ∷ writes) r = by write.1 (rows-above write.0 writes (rising-above write writes r)) (rows-rising writes (rising-rest write writes r))
+  where
+    by : (value : Option (List ℕ)) → above write.0 (rows_among writes) ≡ true → rising (rows_among writes) ≡ true → rising (with_row write.0 value (rows_among writes)) ≡ true
+    by None low more = more
+    by (Some row) low more = rising-with (write.0, row) (rows_among writes) low more
+
+-- ---- a scan
+
+none-written : rising {X = Option (List ℕ)} [] ≡ true
+none-written = refl
+
+seen-tables : (q : State) (n : ℕ) (key : Key) → tables_in (written_for q n) key ≡ seen_by q n key
+seen-tables q n key =
+    let commits : List Commit = take (begun_of (q.sessions n)) q.history in
+    let same : tables_in (written [] commits) ≡ after commits = λ i k. written-tables [] commits k i in
+    merged-tables (writes_of (q.sessions n)) (written [] commits) key ∙ ap (λ (t : Tables). overlaid (writes_of (q.sessions n)) t key) same
+
+-- the rows are those that the session sees in the range, by rising key
+pub scan-lists : (q : State) (n table lo hi : ℕ) → Lists (scanned q n table lo hi) (in_range table lo hi (seen_by q n))
+scan-lists q n table lo hi = record {
+  rising = rows-rising inside inside-rising;
+  same = λ key. rows-lookup inside key inside-rising ∙ (ap (λ (o : Option (Option (List ℕ))). unwrap_or o None) (filter-lookup test (written_for q n) key) ∙ within key (test key));
+}
+  where
+    test : Key → Bool
+    test key = is_in_range table lo hi key
+
+    inside : Writes
+    inside = filter (λ write. test write.0) (written_for q n)
+
+    inside-rising : rising inside ≡ true
+    inside-rising =
+        filter-rising test (written_for q n) (merged-rising (writes_of (q.sessions n)) (written [] (take (begun_of (q.sessions n)) q.history)) (written-rising [] (take (begun_of (q.sessions n)) q.history) none-written))
+
+    within : (key : Key) (b : Bool) → unwrap_or (cond b (lookup_key (written_for q n) key) None) None ≡ cond b (seen_by q n key) None
+    within key true = seen-tables q n key
+    within key false = refl
+
+-- and no other list is
+pub one-listing : (rows others : List (Key × List ℕ)) (tables : Tables) → Lists rows tables → Lists others tables → rows ≡ others
+one-listing rows others tables a b = one-list rows others a.rising b.rising (λ key. a.same key ∙ sym (b.same key))

@@ -1,0 +1,10 @@
+pub mod State
+pub mod Collecting
+pub mod Machine
+pub mod Notes
+pub mod SessionSteps
+pub mod Openings
+pub mod Lives
+pub mod Replay
+pub mod Rounds
+pub mod Laws

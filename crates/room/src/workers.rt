@@ -1,0 +1,36 @@
+use crate::room::Room;
+use base::fault::Fault;
+use base::step::Reply;
+use pmem::Pmem;
+
+impl<D: Pmem + Drop> Room<D> {
+    ghost use Rattle.base.specs.declared.step.Step.TheVariants.{Commit, Collect};
+    ghost use Rattle.machine.specs.Machine.{State};
+    ghost use Rattle.room.specs.Room.{Shows, StepsTo};
+
+    /// A tick of the committer: `step` of `Step::Commit`, without moving a step.
+    #[inline(never)]
+    pub fn tick(&mut self) -> Reply
+        ensures step { (q : State) → Shows D.state self.old q → (q' : State) × StepsTo D.state self.old self.new Commit result q q' }
+    {
+        if self.failed {
+            return Reply::Refused(Fault::Failed);
+        }
+        let reply = self.volatile.tick(self.alloc, &mut self.device);
+        self.failed = reply.is_failure();
+        reply
+    }
+
+    /// A visit of the collector: `step` of `Step::Collect`, without moving a step.
+    #[inline(never)]
+    pub fn visit(&mut self) -> Reply
+        ensures step { (q : State) → Shows D.state self.old q → (q' : State) × StepsTo D.state self.old self.new Collect result q q' }
+    {
+        if self.failed {
+            return Reply::Refused(Fault::Failed);
+        }
+        let reply = self.volatile.collect(&mut self.device);
+        self.failed = reply.is_failure();
+        reply
+    }
+}

@@ -1,0 +1,132 @@
+ghost use Rattle.std.specs.Prelude.{◌≡◌, ◌≤◌, [], drop, false, length, take, IfOk, IsTrue, OnOk};
+ghost use Rattle.std.specs.Io.{WritesAtMost};
+ghost use Rattle.std.specs.Io.KnownBytes.{Keeps, WriteAppends, append_known};
+ghost use Rattle.standard_streams.specs.Lines.{IsOneLine, ends_work, is_ended};
+
+use std::alloc::{AllocError, Global};
+use std::io;
+use std::io::{ErrorKind, Write};
+
+/// No line that ends the work is longer.
+const ROOM: usize = 128;
+
+/// An output that holds back the line by which the work says that it was done, since what it says has yet to come true.
+/// Every other line is passed on as it comes, so one who reads the answers waits for none of them. What is given in
+/// pieces is held until its line has ended and more is written.
+#[derive(Drop)]
+pub struct LastLine<W> {
+    output: W,
+    held: Vec<u8>,
+    ghost one_line: { IsOneLine held.items },
+}
+
+impl<W: Write> LastLine<W> {
+    pub fn new(alloc: Global, output: W) -> Result<LastLine<W>, AllocError>
+    where
+        W: Drop,
+        ensures output { IfOk result (λ made. made.output ≡ output) }
+        ensures held { IfOk result (λ made. made.held.items ≡ []) }
+    {
+        let held = Vec::with_capacity(alloc, ROOM)?;
+        Ok(LastLine { output, held })
+    }
+
+    /// What it passes lines on to.
+    pub fn output(&self) -> &W
+        ensures output { result.now ≡ self.now.output }
+    {
+        &self.output
+    }
+
+    /// Passes on what is held. The output then has all that was written.
+    pub fn finish(self) -> io::Result<W>
+    where
+        W: Drop,
+        ensures whole { IfOk result (λ output. Keeps (append_known (W.contents self.output) self.held.items) (W.contents output)) }
+    {
+        let LastLine { mut output, held } = self;
+        output.write_all(held.as_slice())?;
+        Ok(output)
+    }
+
+    /// Drops what is held.
+    pub fn give_up(self) -> W
+        ensures output { result ≡ self.output }
+    {
+        let LastLine { output, held: _ } = self;
+        output
+    }
+
+    fn pass_on(&mut self) -> io::Result<()>
+        ensures all { OnOk result (self.new.held.items ≡ []) }
+        ensures bytes { Keeps (append_known (W.contents self.old.output) self.old.held.items) (append_known (W.contents self.new.output) self.new.held.items) }
+    {
+        while !self.held.is_empty() {
+            let passed = self.output.write(self.held.as_slice())?;
+            if passed == 0 {
+                return Err(io::Error::from(ErrorKind::WriteZero));
+            }
+            remove_front(&mut self.held, passed);
+        }
+        Ok(())
+    }
+}
+
+impl<W: Write> Write for LastLine<W> {
+    ghost contents = { λ line. append_known (W.contents line.output) line.held.items };
+
+    // Takes what belongs to one line.
+    fn write(&mut self, buf: &[u8]) -> io::Result<usize>
+        ensures bound { WritesAtMost result buf.now }
+        ensures bytes { WriteAppends (append_known (W.contents self.old.output) self.old.held.items) (append_known (W.contents self.new.output) self.new.held.items) result buf.now }
+        ensures held { self.old.held.items ≡ [] → IsOneLine buf.now → IsTrue (ends_work buf.now) → self.new.output ≡ self.old.output }
+        ensures passed { self.old.held.items ≡ [] → IsOneLine buf.now → IsTrue (is_ended buf.now) → ends_work buf.now ≡ false → self.new.held.items ≡ [] }
+    {
+        if is_ended(self.held.as_slice()) {
+            self.pass_on()?;
+        }
+        let line = first_line(buf);
+        if self.held.is_empty() && is_ended(line) && !ends_work(line) {
+            return self.output.write(line);
+        }
+        self.held.extend_from_slice(line)?;
+        Ok(line.len())
+    }
+
+    fn flush(&mut self) -> io::Result<()> {
+        self.output.flush()
+    }
+}
+
+// The bytes up to the first line feed, and this.
+fn first_line(bytes: &[u8]) -> &[u8]
+    ensures front { result.now ≡ take (length result.now) bytes.now }
+    ensures one_line { IsOneLine result.now }
+    ensures whole { IsOneLine bytes.now → result.now ≡ bytes.now }
+{
+    match bytes.iter().position(|byte| *byte == b'\n') {
+        Some(at) => &bytes[..at + 1],
+        None => bytes,
+    }
+}
+
+fn is_ended(bytes: &[u8]) -> bool
+    ensures { result ≡ is_ended bytes.now }
+{
+    bytes.ends_with(b"\n")
+}
+
+fn ends_work(line: &[u8]) -> bool
+    ensures { result ≡ ends_work line.now }
+{
+    line.starts_with(b"closed") || line.starts_with(b"formatted") || line.starts_with(b"stopped")
+}
+
+fn remove_front(bytes: &mut Vec<u8>, count: usize)
+    requires { count ≤ length bytes.old.items }
+    ensures { bytes.new.items ≡ drop count bytes.old.items }
+{
+    let length = bytes.len();
+    bytes.as_mut_slice().copy_within(count..length, 0);
+    bytes.truncate(length - count);
+}

@@ -1,0 +1,165 @@
+use anyhow;
+use base::fault::Fault;
+use base::geometry::Geometry;
+use base::key::Key;
+use pmem_file::OpenError;
+use std::alloc::AllocError;
+use std::{fmt, io};
+use thiserror::Error;
+
+/// Why a store isn't opened, a step isn't made, a commit isn't acknowledged or a store isn't closed.
+#[derive(Debug, Drop, Error)]
+pub enum StoreError {
+    /// The file isn't one that a store may be opened over.
+    #[error("{name}: {cause}")]
+    File {
+        name: String,
+        cause: OpenError,
+    },
+    /// The file holds a store of another layout. It is left as it is.
+    #[error("{name} has {found}, and {asked} are asked for: open it as it is, or copy its rows into a new one")]
+    OtherLayout {
+        name: String,
+        found: Layout,
+        asked: Layout,
+    },
+    /// What the file holds isn't what a store wrote.
+    #[error("{name} is damaged at {part}: take a copy of it from before")]
+    Damaged {
+        name: String,
+        part: Part,
+    },
+    /// The opening is refused for another reason.
+    #[error("{name}: {fault}")]
+    NotOpened {
+        name: String,
+        fault: Fault,
+    },
+    /// A write or a sync of the file failed, and why.
+    #[error("{name}: {cause}: what was committed is kept; open it again")]
+    Lost {
+        name: String,
+        cause: io::Error,
+    },
+    /// The store isn't closed. What was acknowledged is kept.
+    #[error("{name} isn't closed: {fault}: what was committed is kept; open it again")]
+    NotClosed {
+        name: String,
+        fault: Fault,
+    },
+    /// Another commit wrote the key since the transaction began, and came first. It is covered now.
+    #[error("another commit has written table and key {0}: begin again")]
+    Conflict(Key),
+    /// Each of so many tries met a conflict, the last one on this key.
+    #[error("given up after {tries} tries, since others wrote table and key {key} each time: try again later")]
+    GivenUp {
+        tries: u64,
+        key: Key,
+    },
+    #[error("no slot is free: delete rows, or copy the store into a larger one")]
+    Full,
+    #[error("the row has more than {0} bytes: shorten it")]
+    RowTooLong(usize),
+    #[error("the transaction has written 32 keys: commit it, and write the others in the next")]
+    TooManyKeys,
+    #[error("62 transactions are open: end one first")]
+    TooManyTransactions,
+    #[error("memory was refused: free some, then ask again")]
+    OutOfMemory,
+    /// A write or a sync of the file failed before. The close says why.
+    #[error("the file failed, and the close tells why: what was committed is kept; open the store again")]
+    Failed,
+    /// The commit is kept whole or not at all, and which of both isn't known yet.
+    #[error("whether the commit is kept is known when the store is opened again: {0}")]
+    Unknown(Fault),
+    /// Another refusal.
+    #[error("{0}")]
+    Refused(Fault),
+    /// Why the caller's own changes are given up, in its words.
+    #[error("{0}")]
+    Own(#[from] anyhow::Error),
+}
+
+/// A layout, printed as a person asks for it.
+#[derive(Clone, Copy, Debug)]
+pub struct Layout {
+    pub geometry: Geometry,
+}
+
+impl fmt::Display for Layout {
+    fn fmt<W: fmt::Write>(&self, f: &mut fmt::Formatter<W>) -> fmt::Result {
+        let slots = self.geometry.slots();
+        let bytes = self.geometry.row_limit();
+        let places = self.geometry.places();
+        let window = self.geometry.window();
+        write!(
+            f,
+            "{slots} slots of {bytes} bytes, {places} places and a window of {window}"
+        )
+    }
+}
+
+/// Where a file is damaged.
+#[derive(Clone, Copy, Debug, PartialEq, Eq)]
+pub enum Part {
+    /// A place for a record, from 0.
+    Place(u64),
+    /// A slot, from 0.
+    Slot(u64),
+}
+
+impl fmt::Display for Part {
+    fn fmt<W: fmt::Write>(&self, f: &mut fmt::Formatter<W>) -> fmt::Result {
+        match self {
+            Part::Place(place) => write!(f, "place {place}"),
+            Part::Slot(slot) => write!(f, "slot {slot}"),
+        }
+    }
+}
+
+impl Part {
+    ghost use Rattle.std.specs.Prelude.{◌≡◌};
+    ghost use Rattle.store.specs.Errors.{part_of};
+
+    /// The part that a fault names by this number: the places come first, and the slots after them.
+    pub fn of(geometry: &Geometry, number: u64) -> Part
+        ensures { result ≡ part_of geometry.now number }
+    {
+        let places = geometry.places();
+        if number < places {
+            Part::Place(number)
+        } else {
+            Part::Slot(number - places)
+        }
+    }
+}
+
+impl From<Fault> for StoreError {
+    ghost use Rattle.std.specs.Prelude.{◌≡◌};
+    ghost use Rattle.store.specs.Errors.{error_of};
+
+    ghost from_gives = { λ fault error. error ≡ error_of fault };
+
+    fn from(fault: Fault) -> StoreError {
+        match fault {
+            Fault::Conflict(key) => StoreError::Conflict(key),
+            Fault::SlotsOut => StoreError::Full,
+            Fault::WriteSetFull => StoreError::TooManyKeys,
+            Fault::SessionsFull => StoreError::TooManyTransactions,
+            Fault::OutOfMemory => StoreError::OutOfMemory,
+            Fault::Device | Fault::Failed => StoreError::Failed,
+            fault => StoreError::Refused(fault),
+        }
+    }
+}
+
+impl From<AllocError> for StoreError {
+    ghost use Rattle.std.specs.Prelude.{◌≡◌};
+    ghost use Rattle.store.specs.declared.error.StoreError.{StoreError};
+
+    ghost from_gives = { λ _ error. error ≡ StoreError.OutOfMemory };
+
+    fn from(_error: AllocError) -> StoreError {
+        StoreError::OutOfMemory
+    }
+}

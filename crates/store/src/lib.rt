@@ -1,0 +1,23 @@
+//! A store of rows in a file: opened in one call, shared by threads, and transactions that are begun again after a conflict.
+#![tactic(auto)]
+
+mod error;
+mod ranges;
+mod reading;
+mod row;
+mod rows;
+mod status;
+mod store;
+mod transaction;
+
+pub use base::Ts;
+pub use base::geometry::Geometry;
+pub use base::key::Key;
+pub use base::row::Row;
+pub use error::{Layout, Part, StoreError};
+pub use reading::Snapshot;
+pub use row::{RowExt, key};
+pub use status::Status;
+pub use store::Store;
+pub use store_file::Device;
+pub use transaction::Transaction;

@@ -1,0 +1,47 @@
+ghost use Rattle.std.specs.Prelude.{◌≡◌};
+
+use base::geometry::Geometry;
+use base::{NUMBER_LIMIT, Ts};
+use room;
+
+/// How a store is laid out, and how far it has come.
+#[derive(Clone, Copy, Debug, PartialEq, Eq)]
+pub struct Status {
+    /// Of the format: 2, or 3 where a slot has two lines.
+    pub version: u64,
+    /// How many versions of rows it has room for.
+    pub slots: u64,
+    /// How many records have a place.
+    pub places: u64,
+    /// How many timestamps are reserved at a time.
+    pub window: u64,
+    /// The greatest length of a row, in bytes.
+    pub row_limit: usize,
+    /// The number of the record that rules.
+    pub record: u64,
+    /// Each commit up to this timestamp is covered, but for the long ones.
+    pub persisted: Ts,
+    /// How many commits up to it aren't covered yet.
+    pub longs: usize,
+    /// How many ranges of timestamps that never counted are left to be swept.
+    pub gaps: usize,
+    /// How many timestamps are left to be drawn.
+    pub left: u64,
+}
+
+impl Status {
+    pub(crate) fn of(geometry: &Geometry, numbers: &room::Status) -> Status {
+        Status {
+            version: geometry.version(),
+            slots: geometry.slots(),
+            places: geometry.places(),
+            window: geometry.window(),
+            row_limit: geometry.row_limit(),
+            record: numbers.gate,
+            persisted: numbers.persisted,
+            longs: numbers.longs.as_slice().len(),
+            gaps: numbers.gaps.as_slice().len(),
+            left: NUMBER_LIMIT.saturating_sub(numbers.next),
+        }
+    }
+}

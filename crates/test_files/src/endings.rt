@@ -1,0 +1,154 @@
+//! What a commit answers where it isn't covered, and that each does answer.
+use crate::transactions::{Device, KEY, device_in, fresh, get, opened, row};
+use base::fault::Fault;
+use database::{CommitError, Database};
+use pmem_file::{FilePmem, MemoryLines, Part};
+use std::alloc::Global;
+use std::process::Abort;
+use std::sync::Wait;
+use std::thread;
+use std::thread::Threads;
+
+// The greatest number of a record is one less than 2^62.
+const LAST_RECORD: u64 = 4_611_686_018_427_387_903;
+
+// An image whose ruling record is the last but one, so that the opening writes the last one. Its place is the first one.
+fn at_its_end(alloc: Global) -> Result<Vec<u64>, Fault> {
+    let mut words = fresh(alloc, 8)?.into_lines().into_words();
+    for (word, value) in [(8, LAST_RECORD - 1), (9, 0), (10, 1)] {
+        if let Some(slot) = words.get_mut(word) {
+            *slot = value;
+        }
+    }
+    Ok(words)
+}
+
+#[test]
+fn commits_after_the_last_record_are_refused(rt: HostRuntime) -> Result<(), Fault> {
+    let alloc = rt.alloc();
+    let database = opened(&rt, alloc, at_its_end(alloc)?)?;
+    let gate = database.status().gate;
+    let mut first = database.begin()?;
+    let mut second = database.begin()?;
+    first.put(KEY, row(1)?)?;
+    second.put(KEY, row(2)?)?;
+    let (one, other) = (first.commit(), second.commit());
+    let refused = Err(CommitError::Refused(Fault::TimestampsOut));
+    assert!(rt; gate == LAST_RECORD && one == refused && other == refused);
+    let kept = get(&database, KEY)?;
+    let closed = device_in(database.close());
+    assert!(rt; kept.is_none() && matches!(closed, Err(Fault::TimestampsOut)));
+    Ok(())
+}
+
+// One more in the row under the key, if no other commit came first.
+fn add_once<R: Wait + Drop>(database: &Database<Device, R>) -> Result<bool, Fault> {
+    let mut transaction = database.begin()?;
+    let before = match transaction.get(KEY)? {
+        Some(row) => row.as_bytes().first().copied().unwrap_or(0),
+        None => 0,
+    };
+    transaction.put(KEY, row(before.saturating_add(1))?)?;
+    match transaction.commit() {
+        Ok(_) => Ok(true),
+        Err(CommitError::Refused(Fault::Conflict(_))) => Ok(false),
+        Err(error) => Err(error.fault()),
+    }
+}
+
+// Adds one, in a hundred tries at most. Whether that was enough.
+fn add_one<R: Wait + Drop>(database: &Database<Device, R>) -> Result<bool, Fault> {
+    for _ in 0..100 {
+        if add_once(database)? {
+            return Ok(true);
+        }
+    }
+    Ok(false)
+}
+
+// Adds so often. Whether no more than a hundred tries were wanted for one.
+fn add<R: Wait + Drop>(database: &Database<Device, R>, times: u8) -> Result<bool, Fault> {
+    for _ in 0..times {
+        if !add_one(database)? {
+            return Ok(false);
+        }
+    }
+    Ok(true)
+}
+
+#[test]
+fn whoever_begins_again_after_a_conflict_commits(rt: HostRuntime) -> Result<(), Fault> {
+    let alloc = rt.alloc();
+    let database = opened(&rt, alloc, fresh(alloc, 16)?.into_lines().into_words())?;
+    let (one, other) = thread::join(&rt, || add(&database, 20), || add(&database, 20));
+    let (one, other) = (one?, other?);
+    let last = get(&database, KEY)?;
+    assert!(rt; one && other && last == Some(row(40)?));
+    device_in(database.close())?;
+    Ok(())
+}
+
+// Puts the row and commits.
+fn commit_row<R: Wait + Drop>(database: &Database<Device, R>) -> Result<(), CommitError> {
+    let mut transaction = match database.begin() {
+        Ok(transaction) => transaction,
+        Err(fault) => return Err(CommitError::Refused(fault)),
+    };
+    let put = match row(1) {
+        Ok(row) => transaction.put(KEY, row),
+        Err(fault) => Err(fault),
+    };
+    match put {
+        Ok(()) => {
+            transaction.commit()?;
+            Ok(())
+        }
+        Err(fault) => Err(CommitError::Refused(fault)),
+    }
+}
+
+// A life over lines of which this write and each after it fails: the answer to its commit, and what is found in the lines.
+fn live<R: Threads + Wait + Copy + Drop + Send + Sync + 'static>(
+    rt: &R,
+    alloc: Global,
+    writes: usize,
+) -> Result<(Result<(), CommitError>, Vec<u64>), Fault> {
+    let words = fresh(alloc, 8)?.into_lines().into_words();
+    let lines = MemoryLines::new(words).failing_after(writes, Part::Words(0b0101_0101));
+    match Database::open(*rt, alloc, FilePmem::of_lines(alloc, lines)?) {
+        Ok(database) => {
+            let answer = commit_row(&database);
+            let device = match database.close() {
+                Ok(device) => device,
+                Err(refused) => refused.device,
+            };
+            Ok((answer, device.into_lines().into_words()))
+        }
+        Err(refused) => {
+            let answer = Err(CommitError::Refused(refused.fault));
+            Ok((answer, refused.device.into_lines().into_words()))
+        }
+    }
+}
+
+#[test]
+fn each_answer_says_what_the_next_opening_finds(rt: HostRuntime) -> Result<(), Fault> {
+    let alloc = rt.alloc();
+    let (mut refused, mut open) = (false, false);
+    for writes in 0..40 {
+        let (answer, words) = live(&rt, alloc, writes)?;
+        let database = opened(&rt, alloc, words)?;
+        let kept = get(&database, KEY)?;
+        match answer {
+            Ok(()) => assert!(rt; kept == Some(row(1)?)),
+            Err(CommitError::Refused(_)) => {
+                refused = true;
+                assert!(rt; kept.is_none());
+            }
+            Err(CommitError::Open(_)) => open = true,
+        }
+    }
+    let (answer, _words) = live(&rt, alloc, 40)?;
+    assert!(rt; refused && open && answer.is_ok());
+    Ok(())
+}

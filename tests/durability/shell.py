@@ -1,0 +1,269 @@
+"""What people lose by kv, or are told wrongly: closed streams, an output that fails, a full disk, files of others, wrong lines."""
+import itertools
+import os
+import re
+import shutil
+import subprocess
+
+from store import Lost, acknowledged, rows_in
+
+BYTES = 66_112
+FIRST = "put 1 1 a1\nput 1 2 a2\n"
+ROWS = {1: "a1", 2: "a2"}
+NEXT = "begin\nput 1 2 b2\nput 1 3 b3\ncommit\ndel 1 1\n"
+MODELS = [ROWS, {1: "a1", 2: "b2", 3: "b3"}, {2: "b2", 3: "b3"}]
+NOBODY = 65_534
+
+
+def kv_on(kv, file, text, before=(), **more):
+    """A run of kv with this input."""
+    given = text if isinstance(text, bytes) else text.encode()
+    ended = subprocess.run([*before, kv, file], input=given, stdout=subprocess.PIPE, stderr=subprocess.PIPE, timeout=120, check=False, **more)
+    ended.output, ended.told = ended.stdout.decode(), ended.stderr.decode()
+    return ended
+
+
+def want(holds, said, ended=None):
+    if not holds:
+        raise Lost(said + (f": status {ended.returncode}, {ended.output[-300:]!r}, {ended.told[-300:]!r}" if ended else ""))
+
+
+def made(kv, folder, name="shell.img"):
+    """A new store with two rows."""
+    file = os.path.join(folder, name)
+    if os.path.exists(file):
+        os.remove(file)
+    ended = kv_on(kv, file, FIRST)
+    want(ended.returncode == 0 and acknowledged(ended.output) == 2, "a new store takes two rows", ended)
+    want("made" in ended.told, "a new store is told of", ended)
+    return file
+
+
+def strace(call, how):
+    return ("strace", "-f", "-o", os.devnull, "-e", f"trace={call}", "-e", f"inject={call}:{how}")
+
+
+def closed_streams(kv, folder):
+    """Whatever streams are closed, the file keeps its length and opens again."""
+    count = 0
+    for closed in itertools.chain.from_iterable(itertools.combinations(range(3), n) for n in range(4)):
+        for is_new in (False, True):
+            file = made(kv, folder)
+            if is_new:
+                os.remove(file)
+            subprocess.run([kv, file], input=NEXT.encode() if 0 not in closed else None, stdout=subprocess.DEVNULL, stderr=subprocess.DEVNULL,
+                           preexec_fn=lambda: [os.close(it) for it in closed], timeout=120, check=False)
+            want(not os.path.exists(file) or os.path.getsize(file) in (0, BYTES), f"closed {closed}: {os.path.getsize(file)} bytes")
+            rows = rows_in(kv, file)
+            want(rows in (({}, {2: "b2", 3: "b3"}) if is_new else MODELS), f"closed {closed}: found {rows}")
+            want(1 in closed or 0 in closed or rows == {2: "b2", 3: "b3"}, f"closed {closed}: {rows} only")
+            count += 1
+    return f"{count} runs with closed streams, and the file as it was answered"
+
+
+def failing_output(kv, folder):
+    """An output that fails ends the run; nothing that is durable is called refused."""
+    count = 0
+    base = made(kv, folder, "base.img")
+    for error in ("EAGAIN", "EIO", "ENOSPC"):
+        for at in range(1, 100):
+            file = os.path.join(folder, "output.img")
+            shutil.copy(base, file)
+            ended = kv_on(kv, file, NEXT, strace("write", f"error={error}:when={at}"))
+            if ended.returncode == 0:
+                break
+            want(ended.returncode == 1 and "standard output" in ended.told, f"write {at}", ended)
+            want("refused" not in ended.output + ended.told, f"write {at}: refused", ended)
+            rows, done = rows_in(kv, file), acknowledged(ended.output)
+            want(rows in MODELS[done:done + 2], f"write {at}: {done} acknowledged, found {rows}", ended)
+            count += 1
+    want(count >= 15, f"{count} writes failed only")
+    return f"{count} runs whose output failed: each ended with 1, and with what was acknowledged"
+
+
+def full_disk(kv, folder):
+    """A disk that is full is told as one, and what was acknowledged is there."""
+    base = made(kv, folder, "base.img")
+    count = 0
+    for call in ("pwrite64", "fdatasync"):
+        for at in range(1, 60):
+            file = os.path.join(folder, "full.img")
+            shutil.copy(base, file)
+            ended = kv_on(kv, file, NEXT + "get 1 2\n", strace(call, f"error=ENOSPC:when={at}+"))
+            if ended.returncode == 0:
+                break
+            want(ended.returncode == 1 and "No space left on device" in ended.told, f"{call} {at}", ended)
+            rows, done = rows_in(kv, file), acknowledged(ended.output)
+            want(rows in MODELS[done:done + 2], f"{call} {at}: {done} acknowledged, found {rows}", ended)
+            count += 1
+    return f"{count} runs over a full disk, each told as that; nothing acknowledged was lost"
+
+
+def small_disk(kv, folder):
+    """A new store on a disk that hasn't room for it."""
+    place = os.path.join(folder, "small")
+    os.makedirs(place, exist_ok=True)
+    if os.geteuid() != 0 or subprocess.run(["mount", "-t", "tmpfs", "-o", "size=64k", "tmpfs", place], check=False, stderr=subprocess.DEVNULL).returncode:
+        return "left out: it takes leave to mount a disk"
+    try:
+        file = os.path.join(place, "new.img")
+        ended = kv_on(kv, file, FIRST)
+        want(ended.returncode == 1 and "No space left on device" in ended.told, "a small disk", ended)
+        subprocess.run(["mount", "-o", "remount,size=128k", place], check=True)
+        ended = kv_on(kv, file, FIRST)
+        want(ended.returncode == 0 and rows_in(kv, file) == ROWS, "once there is room", ended)
+    finally:
+        subprocess.run(["umount", place], check=True)
+    return "a new store without room is refused as that, and is made once there is room"
+
+
+def foreign_files(image):
+    """Files that aren't stores, each with a word that is said of it."""
+    yield "text", b"one line of a text\n" * 34, "no image begins here"
+    yield "a multiple of a line", bytes(range(256)) * 50, "no image begins here"
+    yield "another store", b"SQLite format 3\0" + bytes(8_176), "no image begins here"
+    yield "as long as a store", b"not yours, " * 6_010 + b"..", "no image begins here"
+    yield "zeros, as long as no new store", bytes(6_400), "no image begins here"
+    yield "one byte", b"x", "no image begins here"
+    yield "bytes after the last line", image + b"ready\ncommitted 2\nclosed\n", "25 bytes stand after its image"
+    yield "lines after the last", image + bytes(128), "128 bytes stand after its image"
+    yield "cut short", image[:-64], "64 bytes of 66112 are missing"
+    yield "cut within a line", image[:-60], "60 bytes of 66112 are missing"
+    yield "another version", image[:8] + b"\x09" + image[9:], "version 9"
+    yield "other slots", image[:16] + b"\x00" * 8 + image[24:], "geometry"
+
+
+def foreign(kv, folder):
+    """What isn't a store keeps its bytes and its times."""
+    with open(made(kv, folder), "rb") as it:
+        image = it.read()
+    count = 0
+    for name, held, said in foreign_files(image):
+        file = os.path.join(folder, "foreign")
+        with open(file, "wb") as out:
+            out.write(held)
+        os.utime(file, ns=(10**18, 10**18))
+        before = os.stat(file)
+        ended = kv_on(kv, file, FIRST)
+        after = os.stat(file)
+        want(ended.returncode == 1 and said in ended.told and ended.output == "", name, ended)
+        with open(file, "rb") as it:
+            want(it.read() == held, f"{name}: the bytes changed")
+        want((before.st_mtime_ns, before.st_ctime_ns, before.st_size) == (after.st_mtime_ns, after.st_ctime_ns, after.st_size), f"{name}: a time changed")
+        count += 1
+    cut = os.path.join(folder, "cut.img")
+    with open(cut, "wb") as out:
+        out.write(image + b"25 bytes that are printed")
+    ended = kv_on(kv, cut, "")
+    subprocess.run(re.search(r"truncate -s \d+ \S+", ended.told).group(0).split(), check=True)
+    want(rows_in(kv, cut) == ROWS, "cut as it said, all rows are there")
+    return f"{count} files that are no stores kept their bytes and times; one with bytes after its image opened once cut as told"
+
+
+def odd_names(kv, folder):
+    """Words that name no store make none."""
+    place = os.path.join(folder, "names")
+    os.makedirs(place, exist_ok=True)
+    os.mkfifo(os.path.join(place, "fifo"))
+    os.mkdir(os.path.join(place, "folder"))
+    held = sorted(os.listdir(place))
+    for words, status in ([], 2), (["-x"], 2), (["--wrong"], 2), (["--help"], 0), (["-h"], 0), (["fifo"], 1), (["folder"], 1), (["/dev/null"], 1), (["none/x"], 1), ([""], 1):
+        ended = subprocess.run([kv, *words], input=b"", capture_output=True, cwd=place, timeout=20, check=False)
+        want(ended.returncode == status, f"kv {words}: status {ended.returncode}, {ended.stderr[-300:]}")
+        want(sorted(os.listdir(place)) == held, f"kv {words} made {os.listdir(place)}")
+        want((ended.stdout if status == 0 else ended.stderr) != b"", f"kv {words} said nothing")
+    ended = subprocess.run([kv, "./-x"], input=FIRST.encode(), capture_output=True, cwd=place, timeout=20, check=False)
+    want(ended.returncode == 0 and os.path.getsize(os.path.join(place, "-x")) == BYTES, "kv ./-x")
+    return "10 words that name no store made none"
+
+
+def folders(kv, folder):
+    """The folder that a new file lies in is synced, wherever a link leads; one that may not be read is only wanted for a new file."""
+    place, other = os.path.join(folder, "links"), os.path.join(folder, "links", "other")
+    os.makedirs(other, exist_ok=True)
+    link, trace = os.path.join(place, "link.img"), os.path.join(folder, "links.trace")
+    os.symlink("other/target.img", link)
+    ended = kv_on(kv, link, FIRST, ("strace", "-f", "-y", "-e", "trace=fsync,fdatasync", "-o", trace))
+    with open(trace, encoding="utf-8", errors="replace") as it:
+        synced = re.findall(r"fsync\(\d+<([^>]*)>\)\s*=\s*0", it.read())
+    want(ended.returncode == 0 and os.path.realpath(other) in synced, f"synced were {synced}", ended)
+    if os.geteuid() != 0:
+        return "the folder of a link's target is synced; the rest is left out, as it takes another user"
+    own = os.path.join(folder, "kv-of-nobody")
+    shutil.copy(kv, own)
+    os.chmod(own, 0o755)
+    os.chmod(folder, 0o711)
+    place = os.path.join(folder, "closed")
+    os.makedirs(place, exist_ok=True)
+    file = made(kv, place)
+    os.chown(file, NOBODY, NOBODY)
+    os.chmod(place, 0o711)
+    ended = kv_on(own, file, "get 1 1\n", user=NOBODY)
+    want(ended.returncode == 0 and "row a1" in ended.output, "a store in a folder that may not be read", ended)
+    return "the folder of a link's target is synced; a store in a folder that may not be read opens"
+
+
+def lines(kv, folder):
+    """A line that isn't obeyed is refused by its number, and the next one is read; a transaction with one isn't committed."""
+    file = made(kv, folder)
+    for text, status, answers, told in (
+        (b"get 1 1\n\xff\xfe\nget 1 2\n", 3, ["row a1", "row a2"], ["line 2: it isn't UTF-8"]),
+        (b"get 1 1\n" + b"x" * 5_000 + b"\nget 1 2\n", 3, ["row a1", "row a2"], ["line 2: it has more than 4096 bytes"]),
+        (b"get 1 1\n" + b"x " * 8_000_000 + b"\nget 1 2", 3, ["row a1", "row a2"], ["line 2: it has more than 4096 bytes"]),
+        (b"get 1 1" + b" " * 4_089 + b"\nget 1 2\r\n", 0, ["row a1", "row a2"], []),
+        (b"begin\nput 1 1 zz\nput 1 2 99\ncommit\nget 1 2\n", 3, ["begun", "row a2"], ["line 2: the row", "line 3: line 2 of", "line 4: nothing was committed, since line 2"]),
+        (b"begin\n" + b"".join(b"put 2 %d 00\n" % it for it in range(33)) + b"commit\nscan 2 0 99\n", 3, ["begun", *["written"] * 32, "end 0"], ["line 34: ", "nothing was committed, since line 34"]),
+        (b"begin\nbegin\nabort\ncommit\nabort\n", 3, ["begun", "aborted"], ["line 2: a transaction is open", "line 4: no transaction is open", "line 5: no transaction is open"]),
+        (b"begin\nput 1 9 99\n", 3, ["begun", "written"], ["the input ended within a transaction"]),
+        (b"begin x\nput 1 9 99\ncommit\nget 1 9\n", 3, ["none"], ["line 1: begin takes no words", "line 2: line 1 of", "line 3: nothing was committed, since line 1"]),
+        (b"put 1 9 -\nget 1 9\ndel 1 9\n", 0, ["committed", "row -", "committed"], []),
+    ):
+        ended = kv_on(kv, file, text)
+        found = re.sub(r"committed \d+", "committed", ended.output).splitlines()
+        want(ended.returncode == status and found == ["ready", *answers, "closed"], f"{text[:60]!r}", ended)
+        want(all(it in ended.told for it in told) and (bool(told) or ended.told == ""), f"{text[:60]!r} told", ended)
+    want(rows_in(kv, file) == ROWS, "the rows stay")
+    return "10 inputs with wrong lines: each line was told by its number, the others were obeyed, and no transaction was kept in part"
+
+
+def words(kv, folder):
+    """Each kind of line, and a copy into a larger store by what it dumps."""
+    file = made(kv, folder)
+    text = b'put 2 7 "a \\"b\\" \\\\ c\\n"\nget 2 7\nscan 1\nscan 1 2\nscan 1 --limit 1\nscan 1 0 9 --limit 1 --reverse\ncount 1\ntables\nquit\nget 1 1\n'
+    ended = kv_on(kv, file, text)
+    found = re.sub(r"committed \d+", "committed", ended.output).splitlines()
+    wanted = ["ready", "committed", "row 6120226222205c20630a", "row 1 a1", "row 2 a2", "end 2", "row 2 a2", "end 1", "row 1 a1", "end 1",
+              "row 2 a2", "end 1", "count 2", "table 1 2", "table 2 1", "closed"]
+    want(ended.returncode == 0 and found == wanted, "each kind of line", ended)
+    for wrong in ('get 1 "a"', 'put 1 1 "a', 'put 1 1 "a"b"', 'put 1 1 "a\\x"', "scan", "scan 1 2 3 4", "count", "tables 1", "scan 1 --limit x"):
+        ended = kv_on(kv, file, wrong + "\n")
+        want(ended.returncode == 3 and ended.output == "ready\nclosed\n", wrong, ended)
+    kv_on(kv, file, "".join(f"put 9 {it} {it:02x}\n" for it in range(70)))
+    dumped = kv_on(kv, file, "dump\n").output.splitlines()[1:-1]
+    want(dumped.count("commit") == 3, f"73 rows in {dumped.count('commit')} transactions")
+    larger = os.path.join(folder, "larger.img")
+    ended = subprocess.run([kv, larger, "--slots", "4096", "--wide"], input="\n".join(dumped) + "\n", capture_output=True, text=True, timeout=60, check=False)
+    want(ended.returncode == 0 and "room for 4096 rows" in ended.stderr, f"a larger store: {ended.stderr}")
+    want(kv_on(kv, larger, "dump\n").output.splitlines()[1:-1] == dumped, "the copy dumps the same")
+    ended = kv_on(kv, larger, "put 1 1 " + "ab" * 96 + "\nget 1 1\n")
+    want(ended.returncode == 0 and "row " + "ab" * 96 in ended.output, "a wide row", ended)
+    for bad in (["--slots", "0"], ["--slots", "70000"], ["--slots"], ["--slots", "x"], ["--places", "1"]):
+        ended = subprocess.run([kv, os.path.join(folder, "none.img"), *bad], input=b"", capture_output=True, timeout=20, check=False)
+        want(ended.returncode == 2 and not os.path.exists(os.path.join(folder, "none.img")), f"{bad}: {ended.returncode}, {ended.stderr}")
+    return "each kind of line answers; what is dumped makes the same store; wrong options make none"
+
+
+def two_at_once(kv, folder):
+    """A second kv on the file is told so, and the first goes on."""
+    file = made(kv, folder)
+    with subprocess.Popen([kv, file], stdin=subprocess.PIPE, stdout=subprocess.PIPE, text=True) as first:
+        want(first.stdout.readline() == "ready\n", "the first is ready")
+        ended = kv_on(kv, file, "get 1 1\n")
+        want(ended.returncode == 1 and ended.output == "" and "another process has the file open" in ended.told, "the second", ended)
+        output, _ = first.communicate("put 1 3 c3\n", timeout=60)
+        want(first.returncode == 0 and acknowledged(output) == 1, f"the first: {output}")
+    want(rows_in(kv, file) == {**ROWS, 3: "c3"}, "the first one's row is there")
+    return "a second run on the file is refused, and the first one goes on"
+
+
+CASES = (closed_streams, failing_output, full_disk, small_disk, foreign, odd_names, folders, lines, words, two_at_once)

@@ -1,0 +1,270 @@
+"""Games: what one seed plays. Each returns its counts, and raises Found where a program answers otherwise than the engine in Python."""
+import collections
+import os
+import pathlib
+import random
+import re
+import struct
+import subprocess
+import sys
+
+from device import CHOICES, Device, Geometry, Refused, checked, sound
+from engine import Room, lived, obeyed
+from generator import MOODS, Author, script_of
+from script import shrunk
+
+DURABILITY = str(pathlib.Path(__file__).resolve().parent.parent / "durability")
+SECONDS = 900
+
+
+class Found(Exception):
+    """A difference: what was wanted, what was found, and a script that shows it where there is one."""
+
+    def __init__(self, said, script=None):
+        super().__init__(said)
+        self.script = script
+
+
+def run(words, text="", **more):
+    """Runs a program on this input. Returns its status and what it printed."""
+    ended = subprocess.run(words, input=text, capture_output=True, text=True, timeout=SECONDS, check=False, **more)
+    return ended.returncode, ended.stdout
+
+
+def first_difference(wanted, found):
+    """Says at which line two texts part."""
+    pairs = zip([*wanted.splitlines(), "(nothing)"], [*found.splitlines(), "(nothing)"])
+    number, (want, have) = next((it for it in enumerate(pairs, 1) if it[1][0] != it[1][1]), (0, ("", "")))
+    return f"line {number}: wanted {want!r}, found {have!r}"
+
+
+class Programs:
+    """The programs that are played, and a folder to play in."""
+
+    def __init__(self, wbl, kv, room, refuse, folder):
+        self.wbl, self.kv, self.room, self.refuse, self.folder = wbl, kv, room, refuse, folder
+
+    def path(self, name):
+        return os.path.join(self.folder, name)
+
+    def played(self, script, **more):
+        path = self.path("script")
+        pathlib.Path(path).write_text(script.text(), encoding="utf-8")
+        return run([self.wbl, "lives", path], **more)
+
+
+def counts_of(script, operations):
+    lives = script.lives
+    return collections.Counter(lives=len(lives), steps=sum(len(life.lines) for life in lives), stops=sum(life.fuse is not None for life in lives),
+                               operations=operations, images=len(lives))
+
+
+def play_lives(rng, programs):
+    """A script of lives over the modelled device, stopped anywhere with the oldest or the newest survivors."""
+    script = script_of(rng)
+    wanted, operations = script.printed()
+    found = programs.played(script)
+    if found != (0, wanted):
+        least = shrunk(script, lambda it: programs.played(it) != (0, it.printed()[0]))
+        status, output = programs.played(least)
+        raise Found(f"status {status}, {first_difference(least.printed()[0], output)}", least.text())
+    return counts_of(script, operations)
+
+
+def written(path, words):
+    pathlib.Path(path).write_bytes(struct.pack(f"<{len(words)}Q", *words))
+
+
+def words_in(path):
+    held = pathlib.Path(path).read_bytes()
+    return list(struct.unpack(f"<{len(held) // 8}Q", held))
+
+
+def play_images(rng, programs):
+    """Lives in Python over an image of any version, stopped anywhere, each word with any of its survivors: each image that is left is
+    checked by `wbl check`, and lives on by `wbl run`, and what that leaves is compared word by word."""
+    version = rng.choice([1, 2, 3])
+    author = Author(rng, rng.choice(list(MOODS)), version)
+    words, path, counts = author.geometry.formatted(), programs.path("image"), collections.Counter()
+    for number in range(rng.randint(author.most_lives // 2, author.most_lives)):
+        lines, operations = author.lines(words, author.closes)
+        fuse = author.fuse(operations)
+        _, words, made = lived(words, lines, fuse, rng.choice)
+        counts.update(lives=1, steps=len(lines), stops=fuse is not None, operations=made, images=1)
+        compare(f"version {version}, image {number}, check", checked(words), check_of(programs, path, words))
+        if rng.random() < 0.5:
+            words = run_on(rng, programs, author, path, words, counts)
+    return counts
+
+
+def check_of(programs, path, words):
+    written(path, words)
+    return run([programs.wbl, "check", path])[1].splitlines()
+
+
+def compare(said, wanted, found):
+    if wanted != found:
+        raise Found(f"{said}: {first_difference(chr(10).join(map(str, wanted)), chr(10).join(map(str, found)))}")
+
+
+def run_on(rng, programs, author, path, words, counts):
+    """Obeys lines by `wbl run` over the image in the file, up to a close or a crash. Returns the words that are left."""
+    lines, operations = author.lines(words, 0)
+    device = Device(words)
+    room = Room(device)
+    wanted = [room.opened_text(), *(obeyed(room, line) for line in lines)]
+    ending = rng.choice([*CHOICES, "close"])
+    if ending == "close":
+        wanted.append(room.close())
+    else:
+        lines.append(f"crash {ending}")
+        wanted.append(f"stopped {ending}")
+    _, found = run([programs.wbl, "run", path], "\n".join([*lines, ""]))
+    compare(f"version {author.geometry.version}, run", "\n".join(wanted).splitlines(), found.splitlines())
+    left = device.crashed(CHOICES.get(ending, CHOICES["oldest"]))
+    compare(f"version {author.geometry.version}, what a run left, {ending}", left, words_in(path))
+    counts.update(lives=1, steps=len(lines), stops=ending != "close", operations=operations, images=1)
+    return left
+
+
+OUT_OF_MEMORY = "refused 16 OutOfMemory"
+
+
+def play_memory(rng, programs):
+    """A script of lives one of whose requests for memory is refused: that step answers OutOfMemory and changes nothing."""
+    script = script_of(rng)
+    number = int(2 ** rng.uniform(0, 13))
+    status, output = programs.played(script, env={"LD_PRELOAD": programs.refuse, "REFUSE_FROM": str(number)})
+    # Memory that is refused while the words or the script are read ends the program, with nothing printed or with this alone.
+    if (status, output) not in ((1, OUT_OF_MEMORY + "\n"), (1, "")):
+        Followed(script, output.splitlines(), f"request {number} refused, status {status}").follow()
+    return counts_of(script, 0)
+
+
+class Unknown(Exception):
+    """How many of a line's steps were made isn't printed: those before the one that was refused."""
+
+
+class Followed:
+    """A script that is obeyed beside what a program printed for it: a line that was refused for want of memory isn't obeyed."""
+
+    def __init__(self, script, found, said):
+        self.script, self.found, self.said, self.at = script, found, said, 0
+
+    def is_refused(self):
+        return self.at < len(self.found) and self.found[self.at] == OUT_OF_MEMORY
+
+    def want(self, text):
+        lines = text.splitlines()
+        found = self.found[self.at:self.at + len(lines)]
+        if found != lines:
+            raise Found(f"{self.said}: {first_difference(text, chr(10).join(found))}", self.script.text())
+        self.at += len(lines)
+
+    def follow(self):
+        """Follows all lives, up to an opening or a close that is refused, or to one of many ticks: what these leave isn't printed."""
+        words = Geometry(*self.script.geometry).formatted()
+        for number, life in enumerate(self.script.lives, 1):
+            self.want(f"life {number}")
+            device = Device(words, life.fuse)
+            try:
+                if self.is_refused():
+                    return
+                room = Room(device)
+                self.want(room.opened_text())
+                for line in life.lines:
+                    if line == "close" and self.is_refused():
+                        return
+                    self.obey(room, line)
+            except Unknown:
+                return
+            except Refused as refused:
+                self.want(refused.text)
+            self.want("stopped")
+            words = device.crashed(CHOICES[life.choice])
+
+    def obey(self, room, line):
+        if line == "close":
+            self.want(room.close())
+        elif not self.is_refused():
+            self.want(obeyed(room, line))
+        else:
+            self.want(OUT_OF_MEMORY)
+            name, *words = line.split()
+            if name in ("commit", "collect") and int(words[0]) > 1:
+                raise Unknown
+
+
+def play_file(rng, programs):
+    """Lives of kv over a file of any version, traced: after a power failure before any system call, each word that no sync followed is
+    old or new. What is left must be sound and hold what was acknowledged, or one transaction more; and kv lives on over one of them."""
+    sys.path.insert(0, DURABILITY)
+    import power
+    from store import Transactions, acknowledged, after
+
+    version = rng.choice([1, 2, 3])
+    path, trace, counts = programs.path("file"), programs.path("trace"), collections.Counter()
+    words, rows = Geometry(rng.choice([16, 40]), 2, rng.choice([4, 64]), version).formatted(), {}
+    source = Transactions(rng, 8, 3)
+    for _ in range(rng.randint(1, 3)):
+        written(path, words)
+        base = bytearray(pathlib.Path(path).read_bytes())
+        sent = [source.next() for _ in range(rng.randint(1, 12))]
+        text = "".join("\n".join(lines) + "\n" for _, lines in sent)
+        status, output = run(["strace", "-f", "-xx", "-s", "5000000", "-e", power.CALLS, "-o", trace, programs.kv, path], text)
+        if status != 0 or acknowledged(output) != len(sent):
+            raise Found(f"kv over version {version}: status {status}, {output[-300:]!r}")
+        models = [rows]
+        for writes, _ in sent:
+            models.append(after(models[-1], writes))
+        events = power.events_of(trace, path)
+        counts.update(lives=1, steps=len(text.splitlines()), operations=len(events))
+        for _ in range(12):
+            stop = rng.randint(0, len(events))
+            words, rows = torn(rng, power, base, events, stop, models, version)
+            counts.update(stops=1, images=1)
+        if rng.random() < 0.5:
+            compare(f"version {version}, torn, check", checked(words), check_of(programs, programs.path("image"), words))
+    return counts
+
+
+def torn(rng, power, base, events, stop, models, version):
+    """Returns the words that a power failure before this event may leave, and the rows in them."""
+    image, done, _ = power.image_before([("size", len(base)), ("write", 0, bytes(base)), ("sync",), *events[:stop]], stop + 3, rng)
+    words = list(struct.unpack(f"<{len(image) // 8}Q", image))
+    try:
+        _, _, live = sound(words)
+    except Refused as refused:
+        raise Found(f"kv over version {version}, before call {stop}: {refused.text}") from refused
+    found = {key[1]: row.hex() for key, row, _ in live.values()}
+    if found not in models[done:done + 2]:
+        raise Found(f"kv over version {version}, before call {stop}, {done} acknowledged: {sorted(found.items())}")
+    return words, found
+
+
+def play_room(rng, programs):
+    """Lives of a room over a device of version 1, 2 and 3 by the program of crates/test_random_lives, which compares them with its own
+    model of plain tables: stopped anywhere, with any survivor of each word."""
+    seed, seeds = rng.randrange(2 ** 62), 3
+    ended = subprocess.run([programs.room, str(seed), str(seeds)], capture_output=True, text=True, timeout=SECONDS, check=False)
+    numbers = re.fullmatch(r"lives (\d+) steps (\d+) stops (\d+)\n", ended.stdout)
+    if ended.returncode != 0 or not numbers:
+        raise Found(f"test_random_lives {seed} {seeds}: status {ended.returncode}, {ended.stdout[-300:]} {ended.stderr[-600:]}")
+    lives, steps, stops = map(int, numbers.groups())
+    return collections.Counter(lives=lives, steps=steps, stops=stops, images=lives)
+
+
+# Of each kind of game how often it is played, in a hundred, and by what.
+KINDS = {
+    "lives": (60, play_lives), "images": (20, play_images), "room": (10, play_room), "memory": (7, play_memory), "file": (3, play_file),
+}
+
+
+def play(seed, kinds, programs):
+    """Plays the game of this seed: the kind, and its counts."""
+    rng = random.Random(seed)
+    kind = rng.choices(kinds, [KINDS[it][0] for it in kinds])[0]
+    try:
+        return kind, KINDS[kind][1](rng, programs)
+    except subprocess.TimeoutExpired as expired:
+        raise Found(f"no end within {SECONDS} seconds: {expired.cmd}") from expired
