@@ -1,7 +1,8 @@
 """Kills kv, takes the power from it and fails its writes, and looks for each row that it acknowledged; and tries what people
-do to it: closed streams, a failing output, a full disk, files of others, wrong lines. The same of FILE of wbl. Its last line is `N passed, N failed`.
+do to it: closed streams, a failing output, a full disk, files of others, wrong lines. The same of FILE of wbl.
 
-usage: ./durability [--kv FILE] [--wbl FILE] [--kills N] [--fresh N] [--power N] [--fail N] [--seed N] [--only NAME ..] [--short]
+It takes minutes, wants the programs that ./build makes, and strace for power failures and failing writes. It prints a line for
+each test, LOST where a row that was acknowledged isn't found, and last `N passed, N failed`; where one failed it ends with 1.
 """
 import argparse
 import os
@@ -42,14 +43,14 @@ def passes(name, test):
 
 
 def main():
-    parser = argparse.ArgumentParser(description="Tests that what kv acknowledged is found again.")
-    parser.add_argument("--kv", default=os.path.join(TOP, "bin", "kv"), help="the program")
-    parser.add_argument("--wbl", default=os.path.join(TOP, "bin", "wbl"), help="the other program")
+    parser = argparse.ArgumentParser(prog="./durability", description=__doc__, formatter_class=argparse.RawDescriptionHelpFormatter)
+    parser.add_argument("--kv", default=os.path.join(TOP, "bin", "kv"), help="the program, by default bin/kv")
+    parser.add_argument("--wbl", default=os.path.join(TOP, "bin", "wbl"), help="the other program, by default bin/wbl")
     parser.add_argument("--kills", type=int, default=200, help="kills at random instants")
     parser.add_argument("--fresh", type=int, default=100, help="kills of a first opening")
     parser.add_argument("--power", type=int, default=500, help="images of a power failure")
     parser.add_argument("--fail", type=int, default=200, help="how many writes and how many syncs fail at most, each in a run")
-    parser.add_argument("--seed", type=int, default=1)
+    parser.add_argument("--seed", type=int, default=1, help="the same seed kills at the same instants")
     parser.add_argument("--only", nargs="*", metavar="NAME", help="these tests alone, as closed_streams")
     parser.add_argument("--short", action="store_true", help="a tenth of each")
     words = parser.parse_args()

@@ -47,7 +47,7 @@ def into_another(folder):
 
 
 def main():
-    parser = argparse.ArgumentParser(description="Tests ./embed.")
+    parser = argparse.ArgumentParser(description="Tests ./embed: the store in an empty folder, and beside crates that are there.")
     parser.add_argument("--proved", action="store_true", help="prove all crates, and run the program that is built then")
     command = "run" if parser.parse_args().proved else "try"
     folder = pathlib.Path(tempfile.mkdtemp())

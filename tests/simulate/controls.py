@@ -1,10 +1,12 @@
 """Plants a defect in a copy of the tree, builds the program of lives at random of the copy without proofs, and lets it play.
 
-A control is an edit that controls.txt names by crate and name: one of those that the prover has to refuse. What is found of it shows what would be found if nothing
-were proved. `rt try` builds the program, and gives it a minute.
+A control is an edit that controls.txt names by crate and name: one of those that the prover has to refuse. What is found of it
+shows what would be found if nothing were proved. `rt try` builds the program, and gives it ten minutes; it takes seconds where the
+machine has nothing else to do.
 """
 import pathlib
 import re
+import resource
 import shutil
 import subprocess
 import tempfile
@@ -13,6 +15,7 @@ import time
 HERE = pathlib.Path(__file__).resolve().parent
 ROOT = HERE.parent.parent
 SEEDS = 30
+SECONDS = 600
 
 
 def edits():
@@ -49,16 +52,22 @@ def copied(folder):
     return tree
 
 
+def processor_seconds():
+    """Returns what the programs that have ended took of a processor."""
+    used = resource.getrusage(resource.RUSAGE_CHILDREN)
+    return used.ru_utime + used.ru_stime
+
+
 def said_of(control):
     """Plants a control, if one is given, and plays. Returns what is said of it, and whether a difference was found."""
     with tempfile.TemporaryDirectory() as folder:
         tree = copied(folder)
         if control:
             planted(tree, control)
-        begin = time.monotonic()
-        command = ["rt", "try", "--", "0", str(SEEDS)]
+        begin, used = time.monotonic(), processor_seconds()
+        command = ["rt", "try", "--seconds", str(SECONDS), "--", "0", str(SEEDS)]
         done = subprocess.run(command, cwd=tree / "crates/test_random_lives", stdout=subprocess.PIPE, stderr=subprocess.STDOUT, text=True, check=False)
-        taken = f"{time.monotonic() - begin:.0f} seconds with the build"
+        taken = f"{time.monotonic() - begin:.0f} seconds with the build, {processor_seconds() - used:.0f} of a processor"
     if found := re.search(r"^seed (\d+)\n((?:.*\n){0,2})", done.stdout, re.M):
         return f"found by seed {found.group(1)}, {taken}: {' '.join(found.group(2).split())[:160]}", True
     if found := re.search(r"^lives .*$", done.stdout, re.M):

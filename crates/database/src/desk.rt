@@ -169,13 +169,13 @@ impl<D: Pmem + Drop> Shared<D> {
         self.rounds.notify_all();
     }
 
-    /// A worker is there.
+    /// Counts a worker in before its thread is started, so that a close can't miss it.
     pub fn begin_working<R: Wait>(&self, rt: &R) {
         let mut desk = self.desk.lock(rt);
         desk.working = desk.working.saturating_add(1);
     }
 
-    /// It is there no more.
+    /// Counts a worker out: no thread is joined, so a close waits until all are.
     pub fn end_working<R: Wait>(&self, rt: &R) {
         let mut desk = self.desk.lock(rt);
         desk.working = desk.working.saturating_sub(1);

@@ -41,7 +41,7 @@ impl<I: Images> JournaledPmem<I> {
     ghost use Rattle.pmem.specs.Device.{restarted};
     ghost use Rattle.pmem.specs.Words.{IsAtRest, Survives};
 
-    /// A device at rest with these words, as the image that is kept there has them, and with so many places for records.
+    /// A device at rest with these words, as the image that is kept there has them, and with this number of places for records.
     pub fn new(alloc: Global, words: Vec<u64>, images: I, places: usize) -> JournaledPmem<I>
         requires holds { (image : List ℕ) → I.may_hold images image → image ≡ words.items }
         ensures rest { IsAtRest (device_of result.trace) }

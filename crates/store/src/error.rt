@@ -50,7 +50,7 @@ pub enum StoreError {
     /// Another commit wrote the key since the transaction began, and came first. It is covered now.
     #[error("another commit has written table and key {0}: begin again")]
     Conflict(Key),
-    /// Each of so many tries met a conflict, the last one on this key.
+    /// Each try that was allowed met a conflict, the last one on this key.
     #[error("given up after {tries} tries, since others wrote table and key {key} each time: try again later")]
     GivenUp {
         tries: u64,

@@ -35,7 +35,7 @@ impl<R: Wait + Drop> Snapshot<'_, R> {
         }
     }
 
-    /// The first rows of these, at most so many, by rising key.
+    /// The rows of the table at the keys of the range, from the least key on, at most `limit` of them. All are read.
     pub fn first<B: RangeBounds<u64>>(
         &self,
         table: u16,
@@ -47,7 +47,7 @@ impl<R: Wait + Drop> Snapshot<'_, R> {
         Ok(rows)
     }
 
-    /// The last rows of these, at most so many, by falling key.
+    /// The same from the greatest key on, by falling key.
     pub fn last<B: RangeBounds<u64>>(
         &self,
         table: u16,

@@ -3,14 +3,14 @@ ghost use Rattle.std.specs.Prelude.{◌≡◌, take, reverse};
 use base::key::Key;
 use base::row::Row;
 
-/// Keeps the first rows alone, at most so many.
+/// Keeps the first `limit` rows, or all where there are fewer.
 pub fn first_rows(rows: &mut Vec<(Key, Row)>, limit: usize)
     ensures { rows.new.items ≡ take limit rows.old.items }
 {
     rows.truncate(limit);
 }
 
-/// Keeps the last rows alone, at most so many, the last one first.
+/// Keeps the last `limit` rows, or all where there are fewer, the last one first.
 pub fn last_rows(rows: &mut Vec<(Key, Row)>, limit: usize)
     ensures { rows.new.items ≡ take limit (reverse rows.old.items) }
 {

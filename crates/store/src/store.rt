@@ -83,7 +83,7 @@ impl<R: Wait + Drop> Store<R> {
         self.transact_within(TRIES, changes)
     }
 
-    /// The same, with at most so many tries, of which there is one at least.
+    /// The same with at most this many tries in place of a thousand, and with one where the number is 0.
     pub fn transact_within<
         T: Drop,
         F: Drop + FnMut(&mut Transaction<'_, R>) -> Result<T, StoreError>,

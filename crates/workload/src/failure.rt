@@ -4,7 +4,8 @@ ghost use Rattle.base.specs.declared.fault.Fault.TheVariants.{SlotsOut};
 
 use base::fault::Fault;
 
-/// The first fault that ended a thread before its commits were made. It isn't that no slot is free, after which a thread goes on.
+/// The first fault that ended a thread before its commits were made. It is never `SlotsOut`: after that a thread tries again,
+/// since the collector may free a slot.
 #[derive(Drop)]
 pub struct Failure {
     first: Option<Fault>,

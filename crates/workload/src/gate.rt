@@ -2,7 +2,7 @@ use base::step::Note;
 use engine::{Gate, Go};
 use std::thread::yield_now;
 
-/// Lets its worker go on for ever.
+/// Never holds its worker, since the close of the engine ends it; where there is nothing to do it lets other threads run.
 #[derive(Drop)]
 pub struct Always;
 
