@@ -1,9 +1,9 @@
 #!/usr/bin/env python3
 """Shows what a crash leaves of one update, wherever it comes.
 
-    ./picture                  the picture as text
+    ./picture                  the picture as text; docs/crash.txt is made so
     ./picture --svg FILE       the same as an SVG, written into FILE; docs/crash.svg is made so
-    ./picture --program WBL    by this program, in place of one that is built now without proofs (a minute)
+    ./picture --program WBL    by this program, in place of one that is built now without proofs, in minutes
 
 An update that replaces the row `old` by `new` makes 54 operations on the device. It is stopped after each number of them, from none
 to all, once with the oldest and once with the newest survivor of each word; then the store is opened again and the row is read.
