@@ -36,8 +36,8 @@ def into_another(folder):
     said = embed(folder)
     assert "HANDLES has to allow Threads and Wait" in said, said
     listed = (folder / "crates.txt").read_text()
-    assert listed.startswith("mine: anyhow store\nbase:\npmem: base\n") and listed.count("base:\n") == 1, listed
-    assert listed.count("\nstore: ") == 1 and "app:" not in listed, listed
+    assert listed.startswith("mine: anyhow store\nbase:\n") and listed.count("base:\n") == 1, listed
+    assert all(listed.count(it) == 1 for it in ("\npmem: base\n", "\nstore: ")) and "app:" not in listed, listed
     assert (folder / "crates/mine/src/main.rt").read_text() == "mine\n"
     (folder / "crates/store/src/old.rt").write_text("old\n")
     again = embed(folder)
