@@ -4,8 +4,7 @@ ghost use Rattle.base.specs.declared.fault.Fault.TheVariants.{SlotsOut};
 
 use base::fault::Fault;
 
-/// The first fault that ended a thread before its commits were made. It is never `SlotsOut`: after that a thread tries again,
-/// since the collector may free a slot.
+/// The first fault that ended a thread before its commits were made. It isn't that no slot is free, after which a thread goes on.
 #[derive(Drop)]
 pub struct Failure {
     first: Option<Fault>,

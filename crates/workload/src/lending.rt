@@ -80,7 +80,7 @@ fn worked_on<
     }
 }
 
-// Takes this many sessions from the engine.
+// So many sessions of the engine.
 fn sessions_of<T: Wait, D: Pmem + Drop, J: Origin, B: Drop>(
     rt: &T,
     alloc: Global,
