@@ -12,7 +12,7 @@ invariant_of-self-in-Err g c =
     let T : List ℕ → Type 0 = λ l. (image : List ℕ) → g.I.Images.may_hold c.keep.new.self image → g.I.Images.may_hold old.images image ⊎ (image ≡ l) in
     let whole : T old.words.items = c.keep.ensures.whole in
     let h = holds-tried (device_of old.trace) old.words.items old.flushed.items old.places old.is_gate_stored (device_of old.kept.value).clock (g.I.Images.may_hold old.images) (g.I.Images.may_hold c.keep.new.self)
-        (record { shown = old.shown; mirrored = old.mirrored; back = old.since; gates = old.gates }) whole in
+    (record { shown = old.shown; mirrored = old.mirrored; back = old.since; gates = old.gates }) whole in
     record { shown = h.shown; mirrored = h.mirrored; since = h.back; gates = h.gates }
 
 pub invariant_of-self : goal.invariant_of-self
@@ -26,7 +26,7 @@ invariant_of-self g c =
     let kept : T words = c.in-Ok.ensures.kept in
     let R : List Flushed → Type 0 = λ items. Holds device words items places false device.clock new in
     let h0 = subst R (sym c.forget.ensures) (holds-persisted (device_of old.trace) words old.flushed.items places old.is_gate_stored (device_of old.kept.value).clock (g.I.Images.may_hold old.images) new c.args.actor
-        (record { shown = old.shown; mirrored = old.mirrored; back = old.since; gates = old.gates }) kept) in
+    (record { shown = old.shown; mirrored = old.mirrored; back = old.since; gates = old.gates }) kept) in
     let P : Device → Type 0 = λ d. Holds d words c.forget.new.flushed.items places false d.clock new in
     let h1 : P (device_of c.note.new.self) = subst P (sym c.note.ensures) h0 in
     let Q : Trace → Type 0 = λ t. Holds (device_of c.note.new.self) words c.forget.new.flushed.items places false (device_of t).clock new in
