@@ -1,8 +1,8 @@
 -- What may be found of such a device is an image of an earlier moment with the gates of now.
-use Rattle.std.proofs.Common.{◌≡◌, ◌⊎◌, inl, inr, ℕ, ◌+◌, ◌*◌, ◌/◌, ◌%◌, ◌<◌, Bool, true, false, ◌&&◌, ◌||◌, List, [], ◌∷◌, ◌==◌, refl, sym, ◌∙◌, ap, subst, arith, nat_eq, nat_lt}
+use Rattle.std.proofs.Common.{◌≡◌, ℕ, ◌+◌, ◌*◌, ◌%◌, ◌<◌, true, false, ◌&&◌, List, [], ◌==◌, sym, ◌∙◌, subst, arith, nat_lt}
 use Rattle.std.specs.Prelude.{slice_index}
-use Rattle.std.proofs.Math.Logic.{∥∥₁_elim, ∥∥₁_map}
-use Rattle.std.proofs.lemmas.Bool.{and_from, or_right, eq-eqb, eqb-true, eqb-false, lt-ltb}
+use Rattle.std.proofs.Math.Logic.{∥∥₁_map}
+use Rattle.std.proofs.lemmas.Bool.{and_from, or_left, or_right, eq-eqb, lt-ltb}
 use Rattle.base.specs.Layout.{Layout, place_start}
 use Rattle.base.specs.Commits.{Commit}
 use Rattle.base.specs.Fresh.{fresh_image}
@@ -10,7 +10,7 @@ use Rattle.base.specs.Images.{Image, is_formatted}
 use Rattle.base.specs.declared.step.Step.{Step}
 use Rattle.base.specs.declared.step.Reply.{Reply}
 use Rattle.machine.specs.Machine.{State, final, StandsAt, StandsWithin, StandsClosing, StandsClosed}
-use Rattle.pmem.specs.Device.{Device, survivors_in, survivors_at, IsAmong, MayLeave, MightHaveLeft, IsOrderly}
+use Rattle.pmem.specs.Device.{Device, survivors_at, IsAmong, MayLeave, MightHaveLeft, IsOrderly}
 use Rattle.machine.specs.Openings.{OpensAs, StandsOpening}
 use Rattle.pmem.specs.Words.{Survives, Continues, LeavesOnly, image_of}
 use Rattle.pmem.specs.declared.device.Pmem as pmem
@@ -27,34 +27,18 @@ use Rattle.file_laws.specs.Found.{IsFound, ComesFrom, RunsSince}
 use Rattle.file_laws.proofs.FoundRuns.{found-now, found-within, found-closing, found-closed, comes-opened, comes-formatted}
 use Rattle.file_laws.specs.Finding.{state_of, HasPlaces}
 
--- one of a list of numbers is seen to be
-pub among : (values : List ℕ) (x : ℕ) → ∥ IsAmong values x ∥₁ → IsAmong values x
-among [] x merely_one = ∥∥₁_elim merely_one (λ a b. absurd a) (λ a. a)
-among (value ∷ values) x merely_one = by (λ is. among values x (∥∥₁_map merely_one (rest is))) (nat_eq x value) refl
-  where
-    rest : (nat_eq x value ≡ false) → (x ≡ value) ⊎ IsAmong values x → IsAmong values x
-    rest is (inl e) = absurd (eqb-false x value is e)
-    rest is (inr later) = later
+-- the superblock's words, and the first word of each place
+head : (places word : ℕ) → word < 8 → is_gate places word ≡ true
+head places word low = or_left (nat_lt word 8) ((word % 32 == 8) && nat_lt word (8 + 32 * places)) (lt-ltb word 8 low)
 
-    by : ((nat_eq x value ≡ false) → IsAmong values x) → (b : Bool) → nat_eq x value ≡ b → IsAmong (value ∷ values) x
-    by others true is = inl (eqb-true x value is)
-    by others false is = inr (others is)
-
--- the superblock's line, and the first line of each place
-head : (places word : ℕ) → word < 8 → is_gate places (word / 8) ≡ true
-head places word low =
-    let none : word / 8 ≡ 0 = omega (arith, low) in
-    ap (λ (b : Bool). b || (((word / 8) % 4 == 1) && nat_lt (word / 8) (1 + 4 * places))) (eq-eqb (word / 8) 0 none)
-
-first : (places place : ℕ) → place < places → is_gate places (place_start place / 8) ≡ true
+first : (places place : ℕ) → place < places → is_gate places (place_start place) ≡ true
 first places place h =
-    let line : place_start place / 8 ≡ 1 + 4 * place = omega arith in
-    or_right (place_start place / 8 == 0) ((place_start place / 8 % 4 == 1) && nat_lt (place_start place / 8) (1 + 4 * places))
-    (and_from (place_start place / 8 % 4 == 1) (nat_lt (place_start place / 8) (1 + 4 * places)) (eq-eqb (place_start place / 8 % 4) 1 (omega (arith, line))) (lt-ltb (place_start place / 8) (1 + 4 * places) (omega (arith, line, h))))
+    or_right (nat_lt (place_start place) 8) ((place_start place % 32 == 8) && nat_lt (place_start place) (8 + 32 * places))
+    (and_from (place_start place % 32 == 8) (nat_lt (place_start place) (8 + 32 * places)) (eq-eqb (place_start place % 32) 8 (omega arith)) (lt-ltb (place_start place) (8 + 32 * places) (omega (arith, h))))
 
 -- what a device left, and whose gates survive, is found at that moment of what it becomes
 pub is-found : (layout : Layout) (places : ℕ) (device later : Device) (since : ℕ) (image : Image) → places ≡ layout.places → IsOrderly device → Continues device later
-    → ((word : ℕ) → is_gate places (word / 8) ≡ true → word < device.words → ∥ Survives device word (slice_index image word) ∥₁)
+    → ((word : ℕ) → is_gate places word ≡ true → word < device.words → Survives device word (slice_index image word))
     → MightHaveLeft device since image → IsFound layout later 0 device.clock image
 is-found layout places device later since image same orderly continues gates might = record {
   before = might.moment;
@@ -65,16 +49,16 @@ is-found layout places device later since image same orderly continues gates mig
   gates = λ place h within. survives (place_start place) (first places place (omega (arith, h, same))) within;
 }
   where
-    survives : (word : ℕ) → is_gate places (word / 8) ≡ true → word < later.words → IsAmong (survivors_at device.clock (later.history word)) (slice_index image word)
+    survives : (word : ℕ) → is_gate places word ≡ true → word < later.words → IsAmong (survivors_at device.clock (later.history word)) (slice_index image word)
     survives word is within =
         subst (λ (l : List ℕ). IsAmong l (slice_index image word)) (sym (continues.past device.clock word (omega arith) ∙ orderly.now word))
-        (among (survivors_in (device.history word)) (slice_index image word) (gates word is (omega (arith, within, continues.same_words))))
+        (gates word is (omega (arith, within, continues.same_words)))
 
 module _ {I : Type 0} {H : Ghosts I} where
   -- what is known of an image that may be found of the device
   pub record Found (device : JournaledPmem I H) (since : ℕ) (image : Image) : Type 0 where
     pub left : ∥ MightHaveLeft (state_of device) since image ∥₁
-    pub gates : (word : ℕ) → is_gate device.places (word / 8) ≡ true → word < (state_of device).words → ∥ Survives (state_of device) word (slice_index image word) ∥₁
+    pub gates : (word : ℕ) → is_gate device.places word ≡ true → word < (state_of device).words → Survives (state_of device) word (slice_index image word)
 
   orderly : (device : JournaledPmem I H) → IsOrderly (state_of device)
   orderly device = orderly_of (state_of device) device.words.items device.shown

@@ -1,8 +1,9 @@
-ghost use Rattle.std.specs.Prelude.{◌≡◌, ◌⊎◌, ◌/◌, ◌<◌, ℕ, List, true, false, slice_index, OnOk, OnErr, IfErr};
+ghost use Rattle.std.specs.Prelude.{◌≡◌, ◌⊎◌, ◌/◌, ◌<◌, ◌&&◌, ◌||◌, ℕ, List, length, true, false, slice_index, OnOk, OnErr, IfErr};
 ghost use Rattle.pmem.specs.Device.{Device, fenced, failed, MightHaveLeft};
+ghost use Rattle.journal.specs.Kept.{HoldsOnly};
 ghost use Rattle.pmem_file.specs.Shown.{IsShown};
 ghost use Rattle.pmem_file.specs.Mirrored.{IsMirrored};
-ghost use Rattle.pmem_file.specs.Journaled.{HoldsNone, IsSince, IsGated, is_gate, is_gate_flushed};
+ghost use Rattle.pmem_file.specs.Journaled.{HoldsGate, IsSince, is_gate, is_gate_line, is_gate_flushed};
 ghost use Rattle.pmem_file.specs.Traces.{device_of};
 
 use crate::device::{Flushed, forget};
@@ -25,6 +26,9 @@ pub struct JournaledPmem<I: Images> {
     // The places for records.
     places: usize,
 
+    // A gate was stored since the image was kept.
+    is_gate_stored: bool,
+
     // The image wasn't kept: no further fence succeeds.
     failed: bool,
     trace: Trace,
@@ -32,9 +36,9 @@ pub struct JournaledPmem<I: Images> {
     // What was done up to the last image that was kept.
     kept: Snapshot<Trace>,
     ghost shown: { IsShown (device_of trace) words.items },
-    ghost mirrored: { IsMirrored (device_of trace) words.items flushed.items HoldsNone },
+    ghost mirrored: { IsMirrored (device_of trace) words.items flushed.items (HoldsGate places (I.may_hold images)) },
     ghost since: { IsSince (device_of trace) (device_of kept.value).clock (I.may_hold images) },
-    ghost gated: { IsGated places (device_of trace) (device_of kept.value).clock },
+    ghost gates: { is_gate_stored ≡ false → HoldsOnly (HoldsGate places (I.may_hold images)) (length words.items) words.items },
 }
 
 impl<I: Images> JournaledPmem<I> {
@@ -54,6 +58,7 @@ impl<I: Images> JournaledPmem<I> {
             flushed: Vec::new(alloc),
             images,
             places,
+            is_gate_stored: false,
             failed: false,
             trace,
             kept,
@@ -64,8 +69,8 @@ impl<I: Images> JournaledPmem<I> {
     /// since the last image was kept, and each of its gates is one that a crash may leave now.
     pub fn found_image_was_left(&self)
         ensures images { (image : List ℕ) → I.may_hold self.now.images image → ∥ MightHaveLeft (device_of self.now.trace) (device_of self.now.kept.value).clock image ∥₁ }
-        ensures gates { (image : List ℕ) → I.may_hold self.now.images image → (word : ℕ) → is_gate self.now.places (word / 8) ≡ true → word < (device_of self.now.trace).words
-            → ∥ Survives (device_of self.now.trace) word (slice_index image word) ∥₁ }
+        ensures gates { (image : List ℕ) → I.may_hold self.now.images image → (word : ℕ) → is_gate self.now.places word ≡ true → word < (device_of self.now.trace).words
+            → Survives (device_of self.now.trace) word (slice_index image word) }
     {}
 
     // An operation fails.
@@ -77,9 +82,16 @@ impl<I: Images> JournaledPmem<I> {
         Fault::Device
     }
 
-    // A fence that makes no gate durable.
+    // Does a fence by this actor make a gate durable that no kept image has yet?
+    fn makes_a_gate_durable(&self, actor: u8) -> bool
+        ensures { result ≡ (self.now.is_gate_stored && is_gate_flushed self.now.places self.now.flushed.items actor) }
+    {
+        self.is_gate_stored && is_gate_flushed(self.places, self.flushed.as_slice(), actor)
+    }
+
+    // A fence that makes no gate durable, or none but those of the image that was kept.
     fn order(&mut self, actor: u8)
-        requires { is_gate_flushed self.old.places self.old.flushed.items actor ≡ false }
+        requires { (self.old.is_gate_stored && is_gate_flushed self.old.places self.old.flushed.items actor) ≡ false }
         ensures { device_of self.new.trace ≡ fenced actor (device_of self.old.trace) }
     {
         self.trace.note(Operation::Fence { actor });
@@ -96,6 +108,7 @@ impl<I: Images> JournaledPmem<I> {
             Ok(()) => {
                 self.trace.note(Operation::Fence { actor });
                 self.kept = Snapshot::of(&self.trace);
+                self.is_gate_stored = false;
                 forget(&mut self.flushed, actor);
                 Ok(())
             }
@@ -107,9 +120,23 @@ impl<I: Images> JournaledPmem<I> {
     }
 }
 
+// Is it a word of the superblock, or the first of a place for a record?
+fn is_gate(places: usize, word: usize) -> bool
+    ensures { result ≡ is_gate places word }
+{
+    word < 8 || word % 32 == 8 && (word - 8) / 32 < places
+}
+
+// Was a gate stored, once this word was stored too?
+fn is_stored(before: bool, places: usize, word: usize) -> bool
+    ensures { result ≡ (is_gate places word || before) }
+{
+    is_gate(places, word) || before
+}
+
 // Is it the superblock's line, or the first of a place for a record?
-fn is_gate(places: usize, line: usize) -> bool
-    ensures { result ≡ is_gate places line }
+fn is_gate_line(places: usize, line: usize) -> bool
+    ensures { result ≡ is_gate_line places line }
 {
     line == 0 || line % 4 == 1 && (line - 1) / 4 < places
 }
@@ -119,7 +146,7 @@ fn is_gate_flushed(places: usize, flushed: &[Flushed], actor: u8) -> bool
     ensures { result ≡ is_gate_flushed places flushed.now actor }
 {
     for one in flushed {
-        if one.actor == actor && is_gate(places, one.line) {
+        if one.actor == actor && is_gate_line(places, one.line) {
             return true;
         }
     }
@@ -144,6 +171,7 @@ impl<I: Images> Pmem for JournaledPmem<I> {
 
     fn store(&mut self, word: usize, value: u64) -> Result<(), Fault> {
         self.words[word] = value;
+        self.is_gate_stored = is_stored(self.is_gate_stored, self.places, word);
         self.trace.note(Operation::Store { word, value });
         Ok(())
     }
@@ -165,7 +193,7 @@ impl<I: Images> Pmem for JournaledPmem<I> {
             return Err(self.refuse());
         }
         let actor = actor.number;
-        if is_gate_flushed(self.places, self.flushed.as_slice(), actor) {
+        if self.makes_a_gate_durable(actor) {
             return self.persist(actor);
         }
         self.order(actor);

@@ -1,9 +1,9 @@
-use Rattle.std.proofs.Common.{◌≡◌, ◌⊎◌, sym, subst, List, ℕ}
+use Rattle.std.proofs.Common.{◌≡◌, ◌⊎◌, false, sym, subst, List, ℕ}
 use Rattle.pmem.specs.Device.{Device, fenced}
 use Rattle.pmem_file.specs.declared.device.Flushed.{Flushed}
 use Rattle.pmem_file.specs.declared.trace.Trace.{Trace}
 use Rattle.pmem_file.specs.Traces.{device_of}
-use Rattle.pmem_file.proofs.Since.{Holds, holds-persisted, since-tried}
+use Rattle.pmem_file.proofs.Since.{Holds, holds-persisted, holds-tried}
 use Rattle.pmem_file.proofs.journaled.JournaledPmem.persist.Goals as goal
 
 pub invariant_of-self-in-Err : goal.invariant_of-self-in-Err
@@ -11,12 +11,9 @@ invariant_of-self-in-Err g c =
     let old = c.args.self.now in
     let T : List ℕ → Type 0 = λ l. (image : List ℕ) → g.I.Images.may_hold c.keep.new.self image → g.I.Images.may_hold old.images image ⊎ (image ≡ l) in
     let whole : T old.words.items = c.keep.ensures.whole in
-    record {
-      shown = old.shown;
-      mirrored = old.mirrored;
-      since = since-tried (device_of old.trace) old.words.items (device_of old.kept.value).clock (g.I.Images.may_hold old.images) (g.I.Images.may_hold c.keep.new.self) old.shown old.since whole;
-      gated = old.gated;
-    }
+    let h = holds-tried (device_of old.trace) old.words.items old.flushed.items old.places old.is_gate_stored (device_of old.kept.value).clock (g.I.Images.may_hold old.images) (g.I.Images.may_hold c.keep.new.self)
+    (record { shown = old.shown; mirrored = old.mirrored; back = old.since; gates = old.gates }) whole in
+    record { shown = h.shown; mirrored = h.mirrored; since = h.back; gates = h.gates }
 
 pub invariant_of-self : goal.invariant_of-self
 invariant_of-self g c =
@@ -27,10 +24,11 @@ invariant_of-self g c =
     let device = fenced c.args.actor (device_of old.trace) in
     let T : List ℕ → Type 0 = λ l. (image : List ℕ) → new image → image ≡ l in
     let kept : T words = c.in-Ok.ensures.kept in
-    let R : List Flushed → Type 0 = λ items. Holds device words items places device.clock new in
-    let h0 = subst R (sym c.forget.ensures) (holds-persisted (device_of old.trace) words old.flushed.items places (device_of old.kept.value).clock (g.I.Images.may_hold old.images) new c.args.actor (record { shown = old.shown; mirrored = old.mirrored; back = old.since; gated = old.gated }) kept) in
-    let P : Device → Type 0 = λ d. Holds d words c.forget.new.flushed.items places d.clock new in
+    let R : List Flushed → Type 0 = λ items. Holds device words items places false device.clock new in
+    let h0 = subst R (sym c.forget.ensures) (holds-persisted (device_of old.trace) words old.flushed.items places old.is_gate_stored (device_of old.kept.value).clock (g.I.Images.may_hold old.images) new c.args.actor
+    (record { shown = old.shown; mirrored = old.mirrored; back = old.since; gates = old.gates }) kept) in
+    let P : Device → Type 0 = λ d. Holds d words c.forget.new.flushed.items places false d.clock new in
     let h1 : P (device_of c.note.new.self) = subst P (sym c.note.ensures) h0 in
-    let Q : Trace → Type 0 = λ t. Holds (device_of c.note.new.self) words c.forget.new.flushed.items places (device_of t).clock new in
+    let Q : Trace → Type 0 = λ t. Holds (device_of c.note.new.self) words c.forget.new.flushed.items places false (device_of t).clock new in
     let h : Q c.of.result.value = subst Q (sym c.of.ensures) h1 in
-    record { shown = h.shown; mirrored = h.mirrored; since = h.back; gated = h.gated }
+    record { shown = h.shown; mirrored = h.mirrored; since = h.back; gates = h.gates }
