@@ -15,7 +15,7 @@ A seed is a game, and the same seed is the same game. There are five kinds:
               `wbl check`, and lives on by `wbl run`, and what that leaves is compared word by word
     room      lives over a device of version 1, 2 and 3, stopped anywhere with any survivor of each word, by the proved program of
               crates/test_random_lives, which the gate runs on 30 seeds
-    memory    a script of lives one of whose requests for memory is refused
+    memory    a script of lives one of whose requests for memory is refused, where the program takes its memory from the C library
     file      `bin/kv` over a file of version 1, 2 or 3: its system calls are traced, and the power fails before any of them, with
               each word that no sync followed old or new; wants strace
 
@@ -30,6 +30,7 @@ import multiprocessing
 import os
 import pathlib
 import shutil
+import subprocess
 import sys
 import tempfile
 import time
@@ -47,7 +48,7 @@ def kinds_here(words, refuse):
     kinds = [words.only] if words.only else list(KINDS)
     wanted = {
         "room": (os.path.exists(words.room), "rt run in crates/test_random_lives"),
-        "memory": (refuse is not None, "a C compiler"),
+        "memory": (is_refused(words.wbl, refuse), "a C compiler, and a program that takes its memory from the C library"),
         "file": (shutil.which("strace") and os.path.exists(words.kv), "strace and bin/kv"),
     }
     for kind in kinds:
@@ -56,12 +57,20 @@ def kinds_here(words, refuse):
     return [kind for kind in kinds if kind not in wanted or wanted[kind][0]]
 
 
+def is_refused(program, refuse):
+    """Whether the program fails where all of its memory is refused: one with an allocator of its own would pass each game."""
+    if refuse is None:
+        return False
+    told = {"LD_PRELOAD": refuse, "REFUSE_FROM": "1", "REFUSE_ALL": ""}
+    return subprocess.run([program, "--help"], env=told, capture_output=True, check=False).returncode != 0
+
+
 def built_refusing(folder):
     """Returns the allocator that refuses, or None where it can't be built."""
     from refusing import built
     try:
         return built(folder)
-    except OSError:
+    except (OSError, subprocess.CalledProcessError):
         return None
 
 
