@@ -71,8 +71,12 @@ pub fn collect<D: Pmem + Drop>(desk: &mut Desk<D>) -> Turn {
 }
 
 impl<D: Pmem> Desk<D> {
+    ghost use Rattle.database.specs.Committing.{HasEnded};
+
     // What a refusal of a tick comes to: want of memory passes, and nothing else does.
-    fn after_refusal(&mut self, fault: Fault) -> Turn {
+    fn after_refusal(&mut self, fault: Fault) -> Turn
+        requires refused { HasEnded D.state fault }
+    {
         match fault {
             Fault::OutOfMemory => {
                 self.lacks_memory = true;
