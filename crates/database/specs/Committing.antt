@@ -1,52 +1,105 @@
--- What a commit of several threads is told.
-use Rattle.std.specs.Prelude.{◌≡◌, ◌⊎◌, ℕ, Bool, true, false, Option, Some, None, Result, Ok, Err}
+-- What a put and a commit make of a run, and what a commit of several threads is told.
+use Rattle.std.specs.Prelude.{◌≡◌, ◌⊎◌, ℕ, Bool, true, false, List, [], ◌∷◌, ◌++◌, replicate, ⊤, Option, Some, None, Result, Ok, Err}
 use Rattle.base.specs.declared.fault.Fault.{Fault}
-use Rattle.base.specs.declared.fault.Fault.TheVariants.{OutOfMemory, TimestampsOut}
-use Rattle.base.specs.declared.step.Step.TheVariants.{Commit as Tick}
+use Rattle.base.specs.declared.fault.Fault.TheVariants.{SlotsOut, OutOfMemory, TimestampsOut}
+use Rattle.base.specs.declared.key.Key.{Key}
+use Rattle.base.specs.declared.step.Step.{Step}
+use Rattle.base.specs.declared.step.Step.TheVariants.{Put, Draw, Stamp, Poll, End, Collect, Commit as Tick}
+use Rattle.base.specs.declared.step.Reply.{Reply}
 use Rattle.base.specs.declared.step.Reply.TheVariants.{Refused as IsRefused}
-use Rattle.pmem.specs.Device.{Device}
-use Rattle.pmem.specs.declared.device.Pmem.{Ghosts}
 use Rattle.database.specs.declared.error.CommitError.{CommitError}
 use Rattle.database.specs.declared.error.CommitError.TheVariants.{Refused, Open}
-use Rattle.database.specs.Runs.{Leads, MadeInRun}
-use Rattle.database.specs.Obeys.{Prepares, Finishes, Covers}
+use Rattle.database.specs.Replies.{done_of, drawn_of, stamped_of, committed_of}
+use Rattle.database.specs.Runs.{EndsRun}
+use Rattle.database.specs.Obeys.{IsStep, all_stamped}
 
--- the committer was refused with this fault, and so it ended
-abbrev pub HasEnded : {D : Type 0} → {G : Ghosts D} → (D → Device) → Fault → Type 0
-HasEnded {D} {G} state fault = MadeInRun {D} {G} state (λ old new. Leads state old new Tick (IsRefused fault))
+-- ---- a put
 
--- the session was prepared for a commit, with this result
-abbrev pub IsPrepared : {D : Type 0} → {G : Ghosts D} → (D → Device) → ℕ → Result Bool CommitError → Type 0
-IsPrepared {D} {G} state session result = MadeInRun {D} {G} state (λ old new. Prepares state old new session result)
+-- a put that found no slot, visits of the collector, and the put again, whose reply is returned
+pub record PutsAgain (session : ℕ) (key : Key) (row : List ℕ) (result : Result ⊤ Fault) (steps : List Step) (replies : List Reply) : Type 0 where
+  pub count : ℕ
+  pub first : Reply
+  pub visits : List Reply
+  pub last : Reply
+  pub steps_are : steps ≡ Put session key row ∷ (replicate count Collect ++ Put session key row ∷ [])
+  pub replies_are : replies ≡ first ∷ (visits ++ last ∷ [])
+  pub found_none : Err SlotsOut ≡ done_of first
+  pub tells : result ≡ done_of last
 
--- the session's own poll told its timestamp, once that was covered, and the transaction is ended
-abbrev pub IsAcknowledged : {D : Type 0} → {G : Ghosts D} → (D → Device) → ℕ → ℕ → Type 0
-IsAcknowledged {D} {G} state session t = MadeInRun {D} {G} state (λ old new. Finishes state old new session (Ok (Some t)) × Covers state old new t)
+-- that, or a put alone, ends a run from an opening
+abbrev pub AnswersPut : ℕ → Key → List ℕ → Result ⊤ Fault → Type 0
+AnswersPut session key row result =
+    EndsRun (λ steps replies. IsStep (Put session key row) done_of result steps replies ⊎ PutsAgain session key row result steps replies)
+
+-- ---- a commit
+
+-- the session drew this timestamp and stamped, and the last stamp told that all keys are stamped, or was refused
+pub record DrawsAndStamps (session t : ℕ) (result : Result ⊤ Fault) (steps : List Step) (replies : List Reply) : Type 0 where
+  pub count : ℕ
+  pub drawn : Reply
+  pub stamps : List Reply
+  pub last : Reply
+  pub steps_are : steps ≡ Draw session ∷ (replicate count (Stamp session) ++ Stamp session ∷ [])
+  pub replies_are : replies ≡ drawn ∷ (stamps ++ last ∷ [])
+  pub drew : Ok (Some t) ≡ drawn_of drawn
+  pub tells : all_stamped result ≡ stamped_of last
+
+-- it drew for nothing, and ended
+pub record DrawsAndEnds (session : ℕ) (result : Result ⊤ Fault) (steps : List Step) (replies : List Reply) : Type 0 where
+  pub drawn : Reply
+  pub last : Reply
+  pub steps_are : steps ≡ Draw session ∷ End session ∷ []
+  pub replies_are : replies ≡ drawn ∷ last ∷ []
+  pub drew : Ok None ≡ drawn_of drawn
+  pub tells : result ≡ done_of last
+
+-- its poll told this timestamp, and it ended
+pub record PollsAndEnds (session t : ℕ) (result : Result ⊤ Fault) (steps : List Step) (replies : List Reply) : Type 0 where
+  pub polled : Reply
+  pub last : Reply
+  pub steps_are : steps ≡ Poll session ∷ End session ∷ []
+  pub replies_are : replies ≡ polled ∷ last ∷ []
+  pub told : Ok (Some t) ≡ committed_of polled
+  pub tells : result ≡ done_of last
+
+-- how a session is prepared for its commit
+abbrev pub IsPreparation : ℕ → Result Bool CommitError → List Step → List Reply → Type 0
+IsPreparation session (Ok true) steps replies = (t : ℕ) × DrawsAndStamps session t (Ok tt) steps replies
+IsPreparation session (Ok false) steps replies = DrawsAndEnds session (Ok tt) steps replies
+IsPreparation session (Err (Open fault)) steps replies = (t : ℕ) × DrawsAndStamps session t (Err fault) steps replies
+IsPreparation session (Err (Refused fault)) steps replies = IsStep (Draw session) drawn_of (Err fault) steps replies ⊎ DrawsAndEnds session (Err fault) steps replies
+
+abbrev pub IsPrepared : ℕ → Result Bool CommitError → Type 0
+IsPrepared session result = EndsRun (IsPreparation session result)
+
+-- the session's own poll told its timestamp, so that is covered, and the transaction is ended
+abbrev pub IsAcknowledged : ℕ → ℕ → Type 0
+IsAcknowledged session t = EndsRun (PollsAndEnds session t (Ok tt))
 
 -- the poll, or the end after it, was refused
-abbrev pub IsNotFinished : {D : Type 0} → {G : Ghosts D} → (D → Device) → ℕ → Fault → Type 0
-IsNotFinished {D} {G} state session fault = MadeInRun {D} {G} state (λ old new. Finishes state old new session (Err fault))
+abbrev pub IsNotFinished : ℕ → Fault → Type 0
+IsNotFinished session fault =
+    EndsRun (λ steps replies. IsStep (Poll session) committed_of (Err fault) steps replies ⊎ ((t : ℕ) × PollsAndEnds session t (Err fault) steps replies))
+
+-- the committer was refused with this fault, and so it ended
+abbrev pub HasEnded : Fault → Type 0
+HasEnded fault = EndsRun (λ steps replies. (steps ≡ Tick ∷ []) × (replies ≡ IsRefused fault ∷ []))
 
 -- What a wait for a commit that was drawn is told. Nothing of it will be committed where the committer ended with the last record
--- number; it isn't known where the device fails, the committer ended otherwise, or was refused memory too often
-abbrev pub TellsWait : {D : Type 0} → {G : Ghosts D} → (D → Device) → ℕ → Result ℕ CommitError → Type 0
-TellsWait {D} {G} state session (Ok t) = IsAcknowledged {D} {G} state session t
-TellsWait {D} {G} state session (Err (Refused fault)) = (fault ≡ TimestampsOut) × HasEnded {D} {G} state fault
-TellsWait {D} {G} state session (Err (Open fault)) = IsNotFinished {D} {G} state session fault ⊎ (HasEnded {D} {G} state fault ⊎ (fault ≡ OutOfMemory))
+-- number; it isn't known where a step was refused, the committer ended otherwise, or was refused memory too often
+abbrev pub TellsWait : ℕ → Result ℕ CommitError → Type 0
+TellsWait session (Ok t) = IsAcknowledged session t
+TellsWait session (Err (Refused fault)) = (fault ≡ TimestampsOut) × HasEnded fault
+TellsWait session (Err (Open fault)) = IsNotFinished session fault ⊎ (HasEnded fault ⊎ (fault ≡ OutOfMemory))
 
--- Nothing is drawn: the committer has ended, or was refused memory too often
-abbrev pub DrawsNone : {D : Type 0} → {G : Ghosts D} → (D → Device) → CommitError → Type 0
-DrawsNone {D} {G} state (Refused fault) = HasEnded {D} {G} state fault ⊎ (fault ≡ OutOfMemory)
-DrawsNone state (Open fault) = ⊥
+-- What a preparation is told. Where nothing was drawn the committer has ended, or was refused memory too often
+abbrev pub TellsPreparation : ℕ → Result Bool CommitError → Type 0
+TellsPreparation session (Ok wrote) = IsPrepared session (Ok wrote)
+TellsPreparation session (Err (Open fault)) = IsPrepared session (Err (Open fault))
+TellsPreparation session (Err (Refused fault)) = IsPrepared session (Err (Refused fault)) ⊎ (HasEnded fault ⊎ (fault ≡ OutOfMemory))
 
--- What a preparation is told that waits for timestamps
-abbrev pub TellsPrepare : {D : Type 0} → {G : Ghosts D} → (D → Device) → ℕ → Result Bool CommitError → Type 0
-TellsPrepare {D} {G} state session (Ok wrote) = IsPrepared {D} {G} state session (Ok wrote)
-TellsPrepare {D} {G} state session (Err error) = IsPrepared {D} {G} state session (Err error) ⊎ DrawsNone {D} {G} state error
-
--- What a commit is told
-abbrev pub TellsCommit : {D : Type 0} → {G : Ghosts D} → (D → Device) → ℕ → Result (Option ℕ) CommitError → Type 0
-TellsCommit {D} {G} state session (Ok None) = IsPrepared {D} {G} state session (Ok false)
-TellsCommit {D} {G} state session (Ok (Some t)) = IsPrepared {D} {G} state session (Ok true) × TellsWait {D} {G} state session (Ok t)
-TellsCommit {D} {G} state session (Err error) =
-    TellsPrepare {D} {G} state session (Err error) ⊎ (IsPrepared {D} {G} state session (Ok true) × TellsWait {D} {G} state session (Err error))
+-- What a commit is told: by its preparation, and where something was written by the wait after it
+abbrev pub TellsCommit : ℕ → Result (Option ℕ) CommitError → Type 0
+TellsCommit session (Ok None) = IsPrepared session (Ok false)
+TellsCommit session (Ok (Some t)) = IsPrepared session (Ok true) × TellsWait session (Ok t)
+TellsCommit session (Err error) = TellsPreparation session (Err error) ⊎ (IsPrepared session (Ok true) × TellsWait session (Err error))

@@ -77,14 +77,13 @@ impl<D: Pmem + Drop, R: Wait + Drop> Database<D, R> {
     ghost use Rattle.std.specs.Prelude.{Ok, Err, IfOk, IfErr};
     ghost use Rattle.base.specs.declared.step.Step.TheVariants.{Begin};
     ghost use Rattle.database.specs.Replies.{began_of};
-    ghost use Rattle.database.specs.Runs.{MadeInRun};
-    ghost use Rattle.database.specs.Obeys.{Obeys};
+    ghost use Rattle.database.specs.Obeys.{AnswersStep};
     ghost use Rattle.database.specs.Closing.{HasLived, IsClosed, IsClosingRefused};
 
     /// Begins a transaction, which reads the rows that are committed now, and what it writes. 62 may be open.
     pub fn begin(&self) -> Result<Transaction<'_, D, R>, Fault>
-        ensures ok { IfOk result (λ transaction. MadeInRun D.state (λ old new. Obeys D.state old new Begin began_of (Ok transaction.session))) }
-        ensures err { IfErr result (λ fault. MadeInRun D.state (λ old new. Obeys D.state old new Begin began_of (Err fault))) }
+        ensures ok { IfOk result (λ transaction. AnswersStep Begin began_of (Ok transaction.session)) }
+        ensures err { IfErr result (λ fault. AnswersStep Begin began_of (Err fault)) }
     {
         match self.shared.desk(&self.rt).begin() {
             Ok(session) => Ok(Transaction::new(&self.rt, &self.shared, session)),

@@ -1,6 +1,3 @@
-ghost use Rattle.std.specs.Option.{ForSome};
-ghost use Rattle.database.specs.Committing.{HasEnded};
-
 use crate::committing::finish;
 use crate::error::CommitError;
 use crate::opened::OpenedRoom;
@@ -27,21 +24,18 @@ pub struct Desk<D: Pmem> {
     pub lacks_memory: bool,
     /// Why nothing more will be covered: what the committer was refused with.
     pub ended: Option<Fault>,
-    ghost has_ended: { ForSome ended (HasEnded D.state) },
 }
 
 impl<D: Pmem + Drop> Desk<D> {
-    ghost use Rattle.std.specs.Prelude.{IsTrue, is_some, IfSome};
+    ghost use Rattle.std.specs.Prelude.{IsTrue, is_some};
     ghost use Rattle.base.specs.declared.step.Step.TheVariants.{Begin, Abort};
     ghost use Rattle.database.specs.Replies.{began_of, done_of};
-    ghost use Rattle.database.specs.Runs.{MadeInRun};
-    ghost use Rattle.database.specs.Obeys.{Obeys};
-    ghost use Rattle.database.specs.Committing.{TellsWait};
+    ghost use Rattle.database.specs.Obeys.{AnswersStep};
 
     /// Opens a transaction. The number of its session.
     pub fn begin(&mut self) -> Result<u8, Fault>
         requires there { IsTrue (is_some self.old.room) }
-        ensures made { MadeInRun D.state (λ old new. Obeys D.state old new Begin began_of result) }
+        ensures made { AnswersStep Begin began_of result }
     {
         let Some(room) = &mut self.room else {
             unreachable!()
@@ -61,7 +55,7 @@ impl<D: Pmem + Drop> Desk<D> {
     /// Gives up the transaction of this session.
     pub fn abort(&mut self, session: u8) -> Result<(), Fault>
         requires there { IsTrue (is_some self.old.room) }
-        ensures made { MadeInRun D.state (λ old new. Obeys D.state old new (Abort session) done_of result) }
+        ensures made { AnswersStep (Abort session) done_of result }
     {
         let Some(room) = &mut self.room else {
             unreachable!()
@@ -70,9 +64,7 @@ impl<D: Pmem + Drop> Desk<D> {
     }
 
     /// The answer to the session's commit, once there is one.
-    pub fn answer(&mut self, session: u8) -> Option<Result<Ts, CommitError>>
-        ensures { IfSome result (TellsWait D.state session) }
-    {
+    pub fn answer(&mut self, session: u8) -> Option<Result<Ts, CommitError>> {
         let Some(room) = &mut self.room else {
             return None;
         };

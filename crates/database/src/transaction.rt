@@ -1,7 +1,6 @@
 ghost use Rattle.base.specs.declared.step.Step.TheVariants.{Abort};
 ghost use Rattle.database.specs.Replies.{done_of};
-ghost use Rattle.database.specs.Runs.{MadeInRun};
-ghost use Rattle.database.specs.Obeys.{Obeys};
+ghost use Rattle.database.specs.Obeys.{AnswersStep};
 
 use crate::committing::put_collecting;
 use crate::desk::Shared;
@@ -39,20 +38,20 @@ impl<D: Pmem + Drop, R: Wait> Drop for Transaction<'_, D, R> {
 
 // Aborts the transaction of this session.
 fn give_up<D: Pmem + Drop, R: Wait>(rt: &R, shared: &Shared<D>, session: u8) -> Result<(), Fault>
-    ensures { MadeInRun D.state (λ old new. Obeys D.state old new (Abort session) done_of result) }
+    ensures { AnswersStep (Abort session) done_of result }
 {
     let mut desk = shared.desk(rt);
+    let aborted = desk.abort(session);
     desk.leave();
-    desk.abort(session)
+    aborted
 }
 
 impl<'a, D: Pmem + Drop, R: Wait> Transaction<'a, D, R> {
     ghost use Rattle.std.specs.Prelude.{◌≡◌, Ok, Err, MatchResult};
     ghost use Rattle.base.specs.declared.step.Step.TheVariants.{Get, Scan, Delete, Abort};
     ghost use Rattle.database.specs.Replies.{row_of, rows_of, done_of};
-    ghost use Rattle.database.specs.Runs.{MadeInRun};
-    ghost use Rattle.database.specs.Obeys.{Obeys, PutsCollecting};
-    ghost use Rattle.database.specs.Committing.{TellsCommit};
+    ghost use Rattle.database.specs.Obeys.{AnswersStep};
+    ghost use Rattle.database.specs.Committing.{AnswersPut};
 
     pub(crate) fn new(
         rt: &'a R,
@@ -71,7 +70,7 @@ impl<'a, D: Pmem + Drop, R: Wait> Transaction<'a, D, R> {
 
     /// The row under the key.
     pub fn get(&self, key: Key) -> Result<Option<Row>, Fault>
-        ensures { MadeInRun D.state (λ old new. Obeys D.state old new (Get self.now.session key) row_of result) }
+        ensures { AnswersStep (Get self.now.session key) row_of result }
     {
         let mut desk = self.shared.desk(self.rt);
         let Some(room) = &mut desk.room else {
@@ -82,8 +81,8 @@ impl<'a, D: Pmem + Drop, R: Wait> Transaction<'a, D, R> {
 
     /// The rows of the table at the keys from `lo` to `hi`, both included, by rising key.
     pub fn scan(&self, table: u16, lo: u64, hi: u64) -> Result<Vec<(Key, Row)>, Fault>
-        ensures { MatchResult result (λ rows. MadeInRun D.state (λ old new. Obeys D.state old new (Scan self.now.session table lo hi) rows_of (Ok rows.items)))
-            (λ fault. MadeInRun D.state (λ old new. Obeys D.state old new (Scan self.now.session table lo hi) rows_of (Err fault))) }
+        ensures { MatchResult result (λ rows. AnswersStep (Scan self.now.session table lo hi) rows_of (Ok rows.items))
+            (λ fault. AnswersStep (Scan self.now.session table lo hi) rows_of (Err fault)) }
     {
         let mut desk = self.shared.desk(self.rt);
         let Some(room) = &mut desk.room else {
@@ -97,7 +96,7 @@ impl<'a, D: Pmem + Drop, R: Wait> Transaction<'a, D, R> {
 
     /// Writes the row under the key. Where no slot is free, those that nobody needs are collected first.
     pub fn put(&mut self, key: Key, row: Row) -> Result<(), Fault>
-        ensures { MadeInRun D.state (λ old new. PutsCollecting D.state old new self.old.session key row result) }
+        ensures { AnswersPut self.old.session key row result }
     {
         let mut desk = self.shared.desk(self.rt);
         let Some(room) = &mut desk.room else {
@@ -108,7 +107,7 @@ impl<'a, D: Pmem + Drop, R: Wait> Transaction<'a, D, R> {
 
     /// Deletes the row under the key, if there is one.
     pub fn delete(&mut self, key: Key) -> Result<(), Fault>
-        ensures { MadeInRun D.state (λ old new. Obeys D.state old new (Delete self.old.session key) done_of result) }
+        ensures { AnswersStep (Delete self.old.session key) done_of result }
     {
         let mut desk = self.shared.desk(self.rt);
         let Some(room) = &mut desk.room else {
@@ -119,7 +118,7 @@ impl<'a, D: Pmem + Drop, R: Wait> Transaction<'a, D, R> {
 
     /// Gives the transaction up, as a drop does, and tells of a device that has failed.
     pub fn abort(mut self) -> Result<(), Fault>
-        ensures { MadeInRun D.state (λ old new. Obeys D.state old new (Abort self.session) done_of result) }
+        ensures { AnswersStep (Abort self.entry.session) done_of result }
     {
         self.is_over = true;
         give_up(self.rt, self.shared, self.session)
@@ -129,9 +128,7 @@ impl<'a, D: Pmem + Drop, R: Wait> Transaction<'a, D, R> {
     /// is over; `CommitError` tells whether something of it may be committed. `Conflict` is answered once the commit in the
     /// way is covered or given up, so that whoever begins again then sees it. `OutOfMemory` is answered where the committer
     /// was refused memory a hundred times in a row.
-    pub fn commit(mut self) -> Result<Option<Ts>, CommitError>
-        ensures { TellsCommit D.state self.session result }
-    {
+    pub fn commit(mut self) -> Result<Option<Ts>, CommitError> {
         self.is_over = true;
         self.shared.commit(self.rt, self.session)
     }

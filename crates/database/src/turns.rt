@@ -71,12 +71,8 @@ pub fn collect<D: Pmem + Drop>(desk: &mut Desk<D>) -> Turn {
 }
 
 impl<D: Pmem> Desk<D> {
-    ghost use Rattle.database.specs.Committing.{HasEnded};
-
     // What a refusal of a tick comes to: want of memory passes, and nothing else does.
-    fn after_refusal(&mut self, fault: Fault) -> Turn
-        requires refused { HasEnded D.state fault }
-    {
+    fn after_refusal(&mut self, fault: Fault) -> Turn {
         match fault {
             Fault::OutOfMemory => {
                 self.lacks_memory = true;

@@ -35,12 +35,8 @@ impl Patience {
 }
 
 impl<D: Pmem + Drop> Shared<D> {
-    ghost use Rattle.database.specs.Committing.{TellsCommit, TellsPrepare, TellsWait};
-
     /// Commits the transaction of this session, and ends it.
-    pub fn commit<R: Wait>(&self, rt: &R, session: u8) -> Result<Option<Ts>, CommitError>
-        ensures { TellsCommit D.state session result }
-    {
+    pub fn commit<R: Wait>(&self, rt: &R, session: u8) -> Result<Option<Ts>, CommitError> {
         match self.prepare(rt, session) {
             Ok(true) => match self.wait(rt, session) {
                 Ok(timestamp) => Ok(Some(timestamp)),
@@ -58,9 +54,7 @@ impl<D: Pmem + Drop> Shared<D> {
     }
 
     // Draws and stamps, once the committer has reserved timestamps. Whether something was written.
-    fn prepare<R: Wait>(&self, rt: &R, session: u8) -> Result<bool, CommitError>
-        ensures { TellsPrepare D.state session result }
-    {
+    fn prepare<R: Wait>(&self, rt: &R, session: u8) -> Result<bool, CommitError> {
         let mut desk = self.desk(rt);
         let mut patience = Patience::new();
         for _ in rt.forever() {
@@ -82,9 +76,7 @@ impl<D: Pmem + Drop> Shared<D> {
     }
 
     // Waits until the commit is covered, or won't be.
-    fn wait<R: Wait>(&self, rt: &R, session: u8) -> Result<Ts, CommitError>
-        ensures { TellsWait D.state session result }
-    {
+    fn wait<R: Wait>(&self, rt: &R, session: u8) -> Result<Ts, CommitError> {
         let mut desk = self.desk(rt);
         let mut patience = Patience::new();
         for _ in rt.forever() {
