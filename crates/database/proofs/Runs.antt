@@ -120,7 +120,7 @@ run_of state room opened r = record {
 -- the steps that the room makes end a run
 pub ends-run : {D : Type 0} {G : Ghosts D} (state : D → Device) (old new : Room D G) (steps : List Step) (replies : List Reply) (Fact : List Step → List Reply → Type 0)
     → ∥ HasRun state old ∥₁ → LeadsAlong state old new steps replies → Fact steps replies → EndsRun Fact
-  unfolding led_from
+unfolding led_from
 ends-run state old new steps replies Fact run leads fact =
     ∥∥₁_map run (λ r.
     (r.0, device_of state new, r.1.steps, steps, r.1.replies, replies, run_of state new r.0 (led_from state old new steps replies r.0 r.1 leads), fact))
