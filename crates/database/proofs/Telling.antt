@@ -1,21 +1,20 @@
 -- What a put and a commit make of a run from an opening.
 use Rattle.std.proofs.Common.{◌≡◌, ◌⊎◌, inl, inr, ℕ, Bool, true, false, List, [], ◌∷◌, ◌++◌, refl, subst}
-use Rattle.std.specs.Prelude.{⊤, Option, Some, None, Result, Ok, Err, replicate}
+use Rattle.std.specs.Prelude.{⊤, Option, Some, None, Result, Ok, Err, IfOk, replicate}
 use Rattle.base.specs.declared.fault.Fault.{Fault}
 use Rattle.base.specs.declared.key.Key.{Key}
 use Rattle.base.specs.declared.step.Step.{Step}
-use Rattle.base.specs.declared.step.Step.TheVariants.{Put, Draw, Stamp, Poll, End, Collect, Commit}
+use Rattle.base.specs.declared.step.Step.TheVariants.{Put, Draw, Stamp, Poll, End, Collect}
 use Rattle.base.specs.declared.step.Reply.{Reply}
-use Rattle.base.specs.declared.step.Reply.TheVariants.{Refused as IsRefused}
 use Rattle.pmem.specs.Device.{Device}
 use Rattle.pmem.specs.declared.device.Pmem.{Ghosts}
 use Rattle.room.specs.declared.room.Room.{Room}
 use Rattle.database.specs.declared.error.CommitError.{CommitError}
 use Rattle.database.specs.declared.error.CommitError.TheVariants.{Refused, Open}
 use Rattle.database.specs.Replies.{done_of, drawn_of, stamped_of, committed_of}
-use Rattle.database.specs.Runs.{HasRun, Leads, LeadsAlong, EndsRun}
+use Rattle.database.specs.Runs.{HasRun, LeadsAlong, EndsRun}
 use Rattle.database.specs.Obeys.{Obeys, Repeats, IsStep, PutsCollecting, StampsAll, Prepares, Finishes}
-use Rattle.database.specs.Committing.{PutsAgain, AnswersPut, DrawsAndStamps, DrawsAndEnds, PollsAndEnds, IsPreparation, IsPrepared, IsAcknowledged, IsNotFinished, HasEnded}
+use Rattle.database.specs.Committing.{PutsAgain, AnswersPut, DrawsAndStamps, DrawsAndEnds, PollsAndEnds, IsPreparation, IsPrepared, IsAcknowledged}
 use Rattle.database.proofs.Runs.{leads-one, leads-run, leads-join, ends-run}
 
 -- one step, others like each other, and a last one
@@ -79,14 +78,8 @@ pub is-acknowledged : {D : Type 0} {G : Ghosts D} (state : D → Device) (old ne
     → ∥ HasRun state old ∥₁ → Finishes state old new session (Ok (Some t)) → IsAcknowledged session t
 is-acknowledged state old new session t run (mid, polls, last) = polled_so state old new session t (Ok tt) _ (λ steps replies is. is) run mid polls last
 
-pub is-not-finished : {D : Type 0} {G : Ghosts D} (state : D → Device) (old new : Room D G) (session : ℕ) (fault : Fault)
-    → ∥ HasRun state old ∥₁ → Finishes state old new session (Err fault) → IsNotFinished session fault
-is-not-finished state old new session fault run (inl one) =
-    ends-run state old new (Poll session ∷ []) (one.0 ∷ []) _ run (leads-one state old new (Poll session) one.0 one.1) (inl (one.0, refl, refl, one.2))
-is-not-finished state old new session fault run (inr (mid, t, polls, last)) = polled_so state old new session t (Err fault) _ (λ steps replies is. inr (t, is)) run mid polls last
-
-pub has-ended : {D : Type 0} {G : Ghosts D} (state : D → Device) (old new : Room D G) (reply : Reply) (fault : Fault)
-    → ∥ HasRun state old ∥₁ → Leads state old new Commit reply → reply ≡ IsRefused fault → HasEnded fault
-has-ended state old new reply fault run leads is =
-    ends-run state old new (Commit ∷ []) (IsRefused fault ∷ []) _ run
-    (leads-one state old new Commit (IsRefused fault) (subst (λ (r : Reply). Leads state old new Commit r) is leads)) (refl, refl)
+-- where it returns that it is whole, or that nothing was written
+pub prepared-ok : {D : Type 0} {G : Ghosts D} (state : D → Device) (old new : Room D G) (session : ℕ) (result : Result Bool CommitError)
+    → ∥ HasRun state old ∥₁ → Prepares state old new session result → IfOk result (λ wrote. IsPrepared session (Ok wrote))
+prepared-ok state old new session (Ok wrote) run prepares = is-prepared state old new session (Ok wrote) run prepares
+prepared-ok state old new session (Err error) run prepares = tt

@@ -1,12 +1,11 @@
--- What a put and a commit make of a run, and what a commit of several threads is told.
+-- What a put and a commit make of a run.
 use Rattle.std.specs.Prelude.{◌≡◌, ◌⊎◌, ℕ, Bool, true, false, List, [], ◌∷◌, ◌++◌, replicate, ⊤, Option, Some, None, Result, Ok, Err}
 use Rattle.base.specs.declared.fault.Fault.{Fault}
-use Rattle.base.specs.declared.fault.Fault.TheVariants.{SlotsOut, OutOfMemory, TimestampsOut}
+use Rattle.base.specs.declared.fault.Fault.TheVariants.{SlotsOut}
 use Rattle.base.specs.declared.key.Key.{Key}
 use Rattle.base.specs.declared.step.Step.{Step}
-use Rattle.base.specs.declared.step.Step.TheVariants.{Put, Draw, Stamp, Poll, End, Collect, Commit as Tick}
+use Rattle.base.specs.declared.step.Step.TheVariants.{Put, Draw, Stamp, Poll, End, Collect}
 use Rattle.base.specs.declared.step.Reply.{Reply}
-use Rattle.base.specs.declared.step.Reply.TheVariants.{Refused as IsRefused}
 use Rattle.database.specs.declared.error.CommitError.{CommitError}
 use Rattle.database.specs.declared.error.CommitError.TheVariants.{Refused, Open}
 use Rattle.database.specs.Replies.{done_of, drawn_of, stamped_of, committed_of}
@@ -76,30 +75,7 @@ IsPrepared session result = EndsRun (IsPreparation session result)
 abbrev pub IsAcknowledged : ℕ → ℕ → Type 0
 IsAcknowledged session t = EndsRun (PollsAndEnds session t (Ok tt))
 
--- the poll, or the end after it, was refused
-abbrev pub IsNotFinished : ℕ → Fault → Type 0
-IsNotFinished session fault =
-    EndsRun (λ steps replies. IsStep (Poll session) committed_of (Err fault) steps replies ⊎ ((t : ℕ) × PollsAndEnds session t (Err fault) steps replies))
-
--- the committer was refused with this fault, and so it ended
-abbrev pub HasEnded : Fault → Type 0
-HasEnded fault = EndsRun (λ steps replies. (steps ≡ Tick ∷ []) × (replies ≡ IsRefused fault ∷ []))
-
--- What a wait for a commit that was drawn is told. Nothing of it will be committed where the committer ended with the last record
--- number; it isn't known where a step was refused, the committer ended otherwise, or was refused memory too often
-abbrev pub TellsWait : ℕ → Result ℕ CommitError → Type 0
-TellsWait session (Ok t) = IsAcknowledged session t
-TellsWait session (Err (Refused fault)) = (fault ≡ TimestampsOut) × HasEnded fault
-TellsWait session (Err (Open fault)) = IsNotFinished session fault ⊎ (HasEnded fault ⊎ (fault ≡ OutOfMemory))
-
--- What a preparation is told. Where nothing was drawn the committer has ended, or was refused memory too often
-abbrev pub TellsPreparation : ℕ → Result Bool CommitError → Type 0
-TellsPreparation session (Ok wrote) = IsPrepared session (Ok wrote)
-TellsPreparation session (Err (Open fault)) = IsPrepared session (Err (Open fault))
-TellsPreparation session (Err (Refused fault)) = IsPrepared session (Err (Refused fault)) ⊎ (HasEnded fault ⊎ (fault ≡ OutOfMemory))
-
--- What a commit is told: by its preparation, and where something was written by the wait after it
-abbrev pub TellsCommit : ℕ → Result (Option ℕ) CommitError → Type 0
-TellsCommit session (Ok None) = IsPrepared session (Ok false)
-TellsCommit session (Ok (Some t)) = IsPrepared session (Ok true) × TellsWait session (Ok t)
-TellsCommit session (Err error) = TellsPreparation session (Err error) ⊎ (IsPrepared session (Ok true) × TellsWait session (Err error))
+-- What a commit returns: None where nothing was written, and else its timestamp, once it is covered
+abbrev pub TellsCommit : ℕ → Option ℕ → Type 0
+TellsCommit session None = IsPrepared session (Ok false)
+TellsCommit session (Some t) = IsPrepared session (Ok true) × IsAcknowledged session t

@@ -27,10 +27,11 @@ pub struct Desk<D: Pmem> {
 }
 
 impl<D: Pmem + Drop> Desk<D> {
-    ghost use Rattle.std.specs.Prelude.{IsTrue, is_some};
+    ghost use Rattle.std.specs.Prelude.{IsTrue, is_some, IfSome, IfOk};
     ghost use Rattle.base.specs.declared.step.Step.TheVariants.{Begin, Abort};
     ghost use Rattle.database.specs.Replies.{began_of, done_of};
     ghost use Rattle.database.specs.Obeys.{AnswersStep};
+    ghost use Rattle.database.specs.Committing.{IsAcknowledged};
 
     /// Opens a transaction. The number of its session.
     pub fn begin(&mut self) -> Result<u8, Fault>
@@ -64,7 +65,9 @@ impl<D: Pmem + Drop> Desk<D> {
     }
 
     /// The answer to the session's commit, once there is one.
-    pub fn answer(&mut self, session: u8) -> Option<Result<Ts, CommitError>> {
+    pub fn answer(&mut self, session: u8) -> Option<Result<Ts, CommitError>>
+        ensures { IfSome result (λ answer. IfOk answer (IsAcknowledged session)) }
+    {
         let Some(room) = &mut self.room else {
             return None;
         };
