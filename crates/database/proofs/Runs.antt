@@ -18,7 +18,7 @@ use Rattle.pmem.specs.declared.device.Pmem.{Ghosts}
 use Rattle.room.specs.declared.room.Room.{Room}
 use Rattle.room.specs.Room.{Shows, RunsTo, device_of}
 use Rattle.database.specs.Opening.{IsFresh}
-use Rattle.database.specs.Runs.{Leads, GoesAlong, LeadsAlong, IsRunFrom, HasRun, IsRunOf, EndsRun}
+use Rattle.database.specs.Runs.{Leads, GoesAlong, LeadsAlong, IsRunFrom, HasRun, IsRunOf, EndsSomeRun}
 use Rattle.database.specs.Obeys.{Obeys, IsStep, AnswersStep}
 use Rattle.database.specs.Closing.{StandsThrough, Lives, HasLived}
 
@@ -119,7 +119,7 @@ run_of state room opened r = record {
 
 -- the steps that the room makes end a run
 pub ends-run : {D : Type 0} {G : Ghosts D} (state : D → Device) (old new : Room D G) (steps : List Step) (replies : List Reply) (Fact : List Step → List Reply → Type 0)
-    → ∥ HasRun state old ∥₁ → LeadsAlong state old new steps replies → Fact steps replies → EndsRun Fact
+    → ∥ HasRun state old ∥₁ → LeadsAlong state old new steps replies → Fact steps replies → EndsSomeRun Fact
 unfolding led_from
 ends-run state old new steps replies Fact run leads fact =
     ∥∥₁_map run (λ r.

@@ -12,7 +12,7 @@ use Rattle.room.specs.declared.room.Room.{Room}
 use Rattle.database.specs.declared.error.CommitError.{CommitError}
 use Rattle.database.specs.declared.error.CommitError.TheVariants.{Refused, Open}
 use Rattle.database.specs.Replies.{done_of, drawn_of, stamped_of, committed_of}
-use Rattle.database.specs.Runs.{HasRun, LeadsAlong, EndsRun}
+use Rattle.database.specs.Runs.{HasRun, LeadsAlong, EndsSomeRun}
 use Rattle.database.specs.Obeys.{Obeys, Repeats, IsStep, PutsCollecting, StampsAll, Prepares, Finishes}
 use Rattle.database.specs.Committing.{PutsAgain, AnswersPut, DrawsAndStamps, DrawsAndEnds, PollsAndEnds, IsPreparation, IsPrepared, IsAcknowledged}
 use Rattle.database.proofs.Runs.{leads-one, leads-run, leads-join, ends-run}
@@ -46,21 +46,21 @@ answers-put state old new session key row result run (inr (refused, collected, f
 
 stamped_so : {D : Type 0} {G : Ghosts D} (state : D → Device) (old new : Room D G) (session t : ℕ) (result : Result ⊤ Fault) (Fact : List Step → List Reply → Type 0)
     → ((steps : List Step) (replies : List Reply) → DrawsAndStamps session t result steps replies → Fact steps replies)
-    → ∥ HasRun state old ∥₁ → (drawn : Room D G) → Obeys state old drawn (Draw session) drawn_of (Ok (Some t)) → StampsAll state drawn new session result → EndsRun Fact
+    → ∥ HasRun state old ∥₁ → (drawn : Room D G) → Obeys state old drawn (Draw session) drawn_of (Ok (Some t)) → StampsAll state drawn new session result → EndsSomeRun Fact
 stamped_so state old new session t result Fact so run drawn draws (mid, stamps, last) =
     ends-run state old new _ _ Fact run (leads_through state old drawn mid new (Draw session) drawn_of _ (Stamp session) (Stamp session) stamped_of _ draws stamps last)
     (so _ _ (record { count = stamps.0; drawn = draws.0; stamps = stamps.1; last = last.0; steps_are = refl; replies_are = refl; drew = draws.2; tells = last.2 }))
 
 ended_so : {D : Type 0} {G : Ghosts D} (state : D → Device) (old new : Room D G) (session : ℕ) (result : Result ⊤ Fault) (Fact : List Step → List Reply → Type 0)
     → ((steps : List Step) (replies : List Reply) → DrawsAndEnds session result steps replies → Fact steps replies)
-    → ∥ HasRun state old ∥₁ → (drawn : Room D G) → Obeys state old drawn (Draw session) drawn_of (Ok None) → Obeys state drawn new (End session) done_of result → EndsRun Fact
+    → ∥ HasRun state old ∥₁ → (drawn : Room D G) → Obeys state old drawn (Draw session) drawn_of (Ok None) → Obeys state drawn new (End session) done_of result → EndsSomeRun Fact
 ended_so state old new session result Fact so run drawn draws last =
     ends-run state old new _ _ Fact run (leads_two state old drawn new (Draw session) drawn_of _ (End session) done_of result draws last)
     (so _ _ (record { drawn = draws.0; last = last.0; steps_are = refl; replies_are = refl; drew = draws.2; tells = last.2 }))
 
 polled_so : {D : Type 0} {G : Ghosts D} (state : D → Device) (old new : Room D G) (session t : ℕ) (result : Result ⊤ Fault) (Fact : List Step → List Reply → Type 0)
     → ((steps : List Step) (replies : List Reply) → PollsAndEnds session t result steps replies → Fact steps replies)
-    → ∥ HasRun state old ∥₁ → (mid : Room D G) → Obeys state old mid (Poll session) committed_of (Ok (Some t)) → Obeys state mid new (End session) done_of result → EndsRun Fact
+    → ∥ HasRun state old ∥₁ → (mid : Room D G) → Obeys state old mid (Poll session) committed_of (Ok (Some t)) → Obeys state mid new (End session) done_of result → EndsSomeRun Fact
 polled_so state old new session t result Fact so run mid polls last =
     ends-run state old new _ _ Fact run (leads_two state old mid new (Poll session) committed_of _ (End session) done_of result polls last)
     (so _ _ (record { polled = polls.0; last = last.0; steps_are = refl; replies_are = refl; told = polls.2; tells = last.2 }))

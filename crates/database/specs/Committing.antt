@@ -9,7 +9,7 @@ use Rattle.base.specs.declared.step.Reply.{Reply}
 use Rattle.database.specs.declared.error.CommitError.{CommitError}
 use Rattle.database.specs.declared.error.CommitError.TheVariants.{Refused, Open}
 use Rattle.database.specs.Replies.{done_of, drawn_of, stamped_of, committed_of}
-use Rattle.database.specs.Runs.{EndsRun}
+use Rattle.database.specs.Runs.{EndsSomeRun}
 use Rattle.database.specs.Obeys.{IsStep, all_stamped}
 
 -- ---- a put
@@ -28,7 +28,7 @@ pub record PutsAgain (session : ℕ) (key : Key) (row : List ℕ) (result : Resu
 -- that, or a put alone, ends a run from an opening
 abbrev pub AnswersPut : ℕ → Key → List ℕ → Result ⊤ Fault → Type 0
 AnswersPut session key row result =
-    EndsRun (λ steps replies. IsStep (Put session key row) done_of result steps replies ⊎ PutsAgain session key row result steps replies)
+    EndsSomeRun (λ steps replies. IsStep (Put session key row) done_of result steps replies ⊎ PutsAgain session key row result steps replies)
 
 -- ---- a commit
 
@@ -69,11 +69,11 @@ IsPreparation session (Err (Open fault)) steps replies = (t : ℕ) × DrawsAndSt
 IsPreparation session (Err (Refused fault)) steps replies = IsStep (Draw session) drawn_of (Err fault) steps replies ⊎ DrawsAndEnds session (Err fault) steps replies
 
 abbrev pub IsPrepared : ℕ → Result Bool CommitError → Type 0
-IsPrepared session result = EndsRun (IsPreparation session result)
+IsPrepared session result = EndsSomeRun (IsPreparation session result)
 
 -- the session's own poll told its timestamp, so that is covered, and the transaction is ended
 abbrev pub IsAcknowledged : ℕ → ℕ → Type 0
-IsAcknowledged session t = EndsRun (PollsAndEnds session t (Ok tt))
+IsAcknowledged session t = EndsSomeRun (PollsAndEnds session t (Ok tt))
 
 -- What a commit returns: None where nothing was written, and else its timestamp, once it is covered
 abbrev pub TellsCommit : ℕ → Option ℕ → Type 0

@@ -15,7 +15,7 @@ use Rattle.room.specs.Room.{Shows, RunsTo}
 use Rattle.database.specs.declared.error.CommitError.{CommitError}
 use Rattle.database.specs.declared.error.CommitError.TheVariants.{Refused, Open}
 use Rattle.database.specs.Replies.{done_of, drawn_of, stamped_of, committed_of}
-use Rattle.database.specs.Runs.{Leads, EndsRun}
+use Rattle.database.specs.Runs.{Leads, EndsSomeRun}
 
 -- the room makes this step, and what is returned is read off its reply
 abbrev pub Obeys : {D A : Type 0} → {G : Ghosts D} → (D → Device) → Room D G → Room D G → Step → (Reply → Result A Fault) → Result A Fault → Type 0
@@ -27,7 +27,7 @@ IsStep step read result steps replies = (reply : Reply) × (steps ≡ step ∷ [
 
 -- such a step ends a run from an opening
 abbrev pub AnswersStep : {A : Type 0} → Step → (Reply → Result A Fault) → Result A Fault → Type 0
-AnswersStep step read result = EndsRun (IsStep step read result)
+AnswersStep step read result = EndsSomeRun (IsStep step read result)
 
 -- the room makes this step so many times, and no other
 abbrev pub Repeats : {D : Type 0} → {G : Ghosts D} → (D → Device) → Room D G → Room D G → Step → Type 0

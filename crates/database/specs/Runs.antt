@@ -64,6 +64,6 @@ pub record IsRunOf (opened now : Device) (steps : List Step) (replies : List Rep
   pub runs : (history drawn : List Commit) (next : ℕ) (lost : List ℕ) → Stands (image_of opened) history drawn next → RunsOn opened now history next lost steps replies
 
 -- a run from the opening of a device ends in steps and replies of which this holds
-abbrev pub EndsRun : (List Step → List Reply → Type 0) → Type 0
-EndsRun Fact =
+abbrev pub EndsSomeRun : (List Step → List Reply → Type 0) → Type 0
+EndsSomeRun Fact =
     ∥ ((opened now : Device) × (before steps : List Step) × (earlier replies : List Reply) × IsRunOf opened now (before ++ steps) (earlier ++ replies) × Fact steps replies) ∥₁
