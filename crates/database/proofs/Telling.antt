@@ -67,9 +67,9 @@ polled_so state old new session t result Fact so run mid polls last =
 
 pub is-prepared : {D : Type 0} {G : Ghosts D} (state : D → Device) (old new : Room D G) (session : ℕ) (result : Result Bool CommitError)
     → ∥ HasRun state old ∥₁ → Prepares state old new session result → IsPrepared session result
-is-prepared state old new session (Ok true) run (t, drawn, draws, stamps) = stamped_so state old new session t (Ok tt) _ (λ steps replies is. (t, is)) run drawn draws stamps
+is-prepared state old new session (Ok true) run (t, (drawn, draws, stamps)) = stamped_so state old new session t (Ok tt) _ (λ steps replies is. (t, is)) run drawn draws stamps
 is-prepared state old new session (Ok false) run (drawn, draws, last) = ended_so state old new session (Ok tt) _ (λ steps replies is. is) run drawn draws last
-is-prepared state old new session (Err (Open fault)) run (t, drawn, draws, stamps) = stamped_so state old new session t (Err fault) _ (λ steps replies is. (t, is)) run drawn draws stamps
+is-prepared state old new session (Err (Open fault)) run (t, (drawn, draws, stamps)) = stamped_so state old new session t (Err fault) _ (λ steps replies is. (t, is)) run drawn draws stamps
 is-prepared state old new session (Err (Refused fault)) run (inl one) =
     ends-run state old new (Draw session ∷ []) (one.0 ∷ []) _ run (leads-one state old new (Draw session) one.0 one.1) (inl (one.0, refl, refl, one.2))
 is-prepared state old new session (Err (Refused fault)) run (inr (drawn, draws, last)) = ended_so state old new session (Err fault) _ (λ steps replies is. inr is) run drawn draws last

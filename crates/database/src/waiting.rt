@@ -69,9 +69,9 @@ impl<D: Pmem + Drop> Shared<D> {
                 return Err(CommitError::Refused(fault));
             }
             if let Some(room) = &mut desk.room {
-                match prepare(rt, room, session) {
-                    Err(CommitError::Refused(Fault::WindowFull)) => {}
-                    prepared => return prepared,
+                let prepared = prepare(rt, room, session);
+                if !matches!(prepared, Err(CommitError::Refused(Fault::WindowFull))) {
+                    return prepared;
                 }
             }
             if patience.is_over(desk.lacks_memory) {
