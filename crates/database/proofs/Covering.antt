@@ -1,5 +1,5 @@
 -- What the steps of a commit come to.
-use Rattle.std.proofs.Common.{◌≡◌, ◌⊎◌, inl, inr, ℕ, ◌+◌, Bool, true, false, cond, List, [], ◌∷◌, ◌++◌, Option, Some, None, refl, sym, ◌∙◌, ap, subst}
+use Rattle.std.proofs.Common.{◌≡◌, ℕ, ◌+◌, Bool, true, false, cond, List, [], ◌∷◌, ◌++◌, Option, Some, None, refl, sym, ◌∙◌, ap, subst}
 use Rattle.std.specs.Prelude.{⊤, replicate, Result, Ok, Err}
 use Rattle.std.proofs.lemmas.List.{replicate_more}
 use Rattle.base.specs.declared.fault.Fault.{Fault}
@@ -10,13 +10,13 @@ use Rattle.base.specs.declared.step.Reply.TheVariants.{Committed, Waiting, Done,
 use Rattle.base.specs.Commits.{Writes}
 use Rattle.base.specs.Lists.{is_nil}
 use Rattle.base.specs.Stands.{has_timestamp}
-use Rattle.machine.specs.Machine.{State, Session, Active, Drew, WroteNothing, Stepped, refused, answered, memory_refused, device_failed, polled, writes_of, state_drawn, next_state, final}
+use Rattle.machine.specs.Machine.{State, Session, Active, Drew, WroteNothing, Stepped, refused, answered, memory_refused, device_failed, polled, writes_of, state_drawn, final}
 use Rattle.pmem.specs.Device.{Device, IsOrderly}
 use Rattle.pmem.specs.declared.device.Pmem.{Ghosts}
 use Rattle.room.specs.declared.room.Room.{Room}
 use Rattle.room.specs.Room.{Shows, RunsTo}
 use Rattle.room.proofs.Runs.{run-none, run-then}
-use Rattle.database.specs.Replies.{committed_of, drawn_of, done_of}
+use Rattle.database.specs.Replies.{committed_of, drawn_of}
 use Rattle.database.specs.Runs.{Leads}
 use Rattle.database.specs.Obeys.{Obeys, Repeats, StampsAll, Covers, DrawsNothing}
 

@@ -1,5 +1,5 @@
 -- Runs from an opening.
-use Rattle.std.proofs.Common.{◌≡◌, ◌⊎◌, inl, inr, ℕ, List, [], ◌∷◌, ◌++◌, refl, ap, sym, subst}
+use Rattle.std.proofs.Common.{◌≡◌, inl, inr, ℕ, List, [], ◌∷◌, ◌++◌, refl, ap, sym, subst}
 use Rattle.std.specs.Prelude.{Result}
 use Rattle.std.proofs.Math.Logic.{∥∥₁_map}
 use Rattle.base.specs.declared.fault.Fault.{Fault}
@@ -8,7 +8,7 @@ use Rattle.base.specs.declared.step.Reply.{Reply}
 use Rattle.base.specs.Commits.{Commit}
 use Rattle.base.specs.Images.{Image}
 use Rattle.machine.specs.Machine.{State, Run, final, StandsAt, StandsAlong, StandsClosing}
-use Rattle.machine.specs.Openings.{OpensAs, StandsOpening}
+use Rattle.machine.specs.Openings.{OpensAs}
 use Rattle.machine.proofs.Growth.{Extends, extends-run}
 use Rattle.machine.proofs.Runs.{StandsAt-within}
 use Rattle.pmem.specs.Device.{Device, IsOrderly}
@@ -18,9 +18,9 @@ use Rattle.pmem.specs.declared.device.Pmem.{Ghosts}
 use Rattle.room.specs.declared.room.Room.{Room}
 use Rattle.room.specs.Room.{Shows, RunsTo, device_of}
 use Rattle.database.specs.Opening.{IsFresh}
-use Rattle.database.specs.Runs.{Leads, GoesAlong, LeadsAlong, IsRunFrom, HasRun, IsRunOf, EndsSomeRun}
+use Rattle.database.specs.Runs.{Leads, LeadsAlong, IsRunFrom, HasRun, IsRunOf, EndsSomeRun}
 use Rattle.database.specs.Obeys.{Obeys, IsStep, AnswersStep}
-use Rattle.database.specs.Closing.{StandsThrough, Lives, HasLived}
+use Rattle.database.specs.Closing.{HasLived}
 
 -- ---- one run after another
 

@@ -1,6 +1,6 @@
 -- What a put and a commit make of a run from an opening.
-use Rattle.std.proofs.Common.{◌≡◌, ◌⊎◌, inl, inr, ℕ, Bool, true, false, List, [], ◌∷◌, ◌++◌, refl, subst}
-use Rattle.std.specs.Prelude.{⊤, Option, Some, None, Result, Ok, Err, IfOk, replicate}
+use Rattle.std.proofs.Common.{inl, inr, ℕ, Bool, true, false, List, [], ◌∷◌, ◌++◌, refl}
+use Rattle.std.specs.Prelude.{⊤, Some, None, Result, Ok, Err, IfOk, replicate}
 use Rattle.base.specs.declared.fault.Fault.{Fault}
 use Rattle.base.specs.declared.key.Key.{Key}
 use Rattle.base.specs.declared.step.Step.{Step}
@@ -13,8 +13,8 @@ use Rattle.database.specs.declared.error.CommitError.{CommitError}
 use Rattle.database.specs.declared.error.CommitError.TheVariants.{Refused, Open}
 use Rattle.database.specs.Replies.{done_of, drawn_of, stamped_of, committed_of}
 use Rattle.database.specs.Runs.{HasRun, LeadsAlong, EndsSomeRun}
-use Rattle.database.specs.Obeys.{Obeys, Repeats, IsStep, PutsCollecting, StampsAll, Prepares, Finishes}
-use Rattle.database.specs.Committing.{PutsAgain, AnswersPut, DrawsAndStamps, DrawsAndEnds, PollsAndEnds, IsPreparation, IsPrepared, IsAcknowledged}
+use Rattle.database.specs.Obeys.{Obeys, Repeats, PutsCollecting, StampsAll, Prepares, Finishes}
+use Rattle.database.specs.Committing.{AnswersPut, DrawsAndStamps, DrawsAndEnds, PollsAndEnds, IsPrepared, IsAcknowledged}
 use Rattle.database.proofs.Runs.{leads-one, leads-run, leads-join, ends-run}
 
 -- one step, others like each other, and a last one

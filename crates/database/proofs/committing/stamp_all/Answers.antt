@@ -1,6 +1,5 @@
 use Rattle.std.proofs.Common.{◌∙◌, ap, Ok}
 use Rattle.base.specs.declared.step.Step.TheVariants.{Stamp}
-use Rattle.database.specs.Replies.{stamped_of}
 use Rattle.database.proofs.Covering.{repeats-none, repeats-more, obeys-as}
 use Rattle.database.proofs.committing.stamp_all.Goals as goal
 
