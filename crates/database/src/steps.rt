@@ -117,7 +117,7 @@ pub fn collect<D: Pmem + Drop>(room: &mut OpenedRoom<D>, places: u64)
     ensures { Repeats D.state room.old.room room.new.room Collect }
 {
     for _ in 0..places {
-        let reply = room.visit();
+        let reply = room.step(Step::Collect);
         drop(reply);
     }
 }
