@@ -1,5 +1,5 @@
 -- What the steps of a commit come to.
-use Rattle.std.proofs.Common.{◌≡◌, ◌⊎◌, inl, inr, ℕ, ◌+◌, Bool, true, false, cond, List, [], ◌∷◌, ◌++◌, Option, Some, None, refl, sym, ◌∙◌, ap, subst}
+use Rattle.std.proofs.Common.{◌≡◌, ℕ, ◌+◌, Bool, true, false, cond, List, [], ◌∷◌, ◌++◌, Option, Some, None, refl, sym, ◌∙◌, ap, subst}
 use Rattle.std.specs.Prelude.{⊤, replicate, Result, Ok, Err}
 use Rattle.std.proofs.lemmas.List.{replicate_more}
 use Rattle.base.specs.declared.fault.Fault.{Fault}
@@ -10,49 +10,39 @@ use Rattle.base.specs.declared.step.Reply.TheVariants.{Committed, Waiting, Done,
 use Rattle.base.specs.Commits.{Writes}
 use Rattle.base.specs.Lists.{is_nil}
 use Rattle.base.specs.Stands.{has_timestamp}
-use Rattle.machine.specs.Machine.{State, Session, Active, Drew, WroteNothing, Stepped, refused, answered, memory_refused, device_failed, polled, writes_of, state_drawn, next_state, final}
+use Rattle.machine.specs.Machine.{State, Session, Active, Drew, WroteNothing, Stepped, refused, answered, memory_refused, device_failed, polled, writes_of, state_drawn, final}
 use Rattle.pmem.specs.Device.{Device, IsOrderly}
 use Rattle.pmem.specs.declared.device.Pmem.{Ghosts}
 use Rattle.room.specs.declared.room.Room.{Room}
-use Rattle.room.specs.Room.{Shows, StepsTo, RunsTo}
+use Rattle.room.specs.Room.{Shows, RunsTo}
 use Rattle.room.proofs.Runs.{run-none, run-then}
-use Rattle.database.specs.Replies.{committed_of, drawn_of, done_of}
+use Rattle.database.specs.Replies.{committed_of, drawn_of}
+use Rattle.database.specs.Runs.{Leads}
 use Rattle.database.specs.Obeys.{Obeys, Repeats, StampsAll, Covers, DrawsNothing}
 
 -- ---- one step after another
 
 pub repeats-none : {D : Type 0} → {G : Ghosts D} → (state : D → Device) (room : Room D G) (step : Step) → IsOrderly (state room.device) → Repeats state room room step
-repeats-none state room step orderly = (0, λ q shows. ([], [], run-none state room q orderly shows))
+repeats-none state room step orderly = (0, [], λ q shows. ([], run-none state room q orderly shows))
 
 -- one more
-pub repeats-then : {D : Type 0} → {G : Ghosts D} → (state : D → Device) (old mid new : Room D G) (step : Step) (reply : State → Reply)
-    → Repeats state old mid step → ((q : State) → Shows state mid q → (q' : State) × StepsTo state mid new step (reply q) q q') → Repeats state old new step
-repeats-then state old mid new step reply repeats more = (
+pub repeats-then : {D : Type 0} → {G : Ghosts D} → (state : D → Device) (old mid new : Room D G) (step : Step) (reply : Reply)
+    → Repeats state old mid step → Leads state mid new step reply → Repeats state old new step
+repeats-then state old mid new step reply repeats leads = (
   repeats.0 + 1,
+  repeats.1 ++ reply ∷ [],
   λ q shows.
-      let runs = repeats.1 q shows in
-      let at = final q runs.1 in
-      let one = more at runs.2.shows in (
-        runs.0 ++ reply at ∷ [],
-        runs.1 ++ one.0 ∷ [],
-        subst (λ (steps : List Step). RunsTo state old new steps (runs.0 ++ reply at ∷ []) q (runs.1 ++ one.0 ∷ [])) (replicate_more repeats.0 step)
-            (run-then state old mid new (replicate repeats.0 step) runs.0 step (reply at) q runs.1 one.0 runs.2 one.1),
+      let runs = repeats.2 q shows in
+      let one = leads (final q runs.0) runs.1.shows in (
+        runs.0 ++ one.0 ∷ [],
+        subst (λ (steps : List Step). RunsTo state old new steps (repeats.1 ++ reply ∷ []) q (runs.0 ++ one.0 ∷ [])) (replicate_more repeats.0 step)
+            (run-then state old mid new (replicate repeats.0 step) repeats.1 step reply q runs.0 one.0 runs.1 one.1),
       ),
 )
 
 pub repeats-more : {D A : Type 0} → {G : Ghosts D} → (state : D → Device) (old mid new : Room D G) (step : Step) (read : Reply → Result A Fault) (result : Result A Fault)
     → Repeats state old mid step → Obeys state mid new step read result → Repeats state old new step
-repeats-more state old mid new step read result repeats obeys = (
-  repeats.0 + 1,
-  λ q shows.
-      let runs = repeats.1 q shows in
-      let one = obeys (final q runs.1) runs.2.shows in (
-        runs.0 ++ one.0 ∷ [],
-        runs.1 ++ one.1 ∷ [],
-        subst (λ (steps : List Step). RunsTo state old new steps (runs.0 ++ one.0 ∷ []) q (runs.1 ++ one.1 ∷ [])) (replicate_more repeats.0 step)
-            (run-then state old mid new (replicate repeats.0 step) runs.0 step one.0 q runs.1 one.1 runs.2 one.2),
-      ),
-)
+repeats-more state old mid new step read result repeats obeys = repeats-then state old mid new step obeys.0 repeats obeys.1
 
 -- what is returned may be named otherwise
 pub obeys-as : {D A : Type 0} → {G : Ghosts D} → (state : D → Device) (old new : Room D G) (step : Step) (read : Reply → Result A Fault) (result other : Result A Fault)
@@ -112,8 +102,8 @@ same_by_poll q q' n reply (device_failed none operates is same) = no_time (sym o
 pub stays-polled : {D A : Type 0} → {G : Ghosts D} → (state : D → Device) (old new : Room D G) (n : ℕ) (read : Reply → Result A Fault) (result : Result A Fault)
     → Obeys state old new (Poll n) read result → (q : State) → Shows state old q → Shows state new q
 stays-polled state old new n read result obeys q shows =
-    let a = obeys q shows in
-    subst (λ (s : State). Shows state new s) (same_by_poll q a.1 n a.0 a.2.stepped) a.2.shows
+    let a = obeys.1 q shows in
+    subst (λ (s : State). Shows state new s) (same_by_poll q a.0 n obeys.0 a.1.stepped) a.1.shows
 
 -- an end leaves the history and what is drawn as they are
 history_by_end : (q q' : State) (n : ℕ) (reply : Reply) → Stepped q (End n) reply q' → q'.history ≡ q.history
@@ -132,9 +122,9 @@ drawn_by_end q q' n reply (device_failed none operates is same) = ap (λ (s : St
 pub covers-finish : {D A : Type 0} → {G : Ghosts D} → (state : D → Device) (old mid new : Room D G) (n t : ℕ) (polls : Result (Option ℕ) Fault) (read : Reply → Result A Fault) (result : Result A Fault)
     → Obeys state old mid (Poll n) committed_of polls → polls ≡ Ok (Some t) → Obeys state mid new (End n) read result → Covers state old new t
 covers-finish state old mid new n t polls read result obeys is ends q shows =
-    let a = obeys q shows in
-    let b = ends a.1 a.2.shows in
-    (b.1, b.2.shows, ap (λ h. has_timestamp h t) (history_by_end a.1 b.1 n b.0 b.2.stepped) ∙ covered_by_poll q a.1 n t a.0 a.2.stepped (sym is ∙ a.3))
+    let a = obeys.1 q shows in
+    let b = ends.1 a.0 a.1.shows in
+    (b.0, b.1.shows, ap (λ h. has_timestamp h t) (history_by_end a.0 b.0 n ends.0 b.1.stepped) ∙ covered_by_poll q a.0 n t obeys.0 a.1.stepped (sym is ∙ obeys.2))
 
 -- ---- a draw that draws nothing
 
@@ -170,17 +160,17 @@ history_by_draw q q' n reply (device_failed free operates is same) = ap (λ (s :
 pub nothing-refused : {D : Type 0} → {G : Ghosts D} → (state : D → Device) (old new : Room D G) (n : ℕ) (fault : Fault)
     → Obeys state old new (Draw n) drawn_of (Err fault) → DrawsNothing state old new
 nothing-refused state old new n fault obeys q shows =
-    let a = obeys q shows in
-    (a.1, a.2.shows, drawn_by_draw q a.1 n a.0 a.2.stepped (ap has_drawn (sym a.3)), history_by_draw q a.1 n a.0 a.2.stepped)
+    let a = obeys.1 q shows in
+    (a.0, a.1.shows, drawn_by_draw q a.0 n obeys.0 a.1.stepped (ap has_drawn (sym obeys.2)), history_by_draw q a.0 n obeys.0 a.1.stepped)
 
 -- a draw of one who had written nothing, and an end
 pub nothing-ended : {D A : Type 0} → {G : Ghosts D} → (state : D → Device) (old mid new : Room D G) (n : ℕ) (read : Reply → Result A Fault) (result : Result A Fault)
     → Obeys state old mid (Draw n) drawn_of (Ok None) → Obeys state mid new (End n) read result → DrawsNothing state old new
 nothing-ended state old mid new n read result draws ends q shows =
-    let a = draws q shows in
-    let b = ends a.1 a.2.shows in (
-      b.1,
-      b.2.shows,
-      drawn_by_end a.1 b.1 n b.0 b.2.stepped ∙ drawn_by_draw q a.1 n a.0 a.2.stepped (ap has_drawn (sym a.3)),
-      history_by_end a.1 b.1 n b.0 b.2.stepped ∙ history_by_draw q a.1 n a.0 a.2.stepped,
+    let a = draws.1 q shows in
+    let b = ends.1 a.0 a.1.shows in (
+      b.0,
+      b.1.shows,
+      drawn_by_end a.0 b.0 n ends.0 b.1.stepped ∙ drawn_by_draw q a.0 n draws.0 a.1.stepped (ap has_drawn (sym draws.2)),
+      history_by_end a.0 b.0 n ends.0 b.1.stepped ∙ history_by_draw q a.0 n draws.0 a.1.stepped,
     )

@@ -1,3 +1,6 @@
 pub mod Replies
-pub mod Obeys
 pub mod Opening
+pub mod Runs
+pub mod Obeys
+pub mod Committing
+pub mod Closing

@@ -1,5 +1,5 @@
 -- What a call makes of a room.
-use Rattle.std.specs.Prelude.{◌≡◌, ◌⊎◌, ℕ, Bool, true, false, List, replicate, ⊤, Option, Some, None, Result, Ok, Err}
+use Rattle.std.specs.Prelude.{◌≡◌, ◌⊎◌, ℕ, Bool, true, false, List, [], ◌∷◌, replicate, ⊤, Option, Some, None, Result, Ok, Err}
 use Rattle.base.specs.declared.fault.Fault.{Fault}
 use Rattle.base.specs.declared.fault.Fault.TheVariants.{SlotsOut}
 use Rattle.base.specs.declared.step.Step.{Step}
@@ -11,19 +11,28 @@ use Rattle.base.specs.Stands.{has_timestamp}
 use Rattle.pmem.specs.Device.{Device}
 use Rattle.pmem.specs.declared.device.Pmem.{Ghosts}
 use Rattle.room.specs.declared.room.Room.{Room}
-use Rattle.room.specs.Room.{Shows, StepsTo, RunsTo}
+use Rattle.room.specs.Room.{Shows, RunsTo}
 use Rattle.database.specs.declared.error.CommitError.{CommitError}
 use Rattle.database.specs.declared.error.CommitError.TheVariants.{Refused, Open}
 use Rattle.database.specs.Replies.{done_of, drawn_of, stamped_of, committed_of}
+use Rattle.database.specs.Runs.{Leads, EndsSomeRun}
 
 -- the room makes this step, and what is returned is read off its reply
 abbrev pub Obeys : {D A : Type 0} → {G : Ghosts D} → (D → Device) → Room D G → Room D G → Step → (Reply → Result A Fault) → Result A Fault → Type 0
-Obeys state old new step read result = (q : State) → Shows state old q → (reply : Reply) × (q' : State) × StepsTo state old new step reply q q' × (result ≡ read reply)
+Obeys state old new step read result = (reply : Reply) × Leads state old new step reply × (result ≡ read reply)
 
--- it makes this step so many times, and no other
+-- this is one step, and what is returned is read off its reply
+abbrev pub IsStep : {A : Type 0} → Step → (Reply → Result A Fault) → Result A Fault → List Step → List Reply → Type 0
+IsStep step read result steps replies = (reply : Reply) × (steps ≡ step ∷ []) × (replies ≡ reply ∷ []) × (result ≡ read reply)
+
+-- such a step ends a run from an opening
+abbrev pub AnswersStep : {A : Type 0} → Step → (Reply → Result A Fault) → Result A Fault → Type 0
+AnswersStep step read result = EndsSomeRun (IsStep step read result)
+
+-- the room makes this step so many times, and no other
 abbrev pub Repeats : {D : Type 0} → {G : Ghosts D} → (D → Device) → Room D G → Room D G → Step → Type 0
 Repeats state old new step =
-    (count : ℕ) × ((q : State) → Shows state old q → (replies : List Reply) × (states : List State) × RunsTo state old new (replicate count step) replies q states)
+    (count : ℕ) × (replies : List Reply) × ((q : State) → Shows state old q → (states : List State) × RunsTo state old new (replicate count step) replies q states)
 
 -- ---- a put
 

@@ -2,23 +2,23 @@ ghost use Rattle.std.specs.Prelude.{IfErr, IfOk, IfSome};
 ghost use Rattle.database.specs.Obeys.{PutsCollecting, StampsAll, Prepares, IsRefusedWhole, Finishes, Covers};
 
 use crate::error::CommitError;
+use crate::opened::OpenedRoom;
 use crate::steps::{collect, draw, end, poll, put, stamp};
 use base::Ts;
 use base::fault::Fault;
 use base::key::Key;
 use base::row::Row;
 use pmem::Pmem;
-use room::Room;
 use std::sync::Wait;
 
 /// Writes the row under the key. Where no slot is free, the collector's places are all visited, and it is tried again.
 pub fn put_collecting<D: Pmem + Drop>(
-    room: &mut Room<D>,
+    room: &mut OpenedRoom<D>,
     session: u8,
     key: Key,
     row: Row,
 ) -> Result<(), Fault>
-    ensures { PutsCollecting D.state room.old room.new session key row result }
+    ensures { PutsCollecting D.state room.old.room room.new.room session key row result }
 {
     match put(room, session, key, row) {
         Ok(()) => Ok(()),
@@ -36,11 +36,11 @@ pub fn put_collecting<D: Pmem + Drop>(
 /// Draws a timestamp and stamps all keys. Whether something was written: where nothing was, the transaction is ended.
 pub fn prepare<D: Pmem + Drop, R: Wait>(
     rt: &R,
-    room: &mut Room<D>,
+    room: &mut OpenedRoom<D>,
     session: u8,
 ) -> Result<bool, CommitError>
-    ensures steps { Prepares D.state room.old room.new session result }
-    ensures refused { IfErr result (IsRefusedWhole D.state room.old room.new) }
+    ensures steps { Prepares D.state room.old.room room.new.room session result }
+    ensures refused { IfErr result (IsRefusedWhole D.state room.old.room room.new.room) }
 {
     match draw(room, session) {
         Ok(drawn) => match drawn {
@@ -60,10 +60,10 @@ pub fn prepare<D: Pmem + Drop, R: Wait>(
 /// Stamps all keys of a transaction that has drawn.
 pub fn stamp_all<D: Pmem + Drop, R: Wait>(
     rt: &R,
-    room: &mut Room<D>,
+    room: &mut OpenedRoom<D>,
     session: u8,
 ) -> Result<(), Fault>
-    ensures { StampsAll D.state room.old room.new session result }
+    ensures { StampsAll D.state room.old.room room.new.room session result }
 {
     for _ in rt.forever() {
         match stamp(room, session) {
@@ -79,11 +79,11 @@ pub fn stamp_all<D: Pmem + Drop, R: Wait>(
 }
 
 /// Ends the transaction once its commit is covered: its timestamp, or `None` where it isn't covered yet.
-pub fn finish<D: Pmem + Drop>(room: &mut Room<D>, session: u8) -> Result<Option<Ts>, Fault>
-    ensures steps { Finishes D.state room.old room.new session result }
+pub fn finish<D: Pmem + Drop>(room: &mut OpenedRoom<D>, session: u8) -> Result<Option<Ts>, Fault>
+    ensures steps { Finishes D.state room.old.room room.new.room session result }
 
     // A timestamp that is answered is of a commit that each crash from then on leaves.
-    ensures covers { IfOk result (λ answer. IfSome answer (λ timestamp. Covers D.state room.old room.new timestamp)) }
+    ensures covers { IfOk result (λ answer. IfSome answer (λ timestamp. Covers D.state room.old.room room.new.room timestamp)) }
 {
     match poll(room, session) {
         Ok(polled) => match polled {

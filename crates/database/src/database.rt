@@ -1,5 +1,6 @@
 use crate::closing::close_room;
 use crate::desk::Shared;
+use crate::opened::OpenedRoom;
 use crate::transaction::Transaction;
 use crate::workers::start_workers;
 use base::fault::Fault;
@@ -54,7 +55,7 @@ impl<
         }
         match Room::open(&rt, alloc, device) {
             Ok(room) => {
-                shared.put_in(&rt, room);
+                shared.put_in(&rt, OpenedRoom::new(room));
                 Ok(Database { rt, shared })
             }
             Err((fault, device)) => {
@@ -73,10 +74,21 @@ impl<D: Pmem + Drop, R: Wait + Drop> Drop for Database<D, R> {
 }
 
 impl<D: Pmem + Drop, R: Wait + Drop> Database<D, R> {
+    ghost use Rattle.std.specs.Prelude.{Ok, Err, IfOk, IfErr};
+    ghost use Rattle.base.specs.declared.step.Step.TheVariants.{Begin};
+    ghost use Rattle.database.specs.Replies.{began_of};
+    ghost use Rattle.database.specs.Obeys.{AnswersStep};
+    ghost use Rattle.database.specs.Closing.{HasLived, IsClosed, IsClosingRefused};
+
     /// Begins a transaction, which reads the rows that are committed now, and what it writes. 62 may be open.
-    pub fn begin(&self) -> Result<Transaction<'_, D, R>, Fault> {
-        let session = self.shared.desk(&self.rt).begin()?;
-        Ok(Transaction::new(&self.rt, &self.shared, session))
+    pub fn begin(&self) -> Result<Transaction<'_, D, R>, Fault>
+        ensures ok { IfOk result (λ transaction. AnswersStep Begin began_of (Ok transaction.session)) }
+        ensures err { IfErr result (λ fault. AnswersStep Begin began_of (Err fault)) }
+    {
+        match self.shared.desk(&self.rt).begin() {
+            Ok(session) => Ok(Transaction::new(&self.rt, &self.shared, session)),
+            Err(fault) => Err(fault),
+        }
     }
 
     /// The numbers of the ruling record, its gaps and long commits, and the next timestamp.
@@ -98,7 +110,11 @@ impl<D: Pmem + Drop, R: Wait + Drop> Database<D, R> {
     }
 
     /// Ends the workers, covers all that was committed, and returns the device. No transaction is open: each borrows from it.
-    pub fn close(self) -> Result<D, Refused<D>> {
+    pub fn close(self) -> Result<D, Refused<D>>
+        // All that was covered and drawn since the opening of a device is covered on it now.
+        ensures ok { IfOk result (λ device. ∥ HasLived (D.state device) (IsClosed (D.state device)) ∥₁) }
+        ensures err { IfErr result (λ e. ∥ HasLived (D.state e.device) (IsClosingRefused (D.state e.device) e.fault) ∥₁) }
+    {
         self.shared.end_work(&self.rt);
         close_room(self.shared.take_out(&self.rt))
     }

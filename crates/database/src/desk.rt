@@ -1,17 +1,17 @@
 use crate::committing::finish;
 use crate::error::CommitError;
+use crate::opened::OpenedRoom;
 use crate::steps;
 use base::Ts;
 use base::fault::Fault;
 use pmem::Pmem;
-use room::Room;
 use std::sync::{Condvar, Mutex, MutexGuard, Wait};
 
 /// What lies under the lock.
 #[derive(Drop)]
 pub struct Desk<D: Pmem> {
     /// There from the opening to the close.
-    pub room: Option<Room<D>>,
+    pub room: Option<OpenedRoom<D>>,
     /// How many workers there are.
     pub working: u64,
     /// They are to end.
@@ -22,19 +22,30 @@ pub struct Desk<D: Pmem> {
     pub covered: u64,
     /// Whether the committer's last tick was refused for want of memory.
     pub lacks_memory: bool,
-    /// Why nothing more will be covered.
+    /// Why nothing more will be covered: what the committer was refused with.
     pub ended: Option<Fault>,
 }
 
 impl<D: Pmem + Drop> Desk<D> {
+    ghost use Rattle.std.specs.Prelude.{IsTrue, is_some, IfSome, IfOk};
+    ghost use Rattle.base.specs.declared.step.Step.TheVariants.{Begin, Abort};
+    ghost use Rattle.database.specs.Replies.{began_of, done_of};
+    ghost use Rattle.database.specs.Obeys.{AnswersStep};
+    ghost use Rattle.database.specs.Committing.{IsAcknowledged};
+
     /// Opens a transaction. The number of its session.
-    pub fn begin(&mut self) -> Result<u8, Fault> {
+    pub fn begin(&mut self) -> Result<u8, Fault>
+        requires there { IsTrue (is_some self.old.room) }
+        ensures made { AnswersStep Begin began_of result }
+    {
         let Some(room) = &mut self.room else {
-            return Err(Fault::NoSession);
+            unreachable!()
         };
-        let session = steps::begin(room)?;
-        self.open = self.open.saturating_add(1);
-        Ok(session)
+        let begun = steps::begin(room);
+        if begun.is_ok() {
+            self.open = self.open.saturating_add(1);
+        }
+        begun
     }
 
     /// A transaction is over.
@@ -43,15 +54,20 @@ impl<D: Pmem + Drop> Desk<D> {
     }
 
     /// Gives up the transaction of this session.
-    pub fn abort(&mut self, session: u8) -> Result<(), Fault> {
+    pub fn abort(&mut self, session: u8) -> Result<(), Fault>
+        requires there { IsTrue (is_some self.old.room) }
+        ensures made { AnswersStep (Abort session) done_of result }
+    {
         let Some(room) = &mut self.room else {
-            return Err(Fault::NoSession);
+            unreachable!()
         };
         steps::abort(room, session)
     }
 
     /// The answer to the session's commit, once there is one.
-    pub fn answer(&mut self, session: u8) -> Option<Result<Ts, CommitError>> {
+    pub fn answer(&mut self, session: u8) -> Option<Result<Ts, CommitError>>
+        ensures { IfSome result (λ answer. IfOk answer (IsAcknowledged session)) }
+    {
         let Some(room) = &mut self.room else {
             return None;
         };
@@ -143,8 +159,8 @@ impl<D: Pmem + Drop> Shared<D> {
     }
 
     /// Puts the room in, as its opening left it.
-    pub fn put_in<R: Wait>(&self, rt: &R, room: Room<D>)
-        requires opened { IsFresh D.state room }
+    pub fn put_in<R: Wait>(&self, rt: &R, room: OpenedRoom<D>)
+        requires opened { IsFresh D.state room.room }
     {
         let mut desk = self.desk.lock(rt);
         desk.room = Some(room);
@@ -183,7 +199,7 @@ impl<D: Pmem + Drop> Shared<D> {
     }
 
     /// Takes the room out.
-    pub fn take_out<R: Wait>(&self, rt: &R) -> Room<D> {
+    pub fn take_out<R: Wait>(&self, rt: &R) -> OpenedRoom<D> {
         let mut desk = self.desk.lock(rt);
         for _ in rt.forever() {
             if let Some(room) = desk.room.take() {

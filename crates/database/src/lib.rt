@@ -7,6 +7,7 @@ mod committing;
 mod database;
 mod desk;
 mod error;
+mod opened;
 mod replies;
 mod steps;
 mod transaction;

@@ -2,6 +2,7 @@ ghost use Rattle.base.specs.declared.step.Step.TheVariants.{Begin, Get, Scan, Pu
 ghost use Rattle.database.specs.Replies.{began_of, row_of, rows_of, done_of, drawn_of, stamped_of, committed_of};
 ghost use Rattle.database.specs.Obeys.{Obeys, Repeats};
 
+use crate::opened::OpenedRoom;
 use crate::replies::{began_of, committed_of, done_of, drawn_of, row_of, rows_of, stamped_of};
 use base::Ts;
 use base::fault::Fault;
@@ -10,19 +11,22 @@ use base::row::Row;
 use base::rows::Rows;
 use base::step::Step;
 use pmem::Pmem;
-use room::Room;
 
 /// Opens a session. Its number.
-pub fn begin<D: Pmem + Drop>(room: &mut Room<D>) -> Result<u8, Fault>
-    ensures { Obeys D.state room.old room.new Begin began_of result }
+pub fn begin<D: Pmem + Drop>(room: &mut OpenedRoom<D>) -> Result<u8, Fault>
+    ensures { Obeys D.state room.old.room room.new.room Begin began_of result }
 {
     let reply = room.step(Step::Begin);
     began_of(reply)
 }
 
 /// The row under the key, as the session's transaction sees it.
-pub fn get<D: Pmem + Drop>(room: &mut Room<D>, session: u8, key: Key) -> Result<Option<Row>, Fault>
-    ensures { Obeys D.state room.old room.new (Get session key) row_of result }
+pub fn get<D: Pmem + Drop>(
+    room: &mut OpenedRoom<D>,
+    session: u8,
+    key: Key,
+) -> Result<Option<Row>, Fault>
+    ensures { Obeys D.state room.old.room room.new.room (Get session key) row_of result }
 {
     let reply = room.step(Step::Get { session, key });
     row_of(&reply)
@@ -30,13 +34,13 @@ pub fn get<D: Pmem + Drop>(room: &mut Room<D>, session: u8, key: Key) -> Result<
 
 /// The rows of the table at the keys from `lo` to `hi`, both included, by rising key.
 pub fn scan<D: Pmem + Drop>(
-    room: &mut Room<D>,
+    room: &mut OpenedRoom<D>,
     session: u8,
     table: u16,
     lo: u64,
     hi: u64,
 ) -> Result<Rows, Fault>
-    ensures { Obeys D.state room.old room.new (Scan session table lo hi) rows_of result }
+    ensures { Obeys D.state room.old.room room.new.room (Scan session table lo hi) rows_of result }
 {
     let reply = room.step(Step::Scan {
         session,
@@ -48,64 +52,69 @@ pub fn scan<D: Pmem + Drop>(
 }
 
 /// Writes the row under the key.
-pub fn put<D: Pmem + Drop>(room: &mut Room<D>, session: u8, key: Key, row: Row) -> Result<(), Fault>
-    ensures { Obeys D.state room.old room.new (Put session key row) done_of result }
+pub fn put<D: Pmem + Drop>(
+    room: &mut OpenedRoom<D>,
+    session: u8,
+    key: Key,
+    row: Row,
+) -> Result<(), Fault>
+    ensures { Obeys D.state room.old.room room.new.room (Put session key row) done_of result }
 {
     let reply = room.step(Step::Put { session, key, row });
     done_of(reply)
 }
 
 /// Deletes the row under the key, if there is one.
-pub fn delete<D: Pmem + Drop>(room: &mut Room<D>, session: u8, key: Key) -> Result<(), Fault>
-    ensures { Obeys D.state room.old room.new (Delete session key) done_of result }
+pub fn delete<D: Pmem + Drop>(room: &mut OpenedRoom<D>, session: u8, key: Key) -> Result<(), Fault>
+    ensures { Obeys D.state room.old.room room.new.room (Delete session key) done_of result }
 {
     let reply = room.step(Step::Delete { session, key });
     done_of(reply)
 }
 
 /// Draws a timestamp. `None` if nothing was written.
-pub fn draw<D: Pmem + Drop>(room: &mut Room<D>, session: u8) -> Result<Option<Ts>, Fault>
-    ensures { Obeys D.state room.old room.new (Draw session) drawn_of result }
+pub fn draw<D: Pmem + Drop>(room: &mut OpenedRoom<D>, session: u8) -> Result<Option<Ts>, Fault>
+    ensures { Obeys D.state room.old.room room.new.room (Draw session) drawn_of result }
 {
     let reply = room.step(Step::Draw { session });
     drawn_of(reply)
 }
 
 /// Stamps one key. Whether all are stamped.
-pub fn stamp<D: Pmem + Drop>(room: &mut Room<D>, session: u8) -> Result<bool, Fault>
-    ensures { Obeys D.state room.old room.new (Stamp session) stamped_of result }
+pub fn stamp<D: Pmem + Drop>(room: &mut OpenedRoom<D>, session: u8) -> Result<bool, Fault>
+    ensures { Obeys D.state room.old.room room.new.room (Stamp session) stamped_of result }
 {
     let reply = room.step(Step::Stamp { session });
     stamped_of(reply)
 }
 
 /// The timestamp of the commit, once it is covered.
-pub fn poll<D: Pmem + Drop>(room: &mut Room<D>, session: u8) -> Result<Option<Ts>, Fault>
-    ensures { Obeys D.state room.old room.new (Poll session) committed_of result }
+pub fn poll<D: Pmem + Drop>(room: &mut OpenedRoom<D>, session: u8) -> Result<Option<Ts>, Fault>
+    ensures { Obeys D.state room.old.room room.new.room (Poll session) committed_of result }
 {
     let reply = room.step(Step::Poll { session });
     committed_of(reply)
 }
 
 /// Gives the transaction up.
-pub fn abort<D: Pmem + Drop>(room: &mut Room<D>, session: u8) -> Result<(), Fault>
-    ensures { Obeys D.state room.old room.new (Abort session) done_of result }
+pub fn abort<D: Pmem + Drop>(room: &mut OpenedRoom<D>, session: u8) -> Result<(), Fault>
+    ensures { Obeys D.state room.old.room room.new.room (Abort session) done_of result }
 {
     let reply = room.step(Step::Abort { session });
     done_of(reply)
 }
 
 /// Ends a transaction that is covered.
-pub fn end<D: Pmem + Drop>(room: &mut Room<D>, session: u8) -> Result<(), Fault>
-    ensures { Obeys D.state room.old room.new (End session) done_of result }
+pub fn end<D: Pmem + Drop>(room: &mut OpenedRoom<D>, session: u8) -> Result<(), Fault>
+    ensures { Obeys D.state room.old.room room.new.room (End session) done_of result }
 {
     let reply = room.step(Step::End { session });
     done_of(reply)
 }
 
 /// Visits so many places of the collector's round.
-pub fn collect<D: Pmem + Drop>(room: &mut Room<D>, places: u64)
-    ensures { Repeats D.state room.old room.new Collect }
+pub fn collect<D: Pmem + Drop>(room: &mut OpenedRoom<D>, places: u64)
+    ensures { Repeats D.state room.old.room room.new.room Collect }
 {
     for _ in 0..places {
         let reply = room.step(Step::Collect);

@@ -1,3 +1,7 @@
+ghost use Rattle.base.specs.declared.step.Step.TheVariants.{Abort};
+ghost use Rattle.database.specs.Replies.{done_of};
+ghost use Rattle.database.specs.Obeys.{AnswersStep};
+
 use crate::committing::put_collecting;
 use crate::desk::Shared;
 use crate::error::CommitError;
@@ -14,7 +18,8 @@ use std::sync::{Arc, Wait};
 pub struct Transaction<'a, D: Pmem + Drop, R: Wait> {
     rt: &'a R,
     shared: &'a Arc<Shared<D>, Global>,
-    session: Option<u8>,
+    session: u8,
+    is_over: bool,
 }
 
 impl<D: Pmem + Drop, R: Wait> Drop for Transaction<'_, D, R> {
@@ -23,91 +28,110 @@ impl<D: Pmem + Drop, R: Wait> Drop for Transaction<'_, D, R> {
             rt,
             shared,
             session,
+            is_over,
         } = self;
-        if let Some(session) = session {
+        if !is_over {
             let _ = give_up(rt, shared, session);
         }
     }
 }
 
 // Aborts the transaction of this session.
-fn give_up<D: Pmem + Drop, R: Wait>(rt: &R, shared: &Shared<D>, session: u8) -> Result<(), Fault> {
+fn give_up<D: Pmem + Drop, R: Wait>(rt: &R, shared: &Shared<D>, session: u8) -> Result<(), Fault>
+    ensures { AnswersStep (Abort session) done_of result }
+{
     let mut desk = shared.desk(rt);
+    let aborted = desk.abort(session);
     desk.leave();
-    desk.abort(session)
+    aborted
 }
 
 impl<'a, D: Pmem + Drop, R: Wait> Transaction<'a, D, R> {
+    ghost use Rattle.std.specs.Prelude.{◌≡◌, Ok, Err, IfOk, MatchResult};
+    ghost use Rattle.base.specs.declared.step.Step.TheVariants.{Get, Scan, Delete, Abort};
+    ghost use Rattle.database.specs.Replies.{row_of, rows_of, done_of};
+    ghost use Rattle.database.specs.Obeys.{AnswersStep};
+    ghost use Rattle.database.specs.Committing.{AnswersPut, TellsCommit};
+
     pub(crate) fn new(
         rt: &'a R,
         shared: &'a Arc<Shared<D>, Global>,
         session: u8,
-    ) -> Transaction<'a, D, R> {
+    ) -> Transaction<'a, D, R>
+        ensures { result.session ≡ session }
+    {
         Transaction {
             rt,
             shared,
-            session: Some(session),
+            session,
+            is_over: false,
         }
     }
 
     /// The row under the key.
-    pub fn get(&self, key: Key) -> Result<Option<Row>, Fault> {
-        let session = self.session.ok_or(Fault::NoSession)?;
+    pub fn get(&self, key: Key) -> Result<Option<Row>, Fault>
+        ensures { AnswersStep (Get self.now.session key) row_of result }
+    {
         let mut desk = self.shared.desk(self.rt);
         let Some(room) = &mut desk.room else {
             unreachable!()
         };
-        steps::get(room, session, key)
+        steps::get(room, self.session, key)
     }
 
     /// The rows of the table at the keys from `lo` to `hi`, both included, by rising key.
-    pub fn scan(&self, table: u16, lo: u64, hi: u64) -> Result<Vec<(Key, Row)>, Fault> {
-        let session = self.session.ok_or(Fault::NoSession)?;
+    pub fn scan(&self, table: u16, lo: u64, hi: u64) -> Result<Vec<(Key, Row)>, Fault>
+        ensures { MatchResult result (λ rows. AnswersStep (Scan self.now.session table lo hi) rows_of (Ok rows.items))
+            (λ fault. AnswersStep (Scan self.now.session table lo hi) rows_of (Err fault)) }
+    {
         let mut desk = self.shared.desk(self.rt);
         let Some(room) = &mut desk.room else {
             unreachable!()
         };
-        match steps::scan(room, session, table, lo, hi) {
+        match steps::scan(room, self.session, table, lo, hi) {
             Ok(rows) => Ok(rows.into_items()),
             Err(fault) => Err(fault),
         }
     }
 
     /// Writes the row under the key. Where no slot is free, those that nobody needs are collected first.
-    pub fn put(&mut self, key: Key, row: Row) -> Result<(), Fault> {
-        let session = self.session.ok_or(Fault::NoSession)?;
+    pub fn put(&mut self, key: Key, row: Row) -> Result<(), Fault>
+        ensures { AnswersPut self.old.session key row result }
+    {
         let mut desk = self.shared.desk(self.rt);
         let Some(room) = &mut desk.room else {
             unreachable!()
         };
-        put_collecting(room, session, key, row)
+        put_collecting(room, self.session, key, row)
     }
 
     /// Deletes the row under the key, if there is one.
-    pub fn delete(&mut self, key: Key) -> Result<(), Fault> {
-        let session = self.session.ok_or(Fault::NoSession)?;
+    pub fn delete(&mut self, key: Key) -> Result<(), Fault>
+        ensures { AnswersStep (Delete self.old.session key) done_of result }
+    {
         let mut desk = self.shared.desk(self.rt);
         let Some(room) = &mut desk.room else {
             unreachable!()
         };
-        steps::delete(room, session, key)
+        steps::delete(room, self.session, key)
     }
 
     /// Gives the transaction up, as a drop does, and tells of a device that has failed.
-    pub fn abort(mut self) -> Result<(), Fault> {
-        let session = self.session.ok_or(Fault::NoSession)?;
-        self.session = None;
-        give_up(self.rt, self.shared, session)
+    pub fn abort(mut self) -> Result<(), Fault>
+        ensures { AnswersStep (Abort self.entry.session) done_of result }
+    {
+        self.is_over = true;
+        give_up(self.rt, self.shared, self.session)
     }
 
     /// Commits, and returns once that is durable: its timestamp, or `None` if nothing was written. At an error the transaction
     /// is over; `CommitError` tells whether something of it may be committed. `Conflict` is answered once the commit in the
     /// way is covered or given up, so that whoever begins again then sees it. `OutOfMemory` is answered where the committer
     /// was refused memory a hundred times in a row.
-    pub fn commit(mut self) -> Result<Option<Ts>, CommitError> {
-        let Some(session) = self.session.take() else {
-            return Err(CommitError::Refused(Fault::NoSession));
-        };
-        self.shared.commit(self.rt, session)
+    pub fn commit(mut self) -> Result<Option<Ts>, CommitError>
+        ensures ok { IfOk result (TellsCommit self.entry.session) }
+    {
+        self.is_over = true;
+        self.shared.commit(self.rt, self.session)
     }
 }

@@ -1,6 +1,6 @@
 use crate::desk::{Desk, Shared};
 use base::fault::Fault;
-use base::step::{Reply, Step};
+use base::step::Reply;
 use pmem::Pmem;
 
 // A turn takes no more steps than this, so that sessions get in between. A batch of up to 22 lines is covered in one.
@@ -38,7 +38,7 @@ fn tick<D: Pmem + Drop>(desk: &mut Desk<D>) -> Turn {
     let Some(room) = &mut desk.room else {
         return Turn::Idle;
     };
-    match room.step(Step::Commit) {
+    match room.tick() {
         Reply::Idle => Turn::Idle,
         Reply::Covered(batch) => {
             desk.covered = desk.covered.saturating_add(batch.commits().len() as u64);
@@ -58,7 +58,7 @@ pub fn collect<D: Pmem + Drop>(desk: &mut Desk<D>) -> Turn {
         return Turn::Idle;
     };
     for _ in 0..STEPS {
-        match room.step(Step::Collect) {
+        match room.visit() {
             Reply::SweepEnd => {
                 desk.covered = 0;
                 return Turn::Finished;

@@ -35,8 +35,13 @@ impl Patience {
 }
 
 impl<D: Pmem + Drop> Shared<D> {
+    ghost use Rattle.std.specs.Prelude.{Ok, IfOk};
+    ghost use Rattle.database.specs.Committing.{IsPrepared, IsAcknowledged, TellsCommit};
+
     /// Commits the transaction of this session, and ends it.
-    pub fn commit<R: Wait>(&self, rt: &R, session: u8) -> Result<Option<Ts>, CommitError> {
+    pub fn commit<R: Wait>(&self, rt: &R, session: u8) -> Result<Option<Ts>, CommitError>
+        ensures { IfOk result (TellsCommit session) }
+    {
         match self.prepare(rt, session) {
             Ok(true) => match self.wait(rt, session) {
                 Ok(timestamp) => Ok(Some(timestamp)),
@@ -54,7 +59,9 @@ impl<D: Pmem + Drop> Shared<D> {
     }
 
     // Draws and stamps, once the committer has reserved timestamps. Whether something was written.
-    fn prepare<R: Wait>(&self, rt: &R, session: u8) -> Result<bool, CommitError> {
+    fn prepare<R: Wait>(&self, rt: &R, session: u8) -> Result<bool, CommitError>
+        ensures { IfOk result (λ wrote. IsPrepared session (Ok wrote)) }
+    {
         let mut desk = self.desk(rt);
         let mut patience = Patience::new();
         for _ in rt.forever() {
@@ -62,9 +69,9 @@ impl<D: Pmem + Drop> Shared<D> {
                 return Err(CommitError::Refused(fault));
             }
             if let Some(room) = &mut desk.room {
-                match prepare(rt, room, session) {
-                    Err(CommitError::Refused(Fault::WindowFull)) => {}
-                    prepared => return prepared,
+                let prepared = prepare(rt, room, session);
+                if !matches!(prepared, Err(CommitError::Refused(Fault::WindowFull))) {
+                    return prepared;
                 }
             }
             if patience.is_over(desk.lacks_memory) {
@@ -76,7 +83,9 @@ impl<D: Pmem + Drop> Shared<D> {
     }
 
     // Waits until the commit is covered, or won't be.
-    fn wait<R: Wait>(&self, rt: &R, session: u8) -> Result<Ts, CommitError> {
+    fn wait<R: Wait>(&self, rt: &R, session: u8) -> Result<Ts, CommitError>
+        ensures { IfOk result (IsAcknowledged session) }
+    {
         let mut desk = self.desk(rt);
         let mut patience = Patience::new();
         for _ in rt.forever() {

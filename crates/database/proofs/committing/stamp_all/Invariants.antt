@@ -3,4 +3,4 @@ use Rattle.database.specs.Obeys.{Repeats}
 use Rattle.database.proofs.committing.stamp_all.Given as goal
 
 abbrev pub invariant-loop : goal.invariant-loop
-invariant-loop g l = Repeats g.D.Pmem.state l.fn.room l.room (Stamp l.session)
+invariant-loop g l = Repeats g.D.Pmem.state l.fn.room.room l.room.room (Stamp l.session)

@@ -3,7 +3,7 @@ use Rattle.database.proofs.Covering.{repeats-none, repeats-then}
 use Rattle.database.proofs.steps.collect.Goals as goal
 
 pub loop-init : goal.loop-init
-loop-init g c = repeats-none g.D.Pmem.state c.args.room.now Collect (g.met.D.Pmem.orderly c.args.room.now.device)
+loop-init g c = repeats-none g.D.Pmem.state c.args.room.now.room Collect (g.met.D.Pmem.orderly c.args.room.now.room.device)
 
 pub loop-preserved : goal.loop-preserved
-loop-preserved g c = repeats-then g.D.Pmem.state c.args.room.now c.loop.room c.step-reply.new.self Collect (λ q. c.step-reply.result) c.loop.invariant c.step-reply.ensures.step
+loop-preserved g c = repeats-then g.D.Pmem.state c.args.room.now.room c.loop.room.room c.step-reply.new.self.room Collect c.step-reply.result c.loop.invariant c.step-reply.ensures.step

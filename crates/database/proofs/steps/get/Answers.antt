@@ -1,6 +1,4 @@
 use Rattle.database.proofs.steps.get.Goals as goal
 
 pub returns : goal.returns
-returns g c q shows =
-    let s = c.step-reply.ensures.step q shows in
-    (c.step-reply.result, s.0, s.1, c.row_of.ensures)
+returns g c = (c.step-reply.result, c.step-reply.ensures.step, c.row_of.ensures)

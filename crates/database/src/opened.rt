@@ -1,0 +1,74 @@
+ghost use Rattle.database.specs.Runs.{HasRun};
+
+use base::geometry::Geometry;
+use base::step::{Reply, Step};
+use pmem::Pmem;
+use room::{Room, Status};
+
+/// The room of a device that was opened. It shows the end of a run from that opening: whoever holds the lock leads it on by
+/// steps, and in no other way.
+#[derive(Drop)]
+pub struct OpenedRoom<D: Pmem> {
+    room: Room<D>,
+    ghost run: { ∥ HasRun D.state room ∥₁ },
+}
+
+impl<D: Pmem + Drop> OpenedRoom<D> {
+    ghost use Rattle.std.specs.Prelude.{◌≡◌};
+    ghost use Rattle.base.specs.declared.step.Step.TheVariants.{Commit, Collect};
+    ghost use Rattle.machine.specs.Machine.{State};
+    ghost use Rattle.room.specs.Room.{Shows, ShowsStatus};
+    ghost use Rattle.database.specs.Opening.{IsFresh};
+    ghost use Rattle.database.specs.Runs.{Leads};
+
+    /// The room as its opening left it.
+    pub fn new(room: Room<D>) -> OpenedRoom<D>
+        requires opened { IsFresh D.state room }
+        ensures { result.room ≡ room }
+    {
+        OpenedRoom { room }
+    }
+
+    /// One step.
+    pub fn step(&mut self, step: Step) -> Reply
+        ensures step { Leads D.state self.old.room self.new.room step result }
+    {
+        self.room.step(step)
+    }
+
+    /// A tick of the committer.
+    pub fn tick(&mut self) -> Reply
+        ensures step { Leads D.state self.old.room self.new.room Commit result }
+    {
+        self.room.tick()
+    }
+
+    /// A visit of the collector.
+    pub fn visit(&mut self) -> Reply
+        ensures step { Leads D.state self.old.room self.new.room Collect result }
+    {
+        self.room.visit()
+    }
+
+    /// The layout of the device.
+    pub fn geometry(&self) -> Geometry
+        ensures { (q : State) → Shows D.state self.now.room q → result ≡ q.layout }
+    {
+        self.room.geometry()
+    }
+
+    /// The numbers of the ruling record, its gaps and long commits, and the next timestamp.
+    pub fn status(&self) -> Status
+        ensures { (q : State) → Shows D.state self.now.room q → ShowsStatus q result }
+    {
+        self.room.status()
+    }
+
+    /// The room, to be closed.
+    pub fn into_room(self) -> Room<D>
+        ensures room { result ≡ self.room }
+        ensures run { ∥ HasRun D.state result ∥₁ }
+    {
+        self.room
+    }
+}
