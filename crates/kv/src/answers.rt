@@ -1,4 +1,4 @@
-use crate::help::{LARGER, ROWS, TOPICS, Topic};
+use crate::help::{LARGER, ROWS, TOPICS, Topic, Word};
 use crate::load::MOST_PUTS;
 use crate::rows::Shown;
 use crate::session::Answer;
@@ -145,11 +145,20 @@ impl<R: Print> Printer<'_, R> {
     }
 
     /// Explains a command, or lists them.
-    pub fn help(&self, topic: Option<Topic>) -> io::Result<()> {
-        match topic {
-            Some(topic) => self.explain(&topic),
+    pub fn help(&self, word: Option<Word>) -> io::Result<()> {
+        match word {
+            Some(word) => self.explain_word(word),
             None => self.list(),
         }
+    }
+
+    fn explain_word(&self, word: Word) -> io::Result<()> {
+        for topic in &TOPICS {
+            if topic.word == word {
+                self.explain(topic)?;
+            }
+        }
+        Ok(())
     }
 
     fn explain(&self, topic: &Topic) -> io::Result<()> {

@@ -1,4 +1,4 @@
-use crate::help::Topic;
+use crate::help::Word;
 use base::key::Key;
 use base::row::Row;
 
@@ -11,7 +11,7 @@ pub enum Command {
     Load,
     /// To tell how long each line takes, or no more.
     Timing(bool),
-    Help(Option<Topic>),
+    Help(Option<Word>),
     Quit,
 }
 

@@ -1,6 +1,27 @@
+/// The first word of a command.
+#[derive(Clone, Copy, PartialEq, Eq)]
+pub enum Word {
+    Put,
+    Get,
+    Del,
+    Scan,
+    Count,
+    Tables,
+    Begin,
+    Commit,
+    Abort,
+    Stat,
+    Dump,
+    Load,
+    Timing,
+    Help,
+    Quit,
+}
+
 /// A command, as it is explained.
 #[derive(Clone, Copy)]
 pub struct Topic {
+    pub word: Word,
     pub name: &'static str,
     /// Its words.
     pub form: &'static str,
@@ -25,6 +46,7 @@ pub const LARGER: &str =
 /// The commands.
 pub const TOPICS: [Topic; 15] = [
     Topic {
+        word: Word::Put,
         name: "put",
         form: "put TABLE KEY ROW",
         short: "writes a row",
@@ -33,6 +55,7 @@ itself: what is answered committed persists.",
         example: "put 1 5 \"milk\"",
     },
     Topic {
+        word: Word::Get,
         name: "get",
         form: "get TABLE KEY",
         short: "answers a row",
@@ -40,6 +63,7 @@ itself: what is answered committed persists.",
         example: "get 1 5",
     },
     Topic {
+        word: Word::Del,
         name: "del",
         form: "del TABLE KEY",
         short: "deletes a row",
@@ -47,6 +71,7 @@ itself: what is answered committed persists.",
         example: "del 1 5",
     },
     Topic {
+        word: Word::Scan,
         name: "scan",
         form: "scan TABLE [LO [HI]] [--limit N] [--reverse]",
         short: "answers the rows of a table",
@@ -55,6 +80,7 @@ with the last key, and --limit ends after N rows.",
         example: "scan 1 0 9 --limit 2 --reverse",
     },
     Topic {
+        word: Word::Count,
         name: "count",
         form: "count TABLE",
         short: "answers how many rows a table has",
@@ -62,6 +88,7 @@ with the last key, and --limit ends after N rows.",
         example: "count 1",
     },
     Topic {
+        word: Word::Tables,
         name: "tables",
         form: "tables",
         short: "answers which tables have rows",
@@ -69,6 +96,7 @@ with the last key, and --limit ends after N rows.",
         example: "tables",
     },
     Topic {
+        word: Word::Begin,
         name: "begin",
         form: "begin",
         short: "opens a transaction",
@@ -77,6 +105,7 @@ read is of one moment.",
         example: "begin\n    put 1 6 \"tea\"\n    get 1 6\n    commit",
     },
     Topic {
+        word: Word::Commit,
         name: "commit",
         form: "commit",
         short: "keeps what a transaction wrote",
@@ -84,6 +113,7 @@ read is of one moment.",
         example: "begin\n    put 1 7 \"jam\"\n    put 1 8 -\n    commit",
     },
     Topic {
+        word: Word::Abort,
         name: "abort",
         form: "abort",
         short: "gives a transaction up",
@@ -91,6 +121,7 @@ read is of one moment.",
         example: "begin\n    del 1 7\n    abort",
     },
     Topic {
+        word: Word::Stat,
         name: "stat",
         form: "stat",
         short: "answers the layout and how full it is",
@@ -98,6 +129,7 @@ read is of one moment.",
         example: "stat",
     },
     Topic {
+        word: Word::Dump,
         name: "dump",
         form: "dump",
         short: "prints all rows, as load takes them",
@@ -105,6 +137,7 @@ read is of one moment.",
         example: "dump",
     },
     Topic {
+        word: Word::Load,
         name: "load",
         form: "load",
         short: "puts the rows of the lines that follow",
@@ -113,6 +146,7 @@ prints them. It ends at the first line that it can't take, and what it has commi
         example: "kv old.img dump | kv new.img --slots 65536 load",
     },
     Topic {
+        word: Word::Timing,
         name: "timing",
         form: "timing on|off",
         short: "tells how long each line takes",
@@ -120,6 +154,7 @@ prints them. It ends at the first line that it can't take, and what it has commi
         example: "timing on",
     },
     Topic {
+        word: Word::Help,
         name: "help",
         form: "help [WORD]",
         short: "explains the commands, or one",
@@ -127,6 +162,7 @@ prints them. It ends at the first line that it can't take, and what it has commi
         example: "help put",
     },
     Topic {
+        word: Word::Quit,
         name: "quit",
         form: "quit",
         short: "ends, as the end of the input does",
@@ -135,7 +171,18 @@ prints them. It ends at the first line that it can't take, and what it has commi
     },
 ];
 
-/// What is to be said of the command of this name.
-pub fn find_topic(name: &str) -> Option<Topic> {
-    TOPICS.iter().find(|topic| topic.name == name).copied()
+/// The command whose first word is spelt so.
+pub fn find_word(name: &str) -> Option<Word> {
+    match TOPICS.iter().find(|topic| topic.name == name) {
+        Some(topic) => Some(topic.word),
+        None => None,
+    }
+}
+
+/// The words of the command whose first one is spelt so.
+pub fn find_form(name: &str) -> Option<&'static str> {
+    match TOPICS.iter().find(|topic| topic.name == name) {
+        Some(topic) => Some(topic.form),
+        None => None,
+    }
 }

@@ -93,16 +93,16 @@ impl<'a, R: Wait + Drop> Session<'a, R> {
     }
 
     /// Obeys a request. Outside a transaction it is one by itself.
-    pub fn obey(&mut self, request: Request) -> Result<Answer, Failed> {
+    pub fn obey(&mut self, request: &Request) -> Result<Answer, Failed> {
         match request {
             Request::Begin => self.begin(),
             Request::Commit => self.commit(),
             Request::Abort => self.abort(),
-            Request::Put { key, row } => self.write(key, Some(row)),
-            Request::Delete { key } => self.write(key, None),
-            Request::Get { key } => self.get(key),
-            Request::Scan(range) => Ok(Answer::Rows(self.scan(range)?)),
-            Request::Count { table } => self.count(table),
+            Request::Put { key, row } => self.write(*key, Some(*row)),
+            Request::Delete { key } => self.write(*key, None),
+            Request::Get { key } => self.get(*key),
+            Request::Scan(range) => Ok(Answer::Rows(self.scan(*range)?)),
+            Request::Count { table } => self.count(*table),
             Request::Tables => Ok(Answer::Tables(self.all()?)),
             Request::Dump => Ok(Answer::Dump(self.all()?)),
             Request::Status => self.status(),

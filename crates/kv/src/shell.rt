@@ -15,10 +15,10 @@ use std::sync::Wait;
 use std::time::Instant;
 
 /// Answers each line of the input, and whether one was refused. A transaction that is open at the end is aborted.
-pub fn answer_lines<R: Input + Print + Eprint + Clock + Wait + Drop>(
-    rt: &R,
+pub fn answer_lines<'a, R: Input + Print + Eprint + Clock + Wait + Drop>(
+    rt: &'a R,
     alloc: Global,
-    database: &Database<Device, R>,
+    database: &'a Database<Device, R>,
     manner: Manner,
 ) -> Result<bool, Stop> {
     let mut shell = Shell::new(rt, alloc, database, manner);
@@ -34,12 +34,12 @@ pub fn answer_lines<R: Input + Print + Eprint + Clock + Wait + Drop>(
 }
 
 /// Obeys one command, and whether it was refused.
-pub fn answer_command<R: Input + Print + Eprint + Clock + Wait + Drop>(
-    rt: &R,
+pub fn answer_command<'a, R: Input + Print + Eprint + Clock + Wait + Drop>(
+    rt: &'a R,
     alloc: Global,
-    database: &Database<Device, R>,
+    database: &'a Database<Device, R>,
     manner: Manner,
-    command: Command,
+    command: &Command,
 ) -> Result<bool, Stop> {
     let mut shell = Shell::new(rt, alloc, database, manner);
     let mut lines = Lines::new(alloc, rt.reader()).map_err(Stop::Input)?;
@@ -92,7 +92,7 @@ impl<'a, R: Print + Eprint + Clock + Wait + Drop> Shell<'a, R> {
             Ok(None) => Ok(true),
             Ok(Some(Command::Quit)) => Ok(false),
             Ok(Some(command)) => {
-                self.obey(lines, command)?;
+                self.obey(lines, &command)?;
                 Ok(true)
             }
             Err(refusal) => {
@@ -106,7 +106,7 @@ impl<'a, R: Print + Eprint + Clock + Wait + Drop> Shell<'a, R> {
     fn obey<I: BufRead + Drop>(
         &mut self,
         lines: &mut Lines<I>,
-        command: Command,
+        command: &Command,
     ) -> Result<(), Stop> {
         let start = self.start();
         match self.answer(lines, command) {
@@ -124,18 +124,18 @@ impl<'a, R: Print + Eprint + Clock + Wait + Drop> Shell<'a, R> {
     fn answer<I: BufRead + Drop>(
         &mut self,
         lines: &mut Lines<I>,
-        command: Command,
+        command: &Command,
     ) -> Result<(), Failed> {
         match command {
             Command::Ask(request) => self.ask(request),
             Command::Load => self.load(lines),
-            Command::Timing(is_timed) => self.set_timing(is_timed),
-            Command::Help(topic) => Ok(self.printer.help(topic).map_err(Stop::Output)?),
+            Command::Timing(is_timed) => self.set_timing(*is_timed),
+            Command::Help(word) => Ok(self.printer.help(*word).map_err(Stop::Output)?),
             Command::Quit => Ok(()),
         }
     }
 
-    fn ask(&mut self, request: Request) -> Result<(), Failed> {
+    fn ask(&mut self, request: &Request) -> Result<(), Failed> {
         let answer = self.session.obey(request)?;
         self.printer.print(&answer).map_err(Stop::Output)?;
         Ok(())
@@ -199,6 +199,9 @@ impl<'a, R: Print + Eprint + Clock + Wait + Drop> Shell<'a, R> {
         let Some(start) = start else {
             return;
         };
+        if !self.is_timed {
+            return;
+        }
         if let Ok(elapsed) = start.elapsed(self.rt) {
             let seconds = elapsed.as_secs();
             let micros = elapsed.subsec_micros();

@@ -1,5 +1,5 @@
 use crate::command::{Command, Range, Request};
-use crate::help::find_topic;
+use crate::help::{find_form, find_word};
 use crate::numbers::{parse_key, parse_number, parse_table};
 use crate::rows::parse_row;
 use anyhow::{Error, anyhow, bail};
@@ -53,8 +53,8 @@ fn parse_own(name: &str, arguments: &[&str]) -> Result<Command, Error> {
 }
 
 fn parse_help(word: &str) -> Result<Command, Error> {
-    match find_topic(word) {
-        Some(topic) => Ok(Command::Help(Some(topic))),
+    match find_word(word) {
+        Some(word) => Ok(Command::Help(Some(word))),
         None => bail!("help: {word:?} is no command: help lists them"),
     }
 }
@@ -118,9 +118,9 @@ fn parse_word(name: &str) -> Result<Request, Error> {
 
 // What is wrong with words that begin with this one.
 fn wrong_words(name: &str) -> Error {
-    match find_topic(name) {
-        Some(topic) if topic.form == name => anyhow!("{name} takes no words"),
-        Some(topic) => anyhow!("{name}: expected {}", topic.form),
+    match find_form(name) {
+        Some(form) if form == name => anyhow!("{name} takes no words"),
+        Some(form) => anyhow!("{name}: expected {form}"),
         None if name == "check" => anyhow!(
             "check: an opening has looked at each record and row; wbl check FILE reads a closed store"
         ),

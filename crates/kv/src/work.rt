@@ -1,6 +1,6 @@
 use crate::answers::{Manner, Printer, Terminals};
 use crate::command::Command;
-use crate::help::Topic;
+use crate::help::Word;
 use crate::opening::{Device, open};
 use crate::options::{Options, command_line, read_options};
 use crate::refusal::{Failure, Reason, Stop};
@@ -52,8 +52,8 @@ pub fn obey_words<
         Err(error) => return tell_bad_words(rt, &error),
     };
     let manner = Manner::of(terminals, options.command.is_none(), options.is_text);
-    if let Some(Command::Help(topic)) = options.command {
-        return explain(rt, manner, topic);
+    if let Some(Command::Help(word)) = &options.command {
+        return explain(rt, manner, *word);
     }
     match serve(rt, alloc, &options, manner) {
         Ok(false) => DONE,
@@ -84,9 +84,9 @@ fn refuse_words(rt: &(impl Print + Eprint), error: &clap::Error) -> u8 {
 }
 
 // Explains a command, or lists them. The status.
-fn explain(rt: &(impl Print + Eprint), manner: Manner, topic: Option<Topic>) -> u8 {
+fn explain(rt: &(impl Print + Eprint), manner: Manner, word: Option<Word>) -> u8 {
     let printer = Printer { rt, manner };
-    match printer.help(topic) {
+    match printer.help(word) {
         Ok(()) => DONE,
         Err(error) => tell_failed(rt, &error),
     }
@@ -121,7 +121,7 @@ fn serve<
         Ok(database) => database,
         Err(refused) => return Err(Failure::NotOpened(reason_of(refused))),
     };
-    let answered = match options.command {
+    let answered = match &options.command {
         Some(command) => answer_command(rt, alloc, &database, manner, command),
         None => answer_lines(rt, alloc, &database, manner),
     };
