@@ -3,9 +3,9 @@ import itertools
 import os
 import pty
 import re
+import select
 import shutil
 import subprocess
-import time
 
 from store import Lost, acknowledged, rows_in
 
@@ -279,7 +279,7 @@ def one_command(kv, folder):
         (["get", "1", "5"], 0, "none\n"), (["tables"], 0, "table 1 1\n"), (["dump"], 0, "begin\nput 1 6 -\ncommit\n"), (["put", "1", "5", "00" * 33], 3, ""),
     ):
         ended = one(kv, file, *words)
-        want(ended.returncode == status and ended.output == output and ("line" not in ended.told), f"{words}", ended)
+        want(ended.returncode == status and ended.output == output and "kv: line" not in ended.told, f"{words}", ended)
     none = os.path.join(folder, "none.img")
     for words in (["putt"], ["put", "1", "x", "00"], ["begin"], ["quit"], ["timing", "on"], ["help", "foo"], ["get", "1"], ["check"], ["get", "1", "5", "--slots", "8"]):
         ended = one(kv, none, *words)
@@ -411,11 +411,12 @@ def at_terminal(kv, folder):
     ours, theirs = pty.openpty()
     with subprocess.Popen([kv, file], stdin=theirs, stdout=theirs, stderr=theirs, close_fds=True) as run:
         os.close(theirs)
-        text = b""
-        for line in (b"put 1 7 \"milk\"\n", b"begin\n", b"get 1 7\n", b"gte 1 7\n", b"commit\n", b"scan 1\n", b"tables\n", b"quit\n"):
-            text = until_prompt(ours, text)
+        text = until(ours, b"> ")
+        for line in (b"put 1 7 \"milk\"\n", b"begin\n", b"get 1 7\n", b"gte 1 7\n", b"commit\n", b"scan 1\n", b"tables\n"):
             os.write(ours, line)
-        text = until_prompt(ours, text, b"closed")
+            text += until(ours, b"> ")
+        os.write(ours, b"quit\n")
+        text += until(ours, b"closed\r\n")
         want(run.wait(timeout=60) == 3, "its status")
     os.close(ours)
     text = text.decode().replace("\r\n", "\n")
@@ -425,11 +426,11 @@ def at_terminal(kv, folder):
     return "a prompt that shows a transaction, tables with headers, and a misspelt line that may be typed again"
 
 
-def until_prompt(ours, text, end=b"> "):
-    """Reads until a prompt stands at the end, or this."""
-    begun = time.monotonic()
-    while not text.rstrip(b"\r\n").endswith(end.rstrip()) or (end == b"> " and not text.endswith(end)):
-        want(time.monotonic() - begun < 60, f"no prompt: {text!r}")
+def until(ours, end):
+    """What is printed up to this end."""
+    text = b""
+    while not text.endswith(end):
+        want(select.select([ours], [], [], 60)[0], f"nothing more after {text!r}")
         text += os.read(ours, 4096)
     return text
 

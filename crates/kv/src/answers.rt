@@ -127,13 +127,13 @@ impl<R: Print> Printer<'_, R> {
 
     // Lines that write the rows, in transactions.
     fn print_dump(&self, rows: &[(Key, Row)]) -> io::Result<()> {
-        let mut puts = 0;
+        let mut puts: u64 = 0;
         for (key, row) in rows {
             if puts == 0 {
                 println!(self.rt; "begin")?;
             }
             println!(self.rt; "put {} {} {}", key.table, key.key, self.shown(row))?;
-            puts = (puts + 1) % MOST_PUTS;
+            puts = puts.saturating_add(1) % MOST_PUTS;
             if puts == 0 {
                 println!(self.rt; "commit")?;
             }

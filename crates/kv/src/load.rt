@@ -1,4 +1,4 @@
-use crate::input::{Line, Lines, MOST_BYTES};
+use crate::input::{Line, Lines, text_of};
 use crate::opening::Device;
 use crate::progress::Progress;
 use crate::refusal::{Refusal, Stop};
@@ -97,21 +97,14 @@ fn row_of(alloc: Global, line: Line<'_>) -> Result<Option<(Key, Row)>, Refusal> 
     parse_row_line(words.as_slice()).map_err(Refusal::Spelling)
 }
 
-/// The text of a line.
-pub fn text_of(line: Line<'_>) -> Result<&str, Refusal> {
-    match line {
-        Line::Text(text) => Ok(text),
-        Line::NotText => Err(Refusal::NotText),
-        Line::TooLong => Err(Refusal::TooLong(MOST_BYTES)),
-    }
-}
-
 fn parse_row_line(words: &[&str]) -> Result<Option<(Key, Row)>, Error> {
     match words {
         ["put", table, key, row] => Ok(Some(parse_key_and_row("load", table, key, row)?)),
         [] | ["begin"] | ["commit"] | ["ready"] | ["closed"] | ["end", _] => Ok(None),
         ["sound", ..] => Ok(None),
-        [table, key, row] => Ok(Some(parse_key_and_row("load", table, key, row)?)),
+        [table, key, row] if *table != "put" => Ok(Some(parse_key_and_row(
+            "load", table, key, row,
+        )?)),
         _ => bail!("load: expected put TABLE KEY ROW, or TABLE KEY ROW"),
     }
 }

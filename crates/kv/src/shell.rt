@@ -1,7 +1,7 @@
 use crate::answers::{Manner, Printer};
 use crate::command::{Command, Request};
 use crate::input::{Line, Lines};
-use crate::load::{Loader, text_of};
+use crate::load::Loader;
 use crate::opening::Device;
 use crate::progress::Progress;
 use crate::refusal::{Refusal, Stop};
@@ -88,7 +88,7 @@ impl<'a, R: Print + Eprint + Clock + Wait + Drop> Shell<'a, R> {
             return Ok(false);
         };
         let begins = begins(line);
-        match read_command(self.alloc, line) {
+        match parse_line(self.alloc, line) {
             Ok(None) => Ok(true),
             Ok(Some(Command::Quit)) => Ok(false),
             Ok(Some(command)) => {
@@ -216,12 +216,6 @@ fn begins(line: Line<'_>) -> bool {
         Line::Text(text) => text.trim_start().starts_with("begin"),
         _ => false,
     }
-}
-
-// The command of a line, if it has words.
-fn read_command(alloc: Global, line: Line<'_>) -> Result<Option<Command>, Refusal> {
-    let text = text_of(line)?;
-    parse_line(alloc, text).map_err(Refusal::Spelling)
 }
 
 fn is_spelling(refusal: &Refusal) -> bool {

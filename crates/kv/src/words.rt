@@ -1,6 +1,8 @@
 use crate::command::{Command, Range, Request};
 use crate::help::{find_form, find_word};
+use crate::input::{Line, text_of};
 use crate::numbers::{parse_key, parse_number, parse_table};
+use crate::refusal::Refusal;
 use crate::rows::parse_row;
 use anyhow::{Error, anyhow, bail};
 use base::key::Key;
@@ -20,8 +22,9 @@ pub fn split_line<'a>(alloc: Global, line: &'a str) -> Result<Vec<&'a str>, Erro
 }
 
 /// The command that a line spells, or `None` for a line without words.
-pub fn parse_line(alloc: Global, line: &str) -> Result<Option<Command>, Error> {
-    let words = split_line(alloc, line)?;
+pub fn parse_line(alloc: Global, line: Line<'_>) -> Result<Option<Command>, Refusal> {
+    let text = text_of(line)?;
+    let words = split_line(alloc, text)?;
     if words.is_empty() {
         return Ok(None);
     }
