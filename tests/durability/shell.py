@@ -1,12 +1,15 @@
 """What people lose by kv, or are told wrongly: closed streams, an output that fails, a full disk, files of others, wrong lines."""
 import itertools
 import os
+import pty
 import re
+import select
 import shutil
 import subprocess
 
 from store import Lost, acknowledged, rows_in
 
+DOCS = os.path.join(os.path.dirname(os.path.dirname(os.path.dirname(os.path.abspath(__file__)))), "docs")
 BYTES = 66_112
 FIRST = "put 1 1 a1\nput 1 2 a2\n"
 ROWS = {1: "a1", 2: "a2"}
@@ -211,7 +214,7 @@ def lines(kv, folder):
         (b"get 1 1\n" + b"x" * 5_000 + b"\nget 1 2\n", 3, ["row a1", "row a2"], ["line 2: it has more than 4096 bytes"]),
         (b"get 1 1\n" + b"x " * 8_000_000 + b"\nget 1 2", 3, ["row a1", "row a2"], ["line 2: it has more than 4096 bytes"]),
         (b"get 1 1" + b" " * 4_089 + b"\nget 1 2\r\n", 0, ["row a1", "row a2"], []),
-        (b"begin\nput 1 1 zz\nput 1 2 99\ncommit\nget 1 2\n", 3, ["begun", "row a2"], ["line 2: the row", "line 3: line 2 of", "line 4: nothing was committed, since line 2"]),
+        (b"begin\nput 1 1 zz\nput 1 2 99\ncommit\nget 1 2\n", 3, ["begun", "row a2"], ["line 2: put: ROW", "line 3: line 2 of", "line 4: nothing was committed, since line 2"]),
         (b"begin\n" + b"".join(b"put 2 %d 00\n" % it for it in range(33)) + b"commit\nscan 2 0 99\n", 3, ["begun", *["written"] * 32, "end 0"], ["line 34: ", "nothing was committed, since line 34"]),
         (b"begin\nbegin\nabort\ncommit\nabort\n", 3, ["begun", "aborted"], ["line 2: a transaction is open", "line 4: no transaction is open", "line 5: no transaction is open"]),
         (b"begin\nput 1 9 99\n", 3, ["begun", "written"], ["the input ended within a transaction"]),
@@ -235,9 +238,16 @@ def words(kv, folder):
     wanted = ["ready", "committed", "row 6120226222205c20630a", "row 1 a1", "row 2 a2", "end 2", "row 2 a2", "end 1", "row 1 a1", "end 1",
               "row 2 a2", "end 1", "count 2", "table 1 2", "table 2 1", "closed"]
     want(ended.returncode == 0 and found == wanted, "each kind of line", ended)
-    for wrong in ('get 1 "a"', 'put 1 1 "a', 'put 1 1 "a"b"', 'put 1 1 "a\\x"', "scan", "scan 1 2 3 4", "count", "tables 1", "scan 1 --limit x"):
+    for wrong, told in (
+        ('get 1 "a"', 'get: KEY "\\"a\\"" is no number'), ('put 1 1 "a', "put: ROW has no quotation mark at its end"), ('put 1 1 "a"b"', "put: ROW has a quotation mark"),
+        ('put 1 1 "a\\x"', "put: ROW has a backslash"), ("scan", "scan: expected scan TABLE"), ("scan 1 2 3 4", "scan: expected scan TABLE"), ("count", "count: expected count TABLE"),
+        ("tables 1", "tables takes no words"), ("scan 1 --limit x", 'scan: --limit "x" is no number'), ("put x 1 00", 'put: TABLE "x" is no number'),
+        ("get 1 18446744073709551616", "get: KEY 18446744073709551616 is greater than 18446744073709551615"), ("del 65536 1", "del: TABLE 65536 is greater than 65535"),
+        ("put 1 1 abc", 'put: ROW "abc" is neither hexadecimal digits'), ("put 1 1 " + "00" * 97, "put: ROW has 97 bytes, and may have 96"),
+        ("put 1 1 " + "00" * 33, "32"), ("help foo", 'help: "foo" is no command'), ("timing", "timing: expected timing on|off"), ("check", "wbl check FILE"), ("PUT 1 1 00", '"PUT" is no command'),
+    ):
         ended = kv_on(kv, file, wrong + "\n")
-        want(ended.returncode == 3 and ended.output == "ready\nclosed\n", wrong, ended)
+        want(ended.returncode == 3 and ended.output == "ready\nclosed\n" and "line 1: " in ended.told and told in ended.told, wrong, ended)
     kv_on(kv, file, "".join(f"put 9 {it} {it:02x}\n" for it in range(70)))
     dumped = kv_on(kv, file, "dump\n").output.splitlines()[1:-1]
     want(dumped.count("commit") == 3, f"73 rows in {dumped.count('commit')} transactions")
@@ -253,6 +263,178 @@ def words(kv, folder):
     return "each kind of line answers; what is dumped makes the same store; wrong options make none"
 
 
+def one(kv, file, *words, text=""):
+    """A run of kv with these words behind the file's name."""
+    ended = subprocess.run([kv, file, *words], input=text, capture_output=True, text=True, timeout=120, check=False)
+    ended.output, ended.told = ended.stdout, ended.stderr
+    return ended
+
+
+def one_command(kv, folder):
+    """A command behind the file's name is obeyed alone; one that is misspelt makes no store."""
+    file = os.path.join(folder, "one.img")
+    for words, status, output in (
+        (["put", "1", "5", '"two words"'], 0, "committed 1\n"), (["get", "1", "5"], 0, "row 74776f20776f726473\n"), (["--text", "get", "1", "5"], 0, 'row "two words"\n'),
+        (["put", "1", "6", "-"], 0, "committed 2\n"), (["scan", "1", "--limit", "1", "--reverse"], 0, "row 6 -\nend 1\n"), (["count", "1"], 0, "count 2\n"), (["del", "1", "5"], 0, "committed 3\n"),
+        (["get", "1", "5"], 0, "none\n"), (["tables"], 0, "table 1 1\n"), (["dump"], 0, "begin\nput 1 6 -\ncommit\n"), (["put", "1", "5", "00" * 33], 3, ""),
+    ):
+        ended = one(kv, file, *words)
+        want(ended.returncode == status and ended.output == output and "kv: line" not in ended.told, f"{words}", ended)
+    none = os.path.join(folder, "none.img")
+    for words in (["putt"], ["put", "1", "x", "00"], ["begin"], ["quit"], ["timing", "on"], ["help", "foo"], ["get", "1"], ["check"], ["get", "1", "5", "--slots", "8"]):
+        ended = one(kv, none, *words)
+        want(ended.returncode == 2 and ended.output == "" and ended.told.startswith("kv: ") and not os.path.exists(none), f"{words}", ended)
+    ended = one(kv, none, "help")
+    want(ended.returncode == 0 and "--slots 65536 load" in ended.output and not os.path.exists(none), "help makes no store", ended)
+    return "11 commands behind the file's name were obeyed alone; 9 wrong ones made no store"
+
+
+def text_rows(kv, folder):
+    """A row that is printed is one that put takes back, in either form."""
+    file = os.path.join(folder, "text.img")
+    rows = ["milk", "", 'say "a\\b"\n', "\u00e4\u6f22", " ", "\\"]
+    others = [b"\x00", b"a\tb", b"\x7f", b"\xc2\x80", b"\xff\xfe"]
+    held = [it.encode() for it in rows] + others
+    ended = kv_on(kv, file, "".join(f"put 1 {at} {row.hex() or '-'}\n" for at, row in enumerate(held)))
+    want(ended.returncode == 0, "rows are put", ended)
+    texts = [it.split(" ", 2)[2] for it in one(kv, file, "--text", "scan", "1").output.splitlines()[:-1]]
+    digits = [it.split(" ", 2)[2] for it in one(kv, file, "scan", "1").output.splitlines()[:-1]]
+    want(digits == [it.hex() or "-" for it in held], f"digits: {digits}")
+    shown = ['"milk"', "-", '"say \\"a\\\\b\\"\\n"', '"\u00e4\u6f22"', '" "', '"\\\\"', *(it.hex() for it in others)]
+    want(texts == shown, f"texts: {texts}")
+    again = os.path.join(folder, "again.img")
+    ended = one(kv, again, "load", text=one(kv, file, "--text", "dump").output)
+    want(ended.returncode == 0 and ended.output == f"loaded {len(held)}\n", "what is dumped as text is loaded", ended)
+    want(one(kv, again, "dump").output == one(kv, file, "dump").output, "and is the same")
+    return f"{len(held)} rows, each printed as put takes it back"
+
+
+def loading(kv, folder):
+    """What dump prints load takes, up to the first line that it can't take, and says how many rows are in."""
+    file = os.path.join(folder, "load.img")
+    puts = [f"put 1 {at} {at:02x}" for at in range(70)]
+    for text, status, output, told in (
+        ("\n".join(puts), 0, "loaded 70\n", ""),
+        ("sound gate 4 p 1 d 2 gaps -\n2 1 aa\n2 2 -\nend 2\n\nready\nbegin\ncommit\nclosed\n", 0, "loaded 2\n", ""),
+        ("\n".join([*puts[:40], "put 1 x 00", "put 3 1 00"]), 3, "loaded 32\n", 'line 41: load: KEY "x" is no number'),
+        ("get 1 1\n", 3, "loaded 0\n", 'line 1: load: TABLE "get" is no number'),
+        ("put 1 1\n", 3, "loaded 0\n", "line 1: load: expected put TABLE KEY ROW"),
+        ("x" * 5_000, 3, "loaded 0\n", "line 1: it has more than 4096 bytes"),
+        ("", 0, "loaded 0\n", ""),
+    ):
+        ended = one(kv, file, "load", text=text)
+        want(ended.returncode == status and ended.output == output and told in ended.told, f"{text[-40:]!r}", ended)
+    want(one(kv, file, "tables").output == "table 1 70\ntable 2 2\n", "what was loaded is there, and no more")
+    ended = kv_on(kv, file, "begin\nload\nabort\nload\nput 4 1 aa\n4 2 bb\n")
+    want(ended.returncode == 3 and ended.output == "ready\nbegun\naborted\nloaded 2\nclosed\n" and "line 2: a transaction is open" in ended.told, "load as a line", ended)
+    want(one(kv, file, "count", "4").output == "count 2\n", "the lines behind it are in")
+    return "7 loads, of which those with a wrong line end there and say what is kept"
+
+
+def full_store(kv, folder):
+    """A full store says so, and how to get a larger one works."""
+    full, large = os.path.join(folder, "full.img"), os.path.join(folder, "large.img")
+    ended = one(kv, full, "--slots", "8", "--window", "8", "load", text="".join(f"1 {at} {at:02x}\n" for at in range(1, 9)))
+    want(ended.returncode == 0 and ended.output == "loaded 8\n" and "room for 8 rows" in ended.told, "it takes 8 rows", ended)
+    want("rows 8\nfree 0\n" in one(kv, full, "stat").output, "none is free")
+    for words in (["put", "1", "9", "09"], ["put", "1", "8", "ff"]):
+        ended = one(kv, full, *words)
+        want(ended.returncode == 3 and ended.output == "" and "no slot is free: delete rows, or copy them into a larger store" in ended.told, f"{words}", ended)
+    ended = one(kv, full, "load", text="1 9 09\n")
+    want(ended.returncode == 3 and ended.output == "loaded 0\n" and "line 1: no slot is free" in ended.told, "load", ended)
+    copied = subprocess.run(f"{kv} {full} dump | {kv} {large} --slots 65536 load", shell=True, capture_output=True, text=True, timeout=120, check=False)
+    want(copied.returncode == 0 and copied.stdout == "loaded 8\n" and "room for 65536 rows" in copied.stderr, f"the copy: {copied}")
+    want(one(kv, large, "put", "1", "9", "09").returncode == 0 and rows_in(kv, large) == {at: f"{at:02x}" for at in range(1, 10)}, "the larger one takes more")
+    want("slots 65536\n" in one(kv, large, "stat").output and one(kv, full, "del", "1", "1").returncode == 0 and one(kv, full, "put", "1", "9", "09").returncode == 0, "a deletion makes room")
+    return "a store with 8 slots refuses the ninth row, and its copy with 65,536 takes it"
+
+
+def timed(kv, folder):
+    """Times stand on standard error, from the line that asks for them on."""
+    ended = kv_on(kv, made(kv, folder), "get 1 1\ntiming on\nget 1 1\nget 1 2\ntiming off\nget 1 1\n")
+    want(ended.output == "ready\nrow a1\ntiming on\nrow a1\nrow a2\ntiming off\nrow a1\nclosed\n", "the answers", ended)
+    want(re.fullmatch(r"(took \d+\.\d{6} s\n){2}", ended.told), "two times", ended)
+    return "two lines were timed"
+
+
+def examples_of_help(kv, folder):
+    """The examples in the help, one after the other in its order: each is obeyed."""
+    file = os.path.join(folder, "shop.img")
+    listed = one(kv, file, "help").output
+    names = re.findall(r"^    (\w+)\b.* {2,}\S", listed, re.M)
+    want(names == "put get del scan count tables begin commit abort stat dump load timing help quit".split(), f"the commands: {names}")
+    lines = []
+    for name in names:
+        text = one(kv, file, "help", name).output
+        want(text.startswith(name) and "\nFor example:\n" in text, f"help {name}: {text}")
+        found = re.findall(r"^    (.*)$", text.split("For example:\n")[1], re.M)
+        want(any(it.split()[0] == name or f" {name}" in it for it in found), f"the example of {name}: {found}")
+        lines += found
+    given = [it for it in lines if not it.startswith("kv ")]
+    ended = kv_on(kv, file, "\n".join(given) + "\n")
+    want(ended.returncode == 0 and ended.output.endswith("closed\n"), "the examples in their order", ended)
+    for line in lines:
+        if line.startswith("kv "):
+            want(shell_in(kv, folder, line.replace("old.img", "shop.img"))[0] == 0, line)
+    want(one(kv, os.path.join(folder, "new.img"), "dump").output == one(kv, file, "dump").output, "the copy has the same rows")
+    return f"{len(names)} examples, in the order of the help"
+
+
+def shell_in(kv, folder, line):
+    """What a shell does with a line, in the folder: its status, and what is printed and told, in this order."""
+    place = {**os.environ, "PATH": os.path.dirname(kv) + os.pathsep + os.environ["PATH"]}
+    ended = subprocess.run(["bash", "-o", "pipefail", "-c", line], cwd=folder, env=place, stdin=subprocess.DEVNULL, stdout=subprocess.PIPE, stderr=subprocess.STDOUT,
+                           text=True, timeout=120, check=False)
+    return ended.returncode, ended.stdout
+
+
+def examples_of_page(kv, folder):
+    """The examples of docs/KV.md, one after the other: each prints what stands there."""
+    with open(os.path.join(DOCS, "KV.md"), encoding="utf-8") as page:
+        text = page.read()
+    examples = re.findall(r"^    \$ (.*)\n((?:    (?!\$ ).*\n)*)", text, re.M)
+    ran = 0
+    for line, shown in examples:
+        if "old.img" in line:
+            line = line.replace("old.img", "shop.img")
+        found = shell_in(kv, folder, line)[1]
+        wanted = re.sub(r"^    ", "", shown, flags=re.M)
+        want(sorted(found.splitlines()) == sorted(wanted.splitlines()) or (not wanted and "loaded" in found), f"{line}: {found!r} for {wanted!r}")
+        ran += 1
+    want(ran >= 7, f"{ran} examples only")
+    return f"{ran} examples of docs/KV.md print what it says"
+
+
+def at_terminal(kv, folder):
+    """At a terminal there is a prompt, which shows a transaction, and rows are tables with a header."""
+    file = made(kv, folder)
+    ours, theirs = pty.openpty()
+    with subprocess.Popen([kv, file], stdin=theirs, stdout=theirs, stderr=theirs, close_fds=True) as run:
+        os.close(theirs)
+        text = until(ours, b"> ")
+        for line in (b"put 1 7 \"milk\"\n", b"begin\n", b"get 1 7\n", b"gte 1 7\n", b"commit\n", b"scan 1\n", b"tables\n"):
+            os.write(ours, line)
+            text += until(ours, b"> ")
+        os.write(ours, b"quit\n")
+        text += until(ours, b"closed\r\n")
+        want(run.wait(timeout=60) == 3, "its status")
+    os.close(ours)
+    text = text.decode().replace("\r\n", "\n")
+    for part in ("kv> put 1 7", "begun\nkv*> ", 'row "milk"\nkv*> ', 'refused: "gte" is no command: help lists them\nkv*> ', "done\nkv> ",
+                 '                 key | row\n---------------------+----\n                   1 | a1\n', '                   7 | "milk"\nend 3\n', "table | rows\n------+------\n    1 |     3\n"):
+        want(part in text, f"at a terminal {part!r} in {text!r}")
+    return "a prompt that shows a transaction, tables with headers, and a misspelt line that may be typed again"
+
+
+def until(ours, end):
+    """What is printed up to this end."""
+    text = b""
+    while not text.endswith(end):
+        want(select.select([ours], [], [], 60)[0], f"nothing more after {text!r}")
+        text += os.read(ours, 4096)
+    return text
+
+
 def two_at_once(kv, folder):
     """A second kv on the file is told so, and the first goes on."""
     file = made(kv, folder)
@@ -266,4 +448,5 @@ def two_at_once(kv, folder):
     return "a second run on the file is refused, and the first one goes on"
 
 
-CASES = (closed_streams, failing_output, full_disk, small_disk, foreign, odd_names, folders, lines, words, two_at_once)
+CASES = (closed_streams, failing_output, full_disk, small_disk, foreign, odd_names, folders, lines, words, one_command, text_rows, loading, full_store, timed,
+         examples_of_help, examples_of_page, at_terminal, two_at_once)

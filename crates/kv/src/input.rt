@@ -1,3 +1,4 @@
+use crate::refusal::Refusal;
 use std::alloc::Global;
 use std::io::{BufRead, BufReader, Read};
 use std::{io, str};
@@ -56,5 +57,14 @@ impl<R: BufRead + Drop> Lines<R> {
             Ok(text) => Ok(Some(Line::Text(text))),
             Err(_) => Ok(Some(Line::NotText)),
         }
+    }
+}
+
+/// The text of a line.
+pub fn text_of(line: Line<'_>) -> Result<&str, Refusal> {
+    match line {
+        Line::Text(text) => Ok(text),
+        Line::NotText => Err(Refusal::NotText),
+        Line::TooLong => Err(Refusal::TooLong(MOST_BYTES)),
     }
 }

@@ -1,6 +1,7 @@
-use crate::command::{Command, Range};
+use crate::command::{Range, Request};
 use crate::opening::Device;
 use crate::refusal::{Refusal, Stop};
+use crate::statistics::Statistics;
 use base::Ts;
 use base::fault::Fault;
 use base::key::Key;
@@ -9,10 +10,9 @@ use database::{CommitError, Database, Transaction};
 use std::alloc::Global;
 use std::sync::Wait;
 
-/// What is answered to a line.
+/// What the store answers.
 #[derive(Drop)]
 pub enum Answer {
-    Help,
     Begun,
     Written,
     Aborted,
@@ -27,7 +27,7 @@ pub enum Answer {
     Tables(Vec<(Key, Row)>),
     /// The same, as lines that write them.
     Dump(Vec<(Key, Row)>),
-    Quit,
+    Status(Statistics),
 }
 
 /// A line that isn't obeyed: it is refused, or no further one can be obeyed either.
@@ -35,6 +35,18 @@ pub enum Answer {
 pub enum Failed {
     Refused(Refusal),
     Stopped(Stop),
+}
+
+impl From<Refusal> for Failed {
+    fn from(refusal: Refusal) -> Failed {
+        Failed::Refused(refusal)
+    }
+}
+
+impl From<Stop> for Failed {
+    fn from(stop: Stop) -> Failed {
+        Failed::Stopped(stop)
+    }
 }
 
 impl From<Fault> for Failed {
@@ -80,21 +92,20 @@ impl<'a, R: Wait + Drop> Session<'a, R> {
         }
     }
 
-    /// Obeys a line. Outside a transaction it is one by itself.
-    pub fn obey(&mut self, command: Command) -> Result<Answer, Failed> {
-        match command {
-            Command::Help => Ok(Answer::Help),
-            Command::Begin => self.begin(),
-            Command::Commit => self.commit(),
-            Command::Abort => self.abort(),
-            Command::Put { key, row } => self.write(key, Some(row)),
-            Command::Delete { key } => self.write(key, None),
-            Command::Get { key } => self.get(key),
-            Command::Scan(range) => Ok(Answer::Rows(self.scan(range)?)),
-            Command::Count { table } => self.count(table),
-            Command::Tables => Ok(Answer::Tables(self.all()?)),
-            Command::Dump => Ok(Answer::Dump(self.all()?)),
-            Command::Quit => Ok(Answer::Quit),
+    /// Obeys a request. Outside a transaction it is one by itself.
+    pub fn obey(&mut self, request: &Request) -> Result<Answer, Failed> {
+        match request {
+            Request::Begin => self.begin(),
+            Request::Commit => self.commit(),
+            Request::Abort => self.abort(),
+            Request::Put { key, row } => self.write(*key, Some(*row)),
+            Request::Delete { key } => self.write(*key, None),
+            Request::Get { key } => self.get(*key),
+            Request::Scan(range) => Ok(Answer::Rows(self.scan(*range)?)),
+            Request::Count { table } => self.count(*table),
+            Request::Tables => Ok(Answer::Tables(self.all()?)),
+            Request::Dump => Ok(Answer::Dump(self.all()?)),
+            Request::Status => self.status(),
         }
     }
 
@@ -169,14 +180,16 @@ impl<'a, R: Wait + Drop> Session<'a, R> {
     }
 
     fn count(&mut self, table: u16) -> Result<Answer, Failed> {
-        let rows = self.scan(Range {
-            table,
-            lo: 0,
-            hi: u64::MAX,
-            limit: u64::MAX,
-            is_reverse: false,
-        })?;
+        let rows = self.scan(Range::whole(table))?;
         Ok(Answer::Count(rows.len()))
+    }
+
+    fn status(&mut self) -> Result<Answer, Failed> {
+        let rows = self.all()?;
+        let geometry = self.database.geometry();
+        let status = self.database.status();
+        let statistics = Statistics::of(&geometry, &status, rows.len());
+        Ok(Answer::Status(statistics))
     }
 
     // The rows of all tables, of one snapshot.
@@ -222,7 +235,8 @@ fn write<R: Wait + Drop>(
     }
 }
 
-fn commit<R: Wait + Drop>(transaction: Transaction<'_, Device, R>) -> Result<Answer, Failed> {
+/// Commits what was written, and answers once that persists.
+pub fn commit<R: Wait + Drop>(transaction: Transaction<'_, Device, R>) -> Result<Answer, Failed> {
     match transaction.commit() {
         Ok(Some(timestamp)) => Ok(Answer::Committed(timestamp)),
         Ok(None) => Ok(Answer::Done),

@@ -1,0 +1,185 @@
+use crate::help::{LARGER, ROWS, TOPICS, Topic, Word};
+use crate::load::MOST_PUTS;
+use crate::rows::Shown;
+use crate::session::Answer;
+use base::key::Key;
+use base::row::Row;
+use std::io;
+
+/// Which ends of the program are terminals.
+#[derive(Clone, Copy)]
+pub struct Terminals {
+    pub input: bool,
+    pub output: bool,
+    pub error: bool,
+}
+
+/// For whom answers are printed.
+#[derive(Clone, Copy)]
+pub struct Manner {
+    /// A person types the lines and reads the answers: there is a prompt.
+    pub is_prompted: bool,
+    /// A person reads the answers: rows are a table.
+    pub is_table: bool,
+    /// Rows that are text are printed as that.
+    pub is_text: bool,
+    /// A person reads standard error.
+    pub is_watched: bool,
+}
+
+impl Manner {
+    /// As it befits those that are at the ends.
+    pub fn of(terminals: Terminals, reads_lines: bool, wants_text: bool) -> Manner {
+        let is_table = terminals.output && (terminals.input || !reads_lines);
+        Manner {
+            is_prompted: is_table && reads_lines,
+            is_table,
+            is_text: is_table || wants_text,
+            is_watched: terminals.error,
+        }
+    }
+}
+
+/// Prints answers.
+#[derive(Drop)]
+pub struct Printer<'a, R> {
+    pub rt: &'a R,
+    pub manner: Manner,
+}
+
+impl<R: Print> Printer<'_, R> {
+    pub fn prompt(&self, is_open: bool) -> io::Result<()> {
+        match (self.manner.is_prompted, is_open) {
+            (false, _) => Ok(()),
+            (true, false) => print!(self.rt; "kv> "),
+            (true, true) => print!(self.rt; "kv*> "),
+        }
+    }
+
+    pub fn print(&self, answer: &Answer) -> io::Result<()> {
+        match answer {
+            Answer::Begun => println!(self.rt; "begun"),
+            Answer::Written => println!(self.rt; "written"),
+            Answer::Aborted => println!(self.rt; "aborted"),
+            Answer::Committed(timestamp) => println!(self.rt; "committed {timestamp}"),
+            Answer::Done => println!(self.rt; "done"),
+            Answer::Row(Some(row)) => println!(self.rt; "row {}", self.shown(row)),
+            Answer::Row(None) => println!(self.rt; "none"),
+            Answer::Rows(rows) => self.print_rows(rows.as_slice()),
+            Answer::Count(count) => println!(self.rt; "count {count}"),
+            Answer::Tables(rows) => self.print_tables(rows.as_slice()),
+            Answer::Dump(rows) => self.print_dump(rows.as_slice()),
+            Answer::Status(statistics) => println!(self.rt; "{statistics}"),
+        }
+    }
+
+    fn shown<'b>(&self, row: &'b Row) -> Shown<'b> {
+        Shown {
+            row,
+            as_text: self.manner.is_text,
+        }
+    }
+
+    fn print_rows(&self, rows: &[(Key, Row)]) -> io::Result<()> {
+        if self.manner.is_table {
+            println!(self.rt; "{:>20} | row", "key")?;
+            println!(self.rt; "---------------------+----")?;
+        }
+        for (key, row) in rows {
+            self.print_row(key.key, row)?;
+        }
+        println!(self.rt; "end {}", rows.len())
+    }
+
+    fn print_row(&self, key: u64, row: &Row) -> io::Result<()> {
+        let shown = self.shown(row);
+        if self.manner.is_table {
+            println!(self.rt; "{key:>20} | {shown}")
+        } else {
+            println!(self.rt; "row {key} {shown}")
+        }
+    }
+
+    // How many rows each table has.
+    fn print_tables(&self, rows: &[(Key, Row)]) -> io::Result<()> {
+        if self.manner.is_table {
+            println!(self.rt; "table | rows")?;
+            println!(self.rt; "------+------")?;
+        }
+        let mut count: u64 = 0;
+        for (place, (key, _)) in rows.iter().enumerate() {
+            count = count.saturating_add(1);
+            if is_last_of_table(rows, place, key.table) {
+                self.print_count(key.table, count)?;
+                count = 0;
+            }
+        }
+        Ok(())
+    }
+
+    fn print_count(&self, table: u16, count: u64) -> io::Result<()> {
+        if self.manner.is_table {
+            println!(self.rt; "{table:>5} | {count:>5}")
+        } else {
+            println!(self.rt; "table {table} {count}")
+        }
+    }
+
+    // Lines that write the rows, in transactions.
+    fn print_dump(&self, rows: &[(Key, Row)]) -> io::Result<()> {
+        let mut puts: u64 = 0;
+        for (key, row) in rows {
+            if puts == 0 {
+                println!(self.rt; "begin")?;
+            }
+            println!(self.rt; "put {} {} {}", key.table, key.key, self.shown(row))?;
+            puts = puts.saturating_add(1) % MOST_PUTS;
+            if puts == 0 {
+                println!(self.rt; "commit")?;
+            }
+        }
+        if puts == 0 {
+            return Ok(());
+        }
+        println!(self.rt; "commit")
+    }
+
+    /// Explains a command, or lists them.
+    pub fn help(&self, word: Option<Word>) -> io::Result<()> {
+        match word {
+            Some(word) => self.explain_word(word),
+            None => self.list(),
+        }
+    }
+
+    fn explain_word(&self, word: Word) -> io::Result<()> {
+        for topic in &TOPICS {
+            if topic.word == word {
+                self.explain(topic)?;
+            }
+        }
+        Ok(())
+    }
+
+    fn explain(&self, topic: &Topic) -> io::Result<()> {
+        println!(self.rt; "{}", topic.form)?;
+        println!(self.rt; "{}", topic.long)?;
+        println!(self.rt; "For example:\n    {}", topic.example)
+    }
+
+    fn list(&self) -> io::Result<()> {
+        println!(self.rt; "{ROWS}")?;
+        for topic in &TOPICS {
+            println!(self.rt; "    {:<45} {}", topic.form, topic.short)?;
+        }
+        println!(self.rt; "{LARGER}")
+    }
+}
+
+// Whether the row at this place is the last one of its table.
+fn is_last_of_table(rows: &[(Key, Row)], place: usize, table: u16) -> bool {
+    match rows.get(place.saturating_add(1)) {
+        Some((next, _)) => next.table != table,
+        None => true,
+    }
+}

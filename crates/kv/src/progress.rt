@@ -1,0 +1,56 @@
+use std::rt::Clock;
+use std::time::{Duration, Instant};
+
+// After how many rows it is told again.
+const STEP: u64 = 1_024;
+
+/// What a person is told on standard error while rows are put.
+#[derive(Drop)]
+pub struct Progress<'a, R> {
+    rt: &'a R,
+    // Whether it is told at all, and since when it lasts.
+    start: Option<Instant>,
+    // How many rows are told.
+    told: u64,
+}
+
+impl<'a, R: Eprint + Clock> Progress<'a, R> {
+    /// Begins now.
+    pub fn new(rt: &'a R, is_shown: bool) -> Progress<'a, R> {
+        let start = if is_shown {
+            Instant::now(rt).ok()
+        } else {
+            None
+        };
+        Progress { rt, start, told: 0 }
+    }
+
+    /// Tells of so many rows, if that is due.
+    pub fn show(&mut self, rows: u64) {
+        if rows.saturating_sub(self.told) < STEP {
+            return;
+        }
+        self.told = rows;
+        if let Some(elapsed) = self.elapsed() {
+            let rate = rate(rows, elapsed);
+            let _ = eprint!(self.rt; "\rkv: {rows} rows, {rate} a second");
+        }
+    }
+
+    /// Ends the line, if one was begun.
+    pub fn end(&self) {
+        if self.start.is_some() && 0 < self.told {
+            let _ = eprintln!(self.rt; "");
+        }
+    }
+
+    fn elapsed(&self) -> Option<Duration> {
+        self.start?.elapsed(self.rt).ok()
+    }
+}
+
+// How many rows a second.
+fn rate(rows: u64, elapsed: Duration) -> u128 {
+    let thousand = u128::from(rows).saturating_mul(1_000);
+    thousand.checked_div(elapsed.as_millis()).unwrap_or(0)
+}

@@ -1,0 +1,142 @@
+use anyhow::{Error, bail};
+use base::row::Row;
+use hex::decode_to_slice;
+use std::{fmt, str};
+
+/// The row that a word spells: text in quotation marks, two hexadecimal digits for each byte, or `-` for no bytes.
+pub fn parse_row(command: &str, word: &str) -> Result<Row, Error> {
+    match word.strip_prefix('"') {
+        Some(text) => parse_text(command, text),
+        None if word == "-" => Ok(Row::new(&[])?),
+        None => parse_digits(command, word),
+    }
+}
+
+fn parse_digits(command: &str, word: &str) -> Result<Row, Error> {
+    let length = word.len() / 2;
+    if length > Row::LIMIT {
+        bail!(
+            "{command}: ROW has {length} bytes, and may have {}",
+            Row::LIMIT
+        );
+    }
+    let mut bytes = [0; Row::LIMIT];
+    match decode_to_slice(word, &mut bytes[..length]) {
+        Ok(()) => Ok(Row::new(&bytes[..length])?),
+        Err(_) => bail!(
+            "{command}: ROW {word:?} is neither hexadecimal digits, two for each byte, nor text in quotation marks"
+        ),
+    }
+}
+
+// The row of what stands behind the first quotation mark.
+fn parse_text(command: &str, text: &str) -> Result<Row, Error> {
+    let Some(text) = text.trim_end().strip_suffix('"') else {
+        bail!("{command}: ROW has no quotation mark at its end");
+    };
+    let mut bytes = Bytes::new();
+    let mut is_escaped = false;
+    for byte in text.bytes() {
+        match read_escaped(is_escaped, byte) {
+            Read::Byte(byte) => bytes.push(command, byte)?,
+            Read::Escape => {}
+            Read::Wrong(reason) => bail!("{command}: ROW {reason}"),
+        }
+        is_escaped = !is_escaped && byte == b'\\';
+    }
+    if is_escaped {
+        bail!("{command}: ROW has a backslash before its last quotation mark");
+    }
+    bytes.row()
+}
+
+// What a byte of the text gives.
+#[derive(Clone, Copy)]
+enum Read {
+    Byte(u8),
+    Escape,
+    Wrong(&'static str),
+}
+
+// A backslash stands before a quotation mark, a backslash, and n for a line feed.
+fn read_escaped(is_escaped: bool, byte: u8) -> Read {
+    match (is_escaped, byte) {
+        (false, b'\\') => Read::Escape,
+        (false, b'"') => Read::Wrong("has a quotation mark within the text without a backslash"),
+        (true, b'n') => Read::Byte(b'\n'),
+        (true, b'"' | b'\\') | (false, _) => Read::Byte(byte),
+        (true, _) => Read::Wrong("has a backslash before something else than \", \\ and n"),
+    }
+}
+
+// The bytes of a row so far.
+#[derive(Clone, Copy)]
+struct Bytes {
+    bytes: [u8; Row::LIMIT],
+    length: usize,
+}
+
+impl Bytes {
+    fn new() -> Bytes {
+        Bytes {
+            bytes: [0; Row::LIMIT],
+            length: 0,
+        }
+    }
+
+    fn push(&mut self, command: &str, byte: u8) -> Result<(), Error> {
+        let Some(place) = self.bytes.get_mut(self.length) else {
+            bail!("{command}: ROW has more than {} bytes", Row::LIMIT);
+        };
+        *place = byte;
+        self.length = self.length.saturating_add(1);
+        Ok(())
+    }
+
+    fn row(&self) -> Result<Row, Error> {
+        let length = self.length.min(Row::LIMIT);
+        Ok(Row::new(&self.bytes[..length])?)
+    }
+}
+
+/// A row as `put` takes it back.
+#[derive(Clone, Copy)]
+pub struct Shown<'a> {
+    pub row: &'a Row,
+    /// Text where the row is text that can be read; else digits alone.
+    pub as_text: bool,
+}
+
+impl fmt::Display for Shown<'_> {
+    fn fmt<W: fmt::Write>(&self, f: &mut fmt::Formatter<W>) -> fmt::Result {
+        match text_of(self.row) {
+            Some(text) if self.as_text => write_text(f, text),
+            _ => write!(f, "{}", self.row),
+        }
+    }
+}
+
+// The text that the row is, if it has characters, and no other control characters than line feeds.
+fn text_of(row: &Row) -> Option<&str> {
+    match str::from_utf8(row.as_bytes()) {
+        Ok(text) if !text.is_empty() && text.chars().all(is_shown) => Some(text),
+        _ => None,
+    }
+}
+
+fn is_shown(character: char) -> bool {
+    character == '\n' || !character.is_control()
+}
+
+fn write_text<W: fmt::Write>(f: &mut fmt::Formatter<W>, text: &str) -> fmt::Result {
+    f.write_char('"')?;
+    for character in text.chars() {
+        match character {
+            '\n' => f.write_str("\\n")?,
+            '"' => f.write_str("\\\"")?,
+            '\\' => f.write_str("\\\\")?,
+            _ => f.write_char(character)?,
+        }
+    }
+    f.write_char('"')
+}

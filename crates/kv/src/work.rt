@@ -1,0 +1,156 @@
+use crate::answers::{Manner, Printer, Terminals};
+use crate::command::Command;
+use crate::help::Word;
+use crate::opening::{Device, open};
+use crate::options::{Options, command_line, read_options};
+use crate::refusal::{Failure, Reason, Stop};
+use crate::shell::{answer_command, answer_lines};
+use anyhow::Error;
+use clap::error::ErrorKind;
+use database::{Database, Refused};
+use pmem_file::OpenError;
+use std::alloc::Global;
+use std::fs::File;
+use std::io;
+use std::rt::{Clock, Files};
+use std::sync::Wait;
+use std::thread::Threads;
+
+const DONE: u8 = 0;
+
+const FAILED: u8 = 1;
+
+const BAD_WORDS: u8 = 2;
+
+const REFUSED: u8 = 3;
+
+/// Does what the words of the command line say. The status.
+pub fn obey_words<
+    R: Input
+        + Print
+        + Eprint
+        + Clock
+        + Files<File = File>
+        + Threads
+        + Wait
+        + Copy
+        + Drop
+        + Send
+        + Sync
+        + 'static,
+>(rt: &R, alloc: Global, words: &[String], terminals: Terminals) -> u8 {
+    let command_line = match command_line(alloc) {
+        Ok(command_line) => command_line,
+        Err(error) => return tell_failed(rt, &io::Error::from(error)),
+    };
+    let matches = match command_line.try_get_matches_from(words) {
+        Ok(matches) => matches,
+        Err(error) => return refuse_words(rt, &error),
+    };
+    let options = match read_options(&matches) {
+        Ok(options) => options,
+        Err(error) => return tell_bad_words(rt, &error),
+    };
+    let manner = Manner::of(terminals, options.command.is_none(), options.is_text);
+    if let Some(Command::Help(word)) = &options.command {
+        return explain(rt, manner, *word);
+    }
+    match serve(rt, alloc, &options, manner) {
+        Ok(false) => DONE,
+        Ok(true) => REFUSED,
+        Err(failure) => fail(rt, options.file, &failure),
+    }
+}
+
+/// Says that the words can't be read. The status.
+pub fn tell_failed(rt: &impl Eprint, error: &io::Error) -> u8 {
+    let _ = eprintln!(rt; "kv: {error}");
+    FAILED
+}
+
+fn tell_bad_words(rt: &impl Eprint, error: &Error) -> u8 {
+    let _ = eprintln!(rt; "kv: {error}");
+    BAD_WORDS
+}
+
+// Says what is wrong with the words of the command line, or what they may be. The status.
+fn refuse_words(rt: &(impl Print + Eprint), error: &clap::Error) -> u8 {
+    if error.kind() == ErrorKind::OutOfMemory {
+        let _ = eprintln!(rt; "kv: out of memory");
+        return FAILED;
+    }
+    let _ = error.print(rt);
+    if error.use_stderr() { BAD_WORDS } else { DONE }
+}
+
+// Explains a command, or lists them. The status.
+fn explain(rt: &(impl Print + Eprint), manner: Manner, word: Option<Word>) -> u8 {
+    let printer = Printer { rt, manner };
+    match printer.help(word) {
+        Ok(()) => DONE,
+        Err(error) => tell_failed(rt, &error),
+    }
+}
+
+// Says why the store couldn't be used to the end. The status.
+fn fail(rt: &impl Eprint, name: &str, failure: &Failure) -> u8 {
+    let _ = eprintln!(rt; "kv: {name}: {failure}");
+    if let Failure::File(OpenError::Trailing { length, .. }) = failure {
+        let _ = eprintln!(rt; "kv: truncate -s {length} {name} cuts them off");
+    }
+    FAILED
+}
+
+// Opens the file, answers the command or each line of input, and closes the file. Whether a line was refused.
+fn serve<
+    R: Input
+        + Print
+        + Eprint
+        + Clock
+        + Files<File = File>
+        + Threads
+        + Wait
+        + Copy
+        + Drop
+        + Send
+        + Sync
+        + 'static,
+>(rt: &R, alloc: Global, options: &Options<'_>, manner: Manner) -> Result<bool, Failure> {
+    let device = open(rt, alloc, options.file, options.geometry)?;
+    let database = match Database::open(*rt, alloc, device) {
+        Ok(database) => database,
+        Err(refused) => return Err(Failure::NotOpened(reason_of(refused))),
+    };
+    let answered = match &options.command {
+        Some(command) => answer_command(rt, alloc, &database, manner, command),
+        None => answer_lines(rt, alloc, &database, manner),
+    };
+    let was_refused = close(database, answered)?;
+    if options.command.is_none() {
+        println!(rt; "closed").map_err(Stop::Output)?;
+    }
+    Ok(was_refused)
+}
+
+// Closes the store, and says what its use came to.
+fn close<R: Wait + Drop>(
+    database: Database<Device, R>,
+    answered: Result<bool, Stop>,
+) -> Result<bool, Failure> {
+    match database.close() {
+        Ok(_device) => Ok(answered?),
+        Err(refused) => {
+            let stop = answered.err().unwrap_or(Stop::AtClose);
+            let reason = reason_of(refused);
+            Err(Failure::NotClosed { reason, stop })
+        }
+    }
+}
+
+// Why the device failed, where a write or a sync of it did; else why the call was refused.
+fn reason_of(refused: Refused<Device>) -> Reason {
+    match refused.device.failure() {
+        Some(error) => Reason::Io(error),
+        None => Reason::Fault(refused.fault),
+    }
+}
