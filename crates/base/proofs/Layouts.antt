@@ -1,5 +1,5 @@
 -- What the versions of the format have in common.
-use Rattle.std.proofs.Common.{◌≡◌, ◌⊎◌, inl, inr, ℕ, ◌*◌, ◌-◌, ◌<◌, ◌≤◌, Bool, true, false, cond, refl, arith, nat_eq, nat_le}
+use Rattle.std.proofs.Common.{◌≡◌, ℕ, ◌*◌, ◌-◌, ◌<◌, ◌≤◌, Bool, true, false, cond, refl, arith, nat_eq, nat_le}
 use Rattle.std.specs.Prelude.{IsTrue}
 use Rattle.std.proofs.lemmas.Bool.{and_parts, leb-true}
 use Rattle.base.specs.Layout.{Layout, slot_words, row_limit, most_longs, is_between, is_known_version, is_in_limits, version_lines}
@@ -27,14 +27,6 @@ lines-words a = by (nat_eq a.version 3)
     by : (b : Bool) → cond b 16 8 ≡ 8 * cond (nat_eq (cond b 16 8) 16) 2 1
     by true = refl
     by false = refl
-
--- a slot is of one line and takes rows of 32 bytes, or of two and takes rows of 96
-pub either-width : (version : ℕ) → ((slot_words version ≡ 8) × (row_limit version ≡ 32)) ⊎ ((slot_words version ≡ 16) × (row_limit version ≡ 96))
-either-width version = by (nat_eq version 3)
-  where
-    by : (b : Bool) → (◌≡◌ {A = ℕ} (cond b 16 8) 8 × ◌≡◌ {A = ℕ} (cond b 96 32) 32) ⊎ (◌≡◌ {A = ℕ} (cond b 16 8) 16 × ◌≡◌ {A = ℕ} (cond b 96 32) 96)
-    by true = inr (refl, refl)
-    by false = inl (refl, refl)
 
 -- the longest row fills the words that are left of a slot
 pub row-fills : (version : ℕ) → row_limit version ≡ 8 * (slot_words version - 4)

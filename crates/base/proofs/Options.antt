@@ -1,14 +1,27 @@
 -- Options: the first of two, and when there is none.
-use Rattle.std.proofs.Common.{◌≡◌, ℕ, ◌≤◌, Bool, true, false, cond, not, refl, arith, nat_lt}
+use Rattle.std.proofs.Common.{◌≡◌, ℕ, ◌≤◌, Bool, true, false, List, [], ◌∷◌, cond, not, refl, ◌∙◌, ap, arith, nat_lt}
 use Rattle.std.specs.Prelude.{Option, Some, None, is_some, unwrap_or}
 use Rattle.std.specs.Option.{option_or, option_map}
 use Rattle.std.proofs.lemmas.Bool.{ltb-false}
-use Rattle.base.specs.Search.{some_if}
+use Rattle.base.specs.Search.{first_of, some_if}
 
 -- neither of two is there
 pub or-none : {X : Type 0} (a b : Option X) → option_or a b ≡ None → (a ≡ None) × (b ≡ None)
 or-none None b e = (refl, e)
 or-none (Some x) b e = absurd (cc e)
+
+-- none of a list is there
+abbrev pub AllNone : {X : Type 0} → List (Option X) → Type 0
+AllNone [] = Unit {0}
+AllNone (x ∷ xs) = (x ≡ None) × AllNone xs
+
+pub all_none : {X : Type 0} (xs : List (Option X)) → first_of xs ≡ None → AllNone xs
+all_none [] e = tt
+all_none (x ∷ xs) e = let both = or-none x (first_of xs) e in (both.0, all_none xs both.1)
+
+pub none_first : {X : Type 0} (xs : List (Option X)) → AllNone xs → first_of xs ≡ None
+none_first [] all = refl
+none_first (x ∷ xs) all = ap (λ a. option_or a (first_of xs)) all.0 ∙ none_first xs all.1
 
 pub option_or-none : {X : Type 0} (a : Option X) → option_or a None ≡ a
 option_or-none None = refl

@@ -1,3 +1,6 @@
+//! A visit looks at one slot, so that sessions may step between any two. Gaps are dropped only after a whole round and its fence:
+//! before that a crash may still leave a timestamp that lies in one, in some slot.
+
 ghost use Rattle.std.specs.Prelude.{◌≡◌, OnErr, OnOk, IfErr};
 
 use crate::readers::Readers;
@@ -52,6 +55,7 @@ impl Collector {
     }
 
     // Whether gaps stand that aren't swept.
+    #[inline(always)]
     fn is_due(&self, gaps: GapList) -> bool
         ensures { result ≡ is_due self.now.swept gaps }
     {
@@ -61,6 +65,7 @@ impl Collector {
     /// Visits the next place: it frees a slot whose version nobody reads any more. While gaps stand that aren't swept it
     /// sweeps the slot, by at most three operations, and at the closing place it waits until that persists. It takes no
     /// memory. Where the device fails, the slots and the collector are as before.
+    #[inline(always)]
     pub fn tick<D: Pmem, R: Readers>(
         &mut self,
         device: &mut D,
@@ -90,6 +95,7 @@ impl Collector {
     }
 
     // Visits the slot of the place.
+    #[inline(always)]
     fn visit_slot<D: Pmem, R: Readers>(
         &mut self,
         device: &mut D,
@@ -124,6 +130,7 @@ impl Collector {
     }
 
     // Visits the closing place.
+    #[inline(never)]
     fn end_sweep<D: Pmem>(&mut self, device: &mut D, gaps: GapList) -> Result<Visit, Fault>
         ensures visit { IfOk result (λ visit. visit ≡ SweepEnd) }
         ensures moved { OnOk result (self.new ≡ record { place = 0; swept = true }) }

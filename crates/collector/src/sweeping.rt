@@ -13,6 +13,7 @@ use pmem::Pmem;
 
 // Stores 0 in the begin and in the end of a slot where they lie in a gap, and flushes its first line, where both stand,
 // since an older value of theirs that lies in one may survive.
+#[inline(never)]
 pub(crate) fn sweep_slot<D: Pmem>(
     device: &mut D,
     geometry: Geometry,

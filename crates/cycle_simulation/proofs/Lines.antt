@@ -92,9 +92,6 @@ module _ (o : Origin) (q : State) (commits : List Commit) (kept : Keeps o q) (dr
 
   -- ---- one slot
 
-  any-writes : (key : Key) → Bool
-  any-writes key = list_any (writes_key key) commits
-
   -- each key is written once
   once : (key : Key) (m : ℕ) → sum_by (λ (c : Commit). sum_by (λ (w : Wrote). cond (key_eq key w.0) m 0) c.writes) commits ≡ cond (list_any (writes_key key) commits) m 0
   once key m =

@@ -41,6 +41,7 @@ impl SessionSet {
     }
 
     /// Whether the session is in the set.
+    #[inline(always)]
     pub fn contains(&self, session: u8) -> bool
         ensures { result ≡ has self.now session }
     {

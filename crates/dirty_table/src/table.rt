@@ -91,6 +91,7 @@ impl DirtyTable {
 
     /// The lowest line, from this one on, that one of the sessions touches: of their lines, which are listed by rising line
     /// and each once, the first that isn't below.
+    #[inline(always)]
     pub fn next(&self, sessions: &SessionSet, from: u64) -> Option<u64>
         ensures line { result ≡ find (nat_le from) (lines_touched (has sessions.now) self.now.touches) }
         ensures rising { IsTrue (are_rising (lines_touched (has sessions.now) self.now.touches)) }

@@ -20,6 +20,7 @@ pub(crate) fn is_touched(touches: &[Touch], session: u8, line: u64) -> bool
 }
 
 // How many come before the first whose line isn't below.
+#[inline(always)]
 fn place(touches: &[Touch], line: u64) -> usize
     requires { IsTrue (are_in_order touches.now) }
     ensures { result ≡ position_or_len (λ touch. nat_le line touch.line) touches.now }
@@ -28,6 +29,7 @@ fn place(touches: &[Touch], line: u64) -> usize
 }
 
 // Those whose lines aren't below this one.
+#[inline(always)]
 fn from_line(touches: &[Touch], line: u64) -> &[Touch]
     requires { IsTrue (are_in_order touches.now) }
     ensures { result.now ≡ drop (position_or_len (λ touch. nat_le line touch.line) touches.now) touches.now }
@@ -37,6 +39,7 @@ fn from_line(touches: &[Touch], line: u64) -> &[Touch]
 }
 
 // Whether the session touches the line, where none is below it.
+#[inline(always)]
 fn has_session(touches: &[Touch], session: u8, line: u64) -> bool
     requires { IsTrue (are_from line touches.now) }
     ensures { result ≡ is_touched touches.now session line }
@@ -51,6 +54,7 @@ fn has_session(touches: &[Touch], session: u8, line: u64) -> bool
 }
 
 /// Puts one in, where there is room, unless it is there.
+#[inline(always)]
 pub(crate) fn add(touches: &mut Vec<Touch>, touch: Touch)
     requires order { IsTrue (are_in_order touches.old.items) }
     requires room { vec_len touches.old < vec_capacity touches.old }
@@ -58,14 +62,17 @@ pub(crate) fn add(touches: &mut Vec<Touch>, touch: Touch)
     ensures len { vec_len touches.new ≤ vec_len touches.old + 1 }
     ensures capacity { vec_capacity touches.old ≤ vec_capacity touches.new }
 {
-    if is_touched(touches.as_slice(), touch.session, touch.line) {
+    let listed = touches.as_slice();
+    let place = place(listed, touch.line);
+    let (_, rest) = listed.split_at(place);
+    if has_session(rest, touch.session, touch.line) {
         return;
     }
-    let place = place(touches.as_slice(), touch.line);
     let _ = touches.insert(place, touch);
 }
 
 /// The first, from this line on, of one of the sessions.
+#[inline(always)]
 pub(crate) fn first(touches: &[Touch], sessions: &SessionSet, from: u64) -> Option<Touch>
     requires { IsTrue (are_in_order touches.now) }
     ensures { result ≡ find (λ touch. nat_le from touch.line && has sessions.now touch.session) touches.now }

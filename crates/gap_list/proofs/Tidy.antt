@@ -42,10 +42,3 @@ well_formed-tidy version r h =
     from_one (gap ∷ gaps) all =
         let parts = and_parts _ _ all in
         and_from _ _ (and_parts _ _ parts.0).0 (from_one gaps parts.1)
-
--- no gap ends past a timestamp that neither the list nor the range goes past
-pub with_gap-within : (last : ℕ) (added : Gap) (gaps : List Gap) → added.last ≤ last → list_all (λ gap. nat_le gap.last last) gaps ≡ true → list_all (λ gap. nat_le gap.last last) (with_gap added gaps) ≡ true
-with_gap-within last added gaps le all = with_gap-all (λ gap. nat_le gap.last last) joins added gaps (le-leb added.last last le) all
-  where
-    joins : (a b : Gap) → nat_le a.last last ≡ true → nat_le b.last last ≡ true → nat_le (both a b).last last ≡ true
-    joins a b f g = grind (arith, nat_tests)

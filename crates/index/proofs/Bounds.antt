@@ -1,16 +1,15 @@
 -- The rows of a range, key by key.
 use Rattle.std.proofs.Common.{◌≡◌, ℕ, Bool, true, false, ◌||◌, cond, List, [], ◌∷◌, ◌++◌, is_some, refl, sym, ◌∙◌, ap, subst, arith, append_assoc, append-nil}
-use Rattle.std.specs.Prelude.{Option, Some, None, unwrap_or, slice_index_or, All}
+use Rattle.std.specs.Prelude.{Option, Some, None, unwrap_or}
 use Rattle.std.specs.BTreeMap.{BTreeMap, IsOrdered, get}
-use Rattle.std.specs.BTreeMap.Range.{range_contains, entries_between, IsEntryInRange}
+use Rattle.std.specs.BTreeMap.Range.{range_contains, entries_between}
 use Rattle.std.specs.declared.ops.Bound.{Bound}
 use Rattle.std.proofs.lemmas.Bool.Decides.{nat_tests}
-use Rattle.std.proofs.lemmas.List.Elements.{All-head, All-tail}
 use Rattle.base.specs.declared.key.Key.{Key}
 use Rattle.base.specs.Keys.{key_eq, lookup_key}
 use Rattle.base.specs.Commits.{Tables, Lists}
 use Rattle.index.specs.declared.entry.Entry.{Entry}
-use Rattle.index.specs.Entries.{key_cmp, blank, entry_at}
+use Rattle.index.specs.Entries.{key_cmp, blank}
 use Rattle.index.specs.Reading.{CountsAs, ShowsTables, contains, ranged, bounds_of}
 use Rattle.index.specs.Walking.{AreLinked}
 use Rattle.index.specs.declared.ranges.KeyRange.{KeyRange}

@@ -123,9 +123,6 @@ get-either (y ∷ entries) e x (suc p) at = elim (get-either entries e x p at) [
 
 -- ---- places
 
-pub none-placed : ArePlaced [] []
-none-placed = record { there = λ key place found. absurd (cc found); once = λ key place entry at. absurd (cc at) }
-
 module _ (places : Places) (entries : Entries) (placed : ArePlaced places entries) where
   -- the entry at a place is that of its key
   pub is-at : (key : Key) (place : ℕ) (entry : Entry) → slice_get entries place ≡ Some (key, entry) → lookup_key entries key ≡ Some entry
@@ -278,23 +275,12 @@ kept entries key has k = by (key_eq key k) refl
     by true is = ap (has_room entries) (sym (key_eq-true key k is)) ∙ has
     by false is = refl
 
-pub gained : (old new : Entries) (key : Key) → has_room old key ≡ true → KeepsRoom old new → GainsRoom old new key
-gained old new key has keeps k = keeps k ∙ kept old key has k
-
 -- an entry that is set to what it was
 pub same : (old new : Entries) (key : Key) → Sets old new key (entry_at old key) → (k : Key) → entry_at new k ≡ entry_at old k
 same old new key sets k = sets k ∙ by (key_eq key k) refl
   where
     by : (b : Bool) → key_eq key k ≡ b → cond b (entry_at old key) (entry_at old k) ≡ entry_at old k
     by true is = ap (entry_at old) (key_eq-true key k is)
-    by false is = refl
-
--- nothing is set
-pub unset : (entries : Entries) (key : Key) → Sets entries entries key (entry_at entries key)
-unset entries key k = by (key_eq key k) refl
-  where
-    by : (b : Bool) → key_eq key k ≡ b → entry_at entries k ≡ cond b (entry_at entries key) (entry_at entries k)
-    by true is = ap (entry_at entries) (sym (key_eq-true key k is))
     by false is = refl
 
 -- a key without room has a blank entry

@@ -3,3 +3,4 @@ pub mod Slots
 pub mod Lookups
 pub mod Bounds
 pub mod Ways
+pub mod LiveKeys

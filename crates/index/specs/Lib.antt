@@ -1,3 +1,4 @@
 pub mod Entries
 pub mod Reading
 pub mod Walking
+pub mod Counting

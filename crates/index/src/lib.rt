@@ -1,7 +1,9 @@
 //! Where the versions of each key are, and reading rows as a snapshot sees them: links are followed from the newest on.
 #![tactic(auto)]
 
+mod counting;
 mod entry;
+mod hints;
 mod map;
 mod ranges;
 mod walking;

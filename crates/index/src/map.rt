@@ -1,4 +1,5 @@
 use crate::entry::Entry;
+use crate::hints::{hint_for, note, widen};
 use base::fault::Fault;
 use base::key::Key;
 use base::{SlotNo, Ts};
@@ -13,6 +14,8 @@ pub struct Index {
     pub(crate) entries: Vec<(Key, Entry)>,
     // By key the place of its entry.
     pub(crate) places: BTreeMap<Key, usize, Global>,
+    // Where an entry may be: tried first, and searched where it isn't.
+    hints: Vec<usize>,
 }
 
 impl Model for Index {
@@ -34,7 +37,7 @@ impl Index {
     ghost use Rattle.base.specs.Keys.{key_eq};
     ghost use Rattle.base.specs.declared.key.Key.{Key as KeyValue};
     ghost use Rattle.base.specs.declared.fault.Fault.TheVariants.{OutOfMemory};
-    ghost use Rattle.index.specs.Entries.{blank, entry_at, has_room, IsAt, live_of, head_of, Sets, KeepsRoom, GainsRoom, covered, forgotten};
+    ghost use Rattle.index.specs.Entries.{blank, entry_at, has_room, IsAt, ArePlaced, live_of, head_of, Sets, KeepsRoom, GainsRoom, covered, forgotten};
 
     /// Without versions.
     pub fn new(alloc: Global) -> Index
@@ -43,12 +46,38 @@ impl Index {
         Index {
             entries: Vec::new(alloc),
             places: BTreeMap::new(alloc),
+            hints: Vec::new(alloc),
+        }
+    }
+
+    /// With these entries, whose places these are. It takes no memory: the first draws note where entries may be.
+    pub fn of(
+        alloc: Global,
+        entries: Vec<(Key, Entry)>,
+        places: BTreeMap<Key, usize, Global>,
+    ) -> Index
+        requires { ArePlaced places.entries entries.items }
+        ensures { result ≡ entries.items }
+    {
+        Index {
+            entries,
+            places,
+            hints: Vec::new(alloc),
         }
     }
 
     /// At which place the key's entry is, if it has one. It stays there. The calls that take a place try it first, and search
     /// where the key's entry isn't there.
     pub fn place(&self, key: Key) -> Option<usize>
+        ensures some { IfSome result (λ place. IsAt self.now place key) }
+        ensures none { IfNone result (has_room self.now key ≡ false) }
+    {
+        self.seek(key, hint_for(self.hints.as_slice(), key))
+    }
+
+    // The same, by a descent of the map.
+    #[inline(never)]
+    fn search(&self, key: Key) -> Option<usize>
         ensures some { IfSome result (λ place. IsAt self.now place key) }
         ensures none { IfNone result (has_room self.now key ≡ false) }
     {
@@ -59,6 +88,7 @@ impl Index {
     }
 
     // The same, where it may be at this place.
+    #[inline(always)]
     fn seek(&self, key: Key, near: Option<usize>) -> Option<usize>
         ensures some { IfSome result (λ place. IsAt self.now place key) }
         ensures none { IfNone result (has_room self.now key ≡ false) }
@@ -68,10 +98,11 @@ impl Index {
                 return near;
             }
         }
-        self.place(key)
+        self.search(key)
     }
 
     // The entry at the place of the key.
+    #[inline(always)]
     fn entry_in(&self, place: usize, key: Key) -> Entry
         requires { IsAt self.now place key }
         ensures { result ≡ entry_at self.now key }
@@ -80,6 +111,7 @@ impl Index {
     }
 
     /// What is known of the key's versions.
+    #[inline(always)]
     pub fn entry(&self, key: Key, near: Option<usize>) -> Entry
         ensures { result ≡ entry_at self.now key }
     {
@@ -90,6 +122,7 @@ impl Index {
     }
 
     /// The slot of the key's covered row.
+    #[inline(always)]
     pub fn live(&self, key: Key, near: Option<usize>) -> Option<SlotNo>
         ensures { result ≡ live_of (entry_at self.now key) }
     {
@@ -98,6 +131,7 @@ impl Index {
 
     /// The slot that a new version of the key links to: the newest that has a row, drawn or covered, also one that a deletion
     /// ended.
+    #[inline(always)]
     pub fn link(&self, key: Key, near: Option<usize>) -> Option<SlotNo>
         ensures { result ≡ head_of (entry_at self.now key) }
     {
@@ -125,10 +159,14 @@ impl Index {
             return Err(Fault::OutOfMemory);
         }
         let place = self.entries.len();
+        if widen(&mut self.hints, self.entries.as_slice()).is_err() {
+            return Err(Fault::OutOfMemory);
+        }
         let Ok(_) = self.places.insert(key, place) else {
             return Err(Fault::OutOfMemory);
         };
         self.entries.push_reserved((key, entry));
+        note(self.hints.as_mut_slice(), key, place);
         Ok(())
     }
 
@@ -140,7 +178,13 @@ impl Index {
         ensures err { OnErr result (self.new ≡ self.old) }
     {
         match self.seek(key, near) {
-            Some(_) => Ok(()),
+            Some(place) => {
+                if widen(&mut self.hints, self.entries.as_slice()).is_err() {
+                    return Err(Fault::OutOfMemory);
+                }
+                note(self.hints.as_mut_slice(), key, place);
+                Ok(())
+            }
             None => self.add(key, Entry::blank()),
         }
     }
@@ -183,33 +227,6 @@ impl Index {
             ..entry
         };
         self.set_in(place, key, covered);
-    }
-
-    /// An opening found the key's covered row in the slot.
-    pub fn found(&mut self, key: Key, slot: SlotNo) -> Result<(), Fault>
-        ensures entries { OnOk result (Sets self.old self.new key (record (entry_at self.old key) { newest = Some slot; ended = false })) }
-        ensures room { OnOk result (GainsRoom self.old self.new key) }
-        ensures fault { IfErr result (λ fault. fault ≡ OutOfMemory) }
-        ensures err { OnErr result (self.new ≡ self.old) }
-    {
-        match self.place(key) {
-            Some(place) => {
-                let live = Entry {
-                    newest: Some(slot),
-                    ended: false,
-                    ..self.entry_in(place, key)
-                };
-                self.set_in(place, key, live);
-                Ok(())
-            }
-            None => {
-                let first = Entry {
-                    newest: Some(slot),
-                    ..Entry::blank()
-                };
-                self.add(key, first)
-            }
-        }
     }
 
     /// The key's version in the slot is freed. Where it isn't the newest covered one, nothing changes.

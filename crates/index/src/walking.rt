@@ -1,3 +1,6 @@
+//! A link stays when the version that it names is collected, so it may lead to a slot that holds something else by now. So a walk
+//! goes by what it finds: another key, or a version that began no earlier than the one that links to it, ends it.
+
 ghost use Rattle.std.specs.Prelude.{◌≡◌, ◌<◌, ℕ, Bool, List, IfSome, IfNone, Option};
 ghost use Rattle.std.specs.Option.{option_map};
 ghost use Rattle.base.specs.Commits.{Tables};

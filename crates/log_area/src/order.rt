@@ -1,9 +1,12 @@
+//! Gaps and long commits have one order alone, so what a record says has one spelling, and a place that holds anything else
+//! holds no record.
+
 ghost use Rattle.std.specs.Prelude.{◌≡◌, ◌+◌, ◌&&◌, not, nat_lt, nat_le};
 ghost use Rattle.base.specs.Records.{is_in, are_apart, are_rising};
 ghost use Rattle.log_area.specs.Codec.{are_within, are_out_of};
 
 use base::Ts;
-use base::gap::{Gap, Gaps};
+use base::gap::Gap;
 
 // Does each gap go up, not past this timestamp, and end well before the next begins?
 pub fn are_in_order(gaps: &[Gap], persisted: u64) -> bool
@@ -44,21 +47,21 @@ fn ends_before(gap: Gap, next: Gap) -> bool
 }
 
 // Do the long commits rise, from 1 to this timestamp and in no gap?
-pub fn are_longs(longs: &[Ts], gaps: Gaps, persisted: u64) -> bool
-    ensures { result ≡ (are_out_of gaps persisted longs.now && are_rising longs.now) }
+pub fn are_longs(longs: &[Ts], gaps: &[Gap], persisted: u64) -> bool
+    ensures { result ≡ (are_out_of gaps.now persisted longs.now && are_rising longs.now) }
 {
     are_out_of(gaps, persisted, longs) && are_rising(longs)
 }
 
 // Does each lie from 1 to this timestamp, in no gap?
-fn are_out_of(gaps: Gaps, persisted: u64, longs: &[Ts]) -> bool
-    ensures { result ≡ are_out_of gaps persisted longs.now }
+fn are_out_of(gaps: &[Gap], persisted: u64, longs: &[Ts]) -> bool
+    ensures { result ≡ are_out_of gaps.now persisted longs.now }
 {
     longs.iter().all(|long| is_out_of(gaps, persisted, *long))
 }
 
-fn is_out_of(gaps: Gaps, persisted: u64, timestamp: Ts) -> bool
-    ensures { result ≡ (nat_le 1 timestamp && nat_le timestamp persisted && not (is_in gaps timestamp)) }
+fn is_out_of(gaps: &[Gap], persisted: u64, timestamp: Ts) -> bool
+    ensures { result ≡ (nat_le 1 timestamp && nat_le timestamp persisted && not (is_in gaps.now timestamp)) }
 {
     1 <= timestamp && timestamp <= persisted && !is_in(gaps, timestamp)
 }
@@ -76,10 +79,10 @@ fn are_rising(timestamps: &[Ts]) -> bool
 }
 
 // Does the timestamp lie in one of the gaps?
-pub fn is_in(gaps: Gaps, timestamp: Ts) -> bool
-    ensures { result ≡ is_in gaps timestamp }
+pub fn is_in(gaps: &[Gap], timestamp: Ts) -> bool
+    ensures { result ≡ is_in gaps.now timestamp }
 {
-    gaps.as_slice().iter().any(|gap| holds(*gap, timestamp))
+    gaps.iter().any(|gap| holds(*gap, timestamp))
 }
 
 fn holds(gap: Gap, timestamp: Ts) -> bool

@@ -1,3 +1,6 @@
+//! The record of the greatest gate rules. A gate is stored once its record's body has persisted, so of all other places nothing
+//! but the gate is looked at: a body that is half written belongs to a gate that isn't there yet.
+
 ghost use Rattle.std.specs.Prelude.{◌≡◌, ◌*◌, ◌%◌, ◌^◌, ◌+◌, ◌<◌, ◌≤◌, ◌&&◌, ◌||◌, not, max, nat_eq, nat_le, IfOk, IfErr, IfSome, IfNone, Some};
 ghost use Rattle.base.specs.Records.{IsRecord};
 ghost use Rattle.base.specs.Search.{first_below};

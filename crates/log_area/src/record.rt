@@ -1,3 +1,6 @@
+//! A record is read by making one from a few words and asking whether its own words are those that the place holds: so reading
+//! and writing can't disagree.
+
 ghost use Rattle.std.specs.Prelude.{◌≡◌, ◌+◌, ◌-◌, ◌*◌, ◌<◌, ◌≤◌, ◌&&◌, ℕ, length, nat_le, slice_index, slice_index_or};
 ghost use Rattle.base.specs.Layout.{most_longs};
 ghost use Rattle.base.specs.Records.{is_in, no_gap};
@@ -88,7 +91,7 @@ impl Record {
     {
         1 <= timestamp
             && timestamp <= self.persisted
-            && !is_in(self.gaps, timestamp)
+            && !is_in(self.gaps.as_slice(), timestamp)
             && !self.longs.contains(timestamp)
     }
 
@@ -180,7 +183,7 @@ impl Record {
         self.has_rising_timestamps()
             && self.longs.as_slice().len() <= most_longs(version)
             && are_in_order(self.gaps.as_slice(), self.persisted)
-            && are_longs(self.longs.as_slice(), self.gaps, self.persisted)
+            && are_longs(self.longs.as_slice(), self.gaps.as_slice(), self.persisted)
     }
 
     fn has_rising_timestamps(&self) -> bool

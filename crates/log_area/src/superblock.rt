@@ -1,3 +1,5 @@
+//! The superblock says how long the device is, so an image that was cut or lengthened is refused.
+
 ghost use Rattle.std.specs.Prelude.{◌≡◌, ◌⊎◌, ◌+◌, ◌^◌, ◌<◌, ◌≤◌, ◌&&◌, nat_eq, ℕ, length, slice_index, IfOk, IfErr, OnOk, OnErr, Some, List};
 ghost use Rattle.base.specs.Layout.{total_words};
 ghost use Rattle.pmem.specs.Words.{HasOneFailure, IsSettledAt, Makes, Spares, image_of};

@@ -1,3 +1,5 @@
+//! The version is one word, so a crash leaves the old one or the new one.
+
 ghost use Rattle.std.specs.Prelude.{◌≡◌, ◌≢◌, ◌+◌, ◌<◌, ◌≤◌, IfErr, OnOk, OnErr};
 ghost use Rattle.pmem.specs.Words.{HasOneFailure, IsSettledAt, IsStore, Keeps, Makes, OldOr, Spares, operations_of};
 

@@ -1,3 +1,6 @@
+//! Where nobody steps meanwhile, at a format and at an opening, a record is written in one go, by the stages that the committer
+//! has.
+
 ghost use Rattle.std.specs.Prelude.{◌≡◌, ◌+◌, ◌<◌, ℕ, IfErr, OnOk, OnErr};
 ghost use Rattle.base.specs.Layout.{total_words};
 ghost use Rattle.base.specs.Records.{Record as Value};

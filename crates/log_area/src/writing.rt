@@ -1,3 +1,7 @@
+//! The gate is stored last, after a fence over the other 31 words, and a place is read by its gate. So a crash before that store
+//! leaves the record that ruled, and one after it leaves either, whole. A record goes into the place of the oldest one, so the one
+//! that rules isn't touched.
+
 use crate::{Record, WritingStage};
 use base::actor::Actor;
 use base::fault::Fault;
@@ -73,6 +77,7 @@ impl Writing {
 
     /// The next operation, and the stage that the committer reaches by it. If the device fails, the next tick tries
     /// the operation again.
+    #[inline(always)]
     pub fn tick<D: Pmem>(&mut self, device: &mut D) -> Result<Option<Stage>, Fault>
         requires unfinished { self.old.stage ≢ WritingStage.Done }
         requires size { (D.state device.old).words ≡ total_words self.old.layout }
@@ -103,6 +108,7 @@ impl Writing {
         Ok(reached)
     }
 
+    #[inline(always)]
     fn operate<D: Pmem>(&self, device: &mut D) -> Result<(), Fault>
         requires unfinished { self.now.stage ≢ WritingStage.Done }
         requires size { (D.state device.old).words ≡ total_words self.now.layout }

@@ -78,12 +78,6 @@ either_lists : (b : Bool) (x y : Reply) → lists x ≡ false → lists y ≡ fa
 either_lists true x y p q = p
 either_lists false x y p q = q
 
-polled_lists : (q : State) (o : Option Session) → lists (polled q o) ≡ false
-polled_lists q None = refl
-polled_lists q (Some (Active begun writes)) = refl
-polled_lists q (Some (Drew t)) = either_lists (has_timestamp q.history t) (Committed t) Waiting refl refl
-polled_lists q (Some WroteNothing) = refl
-
 ticked_on_lists : (q : State) (hand : Hand) (o : Option Stage) → lists (ticked_on q hand o) ≡ false
 ticked_on_lists q hand None = refl
 ticked_on_lists q hand (Some stage) = refl

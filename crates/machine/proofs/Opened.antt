@@ -12,7 +12,7 @@ use Rattle.base.specs.Search.{first_below}
 use Rattle.base.specs.Commits.{Commit, after, last_writer}
 use Rattle.base.specs.Layout.{Layout, most_longs, slot_words, total_words, is_in_limits, is_known_version}
 use Rattle.base.specs.Records.{Record, record_word, record_in, is_record, is_in, is_committed, is_well_formed, opened_gaps}
-use Rattle.base.specs.Images.{Image, IsSound, layout_of, ruling, ruling_place, place_words, greatest_gate, has_good_geometry, is_formatted, is_ruled, is_wrong_gate, key_of, begin_of, end_of, is_ahead, is_shown, is_misfit, is_second, is_bad_slot, ShownUnder, needs_sweep, is_near_limit, opening_fault}
+use Rattle.base.specs.Images.{Image, IsSound, layout_of, ruling, ruling_place, place_words, greatest_gate, has_good_geometry, is_formatted, is_ruled, is_wrong_gate, key_of, begin_of, end_of, is_ahead, is_shown, is_misfit, is_second, is_bad_slot, ShownUnder, faults_of, needs_sweep, is_near_limit, opening_fault}
 use Rattle.base.specs.Stands.{Stands}
 use Rattle.machine.specs.Machine.{State, Version, ByCommit}
 use Rattle.machine.specs.Openings.{IsOpenedGaps, IsUpToDate, opening_record, opened, opened_under, held_under, gaps_kept, swept, opened_slots}
@@ -23,7 +23,7 @@ use Rattle.machine.proofs.GapLists.{opened-gaps, one_gap_list}
 use Rattle.base.proofs.Alike.{HasRowsOf, CountsAlike, key-same, shown-same, good-same, tables-same}
 use Rattle.machine.proofs.OpenedRecords.{same-committed, swept-committed, uncommitted-in}
 use Rattle.machine.proofs.Sweeps.{swept_record, swept-size, swept-layout, swept-rows, swept-counts}
-use Rattle.base.proofs.Options.{or-none, map-none, some_if-none}
+use Rattle.base.proofs.Options.{or-none, all_none, map-none, some_if-none}
 
 -- what an opening finds, by this record and with these gaps
 pub record IsOpening (a : Layout) (r : Record) (image : Image) (history : List Commit) (gaps : List Gap) : Type 0 where
@@ -49,17 +49,13 @@ pub record IsWhole (image : Image) : Type 0 where
 
 pub whole-of : (image : Image) → IsSound image → IsWhole image
 whole-of image sound =
-    let a = or-none _ _ sound in
-    let b = or-none _ _ a.1 in
-    let c = or-none _ _ b.1 in
-    let d = or-none _ _ c.1 in
-    let e = or-none _ _ d.1 in
+    let (formatted, (known, (geometry, (gates, (ruled, _))))) = all_none (faults_of image) sound in
     record {
-      formatted = not-false (is_formatted image) (some_if-none (not (is_formatted image)) _ a.0);
-      gates = map-none Damaged (first_below (layout_of image).places (is_wrong_gate image)) d.0;
-      known = not-false (is_known_version (layout_of image).version) (some_if-none (not (is_known_version (layout_of image).version)) _ b.0);
-      geometry = not-false (has_good_geometry image) (some_if-none (not (has_good_geometry image)) _ c.0);
-      ruled = not-false (is_ruled image) (some_if-none (not (is_ruled image)) _ e.0);
+      formatted = not-false (is_formatted image) (some_if-none (not (is_formatted image)) _ formatted);
+      gates = map-none Damaged (first_below (layout_of image).places (is_wrong_gate image)) gates;
+      known = not-false (is_known_version (layout_of image).version) (some_if-none (not (is_known_version (layout_of image).version)) _ known);
+      geometry = not-false (has_good_geometry image) (some_if-none (not (has_good_geometry image)) _ geometry);
+      ruled = not-false (is_ruled image) (some_if-none (not (is_ruled image)) _ ruled);
     }
 
 pub size-of : (image : Image) → has_good_geometry image ≡ true → (is_in_limits (layout_of image) ≡ true) × (length image ≡ total_words (layout_of image))

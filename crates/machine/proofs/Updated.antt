@@ -1,18 +1,17 @@
 -- An image of the first version opens as one of the second, which has the same words but for the version.
 use Rattle.std.proofs.Common.{◌≡◌, ◌≢◌, ◌⊎◌, inl, inr, ℕ, zero, suc, ◌+◌, ◌*◌, ◌%◌, ◌^◌, ◌≤◌, max, Bool, true, false, cond, not, ◌&&◌, ◌||◌, nat_eq, nat_le, nat_lt, List, [], ◌∷◌, length, map, fold, refl, sym, ◌∙◌, ap, subst, arith}
-use Rattle.std.specs.Prelude.{◌/◌, Option, Some, None, is_some, slice_index, slice_range, drop, take, flat_map}
+use Rattle.std.specs.Prelude.{◌/◌, Some, None, is_some, slice_index, slice_range, drop, take, flat_map}
 use Rattle.std.specs.List.{list_all, range_with_len}
-use Rattle.std.specs.Option.{option_or, option_map}
+use Rattle.std.specs.Option.{option_map}
 use Rattle.std.specs.Int.{to_le_bytes, w64}
 use Rattle.std.proofs.lemmas.Bool.{and_parts, and_from, leb-true}
 use Rattle.base.specs.declared.gap.Gap.{Gap}
-use Rattle.base.specs.declared.fault.Fault.{Fault}
-use Rattle.base.specs.declared.fault.Fault.TheVariants.{BadGeometry, NotFormatted, Damaged, Version, TimestampsOut}
+use Rattle.base.specs.declared.fault.Fault.TheVariants.{Damaged, Version, TimestampsOut}
 use Rattle.base.specs.Commits.{Commit, last_writer}
 use Rattle.base.specs.Layout.{Layout, is_known_version, opened_layout, place_start}
 use Rattle.base.specs.Search.{count_below, first_below, some_if}
 use Rattle.base.specs.Records.{Record, record_in, record_word, is_record, is_well_formed, is_committed, is_in, opened_gaps}
-use Rattle.base.specs.Images.{Image, layout_of, gate_at, place_words, greatest_gate, ruling_place, ruling, is_ruled, is_formatted, has_good_geometry, is_wrong_gate, slot_word, key_of, row_of, bytes_of, is_shown, is_misfit, is_second, len_of, is_bad_slot, opening_fault, damage, is_near_limit, needs_sweep}
+use Rattle.base.specs.Images.{Image, layout_of, gate_at, place_words, greatest_gate, ruling_place, ruling, is_ruled, is_wrong_gate, slot_word, key_of, row_of, bytes_of, is_shown, is_misfit, is_second, len_of, is_bad_slot, faults_of, opening_fault, damage, is_near_limit, needs_sweep}
 use Rattle.base.specs.Keys.{key_eq}
 use Rattle.base.specs.Stands.{Stands, has_timestamp}
 use Rattle.machine.specs.Openings.{Counts, opened, opened_under, opened_slots, held_under, StandsOpening, gaps_kept, is_mark, lies_in_gap, lines_swept, record_counts, swept, words_swept, IsOpenedGaps}
@@ -20,7 +19,7 @@ use Rattle.machine.proofs.Sweeps.{swept-at}
 use Rattle.machine.specs.Machine.{ByCommit}
 use Rattle.machine.specs.Laws.{OpensUpdated, UpdatedOpen}
 use Rattle.base.proofs.WellFormed.{well_formed-parts, well_formed-from}
-use Rattle.base.proofs.Options.{or-none, some_if_not-none}
+use Rattle.base.proofs.Options.{AllNone, all_none, none_first, some_if_not-none}
 
 -- ---- versions
 
@@ -51,29 +50,6 @@ formed-more r e =
       within = parts.within;
       rising = parts.rising;
     })
-
--- ---- choices of faults
-
-none-or : {X : Type 0} → (a b : Option X) → a ≡ None → b ≡ None → option_or a b ≡ None
-none-or a b is more = ap (λ x. option_or x b) is ∙ more
-
-six : (a b c d e f : Option Fault) → option_or a (option_or b (option_or c (option_or d (option_or e (option_or f None))))) ≡ None → (a ≡ None) × (b ≡ None) × (c ≡ None) × (d ≡ None) × (e ≡ None) × (f ≡ None)
-six a b c d e f is =
-    let p = or-none a (option_or b (option_or c (option_or d (option_or e (option_or f None))))) is in
-    let q = or-none b (option_or c (option_or d (option_or e (option_or f None)))) p.1 in
-    let r = or-none c (option_or d (option_or e (option_or f None))) q.1 in
-    let s = or-none d (option_or e (option_or f None)) r.1 in
-    let t = or-none e (option_or f None) s.1 in
-    let u = or-none f None t.1 in
-    (p.0, q.0, r.0, s.0, t.0, u.0)
-
-all-six : (a b c d e f : Option Fault) → a ≡ None → b ≡ None → c ≡ None → d ≡ None → e ≡ None → f ≡ None → option_or a (option_or b (option_or c (option_or d (option_or e (option_or f None))))) ≡ None
-all-six a b c d e f pa pb pc pd pe pf =
-    none-or a (option_or b (option_or c (option_or d (option_or e (option_or f None))))) pa
-    (none-or b (option_or c (option_or d (option_or e (option_or f None)))) pb
-    (none-or c (option_or d (option_or e (option_or f None))) pc
-    (none-or d (option_or e (option_or f None)) pd
-    (none-or e (option_or f None) pe (none-or f None pf refl)))))
 
 -- ---- the words
 
@@ -184,19 +160,16 @@ module _ (first : ℕ) (words : List ℕ) where
   -- ---- what is wrong with it
 
   module _ (opens : opening_fault old ≡ None) where
-    s0 : (damage old ≡ None) × (option_or (some_if (is_near_limit old) TimestampsOut) None ≡ None)
-    s0 = or-none (damage old) (option_or (some_if (is_near_limit old) TimestampsOut) None) opens
+    s0 : AllNone (damage old ∷ some_if (is_near_limit old) TimestampsOut ∷ [])
+    s0 = all_none (damage old ∷ some_if (is_near_limit old) TimestampsOut ∷ []) opens
 
-    f : (some_if (not (is_formatted old)) NotFormatted ≡ None) × (some_if (not (is_known_version 1)) (Version 1) ≡ None) × (some_if (not (has_good_geometry old)) BadGeometry ≡ None)
-        × (option_map Damaged (first_below (layout_of old).places (is_wrong_gate old)) ≡ None) × (some_if (not (is_ruled old)) (Damaged (ruling_place old)) ≡ None)
-        × (option_map (λ slot. Damaged ((layout_of old).places + slot)) (first_below (layout_of old).slots (is_bad_slot (ruling old) old)) ≡ None)
-    f = six (some_if (not (is_formatted old)) NotFormatted) (some_if (not (is_known_version 1)) (Version 1)) (some_if (not (has_good_geometry old)) BadGeometry)
-        (option_map Damaged (first_below (layout_of old).places (is_wrong_gate old))) (some_if (not (is_ruled old)) (Damaged (ruling_place old)))
-        (option_map (λ slot. Damaged ((layout_of old).places + slot)) (first_below (layout_of old).slots (is_bad_slot (ruling old) old))) s0.0
+    f : AllNone (faults_of old)
+    f = all_none (faults_of old) s0.0
 
     ruled-new : is_ruled new ≡ true
     ruled-new =
-        let both = and_parts (not (nat_eq (greatest_gate old) 0)) (is_record 1 (place_words old (ruling_place old))) (some_if_not-none (is_ruled old) (Damaged (ruling_place old)) f.4) in
+        let (_, (_, (_, (_, (ruled, _))))) = f in
+        let both = and_parts (not (nat_eq (greatest_gate old) 0)) (is_record 1 (place_words old (ruling_place old))) (some_if_not-none (is_ruled old) (Damaged (ruling_place old)) ruled) in
         and_from (not (nat_eq (greatest_gate new) 0)) (is_record 2 (place_words new (ruling_place new)))
         (ap (λ (g : ℕ). not (nat_eq g 0)) greatest-same ∙ both.0) (ap (is_record 2) ruled-words ∙ more (place_words old (ruling_place old)) both.1)
       where
@@ -207,20 +180,33 @@ module _ (first : ℕ) (words : List ℕ) where
 
     sound-new : damage new ≡ None
     sound-new =
-        all-six (some_if (not (is_formatted new)) NotFormatted) (some_if (not (is_known_version 2)) (Version 2)) (some_if (not (has_good_geometry new)) BadGeometry)
-        (option_map Damaged (first_below (layout_of old).places (is_wrong_gate new))) (some_if (not (is_ruled new)) (Damaged (ruling_place new)))
-        (option_map (λ slot. Damaged ((layout_of old).places + slot)) (first_below (layout_of old).slots (is_bad_slot (ruling new) new)))
-        f.0 refl f.2
-        ((λ i. option_map Damaged (first_below (layout_of old).places (λ place. wrong-same place i))) ∙ f.3)
-        (ap (λ (b : Bool). some_if (not b) (Damaged (ruling_place new))) ruled-new)
-        (ap (λ (r : Record). option_map (λ slot. Damaged ((layout_of old).places + slot)) (first_below (layout_of old).slots (is_bad_slot r new))) ruling-same
-        ∙ (λ i. option_map (λ slot. Damaged ((layout_of old).places + slot)) (first_below (layout_of old).slots (λ slot. bad-same (ruling old) slot i))) ∙ f.5)
+        let (formatted, (_, (geometry, (gates, (_, (slots, _)))))) = f in
+        none_first (faults_of new) (
+          formatted,
+          (
+            refl,
+            (
+              geometry,
+              (
+                (λ i. option_map Damaged (first_below (layout_of old).places (λ place. wrong-same place i))) ∙ gates,
+                (
+                  ap (λ (b : Bool). some_if (not b) (Damaged (ruling_place new))) ruled-new,
+                  (
+                    ap (λ (r : Record). option_map (λ slot. Damaged ((layout_of old).places + slot)) (first_below (layout_of old).slots (is_bad_slot r new))) ruling-same
+                        ∙ (λ i. option_map (λ slot. Damaged ((layout_of old).places + slot)) (first_below (layout_of old).slots (λ slot. bad-same (ruling old) slot i))) ∙ slots,
+                    tt,
+                  ),
+                ),
+              ),
+            ),
+          ),
+        )
 
     near-same : is_near_limit new ≡ is_near_limit old
     near-same = ap (λ (r : Record). nat_le (2 ^ 62) (r.dirty + 2 * (layout_of old).window) || nat_le (2 ^ 62) (r.gate + 1)) ruling-same
 
     opens-new : opening_fault new ≡ None
-    opens-new = none-or (damage new) (option_or (some_if (is_near_limit new) TimestampsOut) None) sound-new (ap (λ (b : Bool). option_or (some_if b TimestampsOut) None) near-same ∙ s0.1)
+    opens-new = none_first (damage new ∷ some_if (is_near_limit new) TimestampsOut ∷ []) (sound-new, (ap (λ (b : Bool). some_if b TimestampsOut) near-same ∙ s0.1.0, tt))
 
     -- ---- what it stands for
 
@@ -284,11 +270,9 @@ module _ (first : ℕ) (words : List ℕ) where
 known-of : (first version : ℕ) (words : List ℕ) → opening_fault (first ∷ version ∷ words) ≡ None → is_known_version version ≡ true
 known-of first version words opens =
     let image : Image = first ∷ version ∷ words in
-    some_if_not-none (is_known_version version) (Version version)
-    (six (some_if (not (is_formatted image)) NotFormatted) (some_if (not (is_known_version version)) (Version version)) (some_if (not (has_good_geometry image)) BadGeometry)
-    (option_map Damaged (first_below (layout_of image).places (is_wrong_gate image))) (some_if (not (is_ruled image)) (Damaged (ruling_place image)))
-    (option_map (λ slot. Damaged ((layout_of image).places + slot)) (first_below (layout_of image).slots (is_bad_slot (ruling image) image)))
-    (or-none (damage image) (option_or (some_if (is_near_limit image) TimestampsOut) None) opens).0).1
+    let (sound, _) = all_none (damage image ∷ some_if (is_near_limit image) TimestampsOut ∷ []) opens in
+    let (_, (known, _)) = all_none (faults_of image) sound in
+    some_if_not-none (is_known_version version) (Version version) known
 
 -- an image of the second version is its own
 same-second : (first : ℕ) (words : List ℕ) → opening_fault (first ∷ 2 ∷ words) ≡ None → OpensUpdated (first ∷ 2 ∷ words)

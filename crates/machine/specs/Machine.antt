@@ -311,9 +311,9 @@ is_misplaced_in q step (Some session) = not (allows step (standing_of q session)
 abbrev pub is_misplaced : State → Step → Bool
 is_misplaced q step = option_map_or (λ n. is_misplaced_in q step (q.sessions n)) (session_of step) false
 
--- why a step is refused, want of memory and a failing device aside: the first in this order
-abbrev pub refusal : State → Step → Option Fault
-refusal q step = first_of (
+-- what speaks against a step, want of memory and a failing device aside, in this order
+abbrev pub refusals : State → Step → List (Option Fault)
+refusals q step =
     some_if q.failed Failed
     ∷ some_if (begins step && is_none (free_session q)) SessionsFull
     ∷ some_if (is_absent q step) NoSession
@@ -324,7 +324,11 @@ refusal q step = first_of (
     ∷ option_map Conflict (conflicts q step)
     ∷ some_if (draws q step && nat_eq q.next q.ruling.dirty) WindowFull
     ∷ some_if (draws q step && nat_le (2 ^ 62) (q.next + 2 * q.layout.window) || chooses q step && nat_le (2 ^ 62) (q.ruling.gate + 1)) TimestampsOut
-    ∷ [])
+    ∷ []
+
+-- why a step is refused: the first of them
+abbrev pub refusal : State → Step → Option Fault
+refusal q step = first_of (refusals q step)
 
 -- the steps that may be refused for want of memory: a draw only where it draws a timestamp
 abbrev pub takes_memory : State → Step → Bool

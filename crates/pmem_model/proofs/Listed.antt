@@ -58,26 +58,6 @@ module _ (lines room : ℕ) (counts listed : List ℕ) (actor line : ℕ) (listi
   other_count : (other : ℕ) → other ≢ actor → get_or (set counts actor (get_or counts actor 0 + 1)) other 0 ≡ get_or counts other 0
   other_count other apart = get_or-set_other counts actor other (get_or counts actor 0 + 1) 0 apart
 
-  pub listing-add : line < lines → IsListing lines room (set counts actor (get_or counts actor 0 + 1)) (set listed (64 * get_or counts actor 0 + actor) line)
-  listing-add in_lines = record {
-    within = λ other. elim (cases_eq other actor) [
-      | inl own ↦ omega (arith, ap (λ (a : ℕ). get_or (set counts actor (get_or counts actor 0 + 1)) a 0) own, own_count, unfull)
-      | inr apart ↦ omega (arith, other_count other apart, listing.within other)
-    ];
-    in_lines = λ other place lt lt'. elim (cases_eq other actor) [
-      | inl own ↦ elim (cases_eq place (get_or counts actor 0)) [
-        | inl here ↦ omega (arith, ap (λ (a : ℕ). line_at (set listed (64 * get_or counts actor 0 + actor) line) a place) own, there place here, in_lines)
-        | inr apart ↦
-            omega (
-              arith,
-              elsewhere other place lt (inr apart),
-              listing.in_lines other place lt (omega (arith, ap (λ (a : ℕ). get_or counts a 0) own, ap (λ (a : ℕ). get_or (set counts actor (get_or counts actor 0 + 1)) a 0) own, own_count, apart, lt')),
-            )
-      ]
-      | inr apart ↦ omega (arith, elsewhere other place lt (inl apart), listing.in_lines other place lt (omega (arith, other_count other apart, lt')))
-    ];
-  }
-
   pub pending-added : is_pending room (set counts actor (get_or counts actor 0 + 1)) (set listed (64 * get_or counts actor 0 + actor) line) actor line ≡ true
   pending-added =
       or_right (nat_le room (get_or (set counts actor (get_or counts actor 0 + 1)) actor 0)) _
@@ -127,19 +107,3 @@ listing_none lines room counts listed all = record {
   within = λ actor. omega (arith, zero_at counts actor all);
   in_lines = λ actor place lt k_lt. absurd (omega (arith, zero_at counts actor all, k_lt));
 }
-
--- nothing is pending that was cleared, and of others nothing changes
-pub listing-clear : (lines room : ℕ) (counts listed : List ℕ) (actor : ℕ) → IsListing lines room counts listed → actor < length counts → IsListing lines room (set counts actor 0) listed
-listing-clear lines room counts listed actor listing lt = record {
-  within = λ other. elim (cases_eq other actor) [
-    | inl own ↦ omega (arith, ap (λ (a : ℕ). get_or (set counts actor 0) a 0) own, get_or-set_same counts actor 0 0 lt)
-    | inr apart ↦ omega (arith, get_or-set_other counts actor other 0 0 apart, listing.within other)
-  ];
-  in_lines = λ other place small k_lt. elim (cases_eq other actor) [
-    | inl own ↦ absurd (omega (arith, ap (λ (a : ℕ). get_or (set counts actor 0) a 0) own, get_or-set_same counts actor 0 0 lt, k_lt))
-    | inr apart ↦ listing.in_lines other place small (omega (arith, get_or-set_other counts actor other 0 0 apart, k_lt))
-  ];
-}
-
-pub pending-clear : (room : ℕ) (counts listed : List ℕ) (actor other at : ℕ) → other ≢ actor → is_pending room counts listed other at ≡ true → is_pending room (set counts actor 0) listed other at ≡ true
-pending-clear room counts listed actor other at apart is = ap (λ (n : ℕ). nat_le room n || is_listed listed other at n) (get_or-set_other counts actor other 0 0 apart) ∙ is

@@ -12,18 +12,18 @@ use Rattle.base.specs.Images.{Image, layout_of, begin_of, end_of, link_of}
 use Rattle.machine.specs.Machine.{State, Drawn, Version, ByCommit, drawn_at}
 use Rattle.base.proofs.Lists.{all-take}
 use Rattle.pmem.specs.Words.{image_of}
-use Rattle.state_invariant.specs.Kept.{Origin, Keeps, HasSlot, wanted, version_by, last_of}
+use Rattle.state_invariant.specs.Kept.{Origin, Keeps, HasSlot, IsWhole, wanted, version_by, last_of}
 use Rattle.state_invariant.specs.Shown.{word_of, Spells, counts_at, Newest, Replaced, class_of_version, class_of_drawn, HasBegun, ShowsAs, SlotsShow, CanBeRead}
 use Rattle.state_invariant.specs.Links.{last_row, by_commit, Links, HoldsNewest}
 use Rattle.state_invariant.proofs.Commits.{committed-bounds, uncommitted-above}
 use Rattle.state_invariant.proofs.Records.{above-gaps}
 use Rattle.state_invariant.proofs.Opening.{passes-last_writer}
-use Rattle.state_invariant.proofs.Log.{place-within, written-place, at-fact, one-place, writer-place}
+use Rattle.state_invariant.proofs.Log.{IsReplaced, stays-or_replaced, place-within, written-place, at-fact, one-place, writer-place}
 use Rattle.state_invariant.proofs.LastRows.{row-place, row-there}
 use Rattle.state_invariant.proofs.Reading.{above-origin, counts-placed, drawn-facts, slot-seen-at, can-be-read}
 use Rattle.snapshot.specs.Snapshots.{Seen, covers}
-use Rattle.snapshot.specs.Walks.{IsOfKey, IsSeenAt, is_counted, Leads, arrives, passes}
-use Rattle.session_laws.specs.Sees.{SeesBegins}
+use Rattle.snapshot.specs.Walks.{IsOfKey, IsSeenAt, IsLinked, is_counted, Leads, arrives, passes}
+use Rattle.session_laws.specs.Sees.{SeesBegins, CoversFreed}
 use Rattle.session_laws.specs.Laws.{ChainsLead, LinksLead}
 use Rattle.session_laws.proofs.Reading.{begins-seen, size, ruled, shows, links}
 
@@ -205,10 +205,38 @@ module _ (o : Origin) (q : State) (image : Image) (s : Seen) (n : ℕ) (key : Ke
       let last : last_row q.history key ≡ Some r.timestamp = ap (λ (cs : List Commit). last_row cs key) (sym (take_all (length q.history) q.history (omega arith))) ∙ r.last in
       (r.slot, holds r.timestamp r.slot last r.within r.held, r.leads (2 ^ 64 - 1) (omega (arith, r.begun, kept.numbers.room)))
 
+leads : (o : Origin) (q : State) (image : Image) (s : Seen) (n : ℕ) (key : Key) (newest : Option ℕ) → layout_of image ≡ q.layout → length image ≡ total_words q.layout → Keeps o q
+    → SlotsShow o q (slice_index image) → Links o q (slice_index image) → CanBeRead o q (slice_index image) n → SeesBegins o q s n image → HoldsNewest q key newest → IsLinked s image key newest
+leads o q image s n key newest layout size kept shows links can sees holds = λ target seen. reached o q image s n key layout size kept shows links can sees target seen newest holds
+
+-- ---- of each snapshot that covers the ends of what was freed
+
+-- no version is gone that it or a later one sees
+pub whole-of : (o : Origin) (q : State) (value : ℕ → ℕ) (n : ℕ) → Keeps o q → CoversFreed o q value n → IsWhole q n
+whole-of o q value n kept freed m key row low high there = by (stays-or_replaced q.history key (last_writer (take m q.history) key) (Some row) m (length q.history) refl there high (omega arith))
+  where
+    by : ((last_writer (take (length q.history) q.history) key ≡ last_writer (take m q.history) key) × (after (take (length q.history) q.history) key ≡ Some row)) ⊎ IsReplaced q.history key (last_writer (take m q.history) key) m (length q.history) → HasSlot q (last_of q m key)
+    by (inl (last, here)) =
+        let s : HasSlot q (last_of q (length q.history) key) = kept.owns.since_snapshot (length q.history) (inl refl) (length q.history) key row (omega arith) (omega arith) here in
+        (s.0, s.1, s.2 ∙ ap (λ (t : ℕ). Some (version_by key (ByCommit t))) last)
+    by (inr r) = elim (freed.versions m key row r.commit high there (record { place = r.place; since = r.low; at = r.at; writes = r.writes; last = r.last })) [
+      | inl held ↦ held
+      | inr counts ↦ absurd (uncounted counts)
+    ]
+      where
+        since : o.opened ≤ r.place
+        since = omega (arith, freed.since, low, r.low)
+
+        uncounted : counts_at o q n r.commit.timestamp ≡ true → ⊥
+        uncounted counts =
+            let p = counts-placed o q kept n r.commit.timestamp (uncommitted-above o.ruling r.commit.timestamp (above-origin o q kept r.place r.commit since r.at)) counts in
+            omega (arith, p.high, low, r.low, one-place q.history o.opened p.place r.place p.commit r.commit kept.numbers.origin.distinct p.low since p.at r.at p.is)
+
 pub chains-lead : ChainsLead
-chains-lead o q image s n key newest layout size kept shows links can sees holds = λ target seen. reached o q image s n key layout size kept shows links can sees target seen newest holds
+chains-lead o q image s n key newest layout size kept shows links freed sees holds =
+    leads o q image s n key newest layout size kept shows links (record { since = freed.since; within = freed.within; whole = whole-of o q (slice_index image) n kept freed; freed = freed.slots }) sees holds
 
 pub links-lead : LinksLead
 links-lead o q device s begun key newest orderly u in_use sees holds =
-    chains-lead o q (image_of device) s begun key newest (ruled o q device s begun orderly u in_use sees).1.laid_out (size o q device s begun orderly u in_use sees) u.keeps (shows o q device s begun orderly u in_use sees)
+    leads o q (image_of device) s begun key newest (ruled o q device s begun orderly u in_use sees).1.laid_out (size o q device s begun orderly u in_use sees) u.keeps (shows o q device s begun orderly u in_use sees)
     (links o q device s begun orderly u in_use sees) (can-be-read o q u.keeps (slice_index (image_of device)) begun in_use (shows o q device s begun orderly u in_use sees)) (begins-seen o q device s begun orderly u in_use sees) holds

@@ -12,13 +12,13 @@ use Rattle.machine.specs.Machine.{State, Drawn, Hand, ByCommit, Stepped, drawn_o
 use Rattle.pmem.specs.Device.{Device, IsOrderly}
 use Rattle.pmem.specs.Words.{image_of}
 use Rattle.state_invariant.specs.Kept.{Origin, Keeps, KeepsHand, IsInUse, commits_of_life, version_by}
-use Rattle.state_invariant.specs.Shown.{SlotsShow, CanBeRead}
+use Rattle.state_invariant.specs.Shown.{SlotsShow}
 use Rattle.state_invariant.specs.Links.{Links, HoldsNewest}
 use Rattle.device_invariant.specs.Slots.{newest_of}
 use Rattle.device_invariant.specs.Upholds.{Upholds}
 use Rattle.snapshot.specs.Snapshots.{Seen, covers, seen_by}
 use Rattle.snapshot.specs.Walks.{IsLinked}
-use Rattle.session_laws.specs.Sees.{Sees, SeesBegins, ReadsBy, last_on, is_unseen}
+use Rattle.session_laws.specs.Sees.{Sees, SeesBegins, CoversFreed, ReadsBy, last_on, is_unseen}
 
 -- the ruling record is a snapshot of all that is covered
 abbrev pub PresentSees : Type 0
@@ -36,11 +36,11 @@ Reads =
     (o : Origin) (q : State) (device : Device) (snapshot : Seen) (begun : ℕ) → IsOrderly device → Upholds o q device → IsInUse q begun → Sees o q snapshot begun
     → ReadsBy (covers snapshot) q.layout (after (take begun q.history)) (image_of device)
 
--- from a key's newest version links lead to the one that a snapshot sees, of each that can be read
+-- from a key's newest version links lead to the one that a snapshot sees, of each that covers the ends of what was freed
 abbrev pub ChainsLead : Type 0
 ChainsLead =
     (o : Origin) (q : State) (image : Image) (snapshot : Seen) (n : ℕ) (key : Key) (newest : Option ℕ) → layout_of image ≡ q.layout → length image ≡ total_words q.layout → Keeps o q
-    → SlotsShow o q (slice_index image) → Links o q (slice_index image) → CanBeRead o q (slice_index image) n → SeesBegins o q snapshot n image → HoldsNewest q key newest → IsLinked snapshot image key newest
+    → SlotsShow o q (slice_index image) → Links o q (slice_index image) → CoversFreed o q (slice_index image) n → SeesBegins o q snapshot n image → HoldsNewest q key newest → IsLinked snapshot image key newest
 
 -- so they do on a device, of each snapshot in use
 abbrev pub LinksLead : Type 0

@@ -3,10 +3,6 @@ use Rattle.std.proofs.Common.{◌≡◌, ℕ, zero, suc, ◌<◌, Bool, true, fa
 use Rattle.std.specs.Option.{option_or}
 use Rattle.base.specs.Search.{first_below}
 
--- none yet, and not this one
-pub lowest_more : (n : ℕ) (test : ℕ → Bool) → first_below n test ≡ None → test n ≡ false → first_below (suc n) test ≡ None
-lowest_more n test none fails = λ i. option_or (none i) (cond (fails i) (Some n) None)
-
 -- it lies below the bound
 below_by : (n slot : ℕ) (o : Option ℕ) (b : Bool) → ((k : ℕ) → o ≡ Some k → k < n) → option_or o (cond b (Some n) None) ≡ Some slot → slot < suc n
 below_by n slot (Some k) b within e =

@@ -26,12 +26,6 @@ pub max-least : (p : ℕ) (ts : List ℕ) → p ≤ fold max p ts
 max-least p [] = omega arith
 max-least p (t ∷ ts) = omega (arith, max-least (max p t) ts)
 
-pub max-below : (p bound : ℕ) (ts : List ℕ) → p < bound → list_all (λ t. nat_lt t bound) ts ≡ true → fold max p ts < bound
-max-below p bound [] below all = below
-max-below p bound (t ∷ ts) below all =
-    let both = and_parts (nat_lt t bound) (list_all (λ t. nat_lt t bound) ts) all in
-    max-below (max p t) bound ts (omega (arith, below, ltb-true t bound both.0)) both.1
-
 pub max-has : (p t : ℕ) (ts : List ℕ) → list_any (nat_le t) ts ≡ true → t ≤ fold max p ts
 max-has p t [] any = absurd (cc any)
 max-has p t (u ∷ ts) any =

@@ -82,6 +82,7 @@ impl DrawnCommits {
     }
 
     /// The commit of this timestamp.
+    #[inline(always)]
     pub fn get(&self, timestamp: Ts) -> Option<&DrawnCommit>
         ensures { option_copied result ≡ drawn_at timestamp self.now.commits }
     {

@@ -26,6 +26,7 @@ impl Transaction {
     ghost use Rattle.txn.specs.WriteSets.{HasRoomFor, with_write_at};
 
     // Writes in place, where it is Active.
+    #[inline(always)]
     pub(crate) fn write(&mut self, write: Write)
         requires { (snapshot : Seen) (writes : List Write) → self.old ≡ Active snapshot writes → HasRoomFor write.key writes }
         ensures { (snapshot : Seen) (writes : List Write) → self.old ≡ Active snapshot writes → self.new ≡ Active snapshot (with_write_at write writes) }

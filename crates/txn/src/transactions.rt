@@ -1,4 +1,5 @@
-ghost use Rattle.std.specs.Prelude.{◌≡◌, ◌≤◌, ◌<◌, length, IfSome};
+ghost use Rattle.std.specs.Prelude.{◌≡◌, ◌⊎◌, ◌≤◌, ◌<◌, length, IfSome};
+ghost use Rattle.slab.specs.Slab.{slab_len};
 ghost use Rattle.txn.specs.Tables.{entry_at};
 
 use crate::transaction::Transaction;
@@ -17,6 +18,8 @@ use std::mem;
 pub struct Transactions {
     slab: Slab<Transaction>,
     places: [Option<usize>; 62],
+    // No session has a number from here on.
+    limit: u8,
     alloc: Global,
 }
 
@@ -26,11 +29,12 @@ impl Model for Transactions {
 
     ghost Value = { List (Option Transaction) };
 
-    ghost use Rattle.txn.specs.Tables.{listed, IsTable};
+    ghost use Rattle.std.specs.Prelude.{◌≤◌};
+    ghost use Rattle.txn.specs.Tables.{listed, IsTable, IsAbove};
 
     ghost view = { λ t. listed t.slab t.places };
 
-    ghost invariant = { λ t. IsTable t.slab t.places };
+    ghost invariant = { λ t. IsTable t.slab t.places × IsAbove t.limit t.places × (t.limit ≤ 64) };
 }
 
 // The lowest number that a session may have.
@@ -40,6 +44,7 @@ const FIRST: u8 = 2;
 const MOST: u8 = 62;
 
 // The place of the session of this number.
+#[inline(always)]
 fn place_of(places: &[Option<usize>; 62], number: u8) -> Option<usize>
     requires { length places.now ≡ 62 }
     ensures place { result ≡ entry_at places.now number }
@@ -49,6 +54,13 @@ fn place_of(places: &[Option<usize>; 62], number: u8) -> Option<usize>
         return None;
     }
     places[(number - FIRST) as usize]
+}
+
+// Above which number there is none: the same limit, or the lowest where all are gone.
+fn lowered(slab: &Slab<Transaction>, limit: u8) -> u8
+    ensures { (slab_len slab.now ≡ 0) × (result ≡ 2) ⊎ (result ≡ limit) }
+{
+    if slab.is_empty() { FIRST } else { limit }
 }
 
 impl Transactions {
@@ -68,6 +80,7 @@ impl Transactions {
         Transactions {
             slab: Slab::new(alloc),
             places: [None; 62],
+            limit: FIRST,
             alloc,
         }
     }
@@ -86,12 +99,21 @@ impl Transactions {
     }
 
     /// The transaction of this number. Numbers are from 2 to 63.
+    #[inline(always)]
     pub fn get(&self, number: u8) -> Option<&Transaction>
         ensures transaction { option_copied result ≡ transaction_at self.now number }
         ensures within { IfSome result (λ transaction. (2 ≤ number) × (number < 64)) }
     {
         let place = place_of(&self.places, number)?;
         self.slab.get(place)
+    }
+
+    /// Above the number of each session that is open.
+    pub fn limit(&self) -> u8
+        ensures none { (n : ℕ) → result ≤ n → transaction_at self.now n ≡ None }
+        ensures within { result ≤ 64 }
+    {
+        self.limit
     }
 
     /// Opens a transaction of this snapshot under the lowest number that is free. Its memory is taken here.
@@ -111,6 +133,7 @@ impl Transactions {
         match self.slab.insert(Transaction::Active { snapshot, writes }) {
             Ok(key) => {
                 self.places[(number - FIRST) as usize] = Some(key);
+                self.limit = self.limit.max(number + 1);
                 Ok(number)
             }
             Err(_) => Err(Fault::OutOfMemory),
@@ -137,6 +160,7 @@ impl Transactions {
         if let Some(place) = place_of(&self.places, number) {
             self.slab.try_remove(place);
             self.places[(number - FIRST) as usize] = None;
+            self.limit = lowered(&self.slab, self.limit);
         }
     }
 

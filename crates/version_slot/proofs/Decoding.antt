@@ -3,14 +3,13 @@ use Rattle.std.proofs.Common.{◌≡◌, inl, inr, ℕ, zero, suc, ◌+◌, ◌-
 use Rattle.std.specs.Int.{byte_at, bytes_low_first, from_le_bytes, to_le_bytes, w64}
 use Rattle.std.specs.List.{range_with_len}
 use Rattle.std.proofs.lemmas.Bool.{cases_eq, cases_lt, ne_eqb}
-use Rattle.std.proofs.lemmas.List.{get_or-drop, get_or-take, get_or_past, length-drop, length-take-le}
-use Rattle.std.proofs.lemmas.List.Edits.{fill_by_more}
+use Rattle.std.proofs.lemmas.List.{get_or-drop, get_or-take, get_or_past, get_or-set_same, get_or-set_other, length-drop, length-take-le}
 use Rattle.std.proofs.lemmas.List.FromFn.{get_or-map-range_with_len, length-map-range_with_len}
 use Rattle.std.proofs.lemmas.Nat.{le_bytes_8, mod_below, from_le_bytes-to_le_bytes_8}
 use Rattle.base.specs.Layout.{Layout, slot_words, row_limit}
 use Rattle.base.proofs.Layouts.{line-words, two-lines, row-fills}
 use Rattle.version_slot.specs.declared.words.Version.{Version}
-use Rattle.version_slot.specs.Words.{link_number, row_word, slot_byte, version_word, filled_word, IsVersion}
+use Rattle.version_slot.specs.Words.{link_number, row_word, slot_byte, version_word, IsVersion}
 
 -- eight bytes make the number
 pub same_word : (xs ys : List ℕ) → ((i : ℕ) → i < 8 → get_or xs i 0 ≡ get_or ys i 0) → from_le_bytes w64 xs ≡ from_le_bytes w64 ys
@@ -64,9 +63,6 @@ module _ (layout : Layout) (words : ℕ → ℕ) (v : Version) (is : IsVersion l
   pub byte_is : (i : ℕ) → i / 8 + 4 < slot_words layout.version → slot_byte words i ≡ get_or v.row i 0
   byte_is i lt = row_byte v.row words (slot_words layout.version - 4) i (λ k k_lt. row_words k (omega arith)) is.fits.bytes (omega arith)
 
-  pub table_is : words 3 % 2 ^ 16 ≡ v.key.table
-  table_is = omega (arith, words_3, is.fits.table)
-
   pub link_is : length v.row < 2 ^ 16 → words 3 / 2 ^ 32 ≡ link_number v.previous
   link_is short = omega (arith, words_3, is.fits.table, short)
 
@@ -75,24 +71,10 @@ module _ (layout : Layout) (words : ℕ → ℕ) (v : Version) (is : IsVersion l
 
 -- ---- a loop that fills a list
 
-pub set_more : (f : ℕ → ℕ) (xs : List ℕ) (i x : ℕ) → i < length xs → x ≡ f i → ((k : ℕ) → k < i → get_or xs k 0 ≡ f k) → (k : ℕ) → k < i + 1 → get_or (set xs i x) k 0 ≡ f k
-set_more f xs i x lt is before k k_lt = ap (λ (y : ℕ). get_or (set xs i y) k 0) is ∙ fill_by_more f xs i 0 lt before k k_lt
-
--- a list whose words from 2 on were stored one after the other
-pub word-of : (v : Version) (words : List ℕ) → get_or words 1 0 ≡ 0 → get_or words 2 0 ≡ v.key.key → get_or words 3 0 ≡ v.key.table + 2 ^ 16 * length v.row + 2 ^ 32 * link_number v.previous
-    → ((k : ℕ) → k < 12 → get_or words (4 + k) 0 ≡ row_word v.row k) → (w : ℕ) → 1 ≤ w → w < 16 → get_or words w 0 ≡ filled_word v w
-word-of v words end key header row w from to = elim (cases_lt w 4) [
-  | inr high ↦
-      let is : 4 + (w - 4) ≡ w = omega arith in
-      subst (λ (i : ℕ). get_or words i 0 ≡ filled_word v i) is
-      (row (w - 4) (omega arith) ∙ sym (ap (λ (b : Bool). cond b 0 (version_word v (4 + (w - 4)))) (ne_eqb (4 + (w - 4)) 1 (λ e. absurd (omega arith))) ∙ word_past v (w - 4)))
-  | inl low ↦ elim (cases_eq w 1) [
-    | inl is ↦ subst (λ (i : ℕ). get_or words i 0 ≡ filled_word v i) (sym is) end
-    | inr n1 ↦ elim (cases_eq w 2) [
-      | inl is ↦ subst (λ (i : ℕ). get_or words i 0 ≡ filled_word v i) (sym is) key
-      | inr n2 ↦ subst (λ (i : ℕ). get_or words i 0 ≡ filled_word v i) (let is : 3 ≡ w = omega arith in is) header
-    ]
-  ]
+pub set_from : (f : ℕ → ℕ) (xs : List ℕ) (first i x : ℕ) → i < length xs → x ≡ f i → ((k : ℕ) → first ≤ k → k < i → get_or xs k 0 ≡ f k) → (k : ℕ) → first ≤ k → k < i + 1 → get_or (set xs i x) k 0 ≡ f k
+set_from f xs first i x lt is before k from k_lt = elim (cases_eq k i) [
+  | inl here ↦ ap (λ (n : ℕ). get_or (set xs i x) n 0) here ∙ get_or-set_same xs i x 0 lt ∙ is ∙ ap f (sym here)
+  | inr apart ↦ get_or-set_other xs i k x 0 apart ∙ before k from (omega (arith, k_lt, apart))
 ]
 
 -- ---- words read

@@ -125,7 +125,7 @@ previous_in (suc slot) = Some slot
 abbrev pub version_of : Image → ℕ → Version
 version_of image slot = record { key = key_of image slot; row = row_of image slot; previous = previous_in (link_of image slot) }
 
-link-previous_in : (n : ℕ) → link_number (previous_in n) ≡ n
+pub link-previous_in : (n : ℕ) → link_number (previous_in n) ≡ n
 link-previous_in zero = refl
 link-previous_in (suc n) = omega arith
 

@@ -1,4 +1,6 @@
 pub mod Decoding
+mod Forming
 pub mod ImageSlots
 pub mod Operations
+mod Padding
 pub mod Parts

@@ -1,4 +1,4 @@
-ghost use Rattle.std.specs.Prelude.{◌≡◌, ◌↔◌, ◌+◌, ◌*◌, ◌^◌, ◌<◌, ◌≤◌, ℕ, drop, length, slice_index, EachIndex, IsTrue};
+ghost use Rattle.std.specs.Prelude.{◌≡◌, ◌↔◌, ◌+◌, ◌-◌, ◌*◌, ◌^◌, ◌<◌, ◌≤◌, ℕ, drop, length, slice_index, EachIndex, IsTrue};
 ghost use Rattle.std.specs.Int.{from_le_bytes, w64};
 ghost use Rattle.version_slot.specs.Words.{link_number, slot_byte};
 
@@ -39,10 +39,23 @@ pub fn row_bytes(words: &[u64; 16]) -> [u8; 96]
     bytes
 }
 
-pub fn are_zero(bytes: &[u8]) -> bool
-    ensures { IsTrue result ↔ EachIndex bytes.now (λ i. slice_index bytes.now i ≡ 0) }
+// Whether the bytes from one on are 0, of the row words of a slot that has so many words in all.
+pub fn is_padded(words: &[u64; 16], length: usize, count: usize) -> bool
+    requires few { (4 ≤ count) × (count ≤ 16) }
+    requires row { length ≤ 8 * (count - 4) }
+    ensures { IsTrue result ↔ ((i : ℕ) → length ≤ i → i < 8 * (count - 4) → slot_byte (slice_index words.now) i ≡ 0) }
 {
-    bytes.iter().all(|byte| *byte == 0)
+    let last = 4 + length / 8;
+    if last == count {
+        return true;
+    }
+    words[last] >> (8 * (length % 8)) == 0 && are_zero(&words[last + 1..count])
+}
+
+fn are_zero(words: &[u64]) -> bool
+    ensures { IsTrue result ↔ EachIndex words.now (λ k. slice_index words.now k ≡ 0) }
+{
+    words.iter().all(|word| *word == 0)
 }
 
 // A slot's word of the table, the row's length and the link.

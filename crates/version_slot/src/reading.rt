@@ -1,9 +1,10 @@
-ghost use Rattle.std.specs.Prelude.{◌≡◌, ◌<◌, IfSome, IfNone};
-ghost use Rattle.base.specs.Layout.{slot_start, total_words};
+ghost use Rattle.std.specs.Prelude.{◌≡◌, ◌<◌, ◌≤◌, ℕ, slice_index, IfSome, IfNone};
+ghost use Rattle.base.specs.Layout.{slot_start, slot_words, total_words};
 ghost use Rattle.pmem.specs.Words.{value_of};
-ghost use Rattle.version_slot.specs.Words.{IsSlot, key_in, slot_at};
+ghost use Rattle.version_slot.specs.Words.{IsSlot, IsVersion, key_in, slot_at};
+ghost use Rattle.version_slot.specs.declared.words.Version.{Version};
 
-use crate::words::Slot;
+use crate::words::{Slot, held_key};
 use base::geometry::Geometry;
 use base::key::Key;
 use pmem::Pmem;
@@ -15,12 +16,31 @@ pub fn read<D: Pmem>(device: &D, geometry: Geometry, slot: u64) -> Option<Slot>
     ensures some { IfSome result (IsSlot geometry (slot_at geometry slot (value_of (D.state device.now)))) }
     ensures none { IfNone result ((found : Slot) → ¬ IsSlot geometry (slot_at geometry slot (value_of (D.state device.now))) found) }
 {
+    Slot::from_words(&words_from(device, geometry, slot, 0), geometry)
+}
+
+/// The key of the version that a slot's words after begin and end hold. These two aren't loaded.
+pub fn read_key<D: Pmem>(device: &D, geometry: Geometry, slot: u64) -> Option<Key>
+    requires slot { slot < geometry.slots }
+    requires device { (D.state device.now).words ≡ total_words geometry }
+    ensures some { IfSome result (λ key. (version : Version) × IsVersion geometry (slot_at geometry slot (value_of (D.state device.now))) version × (version.key ≡ key)) }
+    ensures none { IfNone result ((version : Version) → ¬ IsVersion geometry (slot_at geometry slot (value_of (D.state device.now))) version) }
+{
+    held_key(&words_from(device, geometry, slot, 2), geometry)
+}
+
+// The last values of a slot's words from one on. A slot of one line has eight.
+fn words_from<D: Pmem>(device: &D, geometry: Geometry, slot: u64, first: usize) -> [u64; 16]
+    requires slot { slot < geometry.slots }
+    requires device { (D.state device.now).words ≡ total_words geometry }
+    ensures { (w : ℕ) → first ≤ w → w < slot_words geometry.version → slice_index result w ≡ slot_at geometry slot (value_of (D.state device.now)) w }
+{
     let start = geometry.slot_start(slot);
     let mut words = [0; 16];
-    for w in 0..geometry.slot_words() as usize {
+    for w in first..geometry.slot_words() as usize {
         words[w] = device.load(start + w);
     }
-    Slot::from_words(&words, geometry)
+    words
 }
 
 /// The key of the version that a slot's words hold, of words that hold one.

@@ -1,4 +1,8 @@
-use crate::bytes::{are_zero, header, link_of, previous_of, row_bytes, word_at};
+ghost use Rattle.std.specs.Prelude.{◌≡◌, ◌↔◌, slice_index, IfSome, IfNone, IsTrue};
+ghost use Rattle.version_slot.specs.Words.{IsVersion, IsWellFormed};
+ghost use Rattle.version_slot.specs.declared.words.Version.{Version as VersionHeld};
+
+use crate::bytes::{header, is_padded, link_of, previous_of, row_bytes, word_at};
 use base::geometry::Geometry;
 use base::key::Key;
 use base::row::Row;
@@ -31,17 +35,12 @@ impl Slot {
         ensures some { IfSome result (IsSlot geometry (slice_index words.now)) }
         ensures none { IfNone result ((slot : Slot) → ¬ IsSlot geometry (slice_index words.now) slot) }
     {
+        if !is_well_formed(words, geometry) {
+            return None;
+        }
         let header = words[3];
         let length = (header >> 16) % 65_536;
-        let link = header >> 32;
-        if length > geometry.row_limit() as u64 || link > geometry.slots() {
-            return None;
-        }
         let bytes = row_bytes(words);
-        let (row, padding) = bytes[..geometry.row_limit()].split_at(length as usize);
-        if !are_zero(padding) {
-            return None;
-        }
         Some(Slot {
             begin: words[0],
             end: words[1],
@@ -50,11 +49,37 @@ impl Slot {
                     table: (header % 65_536) as u16,
                     key: words[2],
                 },
-                row: Row::new(row).unwrap(),
-                previous: previous_of(link),
+                row: Row::new(&bytes[..length as usize]).unwrap(),
+                previous: previous_of(header >> 32),
             },
         })
     }
+}
+
+// Whether these words from the third on hold a version.
+fn is_well_formed(words: &[u64; 16], geometry: Geometry) -> bool
+    ensures { IsTrue result ↔ IsWellFormed geometry (slice_index words.now) }
+{
+    let length = (words[3] >> 16) % 65_536;
+    let link = words[3] >> 32;
+    if length > geometry.row_limit() as u64 || link > geometry.slots() {
+        return false;
+    }
+    is_padded(words, length as usize, geometry.slot_words() as usize)
+}
+
+// The key of the version that these words from the third on hold.
+pub(crate) fn held_key(words: &[u64; 16], geometry: Geometry) -> Option<Key>
+    ensures some { IfSome result (λ key. (version : VersionHeld) × IsVersion geometry (slice_index words.now) version × (version.key ≡ key)) }
+    ensures none { IfNone result ((version : VersionHeld) → ¬ IsVersion geometry (slice_index words.now) version) }
+{
+    if !is_well_formed(words, geometry) {
+        return None;
+    }
+    Some(Key {
+        table: (words[3] % 65_536) as u16,
+        key: words[2],
+    })
 }
 
 impl Version {

@@ -1,14 +1,13 @@
-use Rattle.std.proofs.Common.{◌+◌, ◌∙◌, ℕ, ap, arith}
-use Rattle.std.proofs.lemmas.List.{length-set}
+use Rattle.std.proofs.Common.{arith}
 use Rattle.pmem.specs.Words.{value_of}
 use Rattle.version_slot.specs.Words.{slot_at}
-use Rattle.version_slot.proofs.Decoding.{set_more}
+use Rattle.version_slot.proofs.Forming.{some-slot, none-slot}
 use Rattle.version_slot.proofs.reading.read.Goals as goal
 
-pub loop-w-preserved : goal.loop-w-preserved
-loop-w-preserved g c = record {
-  size = omega (arith, length-set {A = ℕ}, c.loop-w.invariant.size);
-  loaded =
-      set_more (slot_at c.args.geometry c.args.slot (value_of (g.D.Pmem.state c.args.device.now))) c.loop-w.words c.loop-w.w _ (omega (arith, c.loop-w.invariant.size, c.loop-w-test.true))
-      (c.load.ensures ∙ ap (λ (n : ℕ). value_of (g.D.Pmem.state c.args.device.now) (n + c.loop-w.w)) c.slot_start-start.ensures.value) c.loop-w.invariant.loaded;
-}
+pub returns-clause-some : goal.returns-clause-some
+returns-clause-some g c =
+    some-slot c.args.geometry _ (slot_at c.args.geometry c.args.slot (value_of (g.D.Pmem.state c.args.device.now))) (λ w high. c.words_from.ensures w (omega arith) high) c.from_words.result c.from_words.ensures.some
+
+pub returns-clause-none : goal.returns-clause-none
+returns-clause-none g c =
+    none-slot c.args.geometry _ (slot_at c.args.geometry c.args.slot (value_of (g.D.Pmem.state c.args.device.now))) (λ w high. c.words_from.ensures w (omega arith) high) c.from_words.result c.from_words.ensures.none

@@ -1,10 +1,8 @@
 use Rattle.std.proofs.Common.{◌≡◌, ◌∙◌, ◌++◌, ◌∷◌, [], ℕ, false, Some, cond, length, List, ap, sym, subst, rules}
-use Rattle.std.specs.BTreeMap.{is_at}
-use Rattle.std.specs.Map.{lookup}
 use Rattle.base.specs.declared.key.Key.{Key}
 use Rattle.base.specs.Keys.{key_eq, lookup_key}
 use Rattle.index.specs.declared.entry.Entry.{Entry}
-use Rattle.index.specs.Entries.{key_cmp, has_room, ArePlaced, Sets, GainsRoom}
+use Rattle.index.specs.Entries.{has_room, ArePlaced, Sets, GainsRoom}
 use Rattle.index.proofs.Changes.{updated, add-placed, add-sets, add-gains}
 use Rattle.index.proofs.map.Index.add.Goals as goal
 

@@ -15,4 +15,4 @@ returns-in-Some-get_mut c = λ snapshot writes at.
     ∙ sym (entry_at-listed c.self.inside.slab c.self.inside.places c.args.number) ∙ ap (λ (e : List (Option Transaction)). transaction_at e c.args.number) c.self.view_is ∙ at in
     let was : c.in-Some-get_mut.found.now ≡ Active snapshot writes = cc in
     let is : c.write.new.self ≡ Active snapshot (with_write_at c.args.write writes) = c.write.ensures snapshot writes was in
-    rw (← c.self.view_is, ← is) (put c.self.inside.slab c.self.inside.places c.args.number c.in-Some.place c.write.new.self c.self.invariant (sym c.in-Some.ensures.place)).sets
+    rw (← c.self.view_is, ← is) (put c.self.inside.slab c.self.inside.places c.args.number c.in-Some.place c.write.new.self c.self.invariant.0 (sym c.in-Some.ensures.place)).sets

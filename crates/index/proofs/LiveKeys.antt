@@ -1,0 +1,108 @@
+-- The keys of entries that have a covered row, each once.
+use Rattle.std.proofs.Common.{◌≡◌, ℕ, zero, suc, Bool, true, false, cond, ◌||◌, List, [], ◌∷◌, map, length, refl, sym, ◌∙◌, ap, arith, is_some}
+use Rattle.std.specs.Prelude.{Some, None, unwrap_or, slice_get, filter, count_by}
+use Rattle.std.specs.List.{IsDistinct, AllByRecursion, list_any}
+use Rattle.std.specs.Cmp.{IsEquivalence}
+use Rattle.std.proofs.lemmas.List.{length-map}
+use Rattle.std.proofs.lemmas.List.Sums.{length-filter}
+use Rattle.std.proofs.lemmas.Map.Made.{length-from_same_keys}
+use Rattle.base.specs.declared.key.Key.{Key}
+use Rattle.base.specs.Keys.{key_eq, lookup_key}
+use Rattle.base.proofs.Keys.{key_eq-true, key_eq-same, key_eq-swap}
+use Rattle.index.specs.declared.entry.Entry.{Entry}
+use Rattle.index.specs.Entries.{blank, entry_at, live_of, ArePlaced}
+use Rattle.index.specs.Counting.{AreLive}
+
+abbrev Entries : Type 0
+Entries = List (Key × Entry)
+
+-- it has a covered row
+abbrev pub is_live : Key × Entry → Bool
+is_live e = is_some (live_of e.1)
+
+abbrev keys_of : Entries → List Key
+keys_of entries = map (λ (e : Key × Entry). e.0) entries
+
+laws : IsEquivalence key_eq
+laws = record {
+  refl = key_eq-same;
+  symm = key_eq-swap;
+  congr = λ x y z same. ap (λ (k : Key). key_eq k z) (key_eq-true x y same);
+}
+
+-- ---- no two entries are of one key
+
+-- nowhere in the list is the key
+abbrev IsNowhere : Key → List Key → Type 0
+IsNowhere key keys = AllByRecursion (λ y. key_eq key y ≡ false) keys
+
+abbrev AreOnce : Entries → Type 0
+AreOnce entries = (i j : ℕ) (key : Key) (a b : Entry) → slice_get entries i ≡ Some (key, a) → slice_get entries j ≡ Some (key, b) → i ≡ j
+
+nowhere : (key : Key) (entries : Entries) → ((j : ℕ) (e : Key × Entry) → slice_get entries j ≡ Some e → key_eq key e.0 ≡ false) → IsNowhere key (keys_of entries)
+nowhere key [] apart = tt
+nowhere key (e ∷ entries) apart = (apart 0 e refl, nowhere key entries (λ j x at. apart (suc j) x at))
+
+distinct : (entries : Entries) → AreOnce entries → IsDistinct key_eq (keys_of entries)
+unfolding IsDistinct
+distinct [] once = tt
+distinct (e ∷ entries) once = (nowhere e.0 entries (λ j x at. apart j x at (key_eq e.0 x.0) refl), distinct entries (λ i j key a b p q. let later : suc i ≡ suc j = once (suc i) (suc j) key a b p q in omega (arith, later)))
+  where
+    apart : (j : ℕ) (x : Key × Entry) → slice_get entries j ≡ Some x → (b : Bool) → key_eq e.0 x.0 ≡ b → key_eq e.0 x.0 ≡ false
+    apart j x at false is = is
+    apart j x at true is =
+        let same : e.0 ≡ x.0 = key_eq-true e.0 x.0 is in
+        let first : 0 ≡ suc j = once 0 (suc j) x.0 e.1 x.1 (λ i. Some (same i, e.1)) at in
+        absurd (omega (arith, first))
+
+-- entries that are placed
+once-placed : (places : List (Key × ℕ)) (entries : Entries) → ArePlaced places entries → AreOnce entries
+once-placed places entries placed i j key a b p q =
+    let both : Some i ≡ Some j = sym (placed.once key i a p) ∙ placed.once key j b q in
+    cc both
+
+-- ---- those that are live
+
+still-nowhere : (key : Key) (entries : Entries) → IsNowhere key (keys_of entries) → IsNowhere key (keys_of (filter is_live entries))
+still-nowhere key [] apart = tt
+still-nowhere key (e ∷ entries) apart = by (is_live e) (still-nowhere key entries apart.1)
+  where
+    by : (b : Bool) → IsNowhere key (keys_of (filter is_live entries)) → IsNowhere key (keys_of (cond b (e ∷ filter is_live entries) (filter is_live entries)))
+    by true rest = (apart.0, rest)
+    by false rest = rest
+
+live-distinct : (entries : Entries) → IsDistinct key_eq (keys_of entries) → IsDistinct key_eq (keys_of (filter is_live entries))
+unfolding IsDistinct
+live-distinct [] apart = tt
+live-distinct (e ∷ entries) apart = by (is_live e) (live-distinct entries apart.1)
+  where
+    by : (b : Bool) → IsDistinct key_eq (keys_of (filter is_live entries)) → IsDistinct key_eq (keys_of (cond b (e ∷ filter is_live entries) (filter is_live entries)))
+    by true rest = (still-nowhere e.0 entries apart.0, rest)
+    by false rest = rest
+
+is-nowhere : (key : Key) (keys : List Key) → IsNowhere key keys → list_any (key_eq key) keys ≡ false
+is-nowhere key [] apart = refl
+is-nowhere key (k ∷ keys) apart = (λ i. apart.0 i || is-nowhere key keys apart.1 i)
+
+live-members : (entries : Entries) → IsDistinct key_eq (keys_of entries) → (key : Key) → list_any (key_eq key) (keys_of (filter is_live entries)) ≡ is_some (live_of (entry_at entries key))
+unfolding IsDistinct
+live-members [] apart key = refl
+live-members (e ∷ entries) apart key = by (live-members entries apart.1 key) (is_live e) refl (key_eq e.0 key) refl
+  where
+    by : list_any (key_eq key) (keys_of (filter is_live entries)) ≡ is_some (live_of (entry_at entries key)) → (b : Bool) → is_live e ≡ b → (c : Bool) → key_eq e.0 key ≡ c
+        → list_any (key_eq key) (keys_of (cond b (e ∷ filter is_live entries) (filter is_live entries))) ≡ is_some (live_of (unwrap_or (cond c (Some e.1) (lookup_key entries key)) blank))
+    by rest true live true same = ap (λ (b : Bool). b || list_any (key_eq key) (keys_of (filter is_live entries))) (key_eq-swap key e.0 ∙ same) ∙ sym live
+    by rest true live false same = ap (λ (b : Bool). b || list_any (key_eq key) (keys_of (filter is_live entries))) (key_eq-swap key e.0 ∙ same) ∙ rest
+    by rest false live true same =
+        ap (λ (k : Key). list_any (key_eq k) (keys_of (filter is_live entries))) (sym (key_eq-true e.0 key same))
+        ∙ is-nowhere e.0 (keys_of (filter is_live entries)) (still-nowhere e.0 entries apart.0)
+        ∙ sym live
+    by rest false live false same = rest
+
+-- so many they are as any list has that has each of their keys once
+pub live-counted : (places : List (Key × ℕ)) (entries : Entries) → ArePlaced places entries → (keys : List Key) → AreLive keys entries → count_by is_live entries ≡ length keys
+live-counted places entries placed keys live =
+    let apart : IsDistinct key_eq (keys_of entries) = distinct entries (once-placed places entries placed) in
+    sym (length-filter is_live entries)
+    ∙ sym (length-map (filter is_live entries) (λ (e : Key × Entry). e.0))
+    ∙ sym (length-from_same_keys laws keys (keys_of (filter is_live entries)) live.once (live-distinct entries apart) (λ key. live.same key ∙ sym (live-members entries apart key)))

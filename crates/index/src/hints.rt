@@ -1,0 +1,50 @@
+ghost use Rattle.std.specs.Prelude.{◌<◌};
+
+use crate::entry::Entry;
+use base::key::Key;
+use std::alloc::AllocError;
+
+// Where the entries of keys may be, each under a remainder of its key's numbers. Nothing rests on a hint being right: keys that
+// share a remainder only cost a search by the order of keys.
+
+const FEWEST: usize = 16;
+
+// Under which of so many hints the key's is.
+fn spot(key: Key, count: usize) -> usize
+    requires { 0 < count }
+    ensures { result < count }
+{
+    let number = key.key.wrapping_add(0x9E37_79B9 * key.table as u64);
+    (number % count as u64) as usize
+}
+
+/// Where the key's entry may be.
+#[inline(always)]
+pub(crate) fn hint_for(hints: &[usize], key: Key) -> Option<usize> {
+    if hints.is_empty() {
+        return None;
+    }
+    Some(hints[spot(key, hints.len())])
+}
+
+/// The key's entry is at this place.
+#[inline(always)]
+pub(crate) fn note(hints: &mut [usize], key: Key, place: usize) {
+    if !hints.is_empty() {
+        let at = spot(key, hints.len());
+        hints[at] = place;
+    }
+}
+
+/// Makes more hints, and all of them anew, where there are no more than entries.
+pub(crate) fn widen(hints: &mut Vec<usize>, entries: &[(Key, Entry)]) -> Result<(), AllocError> {
+    let count = entries.len();
+    if count < hints.len() {
+        return Ok(());
+    }
+    hints.resize(count.saturating_add(count).saturating_add(FEWEST), 0)?;
+    for place in 0..count {
+        note(hints.as_mut_slice(), entries[place].0, place);
+    }
+    Ok(())
+}

@@ -1,5 +1,0 @@
-use Rattle.slot_alloc.specs.Bits.{IsBuilt}
-use Rattle.slot_alloc.proofs.bits.FreeBits.new.Given as goal
-
-abbrev pub invariant-loop-slot : goal.invariant-loop-slot
-invariant-loop-slot l = IsBuilt l.free l.slot l.bits

@@ -1,0 +1,53 @@
+use Rattle.std.proofs.Common.{◌≡◌, ◌≢◌, ℕ, ◌*◌, ◌<◌, ◌/◌, ◌%◌, ◌^◌, List, Bool, true, length, length-set, get_or, set, nat_eq, bit_or, ◌∙◌, ap, arith, rules}
+use Rattle.std.specs.Int.{bit_at, w64}
+use Rattle.std.proofs.lemmas.Nat.Bits.{bit_at_set_same, bit_at_set_other}
+use Rattle.base.proofs.Lists.{read-same}
+use Rattle.slot_alloc.specs.Bits.{HoldsBits, bits_of}
+use Rattle.slot_alloc.proofs.Places.{size-of, view-set, clear-from, clear-before}
+use Rattle.slot_alloc.proofs.free.SlotAlloc.give.Goals as goal
+
+below : (n slot : ℕ) (words : List ℕ) (first : ℕ) (view : List Bool) → bits_of n words ≡ view → slot < length view → HoldsBits n first words → (slot < n) × (slot / 64 < length words)
+below n slot words first view is lt h =
+    let inside : slot < n = omega (arith, lt, ap (λ (l : List Bool). length l) is, size-of n words) in
+    (inside, omega (arith, inside, h.fits))
+
+module _ (words : List ℕ) (slot now : ℕ) (is : now ≡ get_or words (slot / 64) 0) where
+  same : nat_eq (bit_at (bit_or now (1 * 2 ^ (slot % 64) % 2 ^ 64)) (slot % 64)) 1 ≡ true
+  same = ap (λ (x : ℕ). nat_eq x 1) (bit_at_set_same w64 now (slot % 64) (omega arith))
+
+  others : (i : ℕ) → i < 64 → i ≢ slot % 64 → bit_at (bit_or now (1 * 2 ^ (slot % 64) % 2 ^ 64)) i ≡ bit_at (get_or words (slot / 64) 0) i
+  others i lt apart = bit_at_set_other w64 now (slot % 64) (omega arith) i apart ∙ ap (λ (w : ℕ). bit_at w i) is
+
+pub index_mut-requires : goal.index_mut-requires
+index_mut-requires c =
+    let at = below c.self.inside.slots c.args.slot c.self.inside.words.items c.self.inside.first c.args.self.now c.self.view_is c.requires c.self.invariant in
+    let lt = at.1 in
+    search rules
+
+pub invariant_of-self : goal.invariant_of-self
+invariant_of-self c =
+    let words = c.self.inside.words.items in
+    let slot = c.args.slot in
+    let h = c.self.invariant in
+    let at = below c.self.inside.slots slot words c.self.inside.first c.args.self.now c.self.view_is c.requires h in
+    let now = c.index_mut.result.now in
+    let is = read-same words (slot / 64) now at.1 c.index_mut.ensures.value in
+    let word = bit_or now (1 * 2 ^ (slot % 64) % 2 ^ 64) in
+    record {
+      fits = omega (arith, h.fits, length-set words (slot / 64) word);
+      few = omega (arith, h.few, length-set words (slot / 64) word);
+      low = omega (arith, h.low, c.min-self-inside.ensures, length-set words (slot / 64) word);
+      before = clear-before words slot word true at.1 (same words slot now is) (others words slot now is) c.min-self-inside.result (omega (arith, c.min-self-inside.ensures))
+          (λ k lt. h.before k (omega (arith, lt, c.min-self-inside.ensures)));
+      beyond = clear-from words slot word true at.1 (same words slot now is) (others words slot now is) c.self.inside.slots at.0 h.beyond;
+    }
+
+pub returns : goal.returns
+returns c =
+    let words = c.self.inside.words.items in
+    let slot = c.args.slot in
+    let at = below c.self.inside.slots slot words c.self.inside.first c.args.self.now c.self.view_is c.requires c.self.invariant in
+    let now = c.index_mut.result.now in
+    let is = read-same words (slot / 64) now at.1 c.index_mut.ensures.value in
+    view-set words slot (bit_or now (1 * 2 ^ (slot % 64) % 2 ^ 64)) true at.1 (same words slot now is) (others words slot now is) c.self.inside.slots at.0
+    ∙ ap (λ (l : List Bool). set l slot true) c.self.view_is
