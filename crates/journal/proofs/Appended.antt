@@ -1,5 +1,5 @@
 -- Lines are appended to the journal of a file.
-use Rattle.std.proofs.Common.{◌≡◌, ◌⊎◌, inl, inr, ℕ, zero, suc, ◌+◌, ◌-◌, ◌<◌, ◌≤◌, Bool, true, cond, ◌==◌, List, [], ◌∷◌, ◌++◌, length, map, take, drop, get_or, refl, sym, ◌∙◌, ap, subst, arith}
+use Rattle.std.proofs.Common.{◌≡◌, ◌⊎◌, inl, inr, ℕ, zero, suc, ◌+◌, ◌-◌, ◌<◌, ◌≤◌, Bool, true, ◌==◌, List, [], ◌∷◌, ◌++◌, length, map, take, drop, get_or, refl, sym, ◌∙◌, ap, subst, arith}
 use Rattle.std.proofs.Math.Logic.{∥∥₁_map}
 use Rattle.std.proofs.lemmas.Bool.{cases_lt}
 use Rattle.std.proofs.lemmas.List.{length-take, length-drop, length-append, get_or-take, get_or-drop, get_or_past, get_or_append_left, get_or-append-add, ext_get_or, append_assoc, take-append-drop, map-append}
@@ -312,14 +312,6 @@ may-kept may_hold words room pass position next image some size (inl is) = is
 may-kept may_hold words room pass position next image some size (inr stood) =
     let by : IsStoodFor may_hold words room image = subst (λ (n : ℕ). IsStoodFor may_hold n room image) size stood in
     equal_out image next (∥∥₁_map some (λ r. equal_out image next (known-opens may_hold words room pass next r.known by.file image by.found by.opens)))
-
-pub may-tried : (old new : ℕ → ℕ → Type 0) (room : ℕ) (durable next image : List ℕ) → FoundEither new (length durable) room durable next → (image ≡ durable) ⊎ IsStoodFor new (length durable) room image
-    → ((image ≡ durable) ⊎ IsStoodFor old (length durable) room image) ⊎ (image ≡ next)
-may-tried old new room durable next image either (inl is) = inl (inl is)
-may-tried old new room durable next image either (inr stood) = elim (either stood.file image stood.found stood.opens) [
-  | inl is ↦ inl (inl is)
-  | inr is ↦ inr is
-]
 
 -- ---- a file that was read
 

@@ -1,8 +1,8 @@
 -- Lines that put what differs.
-use Rattle.std.proofs.Common.{◌≡◌, ◌⊎◌, inl, inr, ℕ, zero, suc, ◌+◌, ◌-◌, ◌*◌, ◌/◌, ◌%◌, ◌<◌, ◌≤◌, ◌^◌, Bool, true, false, cond, ◌||◌, List, [], ◌∷◌, ◌++◌, length, map, get_or, ◌==◌, refl, sym, ◌∙◌, ap, subst, arith}
+use Rattle.std.proofs.Common.{◌≡◌, ◌⊎◌, inl, inr, ℕ, zero, suc, ◌+◌, ◌*◌, ◌/◌, ◌%◌, ◌<◌, ◌≤◌, ◌^◌, Bool, true, false, cond, ◌||◌, List, [], ◌∷◌, ◌++◌, length, map, get_or, ◌==◌, refl, sym, ◌∙◌, ap, subst, arith}
 use Rattle.std.specs.Prelude.{All}
-use Rattle.std.proofs.lemmas.Bool.{cases_lt, eqb-true, false≢true}
-use Rattle.std.proofs.lemmas.List.{length-append, length-map, ext_get_or}
+use Rattle.std.proofs.lemmas.Bool.{or_cases, or_left, or_right, eqb-true, false≢true}
+use Rattle.std.proofs.lemmas.List.{length-map, ext_get_or}
 use Rattle.std.proofs.lemmas.List.Elements.{All-append, All-cons}
 use Rattle.journal.specs.declared.line.Line.{Line}
 use Rattle.journal.specs.Kept.{IsPut, is_put_at}
@@ -10,7 +10,7 @@ use Rattle.journal.specs.Entries.{marked, entry}
 use Rattle.journal.specs.LinePayloads.{low, packed, line_payloads, payloads_of_lines, IsLine}
 use Rattle.journal.specs.InPlace.{put_over}
 use Rattle.journal.specs.Opened.{AreLines}
-use Rattle.journal.specs.Changes.{AreChanged}
+use Rattle.journal.specs.Changes.{AreChanged, AreFound, DiffersIn, is_listed}
 use Rattle.journal.proofs.LineRuns.{put-parts, at-more, at-last}
 use Rattle.journal.proofs.Opened.{size}
 
@@ -36,78 +36,84 @@ over_puts (line ∷ lines) word v = by_test (line.number == word / 8) refl (over
           | inr none ↦ inr (ap (λ (b : Bool). b || is_put_at lines (word / 8)) here ∙ none.0, is ∙ none.1)
         ]
 
--- so the changed lines make the words of the durable ones
-pub changed-over : (lines : List Line) (durable words : List ℕ) (count : ℕ) → AreChanged lines durable words count → (word : ℕ) → word < 8 * count → put_over lines word (get_or durable word 0) ≡ get_or words word 0
-changed-over lines durable words count changed word lt = elim (over_puts lines word (get_or durable word 0)) [
-  | inl put ↦ changed.puts word (put_over lines word (get_or durable word 0)) put
-  | inr none ↦ elim (changed.has word lt) [
-    | inl at ↦ absurd (false≢true (sym none.0 ∙ at))
-    | inr same ↦ none.1 ∙ same
+-- so the lines of the numbers in which words differ make them of the durable ones
+pub found-changed : (lines : List Line) (durable words numbers : List ℕ) → AreFound lines durable words numbers → DiffersIn numbers words durable → AreChanged lines durable words
+found-changed lines durable words numbers found differs = record {
+  makes = λ word lt. elim (over_puts lines word (get_or durable word 0)) [
+    | inl put ↦ found.puts word (put_over lines word (get_or durable word 0)) put
+    | inr none ↦ none.1 ∙ stood word lt none.0 (is_listed numbers (word / 8)) refl
+  ];
+  lines_are = found.lines_are;
+  within = found.within;
+}
+  where
+    stood : (word : ℕ) → word < length words → is_put_at lines (word / 8) ≡ false → (b : Bool) → is_listed numbers (word / 8) ≡ b → get_or durable word 0 ≡ get_or words word 0
+    stood word lt none false is = differs.others word lt is
+    stood word lt none true is = elim (found.has word lt is) [
+      | inl at ↦ absurd (false≢true (sym none ∙ at))
+      | inr same ↦ same
+    ]
+
+-- ---- one number more
+
+listed-cases : (numbers : List ℕ) (last number : ℕ) → is_listed (numbers ++ last ∷ []) number ≡ true → (is_listed numbers number ≡ true) ⊎ (last ≡ number)
+listed-cases [] last number is = elim (or_cases (last == number) false is) [
+  | inl here ↦ inr (eqb-true last number here)
+  | inr none ↦ absurd (false≢true none)
+]
+listed-cases (first ∷ numbers) last number is = elim (or_cases (first == number) (is_listed (numbers ++ last ∷ []) number) is) [
+  | inl here ↦ inl (or_left (first == number) (is_listed numbers number) here)
+  | inr there ↦ elim (listed-cases numbers last number there) [
+    | inl among ↦ inl (or_right (first == number) (is_listed numbers number) among)
+    | inr is_last ↦ inr is_last
   ]
 ]
 
--- ---- one line more
-
-pub changed-none : (durable words : List ℕ) → AreChanged [] durable words 0
-changed-none durable words = record {
+pub found-none : (durable words : List ℕ) → AreFound [] durable words []
+found-none durable words = record {
   puts = λ word x put. absurd put;
-  has = λ word lt. absurd (omega (arith, lt));
+  has = λ word lt is. absurd (false≢true is);
   lines_are = λ k d lt. absurd (omega (arith, lt));
   within = λ k d lt. absurd (omega (arith, lt));
 }
 
-all_more : (P : Line → Type 0) (lines : List Line) (line : Line) → All P lines → P line → All P (lines ++ line ∷ [])
-all_more P lines line all here = All-append P lines (line ∷ []) all (All-cons P line [] here (λ k d lt. absurd (omega (arith, lt))))
-
-pub changed-pushed : (lines : List Line) (line : Line) (durable words : List ℕ) (count : ℕ) → AreChanged lines durable words count → IsLine line → 8 * line.number + 8 ≤ length words
-    → ((place : ℕ) → place < 8 → get_or line.words place 0 ≡ get_or words (8 * line.number + place) 0) → AreChanged (lines ++ line ∷ []) durable words count
-changed-pushed lines line durable words count before is inside same = record {
-  puts = λ word x put. elim (put-parts lines line word x put) [
-    | inl among ↦ before.puts word x among
-    | inr last ↦ last.1 ∙ same (word % 8) (omega arith) ∙ ap (λ (n : ℕ). get_or words n 0) (omega (arith, last.0))
-  ];
-  has = λ word lt. elim (before.has word lt) [
-    | inl at ↦ inl (at-more lines line (word / 8) at)
-    | inr stood ↦ inr stood
-  ];
-  lines_are = all_more (λ l. IsLine l) lines line before.lines_are is;
-  within = all_more (λ l. 8 * l.number + 8 ≤ length words) lines line before.within inside;
-}
-
-pub changed-more : (lines : List Line) (line : Line) (durable words : List ℕ) (count : ℕ) → AreChanged lines durable words count → IsLine line → line.number ≡ count → 8 * count + 8 ≤ length words
-    → ((place : ℕ) → place < 8 → get_or line.words place 0 ≡ get_or words (8 * count + place) 0) → AreChanged (lines ++ line ∷ []) durable words (count + 1)
-changed-more lines line durable words count before is number inside same =
-    let pushed = changed-pushed lines line durable words count before is (omega (arith, number, inside)) (λ place lt. same place lt ∙ ap (λ (n : ℕ). get_or words (8 * n + place) 0) (sym number)) in
-    record {
-      puts = pushed.puts;
-      has = λ word lt. elim (cases_lt word (8 * count)) [
-        | inl below ↦ pushed.has word below
-        | inr above ↦ inl (at-last lines line (word / 8) (omega (arith, above, lt, number)))
-      ];
-      lines_are = pushed.lines_are;
-      within = pushed.within;
-    }
-
-pub changed-same : (lines : List Line) (durable words : List ℕ) (count : ℕ) → AreChanged lines durable words count
-    → ((place : ℕ) → place < 8 → get_or durable (8 * count + place) 0 ≡ get_or words (8 * count + place) 0) → AreChanged lines durable words (count + 1)
-changed-same lines durable words count before same = record {
+-- of a line that is durable, or is none of theirs, nothing is added
+pub found-stood : (lines : List Line) (durable words numbers : List ℕ) (number : ℕ) → AreFound lines durable words numbers
+    → ((word : ℕ) → word < length words → word / 8 ≡ number → get_or durable word 0 ≡ get_or words word 0) → AreFound lines durable words (numbers ++ number ∷ [])
+found-stood lines durable words numbers number before same = record {
   puts = before.puts;
-  has = λ word lt. elim (cases_lt word (8 * count)) [
-    | inl below ↦ before.has word below
-    | inr above ↦
-        let is : 8 * count + (word - 8 * count) ≡ word = omega (arith, above) in
-        inr (ap (λ (n : ℕ). get_or durable n 0) (sym is) ∙ same (word - 8 * count) (omega (arith, above, lt)) ∙ ap (λ (n : ℕ). get_or words n 0) is)
+  has = λ word lt is. elim (listed-cases numbers number (word / 8) is) [
+    | inl among ↦ before.has word lt among
+    | inr last ↦ inr (same word lt (sym last))
   ];
   lines_are = before.lines_are;
   within = before.within;
 }
 
+all_more : (P : Line → Type 0) (lines : List Line) (line : Line) → All P lines → P line → All P (lines ++ line ∷ [])
+all_more P lines line all here = All-append P lines (line ∷ []) all (All-cons P line [] here (λ k d lt. absurd (omega (arith, lt))))
+
+pub found-more : (lines : List Line) (line : Line) (durable words numbers : List ℕ) (number : ℕ) → AreFound lines durable words numbers → IsLine line → line.number ≡ number → 8 * number + 8 ≤ length words
+    → ((place : ℕ) → place < 8 → get_or line.words place 0 ≡ get_or words (8 * number + place) 0) → AreFound (lines ++ line ∷ []) durable words (numbers ++ number ∷ [])
+found-more lines line durable words numbers number before is at inside same = record {
+  puts = λ word x put. elim (put-parts lines line word x put) [
+    | inl among ↦ before.puts word x among
+    | inr last ↦ last.1 ∙ same (word % 8) (omega arith) ∙ ap (λ (n : ℕ). get_or words n 0) (omega (arith, at, last.0))
+  ];
+  has = λ word lt is'. elim (listed-cases numbers number (word / 8) is') [
+    | inl among ↦ elim (before.has word lt among) [
+      | inl put ↦ inl (at-more lines line (word / 8) put)
+      | inr stood ↦ inr stood
+    ]
+    | inr last ↦ inl (at-last lines line (word / 8) (at ∙ last))
+  ];
+  lines_are = all_more (λ l. IsLine l) lines line before.lines_are is;
+  within = all_more (λ l. 8 * l.number + 8 ≤ length words) lines line before.within (omega (arith, at, inside));
+}
+
 -- where no line is, nothing changed
-pub unchanged : (durable words : List ℕ) → AreChanged [] durable words (length durable / 8) → length durable % 8 ≡ 0 → length words ≡ length durable → words ≡ durable
-unchanged durable words changed whole same = ext_get_or 0 words durable same (λ word lt. elim (changed.has word (omega (arith, lt, whole, same))) [
-  | inl at ↦ absurd (false≢true at)
-  | inr is ↦ sym is
-])
+pub unchanged : (durable words : List ℕ) → AreChanged [] durable words → length words ≡ length durable → words ≡ durable
+unchanged durable words changed same = ext_get_or 0 words durable same (λ word lt. sym (changed.makes word lt))
 
 -- ---- as an entry
 

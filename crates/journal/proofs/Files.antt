@@ -1,13 +1,13 @@
 -- What is found of a file, and what a run of words makes of it.
-use Rattle.std.proofs.Common.{Result, Ok, Err, ◌≡◌, ◌≢◌, ◌⊎◌, inl, inr, ℕ, zero, suc, ◌+◌, ◌-◌, ◌/◌, ◌<◌, ◌≤◌, Bool, true, false, cond, ◌==◌, List, [], ◌∷◌, ◌++◌, length, map, take, drop, replicate, get_or, refl, sym, ◌∙◌, ap, subst, arith}
+use Rattle.std.proofs.Common.{Result, Ok, Err, ◌≡◌, ◌≢◌, ◌⊎◌, inl, inr, ℕ, zero, suc, ◌+◌, ◌-◌, ◌/◌, ◌<◌, ◌≤◌, Bool, true, false, cond, ◌==◌, List, [], ◌++◌, length, drop, replicate, get_or, refl, sym, ◌∙◌, ap, subst, arith}
 use Rattle.std.specs.Prelude.{OnOk}
 use Rattle.std.proofs.Math.Logic.{∥∥₁_elim, ∥∥₁_prop}
 use Rattle.std.proofs.lemmas.Grind.{merely}
-use Rattle.std.proofs.lemmas.Bool.{cases_eq, cases_lt, eq-eqb, ne_eqb, eqb-true, true≢false}
+use Rattle.std.proofs.lemmas.Bool.{cases_eq, cases_lt, eq-eqb, ne_eqb}
 use Rattle.std.proofs.lemmas.List.{length-take, length-drop, length-append, length-replicate, get_or-take, get_or-drop, get_or-replicate, get_or_append_left, get_or-append-add, ext_get_or}
 use Rattle.journal.specs.declared.line.Line.{Line}
 use Rattle.journal.specs.Kept.{HoldsOnly, IsFound}
-use Rattle.journal.specs.Entries.{NoneOf, is_of}
+use Rattle.journal.specs.Entries.{NoneOf}
 use Rattle.journal.specs.InPlace.{put_over}
 use Rattle.journal.specs.Opened.{lines_found}
 use Rattle.journal.specs.Files.{magic, pass_word, pass_of, tail_of, journal_in, is_on, lines_in, Opens, FoundOpens, IsInRun}

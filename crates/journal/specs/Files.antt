@@ -1,5 +1,5 @@
 -- A file: an image in place, a journal behind it, and a tail of one line.
-use Rattle.std.specs.Prelude.{◌≡◌, ◌⊎◌, ℕ, ◌+◌, ◌-◌, ◌%◌, ◌<◌, ◌≤◌, ◌^◌, Bool, true, false, ◌==◌, if◌then◌else◌, List, [], ◌∷◌, ◌++◌, length, take, drop, slice_index}
+use Rattle.std.specs.Prelude.{◌≡◌, ◌⊎◌, ℕ, ◌+◌, ◌-◌, ◌%◌, ◌<◌, ◌≤◌, ◌^◌, Bool, true, false, ◌==◌, if◌then◌else◌, List, [], ◌∷◌, length, take, drop, slice_index}
 use Rattle.journal.specs.declared.line.Line.{Line}
 use Rattle.journal.specs.Kept.{IsFound}
 use Rattle.journal.specs.InPlace.{put_over}
@@ -59,6 +59,21 @@ pub record IsFile (words room count : ℕ) : Type 0 where
   pub whole : words % 8 ≡ 0
   pub fits : words + room + 8 < 2 ^ 58
   pub size : count ≡ words + room + 8
+
+-- eight words are a tail's, as far as these are the same in each
+pub record IsTail (tail : List ℕ) : Type 0 where
+  pub first : (slice_index tail 0 ≡ 0) ⊎ (slice_index tail 0 ≡ magic)
+  pub pass : slice_index tail 3 < 2
+  pub fourth : slice_index tail 4 ≡ 0
+  pub fifth : slice_index tail 5 ≡ 0
+  pub sixth : slice_index tail 6 ≡ 0
+  pub seventh : slice_index tail 7 ≡ 0
+
+-- the last words are a tail that names both
+pub record HasTail (words room : ℕ) (file : List ℕ) : Type 0 where
+  pub words_named : slice_index file (words + room + 1) ≡ words
+  pub room_named : slice_index file (words + room + 2) ≡ room
+  pub tail : IsTail (drop (words + room) file)
 
 -- a run of words, from this one on, puts x into the word
 abbrev pub IsInRun : ℕ → List ℕ → ℕ → ℕ → Type 0

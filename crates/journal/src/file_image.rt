@@ -1,7 +1,7 @@
-ghost use Rattle.std.specs.Prelude.{◌≡◌, ℕ, ◌+◌, ◌*◌, ◌/◌, ◌%◌, ◌<◌, ◌≤◌, [], ◌∷◌, length, slice_index, IfOk, OnOk, IsTrue};
+ghost use Rattle.std.specs.Prelude.{◌≡◌, ℕ, ◌+◌, ◌*◌, ◌/◌, ◌%◌, ◌<◌, ◌≤◌, [], ◌∷◌, ◌↔◌, length, slice_index, IfOk, IfSome, IsNone, OnOk, IsTrue};
 ghost use Rattle.journal.specs.LinePayloads.{lines_of};
 ghost use Rattle.journal.specs.InPlace.{put_over};
-ghost use Rattle.journal.specs.Files.{IsFile, Opens};
+ghost use Rattle.journal.specs.Files.{HasTail, IsTail, IsFile, Opens};
 
 use crate::journal::read_journal;
 use crate::line::{Line, line_of};
@@ -34,14 +34,46 @@ pub fn image_in(alloc: Global, file: &[u64], words: usize, room: usize) -> io::R
     Ok(image)
 }
 
+/// How many words the image has, and how much room the journal, of a file that ends with a tail, whether the journal counts or
+/// not.
+pub fn extent_of(file: &[u64]) -> Option<(usize, usize)>
+    ensures size { IfSome result (λ found. IsFile found.0 found.1 (length file.now)) }
+    ensures tail { IfSome result (λ found. HasTail found.0 found.1 file.now) }
+    ensures none { IsNone result → (words room : ℕ) → IsFile words room (length file.now) → HasTail words room file.now → ⊥ }
+{
+    let start = file.len().checked_sub(8)?;
+    let (words, room) = (file[start + 1] as usize, file[start + 2] as usize);
+    if !is_file(words, room, file.len()) || !is_tail(&file[start..]) {
+        return None;
+    }
+    Some((words, room))
+}
+
+// Whether these are a tail's words, as far as they are the same in each.
+fn is_tail(words: &[u64]) -> bool
+    requires { length words.now ≡ 8 }
+    ensures { IsTrue result ↔ IsTail words.now }
+{
+    (words[0] == 0 || words[0] == MAGIC)
+        && words[3] <= 1
+        && words[4] == 0
+        && words[5] == 0
+        && words[6] == 0
+        && words[7] == 0
+}
+
 // As many words of an image, or of a journal, are in no memory.
-const TOO_MANY: usize = 1 << 56;
+const TOO_MANY: usize = 1 << 58;
 
 // Whether a file of so many words has an image of so many, and a journal of so much room.
 fn is_file(words: usize, room: usize, count: usize) -> bool
-    ensures { IsTrue result → IsFile words room count }
+    ensures { IsTrue result ↔ IsFile words room count }
 {
-    words < TOO_MANY && room < TOO_MANY && words % 8 == 0 && count == words + room + 8
+    words < TOO_MANY
+        && room < TOO_MANY
+        && words + room + 8 < TOO_MANY
+        && words % 8 == 0
+        && count == words + room + 8
 }
 
 // Puts the lines of these payloads over the image, one after the other.
@@ -54,6 +86,17 @@ fn put_lines(image: &mut Vec<u64>, payloads: &[u64])
     for at in 0..payloads.len() / 9 {
         let line = line_of(&payloads[9 * at..]);
         put_line(image, &line);
+    }
+}
+
+/// Puts these lines over the image, one after the other.
+pub(crate) fn put_each(image: &mut Vec<u64>, lines: &[Line])
+    requires { length image.old.items % 8 ≡ 0 }
+    ensures size { length image.new.items ≡ length image.old.items }
+    ensures each { (word : ℕ) → word < length image.old.items → slice_index image.new.items word ≡ put_over lines.now word (slice_index image.old.items word) }
+{
+    for line in lines {
+        put_line(image, line);
     }
 }
 

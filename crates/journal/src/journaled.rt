@@ -28,9 +28,17 @@ pub struct JournaledImages<S: Storage> {
 
     // A write failed, and which image is found isn't known any more: none is kept.
     failed: bool,
+    failure: Option<io::Error>,
     ghost whole: { length durable.items % 8 ≡ 0 },
     ghost fits: { length durable.items + room + 8 < 2 ^ 58 },
     ghost rests: { failed ≡ false → ∥ Rests (S.may_hold storage) (length durable.items) room true position durable.items ∥₁ },
+}
+
+/// Why a file isn't opened, and the file.
+#[derive(Drop)]
+pub struct Unopened<S> {
+    pub error: io::Error,
+    pub storage: S,
 }
 
 impl<S: Storage> JournaledImages<S> {
@@ -43,25 +51,31 @@ impl<S: Storage> JournaledImages<S> {
         file: &[u64],
         words: usize,
         room: usize,
-    ) -> io::Result<JournaledImages<S>>
+    ) -> Result<JournaledImages<S>, Unopened<S>>
     where
         S: Drop,
         requires holds { HoldsOnly (S.may_hold storage) (length file.now) file.now }
         ensures stands { IfOk result (λ images. Opens words room file.now images.durable.items) }
         ensures found { IfOk result (λ images. (image : List ℕ) → MayBe (S.may_hold images.storage) images.room images.durable.items image → image ≡ images.durable.items) }
     {
-        let durable = image_in(alloc, file, words, room)?;
+        let durable = match image_in(alloc, file, words, room) {
+            Ok(durable) => durable,
+            Err(error) => return Err(Unopened { error, storage }),
+        };
         let pass = file[words + room + 3] == 0;
         let mut storage = storage;
-        rewrite(alloc, &mut storage, durable.as_slice(), room, pass)?;
-        Ok(JournaledImages {
-            alloc,
-            storage,
-            durable,
-            room,
-            position: 0,
-            failed: false,
-        })
+        match rewrite(alloc, &mut storage, durable.as_slice(), room, pass) {
+            Ok(()) => Ok(JournaledImages {
+                alloc,
+                storage,
+                durable,
+                room,
+                position: 0,
+                failed: false,
+                failure: None,
+            }),
+            Err(error) => Err(Unopened { error, storage }),
+        }
     }
 
     /// The image that was kept last.
@@ -69,6 +83,20 @@ impl<S: Storage> JournaledImages<S> {
         ensures { result.now ≡ self.now.durable.items }
     {
         self.durable.as_slice()
+    }
+
+    /// Why an image wasn't kept, if one wasn't. None is kept since then.
+    pub fn failure(&self) -> Option<io::Error>
+        ensures { result ≡ self.now.failure }
+    {
+        self.failure
+    }
+
+    /// Hands out where it is kept, as it is: an opening reads it.
+    pub fn release(self) -> S
+        ensures { result ≡ self.storage }
+    {
+        self.storage
     }
 
     /// Brings the image in place, and hands out where it is kept: the file's first words alone are the image then. Fails where a keep
@@ -87,40 +115,30 @@ impl<S: Storage> JournaledImages<S> {
     }
 }
 
-// Makes one the same as the other.
-fn copy(into: &mut Vec<u64>, words: &[u64])
-    requires { length words.now ≡ length into.old.items }
-    ensures { into.new.items ≡ words.now }
-{
-    into.as_mut_slice().copy_from_slice(words);
-}
-
 impl<S: Storage> Images for JournaledImages<S> {
     // The image that was kept last, or one that a file stands for whose words may be found.
     ghost may_hold = { λ images image. MayBe (S.may_hold images.storage) images.room images.durable.items image };
 
-    fn keep(&mut self, words: &Vec<u64>) -> io::Result<()> {
+    fn keep(&mut self, words: &Vec<u64>, lines: &[usize]) -> io::Result<()> {
         if self.failed {
             return Err(io::Error::from(ErrorKind::InvalidData));
-        }
-        if words.len() != self.durable.len() {
-            return Err(io::Error::from(ErrorKind::InvalidInput));
         }
         match keep_words(
             self.alloc,
             &mut self.storage,
-            self.durable.as_slice(),
+            &mut self.durable,
             words.as_slice(),
+            lines,
             self.room,
             self.position,
         ) {
             Ok(next) => {
-                copy(&mut self.durable, words.as_slice());
                 self.position = next;
                 Ok(())
             }
             Err(error) => {
                 self.failed = true;
+                self.failure = Some(error);
                 Err(error)
             }
         }

@@ -10,20 +10,18 @@ mod journal;
 mod journaled;
 mod law;
 mod line;
-mod lines;
 mod rewriting;
 mod storage;
 
 pub use entry::{entry_words, read_entry};
-pub use file_image::image_in;
-pub use images::Images;
+pub use file_image::{extent_of, image_in};
+pub use images::{Images, Nowhere};
 pub use journal::read_journal;
-pub use journaled::JournaledImages;
+pub use journaled::{JournaledImages, Unopened};
 pub use law::{
     appends_are_whole, files_are_whole, images_in_place_stay, lines_return, passes_follow,
     scrubbed_entries_stay_torn, stretches_are_by_places, torn_entries_are_seen,
 };
 pub use line::{Line, line_of, line_payloads};
-pub use lines::{Lines, Nowhere};
 pub use rewriting::rewrite;
 pub use storage::Storage;

@@ -1,4 +1,5 @@
-ghost use Rattle.std.specs.Prelude.{◌≡◌, ◌⊎◌, ◌/◌, ◌<◌, ◌&&◌, ◌||◌, ℕ, List, length, true, false, slice_index, OnOk, OnErr, IfErr};
+ghost use Rattle.std.specs.Prelude.{◌≡◌, ◌⊎◌, ◌/◌, ◌<◌, ◌&&◌, ◌||◌, ℕ, List, length, true, false, slice_index, IfOk, OnOk, OnErr, IfErr};
+ghost use Rattle.journal.specs.Changes.{DiffersIn};
 ghost use Rattle.pmem.specs.Device.{Device, fenced, failed, MightHaveLeft};
 ghost use Rattle.journal.specs.Kept.{HoldsOnly};
 ghost use Rattle.pmem_file.specs.Shown.{IsShown};
@@ -6,11 +7,12 @@ ghost use Rattle.pmem_file.specs.Mirrored.{IsMirrored};
 ghost use Rattle.pmem_file.specs.Journaled.{HoldsGate, IsSince, is_gate, is_gate_line, is_gate_flushed};
 ghost use Rattle.pmem_file.specs.Traces.{device_of};
 
-use crate::device::{Flushed, forget};
+use crate::changed::add_line;
+use crate::flushed::{Flushed, MOST_ACTORS, forget};
 use crate::trace::{Operation, Trace};
 use base::actor::Actor;
 use base::fault::Fault;
-use journal::Images;
+use journal::{Images, JournaledImages, Storage, Unopened};
 use pmem::Pmem;
 use std::alloc::Global;
 use std::io;
@@ -20,7 +22,13 @@ use std::snapshot::Snapshot;
 #[derive(Drop)]
 pub struct JournaledPmem<I: Images> {
     words: Vec<u64>,
+
+    // There is room for each line once, and for a line more of each actor, from the opening on. An engine asks for no more: its
+    // committer flushes a line once in a cycle, and all others fence each line at once.
     flushed: Vec<Flushed>,
+
+    // The lines of which words were stored since the image was kept, by rising number. There is room for each from the opening on.
+    changed: Vec<usize>,
     images: I,
 
     // The places for records.
@@ -39,6 +47,7 @@ pub struct JournaledPmem<I: Images> {
     ghost mirrored: { IsMirrored (device_of trace) words.items flushed.items (HoldsGate places (I.may_hold images)) },
     ghost since: { IsSince (device_of trace) (device_of kept.value).clock (I.may_hold images) },
     ghost gates: { is_gate_stored ≡ false → HoldsOnly (HoldsGate places (I.may_hold images)) (length words.items) words.items },
+    ghost changes: { failed ≡ false → (image : List ℕ) → I.may_hold images image → DiffersIn changed.items words.items image },
 }
 
 impl<I: Images> JournaledPmem<I> {
@@ -46,23 +55,45 @@ impl<I: Images> JournaledPmem<I> {
     ghost use Rattle.pmem.specs.Words.{IsAtRest, Survives};
 
     /// A device at rest with these words, as the image that is kept there has them, and with this number of places for records.
-    pub fn new(alloc: Global, words: Vec<u64>, images: I, places: usize) -> JournaledPmem<I>
+    /// Where memory is refused, the images are handed back.
+    pub fn new(
+        alloc: Global,
+        words: Vec<u64>,
+        images: I,
+        places: usize,
+    ) -> Result<JournaledPmem<I>, I>
         requires holds { (image : List ℕ) → I.may_hold images image → image ≡ words.items }
-        ensures rest { IsAtRest (device_of result.trace) }
-        ensures device { device_of result.trace ≡ restarted words.items }
+        ensures rest { IfOk result (λ made. IsAtRest (device_of made.trace)) }
+        ensures device { IfOk result (λ made. device_of made.trace ≡ restarted words.items) }
+        ensures places { IfOk result (λ made. made.places ≡ places) }
     {
+        let lines = words.len() / 8;
+        let Ok(flushed) = Vec::with_capacity(alloc, lines.saturating_add(MOST_ACTORS)) else {
+            return Err(images);
+        };
+        let Ok(changed) = Vec::with_capacity(alloc, lines) else {
+            return Err(images);
+        };
         let trace = Trace::begun(&words);
         let kept = Snapshot::of(&trace);
-        JournaledPmem {
+        Ok(JournaledPmem {
             words,
-            flushed: Vec::new(alloc),
+            flushed,
+            changed,
             images,
             places,
             is_gate_stored: false,
             failed: false,
             trace,
             kept,
-        }
+        })
+    }
+
+    /// How many places for records it has, as it was told.
+    pub fn places(&self) -> usize
+        ensures { result ≡ self.now.places }
+    {
+        self.places
     }
 
     /// What is found, once the process or the machine has stopped, is an image that a crash of the device might have left
@@ -100,12 +131,14 @@ impl<I: Images> JournaledPmem<I> {
 
     // A fence that keeps the image.
     fn persist(&mut self, actor: u8) -> Result<(), Fault>
+        requires { self.old.failed ≡ false }
         ensures ok { OnOk result (device_of self.new.trace ≡ fenced actor (device_of self.old.trace)) }
         ensures err { OnErr result (device_of self.new.trace ≡ failed (device_of self.old.trace)) }
         ensures fault { IfErr result (λ fault. fault ≡ Fault.Device) }
     {
-        match self.images.keep(&self.words) {
+        match self.images.keep(&self.words, self.changed.as_slice()) {
             Ok(()) => {
+                self.changed.clear();
                 self.trace.note(Operation::Fence { actor });
                 self.kept = Snapshot::of(&self.trace);
                 self.is_gate_stored = false;
@@ -117,6 +150,69 @@ impl<I: Images> JournaledPmem<I> {
                 Err(self.refuse())
             }
         }
+    }
+}
+
+impl<S: Storage> JournaledPmem<JournaledImages<S>> {
+    ghost use Rattle.journal.specs.Files.{Opens};
+    ghost use Rattle.journal.specs.States.{IsOff};
+    ghost use Rattle.pmem.specs.Words.{IsAtRest, image_of};
+
+    /// A device at rest with the image that a file of these words stands for: so many of an image, a journal of so much room,
+    /// and a tail. It has this number of places for records. Fails as [`JournaledImages::open`] does.
+    pub fn over(
+        alloc: Global,
+        storage: S,
+        file: &[u64],
+        words: usize,
+        room: usize,
+        places: usize,
+    ) -> Result<Self, Unopened<S>>
+    where
+        S: Drop,
+        requires holds { HoldsOnly (S.may_hold storage) (length file.now) file.now }
+        ensures rest { IfOk result (λ device. IsAtRest (device_of device.trace)) }
+        ensures stands { IfOk result (λ device. Opens words room file.now (image_of (device_of device.trace))) }
+        ensures places { IfOk result (λ device. device.places ≡ places) }
+    {
+        let images = JournaledImages::open(alloc, storage, file, words, room)?;
+        let Ok(image) = Vec::from_slice(alloc, images.image()) else {
+            return Err(unopened(images));
+        };
+        match JournaledPmem::new(alloc, image, images, places) {
+            Ok(device) => Ok(device),
+            Err(images) => Err(unopened(images)),
+        }
+    }
+
+    /// Why an image wasn't kept, if one wasn't. No fence succeeds since then.
+    pub fn failure(&self) -> Option<io::Error> {
+        self.images.failure()
+    }
+
+    /// Where its image is kept, as it is: what was stored since the last fence of a gate isn't there.
+    pub fn release(self) -> S
+        ensures { result ≡ self.images.storage }
+    {
+        self.images.release()
+    }
+
+    /// Brings the image that was kept last in place, and hands out where it is kept: the first words alone are the image then.
+    /// Fails where an image wasn't kept.
+    pub fn into_storage(self) -> io::Result<S>
+    where
+        S: Drop,
+        ensures { IfOk result (λ storage. ∥ IsOff (S.may_hold storage) (length self.images.durable.items) self.images.room self.images.durable.items ∥₁) }
+    {
+        self.images.close()
+    }
+}
+
+// Memory was refused.
+fn unopened<S: Storage>(images: JournaledImages<S>) -> Unopened<S> {
+    Unopened {
+        error: io::Error::from(io::ErrorKind::OutOfMemory),
+        storage: images.release(),
     }
 }
 
@@ -169,11 +265,17 @@ impl<I: Images> Pmem for JournaledPmem<I> {
         self.words[word]
     }
 
+    // It fails only where there is no memory.
     fn store(&mut self, word: usize, value: u64) -> Result<(), Fault> {
-        self.words[word] = value;
-        self.is_gate_stored = is_stored(self.is_gate_stored, self.places, word);
-        self.trace.note(Operation::Store { word, value });
-        Ok(())
+        match add_line(&mut self.changed, word / 8) {
+            Ok(()) => {
+                self.words[word] = value;
+                self.is_gate_stored = is_stored(self.is_gate_stored, self.places, word);
+                self.trace.note(Operation::Store { word, value });
+                Ok(())
+            }
+            Err(_) => Err(self.refuse()),
+        }
     }
 
     // It fails only where there is no memory.
@@ -197,21 +299,6 @@ impl<I: Images> Pmem for JournaledPmem<I> {
             return self.persist(actor);
         }
         self.order(actor);
-        Ok(())
-    }
-}
-
-/// An image in memory, which says what it holds.
-#[derive(Drop)]
-pub struct MemoryImage {
-    words: Vec<u64>,
-}
-
-impl Images for MemoryImage {
-    ghost may_hold = { λ held image. image ≡ held.words.items };
-
-    fn keep(&mut self, words: &Vec<u64>) -> io::Result<()> {
-        self.words = words.clone()?;
         Ok(())
     }
 }

@@ -9,7 +9,7 @@ use base::geometry::Geometry;
 use database::{Database, Refused};
 use log_area::read_geometry;
 use pmem::Pmem;
-use pmem_file::{FileLines, FilePmem, OpenError};
+use pmem_file::{FileDevice, OpenError};
 use recovery::format;
 use std::alloc::Global;
 use std::fs::File;
@@ -19,7 +19,7 @@ use std::sync::Wait;
 use std::thread::Threads;
 
 /// The device of a store.
-pub type Device = FilePmem<FileLines>;
+pub type Device = FileDevice;
 
 /// Why a store isn't opened.
 #[derive(Drop)]
@@ -38,21 +38,47 @@ pub fn open_file<R: Files<File = File>>(
     geometry: Geometry,
 ) -> Result<Device, Refusal>
     ensures rest { IfOk result (λ device. IsAtRest (device_of device.trace)) }
-    ensures layout { IfOk result (λ device. (found : Layout) × IsLaidOut found (image_of (device_of device.trace)) × (opened_layout found ≡ opened_layout geometry)) }
+    ensures layout { IfOk result (λ device. (found : Layout) × IsLaidOut found (image_of (device_of device.trace)) × (opened_layout found ≡ opened_layout geometry) × (device.places ≡ found.places)) }
 {
-    let mut device = match FilePmem::open(rt, alloc, name, geometry) {
+    let device = open_formatted(rt, alloc, name, geometry)?;
+    let found = match read_geometry(&device) {
+        Ok(found) => found,
+        Err(fault) => return Err(refusal_of(device, fault)),
+    };
+    let is_asked_for = is_same(&found.opened(), &geometry.opened());
+    if is_asked_for && device.places() as u64 == found.places() {
+        return Ok(device);
+    }
+    let _ = device.close();
+    Err(Refusal::OtherLayout(found))
+}
+
+// The device of the file, which is made and formatted where it is missing or empty.
+fn open_formatted<R: Files<File = File>>(
+    rt: &R,
+    alloc: Global,
+    name: &str,
+    geometry: Geometry,
+) -> Result<Device, Refusal>
+    ensures { IfOk result (λ device. IsAtRest (device_of device.trace)) }
+{
+    let device = match FileDevice::open(rt, alloc, name, geometry) {
         Ok(device) => device,
         Err(error) => return Err(Refusal::File(error)),
     };
     if device.words() > 0 && device.load(0) == 0 {
-        if let Err(fault) = format(&mut device, geometry) {
-            return Err(Refusal::Fault(fault));
-        }
+        return formatted(device, geometry);
     }
-    match read_geometry(&device) {
-        Ok(found) if is_same(&found.opened(), &geometry.opened()) => Ok(device),
-        Ok(found) => Err(Refusal::OtherLayout(found)),
-        Err(fault) => Err(Refusal::Fault(fault)),
+    Ok(device)
+}
+
+fn formatted(device: Device, geometry: Geometry) -> Result<Device, Refusal>
+    ensures { IfOk result (λ device. IsAtRest (device_of device.trace)) }
+{
+    let mut device = device;
+    match format(&mut device, geometry) {
+        Ok(()) => Ok(device),
+        Err(fault) => Err(refusal_of(device, fault)),
     }
 }
 
@@ -87,15 +113,17 @@ pub fn open_database<R: Files<File = File> + Threads + Wait + Copy + Drop + Send
 ) -> Result<Database<Device, R>, Refusal> {
     match Database::open(*rt, alloc, open_at_rest(rt, alloc, name, geometry)?) {
         Ok(database) => Ok(database),
-        Err(refused) => Err(refusal_of(refused)),
+        Err(Refused { fault, device }) => Err(refusal_of(device, fault)),
     }
 }
 
-// Why the file failed, where a write or a sync of it did; else why it is refused.
-fn refusal_of(refused: Refused<Device>) -> Refusal {
-    let Refused { fault, device } = refused;
+// Why the file failed, where a write or a sync of it did; else why it is refused, and then it is closed.
+fn refusal_of(device: Device, fault: Fault) -> Refusal {
     match device.failure() {
         Some(cause) => Refusal::Lost(cause),
-        None => Refusal::Fault(fault),
+        None => {
+            let _ = device.close();
+            Refusal::Fault(fault)
+        }
     }
 }

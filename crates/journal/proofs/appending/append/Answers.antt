@@ -1,8 +1,8 @@
-use Rattle.std.proofs.Common.{◌≡◌, ℕ, ◌+◌, ◌*◌, ◌<◌, ◌^◌, true, List, length, get_or, sym, ◌∙◌, ap, subst, arith}
+use Rattle.std.proofs.Common.{◌≡◌, ℕ, ◌+◌, ◌<◌, ◌^◌, true, List, length, get_or, sym, ◌∙◌, ap, subst, arith}
 use Rattle.std.proofs.Math.Logic.{∥∥₁_map}
 use Rattle.journal.specs.Entries.{entry}
 use Rattle.journal.specs.States.{Rests}
-use Rattle.journal.proofs.Changes.{changed-over, numbers-below, small_payloads, entry_size}
+use Rattle.journal.proofs.Changes.{numbers-below, small_payloads, entry_size}
 use Rattle.journal.proofs.Files.{Puts, Keeps}
 use Rattle.journal.proofs.Appended.{rests-either, append-either, append-kept}
 use Rattle.journal.proofs.appending.append.Goals as goal
@@ -34,7 +34,7 @@ returns-in_err-put-clause-either g c =
     let P : List ℕ → Type 0 = λ l. Puts old new (length durable + c.args.position) l in
     let is = c.as_slice-2.ensures.value ∙ c.in_ok-entry.ensures ∙ ap (λ (l : List ℕ). entry true l) (c.as_slice.ensures.value ∙ c.in_ok-payloads.ensures) in
     append-either old new (length durable) c.args.room true c.args.position durable c.args.words.now lines c.requires.known changed.lines_are
-    (omega (arith, entry_size true lines changed.lines_are, c.requires.within)) c.requires.same (λ word lt. changed-over lines durable c.args.words.now _ changed word (omega (arith, lt, c.requires.whole)))
+    (omega (arith, entry_size true lines changed.lines_are, c.requires.within)) c.requires.same (λ word lt. changed.makes word (omega (arith, lt, c.requires.same)))
     (subst P is c.put.ensures.puts)
 
 pub returns-clause-either : goal.returns-clause-either
@@ -47,7 +47,7 @@ returns-clause-either g c =
     let P : List ℕ → Type 0 = λ l. Puts old new (length durable + c.args.position) l in
     let is = c.as_slice-2.ensures.value ∙ c.in_ok-entry.ensures ∙ ap (λ (l : List ℕ). entry true l) (c.as_slice.ensures.value ∙ c.in_ok-payloads.ensures) in
     append-either old new (length durable) c.args.room true c.args.position durable c.args.words.now lines c.requires.known changed.lines_are
-    (omega (arith, entry_size true lines changed.lines_are, c.requires.within)) c.requires.same (λ word lt. changed-over lines durable c.args.words.now _ changed word (omega (arith, lt, c.requires.whole)))
+    (omega (arith, entry_size true lines changed.lines_are, c.requires.within)) c.requires.same (λ word lt. changed.makes word (omega (arith, lt, c.requires.same)))
     (subst P is c.put.ensures.puts)
 
 pub returns-clause-rests : goal.returns-clause-rests
@@ -68,5 +68,5 @@ returns-clause-rests g c =
     let N : ℕ → Type 0 = λ n. ∥ Rests new (length durable) c.args.room true (c.args.position + n) words ∥₁ in
     subst N (sym count) (subst R (sym made) (∥∥₁_map c.requires.known (λ r.
     append-kept old new (length durable) c.args.room true c.args.position durable words lines r changed.lines_are
-    (omega (arith, entry_size true lines changed.lines_are, c.requires.within)) c.requires.same (λ word lt. changed-over lines durable words _ changed word (omega (arith, lt, c.requires.whole)))
+    (omega (arith, entry_size true lines changed.lines_are, c.requires.within)) c.requires.same (λ word lt. changed.makes word (omega (arith, lt, c.requires.same)))
     (subst P is c.put.ensures.puts) (subst K is c.in_ok-put.ensures.kept))))

@@ -1,5 +1,6 @@
-use Rattle.journal.specs.Changes.{AreChanged}
+use Rattle.std.specs.Prelude.{take}
+use Rattle.journal.specs.Changes.{AreFound}
 use Rattle.journal.proofs.appending.changed_lines.Given as goal
 
-abbrev pub invariant-loop-at : goal.invariant-loop-at
-invariant-loop-at l = AreChanged l.lines.items l.fn.durable l.fn.words l.at
+abbrev pub invariant-loop-number : goal.invariant-loop-number
+invariant-loop-number l = AreFound l.lines.items l.fn.durable l.fn.words (take l.number-index l.fn.numbers)

@@ -1,46 +1,26 @@
-use Rattle.std.proofs.Common.{◌≡◌, ◌∙◌, ◌/◌, true, ℕ, List, [], ◌∷◌, length, refl, sym, subst, arith}
-use Rattle.std.proofs.Math.Logic.{∥∥₁_map}
-use Rattle.std.proofs.lemmas.Bool.{eqb-true}
+use Rattle.std.proofs.Common.{◌≡◌, ◌∙◌, ℕ, ◌<◌, true, List, length, sym, subst, arith}
+use Rattle.std.proofs.lemmas.List.{ext_get_or}
 use Rattle.journal.specs.declared.line.Line.{Line}
 use Rattle.journal.specs.Changes.{AreChanged}
-use Rattle.journal.specs.States.{Rests}
-use Rattle.journal.proofs.Changes.{unchanged}
-use Rattle.journal.proofs.Appended.{rests-either, opens-either}
+use Rattle.journal.proofs.Appended.{rests-either}
 use Rattle.journal.proofs.appending.keep_words.Goals as goal
-
-none : (lines : List Line) → length lines ≡ 0 → lines ≡ []
-none [] is = refl
-none (line ∷ lines) is = absurd (omega (arith, is))
 
 pub returns-in_err-changed-clause-either : goal.returns-in_err-changed-clause-either
 returns-in_err-changed-clause-either g c =
-    let durable = c.args.durable.now in
+    let durable = c.args.durable.now.items in
     rests-either (g.S.Storage.may_hold c.args.storage.now) (length durable) c.args.room true c.args.position durable c.args.words.now c.requires.known
 
-pub returns-then-is_empty-clause-either : goal.returns-then-is_empty-clause-either
-returns-then-is_empty-clause-either g c =
-    let durable = c.args.durable.now in
-    rests-either (g.S.Storage.may_hold c.args.storage.now) (length durable) c.args.room true c.args.position durable c.args.words.now c.requires.known
-
-pub returns-then-is_empty-clause-rests : goal.returns-then-is_empty-clause-rests
-returns-then-is_empty-clause-rests g c =
-    let durable = c.args.durable.now in
+pub returns-clause-durable : goal.returns-clause-durable
+returns-clause-durable g c =
+    let durable = c.args.durable.now.items in
     let words = c.args.words.now in
-    let changed = c.in_ok-changed.changed in
-    let empty : length changed.items ≡ 0 = omega (arith, changed.ok.0, eqb-true _ _ (sym c.is_empty.ensures ∙ c.if-is_empty.true)) in
-    let P : List Line → Type 0 = λ l. AreChanged l durable words (length durable / 8) in
-    let R : List ℕ → Type 0 = λ l. ∥ Rests (g.S.Storage.may_hold c.args.storage.now) (length durable) c.args.room true c.args.position l ∥₁ in
-    subst R (sym (unchanged durable words (subst P (none changed.items empty) c.in_ok-changed.ensures) c.requires.whole c.requires.same)) c.requires.known
-
-pub returns-then-size-room-clause-either : goal.returns-then-size-room-clause-either
-returns-then-size-room-clause-either g c =
-    let durable = c.args.durable.now in
-    rests-either (g.S.Storage.may_hold c.args.storage.now) (length durable) c.args.room true c.args.position durable c.args.words.now c.requires.known
-
-pub rewrite-requires-clause-known : goal.rewrite-requires-clause-known
-rewrite-requires-clause-known g c = ∥∥₁_map c.requires.known (λ r. r.known)
-
-pub returns-in_err-rewrite-clause-either : goal.returns-in_err-rewrite-clause-either
-returns-in_err-rewrite-clause-either g c =
-    let durable = c.args.durable.now in
-    opens-either (g.S.Storage.may_hold c.rewrite.new.storage) (length durable) c.args.room durable c.args.words.now c.rewrite.ensures.opens
+    let lines : List Line = c.as_slice-4.result.now in
+    let now = c.put_each.new.image.items in
+    let is : lines ≡ c.in_ok-changed.changed.items = c.as_slice-4.ensures.value in
+    let D : List ℕ → Type 0 = λ l. AreChanged c.in_ok-changed.changed.items l words in
+    let L : List Line → Type 0 = λ l. AreChanged l durable words in
+    let changed : L lines = subst L (sym is) (subst D c.as_slice.ensures.value c.in_ok-changed.ensures) in
+    let size : length now ≡ length words = c.put_each.ensures.size ∙ c.requires.differs.size in
+    ext_get_or 0 now words size (λ word lt.
+    let below : word < length words = omega (arith, lt, size) in
+    c.put_each.ensures.each word (omega (arith, below, c.requires.differs.size)) ∙ changed.makes word below)

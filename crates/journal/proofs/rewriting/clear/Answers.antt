@@ -1,4 +1,4 @@
-use Rattle.std.proofs.Common.{inl, true, ◌≡◌, ◌+◌, ◌++◌, ◌∙◌, List, ℕ, length, replicate, ap, subst}
+use Rattle.std.proofs.Common.{inl, ◌≡◌, ◌++◌, ◌∙◌, List, ℕ, length, subst}
 use Rattle.std.specs.Prelude.{OnOk}
 use Rattle.std.proofs.Math.Logic.{∥∥₁_map}
 use Rattle.journal.proofs.Files.{Puts, Keeps, clear as cleared, clear-opens, clear-kept, merely-opens, on_ok}

@@ -1,7 +1,6 @@
-use Rattle.std.proofs.Common.{true, ◌+◌, List, ℕ, length, subst}
+use Rattle.std.proofs.Common.{◌+◌, List, ℕ, length, subst}
 use Rattle.std.specs.Prelude.{OnOk}
 use Rattle.std.proofs.Math.Logic.{∥∥₁_map}
-use Rattle.journal.specs.Files.{magic}
 use Rattle.journal.proofs.Files.{Puts, Keeps, off-opens, off-kept, merely-opens, on_ok}
 use Rattle.journal.proofs.rewriting.turn_off.Goals as goal
 

@@ -7,18 +7,18 @@ use Rattle.journal.proofs.journaled.JournaledImages.open.Goals as goal
 
 pub rewrite-requires-clause-known : goal.rewrite-requires-clause-known
 rewrite-requires-clause-known g c =
-    let durable = c.in_ok-durable.durable.items in
+    let durable = c.in-Ok.durable.items in
     let file = c.args.file.now in
     let hold = g.S.Storage.may_hold c.args.storage in
     let pass : Bool = pass_of (get_or file (c.args.words + c.args.room + 3) 0) in
-    let opens = c.in_ok-durable.ensures.stands in
+    let opens = c.in-Ok.ensures.stands in
     let P : List ℕ → Type 0 = λ l. ∥ Knows hold (length l) c.args.room pass l ∥₁ in
     let N : ℕ → Type 0 = λ n. ∥ Knows hold n c.args.room pass durable ∥₁ in
-    subst P (sym c.as_slice.ensures.value) (subst N (sym opens.size) (merely (found-knows hold c.args.words c.args.room file durable pass c.in_ok-durable.ensures.file.size c.requires.holds opens c.in_ok-durable.ensures.pass refl)))
+    subst P (sym c.as_slice.ensures.value) (subst N (sym opens.size) (merely (found-knows hold c.args.words c.args.room file durable pass c.in-Ok.ensures.file.size c.requires.holds opens c.in-Ok.ensures.pass refl)))
 
-pub returns-clause-found : goal.returns-clause-found
-returns-clause-found g c image may =
-    let durable = c.in_ok-durable.durable.items in
+pub returns-in-Ok-rewrite-clause-found : goal.returns-in-Ok-rewrite-clause-found
+returns-in-Ok-rewrite-clause-found g c image may =
+    let durable = c.in-Ok.durable.items in
     let hold = g.S.Storage.may_hold c.rewrite.new.storage in
     let P : List ℕ → Type 0 = λ l. ∥ Rests hold (length l) c.args.room true 0 l ∥₁ in
-    may-kept hold (length durable) c.args.room true 0 durable image (subst P c.as_slice.ensures.value c.in_ok-rewrite.ensures.rests) refl may
+    may-kept hold (length durable) c.args.room true 0 durable image (subst P c.as_slice.ensures.value c.in-Ok-rewrite.ensures.rests) refl may

@@ -1,0 +1,40 @@
+use Rattle.std.proofs.Common.{◌≡◌, ◌∙◌, true, ℕ, List, [], ◌∷◌, length, refl, sym, subst, arith}
+use Rattle.std.proofs.Math.Logic.{∥∥₁_map}
+use Rattle.std.proofs.lemmas.Bool.{eqb-true}
+use Rattle.journal.specs.declared.line.Line.{Line}
+use Rattle.journal.specs.Changes.{AreChanged}
+use Rattle.journal.specs.States.{Rests}
+use Rattle.journal.proofs.Changes.{unchanged}
+use Rattle.journal.proofs.Appended.{rests-either, opens-either}
+use Rattle.journal.proofs.appending.keep_changed.Goals as goal
+
+none : (lines : List Line) → length lines ≡ 0 → lines ≡ []
+none [] is = refl
+none (line ∷ lines) is = absurd (omega (arith, is))
+
+pub returns-then-is_empty-clause-either : goal.returns-then-is_empty-clause-either
+returns-then-is_empty-clause-either g c =
+    let durable = c.args.durable.now in
+    rests-either (g.S.Storage.may_hold c.args.storage.now) (length durable) c.args.room true c.args.position durable c.args.words.now c.requires.known
+
+pub returns-then-is_empty-clause-rests : goal.returns-then-is_empty-clause-rests
+returns-then-is_empty-clause-rests g c =
+    let durable = c.args.durable.now in
+    let words = c.args.words.now in
+    let empty : length c.args.changed.now ≡ 0 = eqb-true _ _ (sym c.is_empty.ensures ∙ c.if-is_empty.true) in
+    let P : List Line → Type 0 = λ l. AreChanged l durable words in
+    let R : List ℕ → Type 0 = λ l. ∥ Rests (g.S.Storage.may_hold c.args.storage.now) (length durable) c.args.room true c.args.position l ∥₁ in
+    subst R (sym (unchanged durable words (subst P (none c.args.changed.now empty) c.requires.changed) c.requires.same)) c.requires.known
+
+pub returns-then-size-room-clause-either : goal.returns-then-size-room-clause-either
+returns-then-size-room-clause-either g c =
+    let durable = c.args.durable.now in
+    rests-either (g.S.Storage.may_hold c.args.storage.now) (length durable) c.args.room true c.args.position durable c.args.words.now c.requires.known
+
+pub rewrite-requires-clause-known : goal.rewrite-requires-clause-known
+rewrite-requires-clause-known g c = ∥∥₁_map c.requires.known (λ r. r.known)
+
+pub returns-in_err-rewrite-clause-either : goal.returns-in_err-rewrite-clause-either
+returns-in_err-rewrite-clause-either g c =
+    let durable = c.args.durable.now in
+    opens-either (g.S.Storage.may_hold c.rewrite.new.storage) (length durable) c.args.room durable c.args.words.now c.rewrite.ensures.opens

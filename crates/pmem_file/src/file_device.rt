@@ -1,0 +1,85 @@
+ghost use Rattle.std.specs.Prelude.{IfOk};
+ghost use Rattle.pmem.specs.Words.{IsAtRest};
+ghost use Rattle.pmem_file.specs.Traces.{device_of};
+
+use crate::journaled::JournaledPmem;
+use crate::opening::{
+    OpenError, hold_standard_streams, open_alone, sync_folder, sync_known_folder,
+};
+use crate::shape::{Found, Shape};
+use crate::storage::FileStorage;
+use base::geometry::Geometry;
+use journal::JournaledImages;
+use pmem::Pmem;
+use std::alloc::Global;
+use std::fs::File;
+use std::io;
+use std::rt::Files;
+
+/// A device whose image is kept in a file, by a journal behind it.
+pub type FileDevice = JournaledPmem<JournaledImages<FileStorage>>;
+
+impl JournaledPmem<JournaledImages<FileStorage>> {
+    /// Opens the file and locks it against other processes; where it is empty or missing it gets the words of a new image of
+    /// this geometry, all 0. An image of any geometry is opened, and so is one of this geometry whose format was cut short:
+    /// its word 0 is 0 then, as that of a new one. It gets a journal behind it, where none is there; one that is there is
+    /// read, whatever stopped who wrote it. To any other file nothing is written. What the file holds is written back and
+    /// synced before it is taken for persistent: a process that was killed may have left words that no disk has yet.
+    pub fn open<R: Files<File = File>>(
+        rt: &R,
+        alloc: Global,
+        name: &str,
+        geometry: Geometry,
+    ) -> Result<FileDevice, OpenError>
+        ensures rest { IfOk result (λ device. IsAtRest (device_of device.trace)) }
+    {
+        let held = hold_standard_streams(rt, alloc)?;
+        let file = open_alone(rt, name)?;
+        let found = Found::read(alloc, &file)?;
+        let shape = found.shape(alloc, geometry)?;
+        let is_new = found.is_empty();
+        if is_new {
+            sync_folder(rt, alloc, name)?;
+        }
+        let device = open_found(alloc, file, held, found, shape)?;
+        if !is_new {
+            sync_known_folder(rt, alloc, name)?;
+        }
+        Ok(device)
+    }
+
+    /// Closes the file: it holds the image alone, without a journal. Fails where an image wasn't kept, and where a write
+    /// fails; the next opening reads the journal then.
+    pub fn close(self) -> io::Result<()> {
+        let words = self.words();
+        let storage = self.into_storage()?;
+        storage.cut(words)
+    }
+}
+
+// Makes the file as long as its shape, and opens it.
+fn open_found(
+    alloc: Global,
+    file: File,
+    held: Vec<File>,
+    found: Found,
+    shape: Shape,
+) -> io::Result<FileDevice>
+    ensures { IfOk result (λ device. IsAtRest (device_of device.trace)) }
+{
+    let mut storage = FileStorage::new(alloc, file, held)?;
+    storage.grow(found.count(), shape.whole())?;
+    let words = found.into_words(shape)?;
+    let opened = JournaledPmem::over(
+        alloc,
+        storage,
+        words.as_slice(),
+        shape.words,
+        shape.room,
+        shape.places,
+    );
+    match opened {
+        Ok(device) => Ok(device),
+        Err(unopened) => Err(unopened.error),
+    }
+}

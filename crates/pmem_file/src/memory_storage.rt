@@ -1,0 +1,117 @@
+ghost use Rattle.std.specs.Prelude.{◌≡◌, ◌⊎◌, ℕ, ◌+◌, ◌-◌, ◌<◌, ◌≤◌, length, slice_index, OnSome};
+ghost use Rattle.journal.specs.Files.{IsInRun};
+ghost use Rattle.journal.specs.Kept.{HoldsOnly, IsFound};
+ghost use Rattle.pmem_file.specs.Memory.{stored_in, IsStored};
+ghost use Rattle.pmem_file.specs.declared.part.Part.TheVariants.{All as AllWords};
+
+use crate::journaled::JournaledPmem;
+use crate::part::Part;
+use journal::{JournaledImages, Storage, Unopened};
+use std::alloc::Global;
+use std::io;
+use std::io::ErrorKind;
+
+/// Words in memory, which say what they hold. Puts can be made to fail, and to be torn then.
+#[derive(Drop)]
+pub struct MemoryStorage {
+    words: Vec<u64>,
+
+    // How many puts succeed until each further one fails.
+    left: Option<usize>,
+    torn: Part,
+}
+
+impl MemoryStorage {
+    /// These words, of which no put fails.
+    pub fn new(words: Vec<u64>) -> MemoryStorage
+        ensures { stored_in result ≡ words.items }
+    {
+        MemoryStorage {
+            words,
+            left: None,
+            torn: Part::All,
+        }
+    }
+
+    /// The same, with so many puts until each further one fails. Of each eight words of one that fails this part is written.
+    pub fn failing_after(self, puts: usize, torn: Part) -> MemoryStorage
+        ensures { stored_in result ≡ stored_in self }
+    {
+        MemoryStorage {
+            words: self.words,
+            left: Some(puts),
+            torn,
+        }
+    }
+
+    /// What is found in it.
+    pub fn into_words(self) -> Vec<u64>
+        ensures words { result.items ≡ stored_in self }
+        ensures found { IsFound (IsStored self) (length result.items) result.items }
+        ensures only { HoldsOnly (IsStored self) (length result.items) result.items }
+    {
+        self.words
+    }
+}
+
+impl JournaledPmem<JournaledImages<MemoryStorage>> {
+    ghost use Rattle.std.specs.Prelude.{IfOk};
+    ghost use Rattle.journal.specs.Files.{Opens};
+    ghost use Rattle.pmem.specs.Words.{IsAtRest, image_of};
+    ghost use Rattle.pmem_file.specs.Traces.{device_of};
+
+    /// A device at rest with the image that the storage's words stand for, as those of a file. Fails as `over` does.
+    pub fn of_storage(
+        alloc: Global,
+        storage: MemoryStorage,
+        words: usize,
+        room: usize,
+        places: usize,
+    ) -> Result<Self, Unopened<MemoryStorage>>
+        ensures rest { IfOk result (λ device. IsAtRest (device_of device.trace)) }
+        ensures stands { IfOk result (λ device. Opens words room (stored_in storage) (image_of (device_of device.trace))) }
+    {
+        match storage.words.clone() {
+            Ok(file) => JournaledPmem::over(alloc, storage, file.as_slice(), words, room, places),
+            Err(_) => Err(Unopened {
+                error: io::Error::from(ErrorKind::OutOfMemory),
+                storage,
+            }),
+        }
+    }
+}
+
+impl Storage for MemoryStorage {
+    ghost may_hold = { IsStored };
+
+    fn put(&mut self, start: usize, words: &[u64]) -> io::Result<()> {
+        match self.left {
+            None => {}
+            Some(0) => {
+                let _ = write_words(&mut self.words, start, words, self.torn);
+                return Err(io::Error::from(ErrorKind::StorageFull));
+            }
+            Some(left) => self.left = Some(left - 1),
+        }
+        match write_words(&mut self.words, start, words, Part::All) {
+            Some(()) => Ok(()),
+            None => Err(io::Error::from(ErrorKind::InvalidInput)),
+        }
+    }
+}
+
+// Writes this part of each eight of the words, the first one here. `None` where one lies outside, and then nothing is written.
+fn write_words(into: &mut Vec<u64>, start: usize, words: &[u64], part: Part) -> Option<()>
+    ensures puts { (word : ℕ) → IsInRun start words.now word (slice_index into.new.items word) ⊎ (slice_index into.new.items word ≡ slice_index into.old.items word) }
+    ensures whole { OnSome result (part ≡ AllWords → (word : ℕ) → start ≤ word → word < start + length words.now → slice_index into.new.items word ≡ slice_index words.now (word - start)) }
+{
+    if words.len() > into.len() || start > into.len() - words.len() {
+        return None;
+    }
+    for place in 0..words.len() {
+        if part.has(place % 8) {
+            into[start + place] = words[place];
+        }
+    }
+    Some(())
+}

@@ -1,0 +1,266 @@
+use crate::journaled::JournaledPmem;
+use crate::opening::OpenError;
+use base::fault::Fault;
+use base::geometry::Geometry;
+use byteorder::{ByteOrder, LittleEndian};
+use journal::{Nowhere, extent_of, image_in};
+use log_area::read_geometry;
+use std::alloc::Global;
+use std::fs::File;
+use std::io;
+use std::io::{ErrorKind, Read};
+
+// The longest file that is read: an image of 8,405,056 bytes, and a journal that an entry of all its lines fits into.
+const MOST_BYTES: u64 = 17_860_992;
+
+// A journal of 1 MiB has room for two thousand commits of a row each, and only then the image is written in place.
+const LEAST_ROOM: usize = 131_072;
+
+/// What a file holds: an image of so many words, which has so many places for records, and a journal of so much room behind
+/// it, which may be missing.
+#[derive(Clone, Copy, Debug)]
+pub(crate) struct Shape {
+    pub(crate) words: usize,
+    pub(crate) room: usize,
+    pub(crate) places: usize,
+}
+
+impl Shape {
+    // Of an image of this geometry, with a journal as it is made.
+    fn new(geometry: Geometry) -> Shape {
+        let words = geometry.words() as usize;
+        Shape {
+            words,
+            room: room_behind(words),
+            places: geometry.places() as usize,
+        }
+    }
+
+    /// How many words the file has, with its journal and its tail.
+    pub(crate) fn whole(&self) -> usize {
+        self.words.saturating_add(self.room).saturating_add(8)
+    }
+}
+
+// How much room a journal is made with: at least for an entry of all lines.
+fn room_behind(words: usize) -> usize {
+    least_room(words).max(LEAST_ROOM)
+}
+
+fn least_room(words: usize) -> usize {
+    let lines = words / 8;
+    lines.saturating_mul(9).saturating_add(23) / 8 * 8
+}
+
+/// What was read of a file.
+#[derive(Drop)]
+pub(crate) struct Found {
+    // Its whole words.
+    words: Vec<u64>,
+
+    // Of the file in bytes, which may have more than was read.
+    length: u64,
+}
+
+impl Found {
+    pub(crate) fn read(alloc: Global, file: &File) -> io::Result<Found> {
+        let length = file.metadata()?.len();
+        let mut bytes = Vec::new(alloc);
+        file.take(MOST_BYTES).read_to_end(&mut bytes)?;
+        let count = bytes.len() / 8;
+        let mut words = Vec::from_elem(alloc, 0, count)?;
+        LittleEndian::read_u64_into(&bytes[..8 * count], words.as_mut_slice());
+        Ok(Found { words, length })
+    }
+
+    pub(crate) fn is_empty(&self) -> bool {
+        self.length == 0
+    }
+
+    /// How many words there are.
+    pub(crate) fn count(&self) -> usize {
+        self.words.len()
+    }
+
+    /// Its words, and 0 for those that are missing of a file of this shape.
+    pub(crate) fn into_words(self, shape: Shape) -> io::Result<Vec<u64>> {
+        let mut words = self.words;
+        words.resize(shape.whole(), 0)?;
+        Ok(words)
+    }
+
+    /// What the file holds. A file that is empty, or in which nothing was ever kept, is one of this geometry. Any file is
+    /// refused that is no image of ours, or has more or less than one.
+    pub(crate) fn shape(&self, alloc: Global, geometry: Geometry) -> Result<Shape, OpenError> {
+        if self.is_empty() {
+            return Ok(Shape::new(geometry));
+        }
+        let file = self.words.as_slice();
+        if self.length == bytes_of(file.len())
+            && let Some(shape) = shape_in(alloc, file, geometry)?
+        {
+            return Ok(shape);
+        }
+        Err(self.refusal(alloc)?)
+    }
+
+    // Why the file is refused.
+    fn refusal(&self, alloc: Global) -> io::Result<OpenError> {
+        let refusal = match geometry_in(alloc, self.words.as_slice())? {
+            Ok(_) | Err(Fault::BadGeometry) => self.wrong_length(),
+            Err(Fault::NotFormatted) => OpenError::NotAnImage,
+            Err(fault) => OpenError::Image(fault),
+        };
+        Ok(refusal)
+    }
+
+    // How the length differs from that of the geometry in its superblock, if one is there.
+    fn wrong_length(&self) -> OpenError {
+        match self.own_length() {
+            Some(length) if length < self.length => OpenError::Trailing {
+                extra: self.length - length,
+                length,
+            },
+            Some(length) if self.length < length => OpenError::Short {
+                missing: length - self.length,
+                length,
+            },
+            Some(_) if extent_of(self.words.as_slice()).is_none() => OpenError::NoTail,
+            _ => OpenError::Image(Fault::BadGeometry),
+        }
+    }
+
+    // How long it should be by its superblock, and by what is left of a journal behind it.
+    fn own_length(&self) -> Option<u64> {
+        let shape = Shape::new(own_geometry(self.words.as_slice())?);
+        let whole = bytes_of(shape.whole());
+        if self.length == whole || has_journal(self.words.as_slice(), shape) {
+            return Some(whole);
+        }
+        Some(bytes_of(shape.words))
+    }
+}
+
+// Whether a journal is behind the image, or the first of what is left of one: to cut it off might lose what was kept.
+fn has_journal(file: &[u64], shape: Shape) -> bool {
+    match file.get(..shape.whole()) {
+        Some(file) if extent_of(file).is_some() => true,
+        _ => begins_entry(file, shape.words),
+    }
+}
+
+// Whether an entry of some lines begins behind so many words of an image: how many payloads it has, and the bit of its pass.
+fn begins_entry(file: &[u64], words: usize) -> bool {
+    match file.get(words) {
+        Some(first) => *first > 1 && *first % 18 <= 1 && *first / 18 <= (words / 8) as u64,
+        None => false,
+    }
+}
+
+// What the file of these words holds, if it is one of ours: an image alone, as a close leaves it, one with a journal, or one
+// that was being made longer.
+fn shape_in(alloc: Global, file: &[u64], geometry: Geometry) -> Result<Option<Shape>, OpenError> {
+    if let Some(own) = layout_of(alloc, file, geometry)? {
+        return Ok(Some(Shape::new(own)));
+    }
+    match extent_of(file) {
+        Some((words, room)) => journaled_shape(alloc, file, words, room, geometry),
+        None => growing_shape(alloc, file, geometry),
+    }
+}
+
+// The shape of a file with a tail. `None` where what it stands for is no image, or an entry of all lines doesn't fit.
+fn journaled_shape(
+    alloc: Global,
+    file: &[u64],
+    words: usize,
+    room: usize,
+    geometry: Geometry,
+) -> Result<Option<Shape>, OpenError> {
+    if room < least_room(words) {
+        return Ok(None);
+    }
+    let image = image_in(alloc, file, words, room)?;
+    match layout_of(alloc, image.as_slice(), geometry)? {
+        Some(own) => Ok(Some(Shape {
+            words,
+            room,
+            places: own.places() as usize,
+        })),
+        None => Ok(None),
+    }
+}
+
+// The shape of a file that was being made longer: behind its image there is nothing yet, but for words of the first tail.
+fn growing_shape(
+    alloc: Global,
+    file: &[u64],
+    geometry: Geometry,
+) -> Result<Option<Shape>, OpenError> {
+    let shape = Shape::new(own_geometry(file).unwrap_or(geometry));
+    let (Some(image), Some(behind)) = (file.get(..shape.words), file.get(shape.words..)) else {
+        return Ok(None);
+    };
+    if file.len() != shape.whole() || !is_first_behind(behind, shape) {
+        return Ok(None);
+    }
+    let layout = layout_of(alloc, image, geometry)?;
+    Ok(layout.is_some().then_some(shape))
+}
+
+// Whether there is nothing behind an image but some words of a tail that doesn't count.
+fn is_first_behind(behind: &[u64], shape: Shape) -> bool {
+    match (behind.get(..shape.room), behind.get(shape.room..)) {
+        (Some(journal), Some(tail)) => {
+            journal.iter().all(|word| *word == 0) && is_first_tail(tail, shape)
+        }
+        _ => false,
+    }
+}
+
+// Whether some of these words are those of a tail that doesn't count, and the others 0.
+fn is_first_tail(tail: &[u64], shape: Shape) -> bool {
+    let names = [0, shape.words as u64, shape.room as u64, 0, 0, 0, 0, 0];
+    tail.iter()
+        .zip(names.iter())
+        .all(|(word, name)| *word == 0 || word == name)
+}
+
+// The layout of an image of these words. Where nothing was ever kept in it that is the one that is asked for.
+fn layout_of(alloc: Global, image: &[u64], geometry: Geometry) -> io::Result<Option<Geometry>> {
+    if is_blank(image, geometry) {
+        return Ok(Some(geometry));
+    }
+    Ok(geometry_in(alloc, image)?.ok())
+}
+
+// What the superblock of these words says.
+fn geometry_in(alloc: Global, image: &[u64]) -> io::Result<Result<Geometry, Fault>> {
+    let words = Vec::from_slice(alloc, image)?;
+    match JournaledPmem::new(alloc, words, Nowhere, 0) {
+        Ok(device) => Ok(read_geometry(&device)),
+        Err(Nowhere) => Err(io::Error::from(ErrorKind::OutOfMemory)),
+    }
+}
+
+// Whether nothing was ever kept: it has the length of a new image, and word 0 and those of all slots are 0.
+fn is_blank(image: &[u64], geometry: Geometry) -> bool {
+    let count = image.len();
+    if count as u64 != geometry.words() || image.first() != Some(&0) {
+        return false;
+    }
+    let in_slots = geometry.slot_words().saturating_mul(geometry.slots());
+    let slots = &image[count.saturating_sub(in_slots as usize)..];
+    slots.iter().all(|word| *word == 0)
+}
+
+// The geometry that a superblock names.
+fn own_geometry(file: &[u64]) -> Option<Geometry> {
+    let [_, version, slots, places, window] = *file.first_chunk::<5>()?;
+    Geometry::of_version(version, slots, places, window).ok()
+}
+
+/// The bytes of so many words.
+pub(crate) fn bytes_of(words: usize) -> u64 {
+    (words as u64).saturating_mul(8)
+}
