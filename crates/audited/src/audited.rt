@@ -1,3 +1,6 @@
+//! A step is made only where there is memory for its entry. One that is refused for want of memory changed nothing, so it is
+//! left out, and the entries are still a run.
+
 ghost use Rattle.audited.specs.Audit.{HasHistory};
 
 use crate::noting::{notes_of, wants_memory};

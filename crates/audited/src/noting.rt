@@ -1,3 +1,6 @@
+//! History and receipt each have a note of their own, since a receipt leaves with its session. Both are made before either is
+//! kept.
+
 ghost use Rattle.std.specs.Prelude.{◌≡◌, ◌↔◌, IsTrue, IfOk, OnErr};
 ghost use Rattle.base.specs.declared.fault.Fault.TheVariants.{OutOfMemory};
 ghost use Rattle.base.specs.declared.step.Reply.TheVariants.{Refused};

@@ -1,3 +1,6 @@
+//! The history begins empty at the image of this very device, so that whoever gets the room back can say where its entries
+//! start.
+
 use crate::audited::Audited;
 use base::fault::Fault;
 use pmem::Pmem;

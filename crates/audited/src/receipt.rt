@@ -1,3 +1,5 @@
+//! A receipt names the place of its entry, so that the two can be compared later.
+
 use base::step::{Note, Step};
 
 /// The entry that a step made: its place in the history, the step and its note.

@@ -12,20 +12,20 @@ use Rattle.base.specs.Images.{Image, layout_of, ruling, slot_word, begin_of, end
 use Rattle.machine.specs.Openings.{lies_in_gap, updated}
 use Rattle.pmem.specs.Device.{Device, flushed}
 use Rattle.pmem.specs.Words.{value_of}
-use Rattle.recovery.specs.declared.slots.Reading.{Reading}
+use Rattle.recovery.specs.declared.slots.SlotReading.{SlotReading}
 use Rattle.recovery.specs.Slots.{reading_in, readings_below}
 use Rattle.recovery.specs.Sweeping.{lies, is_hit_by, hits_below, AreHits, zeroed, cleaned}
 use Rattle.recovery.proofs.SweptSlots.{zeroed-is}
 
 -- ---- by what was read
 
-pub hits-are : (image : Image) (r : Record) (n : ℕ) (readings : List Reading) → ruling image ≡ r → readings ≡ readings_below image n → map (is_hit_by r) readings ≡ hits_below image n
+pub hits-are : (image : Image) (r : Record) (n : ℕ) (readings : List SlotReading) → ruling image ≡ r → readings ≡ readings_below image n → map (is_hit_by r) readings ≡ hits_below image n
 unfolding readings_below hits_below reading_in
 hits-are image r n readings ruled are =
     ap (map (is_hit_by r)) are ∙ map-map (is_hit_by r) (reading_in image) (range_with_len 0 n)
     ∙ (λ i. map (λ slot. is_in (opened_gaps (sym ruled i)) (begin_of image slot) || is_in (opened_gaps (sym ruled i)) (end_of image slot)) (range_with_len 0 n))
 
-pub are-hits : (image : Image) (layout : Layout) (r : Record) (gaps : Option (List Gap)) (readings : List Reading) (hits : List Bool) → ruling image ≡ r → readings ≡ readings_below image layout.slots
+pub are-hits : (image : Image) (layout : Layout) (r : Record) (gaps : Option (List Gap)) (readings : List SlotReading) (hits : List Bool) → ruling image ≡ r → readings ≡ readings_below image layout.slots
     → (gaps ≡ None → hits ≡ map (is_hit_by r) readings) → AreHits image layout gaps hits
 unfolding AreHits
 are-hits image layout r gaps readings hits ruled are by_readings many = by_readings many ∙ hits-are image r layout.slots readings ruled are

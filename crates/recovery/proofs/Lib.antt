@@ -13,3 +13,4 @@ pub mod Zeros
 pub mod Fresh
 pub mod LiveRows
 pub mod WhatIsRead
+pub mod Held

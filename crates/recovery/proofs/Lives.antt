@@ -35,7 +35,7 @@ use Rattle.recovery.specs.Gaps.{few_gaps, MayRule}
 use Rattle.recovery.specs.Slots.{IsUnder, IsSlotsFault, free_below, bad_below}
 use Rattle.recovery.specs.Live.{live_below}
 use Rattle.recovery.specs.Sweeping.{IsSwept, is_hit}
-use Rattle.recovery.specs.Opened.{HasSlotsOf, Refuses, IsExamined, Examined, HasOpenedToday, IsCutBefore, IsCutShort, IsRefusal, sweep_operations, total}
+use Rattle.recovery.specs.Opened.{HasSlotsOf, Refuses, IsExamined, Examined, HasOpenedToday, IsCutBefore, IsCutShort, IsRefusal, IsUpdatedFirst, sweep_operations, total}
 use Rattle.recovery.specs.declared.rows.LiveSlot.{LiveSlot}
 use Rattle.base.proofs.WellFormed.{WellFormed, well_formed-parts}
 use Rattle.base.proofs.Options.{or-none, some_if-none}
@@ -318,6 +318,10 @@ images-refused device orderly rest history drawn next s =
     leaves_refl device (StandsOpening (image_of device) history next) orderly (λ image may.
     subst (λ (i : Image). StandsOpening (image_of device) history next i) (sym (left_at_rest device rest image may))
     (record { stands = record { sound = s.sound; tables = s.tables; covered = s.covered; left_out = refl; reserved = s.reserved }; ruled = inl refl; laid_out = inl refl }))
+
+-- and so the version too
+pub version-refused : (device : Device) → IsOrderly device → IsAtRest device → LeavesOnly device device (IsUpdatedFirst (image_of device))
+version-refused device orderly rest = leaves_refl device (IsUpdatedFirst (image_of device)) orderly (λ image may. inr (left_at_rest device rest image may))
 
 pub refusal-examined : (device : Device) (fault : Fault) → Refuses (image_of device) fault → IsRefusal (opening_fault (image_of device)) device device fault
 unfolding Refuses

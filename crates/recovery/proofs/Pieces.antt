@@ -307,9 +307,6 @@ module _ (r : Record) (may : MayRule r) where
           by is down (inl up) = absurd (not_between up (omega (arith, is, down)))
           by is down (inr low) = omega (arith, is, low)
 
-    pub none-added : (gaps : List Gap) → above < below → HasUpTo r above gaps → Added r above below gaps above 0
-    none-added gaps order has = record { has = has; low = omega arith; high = order; done = λ j lt. absurd (omega (arith, lt)) }
-
   -- ---- the record's own gaps
 
   own-tidy : Tidy (0 + 1) r.gaps

@@ -13,7 +13,7 @@ use Rattle.machine.proofs.Sweeps.{mark-of, unmarked-low, swept-at, swept-size}
 use Rattle.pmem.specs.Device.{Device, Entry, IsOrderly, IsAmong, survivors_in, IsReadyIn, stored, flushed, fenced, failed}
 use Rattle.pmem.specs.Words.{value_of, image_of, Survives, IsReady, IsSettled, IsAtRest, Keeps, OldOr, IsWithin, Makes, OnlyShrinks, Spares, HasOldWords, operations_of}
 use Rattle.pmem.proofs.Images.{leaves_trans, leaves_weaken}
-use Rattle.pmem.proofs.Runs.{keeps_none, keeps-stored, keeps-failed, keeps_weaken}
+use Rattle.pmem.proofs.Runs.{keeps_none, keeps_weaken}
 use Rattle.pmem.proofs.Changes.{shrinks_refl, shrinks_trans, stored-shrinks, flushed-shrinks, fenced-shrinks, stored-value, fenced-settles}
 use Rattle.pmem.proofs.Counts.{makes_none, makes-fenced}
 use Rattle.pmem.proofs.OperationEffects.{history-flushed_same, history-stored_other, survivors-stored_same}
@@ -37,19 +37,6 @@ keeps_trans {old} {mid} {new} {These} {Q} a b more = record {
     either word x (inr stored_one) = more word x stored_one
 
 -- ---- one word
-
-module _ (r : Record) (at : ℕ) (old new : Device) (orderly : IsOrderly old) (orderly' : IsOrderly new) where
-  same-kept : Keeps old old (OldOr old (IsZeroed r at old))
-  same-kept = keeps_none old (OldOr old (IsZeroed r at old)) orderly (λ word x there. inl there)
-
-  pub zeroed-kept : lies r (value_of old at) ≡ true → new ≡ stored at 0 old → Keeps old new (OldOr old (IsZeroed r at old))
-  zeroed-kept lay is = keeps-stored at 0 orderly orderly' same-kept is (inr (record { there = refl; lay = lay; zero = refl }))
-
-  pub failed-kept : new ≡ failed old → Keeps old new (OldOr old (IsZeroed r at old))
-  failed-kept is = keeps-failed orderly orderly' same-kept is
-
-pub unzeroed-kept : (r : Record) (at : ℕ) (old : Device) → IsOrderly old → Keeps old old (OldOr old (IsZeroed r at old))
-unzeroed-kept r at old orderly = same-kept r at old old orderly orderly
 
 pub zeroed-is : (r : Record) (at : ℕ) (old : Device) (b : Bool) → lies r (value_of old at) ≡ b → zeroed r at old ≡ cond b (stored at 0 old) old
 zeroed-is r at old b is = ap (λ (b : Bool). cond b (stored at 0 old) old) is

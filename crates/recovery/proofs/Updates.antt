@@ -1,5 +1,5 @@
 -- An image that an opening gives the version of today.
-use Rattle.std.proofs.Common.{◌≡◌, ◌≢◌, ◌⊎◌, inl, inr, ℕ, ◌+◌, ◌<◌, ◌≤◌, Bool, true, false, cond, not, ◌&&◌, List, [], ◌∷◌, length, get_or, map, flat_map, refl, sym, ◌∙◌, ap, subst, arith, nat_eq, true≢false}
+use Rattle.std.proofs.Common.{◌≡◌, ◌≢◌, ◌⊎◌, inl, inr, ℕ, ◌<◌, ◌≤◌, Bool, true, false, cond, not, ◌&&◌, List, [], ◌∷◌, length, get_or, map, flat_map, refl, sym, ◌∙◌, ap, subst, arith, nat_eq, true≢false}
 use Rattle.std.specs.Prelude.{Option, None}
 use Rattle.std.specs.List.{range_with_len}
 use Rattle.std.proofs.lemmas.Bool.{cases_eq, cases_lt, eq-eqb, ne_eqb}
@@ -13,11 +13,11 @@ use Rattle.base.specs.Images.{Image, layout_of, ruling, is_shown, opening_fault,
 use Rattle.base.specs.Search.{first_below}
 use Rattle.base.specs.Stands.{Stands}
 use Rattle.machine.specs.Openings.{Counts, opening_record, gaps_kept, opened_slots, record_counts, update_counts, StandsOpening, updated, updates}
-use Rattle.base.proofs.Histories.{opens-sound}
+use Rattle.base.proofs.Histories.{history_in, sound-stands, opens-sound}
 use Rattle.machine.proofs.Opened.{whole-of, size-of}
 use Rattle.machine.proofs.Updated.{updated-open}
 use Rattle.pmem.specs.Device.{Device}
-use Rattle.pmem.specs.Words.{value_of, IsAtRest, IsSettled, IsSettledAt, IsStore, IsWithin, LeavesOnly, image_of, Keeps, Makes, OldOr, Spares, operations_of}
+use Rattle.pmem.specs.Words.{value_of, IsAtRest, IsSettled, IsSettledAt, IsStore, IsWithin, LeavesOnly, image_of, Keeps, OldOr, Spares}
 use Rattle.pmem.proofs.Images.{leaves_trans, leaves_weaken}
 use Rattle.pmem.proofs.Spares.{spares_fewer, spares_trans}
 use Rattle.pmem.proofs.OperationEffects.{only-settled}
@@ -26,7 +26,7 @@ use Rattle.log_area.proofs.Heads.{image_word, image_size}
 use Rattle.recovery.specs.Slots.{free_below}
 use Rattle.recovery.specs.Live.{live_at, live_below}
 use Rattle.recovery.specs.Sweeping.{is_hit, lies}
-use Rattle.recovery.specs.Opened.{Examined, HasOpened, HasOpenedToday, IsCutBefore, IsCutShort, MakesAll, free_in, is_swept, is_updated, total}
+use Rattle.recovery.specs.Opened.{Examined, HasOpened, HasOpenedToday, IsCutBefore, IsCutShort, IsUpdatedFirst, MakesAll, free_in, is_swept, is_updated, total}
 use Rattle.recovery.specs.declared.rows.LiveSlot.{LiveSlot}
 use Rattle.recovery.proofs.Lives.{is}
 
@@ -148,6 +148,16 @@ module _ (old : Device) (rest : IsAtRest old) (opens : opening_fault (image_of o
     ];
   }
 
+  -- the version is stored alone
+  pub version-updating : (new : Device) → Keeps old new (OldOr old (IsStore 1 (opened_version (layout_of image).version))) → LeavesOnly old new (IsUpdatedFirst image)
+  version-updating new kept = record {
+    continues = kept.images.continues;
+    each = λ other might. elim (either-image other (might.left.size ∙ kept.images.continues.same_words) (kept.images.each other might)) [
+      | inl same ↦ inr same
+      | inr same ↦ inl (ap layout_of same ∙ up.laid_out)
+    ];
+  }
+
   -- and once it is settled
   module _ (new : Device) (same-words : new.words ≡ old.words) (holds : IsSettledAt new 1 (opened_version (layout_of image).version)) (spares : Spares (λ word. word ≢ 1) old new) where
     pub rest-updated : IsAtRest new
@@ -176,25 +186,10 @@ module _ (old : Device) (opens : opening_fault (image_of old) ≡ None) (current
   pub image-current : image_of old ≡ updated (image_of old)
   image-current = sym ((updated-open (image_of old) opens).same none-updated)
 
-  counts-none : update_counts (image_of old) ≡ record { stores = 0; flushes = 0; fences = 0 }
-  counts-none = ap (λ (b : Bool). cond b (let c : Counts = record { stores = 1; flushes = 1; fences = 1 } in c) (record { stores = 0; flushes = 0; fences = 0 })) none-updated
-
-  pub makes-none : MakesAll (update_counts (image_of old)) old old
-  makes-none = subst (λ (c : Counts). MakesAll c old old) (sym counts-none) (record { stores_made = omega arith; flushes_made = omega arith; fences_made = omega arith; failures_made = omega arith })
-
 -- where it has another, its word alone is stored
 module _ (old : Device) (other : (layout_of (image_of old)).version ≢ opened_version (layout_of (image_of old)).version) where
   pub some-updated : updates (image_of old) ≡ true
   some-updated = ap not (ne_eqb (layout_of (image_of old)).version (opened_version (layout_of (image_of old)).version) other)
-
-  counts-some : update_counts (image_of old) ≡ record { stores = 1; flushes = 1; fences = 1 }
-  counts-some = ap (λ (b : Bool). cond b (let c : Counts = record { stores = 1; flushes = 1; fences = 1 } in c) (record { stores = 0; flushes = 0; fences = 0 })) some-updated
-
-  pub makes-update : (new : Device) → Makes 1 1 1 0 old new → MakesAll (update_counts (image_of old)) old new
-  makes-update new makes = subst (λ (c : Counts). MakesAll c old new) (sym counts-some) makes
-
-  pub cut-update : (new : Device) → old.failures < new.failures → operations_of new < operations_of old + 3 → IsCutBefore (total (update_counts (image_of old))) old new
-  cut-update new failed few = subst (λ (c : Counts). IsCutBefore (total c) old new) (sym counts-some) (record { failed = failed; few = few })
 
   pub others-spared : (new : Device) → Spares (λ word. word ≢ 1) old new → Spares (λ word. is_updated old word ≡ false) old new
   others-spared new spares = spares_fewer (λ word alone one. true≢false (sym (both word one) ∙ alone)) spares
@@ -230,6 +225,24 @@ module _ (old mid new : Device) (opens : opening_fault (image_of old) ≡ None) 
       leaves_trans first
       (leaves_weaken (λ image stands. gone.within history next image (subst (λ (i : Image). StandsOpening i history next image) updated-is stands))
       (second history drawn next (subst (λ (i : Image). Stands i history drawn next) (sym updated-is) (gone.stands history drawn next s))))
+
+  laid-after : (image : Image) → (layout_of image ≡ layout_of (updated before)) ⊎ (layout_of image ≡ opened_layout (layout_of (updated before))) → IsUpdatedFirst before image
+  laid-after image (inl same) = inl (same ∙ gone.laid_out)
+  laid-after image (inr same) = inl (same ∙ sym gone.up_to_date ∙ gone.laid_out)
+
+  -- after the update each image has the version
+  pub version-after : LeavesOnly old mid (IsUpdatedFirst before) → ((history drawn : List Commit) (next : ℕ) → Stands (image_of mid) history drawn next → LeavesOnly mid new (StandsOpening (image_of mid) history next))
+      → LeavesOnly old new (IsUpdatedFirst before)
+  version-after first second =
+      leaves_trans first
+      (leaves_weaken (λ image stands. laid-after image (subst (λ (i : Image). StandsOpening i history next image) updated-is stands).laid_out)
+      (second history [] next (subst (λ (i : Image). Stands i history [] next) (sym updated-is) (sound-stands (updated before) (opens-sound (updated before) gone.opens)))))
+    where
+      history : List Commit
+      history = history_in (updated before)
+
+      next : ℕ
+      next = (ruling (updated before)).dirty
 
   module _ (same-words : mid.words ≡ old.words) (spared : Spares (λ word. is_updated old word ≡ false) old mid) (layout : Layout) (r : Record) (next : ℕ) (free : List Bool) (live : List LiveSlot) (today : HasOpenedToday mid new layout r next free live) where
     layout-now : layout_of (image_of mid) ≡ opened_layout (layout_of before)

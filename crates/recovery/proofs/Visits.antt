@@ -1,6 +1,6 @@
 -- Visiting the slots one after another.
 use Rattle.std.proofs.Common.{◌≡◌, ◌⊎◌, inl, inr, ℕ, ◌+◌, ◌<◌, ◌≤◌, Bool, true, false, cond, not, ◌&&◌, ◌||◌, [], ◌∷◌, ◌++◌, refl, sym, ◌∙◌, ap, subst, arith, add-one, nat_le, ◌*◌, ◌^◌, length, get_or, lit<}
-use Rattle.std.specs.Prelude.{Option, Some, None, is_some, List}
+use Rattle.std.specs.Prelude.{Option, Some, None, is_some}
 use Rattle.std.specs.Option.{option_or, option_map}
 use Rattle.std.specs.BTreeMap.{is_at}
 use Rattle.std.proofs.Math.Nat.{mul-le-mul_left}
@@ -21,9 +21,10 @@ use Rattle.base.proofs.Search.{first_below-found}
 use Rattle.pmem.specs.Device.{Device, IsOrderly}
 use Rattle.pmem.specs.Words.{value_of, image_of}
 use Rattle.version_slot.specs.declared.words.Slot.{Slot}
+use Rattle.version_slot.specs.declared.words.Version.{Version}
 use Rattle.version_slot.specs.Words.{Fits, IsVersion, IsSlot, slot_at}
 use Rattle.version_slot.proofs.ImageSlots.{version_of, holds_version, well_formed, key_is, row_is_of}
-use Rattle.recovery.specs.declared.slots.Found.TheVariants.{Bad, Live, Free}
+use Rattle.recovery.specs.declared.slots.SlotContent.TheVariants.{Bad, Live, Free}
 use Rattle.recovery.specs.Slots.{IsUnder, HasKeys, IsVisitFault, IsSlotsFault, found_in, free_below, bad_below, is_bad, is_free, key_cmp}
 
 -- ---- one slot
@@ -33,30 +34,30 @@ pub found-free : (image : Image) (slot : ℕ) → Free ≡ found_in image slot �
 unfolding found_in is_free is_bad
 found-free image slot found = by (is_ahead (ruling image) image slot) (is_shown (ruling image) image slot) (is_misfit image slot) found
   where
-    by : (ahead shown ill : Bool) → Free ≡ cond ahead Bad (cond shown (cond ill Bad (Live (key_of image slot) (row_of image slot))) Free)
+    by : (ahead shown ill : Bool) → Free ≡ cond ahead Bad (cond shown (cond ill Bad (Live (key_of image slot))) Free)
         → (not shown ≡ true) × ((ahead || (shown && (ill || is_second (ruling image) image slot))) ≡ false)
     by true shown ill found = absurd (cc found)
     by false true true found = absurd (cc found)
     by false true false found = absurd (cc found)
     by false false ill found = (refl, refl)
 
-pub found-live : (image : Image) (slot : ℕ) (key : Key) (row : List ℕ) → Live key row ≡ found_in image slot
-    → (is_free image slot ≡ false) × (is_shown (ruling image) image slot ≡ true) × (key ≡ key_of image slot) × (is_bad image slot ≡ is_second (ruling image) image slot) × (row ≡ row_of image slot)
+pub found-live : (image : Image) (slot : ℕ) (key : Key) → Live key ≡ found_in image slot
+    → (is_free image slot ≡ false) × (is_shown (ruling image) image slot ≡ true) × (key ≡ key_of image slot) × (is_bad image slot ≡ is_second (ruling image) image slot)
 unfolding found_in is_free is_bad
-found-live image slot key row found = by (is_ahead (ruling image) image slot) (is_shown (ruling image) image slot) (is_misfit image slot) found
+found-live image slot key found = by (is_ahead (ruling image) image slot) (is_shown (ruling image) image slot) (is_misfit image slot) found
   where
-    by : (ahead shown ill : Bool) → Live key row ≡ cond ahead Bad (cond shown (cond ill Bad (Live (key_of image slot) (row_of image slot))) Free)
-        → (not shown ≡ false) × (shown ≡ true) × (key ≡ key_of image slot) × ((ahead || (shown && (ill || is_second (ruling image) image slot))) ≡ is_second (ruling image) image slot) × (row ≡ row_of image slot)
+    by : (ahead shown ill : Bool) → Live key ≡ cond ahead Bad (cond shown (cond ill Bad (Live (key_of image slot))) Free)
+        → (not shown ≡ false) × (shown ≡ true) × (key ≡ key_of image slot) × ((ahead || (shown && (ill || is_second (ruling image) image slot))) ≡ is_second (ruling image) image slot)
     by true shown ill found = absurd (cc found)
     by false true true found = absurd (cc found)
-    by false true false found = (refl, refl, cc found, refl, cc found)
+    by false true false found = (refl, refl, cc found, refl)
     by false false ill found = absurd (cc found)
 
 pub found-bad : (image : Image) (slot : ℕ) → Bad ≡ found_in image slot → is_bad image slot ≡ true
 unfolding found_in is_bad
 found-bad image slot found = by (is_ahead (ruling image) image slot) (is_shown (ruling image) image slot) (is_misfit image slot) found
   where
-    by : (ahead shown ill : Bool) → Bad ≡ cond ahead Bad (cond shown (cond ill Bad (Live (key_of image slot) (row_of image slot))) Free)
+    by : (ahead shown ill : Bool) → Bad ≡ cond ahead Bad (cond shown (cond ill Bad (Live (key_of image slot))) Free)
         → (ahead || (shown && (ill || is_second (ruling image) image slot))) ≡ true
     by true shown ill found = refl
     by false true true found = refl
@@ -179,13 +180,17 @@ module _ (device : Device) (layout : Layout) (r : Record) (slot : ℕ) (size : d
   whole = omega (arith, length-image, size, ap total_words laid-out)
 
   -- a version that the device's words hold is one that the image's words hold
-  pub held : (s : Slot) → IsSlot layout (slot_at layout slot (value_of device)) s → IsVersion (layout_of (image_of device)) (slot_word (image_of device) slot) s.version
-  held s is = record {
+  pub held : (v : Version) → IsVersion layout (slot_at layout slot (value_of device)) v → IsVersion (layout_of (image_of device)) (slot_word (image_of device) slot) v
+  held v is = record {
     each = λ w low high.
         let lt : w < slot_words layout.version = omega (arith, high, same-width) in
-        each-word w lt ∙ is.version.each w low lt;
-    fits = subst (λ (l : Layout). Fits l s.version) (sym laid-out) is.version.fits;
+        each-word w lt ∙ is.each w low lt;
+    fits = subst (λ (l : Layout). Fits l v) (sym laid-out) is.fits;
   }
+
+  -- its row
+  pub row-held : (s : Slot) → IsSlot layout (slot_at layout slot (value_of device)) s → row_of (image_of device) slot ≡ s.version.row
+  row-held s is = row_is_of (image_of device) slot within whole s.version (held s.version is.version)
 
   fits-words : IsOrderly device → (w : ℕ) → get_or (image_of device) w 0 < 2 ^ 64
   fits-words orderly w = by (cases_lt w device.words)
@@ -195,7 +200,7 @@ module _ (device : Device) (layout : Layout) (r : Record) (slot : ℕ) (size : d
       by (inr ge) = subst (λ (n : ℕ). n < 2 ^ 64) (sym (get_or_past (image_of device) w 0 (omega (arith, ge, length-image)))) (lit< tt)
 
   -- where nothing can be read, the words hold no version
-  pub none-held : IsOrderly device → ((s : Slot) → IsSlot layout (slot_at layout slot (value_of device)) s → ⊥) → is_misfit (image_of device) slot ≡ true
+  pub none-held : IsOrderly device → ((v : Version) → IsVersion layout (slot_at layout slot (value_of device)) v → ⊥) → is_misfit (image_of device) slot ≡ true
   none-held orderly none = by (is_misfit (image_of device) slot) refl
     where
       by : (b : Bool) → is_misfit (image_of device) slot ≡ b → is_misfit (image_of device) slot ≡ true
@@ -203,20 +208,19 @@ module _ (device : Device) (layout : Layout) (r : Record) (slot : ℕ) (size : d
       by false is =
           let image = image_of device in
           let version = holds_version image slot within whole (fits-words orderly) is in
-          absurd (none (record { begin = slot_at layout slot (value_of device) 0; end = slot_at layout slot (value_of device) 1; version = version_of image slot })
-          (record {
-            begin = refl;
-            end = refl;
-            version = record {
-              each = λ w low high. sym (each-word w high) ∙ version.each w low (omega (arith, high, same-width));
-              fits = subst (λ (l : Layout). Fits l (version_of image slot)) laid-out version.fits;
-            };
+          absurd (none (version_of image slot) (record {
+            each = λ w low high. sym (each-word w high) ∙ version.each w low (omega (arith, high, same-width));
+            fits = subst (λ (l : Layout). Fits l (version_of image slot)) laid-out version.fits;
           }))
 
-  choose : (ahead shown ill : Bool) (key : Key) (row : List ℕ) → is_ahead (ruling (image_of device)) (image_of device) slot ≡ ahead → is_shown (ruling (image_of device)) (image_of device) slot ≡ shown → is_misfit (image_of device) slot ≡ ill → key_of (image_of device) slot ≡ key → row_of (image_of device) slot ≡ row
-      → found_in (image_of device) slot ≡ cond ahead Bad (cond shown (cond ill Bad (Live key row)) Free)
+  pub none-read : IsOrderly device → ((s : Slot) → IsSlot layout (slot_at layout slot (value_of device)) s → ⊥) → is_misfit (image_of device) slot ≡ true
+  none-read orderly none =
+      none-held orderly (λ v is. none (record { begin = slot_at layout slot (value_of device) 0; end = slot_at layout slot (value_of device) 1; version = v }) (record { begin = refl; end = refl; version = is }))
+
+  choose : (ahead shown ill : Bool) (key : Key) → is_ahead (ruling (image_of device)) (image_of device) slot ≡ ahead → is_shown (ruling (image_of device)) (image_of device) slot ≡ shown → is_misfit (image_of device) slot ≡ ill → key_of (image_of device) slot ≡ key
+      → found_in (image_of device) slot ≡ cond ahead Bad (cond shown (cond ill Bad (Live key)) Free)
   unfolding found_in
-  choose ahead shown ill key row a s i k w = λ j. cond (a j) Bad (cond (s j) (cond (i j) Bad (Live (k j) (w j))) Free)
+  choose ahead shown ill key a s i k = λ j. cond (a j) Bad (cond (s j) (cond (i j) Bad (Live (k j))) Free)
 
   module _ (begin end : ℕ) (begin-is : begin ≡ slot_at layout slot (value_of device) 0) (end-is : end ≡ slot_at layout slot (value_of device) 1) where
     begin-same : begin_of (image_of device) slot ≡ begin
@@ -232,7 +236,7 @@ module _ (device : Device) (layout : Layout) (r : Record) (slot : ℕ) (size : d
     shown-is = λ i. is_committed (ruled i) (begin-same i) && not (is_committed (ruled i) (end-same i))
 
     pub look-ahead : (r.dirty ≤ begin) ⊎ (r.dirty ≤ end) → Bad ≡ found_in (image_of device) slot
-    look-ahead far = sym (choose true _ _ _ _ (ahead-is ∙ by (nat_le r.dirty begin) (nat_le r.dirty end) far refl refl) refl refl refl refl)
+    look-ahead far = sym (choose true _ _ _ (ahead-is ∙ by (nat_le r.dirty begin) (nat_le r.dirty end) far refl refl) refl refl refl)
       where
         by : (a b : Bool) → (r.dirty ≤ begin) ⊎ (r.dirty ≤ end) → nat_le r.dirty begin ≡ a → nat_le r.dirty end ≡ b → (a || b) ≡ true
         by true b far ea eb = refl
@@ -244,12 +248,13 @@ module _ (device : Device) (layout : Layout) (r : Record) (slot : ℕ) (size : d
     near b e = ahead-is ∙ (λ i. lt-leb r.dirty begin b i || lt-leb r.dirty end e i)
 
     pub look-free : begin < r.dirty → end < r.dirty → (is_committed r begin && not (is_committed r end)) ≡ false → Free ≡ found_in (image_of device) slot
-    look-free b e not_shown = sym (choose false false _ _ _ (near b e) (shown-is ∙ not_shown) refl refl refl)
+    look-free b e not_shown = sym (choose false false _ _ (near b e) (shown-is ∙ not_shown) refl refl)
 
-    pub look-live : begin < r.dirty → end < r.dirty → (is_committed r begin && not (is_committed r end)) ≡ true → (s : Slot) → IsSlot layout (slot_at layout slot (value_of device)) s → Live s.version.key s.version.row ≡ found_in (image_of device) slot
-    look-live b e shown s is =
-        sym (choose false true false s.version.key s.version.row (near b e) (shown-is ∙ shown) (well_formed (image_of device) slot within whole s.version (held s is)) (key_is (image_of device) slot within whole s.version (held s is))
-        (row_is_of (image_of device) slot within whole s.version (held s is)))
+    pub look-live : begin < r.dirty → end < r.dirty → (is_committed r begin && not (is_committed r end)) ≡ true → (key : Key) → (v : Version) × IsVersion layout (slot_at layout slot (value_of device)) v × (v.key ≡ key) → Live key ≡ found_in (image_of device) slot
+    look-live b e shown key found =
+        let image = image_of device in
+        let is = held found.0 found.1 in
+        sym (choose false true false key (near b e) (shown-is ∙ shown) (well_formed image slot within whole found.0 is) (key_is image slot within whole found.0 is ∙ found.2))
 
-    pub look-bad : IsOrderly device → begin < r.dirty → end < r.dirty → (is_committed r begin && not (is_committed r end)) ≡ true → ((s : Slot) → IsSlot layout (slot_at layout slot (value_of device)) s → ⊥) → Bad ≡ found_in (image_of device) slot
-    look-bad orderly b e shown none = sym (choose false true true _ _ (near b e) (shown-is ∙ shown) (none-held orderly none) refl refl)
+    pub look-bad : IsOrderly device → begin < r.dirty → end < r.dirty → (is_committed r begin && not (is_committed r end)) ≡ true → ((v : Version) → IsVersion layout (slot_at layout slot (value_of device)) v → ⊥) → Bad ≡ found_in (image_of device) slot
+    look-bad orderly b e shown none = sym (choose false true true _ (near b e) (shown-is ∙ shown) (none-held orderly none) refl)

@@ -2,8 +2,9 @@ pub mod Gaps
 pub mod Sweeping
 pub mod Slots
 pub mod Live
+pub mod Held
 pub mod Opened
 pub mod Fresh
 pub mod Words
-pub mod Still
+pub mod ImageDevice
 pub mod Read

@@ -55,6 +55,11 @@ is_updated device word = updates (image_of device) && nat_eq word 1
 abbrev pub IsLeftAlone : Device → Layout → Record → ℕ → Type 0
 IsLeftAlone device layout r word = IsOutside (begun layout r) word × (is_swept device word ≡ false) × (is_updated device word ≡ false)
 
+-- An opening gives the image its version before it stores anything else: an image that hasn't the version which an opening
+-- leaves is still as it was before
+abbrev pub IsUpdatedFirst : Image → Image → Type 0
+IsUpdatedFirst before image = (layout_of image ≡ opened_layout (layout_of before)) ⊎ (image ≡ before)
+
 -- from one device to the other lead so many operations of each kind, and none failed
 abbrev pub MakesAll : Counts → Device → Device → Type 0
 MakesAll counts old new = Makes counts.stores counts.flushes counts.fences 0 old new

@@ -1,5 +1,5 @@
 -- What the slots of an image hold, one by one.
-use Rattle.std.specs.Prelude.{◌≡◌, ◌⊎◌, ℕ, ◌+◌, Bool, true, not, ◌&&◌, if◌then◌else◌, List, length, map, Option, Some, None, is_some}
+use Rattle.std.specs.Prelude.{◌≡◌, ◌⊎◌, ℕ, ◌+◌, Bool, true, false, not, ◌&&◌, if◌then◌else◌, List, length, map, Option, Some, None, is_some}
 use Rattle.std.specs.List.{range_with_len}
 use Rattle.std.specs.declared.cmp.Ordering.{Ordering}
 use Rattle.std.specs.Ordering.{nat_cmp, ordering_then}
@@ -11,27 +11,39 @@ use Rattle.base.specs.Keys.{key_eq}
 use Rattle.base.specs.Layout.{Layout}
 use Rattle.base.specs.Records.{Record}
 use Rattle.base.specs.Search.{first_below}
-use Rattle.base.specs.Images.{Image, layout_of, ruling, begin_of, end_of, key_of, row_of, is_ahead, is_shown, is_misfit, is_bad_slot}
-use Rattle.recovery.specs.declared.slots.Found.{Found}
-use Rattle.recovery.specs.declared.slots.Reading.{Reading}
-use Rattle.recovery.specs.declared.slots.Found.TheVariants.{Bad, Live, Free}
+use Rattle.base.specs.Images.{Image, layout_of, ruling, begin_of, end_of, key_of, is_ahead, is_shown, is_misfit, is_bad_slot}
+use Rattle.recovery.specs.declared.slots.SlotContent.{SlotContent}
+use Rattle.recovery.specs.declared.slots.SlotReading.{SlotReading}
+use Rattle.recovery.specs.declared.slots.SlotContent.TheVariants.{Bad, Live, Free}
 
 -- the image has this layout, and this record rules it
 unfoldable pub IsUnder : Layout → Record → Image → Type 0
 IsUnder layout r image = (layout_of image ≡ layout) × (ruling image ≡ r)
 
 -- what a slot holds by itself, whatever other slots hold
-unfoldable pub found_in : Image → ℕ → Found
+unfoldable pub found_in : Image → ℕ → SlotContent
 found_in image slot =
     if is_ahead (ruling image) image slot then Bad else
-    (if is_shown (ruling image) image slot then (if is_misfit image slot then Bad else Live (key_of image slot) (row_of image slot)) else Free)
+    (if is_shown (ruling image) image slot then (if is_misfit image slot then Bad else Live (key_of image slot)) else Free)
+
+-- it is bad by itself
+abbrev pub is_unfit : SlotContent → Bool
+is_unfit Bad = true
+is_unfit Free = false
+is_unfit (Live key) = false
+
+-- a live version is there
+abbrev pub is_held : SlotContent → Bool
+is_held (Live key) = true
+is_held Free = false
+is_held Bad = false
 
 -- what one reading of a slot gives
-unfoldable pub reading_in : Image → ℕ → Reading
+unfoldable pub reading_in : Image → ℕ → SlotReading
 reading_in image slot = record { begin = begin_of image slot; end = end_of image slot; found = found_in image slot }
 
 -- what is read of each slot below a number, in order
-unfoldable pub readings_below : Image → ℕ → List Reading
+unfoldable pub readings_below : Image → ℕ → List SlotReading
 readings_below image n = map (reading_in image) (range_with_len 0 n)
 
 -- free at an opening: not live
@@ -50,7 +62,7 @@ unfoldable pub bad_below : Image → ℕ → Option ℕ
 bad_below image n = first_below n (is_bad_slot (ruling image) image)
 
 -- these are the readings of as many slots of the image, of which none is bad
-pub record AreReadings (image : Image) (readings : List Reading) : Type 0 where
+pub record AreReadings (image : Image) (readings : List SlotReading) : Type 0 where
   pub all : readings ≡ readings_below image (length readings)
   pub good : bad_below image (length readings) ≡ None
 

@@ -8,14 +8,14 @@ use Rattle.base.specs.Images.{Image}
 use Rattle.machine.specs.Openings.{is_mark, lies_in_gap}
 use Rattle.pmem.specs.Device.{Device, stored, flushed}
 use Rattle.pmem.specs.Words.{value_of}
-use Rattle.recovery.specs.declared.slots.Reading.{Reading}
+use Rattle.recovery.specs.declared.slots.SlotReading.{SlotReading}
 
 -- the timestamp lies in a gap with which an opening goes on after the record
 abbrev pub lies : Record → ℕ → Bool
 lies r t = is_in (opened_gaps r) t
 
 -- the begin or the end that was read lies in a gap
-abbrev pub is_hit_by : Record → Reading → Bool
+abbrev pub is_hit_by : Record → SlotReading → Bool
 is_hit_by r reading = lies r reading.begin || lies r reading.end
 
 -- the slots below a number, each with a begin or an end in a gap or not

@@ -1,3 +1,6 @@
+//! All records and slots are 0 before a format writes the first record: what the device held there before could be taken for
+//! records and versions.
+
 ghost use Rattle.std.specs.Prelude.{◌≡◌, ◌+◌, ◌-◌, ◌*◌, ◌/◌, ◌<◌, ◌≤◌, ℕ, IfErr, OnOk, OnErr};
 ghost use Rattle.pmem.specs.Words.{IsReady, value_of, IsSettledAt, Makes, Spares};
 

@@ -1,23 +1,28 @@
-ghost use Rattle.std.specs.Prelude.{◌≡◌, ◌+◌, ◌*◌, ◌^◌, ◌<◌, ◌≤◌, ◌||◌, nat_le, None, length, map, IfOk, IfErr};
-ghost use Rattle.base.specs.Images.{Image};
+//! All that may refuse an opening is tested before its first operation, and all its memory is taken here, so an opening that is
+//! refused leaves the image as it was. What is wrong with the log comes first, since the log tells how the slots are to be
+//! read.
+
+ghost use Rattle.std.specs.Prelude.{◌≡◌, ◌+◌, ◌*◌, ◌^◌, ◌<◌, ◌≤◌, ◌||◌, nat_le, None, map, IfOk, IfErr};
 ghost use Rattle.pmem.specs.Words.{image_of};
 ghost use Rattle.recovery.specs.Gaps.{MayRule, few_gaps};
-ghost use Rattle.recovery.specs.Slots.{AreReadings};
-ghost use Rattle.recovery.specs.Live.{live_below};
+ghost use Rattle.recovery.specs.Held.{HavePlaces};
 ghost use Rattle.recovery.specs.Sweeping.{is_hit_by, AreHits};
 ghost use Rattle.recovery.specs.Opened.{Examined as IsExaminedAs, Refuses};
 ghost use Rattle.recovery.specs.Read.{TellsLogFault};
 
 use crate::gaps::opened_gaps;
-use crate::rows::{LiveSlot, live_slots};
-use crate::slots::{Reading, free_slots, read_slots};
+use crate::holding::{Held, held_slots};
+use crate::rows::LiveSlot;
+use crate::slots::{SlotReading, read_slots};
 use crate::sweeping::hit_slots;
 use base::fault::Fault;
 use base::gap::Gaps;
 use base::geometry::Geometry;
+use base::key::Key;
 use log_area::{Record, Ruling, latest};
 use pmem::Pmem;
 use std::alloc::{AllocError, Global};
+use std::collections::BTreeMap;
 use std::thread::Threads;
 
 /// What is learnt of an image that opens.
@@ -30,6 +35,8 @@ pub struct Examined {
     /// Whether each slot is free.
     pub free: Vec<bool>,
     pub live: Vec<LiveSlot>,
+    /// By key the place of its slot in `live`.
+    pub places: BTreeMap<Key, usize, Global>,
     /// Whether the begin or the end of each slot lies in a gap; of none where there are at most eight.
     pub hits: Vec<bool>,
 }
@@ -41,6 +48,7 @@ pub fn examine<R: Threads + Sync, D: Pmem + Sync>(
     device: &D,
 ) -> Result<Examined, Fault>
     ensures ok { IfOk result (λ found. IsExaminedAs (image_of (D.state device.now)) found.geometry found.ruling found.gaps found.free.items found.live.items) }
+    ensures places { IfOk result (λ found. HavePlaces found.live.items found.places.entries) }
     ensures hits { IfOk result (λ found. AreHits (image_of (D.state device.now)) found.geometry found.gaps found.hits.items) }
     ensures fault { IfErr result (Refuses (image_of (D.state device.now))) }
     ensures log { IfErr result (TellsLogFault (image_of (D.state device.now))) }
@@ -53,14 +61,14 @@ pub fn examine<R: Threads + Sync, D: Pmem + Sync>(
         Ok(readings) => readings,
         Err(_) => return Err(Fault::OutOfMemory),
     };
-    let free = match free_slots(alloc, found.geometry, readings.as_slice()) {
-        Ok(free) => free,
+    let held = match held_slots(alloc, found.geometry, readings.as_slice()) {
+        Ok(held) => held,
         Err(fault) => return Err(fault),
     };
     if is_near_limit(found.geometry, found.record) {
         return Err(Fault::TimestampsOut);
     }
-    match gather(alloc, found, free, readings.as_slice()) {
+    match gather(alloc, found, held, readings.as_slice()) {
         Ok(examined) => Ok(examined),
         Err(_) => Err(Fault::OutOfMemory),
     }
@@ -70,15 +78,14 @@ pub fn examine<R: Threads + Sync, D: Pmem + Sync>(
 fn gather(
     alloc: Global,
     found: Ruling,
-    free: Vec<bool>,
-    readings: &[Reading],
+    held: Held,
+    readings: &[SlotReading],
 ) -> Result<Examined, AllocError>
     requires { MayRule found.record }
     ensures layout { IfOk result (λ examined. examined.geometry ≡ found.geometry) }
     ensures rules { IfOk result (λ examined. examined.ruling ≡ found.record) }
     ensures gaps { IfOk result (λ examined. examined.gaps ≡ few_gaps found.record) }
-    ensures free { IfOk result (λ examined. examined.free.items ≡ free.items) }
-    ensures live { IfOk result (λ examined. (image : Image) → AreReadings image readings.now → examined.live.items ≡ live_below image (length readings.now)) }
+    ensures held { IfOk result (λ examined. record { free = examined.free; live = examined.live; places = examined.places } ≡ held) }
     ensures hits { IfOk result (λ examined. examined.gaps ≡ None → examined.hits.items ≡ map (is_hit_by found.record) readings.now) }
 {
     let gaps = opened_gaps(found.record);
@@ -86,13 +93,14 @@ fn gather(
         Some(_) => Vec::new(alloc),
         None => hit_slots(alloc, found.record, readings)?,
     };
-    let live = live_slots(alloc, readings)?;
+    let Held { free, live, places } = held;
     Ok(Examined {
         geometry: found.geometry,
         ruling: found.record,
         gaps,
         free,
         live,
+        places,
         hits,
     })
 }

@@ -1,3 +1,6 @@
+//! Word 0 goes first and comes last, and each time that persists before anything else is stored: so whatever stops a format
+//! leaves an image that isn't formatted, or a whole one.
+
 ghost use Rattle.std.specs.Prelude.{◌≡◌, ◌+◌, ◌/◌, ◌<◌, ℕ, IsTrue, IfErr, OnOk, OnErr};
 ghost use Rattle.base.specs.Layout.{is_in_limits, total_words};
 ghost use Rattle.pmem.specs.Words.{LeavesOnly, IsAtRest, image_of, IsSettledAt, Makes};

@@ -1,3 +1,6 @@
+//! What the life before drew and did not cover may have left versions on the device. Its timestamps become gaps, which commit
+//! nothing, so those versions count for nobody without being looked for.
+
 ghost use Rattle.std.specs.Prelude.{◌≡◌, ◌+◌, ◌-◌, ◌<◌, ◌&&◌, nat_lt, length, IfOk, OnOk, OnErr};
 ghost use Rattle.base.specs.Records.{opened_gaps, is_in};
 ghost use Rattle.recovery.specs.Gaps.{few_gaps, HasLongsBetween, HasUpTo, MayRule};

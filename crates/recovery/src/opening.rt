@@ -1,3 +1,7 @@
+//! An opening writes a record before anything is drawn: what the life before may have drawn and not covered becomes a gap, so no
+//! timestamp is drawn twice, and versions that carry one of them count for nobody. All that takes memory comes before the first
+//! operation, so an opening that is refused leaves the image as it was.
+
 ghost use Rattle.std.specs.Prelude.{◌≡◌, ◌+◌, ◌-◌, ◌*◌, ◌^◌, ◌<◌, ◌≤◌, ◌&&◌, ℕ, true, false, List, [], IfOk, IfErr, OnOk, OnErr, MatchResult};
 ghost use Rattle.base.specs.Commits.{Commit};
 ghost use Rattle.base.specs.Records.{opened_gaps};
@@ -7,7 +11,7 @@ ghost use Rattle.machine.specs.Openings.{StandsOpening, gaps_kept, opened_slots,
 ghost use Rattle.pmem.specs.Words.{LeavesOnly, IsAtRest, image_of, Keeps, OldOr, Makes, Spares, operations_of};
 ghost use Rattle.recovery.specs.Gaps.{few_gaps};
 ghost use Rattle.recovery.specs.Sweeping.{is_hit, AreHits, IsSwept};
-ghost use Rattle.recovery.specs.Opened.{Examined as IsExaminedAs, HasOpened, HasOpenedToday, IsCutBefore, IsCutShort, IsRefusal, sweep_operations, total};
+ghost use Rattle.recovery.specs.Opened.{Examined as IsExaminedAs, HasOpened, HasOpenedToday, IsCutBefore, IsCutShort, IsRefusal, IsUpdatedFirst, sweep_operations, total};
 ghost use Rattle.recovery.specs.Read.{TellsLogFault};
 
 use crate::examining::{Examined, examine};
@@ -17,10 +21,12 @@ use crate::updating::update;
 use base::fault::Fault;
 use base::gap::Gaps;
 use base::geometry::Geometry;
+use base::key::Key;
 use base::longs::Longs;
 use log_area::{Record, write_record};
 use pmem::Pmem;
 use std::alloc::Global;
+use std::collections::BTreeMap;
 use std::thread::Threads;
 
 /// A device that was opened.
@@ -58,16 +64,22 @@ pub fn open<R: Threads + Sync, D: Pmem + Drop + Send + Sync>(
         → MatchResult result
         (λ opened. LeavesOnly (D.state device) (D.state opened.device) (StandsOpening (image_of (D.state device)) history next))
         (λ e. LeavesOnly (D.state device) (D.state e.1) (StandsOpening (image_of (D.state device)) history next)) }
+
+    // Where the version changes, it persists before anything else is stored.
+    ensures version { MatchResult result
+        (λ opened. LeavesOnly (D.state device) (D.state opened.device) (IsUpdatedFirst (image_of (D.state device))))
+        (λ e. LeavesOnly (D.state device) (D.state e.1) (IsUpdatedFirst (image_of (D.state device)))) }
 {
     let mut device = device;
     match open_device(rt, alloc, &mut device) {
         Ok(
-            Life {
+            OpenedImage {
                 geometry,
                 ruling,
                 next,
                 free,
                 live,
+                places: _,
             },
         ) => Ok(Opened {
             device,
@@ -83,12 +95,14 @@ pub fn open<R: Threads + Sync, D: Pmem + Drop + Send + Sync>(
 
 /// What an opening gives beside the device.
 #[derive(Drop)]
-pub struct Life {
+pub struct OpenedImage {
     pub geometry: Geometry,
     pub ruling: Record,
     pub next: u64,
     pub free: Vec<bool>,
     pub live: Vec<LiveSlot>,
+    /// By key the place of its slot in `live`.
+    pub places: BTreeMap<Key, usize, Global>,
 }
 
 /// The same, of a device that stays where it is.
@@ -96,13 +110,14 @@ pub fn open_device<R: Threads + Sync, D: Pmem + Sync>(
     rt: &R,
     alloc: Global,
     device: &mut D,
-) -> Result<Life, Fault>
+) -> Result<OpenedImage, Fault>
     requires { IsAtRest (D.state device.old) }
     ensures ok { IfOk result (λ life. HasOpened (D.state device.old) (D.state device.new) life.geometry life.ruling life.next life.free.items life.live.items) }
     ensures fault { IfErr result (IsRefusal (opening_fault (image_of (D.state device.old))) (D.state device.old) (D.state device.new)) }
     ensures log { IfErr result (TellsLogFault (image_of (D.state device.old))) }
     ensures images { (history drawn : List Commit) (next : ℕ) → Stands (image_of (D.state device.old)) history drawn next
         → LeavesOnly (D.state device.old) (D.state device.new) (StandsOpening (image_of (D.state device.old)) history next) }
+    ensures version { LeavesOnly (D.state device.old) (D.state device.new) (IsUpdatedFirst (image_of (D.state device.old))) }
 {
     let found = match examine(rt, alloc, device) {
         Ok(found) => found,
@@ -113,17 +128,19 @@ pub fn open_device<R: Threads + Sync, D: Pmem + Sync>(
 
 impl Examined {
     /// Opens the device that was examined. It takes no memory: it fails where an operation fails, and then alone.
-    pub fn open<D: Pmem>(self, device: &mut D) -> Result<Life, Fault>
+    pub fn open<D: Pmem>(self, device: &mut D) -> Result<OpenedImage, Fault>
         requires at_rest { IsAtRest (D.state device.old) }
         requires examined { IsExaminedAs (image_of (D.state device.old)) self.geometry self.ruling self.gaps self.free.items self.live.items }
         requires hits { AreHits (image_of (D.state device.old)) self.geometry self.gaps self.hits.items }
         ensures ok { IfOk result (λ life. HasOpened (D.state device.old) (D.state device.new) life.geometry life.ruling life.next life.free.items life.live.items) }
+        ensures places { IfOk result (λ life. life.places ≡ self.places) }
         ensures fault { IfErr result (λ fault. fault ≡ Fault.Device) }
         ensures failed { OnErr result (IsCutShort (D.state device.old) (D.state device.new)) }
 
         // A crash meanwhile leaves what a crash within `open` leaves.
         ensures images { (history drawn : List Commit) (next : ℕ) → Stands (image_of (D.state device.old)) history drawn next
             → LeavesOnly (D.state device.old) (D.state device.new) (StandsOpening (image_of (D.state device.old)) history next) }
+        ensures version { LeavesOnly (D.state device.old) (D.state device.new) (IsUpdatedFirst (image_of (D.state device.old))) }
     {
         let geometry = match update(device, self.geometry) {
             Ok(geometry) => geometry,
@@ -135,11 +152,12 @@ impl Examined {
     }
 
     // The same of an image of today's version.
-    fn open_today<D: Pmem>(self, device: &mut D) -> Result<Life, Fault>
+    fn open_today<D: Pmem>(self, device: &mut D) -> Result<OpenedImage, Fault>
         requires at_rest { IsAtRest (D.state device.old) }
         requires examined { IsExaminedAs (image_of (D.state device.old)) self.geometry self.ruling self.gaps self.free.items self.live.items }
         requires hits { AreHits (image_of (D.state device.old)) self.geometry self.gaps self.hits.items }
         ensures ok { IfOk result (λ life. HasOpenedToday (D.state device.old) (D.state device.new) life.geometry life.ruling life.next life.free.items life.live.items) }
+        ensures places { IfOk result (λ life. life.places ≡ self.places) }
         ensures fault { IfErr result (λ fault. fault ≡ Fault.Device) }
         ensures failed { OnErr result (IsCutBefore (total (record_counts (image_of (D.state device.old)))) (D.state device.old) (D.state device.new)) }
         ensures images { (history drawn : List Commit) (next : ℕ) → Stands (image_of (D.state device.old)) history drawn next
@@ -191,8 +209,8 @@ fn keep_gaps<D: Pmem>(
     }
 }
 
-fn begun(found: Examined, target: Record) -> Life
-    ensures { result ≡ record { geometry = found.geometry; ruling = target; next = found.ruling.dirty; free = found.free; live = found.live } }
+fn begun(found: Examined, target: Record) -> OpenedImage
+    ensures { result ≡ record { geometry = found.geometry; ruling = target; next = found.ruling.dirty; free = found.free; live = found.live; places = found.places } }
 {
     let next = found.ruling.dirty();
     let Examined {
@@ -201,14 +219,16 @@ fn begun(found: Examined, target: Record) -> Life
         gaps: _,
         free,
         live,
+        places,
         hits: _,
     } = found;
-    Life {
+    OpenedImage {
         geometry,
         ruling: target,
         next,
         free,
         live,
+        places,
     }
 }
 

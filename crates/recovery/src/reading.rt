@@ -1,10 +1,13 @@
+//! An image is read by what an opening reads it by, so what is printed of an image is what its opening would find.
+
 ghost use Rattle.std.specs.Prelude.{IfOk, IfErr};
 ghost use Rattle.pmem.specs.Words.{image_of};
 ghost use Rattle.recovery.specs.Read.{IsRead, IsReadRefusal};
 
+use crate::holding::held_slots;
+use crate::image_device::ImageDevice;
 use crate::rows::live_rows;
-use crate::slots::{free_slots, read_slots};
-use crate::still::Still;
+use crate::slots::read_slots;
 use base::fault::Fault;
 use base::geometry::Geometry;
 use base::key::Key;
@@ -16,7 +19,7 @@ use std::thread::Threads;
 
 /// What a sound image holds.
 #[derive(Debug, Drop)]
-pub struct Found {
+pub struct ImageContents {
     pub geometry: Geometry,
     pub ruling: Record,
     /// The key and the row of each live slot, in order of the slots.
@@ -25,18 +28,22 @@ pub struct Found {
 
 /// Reads an image without opening it, and so also one whose opening would find no timestamps left. It is refused for what
 /// is wrong with it.
-pub fn read_image<R: Threads + Sync>(rt: &R, alloc: Global, words: &[u64]) -> Result<Found, Fault>
+pub fn read_image<R: Threads + Sync>(
+    rt: &R,
+    alloc: Global,
+    words: &[u64],
+) -> Result<ImageContents, Fault>
     ensures ok { IfOk result (λ found. IsRead words.now found.geometry found.ruling found.rows.items) }
     ensures fault { IfErr result (IsReadRefusal words.now) }
 {
-    read_device(rt, alloc, &Still::of(words))
+    read_device(rt, alloc, &ImageDevice::of(words))
 }
 
 fn read_device<R: Threads + Sync, D: Pmem + Sync>(
     rt: &R,
     alloc: Global,
     device: &D,
-) -> Result<Found, Fault>
+) -> Result<ImageContents, Fault>
     ensures ok { IfOk result (λ found. IsRead (image_of (D.state device.now)) found.geometry found.ruling found.rows.items) }
     ensures fault { IfErr result (IsReadRefusal (image_of (D.state device.now))) }
 {
@@ -48,11 +55,12 @@ fn read_device<R: Threads + Sync, D: Pmem + Sync>(
         Ok(readings) => readings,
         Err(_) => return Err(Fault::OutOfMemory),
     };
-    if let Err(fault) = free_slots(alloc, found.geometry, readings.as_slice()) {
-        return Err(fault);
-    }
-    match live_rows(alloc, readings.as_slice()) {
-        Ok(rows) => Ok(Found {
+    let held = match held_slots(alloc, found.geometry, readings.as_slice()) {
+        Ok(held) => held,
+        Err(fault) => return Err(fault),
+    };
+    match live_rows(alloc, device, found.geometry, held.live.as_slice()) {
+        Ok(rows) => Ok(ImageContents {
             geometry: found.geometry,
             ruling: found.record,
             rows,

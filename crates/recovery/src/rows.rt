@@ -1,13 +1,20 @@
+//! An opening needs the key and the number of a slot alone. Rows are read for whoever prints an image.
+
 ghost use Rattle.std.specs.Prelude.{◌≡◌, length, IfOk};
-ghost use Rattle.base.specs.Images.{Image};
-ghost use Rattle.recovery.specs.Slots.{AreReadings};
+ghost use Rattle.base.specs.Images.{Image, layout_of};
+ghost use Rattle.base.specs.Layout.{total_words};
+ghost use Rattle.pmem.specs.Words.{image_of};
+ghost use Rattle.recovery.specs.Slots.{AreReadings, bad_below};
 ghost use Rattle.recovery.specs.Read.{rows_below};
+ghost use Rattle.recovery.specs.Held.{HasEach};
 ghost use Rattle.recovery.specs.Live.{live_below};
 
-use crate::slots::{Found, Reading};
+use crate::slots::{SlotContent, SlotReading};
 use base::Ts;
+use base::geometry::Geometry;
 use base::key::Key;
 use base::row::Row;
+use pmem::Pmem;
 use std::alloc::{AllocError, Global};
 
 /// A live slot: its version's key, its number, and the timestamp in its begin.
@@ -19,13 +26,14 @@ pub struct LiveSlot {
 }
 
 // The slots that hold a live version, in their order.
-pub fn live_slots(alloc: Global, readings: &[Reading]) -> Result<Vec<LiveSlot>, AllocError>
-    ensures { IfOk result (λ live. (image : Image) → AreReadings image readings.now → live.items ≡ live_below image (length readings.now)) }
+pub fn live_slots(alloc: Global, readings: &[SlotReading]) -> Result<Vec<LiveSlot>, AllocError>
+    ensures live { IfOk result (λ live. (image : Image) → AreReadings image readings.now → live.items ≡ live_below image (length readings.now)) }
+    ensures each { IfOk result (λ live. HasEach readings.now (length readings.now) live.items) }
 {
     let mut live = Vec::new(alloc);
     for slot in 0..readings.len() {
         let reading = &readings[slot];
-        if let Found::Live(key, _) = &reading.found {
+        if let SlotContent::Live(key) = &reading.found {
             live.push(LiveSlot {
                 key: *key,
                 slot: slot as u64,
@@ -37,14 +45,24 @@ pub fn live_slots(alloc: Global, readings: &[Reading]) -> Result<Vec<LiveSlot>, 
 }
 
 // The keys and rows of the live versions, in order of the slots.
-pub fn live_rows(alloc: Global, readings: &[Reading]) -> Result<Vec<(Key, Row)>, AllocError>
-    ensures { IfOk result (λ rows. (image : Image) → AreReadings image readings.now → rows.items ≡ rows_below image (length readings.now)) }
+pub fn live_rows<D: Pmem>(
+    alloc: Global,
+    device: &D,
+    geometry: Geometry,
+    live: &[LiveSlot],
+) -> Result<Vec<(Key, Row)>, AllocError>
+    requires size { (D.state device.now).words ≡ total_words geometry }
+    requires live { live.now ≡ live_below (image_of (D.state device.now)) geometry.slots }
+    requires laid_out { layout_of (image_of (D.state device.now)) ≡ geometry }
+    requires good { bad_below (image_of (D.state device.now)) geometry.slots ≡ None }
+    ensures { IfOk result (λ rows. rows.items ≡ rows_below (image_of (D.state device.now)) geometry.slots) }
 {
-    let mut rows = Vec::new(alloc);
-    for slot in 0..readings.len() {
-        if let Found::Live(key, row) = &readings[slot].found {
-            rows.push((*key, *row))?;
-        }
+    let mut rows = Vec::with_capacity(alloc, live.len())?;
+    for found in live {
+        let Some(held) = version_slot::read(device, geometry, found.slot) else {
+            unreachable!()
+        };
+        rows.push((found.key, held.version.row))?;
     }
     Ok(rows)
 }

@@ -1,3 +1,7 @@
+//! A record names eight gaps at most. Where an opening would have more, each begin and end that lies in one becomes 0, and that
+//! persists before a record without gaps is written: under a record that drops a gap, a timestamp that lies in it would count as
+//! committed.
+
 ghost use Rattle.std.specs.Prelude.{◌≡◌, ◌+◌, ◌<◌, ◌≤◌, false, IfOk, IfErr, OnOk, OnErr, ◌||◌, if◌then◌else◌, map};
 ghost use Rattle.base.specs.Layout.{slot_start, total_words};
 ghost use Rattle.base.specs.Images.{IsRuledBy};
@@ -8,7 +12,7 @@ ghost use Rattle.recovery.specs.Opened.{sweep_operations};
 ghost use Rattle.recovery.specs.Sweeping.{lies, is_hit, is_hit_by, hits_below, IsZeroed, IsSwept, zeroed, cleaned};
 
 use crate::gaps::lies_in_gap;
-use crate::slots::Reading;
+use crate::slots::SlotReading;
 use base::actor::Actor;
 use base::fault::Fault;
 use base::geometry::Geometry;
@@ -20,7 +24,7 @@ use std::alloc::{AllocError, Global};
 pub fn hit_slots(
     alloc: Global,
     ruling: Record,
-    readings: &[Reading],
+    readings: &[SlotReading],
 ) -> Result<Vec<bool>, AllocError>
     requires { MayRule ruling }
     ensures { IfOk result (λ hits. hits.items ≡ map (is_hit_by ruling) readings.now) }

@@ -1,3 +1,6 @@
+//! An older version is laid out the same, so its number is all that changes. That persists before the record is written, which
+//! may name what the older version has no place for.
+
 ghost use Rattle.std.specs.Prelude.{◌≡◌, ℕ, List, None, false, IfOk, IfErr, OnOk, OnErr};
 ghost use Rattle.base.specs.Commits.{Commit};
 ghost use Rattle.base.specs.Images.{layout_of, opening_fault};
@@ -5,7 +8,7 @@ ghost use Rattle.base.specs.Layout.{opened_layout};
 ghost use Rattle.machine.specs.Openings.{StandsOpening, update_counts, updated};
 ghost use Rattle.base.specs.Stands.{Stands};
 ghost use Rattle.pmem.specs.Words.{LeavesOnly, IsAtRest, image_of, Spares};
-ghost use Rattle.recovery.specs.Opened.{IsCutBefore, MakesAll, is_updated, total};
+ghost use Rattle.recovery.specs.Opened.{IsCutBefore, IsUpdatedFirst, MakesAll, is_updated, total};
 
 use base::fault::Fault;
 use base::geometry::Geometry;
@@ -29,6 +32,7 @@ pub(crate) fn update<D: Pmem>(device: &mut D, geometry: Geometry) -> Result<Geom
     // A crash meanwhile leaves either version, and the same history.
     ensures images { (history drawn : List Commit) (next : ℕ) → Stands (image_of (D.state device.old)) history drawn next
         → LeavesOnly (D.state device.old) (D.state device.new) (StandsOpening (image_of (D.state device.old)) history next) }
+    ensures version { LeavesOnly (D.state device.old) (D.state device.new) (IsUpdatedFirst (image_of (D.state device.old))) }
 {
     let today = geometry.opened();
     if today.version() == geometry.version() {

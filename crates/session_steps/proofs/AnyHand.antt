@@ -82,7 +82,3 @@ shows-failed s before now q failed shown upholds =
       agrees = subst (λ p. Agrees s shown.hidden.origin shown.hidden.seen p) (sym same)
           (agrees-with s shown.hidden shown.hidden.hand failed (subst (λ p. Agrees s shown.hidden.origin shown.hidden.seen p) shown.plain shown.agrees));
     }
-
--- on a device that goes on with the same state
-pub shows-on : (s : Sessions) (before now : Device) (q : State) (shown : Shows s before q) → Upholds shown.hidden.origin q now → Shows s now q
-shows-on s before now q shown upholds = record { hidden = shown.hidden; plain = shown.plain; upholds = upholds; agrees = shown.agrees }

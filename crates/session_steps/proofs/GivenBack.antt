@@ -1,5 +1,5 @@
 -- Slots are freed.
-use Rattle.std.proofs.Common.{◌≡◌, ◌≢◌, ◌⊎◌, inl, inr, ℕ, zero, suc, ◌+◌, ◌<◌, ◌≤◌, Bool, true, false, List, [], ◌∷◌, ◌++◌, length, set, take, refl, sym, ◌∙◌, ap, subst, arith, Contains}
+use Rattle.std.proofs.Common.{◌≡◌, ◌≢◌, ◌⊎◌, inl, inr, ℕ, zero, suc, ◌+◌, ◌<◌, ◌≤◌, Bool, true, false, List, [], ◌∷◌, ◌++◌, length, set, take, sym, ◌∙◌, ap, subst, arith, Contains}
 use Rattle.std.specs.Prelude.{Some, None, nat_lt, slice_get}
 use Rattle.std.proofs.lemmas.Bool.{cases_eq, cases_lt, and_parts}
 use Rattle.std.proofs.lemmas.Bool.Decides.{nat_tests}
@@ -39,13 +39,6 @@ given-other free slot other apart = by (cases_lt other (length free))
     by (inr le) = slice_get_past (set free slot true) other (omega (arith, length-set free slot true, le)) ∙ sym (slice_get_past free other le)
 
 -- ---- the slots of one write after the other
-
-pub gives-none : (free : List Bool) → GivesBack [] free free
-gives-none free = record {
-  size = refl;
-  given = λ write slot in_set has. absurd (omega (arith, in_set.1));
-  others = λ slot none. refl;
-}
 
 -- a write without a slot
 pub gives-no_slot : (writes : List Write) (write : Write) (old new : List Bool) → write.slot ≡ None → GivesBack writes old new → GivesBack (writes ++ write ∷ []) old new

@@ -10,7 +10,7 @@ use Rattle.txn.specs.declared.drawn.DrawnCommit.{DrawnCommit}
 use Rattle.txn.specs.declared.write.Write.{Write}
 use Rattle.dirty_table.specs.declared.touches.Touch.{Touch}
 use Rattle.state_invariant.specs.Kept.{version_by}
-use Rattle.device_invariant.specs.Log.{Line, is_own, is_ended, lines_in, line_at, line_number}
+use Rattle.device_invariant.specs.Log.{is_own, is_ended, lines_in, line_at, line_number}
 use Rattle.step_simulation.specs.Moves.{IsSlotOf}
 use Rattle.session_steps.specs.Shows.{HasItsSlot, HasVersionOf, HoldsLines, line_numbers, plain_drawn}
 
@@ -82,10 +82,6 @@ own-not-ended n q commits (Some v) own = by v.writer own
     by : (w : Writer) → is_by n w ≡ true → is_ended q commits (Some (version_by v.key w)) ≡ false
     by (BySession m) own = refl
     by (ByCommit t) own = absurd (cc own)
-
--- the tests of a slot for a batch
-abbrev pub tests-at : State → Bool → Bool → ℕ → List Line
-tests-at q own ended slot = cond own (flat_map (λ part. line_at slot part ∷ []) (range_with_len 0 (version_lines q.layout))) (cond ended (line_at slot 0 ∷ []) [])
 
 -- where the tests of each slot are the same, so are the lines
 pub lines-by-tests : (q q' : State) (commits : List Commit) → q'.layout ≡ q.layout → ((slot : ℕ) → is_own commits (q'.held slot) ≡ is_own commits (q.held slot))

@@ -34,3 +34,4 @@ pub mod CoveredRows
 pub mod Readers
 pub mod Freed
 pub mod Visiting
+pub mod Counted

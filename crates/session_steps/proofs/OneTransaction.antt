@@ -207,9 +207,6 @@ asks s n t answer h at lets is holds = record {
   stepped = answered (passes (plain_of s h) (step.Poll n) n _ holds.works refl (found s h n _ at) lets) (is ∙ sym (ap (λ (o : Option Session). polled (plain_of s h) o) (found s h n _ at))) refl;
 }
 
-pub polls-nothing : (s : Sessions) (n : ℕ) (h : Hidden) → transaction_at s.transactions n ≡ Some ReadOnly → Holds s h → Goes s s (Poll n) Done h
-polls-nothing s n h at holds = asks s n ReadOnly Done h at refl refl holds
-
 lets-poll : (n : ℕ) (a b : Bool) → allows (step.Poll n) (cond a IsCovered (cond b IsStamped IsDrawn)) ≡ true
 lets-poll n true b = refl
 lets-poll n false true = refl

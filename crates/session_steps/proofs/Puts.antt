@@ -129,10 +129,6 @@ link-newest s h n v holds is free t slot last lt held = is ∙ by (entry_at s.in
     by None none = e.newest t slot last lt held
     by (Some other) at = let d = (e.drawn other at).1 in absurd (cc (sym (free.drawn d.0 d.1 d.2) ∙ d.3))
 
--- the write of a row
-abbrev pub row-at : Key → List ℕ → ℕ → Option ℕ → Write
-row-at key row slot place = record { key = key; row = Some row; slot = Some slot; place = place }
-
 -- ---- whose operations they are
 
 -- stores alone

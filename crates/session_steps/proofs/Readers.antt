@@ -1,7 +1,8 @@
 -- Whether the snapshots of all Active sessions cover a timestamp, by the numbers that sessions may have.
-use Rattle.std.proofs.Common.{◌≡◌, ℕ, zero, suc, ◌+◌, ◌<◌, ◌≤◌, Bool, true, false, List, refl, sym, ◌∙◌, arith, Option}
+use Rattle.std.proofs.Common.{◌≡◌, ℕ, zero, suc, ◌+◌, ◌<◌, ◌≤◌, Bool, true, false, List, refl, sym, ◌∙◌, ap, arith, nat_lt, Option, None}
 use Rattle.std.specs.List.{list_all, range_with_len}
 use Rattle.std.proofs.lemmas.Bool.{and_from, false_from_ne_true, true≢false}
+use Rattle.std.proofs.lemmas.Bool.Decides.{nat_tests}
 use Rattle.machine.specs.Machine.{most_sessions}
 use Rattle.state_invariant.proofs.Garbage.{range-all}
 use Rattle.txn.specs.declared.transaction.Transaction.{Transaction}
@@ -23,3 +24,11 @@ each-covers ts t each = all-range (λ n. is_covered_in t (transaction_at ts n)) 
 pub one-uncovers : (ts : List (Option Transaction)) (t n : ℕ) → 2 ≤ n → n < 64 → is_covered_in t (transaction_at ts n) ≡ false → each_covers ts t ≡ false
 one-uncovers ts t n low high is =
     false_from_ne_true (each_covers ts t) (λ all. true≢false (sym (range-all (λ n. is_covered_in t (transaction_at ts n)) 2 most_sessions n all low (omega (arith, high, sixty-two))) ∙ is))
+
+-- above the limit there is none
+pub past-limit : (ts : List (Option Transaction)) (t k limit : ℕ) → ((n : ℕ) → limit ≤ n → transaction_at ts n ≡ None) → (k < limit → is_covered_in t (transaction_at ts k) ≡ true) → is_covered_in t (transaction_at ts k) ≡ true
+past-limit ts t k limit none below = by (nat_lt k limit) refl
+  where
+    by : (b : Bool) → nat_lt k limit ≡ b → is_covered_in t (transaction_at ts k) ≡ true
+    by true is = below (grind (arith, nat_tests))
+    by false is = ap (is_covered_in t) (none k (grind (arith, nat_tests)))

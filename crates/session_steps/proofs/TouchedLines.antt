@@ -7,14 +7,6 @@ use Rattle.std.proofs.lemmas.Grind.{flat_map-append}
 use Rattle.dirty_table.specs.Touches.{Table, TouchesPromised, is_touched, promised_to}
 use Rattle.session_steps.specs.Drawing.{TouchesLines}
 
-pub touches-none : (n : ℕ) (t : Table) → TouchesLines n [] t t
-touches-none n t = record { touches = record { touched = λ m line. by (is_touched t.touches m line) (nat_eq n m); others = λ which apart. refl }; others = λ m apart. refl }
-  where
-    by : (a b : Bool) → a ≡ (a || (b && false))
-    by true b = refl
-    by false true = refl
-    by false false = refl
-
 pub touches-one : (n line : ℕ) (old new : Table) → TouchesPromised n line old new → TouchesLines n (line ∷ []) old new
 touches-one n line old new touches = record { touches = touches.touches; others = λ m apart. touches.promised m ∙ ap (λ (b : Bool). cond b (promised_to old m - 1) (promised_to old m)) apart }
 

@@ -7,3 +7,4 @@ pub mod Collecting
 pub mod Covering
 pub mod Opening
 pub mod Laws
+pub mod Usage

@@ -1,3 +1,5 @@
+//! An abort makes no operation: each slot of the session has 0 in its begin and keeps it, so it is free as it is.
+
 use crate::active::active_in;
 use crate::giving::give_back;
 use crate::sessions::Sessions;
@@ -8,6 +10,7 @@ impl Sessions {
     ghost use Rattle.session_steps.specs.Steps.{HoldsSome, Takes};
 
     // Gives up what a session has written.
+    #[inline(never)]
     pub(crate) fn abort(&mut self, session: u8) -> SessionReply
         requires shown { ∥ HoldsSome self.old ∥₁ }
         ensures step { Takes self.old self.new (Abort session) result }

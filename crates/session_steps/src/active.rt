@@ -19,6 +19,7 @@ pub struct Active<'a> {
 }
 
 /// Whether the writes are as many as they may be, and none is of the key.
+#[inline(always)]
 pub fn is_full_for(writes: &WriteSet, key: Key) -> bool
     ensures full { result ≡ is_full_of key writes.now }
     ensures room { OnFalse result (HasRoomFor key writes.now) }
@@ -27,6 +28,7 @@ pub fn is_full_for(writes: &WriteSet, key: Key) -> bool
 }
 
 /// The session of this number, where it is Active.
+#[inline(always)]
 pub fn active_in(transactions: &Transactions, session: u8) -> Result<Active<'_>, Fault>
     ensures ok { IfOk result (λ found. transaction_at transactions.now session ≡ Some (IsActiveWith found.snapshot.now found.writes.now)) }
     ensures within { IfOk result (λ found. (2 ≤ session) × (session < 64)) }

@@ -6,6 +6,7 @@ impl Sessions {
     ghost use Rattle.session_steps.specs.Steps.{HoldsSome, Takes};
 
     // Opens a session under the lowest number that is free.
+    #[inline(never)]
     pub(crate) fn begin(&mut self) -> SessionReply
         requires shown { ∥ HoldsSome self.old ∥₁ }
         ensures step { Takes self.old self.new Begin result }

@@ -1,3 +1,10 @@
+//! A version is free once its end counts for the ruling record and for each open snapshot. By the record alone a slot would be
+//! taken from under a reader that began earlier; by the snapshots alone a crash would go back to a record that still reads it.
+//!
+//! The flushes and fences of a visit are the collector's own. A fence completes the flushes of its actor alone: one for the
+//! committer would complete those of the cycle in hand before their turn, and a cycle that counted on the collector's would
+//! store its gate while lines of its batch may still be lost.
+
 ghost use Rattle.std.specs.Prelude.{◌≡◌, ◌<◌};
 ghost use Rattle.base.specs.Layout.{total_words};
 ghost use Rattle.index.specs.Entries.{KeepsRoom};
@@ -27,10 +34,11 @@ struct SnapshotsInUse<'a> {
 
 impl<'a> SnapshotsInUse<'a> {
     // Whether the snapshot of each Active session covers the commit of this timestamp.
+    #[inline(always)]
     fn each_covers(&self, ts: Ts) -> bool
         ensures { result ≡ each_covers self.now.transactions.now ts }
     {
-        for number in 2..64 {
+        for number in 2..self.transactions.limit() {
             if let Some(Transaction::Active { snapshot, .. }) = self.transactions.get(number) {
                 if !snapshot.covers(ts) {
                     return false;
@@ -44,6 +52,7 @@ impl<'a> SnapshotsInUse<'a> {
 impl<'a> Readers for SnapshotsInUse<'a> {
     ghost covered = { λ readers ts. all_cover (seen_by readers.numbers.now.record) readers.transactions.now ts };
 
+    #[inline(always)]
     fn cover(&self, ts: Ts) -> bool {
         self.numbers.record.commits(ts) && self.each_covers(ts)
     }
@@ -69,8 +78,7 @@ fn forget_freed<D: Pmem>(
 }
 
 impl Sessions {
-    ghost use Rattle.std.specs.Prelude.{false, IsTrue, IfErr};
-    ghost use Rattle.gap_list.specs.GapLists.{is_gap_list};
+    ghost use Rattle.std.specs.Prelude.{false, IfErr};
     ghost use Rattle.session_steps.specs.Steps.{ShowsSome};
     ghost use Rattle.session_steps.specs.Collecting.{Collects};
 
@@ -79,18 +87,6 @@ impl Sessions {
         ensures { result ≡ self.now.collector.swept }
     {
         self.collector.has_swept()
-    }
-
-    // The gaps that the ruling record names, until they are swept: no visit asks for them then.
-    fn gaps_to_sweep(&self) -> GapList
-        requires { IsTrue (is_gap_list self.now.numbers.record.gaps) }
-        ensures { self.now.collector.swept ≡ false → result ≡ self.now.numbers.record.gaps }
-    {
-        if self.collector.has_swept() {
-            GapList::none()
-        } else {
-            GapList::of(self.numbers.record.gaps())
-        }
     }
 
     /// One visit of the collector, on the device on which the sessions show a plain state. It frees the slot of its place
@@ -102,8 +98,24 @@ impl Sessions {
         ensures step { Collects self.old self.new (D.state device.old) (D.state device.new) result }
         ensures fault { IfErr result (λ fault. fault ≡ Fault.Device) }
     {
+        if self.collector.has_swept() {
+            self.visit(device, GapList::none())
+        } else {
+            let gaps = GapList::of(self.numbers.record.gaps());
+            self.visit(device, gaps)
+        }
+    }
+
+    // One visit. Until the gaps are swept they are those that the ruling record names; no visit asks for them then, and none
+    // is copied.
+    #[inline(always)]
+    fn visit<D: Pmem>(&mut self, device: &mut D, gaps: GapList) -> Result<Visit, Fault>
+        requires shown { ∥ ShowsSome self.old (D.state device.old) ∥₁ }
+        requires gaps { self.old.collector.swept ≡ false → gaps ≡ self.old.numbers.record.gaps }
+        ensures step { Collects self.old self.new (D.state device.old) (D.state device.new) result }
+        ensures fault { IfErr result (λ fault. fault ≡ Fault.Device) }
+    {
         let geometry = self.numbers.geometry;
-        let gaps = self.gaps_to_sweep();
         let was_free = self.slots.is_free(self.collector.place());
         let readers = SnapshotsInUse {
             numbers: &self.numbers,

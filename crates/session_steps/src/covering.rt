@@ -1,3 +1,6 @@
+//! Nothing here can fail. The gate has already decided what a crash leaves, so what is kept in memory has to follow it: the
+//! room for it was made at the puts and the draws.
+
 ghost use Rattle.std.specs.Prelude.{◌≡◌, ◌<◌, ℕ, IsTrue, All};
 ghost use Rattle.txn.specs.DrawnCommits.{are_numbered};
 ghost use Rattle.dirty_table.specs.Touches.{has};

@@ -1,3 +1,6 @@
+//! A deletion has no slot, only a stamp in the end of the version that it ends. The slot of an own write that it follows has 0
+//! in its begin, so nobody reads it, and it is free without an operation.
+
 use crate::active::{active_in, is_full_for};
 use crate::giving::{give, lines_with, own_slot};
 use crate::sessions::Sessions;
@@ -11,6 +14,7 @@ impl Sessions {
     ghost use Rattle.session_steps.specs.Steps.{HoldsSome, Takes};
 
     // Writes a deletion, and frees the slot that the session has for the key.
+    #[inline(never)]
     pub(crate) fn delete(&mut self, session: u8, key: Key) -> SessionReply
         requires shown { ∥ HoldsSome self.old ∥₁ }
         ensures step { Takes self.old self.new (Delete session key) result }

@@ -1,3 +1,7 @@
+//! A draw decides a conflict: the first to draw a key wins, covered or not, since what is drawn is never taken back. Later
+//! timestamps may lie behind it by then, and the record names what it commits by timestamps up to a bound. So from here on
+//! nothing may fail but the device: all that stamps and covering need is taken before the draw changes anything.
+
 ghost use Rattle.std.specs.Prelude.{◌≡◌, ◌<◌, ℕ, true, All, IfErr, OnOk};
 ghost use Rattle.base.specs.declared.fault.Fault.TheVariants.{OutOfMemory};
 ghost use Rattle.base.specs.declared.key.Key.{Key as KeyValue};
@@ -26,6 +30,7 @@ impl Sessions {
     ghost use Rattle.session_steps.specs.Steps.{HoldsSome, Takes};
 
     // Draws a timestamp for what a session has written.
+    #[inline(never)]
     pub(crate) fn draw(&mut self, session: u8) -> SessionReply
         requires shown { ∥ HoldsSome self.old ∥₁ }
         ensures step { Takes self.old self.new (Draw session) result }

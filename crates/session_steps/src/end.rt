@@ -29,6 +29,7 @@ impl Sessions {
     }
 
     // Ends a session that is over.
+    #[inline(never)]
     pub(crate) fn end(&mut self, session: u8) -> SessionReply
         ensures step { Takes self.old self.new (End session) result }
     {

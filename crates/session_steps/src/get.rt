@@ -10,6 +10,7 @@ impl Sessions {
     ghost use Rattle.session_steps.specs.Steps.{HoldsOn, HoldsSomeOn, Goes};
 
     // The session's own write of the key, or the row of its snapshot.
+    #[inline(never)]
     pub(crate) fn get<D: Pmem>(&self, device: &D, session: u8, key: Key) -> SessionReply
         requires shown { ∥ HoldsSomeOn self.now (D.state device.now) ∥₁ }
         ensures step { (h : Hidden) → HoldsOn self.now h (D.state device.now) → Goes self.now self.now (Get session key) result h }

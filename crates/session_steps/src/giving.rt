@@ -29,6 +29,7 @@ pub fn give(slots: &mut SlotAlloc, slot: Option<SlotNo>)
 }
 
 /// The slot of the transaction's version of the key.
+#[inline(always)]
 pub fn own_slot(writes: &WriteSet, key: Key) -> Option<SlotNo>
     ensures { result ≡ own_of key writes.now }
 {
@@ -40,6 +41,7 @@ pub fn own_slot(writes: &WriteSet, key: Key) -> Option<SlotNo>
 
 /// How many lines a transaction may touch that writes the key too: for each write two of the version that it makes, and one of
 /// that which it ends.
+#[inline(always)]
 pub fn lines_with(writes: &WriteSet, key: Key) -> u16
     ensures { result ≡ 3 * count_with key writes.now }
 {

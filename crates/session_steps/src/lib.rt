@@ -23,6 +23,7 @@ mod stamp;
 mod step;
 mod tables;
 mod touching;
+mod usage;
 
 pub use law::{sessions_show_any_hand, table_has_the_lines_of_a_batch};
 pub use numbers::Numbers;

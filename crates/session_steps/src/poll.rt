@@ -8,6 +8,7 @@ impl Sessions {
     ghost use Rattle.session_steps.specs.Steps.{Takes};
 
     // How far a session's commit has come.
+    #[inline(never)]
     pub(crate) fn poll(&self, session: u8) -> SessionReply
         ensures step { Takes self.now self.now (Poll session) result }
     {

@@ -1,3 +1,8 @@
+//! A put clears before it fills. A free slot may still hold a begin that the ruling record commits, of a version that was
+//! replaced and collected: with a new key and row behind it, a crash would show a row that nobody committed. So 0 is sure to
+//! survive in the begin before any other word of the slot is stored; after that these need no order, since a slot whose begin
+//! is 0 is read by nobody. A slot that the session already has was cleared when it was taken, and is filled again as it is.
+
 ghost use Rattle.std.specs.Prelude.{◌≡◌, None, Some};
 
 use crate::active::{active_in, is_full_for};
@@ -28,6 +33,7 @@ impl Sessions {
     ghost use Rattle.session_steps.specs.Steps.{HoldsSomeOn, TakesOn};
 
     // Writes a row that a slot holds: in the slot that the session has for the key, or else in the lowest free one.
+    #[inline(never)]
     pub(crate) fn put<D: Pmem>(
         &mut self,
         device: &mut D,
@@ -90,6 +96,7 @@ impl Sessions {
     }
 
     // Writes a row in the lowest free slot, if there is one, once there is room for so many lines.
+    #[inline(always)]
     fn put_taken<D: Pmem>(
         &mut self,
         device: &mut D,
@@ -115,6 +122,7 @@ impl Sessions {
     }
 
     // Writes a row in the lowest free slot, which stays free where the device fails.
+    #[inline(always)]
     fn fill_taken<D: Pmem>(
         &mut self,
         device: &mut D,
@@ -158,6 +166,7 @@ impl Sessions {
 }
 
 // The write of a row that lies in the slot.
+#[inline(always)]
 fn row_write(key: Key, row: Row, slot: SlotNo, place: Option<usize>) -> Write
     ensures { result ≡ record { key = key; row = Some row; slot = Some slot; place = place } }
 {

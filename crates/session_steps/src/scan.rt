@@ -31,6 +31,7 @@ impl Sessions {
     ghost use Rattle.session_steps.specs.Steps.{HoldsOn, HoldsSomeOn, Goes};
 
     // The rows that the session sees at the keys of the table from lo to hi, both included.
+    #[inline(never)]
     pub(crate) fn scan<D: Pmem>(
         &self,
         device: &D,

@@ -1,3 +1,7 @@
+//! A stamp makes two stores and waits for neither: no reader counts a timestamp before the record that covers it, and the cycle
+//! that writes this record flushes and fences both lines before its gate. A batch takes in only commits that are stamped whole,
+//! so a crash between two stamps of a commit shows none of it.
+
 ghost use Rattle.std.specs.Prelude.{◌≡◌, ◌++◌, false, nat_lt, length, IsTrue, IfErr, IfOk, OnErr, OnOk};
 ghost use Rattle.base.specs.Layout.{total_words};
 ghost use Rattle.base.specs.declared.fault.Fault.TheVariants.{Device as DeviceFault, WrongState};
@@ -33,6 +37,7 @@ impl Sessions {
     ghost use Rattle.session_steps.specs.Steps.{HoldsSomeOn, TakesOn, IsBarred};
 
     // The write that the session of this number stamps next.
+    #[inline(always)]
     fn unstamped(&self, session: u8) -> Result<Unstamped, Fault>
         ensures at { IfOk result (λ next. transaction_at self.now.transactions session ≡ Some (Drawn next.timestamp)) }
         ensures next { IfOk result (λ next. IsNextOf self.now.drawn.commits next) }
@@ -50,6 +55,7 @@ impl Sessions {
     }
 
     // Stamps one write more of a session's commit.
+    #[inline(never)]
     pub(crate) fn stamp<D: Pmem>(&mut self, device: &mut D, session: u8) -> SessionReply
         requires shown { ∥ HoldsSomeOn self.old (D.state device.old) ∥₁ }
         ensures step { TakesOn self.old self.new (D.state device.old) (D.state device.new) (Stamp session) result }
@@ -75,6 +81,7 @@ impl Sessions {
 }
 
 // The next write of a commit, if one is left.
+#[inline(always)]
 fn next_of(timestamp: Ts, commit: &DrawnCommit) -> Result<Unstamped, Fault>
     ensures ok { IfOk result (λ next. IsNextIn commit.now next.write next.is_last) }
     ensures timestamp { IfOk result (λ next. next.timestamp ≡ timestamp) }
@@ -93,6 +100,7 @@ fn next_of(timestamp: Ts, commit: &DrawnCommit) -> Result<Unstamped, Fault>
 }
 
 // Stores a timestamp in the begin of the version of a write, and in the end of the one that it ends, where there are such.
+#[inline(always)]
 fn stamp_write<D: Pmem>(
     device: &mut D,
     geometry: Geometry,
@@ -118,6 +126,7 @@ fn stamp_write<D: Pmem>(
 }
 
 // Stores a timestamp in the begin of a slot, if there is one.
+#[inline(always)]
 fn stamp_own<D: Pmem>(
     device: &mut D,
     geometry: Geometry,
@@ -138,6 +147,7 @@ fn stamp_own<D: Pmem>(
 }
 
 // And in the end of one.
+#[inline(always)]
 fn stamp_ended<D: Pmem>(
     device: &mut D,
     geometry: Geometry,

@@ -1,3 +1,6 @@
+//! Lines are noted at the draw and not at the put, since only then is it certain which version a write ends. The room for them
+//! was promised by the puts and deletions, as a draw has no way back once it has its timestamp.
+
 ghost use Rattle.std.specs.Prelude.{◌+◌, ◌*◌, ◌<◌, ◌≤◌, [], length, IsTrue};
 ghost use Rattle.std.specs.List.{flat_map};
 ghost use Rattle.std.specs.Option.{option_map_or};

@@ -7,7 +7,9 @@ use Rattle.recovery.proofs.Lives.{refuses-log, may-rule, formed-parts, under, wi
 use Rattle.recovery.proofs.WhatIsRead.{tells-later}
 use Rattle.recovery.specs.Opened.{Examined}
 use Rattle.recovery.specs.Sweeping.{AreHits}
-use Rattle.recovery.proofs.Readings.{readings-size, all-live}
+use Rattle.recovery.proofs.Readings.{readings-size}
+use Rattle.recovery.specs.declared.holding.Held.{Held}
+use Rattle.recovery.specs.Held.{HavePlaces}
 use Rattle.recovery.proofs.Hits.{are-hits}
 use Rattle.recovery.proofs.examining.examine.Goals as goal
 
@@ -31,17 +33,17 @@ returns-in-Err-read_slots-clause-fault g c = refuses-memory c.in-Ok.found.geomet
 pub returns-in-Err-read_slots-clause-log : goal.returns-in-Err-read_slots-clause-log
 returns-in-Err-read_slots-clause-log g c = tells-later c.in-Ok.found.geometry c.in-Ok.found.record (image_of (g.D.Pmem.state c.args.device.now)) c.in-Ok.ensures.ok _
 
-pub free_slots-requires : goal.free_slots-requires
-free_slots-requires g c =
+pub held_slots-requires : goal.held_slots-requires
+held_slots-requires g c =
     ap length (c.as_slice.ensures.value ∙ c.in-Ok-read_slots.ensures) ∙ readings-size (image_of (g.D.Pmem.state c.args.device.now)) c.in-Ok.found.geometry.slots
 
-pub returns-in-Err-free_slots-clause-fault : goal.returns-in-Err-free_slots-clause-fault
-returns-in-Err-free_slots-clause-fault g c =
+pub returns-in-Err-held_slots-clause-fault : goal.returns-in-Err-held_slots-clause-fault
+returns-in-Err-held_slots-clause-fault g c =
     let image = image_of (g.D.Pmem.state c.args.device.now) in
-    refuses-slots c.in-Ok.found.geometry c.in-Ok.found.record image c.in-Ok.ensures.ok c.in-Err-free_slots.fault (c.in-Err-free_slots.ensures.fault image (c.as_slice.ensures.value ∙ c.in-Ok-read_slots.ensures))
+    refuses-slots c.in-Ok.found.geometry c.in-Ok.found.record image c.in-Ok.ensures.ok c.in-Err-held_slots.fault (c.in-Err-held_slots.ensures.fault image (c.as_slice.ensures.value ∙ c.in-Ok-read_slots.ensures))
 
-pub returns-in-Err-free_slots-clause-log : goal.returns-in-Err-free_slots-clause-log
-returns-in-Err-free_slots-clause-log g c = tells-later c.in-Ok.found.geometry c.in-Ok.found.record (image_of (g.D.Pmem.state c.args.device.now)) c.in-Ok.ensures.ok c.in-Err-free_slots.fault
+pub returns-in-Err-held_slots-clause-log : goal.returns-in-Err-held_slots-clause-log
+returns-in-Err-held_slots-clause-log g c = tells-later c.in-Ok.found.geometry c.in-Ok.found.record (image_of (g.D.Pmem.state c.args.device.now)) c.in-Ok.ensures.ok c.in-Err-held_slots.fault
 
 -- ---- the limit
 
@@ -57,7 +59,7 @@ is_near_limit-requires-clause-gate g c = (fits_image c.in-Ok.found.geometry c.in
 pub returns-then-is_near_limit-clause-fault : goal.returns-then-is_near_limit-clause-fault
 returns-then-is_near_limit-clause-fault g c =
     let image = image_of (g.D.Pmem.state c.args.device.now) in
-    refuses-limit c.in-Ok.found.geometry c.in-Ok.found.record image c.in-Ok.ensures.ok (c.in-Ok-free_slots.ensures.good image (c.as_slice.ensures.value ∙ c.in-Ok-read_slots.ensures)) (sym c.is_near_limit.ensures ∙ c.if-is_near_limit.true)
+    refuses-limit c.in-Ok.found.geometry c.in-Ok.found.record image c.in-Ok.ensures.ok ((c.in-Ok-held_slots.ensures.held image (c.as_slice.ensures.value ∙ c.in-Ok-read_slots.ensures)).good) (sym c.is_near_limit.ensures ∙ c.if-is_near_limit.true)
 
 pub returns-then-is_near_limit-clause-log : goal.returns-then-is_near_limit-clause-log
 returns-then-is_near_limit-clause-log g c = tells-later c.in-Ok.found.geometry c.in-Ok.found.record (image_of (g.D.Pmem.state c.args.device.now)) c.in-Ok.ensures.ok _
@@ -73,13 +75,18 @@ returns-in-Ok-gather-clause-ok g c =
     let found = c.in-Ok.found in
     let tells = c.in-Ok-gather.ensures in
     let e = c.in-Ok-gather.examined in
-    let are = c.as_slice.ensures.value ∙ c.in-Ok-read_slots.ensures in
-    let good = c.in-Ok-free_slots.ensures.good image are in
+    let held = c.in-Ok-held_slots.ensures.held image (c.as_slice.ensures.value ∙ c.in-Ok-read_slots.ensures) in
     subst (λ (l : Layout). Examined image l e.ruling e.gaps e.free.items e.live.items) (sym tells.layout)
     (subst (λ (r : Record). Examined image found.geometry r e.gaps e.free.items e.live.items) (sym tells.rules)
-    (examined found.geometry found.record image c.in-Ok.ensures.ok good (sym c.is_near_limit.ensures ∙ c.if-is_near_limit.false) e.gaps tells.gaps
-    e.free.items (tells.free ∙ c.in-Ok-free_slots.ensures.free image are)
-    e.live.items (all-live image found.geometry.slots c.as_slice-2.result.now e.live.items (c.as_slice-2.ensures.value ∙ c.in-Ok-read_slots.ensures) good tells.live)))
+    (examined found.geometry found.record image c.in-Ok.ensures.ok held.good (sym c.is_near_limit.ensures ∙ c.if-is_near_limit.false) e.gaps tells.gaps
+    e.free.items (ap (λ (h : Held). h.free.items) tells.held ∙ held.free_are)
+    e.live.items (ap (λ (h : Held). h.live.items) tells.held ∙ held.live_are)))
+
+pub returns-in-Ok-gather-clause-places : goal.returns-in-Ok-gather-clause-places
+returns-in-Ok-gather-clause-places g c =
+    let image = image_of (g.D.Pmem.state c.args.device.now) in
+    let held = c.in-Ok-held_slots.ensures.held image (c.as_slice.ensures.value ∙ c.in-Ok-read_slots.ensures) in
+    subst (λ (h : Held). HavePlaces h.live.items h.places.entries) (sym c.in-Ok-gather.ensures.held) held.placed_so
 
 pub returns-in-Ok-gather-clause-hits : goal.returns-in-Ok-gather-clause-hits
 returns-in-Ok-gather-clause-hits g c =

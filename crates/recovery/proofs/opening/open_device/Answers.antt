@@ -9,9 +9,9 @@ use Rattle.pmem.specs.Device.{Device}
 use Rattle.pmem.specs.Words.{image_of}
 use Rattle.recovery.specs.Read.{TellsLogFault}
 use Rattle.recovery.specs.declared.rows.LiveSlot.{LiveSlot}
-use Rattle.recovery.specs.declared.opening.Life.{Life}
+use Rattle.recovery.specs.declared.opening.OpenedImage.{OpenedImage}
 use Rattle.recovery.specs.Opened.{Examined, IsCutShort, IsRefusal}
-use Rattle.recovery.proofs.Lives.{images-refused, refusal-examined, refusal-device}
+use Rattle.recovery.proofs.Lives.{images-refused, version-refused, refusal-examined, refusal-device}
 use Rattle.recovery.proofs.WhatIsRead.{tells-examined}
 use Rattle.recovery.proofs.opening.open_device.Goals as goal
 
@@ -22,15 +22,18 @@ returns-in-Err-clause-fault g c = refusal-examined (g.D.Pmem.state c.args.device
 pub returns-in-Err-clause-images : goal.returns-in-Err-clause-images
 returns-in-Err-clause-images g c = images-refused (g.D.Pmem.state c.args.device.now) ((g.met.D.Pmem g.world.𝓛 g.world.𝓜 g.world.𝓡 ((λ s x. x), (λ x. x), (λ x. x), λ x. x)).orderly c.args.device.now) c.requires
 
+pub returns-in-Err-clause-version : goal.returns-in-Err-clause-version
+returns-in-Err-clause-version g c = version-refused (g.D.Pmem.state c.args.device.now) ((g.met.D.Pmem g.world.𝓛 g.world.𝓜 g.world.𝓡 ((λ s x. x), (λ x. x), (λ x. x), λ x. x)).orderly c.args.device.now) c.requires
+
 pub returns-in-Err-clause-log : goal.returns-in-Err-clause-log
 returns-in-Err-clause-log g c = c.in-Err.ensures.log
 
-refused-later : (old new : Device) (result : Result Life Fault) (layout : Layout) (r : Record) (gaps : Option (List Gap)) (free : List Bool) (live : List LiveSlot) → Examined (image_of old) layout r gaps free live
+refused-later : (old new : Device) (result : Result OpenedImage Fault) (layout : Layout) (r : Record) (gaps : Option (List Gap)) (free : List Bool) (live : List LiveSlot) → Examined (image_of old) layout r gaps free live
     → IfErr result (λ fault. fault ≡ DeviceFault) → OnErr result (IsCutShort old new) → IfErr result (IsRefusal (opening_fault (image_of old)) old new)
 refused-later old new (Ok life) layout r gaps free live ex is more = tt
 refused-later old new (Err fault) layout r gaps free live ex is more = refusal-device old new fault layout r gaps free live ex is more
 
-told-later : (image : Image) (result : Result Life Fault) (layout : Layout) (r : Record) (gaps : Option (List Gap)) (free : List Bool) (live : List LiveSlot) → Examined image layout r gaps free live → IfErr result (TellsLogFault image)
+told-later : (image : Image) (result : Result OpenedImage Fault) (layout : Layout) (r : Record) (gaps : Option (List Gap)) (free : List Bool) (live : List LiveSlot) → Examined image layout r gaps free live → IfErr result (TellsLogFault image)
 told-later image (Ok life) layout r gaps free live ex = tt
 told-later image (Err fault) layout r gaps free live ex = tells-examined image layout r gaps free live ex fault
 

@@ -2,7 +2,7 @@ use Rattle.std.proofs.Common.{length, ◌∙◌, ap}
 use Rattle.pmem.specs.Words.{image_of}
 use Rattle.recovery.proofs.Lives.{under, ruled-size}
 use Rattle.recovery.proofs.WhatIsRead.{refusal-log, refusal-slots, refusal-memory, is-read}
-use Rattle.recovery.proofs.Readings.{readings-size, all-rows}
+use Rattle.recovery.proofs.Readings.{readings-size}
 use Rattle.recovery.proofs.reading.read_device.Goals as goal
 
 pub returns-in-Err-clause-fault : goal.returns-in-Err-clause-fault
@@ -14,22 +14,39 @@ read_slots-requires-clause-size g c κs within = ruled-size (g.D.Pmem.state c.ar
 pub read_slots-requires-clause-under : goal.read_slots-requires-clause-under
 read_slots-requires-clause-under g c κs within = under c.in-Ok.found.geometry c.in-Ok.found.record (image_of (g.D.Pmem.state c.args.device.now)) c.in-Ok.ensures.ok
 
-pub free_slots-requires : goal.free_slots-requires
-free_slots-requires g c =
+pub held_slots-requires : goal.held_slots-requires
+held_slots-requires g c =
     ap length (c.as_slice.ensures.value ∙ c.in-Ok-read_slots.ensures) ∙ readings-size (image_of (g.D.Pmem.state c.args.device.now)) c.in-Ok.found.geometry.slots
 
-pub returns-in-Err-free_slots-clause-fault : goal.returns-in-Err-free_slots-clause-fault
-returns-in-Err-free_slots-clause-fault g c =
+pub returns-in-Err-held_slots-clause-fault : goal.returns-in-Err-held_slots-clause-fault
+returns-in-Err-held_slots-clause-fault g c =
     let image = image_of (g.D.Pmem.state c.args.device.now) in
-    refusal-slots c.in-Ok.found.geometry c.in-Ok.found.record image c.in-Ok.ensures.ok c.in-Err-free_slots.fault (c.in-Err-free_slots.ensures.fault image (c.as_slice.ensures.value ∙ c.in-Ok-read_slots.ensures))
+    refusal-slots c.in-Ok.found.geometry c.in-Ok.found.record image c.in-Ok.ensures.ok c.in-Err-held_slots.fault (c.in-Err-held_slots.ensures.fault image (c.as_slice.ensures.value ∙ c.in-Ok-read_slots.ensures))
+
+-- ---- the rows
+
+pub live_rows-requires-clause-size : goal.live_rows-requires-clause-size
+live_rows-requires-clause-size g c = ruled-size (g.D.Pmem.state c.args.device.now) c.in-Ok.found.geometry c.in-Ok.found.record c.in-Ok.ensures.ok
+
+pub live_rows-requires-clause-live : goal.live_rows-requires-clause-live
+live_rows-requires-clause-live g c =
+    let image = image_of (g.D.Pmem.state c.args.device.now) in
+    c.as_slice-2.ensures.value ∙ (c.in-Ok-held_slots.ensures.held image (c.as_slice.ensures.value ∙ c.in-Ok-read_slots.ensures)).live_are
+
+pub live_rows-requires-clause-laid_out : goal.live_rows-requires-clause-laid_out
+live_rows-requires-clause-laid_out g c = c.in-Ok.ensures.ok.laid_out
+
+pub live_rows-requires-clause-good : goal.live_rows-requires-clause-good
+live_rows-requires-clause-good g c =
+    let image = image_of (g.D.Pmem.state c.args.device.now) in
+    (c.in-Ok-held_slots.ensures.held image (c.as_slice.ensures.value ∙ c.in-Ok-read_slots.ensures)).good
 
 pub returns-in-Ok-live_rows-clause-ok : goal.returns-in-Ok-live_rows-clause-ok
 returns-in-Ok-live_rows-clause-ok g c =
     let image = image_of (g.D.Pmem.state c.args.device.now) in
     let found = c.in-Ok.found in
-    let good = c.in_default.ensures.good image (c.as_slice.ensures.value ∙ c.in-Ok-read_slots.ensures) in
-    is-read found.geometry found.record image c.in-Ok.ensures.ok good c.in-Ok-live_rows.rows.items
-    (all-rows image found.geometry.slots c.as_slice-2.result.now c.in-Ok-live_rows.rows.items (c.as_slice-2.ensures.value ∙ c.in-Ok-read_slots.ensures) good c.in-Ok-live_rows.ensures)
+    let held = c.in-Ok-held_slots.ensures.held image (c.as_slice.ensures.value ∙ c.in-Ok-read_slots.ensures) in
+    is-read found.geometry found.record image c.in-Ok.ensures.ok held.good c.in-Ok-live_rows.rows.items c.in-Ok-live_rows.ensures
 
 pub returns-in-Err-read_slots-clause-fault : goal.returns-in-Err-read_slots-clause-fault
 returns-in-Err-read_slots-clause-fault g c = refusal-memory c.in-Ok.found.geometry c.in-Ok.found.record (image_of (g.D.Pmem.state c.args.device.now)) c.in-Ok.ensures.ok

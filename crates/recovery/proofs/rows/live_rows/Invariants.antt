@@ -1,8 +1,8 @@
-use Rattle.std.proofs.Common.{◌≡◌}
-use Rattle.base.specs.Images.{Image}
-use Rattle.recovery.specs.Slots.{AreReadings}
-use Rattle.recovery.specs.Read.{rows_below}
+use Rattle.std.proofs.Common.{◌≡◌, map}
+use Rattle.std.specs.Prelude.{take}
+use Rattle.pmem.specs.Words.{image_of}
+use Rattle.recovery.proofs.Held.{row-in}
 use Rattle.recovery.proofs.rows.live_rows.Given as goal
 
-abbrev pub invariant-loop-slot : goal.invariant-loop-slot
-invariant-loop-slot l = (image : Image) → AreReadings image l.readings → l.rows.items ≡ rows_below image l.slot
+abbrev pub invariant-loop-found : goal.invariant-loop-found
+invariant-loop-found g l = l.rows.items ≡ map (row-in (image_of (g.D.Pmem.state l.device))) (take l.found-index l.live)

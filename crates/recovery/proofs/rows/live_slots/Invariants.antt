@@ -1,8 +1,12 @@
 use Rattle.std.proofs.Common.{◌≡◌}
 use Rattle.base.specs.Images.{Image}
 use Rattle.recovery.specs.Slots.{AreReadings}
+use Rattle.recovery.specs.Held.{HasEach}
 use Rattle.recovery.specs.Live.{live_below}
 use Rattle.recovery.proofs.rows.live_slots.Given as goal
 
 abbrev pub invariant-loop-slot : goal.invariant-loop-slot
-invariant-loop-slot l = (image : Image) → AreReadings image l.readings → l.live.items ≡ live_below image l.slot
+invariant-loop-slot l = record {
+  live : (image : Image) → AreReadings image l.readings → l.live.items ≡ live_below image l.slot;
+  each : HasEach l.readings l.slot l.live.items;
+}

@@ -27,7 +27,7 @@ returns-in-Some g c =
     let device = g.D.Pmem.state c.args.device.now in
     reading-is device c.args.geometry c.args.ruling c.args.slot c.requires.size c.requires.under c.requires.slot _ _ _ c.begin-begin.ensures c.end-end.ensures
     (look-live device c.args.geometry c.args.ruling c.args.slot c.requires.size c.requires.under c.requires.slot
-    c.begin-begin.result c.end-end.result c.begin-begin.ensures c.end-end.ensures (omega arith) (omega arith) (sym c.is_shown.ensures ∙ c.if-not-is_shown.false) c.in-Some.held c.in-Some.ensures.some)
+    c.begin-begin.result c.end-end.result c.begin-begin.ensures c.end-end.ensures (omega arith) (omega arith) (sym c.is_shown.ensures ∙ c.if-not-is_shown.false) c.in-Some.key c.in-Some.ensures.some)
 
 pub returns-in-None : goal.returns-in-None
 returns-in-None g c =

@@ -4,8 +4,8 @@ use Rattle.base.specs.Layout.{Layout, opened_layout, opened_version}
 use Rattle.pmem.specs.Words.{image_of, IsSettledAt, IsStore, Keeps, OldOr}
 use Rattle.pmem.proofs.Spares.{spares_none}
 use Rattle.recovery.specs.Opened.{is_updated}
-use Rattle.recovery.proofs.Lives.{images-refused}
-use Rattle.recovery.proofs.Updates.{opened-size, image-current, image-updated, rest-updated, images-updating, others-spared}
+use Rattle.recovery.proofs.Lives.{images-refused, version-refused}
+use Rattle.recovery.proofs.Updates.{opened-size, image-current, image-updated, rest-updated, images-updating, version-updating, others-spared}
 use Rattle.recovery.proofs.updating.update.Goals as goal
 
 -- the version of today's layout
@@ -32,6 +32,9 @@ returns-then-version-clause-others g c = let old = g.D.Pmem.state c.args.device.
 
 pub returns-then-version-clause-images : goal.returns-then-version-clause-images
 returns-then-version-clause-images g c = images-refused (g.D.Pmem.state c.args.device.now) (g.met.D.Pmem.orderly c.args.device.now) c.requires.at_rest
+
+pub returns-then-version-clause-version : goal.returns-then-version-clause-version
+returns-then-version-clause-version g c = version-refused (g.D.Pmem.state c.args.device.now) (g.met.D.Pmem.orderly c.args.device.now) c.requires.at_rest
 
 pub update_version-requires : goal.update_version-requires
 update_version-requires g c = opened-size (g.D.Pmem.state c.args.device.now) c.requires.opens
@@ -75,3 +78,17 @@ returns-in-Err-clause-images g c =
     let new = g.D.Pmem.state c.update_version.new.device in
     let is = today-version (layout_of (image_of old)) c.args.geometry c.opened-today.result c.requires.laid_out c.opened-today.ensures in
     images-updating old c.requires.at_rest c.requires.opens new (subst (λ (v : ℕ). Keeps old new (OldOr old (IsStore 1 v))) is c.in-Err.ensures.keeps)
+
+pub returns-in-Ok-clause-version : goal.returns-in-Ok-clause-version
+returns-in-Ok-clause-version g c =
+    let old = g.D.Pmem.state c.args.device.now in
+    let new = g.D.Pmem.state c.update_version.new.device in
+    let is = today-version (layout_of (image_of old)) c.args.geometry c.opened-today.result c.requires.laid_out c.opened-today.ensures in
+    version-updating old c.requires.at_rest c.requires.opens new (subst (λ (v : ℕ). Keeps old new (OldOr old (IsStore 1 v))) is c.in-Ok.ensures.keeps)
+
+pub returns-in-Err-clause-version : goal.returns-in-Err-clause-version
+returns-in-Err-clause-version g c =
+    let old = g.D.Pmem.state c.args.device.now in
+    let new = g.D.Pmem.state c.update_version.new.device in
+    let is = today-version (layout_of (image_of old)) c.args.geometry c.opened-today.result c.requires.laid_out c.opened-today.ensures in
+    version-updating old c.requires.at_rest c.requires.opens new (subst (λ (v : ℕ). Keeps old new (OldOr old (IsStore 1 v))) is c.in-Err.ensures.keeps)

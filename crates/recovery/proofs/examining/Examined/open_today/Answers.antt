@@ -1,6 +1,6 @@
 use Rattle.std.proofs.Common.{sym, refl, subst, arith}
 use Rattle.pmem.specs.Words.{image_of}
-use Rattle.recovery.specs.declared.opening.Life.{Life}
+use Rattle.recovery.specs.declared.opening.OpenedImage.{OpenedImage}
 use Rattle.recovery.specs.Opened.{HasOpenedToday}
 use Rattle.recovery.proofs.Lives.{is, some-dirty, limit, gate-limit, target-is, device-words, next-target, images-swept, images-meanwhile, has-opened, cut-early, cut-late}
 use Rattle.recovery.proofs.examining.Examined.open_today.Goals as goal
@@ -79,4 +79,4 @@ returns-in-Ok-write_record-clause-ok g c =
     let follows = next-target old mid new orderly c.requires.at_rest c.args.self.geometry c.args.self.ruling c.args.self.gaps c.args.self.free.items c.args.self.live.items c.requires.examined kept.kept kept.rest kept.image target same in
     let has = has-opened old mid new orderly c.requires.at_rest c.args.self.geometry c.args.self.ruling c.args.self.gaps c.args.self.free.items c.args.self.live.items c.requires.examined kept.kept kept.rest kept.image target same
     (c.in-Ok-write_record.ensures.holds c.args.self.ruling follows) c.in-Ok-write_record.ensures.outside kept.others kept.none kept.made c.in-Ok-write_record.ensures.made c.args.self.ruling.dirty refl in
-    subst (λ (life : Life). HasOpenedToday old new life.geometry life.ruling life.next life.free.items life.live.items) (sym c.begun.ensures) has
+    subst (λ (life : OpenedImage). HasOpenedToday old new life.geometry life.ruling life.next life.free.items life.live.items) (sym c.begun.ensures) has

@@ -1,18 +1,17 @@
-use Rattle.std.proofs.Common.{◌≡◌, ◌<◌, ◌++◌, ◌∷◌, [], List, None, ℕ, sym, ◌∙◌, ap, subst, arith}
+use Rattle.std.proofs.Common.{◌≡◌, ◌<◌, List, None, ℕ, ap, subst, arith}
 use Rattle.std.specs.List.{list_any}
 use Rattle.std.specs.BTreeSet.{contains}
 use Rattle.std.specs.BTreeMap.{is_at}
 use Rattle.base.specs.declared.key.Key.{Key}
-use Rattle.recovery.specs.Slots.{bad_below, free_below, key_cmp}
-use Rattle.recovery.proofs.Visits.{keys-none, free-none, free-more, bad-none, bad-more, slots-visit, slots-memory}
+use Rattle.recovery.specs.Slots.{bad_below, key_cmp}
+use Rattle.recovery.proofs.Visits.{keys-none, bad-none, bad-more, slots-visit}
 use Rattle.recovery.proofs.Readings.{found-at}
-use Rattle.recovery.proofs.slots.free_slots.Goals as goal
+use Rattle.recovery.proofs.holding.find_bad.Goals as goal
 
 pub loop-slot-init : goal.loop-slot-init
 loop-slot-init c = record {
   keys = λ image are. keys-none image (contains key_cmp c.new-seen.result) (λ key. ap (λ (keys : List Key). list_any (is_at (key_cmp key)) keys) c.new-seen.ensures.empty);
   good = λ image are. bad-none image;
-  free = λ image are. c.new-free.ensures.items ∙ sym (free-none image);
 }
 
 pub returns-in-Err-clause-fault : goal.returns-in-Err-clause-fault
@@ -22,9 +21,6 @@ returns-in-Err-clause-fault c = λ image are.
     slots-visit c.args.geometry image slot c.in-Err.fault within (c.loop-slot.invariant.good image are)
     (c.in-Err.ensures.fault image (found-at image c.args.geometry.slots slot _ c.args.readings.now are within) (c.loop-slot.invariant.keys image are))
 
-pub returns-in_default-clause-fault : goal.returns-in_default-clause-fault
-returns-in_default-clause-fault c = λ image are. slots-memory c.args.geometry image
-
 pub loop-slot-preserved : goal.loop-slot-preserved
 loop-slot-preserved c =
     let slot = c.loop-slot.slot in
@@ -32,15 +28,7 @@ loop-slot-preserved c =
     record {
       keys = λ image are. c.in-Ok.ensures.keys image (found-at image c.args.geometry.slots slot _ c.args.readings.now are within) (c.loop-slot.invariant.keys image are);
       good = λ image are. bad-more image slot (c.loop-slot.invariant.good image are) (c.in-Ok.ensures.good image (found-at image c.args.geometry.slots slot _ c.args.readings.now are within) (c.loop-slot.invariant.keys image are));
-      free = λ image are. c.in-Ok-push.ensures.items
-          ∙ (λ i. c.loop-slot.invariant.free image are i ++ c.in-Ok.ensures.free image (found-at image c.args.geometry.slots slot _ c.args.readings.now are within) i ∷ [])
-          ∙ sym (free-more image slot);
     }
-
-pub returns-clause-free : goal.returns-clause-free
-returns-clause-free c = λ image are.
-    let all : c.loop-slot.slot ≡ c.args.geometry.slots = omega (arith, c.loop-slot-test.false, c.loop-slot.auto.slot-end, c.slots-slot-end.ensures.value) in
-    c.loop-slot.invariant.free image are ∙ ap (free_below image) all
 
 pub returns-clause-good : goal.returns-clause-good
 returns-clause-good c = λ image are.

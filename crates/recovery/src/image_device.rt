@@ -1,3 +1,6 @@
+//! An image that is only read goes through the same functions as a device that is opened. Every operation fails on it, so none
+//! of them can change it unseen.
+
 ghost use Rattle.recovery.specs.Words.{AreWords};
 
 use base::actor::Actor;
@@ -6,22 +9,22 @@ use pmem::{Pmem, Tally};
 
 /// The words of an image, read where they lie, as a device on which every operation fails.
 #[derive(Drop)]
-pub struct Still<'a> {
+pub struct ImageDevice<'a> {
     words: &'a [u64],
     failures: Tally,
     ghost fits: { AreWords words.now },
 }
 
-impl<'a> Still<'a> {
+impl<'a> ImageDevice<'a> {
     ghost use Rattle.std.specs.Prelude.{◌≡◌};
     ghost use Rattle.pmem.specs.Device.{restarted, failed};
-    ghost use Rattle.recovery.specs.Still.{device_of};
+    ghost use Rattle.recovery.specs.ImageDevice.{device_of};
 
     /// An image at rest.
-    pub fn of(words: &'a [u64]) -> Still<'a>
+    pub fn of(words: &'a [u64]) -> ImageDevice<'a>
         ensures { device_of result ≡ restarted words.now }
     {
-        Still {
+        ImageDevice {
             words,
             failures: Tally::Zero,
         }
@@ -37,13 +40,13 @@ impl<'a> Still<'a> {
     }
 }
 
-impl<'a> Pmem for Still<'a> {
+impl<'a> Pmem for ImageDevice<'a> {
     ghost use Rattle.pmem.specs.Tallies.{number_of};
-    ghost use Rattle.recovery.specs.Still.{device_of, orderly_still};
+    ghost use Rattle.recovery.specs.ImageDevice.{device_of, orderly_image};
 
     ghost state = { device_of };
 
-    ghost orderly = { λ still. orderly_still still.words.now (number_of still.failures) still.fits };
+    ghost orderly = { λ image. orderly_image image.words.now (number_of image.failures) image.fits };
 
     fn words(&self) -> usize {
         self.words.len()

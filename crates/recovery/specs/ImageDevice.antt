@@ -4,11 +4,11 @@ use Rattle.std.proofs.lemmas.Bool.{lt-ltb}
 use Rattle.pmem.specs.Device.{Device, Entry, newest, survivors_in, survivors_at, IsAmong, IsOrderly, restarted}
 use Rattle.pmem.specs.Tallies.{number_of}
 use Rattle.recovery.specs.Words.{AreWords}
-use Rattle.recovery.specs.declared.still.Still.{Still}
+use Rattle.recovery.specs.declared.image_device.ImageDevice.{ImageDevice}
 
 -- the words, at rest, and how many operations failed
-abbrev pub device_of : Still → Device
-device_of still = record (restarted still.words.now) { failures = number_of still.failures }
+abbrev pub device_of : ImageDevice → Device
+device_of image = record (restarted image.words.now) { failures = number_of image.failures }
 
 abbrev first : ℕ → Entry
 first value = record { value = value; born = 0; flushed = λ actor. false; kept = Some 0 }
@@ -29,8 +29,8 @@ some_in : (b : Bool) (value : ℕ) → b ≡ true → IsAmong (survivors_in (onl
 some_in true value is = inl refl
 some_in false value is = absurd (cc is)
 
-pub orderly_still : (words : List ℕ) (failures : ℕ) → AreWords words → IsOrderly (record (restarted words) { failures = failures })
-orderly_still words failures fits = record {
+pub orderly_image : (words : List ℕ) (failures : ℕ) → AreWords words → IsOrderly (record (restarted words) { failures = failures })
+orderly_image words failures fits = record {
   now = λ word. now_in (nat_lt word (length words)) (get_or words word 0);
   fits = λ word x among. fits_in (nat_lt word (length words)) (get_or words word 0) x (fits word) among;
   some = λ word lt. some_in (nat_lt word (length words)) (get_or words word 0) (lt-ltb word (length words) lt);

@@ -1,0 +1,33 @@
+-- What the slots of an image hold, of which none is bad.
+use Rattle.std.specs.Prelude.{◌≡◌, ℕ, suc, ◌<◌, List, [], ◌∷◌, slice_get, Some, None}
+use Rattle.base.specs.declared.key.Key.{Key}
+use Rattle.base.specs.Keys.{lookup_key}
+use Rattle.base.specs.Images.{Image}
+use Rattle.recovery.specs.declared.slots.SlotReading.{SlotReading}
+use Rattle.recovery.specs.declared.slots.SlotContent.TheVariants.{Live}
+use Rattle.recovery.specs.declared.rows.LiveSlot.{LiveSlot}
+use Rattle.recovery.specs.declared.holding.Held.{Held}
+use Rattle.recovery.specs.Slots.{bad_below, free_below}
+use Rattle.recovery.specs.Live.{live_below}
+
+-- the keys of live slots with their places in the list, from a number on
+abbrev pub placed : ℕ → List LiveSlot → List (Key × ℕ)
+placed n [] = []
+placed n (s ∷ live) = (s.key, n) ∷ placed (suc n) live
+
+-- each of the live slots has its place in the list by its key, and there is nothing else
+pub record HavePlaces (live : List LiveSlot) (places : List (Key × ℕ)) : Type 0 where
+  pub there : (key : Key) (place : ℕ) → lookup_key places key ≡ Some place → (s : LiveSlot) × (slice_get live place ≡ Some s) × (s.key ≡ key)
+  pub once : (s : LiveSlot) (place : ℕ) → slice_get live place ≡ Some s → lookup_key places s.key ≡ Some place
+
+-- each slot below a number in which a live version was found is one of these
+abbrev pub HasEach : List SlotReading → ℕ → List LiveSlot → Type 0
+HasEach readings n live = (slot : ℕ) (reading : SlotReading) (key : Key) → slot < n → slice_get readings slot ≡ Some reading → reading.found ≡ Live key
+    → (place : ℕ) × ((s : LiveSlot) × (slice_get live place ≡ Some s) × (s.slot ≡ slot) × (s.key ≡ key))
+
+-- none of so many slots is bad, these are free, and the others have these places
+pub record AreHeld (image : Image) (slots : ℕ) (held : Held) : Type 0 where
+  pub good : bad_below image slots ≡ None
+  pub free_are : held.free.items ≡ free_below image slots
+  pub live_are : held.live.items ≡ live_below image slots
+  pub placed_so : HavePlaces held.live.items held.places.entries

@@ -1,0 +1,134 @@
+//! Two live slots with one key are damage, which is found by counting the keys: one look at each slot is enough for an image
+//! that is sound. Only where one isn't are the slots gone through in order, for the lowest that is bad.
+
+ghost use Rattle.std.specs.Prelude.{◌≡◌, ◌<◌, ◌+◌, ℕ, None, false, length, All, IfOk, IfErr, OnOk, IsTrue, ◌↔◌};
+ghost use Rattle.std.specs.BTreeMap.{IsFromIterResult};
+ghost use Rattle.std.specs.BTreeSet.{contains};
+ghost use Rattle.base.specs.Images.{Image};
+ghost use Rattle.recovery.specs.Slots.{AreReadings, HasKeys, IsVisitFault, IsSlotsFault, found_in, readings_below, free_below, bad_below, is_bad, is_unfit, key_cmp};
+ghost use Rattle.recovery.specs.Held.{AreHeld, placed};
+
+use crate::rows::{LiveSlot, live_slots};
+use crate::slots::{SlotContent, SlotReading};
+use base::fault::Fault;
+use base::geometry::Geometry;
+use base::key::Key;
+use std::alloc::{AllocError, Global};
+use std::collections::{BTreeMap, BTreeSet};
+
+/// What the slots of an image hold, of which none is bad.
+#[derive(Drop)]
+pub struct Held {
+    /// Whether each slot is free.
+    pub free: Vec<bool>,
+    /// The others, in their order.
+    pub live: Vec<LiveSlot>,
+    /// By key the place in `live` of its slot.
+    pub places: BTreeMap<Key, usize, Global>,
+}
+
+// What was read of the slots tells. The lowest bad slot is reported. A slot is bad by itself, or where a lower one has its key:
+// then there are fewer keys than live slots.
+pub fn held_slots(
+    alloc: Global,
+    geometry: Geometry,
+    readings: &[SlotReading],
+) -> Result<Held, Fault>
+    requires { length readings.now ≡ geometry.slots }
+    ensures held { IfOk result (λ held. (image : Image) → readings.now ≡ readings_below image geometry.slots → AreHeld image geometry.slots held) }
+    ensures fault { IfErr result (λ fault. (image : Image) → readings.now ≡ readings_below image geometry.slots → IsSlotsFault geometry image fault) }
+{
+    let Ok(live) = live_slots(alloc, readings) else {
+        return Err(Fault::OutOfMemory);
+    };
+    let Ok(places) = places_of(alloc, live.as_slice()) else {
+        return Err(Fault::OutOfMemory);
+    };
+    if places.len() != live.len() || !are_fit(readings) {
+        match find_bad(alloc, geometry, readings) {
+            Ok(()) => {}
+            Err(fault) => return Err(fault),
+        }
+    }
+    match free_slots(alloc, readings) {
+        Ok(free) => Ok(Held { free, live, places }),
+        Err(_) => Err(Fault::OutOfMemory),
+    }
+}
+
+// The place of each live slot by its key. Of two slots with one key the later one has its place there.
+fn places_of(alloc: Global, live: &[LiveSlot]) -> Result<BTreeMap<Key, usize, Global>, AllocError>
+    ensures { IfOk result (λ places. IsFromIterResult key_cmp (placed 0 live.now) places) }
+{
+    let mut pairs = Vec::with_capacity(alloc, live.len())?;
+    for place in 0..live.len() {
+        pairs.push((live[place].key, place))?;
+    }
+    collected(alloc, pairs)
+}
+
+fn collected(
+    alloc: Global,
+    pairs: Vec<(Key, usize)>,
+) -> Result<BTreeMap<Key, usize, Global>, AllocError>
+    ensures { IfOk result (λ places. IsFromIterResult key_cmp pairs.items places) }
+{
+    pairs.into_iter().collect(alloc)
+}
+
+// Whether each slot holds by itself what it should.
+fn are_fit(readings: &[SlotReading]) -> bool
+    ensures { IsTrue result ↔ All (λ reading. is_unfit reading.found ≡ false) readings.now }
+{
+    readings.iter().all(|reading| !reading.found.is_unfit())
+}
+
+// Which slots are free, where none is bad.
+fn free_slots(alloc: Global, readings: &[SlotReading]) -> Result<Vec<bool>, AllocError>
+    ensures { IfOk result (λ free. (image : Image) → AreReadings image readings.now → free.items ≡ free_below image (length readings.now)) }
+{
+    let mut free = Vec::with_capacity(alloc, readings.len())?;
+    for slot in 0..readings.len() {
+        free.push(!readings[slot].found.is_live())?;
+    }
+    Ok(free)
+}
+
+// Fails with the lowest bad slot.
+fn find_bad(alloc: Global, geometry: Geometry, readings: &[SlotReading]) -> Result<(), Fault>
+    requires { length readings.now ≡ geometry.slots }
+    ensures good { OnOk result ((image : Image) → readings.now ≡ readings_below image geometry.slots → bad_below image geometry.slots ≡ None) }
+    ensures fault { IfErr result (λ fault. (image : Image) → readings.now ≡ readings_below image geometry.slots → IsSlotsFault geometry image fault) }
+{
+    let mut seen = BTreeSet::new(alloc);
+    for slot in 0..geometry.slots() {
+        match visit(geometry, slot, &readings[slot as usize].found, &mut seen) {
+            Ok(()) => {}
+            Err(fault) => return Err(fault),
+        }
+    }
+    Ok(())
+}
+
+// Fails where the slot is bad that holds this. Its key joins those of the slots before.
+fn visit(
+    geometry: Geometry,
+    slot: u64,
+    found: &SlotContent,
+    seen: &mut BTreeSet<Key>,
+) -> Result<(), Fault>
+    requires { slot < geometry.slots }
+    ensures keys { OnOk result ((image : Image) → found.now ≡ found_in image slot → HasKeys image slot (contains key_cmp seen.old) → HasKeys image (slot + 1) (contains key_cmp seen.new)) }
+    ensures good { OnOk result ((image : Image) → found.now ≡ found_in image slot → HasKeys image slot (contains key_cmp seen.old) → is_bad image slot ≡ false) }
+    ensures fault { IfErr result (λ fault. (image : Image) → found.now ≡ found_in image slot → HasKeys image slot (contains key_cmp seen.old) → IsVisitFault image geometry.places slot fault) }
+{
+    match found {
+        SlotContent::Free => Ok(()),
+        SlotContent::Live(key) => match seen.insert(*key) {
+            Ok(true) => Ok(()),
+            Ok(false) => Err(Fault::Damaged(geometry.places() + slot)),
+            Err(_) => Err(Fault::OutOfMemory),
+        },
+        SlotContent::Bad => Err(Fault::Damaged(geometry.places() + slot)),
+    }
+}
