@@ -38,7 +38,7 @@ use Rattle.device_invariant.proofs.Words.{word-within}
 use Rattle.session_steps.specs.Opening.{Begins, HasFound}
 use Rattle.recovery.specs.Opened.{HasOpened, Examined, free_in}
 use Rattle.recovery.specs.Slots.{free_below}
-use Rattle.recovery.proofs.Lives.{is, ruled-size}
+use Rattle.recovery.proofs.Lives.{is}
 use Rattle.recovery.specs.declared.rows.LiveSlot.{LiveSlot}
 use Rattle.room.specs.declared.volatile.VolatileState.{VolatileState}
 use Rattle.room.specs.declared.room.Room.{Room}
@@ -232,9 +232,6 @@ module _ (old new : Device) (layout : Layout) (r : Record) (next : ℕ) (free : 
 module _ (old : Device) (layout : Layout) (r : Record) (gaps : Option (List Gap)) (free : List Bool) (live : List LiveSlot) (ex : Examined (image_of old) layout r gaps free live) where
   rules : IsRuledBy layout r (image_of old)
   rules = (is (image_of old) layout r gaps free live ex).rules
-
-  pub examined-size : old.words ≡ total_words layout
-  examined-size = ruled-size old layout r rules
 
   pub examined-free : free ≡ free_in (image_of old)
   unfolding free_below

@@ -14,7 +14,7 @@ use Rattle.cycle_simulation.specs.Closing.{ClosesAs}
 use Rattle.room.specs.declared.volatile.VolatileState.{VolatileState}
 use Rattle.room.specs.Committing.{Shows}
 use Rattle.room.specs.Steps.{ShowsSome}
-use Rattle.room.specs.Closing.{IsDonePart, IsFailedPart, IsLastPart}
+use Rattle.room.specs.Closing.{ClosePhaseDone, ClosePhaseFailed, CloseCovered}
 
 -- what may be left now may be left within a close
 pub stands-closing : (c : VolatileState) (device : Device) (q : State) → Shows c device q → (image : Image) → MayLeave device image → StandsClosing q image
@@ -27,14 +27,14 @@ closes_trans : (p q r : State) → ClosesAs p q → ClosesAs q r → ClosesAs p 
 closes_trans p q r a b = record { number = b.number ∙ a.number; within = λ image s. a.within image (b.within image s); after_it = λ image s. a.after_it image (b.after_it image s) }
 
 -- nothing is done
-pub part_refl : (c : VolatileState) (device : Device) → IsOrderly device → IsDonePart c c device device
+pub part_refl : (c : VolatileState) (device : Device) → IsOrderly device → ClosePhaseDone c c device device
 part_refl c device orderly = record {
   no_failure = refl;
   goes_on = λ q shown works. (q, record { shows = shown; works = works; closes = closes_refl q; images = leaves_refl device (StandsClosing q) orderly (stands-closing c device q shown) });
 }
 
-module _ (old mid new : VolatileState) (before between now : Device) (a : IsDonePart old mid before between) where
-  pub part_trans : IsDonePart mid new between now → IsDonePart old new before now
+module _ (old mid new : VolatileState) (before between now : Device) (a : ClosePhaseDone old mid before between) where
+  pub part_trans : ClosePhaseDone mid new between now → ClosePhaseDone old new before now
   part_trans b = record {
     no_failure = b.no_failure ∙ a.no_failure;
     goes_on = λ q shown works.
@@ -50,7 +50,7 @@ module _ (old mid new : VolatileState) (before between now : Device) (a : IsDone
         );
   }
 
-  pub failed_after : (fault : Fault) → IsFailedPart mid between now fault → IsFailedPart old before now fault
+  pub failed_after : (fault : Fault) → ClosePhaseFailed mid between now fault → ClosePhaseFailed old before now fault
   failed_after fault b = record {
     fault_is = b.fault_is;
     failure = omega (arith, a.no_failure, b.failure);
@@ -59,7 +59,7 @@ module _ (old mid new : VolatileState) (before between now : Device) (a : IsDone
         leaves_trans first.1.images (leaves_weaken first.1.closes.within (b.images first.0 first.1.shows first.1.works));
   }
 
-  pub last_after : IsLastPart mid between now → IsLastPart old before now
+  pub last_after : CloseCovered mid between now → CloseCovered old before now
   last_after b = record {
     no_failure = b.no_failure ∙ a.no_failure;
     images = λ q shown works.

@@ -1,8 +1,8 @@
 -- The number of the last record of a close, why one is refused, and the close as a whole.
-use Rattle.std.proofs.Common.{◌≡◌, inl, inr, ℕ, ◌+◌, ◌^◌, ◌<◌, ◌≤◌, Bool, true, false, cond, refl, ◌∙◌, ap, subst, arith}
+use Rattle.std.proofs.Common.{◌≡◌, inl, inr, ℕ, ◌+◌, ◌^◌, ◌<◌, Bool, true, false, cond, refl, ◌∙◌, ap, subst, arith}
 use Rattle.std.proofs.Math.Bridge.{le_prop}
 use Rattle.std.proofs.Math.Logic.{∥∥₁_elim}
-use Rattle.std.proofs.lemmas.Bool.{le-leb, leb-true}
+use Rattle.std.proofs.lemmas.Bool.{leb-true}
 use Rattle.std.specs.Prelude.{Option, Some, None, Result, Ok, Err, IfErr, OnOk, is_some, nat_le, if◌then◌else◌}
 use Rattle.std.specs.Option.{option_or}
 use Rattle.base.specs.declared.fault.Fault.{Fault}
@@ -18,7 +18,7 @@ use Rattle.group_commit.specs.Cycles.{Cycling}
 use Rattle.room.specs.declared.volatile.VolatileState.{VolatileState}
 use Rattle.room.specs.Committing.{HoldsCycle, Shows}
 use Rattle.room.specs.Steps.{ShowsSome}
-use Rattle.room.specs.Closing.{IsClosingRefusal, IsDonePart, IsFailedPart, IsLastPart}
+use Rattle.room.specs.Closing.{IsClosingRefusal, ClosePhaseDone, ClosePhaseFailed, CloseCovered}
 use Rattle.room.proofs.CloseParts.{stands-closing, failed_after, last_after}
 
 -- ---- the number of the last record
@@ -54,9 +54,6 @@ fault-of true past works = absurd (cc works)
 fault-of false true works = refl
 fault-of false false works = refl
 
-fault-past : (q : State) → q.failed ≡ false → 2 ^ 62 ≤ closing_gate q → closing_fault q ≡ Some TimestampsOut
-fault-past q works past = fault-of q.failed (nat_le (2 ^ 62) (closing_gate q)) works ∙ ap (λ (b : Bool). cond b (Some TimestampsOut) None) (le-leb (2 ^ 62) (closing_gate q) past)
-
 not-past : (n : ℕ) → n < 2 ^ 62 → nat_le (2 ^ 62) n ≡ false
 not-past n less = by_test (nat_le (2 ^ 62) n) refl
   where
@@ -72,39 +69,35 @@ module _ (c : VolatileState) (before : Device) (gate : ℕ) (is : gate ≡ c.ses
   pub unmoved : IsOrderly before → (q : State) → Shows c before q → q.failed ≡ false → LeavesOnly before before (StandsClosing q)
   unmoved orderly q shown works = leaves_refl before (StandsClosing q) orderly (stands-closing c before q shown)
 
-  -- no number is left
-  pub refused-past : 2 ^ 62 ≤ gate → (q : State) → Shows c before q → q.failed ≡ false → IsClosingRefusal q before before TimestampsOut
-  refused-past past q shown works = inl (fault-past q works (omega (arith, past, is, gate-is c before q shown)), refl)
-
   module _ (below : gate < 2 ^ 62) where
     pub may-close : (q : State) → Shows c before q → q.failed ≡ false → closing_fault q ≡ None
     may-close q shown works = fault-none q works (omega (arith, below, is, gate-is c before q shown))
 
     -- a part fails
-    pub refused-part : (now : Device) (fault : Fault) → IsFailedPart c before now fault → (q : State) → Shows c before q → q.failed ≡ false → IsClosingRefusal q before now fault
+    pub refused-part : (now : Device) (fault : Fault) → ClosePhaseFailed c before now fault → (q : State) → Shows c before q → q.failed ≡ false → IsClosingRefusal q before now fault
     refused-part now fault part q shown works = inr (may-close q shown works, part.fault_is, part.failure)
 
     -- ---- the close as a whole
 
-    module _ (new : VolatileState) (between : Device) (done : IsDonePart c new before between) where
+    module _ (new : VolatileState) (between : Device) (done : ClosePhaseDone c new before between) where
       pub numbered-last : new.cycle ≡ None → ∥ ShowsSome c before ∥₁ → new.sessions.numbers.record.gate + 1 < 2 ^ 62
       numbered-last rests some = ∥∥₁_elim some le_prop (λ shown.
           let at = done.goes_on shown.0 shown.1 shown.2 in
           let last : closing_gate at.0 ≡ new.sessions.numbers.record.gate + 1 = gate-is new between at.0 at.1.shows ∙ ap (λ (o : Option Cycling). new.sessions.numbers.record.gate + (if is_some o then 2 else 1)) rests in
           omega (arith, below, is, gate-is c before shown.0 shown.1, at.1.closes.number, last))
 
-      module _ (now : Device) (result : Result (Unit {0}) Fault) (ok : OnOk result (IsLastPart new between now)) (err : IfErr result (IsFailedPart new between now)) where
+      module _ (now : Device) (result : Result (Unit {0}) Fault) (ok : OnOk result (CloseCovered new between now)) (err : IfErr result (ClosePhaseFailed new between now)) where
         pub images-last : (q : State) → Shows c before q → q.failed ≡ false → LeavesOnly before now (StandsClosing q)
         images-last = by result ok err
           where
-            by : (r : Result (Unit {0}) Fault) → OnOk r (IsLastPart new between now) → IfErr r (IsFailedPart new between now) → (q : State) → Shows c before q → q.failed ≡ false → LeavesOnly before now (StandsClosing q)
+            by : (r : Result (Unit {0}) Fault) → OnOk r (CloseCovered new between now) → IfErr r (ClosePhaseFailed new between now) → (q : State) → Shows c before q → q.failed ≡ false → LeavesOnly before now (StandsClosing q)
             by (Ok x) last failed = (last_after c new new before between now done last).images
             by (Err fault) last failed = (failed_after c new new before between now done fault failed).images
 
         pub refused-last : IfErr result (λ fault. (q : State) → Shows c before q → q.failed ≡ false → IsClosingRefusal q before now fault)
         refused-last = by result err
           where
-            by : (r : Result (Unit {0}) Fault) → IfErr r (IsFailedPart new between now) → IfErr r (λ fault. (q : State) → Shows c before q → q.failed ≡ false → IsClosingRefusal q before now fault)
+            by : (r : Result (Unit {0}) Fault) → IfErr r (ClosePhaseFailed new between now) → IfErr r (λ fault. (q : State) → Shows c before q → q.failed ≡ false → IsClosingRefusal q before now fault)
             by (Ok x) failed = tt
             by (Err fault) failed = refused-part now fault (failed_after c new new before between now done fault failed)
 

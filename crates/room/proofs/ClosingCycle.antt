@@ -53,7 +53,7 @@ use Rattle.session_steps.proofs.Reading.{words-are}
 use Rattle.room.specs.declared.volatile.VolatileState.{VolatileState}
 use Rattle.room.specs.Committing.{HoldsCycle, Shows}
 use Rattle.room.specs.Steps.{ShowsSome}
-use Rattle.room.specs.Closing.{IsFailedPart, IsLastPart, left_at, ticks_left}
+use Rattle.room.specs.Closing.{ClosePhaseFailed, CloseCovered, left_at, ticks_left}
 use Rattle.room.proofs.Advancing.{found-any, any-has}
 use Rattle.room.proofs.Closes.{gate-is}
 use Rattle.room.proofs.CloseParts.{stands-closing}
@@ -328,15 +328,15 @@ module _ (c : VolatileState) (before now : Device) (cycle : Cycling) (so_far : I
           let begins = replacing_begun layout old (last_record c) come.between next in
           images_on layout (last_record c) cycle.writing come.between now new come.run cycle.writing old refl refl (images_failed old cycle.writing now new orderly orderly' fails (come.run.replaces old begins)) begins))
 
-      pub fails-then : (fault : Fault) → fault ≡ DeviceFault → IsFailedPart c before new fault
+      pub fails-then : (fault : Fault) → fault ≡ DeviceFault → ClosePhaseFailed c before new fault
       fails-then fault is = record { fault_is = is; failure = omega (arith, so_far.no_failure, ap (λ (d : Device). d.failures) fails); images = images-at cycle.stage so_far.come }
 
   -- ---- the end
 
-  pub ends : cycle.writing.stage ≡ Done → IsLastPart c before now
+  pub ends : cycle.writing.stage ≡ Done → CloseCovered c before now
   ends done = by cycle.stage so_far.come
     where
-      by : (stage : CycleStage) → HasCome c lines before now cycle.writing stage → IsLastPart c before now
+      by : (stage : CycleStage) → HasCome c lines before now cycle.writing stage → CloseCovered c before now
       by (FlushLines count from) come = let clash : StoreBody 1 ≡ Done = sym (ap (λ (p : Progress). p.stage) come.1) ∙ done in absurd (cc clash)
       by WriteRecord come =
           let layout = c.sessions.numbers.geometry in

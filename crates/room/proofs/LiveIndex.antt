@@ -1,21 +1,23 @@
 -- The index of the versions that an opening found live.
-use Rattle.std.proofs.Common.{◌≡◌, ◌⊎◌, inl, inr, ℕ, zero, suc, ◌+◌, ◌<◌, Bool, true, false, cond, List, [], ◌∷◌, ◌++◌, refl, sym, ◌∙◌, ap, subst, arith, add-one}
-use Rattle.std.specs.Prelude.{Some, None, is_some, slice_get}
+use Rattle.std.proofs.Common.{◌≡◌, ◌⊎◌, inl, inr, ℕ, zero, suc, ◌+◌, ◌<◌, Bool, true, false, cond, List, [], ◌∷◌, map, refl, sym, ◌∙◌, ap, subst, arith, add-one}
+use Rattle.std.specs.Prelude.{Option, Some, is_some, slice_get, unwrap_or}
 use Rattle.std.specs.List.{Contains}
 use Rattle.std.proofs.lemmas.Bool.{true≢false}
 use Rattle.std.proofs.lemmas.Option.{slice_get-get_or}
 use Rattle.std.proofs.lemmas.List.Elements.{Contains-append_left, Contains-append_right, Contains-append_cases}
 use Rattle.base.specs.declared.key.Key.{Key}
-use Rattle.base.specs.Keys.{key_eq}
+use Rattle.base.specs.Keys.{key_eq, lookup_key}
 use Rattle.base.specs.Images.{Image, key_of}
 use Rattle.base.proofs.Keys.{key_eq-true, key_eq-same}
 use Rattle.index.specs.declared.entry.Entry.{Entry}
-use Rattle.index.specs.Entries.{blank, entry_at, Sets}
+use Rattle.index.specs.Entries.{blank, entry_at, ArePlaced}
 use Rattle.recovery.specs.declared.rows.LiveSlot.{LiveSlot}
 use Rattle.recovery.specs.Slots.{is_free, free_below}
 use Rattle.recovery.specs.Live.{live_at, live_below}
 use Rattle.recovery.proofs.LiveRows.{live-none, live-live, live-free, free-is, free-size}
+use Rattle.recovery.specs.Held.{HavePlaces}
 use Rattle.session_steps.specs.Opening.{HasFound}
+use Rattle.room.specs.Opening.{entry_of}
 
 -- ---- elements
 
@@ -79,40 +81,62 @@ pub record HasListed (live : List LiveSlot) (index : List (Key × Entry)) : Type
   pub newest : (key : Key) (slot : ℕ) → (entry_at index key).newest ≡ Some slot → (s : LiveSlot) × Contains live s × (s.slot ≡ slot) × (s.key ≡ key)
   pub each : (s : LiveSlot) → Contains live s → is_some (entry_at index s.key).newest ≡ true
 
-pub listed-none : (index : List (Key × Entry)) → ((key : Key) → entry_at index key ≡ blank) → HasListed [] index
-listed-none index none = record {
-  nothing_else = λ key. subst IsNewestAlone (sym (none key)) refl;
-  newest = λ key slot at. let nothing : None ≡ Some slot = sym (ap (λ (e : Entry). e.newest) (none key)) ∙ at in absurd (cc nothing);
-  each = λ s c. absurd (none-in s c);
-}
-
-pub listed-more : (live : List LiveSlot) (s : LiveSlot) (old new : List (Key × Entry)) → HasListed live old → Sets old new s.key (record (entry_at old s.key) { newest = Some s.slot; ended = false }) → HasListed (live ++ s ∷ []) new
-listed-more live s old new was sets = record {
-  nothing_else = λ key. subst IsNewestAlone (sym (sets key)) (alone key (key_eq s.key key));
-  newest = λ key slot at. from key slot (key_eq s.key key) refl (sym (ap (λ (e : Entry). e.newest) (sets key)) ∙ at);
-  each = λ x c. subst (λ (e : Entry). is_some e.newest ≡ true) (sym (sets x.key)) (has x (Contains-append_cases live (s ∷ []) x c) (key_eq s.key x.key) refl);
+one-more : (t : LiveSlot) (live : List LiveSlot) → HasListed live (map entry_of live) → HasListed (t ∷ live) (map entry_of (t ∷ live))
+one-more t live rest = record {
+  nothing_else = λ key. by key (key_eq t.key key);
+  newest = λ key slot at. from key slot (key_eq t.key key) refl at;
+  each = λ s c. has s c (key_eq t.key s.key) refl;
 }
   where
-    told : Entry
-    told = record (entry_at old s.key) { newest = Some s.slot; ended = false }
+    by : (key : Key) (b : Bool) → IsNewestAlone (unwrap_or (cond b (Some (entry_of t).1) (lookup_key (map entry_of live) key)) blank)
+    by key true = refl
+    by key false = rest.nothing_else key
 
-    alone : (key : Key) (b : Bool) → IsNewestAlone (cond b told (entry_at old key))
-    alone key true = ap (λ (e : Entry). let x : Entry = record e { newest = Some s.slot; ended = false } in x) (was.nothing_else s.key)
-    alone key false = was.nothing_else key
+    from : (key : Key) (slot : ℕ) (b : Bool) → key_eq t.key key ≡ b → (unwrap_or (cond b (Some (entry_of t).1) (lookup_key (map entry_of live) key)) blank).newest ≡ Some slot → (s : LiveSlot) × Contains (t ∷ live) s × (s.slot ≡ slot) × (s.key ≡ key)
+    from key slot true is at = (t, Contains-append_left (t ∷ []) live t (in-one t), cc at, key_eq-true t.key key is)
+    from key slot false is at = let s = rest.newest key slot at in (s.0, Contains-append_right (t ∷ []) live s.0 s.1, s.2, s.3)
 
-    from : (key : Key) (slot : ℕ) (b : Bool) → key_eq s.key key ≡ b → (cond b told (entry_at old key)).newest ≡ Some slot → (x : LiveSlot) × Contains (live ++ s ∷ []) x × (x.slot ≡ slot) × (x.key ≡ key)
-    from key slot true is at = (s, Contains-append_right live (s ∷ []) s (in-one s), cc at, key_eq-true s.key key is)
-    from key slot false is at = let x = was.newest key slot at in (x.0, Contains-append_left live (s ∷ []) x.0 x.1, x.2, x.3)
+    has : (s : LiveSlot) → Contains (t ∷ live) s → (b : Bool) → key_eq t.key s.key ≡ b → is_some (unwrap_or (cond b (Some (entry_of t).1) (lookup_key (map entry_of live) s.key)) blank).newest ≡ true
+    has s c true is = refl
+    has s c false is = elim (Contains-append_cases (t ∷ []) live s c) [
+      | inl here ↦ absurd (true≢false (sym (ap (λ (x : LiveSlot). key_eq t.key x.key) (sym (one-in t s here)) ∙ key_eq-same t.key) ∙ is))
+      | inr later ↦ rest.each s later
+    ]
 
-    has : (x : LiveSlot) → Contains live x ⊎ Contains (s ∷ []) x → (b : Bool) → key_eq s.key x.key ≡ b → is_some (cond b told (entry_at old x.key)).newest ≡ true
-    has x c true is = refl
-    has x (inl earlier) false is = was.each x earlier
-    has x (inr here) false is = absurd (true≢false (sym (ap (λ (y : LiveSlot). key_eq s.key y.key) (sym (one-in s x here)) ∙ key_eq-same s.key) ∙ is))
+listed : (live : List LiveSlot) → HasListed live (map entry_of live)
+listed [] = record {
+  nothing_else = λ key. refl;
+  newest = λ key slot at. absurd (cc at);
+  each = λ s c. absurd (none-in s c);
+}
+listed (t ∷ live) = one-more t live (listed live)
+
+-- ---- their places
+
+get-entry : (live : List LiveSlot) (k : ℕ) (s : LiveSlot) → slice_get live k ≡ Some s → slice_get (map entry_of live) k ≡ Some (entry_of s)
+get-entry [] k s at = absurd (cc at)
+get-entry (t ∷ live) zero s at = let same : t ≡ s = cc at in λ i. Some (entry_of (same i))
+get-entry (t ∷ live) (suc k) s at = get-entry live k s at
+
+get-slot : (live : List LiveSlot) (k : ℕ) (key : Key) (entry : Entry) → slice_get (map entry_of live) k ≡ Some (key, entry) → (s : LiveSlot) × (slice_get live k ≡ Some s) × (s.key ≡ key)
+get-slot [] k key entry at = absurd (cc at)
+get-slot (t ∷ live) zero key entry at = (t, refl, ap (λ (o : Option (Key × Entry)). (unwrap_or o (entry_of t)).0) at)
+get-slot (t ∷ live) (suc k) key entry at = get-slot live k key entry at
+
+pub are-placed : (live : List LiveSlot) (places : List (Key × ℕ)) → HavePlaces live places → ArePlaced places (map entry_of live)
+are-placed live places has = record {
+  there = λ key place found.
+      let s = has.there key place found in
+      (record blank { newest = Some s.0.slot }, get-entry live place s.0 s.1 ∙ (λ i. Some (s.2 i, record blank { newest = Some s.0.slot })));
+  once = λ key place entry at.
+      let s = get-slot live place key entry at in
+      ap (lookup_key places) (sym s.2) ∙ has.once s.0 place s.1;
+}
 
 -- ---- all of them
 
-pub listed-found : (image : Image) (n : ℕ) (live : List LiveSlot) (index : List (Key × Entry)) → live ≡ live_below image n → HasListed live index → HasFound image (free_below image n) n index
-listed-found image n live index are listed = record {
+has-found : (image : Image) (n : ℕ) (live : List LiveSlot) (index : List (Key × Entry)) → live ≡ live_below image n → HasListed live index → HasFound image (free_below image n) n index
+has-found image n live index are listed = record {
   nothing_else = listed.nothing_else;
   newest = λ key slot at.
       let x = listed.newest key slot at in
@@ -125,3 +149,6 @@ listed-found image n live index are listed = record {
   where
     told : (slot : ℕ) → slot < n → slice_get (free_below image n) slot ≡ Some (is_free image slot)
     told slot lt = slice_get-get_or (free_below image n) slot false (omega (arith, lt, free-size image n)) ∙ ap (λ (b : Bool). Some b) (free-is image n slot false (free_below image n) refl lt)
+
+pub listed-found : (image : Image) (n : ℕ) (live : List LiveSlot) (index : List (Key × Entry)) → live ≡ live_below image n → index ≡ map entry_of live → HasFound image (free_below image n) n index
+listed-found image n live index are is = has-found image n live index are (subst (HasListed live) (sym is) (listed live))

@@ -39,7 +39,7 @@ use Rattle.session_steps.proofs.Stamped.{found-all, one-at}
 use Rattle.room.specs.declared.volatile.VolatileState.{VolatileState}
 use Rattle.room.specs.Committing.{HoldsCycle, Shows}
 use Rattle.room.specs.Steps.{ShowsSome}
-use Rattle.room.specs.Closing.{IsDonePart, IsFailedPart, unstamped_session}
+use Rattle.room.specs.Closing.{ClosePhaseDone, ClosePhaseFailed, unstamped_session}
 use Rattle.room.proofs.CloseParts.{device-fault}
 
 -- ---- how many writes are left
@@ -209,7 +209,7 @@ module _ (old : VolatileState) (new : Sessions) (before now : Device) (n : ℕ) 
   may : (q : State) → Shows old before q → q.failed ≡ false → refusal q (step.Stamp n) ≡ None
   may q shown works = unrefused old.sessions before q n shown.shown works next
 
-  pub stamp-done : ((fault : Fault) → r ≢ Refused fault) → IsDonePart old after before now
+  pub stamp-done : ((fault : Fault) → r ≢ Refused fault) → ClosePhaseDone old after before now
   stamp-done un = record {
     no_failure = ∥∥₁_elim some (ℕ_set _ _) (λ shown. none-failed (steps shown.0 shown.1.shown shown.2).1.effect (un DeviceFault));
     goes_on = λ q shown works.
@@ -232,7 +232,7 @@ module _ (old : VolatileState) (new : Sessions) (before now : Device) (n : ℕ) 
         );
   }
 
-  pub stamp-failed : (fault : Fault) → r ≡ Refused fault → IsFailedPart old before now fault
+  pub stamp-failed : (fault : Fault) → r ≡ Refused fault → ClosePhaseFailed old before now fault
   stamp-failed fault told = record {
     fault_is = is_device;
     failure = ∥∥₁_elim some le_prop (λ shown. (steps shown.0 shown.1.shown shown.2).1.effect.failure.cause (told ∙ ap (λ (f : Fault). Refused f) is_device));

@@ -22,7 +22,7 @@ use Rattle.session_steps.specs.declared.sessions.Sessions.{Sessions}
 use Rattle.room.specs.declared.volatile.VolatileState.{VolatileState}
 use Rattle.room.specs.Committing.{HoldsCycle, Shows}
 use Rattle.room.specs.Steps.{Steps, ShowsSome, ShowsSomeIn}
-use Rattle.room.specs.Closing.{IsDonePart, IsFailedPart}
+use Rattle.room.specs.Closing.{ClosePhaseDone, ClosePhaseFailed}
 use Rattle.room.proofs.CloseParts.{device-fault}
 
 -- ---- what a tick of a cycle comes to
@@ -91,7 +91,7 @@ module _ (old new : VolatileState) (before now : Device) (reply : Reply) (busy :
       let hand = hand-of q shown in
       leaves_weaken (λ image s. closes-on.ticking q to.0 hand.0 reply image hand.1 works to.1.stepped s) to.1.effect.images
 
-  pub tick-done : ((fault : Fault) → reply ≢ Refused fault) → IsDonePart old new before now
+  pub tick-done : ((fault : Fault) → reply ≢ Refused fault) → ClosePhaseDone old new before now
   tick-done un = record {
     no_failure = ∥∥₁_elim some (ℕ_set _ _) (λ shown. none-failed (steps shown.0 shown.1 shown.2).1.effect (un DeviceFault));
     goes_on = λ q shown works.
@@ -108,7 +108,7 @@ module _ (old new : VolatileState) (before now : Device) (reply : Reply) (busy :
         );
   }
 
-  pub tick-failed : (fault : Fault) → reply ≡ Refused fault → IsFailedPart old before now fault
+  pub tick-failed : (fault : Fault) → reply ≡ Refused fault → ClosePhaseFailed old before now fault
   tick-failed fault is = record {
     fault_is = told;
     failure = ∥∥₁_elim some le_prop (λ shown. (steps shown.0 shown.1 shown.2).1.effect.failure.cause (is ∙ ap (λ (f : Fault). Refused f) told));

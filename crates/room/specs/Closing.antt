@@ -35,18 +35,18 @@ pub record GoesOnFrom (new : VolatileState) (before now : Device) (q q' : State)
   pub images : LeavesOnly before now (StandsClosing q)
 
 -- part of a close is done, and nothing failed
-pub record IsDonePart (old new : VolatileState) (before now : Device) : Type 0 where
+pub record ClosePhaseDone (old new : VolatileState) (before now : Device) : Type 0 where
   pub no_failure : HasNoFailure before now
   pub goes_on : (q : State) → Shows old before q → q.failed ≡ false → (q' : State) × GoesOnFrom new before now q q'
 
 -- an operation failed in it
-pub record IsFailedPart (old : VolatileState) (before now : Device) (fault : Fault) : Type 0 where
+pub record ClosePhaseFailed (old : VolatileState) (before now : Device) (fault : Fault) : Type 0 where
   pub fault_is : fault ≡ DeviceFault
   pub failure : before.failures < now.failures
   pub images : (q : State) → Shows old before q → q.failed ≡ false → LeavesOnly before now (StandsClosing q)
 
 -- all that was drawn is covered: a crash meanwhile left what a close may leave, and now leaves what one leaves
-pub record IsLastPart (old : VolatileState) (before now : Device) : Type 0 where
+pub record CloseCovered (old : VolatileState) (before now : Device) : Type 0 where
   pub no_failure : HasNoFailure before now
   pub images : (q : State) → Shows old before q → q.failed ≡ false → LeavesOnly before now (StandsClosing q)
   pub closed : (q : State) → Shows old before q → q.failed ≡ false → (image : Image) → MayLeave now image → StandsClosed q image

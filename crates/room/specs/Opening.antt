@@ -1,12 +1,19 @@
 -- What an opening makes of a device and its volatile state.
-use Rattle.std.specs.Prelude.{◌≡◌, ℕ, Bool, List, None}
+use Rattle.std.specs.Prelude.{◌≡◌, ℕ, Bool, List, Some, None}
+use Rattle.base.specs.declared.key.Key.{Key}
 use Rattle.base.specs.Layout.{Layout}
 use Rattle.base.specs.Records.{Record}
 use Rattle.pmem.specs.Device.{Device}
 use Rattle.recovery.specs.Opened.{HasOpened}
 use Rattle.recovery.specs.declared.rows.LiveSlot.{LiveSlot}
+use Rattle.index.specs.declared.entry.Entry.{Entry}
+use Rattle.index.specs.Entries.{blank}
 use Rattle.session_steps.specs.Opening.{ShowsOpened}
 use Rattle.room.specs.declared.volatile.VolatileState.{VolatileState}
+
+-- the entry of a key whose version was found live
+abbrev pub entry_of : LiveSlot → Key × Entry
+entry_of s = (s.key, record blank { newest = Some s.slot })
 
 -- the device was opened, the sessions show each state in which a life begins on it so, and nothing is in hand
 pub record HasBegun (old new : Device) (c : VolatileState) : Type 0 where

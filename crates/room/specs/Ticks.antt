@@ -1,7 +1,10 @@
 -- What a tick that chooses a batch asks, and what it makes of a room's volatile state.
-use Rattle.std.specs.Prelude.{None}
+use Rattle.std.specs.Prelude.{Bool, true, false, None, Result, Ok, Err}
+use Rattle.base.specs.declared.fault.Fault.{Fault}
 use Rattle.base.specs.declared.step.Step.TheVariants.{Commit as CommitTick}
 use Rattle.base.specs.declared.step.Reply.{Reply}
+use Rattle.base.specs.declared.step.Reply.TheVariants.{Idle, Ticked, Refused}
+use Rattle.base.specs.declared.step.Stage.TheVariants.{Chosen}
 use Rattle.pmem.specs.Device.{Device, IsOrderly}
 use Rattle.session_steps.specs.declared.sessions.Sessions.{Sessions}
 use Rattle.room.specs.declared.volatile.VolatileState.{VolatileState}
@@ -14,3 +17,9 @@ ShowsResting sessions = (device : Device) × ShowsSomeIn sessions None device
 -- the tick is one that makes no operation, on whatever device
 abbrev pub TicksQuietly : Sessions → VolatileState → Reply → Type 0
 TicksQuietly old new reply = (device : Device) → IsOrderly device → StepsIn old None new device device CommitTick reply
+
+-- the reply of a tick that chooses: whether a batch is in hand after it, or why none is
+abbrev pub chosen_reply : Result Bool Fault → Reply
+chosen_reply (Ok true) = Ticked Chosen
+chosen_reply (Ok false) = Idle
+chosen_reply (Err fault) = Refused fault

@@ -1,3 +1,5 @@
+//! A run is many steps, and what a crash leaves of it is said of all of them: so it is proved once, and not by each caller.
+
 ghost use Rattle.std.specs.Prelude.{List, [], ◌∷◌};
 ghost use Rattle.base.specs.declared.step.Reply.{Reply};
 ghost use Rattle.base.specs.declared.step.Step.{Step};

@@ -1,4 +1,7 @@
-ghost use Rattle.std.specs.Prelude.{ℕ, List, IfOk, IfErr};
+//! An opening takes all its memory before it changes the device, so that want of memory leaves the image as it was: the index and the
+//! slots are made from what was read, and the record is written last.
+
+ghost use Rattle.std.specs.Prelude.{◌≡◌, ℕ, List, map, IfOk, IfErr};
 ghost use Rattle.base.specs.Commits.{Commit};
 ghost use Rattle.base.specs.Images.{opening_fault};
 ghost use Rattle.base.specs.Stands.{Stands};
@@ -6,21 +9,22 @@ ghost use Rattle.machine.specs.Openings.{StandsOpening};
 ghost use Rattle.pmem.specs.Words.{LeavesOnly, IsAtRest, image_of};
 ghost use Rattle.recovery.specs.Opened.{IsRefusal, MakesOpening};
 ghost use Rattle.recovery.specs.Read.{TellsLogFault};
-ghost use Rattle.room.specs.Opening.{HasBegun};
+ghost use Rattle.room.specs.Opening.{HasBegun, entry_of};
 
-use crate::indexing::index_of;
 use crate::room::Room;
 use crate::volatile::VolatileState;
 use base::fault::Fault;
+use base::key::Key;
+use index::{Entry, Index};
 use pmem::Pmem;
-use recovery::examine;
+use recovery::{LiveSlot, examine};
 use session_steps::Sessions;
 use slot_alloc::SlotAlloc;
-use std::alloc::Global;
+use std::alloc::{AllocError, Global};
 use std::thread::Threads;
 
 impl<D: Pmem + Drop + Send + Sync> Room<D> {
-    ghost use Rattle.std.specs.Prelude.{◌≡◌, ◌+◌, ◌*◌, ◌<◌, ◌≤◌, true, false, None, slice_index, MatchResult};
+    ghost use Rattle.std.specs.Prelude.{◌+◌, ◌*◌, ◌<◌, ◌≤◌, true, false, None, slice_index, MatchResult};
     ghost use Rattle.base.specs.Images.{layout_of};
     ghost use Rattle.machine.specs.Machine.{State};
     ghost use Rattle.machine.specs.Openings.{OpensAs, opened_slots, updated};
@@ -91,9 +95,9 @@ fn begin<R: Threads + Sync, D: Pmem + Sync>(
         Ok(found) => found,
         Err(fault) => return Err(fault),
     };
-    let index = match index_of(alloc, found.live.as_slice()) {
-        Ok(index) => index,
-        Err(fault) => return Err(fault),
+    let entries = match entries_of(alloc, found.live.as_slice()) {
+        Ok(entries) => entries,
+        Err(_) => return Err(Fault::OutOfMemory),
     };
     let slots = match SlotAlloc::new(alloc, found.free.as_slice()) {
         Ok(slots) => slots,
@@ -103,6 +107,24 @@ fn begin<R: Threads + Sync, D: Pmem + Sync>(
         Ok(life) => life,
         Err(fault) => return Err(fault),
     };
+    let index = Index::of(alloc, entries, life.places);
     let sessions = Sessions::open(alloc, index, slots, life.geometry, life.ruling, life.next);
     Ok(VolatileState::new(sessions))
+}
+
+// The entries of the keys whose versions were found live. It reads no slot.
+fn entries_of(alloc: Global, live: &[LiveSlot]) -> Result<Vec<(Key, Entry)>, AllocError>
+    ensures { IfOk result (λ entries. entries.items ≡ map entry_of live.now) }
+{
+    let mut entries = Vec::with_capacity(alloc, live.len())?;
+    for found in live {
+        let entry = Entry {
+            newest: Some(found.slot),
+            ended: false,
+            drawn: None,
+            last: None,
+        };
+        entries.push((found.key, entry))?;
+    }
+    Ok(entries)
 }

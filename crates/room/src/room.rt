@@ -1,3 +1,6 @@
+//! Once an operation has failed the device may hold anything of it, so each later step is refused before it reads or writes:
+//! what a crash left then stays what the next opening finds.
+
 ghost use Rattle.std.specs.Prelude.{◌≡◌, false};
 ghost use Rattle.room.specs.Steps.{ShowsAs};
 

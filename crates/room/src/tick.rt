@@ -1,19 +1,24 @@
+//! A tick makes one operation at most, so that sessions may step between any two. The choice takes all the memory that the cycle
+//! needs and makes no operation; each later tick fails only with the device.
+
 use crate::volatile::VolatileState;
+use base::batch::Batch;
 use base::fault::Fault;
 use base::step::{Reply, Stage};
-use group_commit::{Covered, Cycle, is_idle};
+use group_commit::{Cycle, is_idle};
 use pmem::Pmem;
 use std::alloc::Global;
 
 impl VolatileState {
-    ghost use Rattle.std.specs.Prelude.{◌≡◌, ◌≢◌, ◌<◌, None, IsSome};
+    ghost use Rattle.std.specs.Prelude.{◌≡◌, ◌≢◌, ◌<◌, None, Some, IsSome};
     ghost use Rattle.base.specs.declared.step.Step.TheVariants.{Commit};
     ghost use Rattle.log_area.specs.declared.stage.WritingStage.TheVariants.{Done};
+    ghost use Rattle.group_commit.specs.Cycles.{Cycling};
     ghost use Rattle.base.specs.declared.fault.Fault.{Fault};
     ghost use Rattle.base.specs.declared.step.Reply.TheVariants.{Refused};
     ghost use Rattle.room.specs.Steps.{ShowsSome, Steps};
     ghost use Rattle.session_steps.specs.Covering.{MayCoverSome, ShowsCovered};
-    ghost use Rattle.room.specs.Ticks.{ShowsResting, TicksQuietly};
+    ghost use Rattle.room.specs.Ticks.{ShowsResting, TicksQuietly, chosen_reply};
     ghost use Rattle.room.specs.Closing.{ticks_left};
 
     // One tick: the choice of a batch, or the next operation of the one in hand.
@@ -25,22 +30,26 @@ impl VolatileState {
         if self.cycle.is_some() {
             self.advance(device)
         } else {
-            self.choose(alloc)
+            match self.choose(alloc) {
+                Ok(true) => Reply::Ticked(Stage::Chosen),
+                Ok(false) => Reply::Idle,
+                Err(fault) => Reply::Refused(fault),
+            }
         }
     }
 
-    // Takes a batch in hand, unless there is nothing to do.
+    // Takes a batch in hand, unless there is nothing to do. Whether one is in hand then.
     #[inline(never)]
-    fn choose(&mut self, alloc: Global) -> Reply
+    fn choose(&mut self, alloc: Global) -> Result<bool, Fault>
         requires rests { self.old.cycle ≡ None }
         requires shown { ∥ ShowsResting self.old.sessions ∥₁ }
-        ensures step { TicksQuietly self.old.sessions self.new result }
+        ensures step { TicksQuietly self.old.sessions self.new (chosen_reply result) }
     {
         let numbers = self.sessions.numbers();
         let drawn = self.sessions.drawn();
         let swept = self.sessions.has_swept();
         if is_idle(numbers.geometry, numbers.record, numbers.next, swept, drawn) {
-            return Reply::Idle;
+            return Ok(false);
         }
         match Cycle::begin(
             alloc,
@@ -52,9 +61,9 @@ impl VolatileState {
         ) {
             Ok(cycle) => {
                 self.cycle = Some(cycle);
-                Reply::Ticked(Stage::Chosen)
+                Ok(true)
             }
-            Err(fault) => Reply::Refused(fault),
+            Err(fault) => Err(fault),
         }
     }
 
@@ -71,23 +80,25 @@ impl VolatileState {
         };
         match cycle.tick(device, self.sessions.dirty()) {
             Ok(Some(stage)) => Reply::Ticked(stage),
-            Ok(None) => match self.cycle.take() {
-                Some(done) => self.cover(done.finish()),
-                None => unreachable!(),
-            },
+            Ok(None) => Reply::Covered(self.cover()),
             Err(reason) => Reply::Refused(reason),
         }
     }
 
-    // The batch is covered: its record rules.
+    // The batch in hand is covered: its record rules.
     #[inline(never)]
-    fn cover(&mut self, covered: Covered) -> Reply
-        requires { ∥ MayCoverSome self.old.sessions covered.record ∥₁ }
-        ensures reply { result ≡ Reply.Covered covered.batch }
-        ensures cycle { self.new.cycle ≡ self.old.cycle }
-        ensures shows { ShowsCovered self.old.sessions self.new.sessions covered.record }
+    fn cover(&mut self) -> Batch
+        requires hand { IsSome self.old.cycle }
+        requires may { (cycle : Cycling) → self.old.cycle ≡ Some cycle → ∥ MayCoverSome self.old.sessions cycle.writing.target ∥₁ }
+        ensures batch { (cycle : Cycling) → self.old.cycle ≡ Some cycle → result ≡ cycle.batch }
+        ensures cycle { self.new.cycle ≡ None }
+        ensures shows { (cycle : Cycling) → self.old.cycle ≡ Some cycle → ShowsCovered self.old.sessions self.new.sessions cycle.writing.target }
     {
+        let Some(cycle) = self.cycle.take() else {
+            unreachable!()
+        };
+        let covered = cycle.finish();
         self.sessions.cover(covered.record);
-        Reply::Covered(covered.batch)
+        covered.batch
     }
 }

@@ -1,3 +1,6 @@
+//! A tick and a visit are what most steps of a life are, and they answer little: they go past the step that is asked, which is
+//! large to move.
+
 use crate::room::Room;
 use base::fault::Fault;
 use base::step::Reply;
@@ -9,7 +12,7 @@ impl<D: Pmem + Drop> Room<D> {
     ghost use Rattle.room.specs.Room.{Shows, StepsTo};
 
     /// A tick of the committer: `step` of `Step::Commit`, without moving a step.
-    #[inline(never)]
+    #[inline(always)]
     pub fn tick(&mut self) -> Reply
         ensures step { (q : State) → Shows D.state self.old q → (q' : State) × StepsTo D.state self.old self.new Commit result q q' }
     {
@@ -22,7 +25,7 @@ impl<D: Pmem + Drop> Room<D> {
     }
 
     /// A visit of the collector: `step` of `Step::Collect`, without moving a step.
-    #[inline(never)]
+    #[inline(always)]
     pub fn visit(&mut self) -> Reply
         ensures step { (q : State) → Shows D.state self.old q → (q' : State) × StepsTo D.state self.old self.new Collect result q q' }
     {

@@ -1,4 +1,4 @@
-use Rattle.std.proofs.Common.{◌≡◌, ◌<◌, ◌^◌, List, Bool, length, sym, ◌∙◌, ap, subst}
+use Rattle.std.proofs.Common.{◌≡◌, ◌<◌, ◌^◌, ℕ, List, map, Bool, length, sym, ◌∙◌, ap, subst}
 use Rattle.base.specs.declared.fault.Fault.TheVariants.{OutOfMemory}
 use Rattle.pmem.specs.Words.{image_of}
 use Rattle.recovery.specs.Slots.{free_below}
@@ -6,6 +6,12 @@ use Rattle.recovery.proofs.Lives.{is, images-refused, refusal-examined, refusal-
 use Rattle.recovery.proofs.WhatIsRead.{tells-examined}
 use Rattle.session_steps.specs.declared.sessions.Sessions.{Sessions}
 use Rattle.session_steps.specs.Opening.{HasFound, ShowsOpened}
+use Rattle.std.specs.BTreeMap.{BTreeMap}
+use Rattle.base.specs.declared.key.Key.{Key}
+use Rattle.index.specs.declared.entry.Entry.{Entry}
+use Rattle.index.specs.Entries.{ArePlaced}
+use Rattle.room.specs.Opening.{entry_of}
+use Rattle.room.proofs.LiveIndex.{are-placed, listed-found}
 use Rattle.room.proofs.Begun.{free-counted, examined-few, examined-free-now, examined-found}
 use Rattle.room.proofs.opening.begin.Goals as goal
 
@@ -18,12 +24,12 @@ returns-in-Err-clause-images g c = images-refused (g.D.Pmem.state c.args.device.
 
 -- ---- the index
 
-pub returns-in-Err-index_of-clause-log : goal.returns-in-Err-index_of-clause-log
-returns-in-Err-index_of-clause-log g c =
-    tells-examined (image_of (g.D.Pmem.state c.args.device.now)) c.in-Ok.found.geometry c.in-Ok.found.ruling c.in-Ok.found.gaps c.in-Ok.found.free.items c.in-Ok.found.live.items c.in-Ok.ensures.ok c.in-Err-index_of.fault
+pub returns-in-Err-entries_of-clause-log : goal.returns-in-Err-entries_of-clause-log
+returns-in-Err-entries_of-clause-log g c =
+    tells-examined (image_of (g.D.Pmem.state c.args.device.now)) c.in-Ok.found.geometry c.in-Ok.found.ruling c.in-Ok.found.gaps c.in-Ok.found.free.items c.in-Ok.found.live.items c.in-Ok.ensures.ok OutOfMemory
 
-pub returns-in-Err-index_of-clause-images : goal.returns-in-Err-index_of-clause-images
-returns-in-Err-index_of-clause-images g c = images-refused (g.D.Pmem.state c.args.device.now) ((g.met.D.Pmem g.world.𝓛 g.world.𝓜 g.world.𝓡 ((λ s x. x), (λ x. x), (λ x. x), λ x. x)).orderly c.args.device.now) c.requires.at_rest
+pub returns-in-Err-entries_of-clause-images : goal.returns-in-Err-entries_of-clause-images
+returns-in-Err-entries_of-clause-images g c = images-refused (g.D.Pmem.state c.args.device.now) ((g.met.D.Pmem g.world.𝓛 g.world.𝓜 g.world.𝓡 ((λ s x. x), (λ x. x), (λ x. x), λ x. x)).orderly c.args.device.now) c.requires.at_rest
 
 -- ---- the free slots
 
@@ -50,6 +56,16 @@ pub returns-in-Err-open-clause-log : goal.returns-in-Err-open-clause-log
 returns-in-Err-open-clause-log g c =
     tells-examined (image_of (g.D.Pmem.state c.args.device.now)) c.in-Ok.found.geometry c.in-Ok.found.ruling c.in-Ok.found.gaps c.in-Ok.found.free.items c.in-Ok.found.live.items c.in-Ok.ensures.ok c.in-Err-open.fault
 
+-- ---- the index
+
+pub of-index-requires : goal.of-index-requires
+of-index-requires g c =
+    let found = c.in-Ok.found in
+    let entries : c.in-Ok-entries_of.entries.items ≡ map entry_of found.live.items = c.in-Ok-entries_of.ensures ∙ ap (map entry_of) c.as_slice.ensures.value in
+    let places : c.in-Ok-open.life.places.entries ≡ found.places.entries = ap (λ (m : BTreeMap Key ℕ). m.entries) c.in-Ok-open.ensures.places in
+    subst (λ (es : List (Key × Entry)). ArePlaced c.in-Ok-open.life.places.entries es) (sym entries)
+    (subst (λ (ps : List (Key × ℕ)). ArePlaced ps (map entry_of found.live.items)) (sym places) (are-placed found.live.items found.places.entries c.in-Ok.ensures.places))
+
 -- ---- the sessions
 
 pub open-sessions-requires : goal.open-sessions-requires
@@ -74,14 +90,14 @@ returns-clause-ok g c =
       opened = c.in-Ok-open.ensures.ok;
       shows =
           let known = is (image_of old) c.in-Ok.found.geometry c.in-Ok.found.ruling c.in-Ok.found.gaps c.in-Ok.found.free.items c.in-Ok.found.live.items c.in-Ok.ensures.ok in
-          let found : HasFound (image_of new) life.free.items life.geometry.slots c.in-Ok-index_of.index =
+          let found : HasFound (image_of new) life.free.items life.geometry.slots c.of-index.result =
           examined-found old c.in-Ok.found.geometry c.in-Ok.found.ruling c.in-Ok.found.gaps c.in-Ok.found.free.items c.in-Ok.found.live.items c.in-Ok.ensures.ok new
-          life.geometry life.ruling life.next life.free.items life.live.items c.in-Ok-open.ensures.ok (free_below (image_of old) c.in-Ok.found.geometry.slots) c.in-Ok-index_of.index (sym known.free_are)
-          (λ laid. c.in-Ok-index_of.ensures.ok (image_of old) c.in-Ok.found.geometry.slots (c.as_slice.ensures.value ∙ known.live_are)) in
+          life.geometry life.ruling life.next life.free.items life.live.items c.in-Ok-open.ensures.ok (free_below (image_of old) c.in-Ok.found.geometry.slots) c.of-index.result (sym known.free_are)
+          (λ laid. listed-found (image_of old) c.in-Ok.found.geometry.slots c.in-Ok.found.live.items c.of-index.result known.live_are (c.of-index.ensures ∙ c.in-Ok-entries_of.ensures ∙ ap (map entry_of) c.as_slice.ensures.value)) in
           let slots : c.in-Ok-new.slots ≡ life.free.items = c.in-Ok-new.ensures ∙ c.as_slice-2.ensures.value
           ∙ sym (examined-free-now old c.in-Ok.found.geometry c.in-Ok.found.ruling c.in-Ok.found.gaps c.in-Ok.found.free.items c.in-Ok.found.live.items c.in-Ok.ensures.ok new life.geometry life.ruling life.next life.free.items life.live.items c.in-Ok-open.ensures.ok) in
           let shown : ShowsOpened c.open-sessions.result new life.geometry life.ruling life.next c.in-Ok-new.slots =
-          c.open-sessions.ensures new ((g.met.D.Pmem g.world.𝓛 g.world.𝓜 g.world.𝓡 ((λ s x. x), (λ x. x), (λ x. x), λ x. x)).orderly c.open.new.device) (subst (λ (l : List Bool). HasFound (image_of new) l life.geometry.slots c.in-Ok-index_of.index) (sym slots) found) in
+          c.open-sessions.ensures new ((g.met.D.Pmem g.world.𝓛 g.world.𝓜 g.world.𝓡 ((λ s x. x), (λ x. x), (λ x. x), λ x. x)).orderly c.open.new.device) (subst (λ (l : List Bool). HasFound (image_of new) l life.geometry.slots c.of-index.result) (sym slots) found) in
           subst (λ (s : Sessions). ShowsOpened s new life.geometry life.ruling life.next life.free.items) (sym c.new-2.ensures.sessions)
           (subst (λ (l : List Bool). ShowsOpened c.open-sessions.result new life.geometry life.ruling life.next l) slots shown);
       rests = c.new-2.ensures.rests;

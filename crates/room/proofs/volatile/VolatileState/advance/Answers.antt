@@ -3,7 +3,9 @@ use Rattle.std.specs.Prelude.{Option, Some}
 use Rattle.std.proofs.Math.Bridge.{le_prop}
 use Rattle.std.proofs.Math.Nat.{ℕ_set}
 use Rattle.std.proofs.Math.Logic.{∥∥₁_elim, ∥∥₁_map}
+use Rattle.base.specs.Batches.{Batch}
 use Rattle.base.specs.Records.{are_rising}
+use Rattle.base.specs.declared.step.Reply.TheVariants.{Covered}
 use Rattle.pmem.specs.Trace.{applied}
 use Rattle.dirty_table.specs.Touches.{has, lines_touched, Table}
 use Rattle.group_commit.specs.Cycles.{line_from, operation_in, reached_in, ticked_in}
@@ -39,20 +41,20 @@ returns-in-Ok-Some-clause-closer g c = λ un.
     (g.D.Pmem.state c.tick.new.device) (g.met.D.Pmem.orderly _) some.2 (c.in-Ok-Some.ensures.operation ∙ λ i. applied (operation_in (lines_touched (has c.in-Some.cycle.sessions) (c.dirty.ensures i).touches) c.in-Some.cycle) (g.D.Pmem.state c.args.device.now))
     c.in-Ok-Some.stage (sym c.in-Ok-Some.field-0-is ∙ c.in-Ok-Some.ensures.reached ∙ λ i. reached_in (lines_touched (has c.in-Some.cycle.sessions) (c.dirty.ensures i).touches) c.in-Some.cycle) c.tick.new.self (c.in-Ok-Some.ensures.ok ∙ λ i. ticked_in (lines_touched (has c.in-Some.cycle.sessions) (c.dirty.ensures i).touches) c.in-Some.cycle)))
 
-pub cover-requires : goal.cover-requires
-cover-requires g c = ∥∥₁_map (with-hand c.args.self.now.sessions c.args.self.now.cycle c.in-Some.cycle (g.D.Pmem.state c.args.device.now) c.in-Some.is c.requires.shown) (λ some.
+pub cover-requires-clause-may : goal.cover-requires-clause-may
+cover-requires-clause-may g c = λ cycle is. ∥∥₁_map (with-hand c.args.self.now.sessions c.args.self.now.cycle c.in-Some.cycle (g.D.Pmem.state c.args.device.now) c.in-Some.is c.requires.shown) (λ some.
     may-cover c.args.self.now.sessions c.in-Some.cycle (g.D.Pmem.state c.args.device.now) (g.met.D.Pmem.orderly _) some.0 some.1
     (λ done from is. subst (λ (t : Table). are_rising (lines_touched (has c.in-Some.cycle.sessions) t.touches) ≡ true) c.dirty.ensures (c.tick.ensures.rising done from is))
     (g.D.Pmem.state c.tick.new.device) (g.met.D.Pmem.orderly _) some.2 (c.in-Ok-None.ensures.operation ∙ λ i. applied (operation_in (lines_touched (has c.in-Some.cycle.sessions) (c.dirty.ensures i).touches) c.in-Some.cycle) (g.D.Pmem.state c.args.device.now))
-    (sym c.in-Ok-None.field-0-is ∙ c.in-Ok-None.ensures.reached ∙ λ i. reached_in (lines_touched (has c.in-Some.cycle.sessions) (c.dirty.ensures i).touches) c.in-Some.cycle) c.tick.new.self (c.in-Ok-None.ensures.ok ∙ λ i. ticked_in (lines_touched (has c.in-Some.cycle.sessions) (c.dirty.ensures i).touches) c.in-Some.cycle) c.finish.result.batch c.finish.result.record (c.finish.ensures.batch ∙ ap (λ (x : Cycling). x.batch) (one-hand c.take.result c.in-Some-take.done c.tick.new.self c.in-Some-take.is c.take.ensures.value)) (c.finish.ensures.record ∙ ap (λ (x : Cycling). x.writing.target) (one-hand c.take.result c.in-Some-take.done c.tick.new.self c.in-Some-take.is c.take.ensures.value)))
+    (sym c.in-Ok-None.field-0-is ∙ c.in-Ok-None.ensures.reached ∙ λ i. reached_in (lines_touched (has c.in-Some.cycle.sessions) (c.dirty.ensures i).touches) c.in-Some.cycle) c.tick.new.self (c.in-Ok-None.ensures.ok ∙ λ i. ticked_in (lines_touched (has c.in-Some.cycle.sessions) (c.dirty.ensures i).touches) c.in-Some.cycle) cycle.batch cycle.writing.target (ap (λ (x : Cycling). x.batch) (one-hand (Some cycle) cycle c.tick.new.self refl (sym is))) (ap (λ (x : Cycling). x.writing.target) (one-hand (Some cycle) cycle c.tick.new.self refl (sym is))))
 
-pub returns-in-Some-take-clause-step : goal.returns-in-Some-take-clause-step
-returns-in-Some-take-clause-step g c = λ q shows works.
+pub returns-in-Ok-None-clause-step : goal.returns-in-Ok-None-clause-step
+returns-in-Ok-None-clause-step g c = λ q shows works.
     covers c.args.self.now.sessions c.in-Some.cycle (g.D.Pmem.state c.args.device.now) (g.met.D.Pmem.orderly _) q (subst (λ (o : Option Cycling). ShowsIn c.args.self.now.sessions o (g.D.Pmem.state c.args.device.now) q) c.in-Some.is shows)
     (λ done from is. subst (λ (t : Table). are_rising (lines_touched (has c.in-Some.cycle.sessions) t.touches) ≡ true) c.dirty.ensures (c.tick.ensures.rising done from is))
     (g.D.Pmem.state c.tick.new.device) (g.met.D.Pmem.orderly _) works (c.in-Ok-None.ensures.operation ∙ λ i. applied (operation_in (lines_touched (has c.in-Some.cycle.sessions) (c.dirty.ensures i).touches) c.in-Some.cycle) (g.D.Pmem.state c.args.device.now))
-    (sym c.in-Ok-None.field-0-is ∙ c.in-Ok-None.ensures.reached ∙ λ i. reached_in (lines_touched (has c.in-Some.cycle.sessions) (c.dirty.ensures i).touches) c.in-Some.cycle) c.tick.new.self (c.in-Ok-None.ensures.ok ∙ λ i. ticked_in (lines_touched (has c.in-Some.cycle.sessions) (c.dirty.ensures i).touches) c.in-Some.cycle) c.finish.result.batch c.finish.result.record (c.finish.ensures.batch ∙ ap (λ (x : Cycling). x.batch) (one-hand c.take.result c.in-Some-take.done c.tick.new.self c.in-Some-take.is c.take.ensures.value)) (c.finish.ensures.record ∙ ap (λ (x : Cycling). x.writing.target) (one-hand c.take.result c.in-Some-take.done c.tick.new.self c.in-Some-take.is c.take.ensures.value))
-    c.cover.new.self.sessions c.cover.new.self.cycle c.cover.result c.cover.ensures.shows (c.cover.ensures.cycle ∙ c.take.ensures.after) c.cover.ensures.reply
+    (sym c.in-Ok-None.field-0-is ∙ c.in-Ok-None.ensures.reached ∙ λ i. reached_in (lines_touched (has c.in-Some.cycle.sessions) (c.dirty.ensures i).touches) c.in-Some.cycle) c.tick.new.self (c.in-Ok-None.ensures.ok ∙ λ i. ticked_in (lines_touched (has c.in-Some.cycle.sessions) (c.dirty.ensures i).touches) c.in-Some.cycle) c.tick.new.self.batch c.tick.new.self.writing.target refl refl
+    c.cover.new.self.sessions c.cover.new.self.cycle (Covered c.cover.result) (c.cover.ensures.shows c.tick.new.self refl) c.cover.ensures.cycle (ap (λ (b : Batch). Covered b) (c.cover.ensures.batch c.tick.new.self refl))
 
 pub returns-in-Err-clause-step : goal.returns-in-Err-clause-step
 returns-in-Err-clause-step g c = λ q shows works.

@@ -4,7 +4,7 @@ use Rattle.base.specs.declared.fault.Fault.{Fault}
 use Rattle.machine.specs.Machine.{State}
 use Rattle.base.proofs.Results.{reported}
 use Rattle.room.specs.Committing.{Shows}
-use Rattle.room.specs.Closing.{IsDonePart, IsClosingRefusal}
+use Rattle.room.specs.Closing.{ClosePhaseDone, IsClosingRefusal}
 use Rattle.room.proofs.CloseParts.{part_trans, failed_after, last_after, shown_after}
 use Rattle.room.proofs.Closes.{some-below, unmoved, may-close, refused-part, numbered-last, images-last, refused-last, on_ok-from}
 use Rattle.room.proofs.volatile.VolatileState.close.Goals as goal
@@ -42,25 +42,25 @@ returns-in_err-stamp_rest-clause-fault g c =
 pub cover_drawn-requires-clause-shown : goal.cover_drawn-requires-clause-shown
 cover_drawn-requires-clause-shown g c =
     let state = g.D.Pmem.state in
-    let two : IsDonePart c.args.self.now c.stamp_rest.new.self (state c.args.device.now) (state c.stamp_rest.new.device) = part_trans c.args.self.now c.finish_cycle.new.self c.stamp_rest.new.self (state c.args.device.now) (state c.finish_cycle.new.device) (state c.stamp_rest.new.device) c.in_ok-finish_cycle.ensures.ok c.in_ok-stamp_rest.ensures.ok in
+    let two : ClosePhaseDone c.args.self.now c.stamp_rest.new.self (state c.args.device.now) (state c.stamp_rest.new.device) = part_trans c.args.self.now c.finish_cycle.new.self c.stamp_rest.new.self (state c.args.device.now) (state c.finish_cycle.new.device) (state c.stamp_rest.new.device) c.in_ok-finish_cycle.ensures.ok c.in_ok-stamp_rest.ensures.ok in
     shown_after c.args.self.now c.stamp_rest.new.self c.stamp_rest.new.self (state c.args.device.now) (state c.stamp_rest.new.device) (state c.stamp_rest.new.device) two c.requires.shown
 
 pub cover_drawn-requires-clause-numbered : goal.cover_drawn-requires-clause-numbered
 cover_drawn-requires-clause-numbered g c =
     let state = g.D.Pmem.state in
-    let two : IsDonePart c.args.self.now c.stamp_rest.new.self (state c.args.device.now) (state c.stamp_rest.new.device) = part_trans c.args.self.now c.finish_cycle.new.self c.stamp_rest.new.self (state c.args.device.now) (state c.finish_cycle.new.device) (state c.stamp_rest.new.device) c.in_ok-finish_cycle.ensures.ok c.in_ok-stamp_rest.ensures.ok in
+    let two : ClosePhaseDone c.args.self.now c.stamp_rest.new.self (state c.args.device.now) (state c.stamp_rest.new.device) = part_trans c.args.self.now c.finish_cycle.new.self c.stamp_rest.new.self (state c.args.device.now) (state c.finish_cycle.new.device) (state c.stamp_rest.new.device) c.in_ok-finish_cycle.ensures.ok c.in_ok-stamp_rest.ensures.ok in
     numbered-last c.args.self.now (state c.args.device.now) c.closing_gate.result c.closing_gate.ensures c.if-closing_gate-ge-NUMBER_LIMIT.false c.stamp_rest.new.self (state c.stamp_rest.new.device) two c.in_ok-stamp_rest.ensures.rests c.requires.shown
 
 pub returns-clause-images : goal.returns-clause-images
 returns-clause-images g c =
     let state = g.D.Pmem.state in
-    let two : IsDonePart c.args.self.now c.stamp_rest.new.self (state c.args.device.now) (state c.stamp_rest.new.device) = part_trans c.args.self.now c.finish_cycle.new.self c.stamp_rest.new.self (state c.args.device.now) (state c.finish_cycle.new.device) (state c.stamp_rest.new.device) c.in_ok-finish_cycle.ensures.ok c.in_ok-stamp_rest.ensures.ok in
+    let two : ClosePhaseDone c.args.self.now c.stamp_rest.new.self (state c.args.device.now) (state c.stamp_rest.new.device) = part_trans c.args.self.now c.finish_cycle.new.self c.stamp_rest.new.self (state c.args.device.now) (state c.finish_cycle.new.device) (state c.stamp_rest.new.device) c.in_ok-finish_cycle.ensures.ok c.in_ok-stamp_rest.ensures.ok in
     images-last c.args.self.now (state c.args.device.now) c.closing_gate.result c.closing_gate.ensures c.if-closing_gate-ge-NUMBER_LIMIT.false c.stamp_rest.new.self (state c.stamp_rest.new.device) two (state c.cover_drawn.new.device) c.cover_drawn.result c.cover_drawn.ensures.ok c.cover_drawn.ensures.err
 
 pub returns-clause-ok : goal.returns-clause-ok
 returns-clause-ok g c =
     let state = g.D.Pmem.state in
-    let two : IsDonePart c.args.self.now c.stamp_rest.new.self (state c.args.device.now) (state c.stamp_rest.new.device) = part_trans c.args.self.now c.finish_cycle.new.self c.stamp_rest.new.self (state c.args.device.now) (state c.finish_cycle.new.device) (state c.stamp_rest.new.device) c.in_ok-finish_cycle.ensures.ok c.in_ok-stamp_rest.ensures.ok in
+    let two : ClosePhaseDone c.args.self.now c.stamp_rest.new.self (state c.args.device.now) (state c.stamp_rest.new.device) = part_trans c.args.self.now c.finish_cycle.new.self c.stamp_rest.new.self (state c.args.device.now) (state c.finish_cycle.new.device) (state c.stamp_rest.new.device) c.in_ok-finish_cycle.ensures.ok c.in_ok-stamp_rest.ensures.ok in
     on_ok_weaker c.cover_drawn.result (λ last. (last_after c.args.self.now c.stamp_rest.new.self c.stamp_rest.new.self (state c.args.device.now) (state c.stamp_rest.new.device) (state c.cover_drawn.new.device) two last).closed) c.cover_drawn.ensures.ok
 
 pub returns-clause-may_close : goal.returns-clause-may_close
@@ -71,11 +71,11 @@ returns-clause-may_close g c =
 pub returns-clause-no_failure : goal.returns-clause-no_failure
 returns-clause-no_failure g c =
     let state = g.D.Pmem.state in
-    let two : IsDonePart c.args.self.now c.stamp_rest.new.self (state c.args.device.now) (state c.stamp_rest.new.device) = part_trans c.args.self.now c.finish_cycle.new.self c.stamp_rest.new.self (state c.args.device.now) (state c.finish_cycle.new.device) (state c.stamp_rest.new.device) c.in_ok-finish_cycle.ensures.ok c.in_ok-stamp_rest.ensures.ok in
+    let two : ClosePhaseDone c.args.self.now c.stamp_rest.new.self (state c.args.device.now) (state c.stamp_rest.new.device) = part_trans c.args.self.now c.finish_cycle.new.self c.stamp_rest.new.self (state c.args.device.now) (state c.finish_cycle.new.device) (state c.stamp_rest.new.device) c.in_ok-finish_cycle.ensures.ok c.in_ok-stamp_rest.ensures.ok in
     on_ok_weaker c.cover_drawn.result (λ last. (last_after c.args.self.now c.stamp_rest.new.self c.stamp_rest.new.self (state c.args.device.now) (state c.stamp_rest.new.device) (state c.cover_drawn.new.device) two last).no_failure) c.cover_drawn.ensures.ok
 
 pub returns-clause-fault : goal.returns-clause-fault
 returns-clause-fault g c =
     let state = g.D.Pmem.state in
-    let two : IsDonePart c.args.self.now c.stamp_rest.new.self (state c.args.device.now) (state c.stamp_rest.new.device) = part_trans c.args.self.now c.finish_cycle.new.self c.stamp_rest.new.self (state c.args.device.now) (state c.finish_cycle.new.device) (state c.stamp_rest.new.device) c.in_ok-finish_cycle.ensures.ok c.in_ok-stamp_rest.ensures.ok in
+    let two : ClosePhaseDone c.args.self.now c.stamp_rest.new.self (state c.args.device.now) (state c.stamp_rest.new.device) = part_trans c.args.self.now c.finish_cycle.new.self c.stamp_rest.new.self (state c.args.device.now) (state c.finish_cycle.new.device) (state c.stamp_rest.new.device) c.in_ok-finish_cycle.ensures.ok c.in_ok-stamp_rest.ensures.ok in
     refused-last c.args.self.now (state c.args.device.now) c.closing_gate.result c.closing_gate.ensures c.if-closing_gate-ge-NUMBER_LIMIT.false c.stamp_rest.new.self (state c.stamp_rest.new.device) two (state c.cover_drawn.new.device) c.cover_drawn.result c.cover_drawn.ensures.ok c.cover_drawn.ensures.err

@@ -11,7 +11,7 @@ use Rattle.txn.specs.InFlight.{InFlight}
 use Rattle.group_commit.specs.Choosing.{closing_record}
 use Rattle.group_commit.specs.Cycles.{line_from, operation_in, ticked_in}
 use Rattle.session_steps.specs.declared.numbers.Numbers.{Numbers}
-use Rattle.room.specs.Closing.{IsFailedPart}
+use Rattle.room.specs.Closing.{ClosePhaseFailed}
 use Rattle.room.proofs.Closes.{some-below}
 use Rattle.room.proofs.ClosingCycle.{begins, sized, line-fits, ticks, comes-closer, fails-then, ends}
 use Rattle.room.proofs.volatile.VolatileState.cover_drawn.Goals as goal
@@ -46,7 +46,7 @@ tick-requires-clause-lines g c =
 pub returns-in_err-tick-clause-err : goal.returns-in_err-tick-clause-err
 returns-in_err-tick-clause-err g c =
     let state = g.D.Pmem.state in
-    reported c.from_residual.result _ (IsFailedPart c.args.self.now (state c.args.device.now) (state c.tick.new.device)) c.from_residual.ensures.1
+    reported c.from_residual.result _ (ClosePhaseFailed c.args.self.now (state c.args.device.now) (state c.tick.new.device)) c.from_residual.ensures.1
     (fails-then c.args.self.now (state c.args.device.now) (state c.loop-cycle.device) c.loop-cycle.cycle c.loop-cycle.invariant c.requires.rests c.requires.stamped c.requires.numbered
     (state c.tick.new.device) (g.met.D.Pmem.orderly _) (g.met.D.Pmem.orderly _) c.in_err-tick.ensures.failure _ c.in_err-tick.ensures.fault)
 

@@ -1,5 +1,5 @@
 use Rattle.std.proofs.Common.{sym, ◌∙◌}
-use Rattle.room.specs.Closing.{IsDonePart}
+use Rattle.room.specs.Closing.{ClosePhaseDone}
 use Rattle.room.proofs.CloseParts.{part_refl, part_trans, failed_after, shown_after}
 use Rattle.room.proofs.Ticked.{rests, tick-done, tick-failed}
 use Rattle.room.proofs.volatile.VolatileState.finish_cycle.Goals as goal
@@ -14,7 +14,7 @@ advance-requires-clause-shown g c =
 pub returns-in-Refused-clause-err : goal.returns-in-Refused-clause-err
 returns-in-Refused-clause-err g c =
     let state = g.D.Pmem.state in
-    let done : IsDonePart c.args.self.now c.loop-self.self (state c.args.device.now) (state c.loop-self.device) = c.loop-self.invariant in
+    let done : ClosePhaseDone c.args.self.now c.loop-self.self (state c.args.device.now) (state c.loop-self.device) = c.loop-self.invariant in
     failed_after c.args.self.now c.loop-self.self c.advance.new.self (state c.args.device.now) (state c.loop-self.device) (state c.advance.new.device) done c.in-Refused.fault
     (tick-failed c.loop-self.self c.advance.new.self (state c.loop-self.device) (state c.advance.new.device) c.advance.result (sym c.is_some.ensures ∙ c.loop-self-test.true)
     (shown_after c.args.self.now c.loop-self.self c.loop-self.self (state c.args.device.now) (state c.loop-self.device) (state c.loop-self.device) done c.requires.shown)
@@ -26,7 +26,7 @@ loop-self-smaller-in_default g c = c.advance.ensures.closer c.in_default.not-Ref
 pub loop-self-preserved-in_default : goal.loop-self-preserved-in_default
 loop-self-preserved-in_default g c =
     let state = g.D.Pmem.state in
-    let done : IsDonePart c.args.self.now c.loop-self.self (state c.args.device.now) (state c.loop-self.device) = c.loop-self.invariant in
+    let done : ClosePhaseDone c.args.self.now c.loop-self.self (state c.args.device.now) (state c.loop-self.device) = c.loop-self.invariant in
     part_trans c.args.self.now c.loop-self.self c.advance.new.self (state c.args.device.now) (state c.loop-self.device) (state c.advance.new.device) done
     (tick-done c.loop-self.self c.advance.new.self (state c.loop-self.device) (state c.advance.new.device) c.advance.result (sym c.is_some.ensures ∙ c.loop-self-test.true)
     (shown_after c.args.self.now c.loop-self.self c.loop-self.self (state c.args.device.now) (state c.loop-self.device) (state c.loop-self.device) done c.requires.shown)
@@ -38,7 +38,7 @@ loop-self-smaller g c = c.advance.ensures.closer c.in_default.not-Refused
 pub loop-self-preserved : goal.loop-self-preserved
 loop-self-preserved g c =
     let state = g.D.Pmem.state in
-    let done : IsDonePart c.args.self.now c.loop-self.self (state c.args.device.now) (state c.loop-self.device) = c.loop-self.invariant in
+    let done : ClosePhaseDone c.args.self.now c.loop-self.self (state c.args.device.now) (state c.loop-self.device) = c.loop-self.invariant in
     part_trans c.args.self.now c.loop-self.self c.advance.new.self (state c.args.device.now) (state c.loop-self.device) (state c.advance.new.device) done
     (tick-done c.loop-self.self c.advance.new.self (state c.loop-self.device) (state c.advance.new.device) c.advance.result (sym c.is_some.ensures ∙ c.loop-self-test.true)
     (shown_after c.args.self.now c.loop-self.self c.loop-self.self (state c.args.device.now) (state c.loop-self.device) (state c.loop-self.device) done c.requires.shown)
@@ -47,7 +47,7 @@ loop-self-preserved g c =
 pub loop-self-preserved-in_default-2 : goal.loop-self-preserved-in_default-2
 loop-self-preserved-in_default-2 g c =
     let state = g.D.Pmem.state in
-    let done : IsDonePart c.args.self.now c.loop-self.self (state c.args.device.now) (state c.loop-self.device) = c.loop-self.invariant in
+    let done : ClosePhaseDone c.args.self.now c.loop-self.self (state c.args.device.now) (state c.loop-self.device) = c.loop-self.invariant in
     part_trans c.args.self.now c.loop-self.self c.advance.new.self (state c.args.device.now) (state c.loop-self.device) (state c.advance.new.device) done
     (tick-done c.loop-self.self c.advance.new.self (state c.loop-self.device) (state c.advance.new.device) c.advance.result (sym c.is_some.ensures ∙ c.loop-self-test.true)
     (shown_after c.args.self.now c.loop-self.self c.loop-self.self (state c.args.device.now) (state c.loop-self.device) (state c.loop-self.device) done c.requires.shown)

@@ -1,5 +1,5 @@
 use Rattle.std.proofs.Common.{sym, ◌∙◌}
-use Rattle.room.specs.Closing.{IsDonePart}
+use Rattle.room.specs.Closing.{ClosePhaseDone}
 use Rattle.room.proofs.CloseParts.{part_refl, part_trans, failed_after, shown_after}
 use Rattle.room.proofs.Stamps.{sessions-shown, stamp-done, stamp-failed, stamp-fewer, none-left}
 use Rattle.room.proofs.volatile.VolatileState.stamp_rest.Goals as goal
@@ -38,7 +38,7 @@ loop-session-smaller-in_default-step g c =
 pub loop-session-preserved : goal.loop-session-preserved
 loop-session-preserved g c =
     let state = g.D.Pmem.state in
-    let done : IsDonePart c.loop-session.self (record { sessions = c.step.new.self; cycle = c.loop-session.self.cycle }) (state c.loop-session.device) (state c.step.new.device) =
+    let done : ClosePhaseDone c.loop-session.self (record { sessions = c.step.new.self; cycle = c.loop-session.self.cycle }) (state c.loop-session.device) (state c.step.new.device) =
     stamp-done c.loop-session.self c.step.new.self (state c.loop-session.device) (state c.step.new.device) c.in-Some.session c.step.result c.loop-session.invariant.1
     (shown_after c.args.self.now c.loop-session.self c.loop-session.self (state c.args.device.now) (state c.loop-session.device) (state c.loop-session.device) c.loop-session.invariant.0 c.requires.shown)
     (sym c.unstamped.ensures ∙ c.in-Some.is) c.step.ensures.step c.in_default-step.not-Refused in
@@ -47,7 +47,7 @@ loop-session-preserved g c =
 pub loop-session-preserved-in_default-step : goal.loop-session-preserved-in_default-step
 loop-session-preserved-in_default-step g c =
     let state = g.D.Pmem.state in
-    let done : IsDonePart c.loop-session.self (record { sessions = c.step.new.self; cycle = c.loop-session.self.cycle }) (state c.loop-session.device) (state c.step.new.device) =
+    let done : ClosePhaseDone c.loop-session.self (record { sessions = c.step.new.self; cycle = c.loop-session.self.cycle }) (state c.loop-session.device) (state c.step.new.device) =
     stamp-done c.loop-session.self c.step.new.self (state c.loop-session.device) (state c.step.new.device) c.in-Some.session c.step.result c.loop-session.invariant.1
     (shown_after c.args.self.now c.loop-session.self c.loop-session.self (state c.args.device.now) (state c.loop-session.device) (state c.loop-session.device) c.loop-session.invariant.0 c.requires.shown)
     (sym c.unstamped.ensures ∙ c.in-Some.is) c.step.ensures.step c.in_default-step.not-Refused in

@@ -1,0 +1,19 @@
+use crate::room::Room;
+use crate::usage::Usage;
+use pmem::Pmem;
+
+impl<D: Pmem + Drop> Room<D> {
+    ghost use Rattle.machine.specs.Machine.{State};
+    ghost use Rattle.room.specs.Room.{Shows};
+    ghost use Rattle.room.specs.Usage.{ShowsUsage};
+
+    /// How the slots are used. It looks at each slot and at each key, and takes no memory.
+    pub fn usage(&self) -> Usage
+        ensures { (q : State) → Shows D.state self.now q → ShowsUsage q result }
+    {
+        Usage {
+            rows: self.volatile.sessions.row_count(),
+            free: self.volatile.sessions.free_slots(),
+        }
+    }
+}
