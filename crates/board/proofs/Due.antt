@@ -1,7 +1,7 @@
 -- How far a list of commits covers what is due.
 use Rattle.std.proofs.Common.{◌≡◌, ℕ, zero, suc, ◌+◌, ◌-◌, ◌<◌, ◌≤◌, Bool, false, not, cond, List, [], ◌∷◌, ◌++◌, map, filter, take, drop, length, slice_get, slice_index_or, Option, None, Some, refl, sym, ap, ◌∙◌, arith}
 use Rattle.std.specs.List.{range_with_len}
-use Rattle.std.proofs.lemmas.List.{length-map, length-take-le, take_all, append_assoc}
+use Rattle.std.proofs.lemmas.List.{length-map, length-take-le, append_assoc}
 use Rattle.std.proofs.lemmas.List.Elements.{filter-append}
 use Rattle.std.proofs.lemmas.Option.{slice_get-map, slice_get_within, get_or_from_slice_get}
 use Rattle.std.specs.Option.{option_map}
@@ -45,15 +45,6 @@ has_it commits used t (Some c) at is =
 pub next_has : (commits : List Commit) (used : ℕ) (longs met rest : List ℕ) (t : ℕ) → used ≤ length commits → is_among longs t ≡ false → Meets commits used longs met
     → map (λ commit. commit.timestamp) commits ≡ filter (stay longs) (met ++ t ∷ rest) → (used < length commits) × ((d : Commit) → (slice_index_or commits used d).timestamp ≡ t)
 next_has commits used longs met rest t le out meets all = has_it commits used t (slice_get commits used) refl (next_due commits used longs met rest t le out meets all)
-
--- all are met where as many commits are used up as there are
-pub all_met : (commits : List Commit) (used : ℕ) (longs met : List ℕ) → used ≡ length commits → Meets commits used longs met → map (λ commit. commit.timestamp) commits ≡ filter (stay longs) met
-all_met commits used longs met is meets = ap (map (λ (commit : Commit). commit.timestamp)) (sym (take_all used commits (omega (arith, is)))) ∙ meets
-
-pub met_by_all : (commits : List Commit) (used : ℕ) (longs met : List ℕ) → used ≤ length commits → Meets commits used longs met → map (λ commit. commit.timestamp) commits ≡ filter (stay longs) met → used ≡ length commits
-met_by_all commits used longs met le meets all =
-    let time : Commit → ℕ = λ commit. commit.timestamp in
-    sym (length-take-le used commits le) ∙ (sym (length-map (take used commits) time) ∙ (ap length (meets ∙ sym all) ∙ length-map commits time))
 
 -- a list is what was met so far, the next of it, and the rest
 pub rest_of : (xs rest : List ℕ) (i d : ℕ) → i < length xs → xs ++ rest ≡ take i xs ++ slice_index_or xs i d ∷ (drop (suc i) xs ++ rest)

@@ -95,9 +95,6 @@ one_more log waits front c is some =
 pub assoc : (xs ys : List Change) (c : Change) → (xs ++ ys) ++ c ∷ [] ≡ xs ++ (ys ++ c ∷ [])
 assoc xs ys c = append_assoc xs ys (c ∷ [])
 
-pub nil_end : (xs : List Change) → xs ++ [] ≡ xs
-nil_end xs = append-nil xs
-
 pub some_more : (xs ys : List Change) → 0 < length xs → 0 < length (xs ++ ys)
 some_more xs ys some = omega (arith, length-append xs ys, some)
 

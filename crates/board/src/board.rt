@@ -1,3 +1,6 @@
+//! A change is added to the history before the shelf has it: readers go by the history, which never goes back. Where there is
+//! no memory to hand it on, it waits here, and nothing comes before it.
+
 use crate::change::{Change, Start};
 use crate::fitting::covers_due;
 use crate::history::{Book, Front, History, Naming};
@@ -33,7 +36,7 @@ impl<J: Naming> Kept<Step<J>> for Shelf<J> {
 
 /// What the one writer holds. Its drop waits for those that are reading, and readers see nothing from then on.
 #[derive(Drop)]
-pub struct Desk<J: Naming, T: Absorb<O> + Kept<O> + Drop, O: Drop, R: Wait + Drop> {
+pub struct BoardWriter<J: Naming, T: Absorb<O> + Kept<O> + Drop, O: Drop, R: Wait + Drop> {
     handle: WriteHandle<T, O, R>,
     book: Book<J>,
     // The history, with what waits, and where its list ends.
@@ -46,9 +49,10 @@ pub struct Desk<J: Naming, T: Absorb<O> + Kept<O> + Drop, O: Drop, R: Wait + Dro
 }
 
 /// The board of a history.
-pub type Board<J, R> = Desk<J, Shelf<J>, Step<J>, R>;
+pub type Board<J, R> = BoardWriter<J, Shelf<J>, Step<J>, R>;
 
-impl<J: Naming, T: Absorb<O> + Kept<O> + Drop, O: Drop, R: Wait + Drop> Model for Desk<J, T, O, R> {
+impl<J: Naming, T: Absorb<O> + Kept<O> + Drop, O: Drop, R: Wait + Drop> Model
+    for BoardWriter<J, T, O, R> {
     ghost use Rattle.board.specs.Shown as views;
 
     ghost Value = { views.Shown };
@@ -65,7 +69,7 @@ impl<J: Naming, T: Absorb<O> + Kept<O> + Drop, O: Drop, R: Wait + Drop> Model fo
     ghost invariant = { λ b. (0 < length (T.log (published b.handle))) × (b.front ≡ T.log (published b.handle) ++ map T.change (pending b.handle ++ one_or_none b.kept)) × (b.stamp ≡ last_stamp (list_of b.front)) × (b.persisted ≡ last_persisted (list_of b.front)) × (b.longs ≡ last_longs (list_of b.front)) };
 }
 
-impl<J: Naming, R: Wait + Drop> Desk<J, Shelf<J>, Step<J>, R> {
+impl<J: Naming, R: Wait + Drop> BoardWriter<J, Shelf<J>, Step<J>, R> {
     ghost use Rattle.std.specs.Prelude.{◌≡◌, ◌⊎◌, ◌↔◌, ◌<◌, ◌≤◌, length, [], Ok, Some, None, All, IsTrue, IfOk, IfErr, MatchResult, vec_capacity};
     ghost use Rattle.base.specs.declared.fault.Fault.TheVariants.{OutOfMemory};
     ghost use Rattle.base.specs.Published.{last_stamp};
@@ -85,15 +89,16 @@ impl<J: Naming, R: Wait + Drop> Desk<J, Shelf<J>, Step<J>, R> {
         longs: Longs,
         rows: &[(Key, Row)],
         readers: usize,
-    ) -> Result<(Desk<J, Shelf<J>, Step<J>, R>, Vec<Reader<J>>), Fault>
+    ) -> Result<(BoardWriter<J, Shelf<J>, Step<J>, R>, Vec<Reader<J>>), Fault>
         requires name { history ≡ J.book }
         requires readers { (0 < readers) × (readers ≤ 8) }
         ensures board { IfOk result (λ opened. opened.0 ≡ record { list = opening stamp persisted longs rows.now; waits = [] }) }
         ensures readers { IfOk result (λ opened. (0 < length opened.1.items) × (length opened.1.items ≤ readers) × All (λ reader. reader ≡ opened.0.list) opened.1.items) }
         ensures fault { IfErr result (λ fault. fault ≡ OutOfMemory) }
     {
-        let Ok(board) = Desk::alone(rt, alloc, history, stamp, persisted, longs, rows, readers)
-        else {
+        let Ok(board) = BoardWriter::alone(
+            rt, alloc, history, stamp, persisted, longs, rows, readers,
+        ) else {
             return Err(Fault::OutOfMemory);
         };
         let Ok(made) = Vec::with_capacity(alloc, readers) else {
@@ -116,7 +121,7 @@ impl<J: Naming, R: Wait + Drop> Desk<J, Shelf<J>, Step<J>, R> {
         longs: Longs,
         rows: &[(Key, Row)],
         readers: usize,
-    ) -> Result<Desk<J, Shelf<J>, Step<J>, R>, AllocError>
+    ) -> Result<BoardWriter<J, Shelf<J>, Step<J>, R>, AllocError>
         requires name { history ≡ J.book }
         requires readers { (0 < readers) × (readers ≤ 8) }
         ensures { IfOk result (λ board. board ≡ record { list = opening stamp persisted longs rows.now; waits = [] }) }
@@ -132,7 +137,7 @@ impl<J: Naming, R: Wait + Drop> Desk<J, Shelf<J>, Step<J>, R> {
         };
         let first = Shelf::new(alloc, front.again(), stamp, persisted, longs, rows)?;
         let second = Shelf::new(alloc, front.again(), stamp, persisted, longs, rows)?;
-        Ok(Desk {
+        Ok(BoardWriter {
             handle: WriteHandle::new(alloc, rt, first, second, readers)?,
             book,
             front,

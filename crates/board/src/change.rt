@@ -1,3 +1,5 @@
+//! The shelf's two copies are changed one after the other, so a change is data and no call.
+
 use base::Ts;
 use base::batch::Batch;
 use base::key::Key;

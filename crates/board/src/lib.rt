@@ -12,7 +12,7 @@ pub mod shelf;
 pub mod token;
 mod versions;
 
-pub use board::{Board, Desk, Kept};
+pub use board::{Board, BoardWriter, Kept};
 pub use history::{History, Naming};
 pub use reader::Reader;
 pub use shelf::{Shelf, Step};

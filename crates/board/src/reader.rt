@@ -1,3 +1,5 @@
+//! A reader keeps the front of all that it has seen, and compares lengths to know that what it sees goes on from there.
+
 use crate::history::{Front, Naming};
 use crate::shelf::Shelf;
 use crate::token::Token;

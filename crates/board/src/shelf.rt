@@ -1,3 +1,5 @@
+//! Rows lie below the floor and versions above it, each under its key, so a read is two look-ups however many batches are kept.
+
 ghost use Rattle.board.specs.Rules.{Ends};
 
 use crate::change::Change;

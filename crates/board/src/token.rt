@@ -1,3 +1,5 @@
+//! A token is a front and a few numbers, so it can be sent anywhere, and who learns it waits for nobody.
+
 use crate::history::{Front, Naming};
 use base::Ts;
 use base::longs::Longs;

@@ -1,3 +1,7 @@
+//! A close compares both ways: each receipt is an entry of the history, and each entry of a session has just one receipt. Of
+//! what comes out of a lock only the type is known, so nothing else says that the room under it made the steps of these
+//! sessions.
+
 ghost use Rattle.std.specs.Prelude.{◌≡◌, ◌↔◌, ◌<◌, IsTrue, All, length};
 ghost use Rattle.engine.specs.Receipts.{rises};
 ghost use Rattle.engine.specs.Agreement.{is_of_session, IsEntry, count_at, receipts_in, IsOnceAt, Agrees};

@@ -1,3 +1,6 @@
+//! The sessions are counted before the workers are told to end, so that a close that is refused for a missing session changes
+//! nothing, and that session can go on.
+
 ghost use Rattle.std.specs.Prelude.{◌≡◌, ◌↔◌, ◌≤◌, IsTrue, IsFalse, true, IfSome, IfNone};
 ghost use Rattle.engine.specs.Agreement.{IsReturned, receipts_in};
 

@@ -1,6 +1,10 @@
+//! What ends the committer stays beside the room, under its lock: whoever waits for a cover then learns why none comes. What a
+//! step makes due for another is noted there before the lock is free.
+
 ghost use Rattle.std.specs.Option.{ForSome};
 ghost use Rattle.engine.specs.Origins.{IsFrom, HasHalted};
 
+use crate::due::{Due, News};
 use crate::origin::Origin;
 use audited::{Audited, Receipt};
 use base::Ts;
@@ -12,6 +16,23 @@ use std::marker::PhantomData;
 
 /// How often in a row a worker may be refused memory before it sleeps, and whoever waits for the committer is told so.
 pub const REFUSALS: u64 = 100;
+
+/// What a worker does.
+#[derive(Clone, Copy)]
+pub enum Duty {
+    Commit,
+    Collect,
+}
+
+impl Duty {
+    /// The step that it makes.
+    pub fn step(self) -> Step {
+        match self {
+            Duty::Commit => Step::Commit,
+            Duty::Collect => Step::Collect,
+        }
+    }
+}
 
 /// What lies under the room's lock.
 #[derive(Drop)]
@@ -28,6 +49,8 @@ pub struct Desk<D: Pmem, J: Origin> {
     pub refusals: u64,
     /// What the committer was refused with, which ended it.
     halted: Option<Fault>,
+    /// What the workers have to do.
+    due: Due,
     of: PhantomData<J>,
     ghost from: { ForSome audited (IsFrom D.state J.image) },
     ghost ended: { ForSome halted (HasHalted J.image) },
@@ -50,6 +73,7 @@ impl<D: Pmem + Drop, J: Origin> Desk<D, J> {
             asleep: false,
             refusals: 0,
             halted: None,
+            due: Due::new(),
             of: PhantomData,
         }
     }
@@ -105,6 +129,33 @@ impl<D: Pmem + Drop, J: Origin> Desk<D, J> {
                 Some((reply, None))
             }
         }
+    }
+
+    /// Notes what a step was answered, and what it made due.
+    pub fn note(&mut self, reply: &Reply) {
+        let Some(audited) = &self.audited else {
+            return;
+        };
+        let geometry = audited.geometry();
+        let makes_record_due = makes_record_due(reply, &audited.status(), geometry.window());
+        let quarter = (geometry.slots() / 4).max(1);
+        self.due.note(reply, quarter);
+        if makes_record_due {
+            self.due.want_tick();
+        }
+    }
+
+    /// Whether a worker has something to do.
+    pub fn is_due(&self, duty: Duty) -> bool {
+        match duty {
+            Duty::Commit => self.due.has_tick(),
+            Duty::Collect => self.due.has_visit(),
+        }
+    }
+
+    /// Whom to tell of what was noted since the last call.
+    pub fn take_news(&mut self) -> News {
+        self.due.take_news()
     }
 
     /// Why nothing will be covered: the fault that ended the committer, or that it was refused memory too often in a row.
@@ -193,5 +244,17 @@ fn refusals_after(refusals: u64, step: &Step, kept: bool) -> u64 {
     match step {
         Step::Commit => if kept { 0 } else { refusals.saturating_add(1) },
         _ => refusals,
+    }
+}
+
+// Whether a record is due after the step though it stamped nothing: few timestamps are left, or swept gaps are to be dropped.
+fn makes_record_due(reply: &Reply, status: &Status, window: u64) -> bool {
+    match reply {
+        Reply::Drawn(_) => {
+            let left = status.dirty.saturating_sub(status.next);
+            left.saturating_mul(2) < window
+        }
+        Reply::SweepEnd => !status.gaps.as_slice().is_empty(),
+        _ => false,
     }
 }

@@ -1,4 +1,8 @@
+//! The room's lock is held while the workers are started: they find the room there, or that the engine is being closed, so that
+//! a start that fails can give the room back as it was.
+
 use crate::closing::{may_close, take_room};
+use crate::desk::Duty;
 use crate::gate::Gate;
 use crate::opening::board_of;
 use crate::origin::Origin;
@@ -7,7 +11,7 @@ use crate::shared::Shared;
 use crate::worker::spawn_worker;
 use audited::Audited;
 use base::fault::Fault;
-use base::step::{Note, Step};
+use base::step::Note;
 use board::{Board, History, Reader, Token};
 use pmem::Pmem;
 use room::Status;
@@ -76,11 +80,11 @@ impl<
 
         // The workers wait for the lock until the room is put in.
         let mut desk = shared.desk.lock(rt);
-        let committer = match spawn_worker(rt, &shared, Step::Commit, Note::Idle, committer) {
+        let committer = match spawn_worker(rt, &shared, Duty::Commit, Note::Idle, committer) {
             Ok(committer) => committer,
             Err(fault) => return Err((fault, audited)),
         };
-        let collector = match spawn_worker(rt, &shared, Step::Collect, Note::SweepEnd, collector) {
+        let collector = match spawn_worker(rt, &shared, Duty::Collect, Note::SweepEnd, collector) {
             Ok(collector) => collector,
             Err(fault) => {
                 desk.closing = true;

@@ -1,3 +1,5 @@
+//! A test holds a worker within a cycle or a sweep, which no schedule promises: so each worker asks before it goes on.
+
 use base::step::Note;
 
 /// What a worker does next.

@@ -6,6 +6,7 @@
 mod agreement;
 mod closing;
 mod desk;
+mod due;
 mod engine;
 mod gate;
 mod opening;

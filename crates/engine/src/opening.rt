@@ -1,3 +1,5 @@
+//! The tables are published before a worker runs, at the stamp of the ruling record, so the first batch goes on from them.
+
 ghost use Rattle.std.specs.Prelude.{◌≡◌, [], IfOk, IfErr};
 ghost use Rattle.base.specs.declared.fault.Fault.TheVariants.{OutOfMemory};
 ghost use Rattle.machine.specs.Machine.{State};

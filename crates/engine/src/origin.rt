@@ -1,3 +1,6 @@
+//! The image stands in the type, since nothing else is known of a value that comes out of a lock: so a close can say of the
+//! room that it hands out what was said of the room that was lent.
+
 use board::Naming;
 use std::marker::Brand;
 

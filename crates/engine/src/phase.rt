@@ -1,3 +1,6 @@
+//! A session knows from its own receipts where its transaction stands, without a step: so a call that failed halfway can be
+//! made again, and goes on from there.
+
 use crate::origin::Origin;
 use crate::session::Session;
 use base::Ts;

@@ -1,3 +1,6 @@
+//! A batch that is covered has to be published also where memory is wanting, since the next one wouldn't go on from the list:
+//! so the committer tries it again before its next tick.
+
 use crate::origin::Origin;
 use crate::shared::Shared;
 use base::batch::Batch;

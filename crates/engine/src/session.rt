@@ -1,3 +1,5 @@
+//! Room for a receipt is made before its step, so no step is made that its session can't account for.
+
 ghost use Rattle.std.specs.Prelude.{◌≡◌, IsTrue};
 ghost use Rattle.engine.specs.declared.phase.Phase.TheVariants.{Idle};
 ghost use Rattle.engine.specs.Phases.{phase_after};
@@ -214,6 +216,7 @@ impl<D: Pmem + Drop, J: Origin, B: Drop> Session<D, J, B> {
             unreachable!()
         };
         let (reply, receipt) = audited.step(step);
+        self.shared.tell(&mut desk, &reply);
         let Some(receipt) = receipt else {
             return Err(Fault::OutOfMemory);
         };

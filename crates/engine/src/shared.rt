@@ -1,7 +1,11 @@
-use crate::desk::{Desk, REFUSALS};
+//! Whoever is to sleep asks under the lock first, and whoever changes the answer does so under it: so no call to wake is
+//! missed. The board has a lock of its own, since its writer waits for readers, and no session is to wait for those.
+
+use crate::desk::{Desk, Duty, REFUSALS};
 use crate::origin::Origin;
 use base::Ts;
 use base::fault::Fault;
+use base::step::Reply;
 use pmem::Pmem;
 use std::sync::{Condvar, Mutex, MutexGuard, Wait};
 use std::thread;
@@ -11,8 +15,14 @@ use std::thread;
 pub struct Shared<D: Pmem, J: Origin, B: Drop> {
     pub desk: Mutex<Desk<D, J>>,
     pub board: Mutex<B>,
+    // The committer sleeps on it while no tick is due.
+    ticks: Condvar,
+    // The collector sleeps on it while no visit is due.
+    visits: Condvar,
     // A worker that is refused memory again and again sleeps on it.
     woken: Condvar,
+    // Whoever waits for a commit sleeps on it: a batch is covered, or nothing will be.
+    moved: Condvar,
 }
 
 impl<D: Pmem + Drop, J: Origin, B: Drop> Shared<D, J, B> {
@@ -27,7 +37,10 @@ impl<D: Pmem + Drop, J: Origin, B: Drop> Shared<D, J, B> {
         Shared {
             desk: Mutex::new(Desk::new()),
             board: Mutex::new(board),
+            ticks: Condvar::new(),
+            visits: Condvar::new(),
             woken: Condvar::new(),
+            moved: Condvar::new(),
         }
     }
 
@@ -36,13 +49,12 @@ impl<D: Pmem + Drop, J: Origin, B: Drop> Shared<D, J, B> {
     pub fn room<R: Wait>(&self, rt: &R, steps: u64) -> MutexGuard<'_, Desk<D, J>>
         ensures { HasMade steps (mutex_guard_value result).audited }
     {
+        let mut desk = self.desk(rt);
         for _ in rt.forever() {
-            let desk = self.desk(rt);
             if desk.has_made(steps) {
                 return desk;
             }
-            drop(desk);
-            thread::yield_now();
+            desk = self.moved.wait(rt, desk);
         }
         unreachable!()
     }
@@ -63,13 +75,12 @@ impl<D: Pmem + Drop, J: Origin, B: Drop> Shared<D, J, B> {
     pub fn wait_for<R: Wait>(&self, rt: &R, timestamp: Ts) -> Result<(), Fault>
         ensures { IfErr result (λ fault. (fault ≡ OutOfMemory) ⊎ HasHalted J.image fault) }
     {
+        let mut desk = self.desk(rt);
         for _ in rt.forever() {
-            let desk = self.desk(rt);
             if let Some(over) = desk.waited(timestamp) {
                 return over;
             }
-            drop(desk);
-            thread::yield_now();
+            desk = self.moved.wait(rt, desk);
         }
         unreachable!()
     }
@@ -82,6 +93,39 @@ impl<D: Pmem + Drop, J: Origin, B: Drop> Shared<D, J, B> {
         match desk.why_not() {
             Some(fault) => Err(fault),
             None => Ok(()),
+        }
+    }
+
+    /// Sleeps until the worker has something to do. Whether it has: it hasn't where the engine is being closed.
+    pub fn wait_for_turn<R: Wait>(&self, rt: &R, duty: Duty) -> bool {
+        let mut desk = self.desk.lock(rt);
+        for _ in rt.forever() {
+            if desk.closing || desk.audited.is_none() {
+                return false;
+            }
+            if desk.is_due(duty) {
+                return true;
+            }
+            desk = match duty {
+                Duty::Commit => self.ticks.wait(rt, desk),
+                Duty::Collect => self.visits.wait(rt, desk),
+            };
+        }
+        unreachable!()
+    }
+
+    /// Notes what a step was answered, and wakes whom it concerns.
+    pub fn tell(&self, desk: &mut Desk<D, J>, reply: &Reply) {
+        desk.note(reply);
+        let news = desk.take_news();
+        if news.committer {
+            self.ticks.notify_all();
+        }
+        if news.collector {
+            self.visits.notify_all();
+        }
+        if news.waiting {
+            self.moved.notify_all();
         }
     }
 
@@ -104,14 +148,17 @@ impl<D: Pmem + Drop, J: Origin, B: Drop> Shared<D, J, B> {
         drop(self.woken.wait(rt, desk));
     }
 
-    /// Counts that the committer was refused memory for what it covered.
+    /// Counts that the committer was refused memory for what it covered, of which too often ends a wait.
     pub fn count_refusal<R: Wait>(&self, rt: &R) {
         let mut desk = self.desk.lock(rt);
         desk.refusals = desk.refusals.saturating_add(1);
+        self.moved.notify_all();
     }
 
     /// Wakes the workers, so that they see that the engine is being closed.
     pub fn wake(&self) {
+        self.ticks.notify_all();
+        self.visits.notify_all();
         self.woken.notify_all();
     }
 }

@@ -1,3 +1,6 @@
+//! That the board under the lock is this engine's can't be known there. What was published at the start is in the session, so a
+//! token is the later of both.
+
 use crate::origin::Origin;
 use crate::session::Session;
 use board::{Board, Naming, Token};

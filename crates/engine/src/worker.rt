@@ -1,3 +1,7 @@
+//! A worker makes one step each time that it takes the lock, so sessions step between any two operations of a cycle. What a
+//! tick covers is published before the next tick, so batches come to the board in their order.
+
+use crate::desk::Duty;
 use crate::gate::{Gate, Go};
 use crate::origin::Origin;
 use crate::posting::post;
@@ -35,7 +39,7 @@ ghost use Rattle.base.specs.declared.fault.Fault.TheVariants.{OutOfMemory, NoThr
 ghost use Rattle.base.specs.Replies.{note_of};
 ghost use Rattle.engine.specs.Posting.{IsPosted};
 
-/// Starts a worker that makes this step.
+/// Starts a worker that has this duty.
 pub fn spawn_worker<
     R: Threads + Wait + Copy + Drop + Send + 'static,
     D: Pmem + Drop + Send + Sync + 'static,
@@ -44,7 +48,7 @@ pub fn spawn_worker<
 >(
     rt: &R,
     shared: &Arc<Shared<D, J, Board<J, R>>, Global>,
-    step: Step,
+    duty: Duty,
     before: Note,
     gate: G,
 ) -> Result<JoinHandle<()>, Fault>
@@ -55,33 +59,33 @@ pub fn spawn_worker<
     };
     let handle = *rt;
     match thread::spawn(rt, move || {
-        drop(work(&handle, &own, &step, before, gate))
+        drop(work(&handle, &own, duty, before, gate))
     }) {
         Ok(worker) => Ok(worker),
         Err(_) => Err(Fault::NoThread),
     }
 }
 
-// Makes the step again and again, until the gate says so, a step is refused or the engine is being closed. Without memory for a
-// step it rests, and tries it again. What a tick covers is published before the next one. `before` is what the gate is shown
-// before the first.
+// Makes its step where that is due, and sleeps where it isn't, until the gate says so, a step is refused or the engine is being
+// closed. Without memory for a step it rests, and tries it again. What a tick covers is published before the next one. `before` is
+// what the gate is shown before the first.
 fn work<R: Wait + Drop, D: Pmem + Drop, J: Origin, G: Gate>(
     rt: &R,
     shared: &Arc<Shared<D, J, Board<J, R>>, Global>,
-    step: &Step,
+    duty: Duty,
     before: Note,
     mut gate: G,
 ) -> G {
     let mut last = before;
     let mut refusals = 0u64;
     for _ in rt.forever() {
-        if shared.is_closing(rt) {
+        if !shared.wait_for_turn(rt, duty) {
             break;
         }
         if matches!(gate.pass(&last), Go::Stop) {
             break;
         }
-        match take_turn(rt, shared, step) {
+        match take_turn(rt, shared, &duty.step()) {
             Ok(made) => {
                 last = made.note;
                 refusals = 0;
@@ -137,5 +141,9 @@ fn tick<R: Wait, D: Pmem + Drop, J: Origin, B: Drop>(
     ensures { IfSome result (λ made. IfSome made.1 (λ receipt. (receipt.step ≡ step.now) × (receipt.note ≡ note_of made.0))) }
 {
     let mut desk = shared.desk.lock(rt);
-    desk.tick(step)
+    let made = desk.tick(step);
+    if let Some((reply, _)) = &made {
+        shared.tell(&mut desk, reply);
+    }
+    made
 }

@@ -2,7 +2,7 @@ use Rattle.std.proofs.Common.{◌∙◌, ap, sym}
 use Rattle.left_right.specs.Handles.{pending}
 use Rattle.board.specs.Shown.{shown}
 use Rattle.board.proofs.Growing.{done, flushed_front, flushed_view}
-use Rattle.board.proofs.board.Desk+J+Shelf+J+Step+J+R.flush.Goals as goal
+use Rattle.board.proofs.board.BoardWriter+J+Shelf+J+Step+J+R.flush.Goals as goal
 
 pub invariant_of-self-2 : goal.invariant_of-self-2
 invariant_of-self-2 g c =

@@ -1,6 +1,6 @@
 use Rattle.std.proofs.Common.{◌∙◌}
 use Rattle.board.proofs.Growing.{may_follow}
-use Rattle.board.proofs.board.Desk+J+Shelf+J+Step+J+R.add.Goals as goal
+use Rattle.board.proofs.board.BoardWriter+J+Shelf+J+Step+J+R.add.Goals as goal
 
 pub then-requires : goal.then-requires
 then-requires g c =
