@@ -1,3 +1,4 @@
 pub mod Runs
 pub mod Covering
 pub mod Telling
+pub mod Numbers

@@ -4,3 +4,4 @@ pub mod Runs
 pub mod Obeys
 pub mod Committing
 pub mod Closing
+pub mod Numbers

@@ -6,7 +6,7 @@ use crate::workers::start_workers;
 use base::fault::Fault;
 use base::geometry::Geometry;
 use pmem::Pmem;
-use room::{Room, Status};
+use room::{Room, Status, Usage};
 use std::alloc::Global;
 use std::sync::{Arc, Wait};
 use std::thread::Threads;
@@ -74,25 +74,30 @@ impl<D: Pmem + Drop, R: Wait + Drop> Drop for Database<D, R> {
 }
 
 impl<D: Pmem + Drop, R: Wait + Drop> Database<D, R> {
-    ghost use Rattle.std.specs.Prelude.{Ok, Err, IfOk, IfErr};
+    ghost use Rattle.std.specs.Prelude.{◌≡◌, Ok, Err, IfOk, IfErr};
     ghost use Rattle.base.specs.declared.step.Step.TheVariants.{Begin};
     ghost use Rattle.database.specs.Replies.{began_of};
     ghost use Rattle.database.specs.Obeys.{AnswersStep};
+    ghost use Rattle.room.specs.Room.{ShowsStatus};
+    ghost use Rattle.room.specs.Usage.{ShowsUsage};
     ghost use Rattle.database.specs.Closing.{HasLived, IsClosed, IsClosingRefused};
+    ghost use Rattle.database.specs.Numbers.{ComesTo};
 
     /// Begins a transaction, which reads the rows that are committed now, and what it writes. 62 may be open.
     pub fn begin(&self) -> Result<Transaction<'_, D, R>, Fault>
         ensures ok { IfOk result (λ transaction. AnswersStep Begin began_of (Ok transaction.session)) }
         ensures err { IfErr result (λ fault. AnswersStep Begin began_of (Err fault)) }
     {
-        match self.shared.desk(&self.rt).begin() {
+        match self.shared.begin(&self.rt) {
             Ok(session) => Ok(Transaction::new(&self.rt, &self.shared, session)),
             Err(fault) => Err(fault),
         }
     }
 
     /// The numbers of the ruling record, its gaps and long commits, and the next timestamp.
-    pub fn status(&self) -> Status {
+    pub fn status(&self) -> Status
+        ensures { ComesTo (λ q. ShowsStatus q result) }
+    {
         let desk = self.shared.desk(&self.rt);
         let Some(room) = &desk.room else {
             unreachable!()
@@ -100,8 +105,21 @@ impl<D: Pmem + Drop, R: Wait + Drop> Database<D, R> {
         room.status()
     }
 
+    /// How many rows are committed, and how many slots hold no version. It looks at each key and each slot, under the lock.
+    pub fn usage(&self) -> Usage
+        ensures { ComesTo (λ q. ShowsUsage q result) }
+    {
+        let desk = self.shared.desk(&self.rt);
+        let Some(room) = &desk.room else {
+            unreachable!()
+        };
+        room.usage()
+    }
+
     /// The layout of the device.
-    pub fn geometry(&self) -> Geometry {
+    pub fn geometry(&self) -> Geometry
+        ensures { ComesTo (λ q. result ≡ q.layout) }
+    {
         let desk = self.shared.desk(&self.rt);
         let Some(room) = &desk.room else {
             unreachable!()

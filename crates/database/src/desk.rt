@@ -1,11 +1,17 @@
+use crate::answers::Answers;
 use crate::committing::finish;
 use crate::error::CommitError;
+use crate::group::{Group, SESSIONS};
 use crate::opened::OpenedRoom;
 use crate::steps;
 use base::Ts;
 use base::fault::Fault;
 use pmem::Pmem;
+use std::sync::atomic::{AtomicU64, Ordering};
 use std::sync::{Condvar, Mutex, MutexGuard, Wait};
+
+// How often in a row the committer may be refused memory while somebody waits for it.
+const REFUSALS: u64 = 100;
 
 /// What lies under the lock.
 #[derive(Drop)]
@@ -18,10 +24,14 @@ pub struct Desk<D: Pmem> {
     pub closing: bool,
     /// How many transactions are open, those that wait for their commit among them.
     pub open: u64,
+    /// The commits that are waited for.
+    pub group: Group,
+    /// One of those who wait takes the committer's turns.
+    pub is_led: bool,
     /// How many commits were covered since the collector's last round.
     pub covered: u64,
-    /// Whether the committer's last tick was refused for want of memory.
-    pub lacks_memory: bool,
+    /// How many ticks in a row were refused for want of memory.
+    pub refusals: u64,
     /// Why nothing more will be covered: what the committer was refused with.
     pub ended: Option<Fault>,
 }
@@ -73,14 +83,44 @@ impl<D: Pmem + Drop> Desk<D> {
         };
         match finish(room, session) {
             Ok(Some(timestamp)) => Some(Ok(timestamp)),
-            Ok(None) => match self.ended {
-                Some(Fault::TimestampsOut) => {
-                    Some(Err(CommitError::Refused(Fault::TimestampsOut)))
-                }
-                Some(fault) => Some(Err(CommitError::Open(fault))),
+            Ok(None) => match self.given_up() {
+                Some(error) => Some(Err(error)),
                 None => None,
             },
             Err(fault) => Some(Err(CommitError::Open(fault))),
+        }
+    }
+
+    // Why a commit that isn't covered is waited for no longer.
+    fn given_up(&self) -> Option<CommitError> {
+        match self.ended {
+            Some(Fault::TimestampsOut) => Some(CommitError::Refused(Fault::TimestampsOut)),
+            Some(fault) => Some(CommitError::Open(fault)),
+            None if self.lacks_memory() => Some(CommitError::Open(Fault::OutOfMemory)),
+            None => None,
+        }
+    }
+
+    /// Whether the committer was refused memory too often.
+    pub fn lacks_memory(&self) -> bool {
+        REFUSALS < self.refusals
+    }
+
+    /// Answers those who wait for a commit that is covered, or won't be, but for the one that leads.
+    pub fn answer_all(&mut self, answers: &mut Answers) {
+        for session in 0..SESSIONS {
+            if let Some(place) = self.group.place(session) {
+                self.answer_at(answers, session, place);
+            }
+        }
+    }
+
+    // Answers this session's commit, if it is covered or won't be.
+    fn answer_at(&mut self, answers: &mut Answers, session: u8, place: usize) {
+        if let Some(answer) = self.answer(session) {
+            self.group.leave(session);
+            self.leave();
+            answers.put(place, session, answer);
         }
     }
 
@@ -100,10 +140,10 @@ impl<D: Pmem + Drop> Desk<D> {
         }
     }
 
-    /// Whether a round of the collector is due: a commit for each fourth slot was covered since the last one.
+    /// Whether a round of the collector is due: a commit for each fourth slot, and one at least, was covered since the last one.
     pub fn is_round_due(&self) -> bool {
         match &self.room {
-            Some(room) => room.geometry().slots() / 4 <= self.covered,
+            Some(room) => (room.geometry().slots() / 4).max(1) <= self.covered,
             None => false,
         }
     }
@@ -117,8 +157,19 @@ pub struct Shared<D: Pmem> {
     pub commits: Condvar,
     /// The collector sleeps on it.
     pub rounds: Condvar,
-    /// Whoever waits for a commit or an end sleeps on it: a batch is covered, the committer was refused, a worker has ended.
+    /// Whoever waits for another's commit, for timestamps or for an end sleeps on it: a batch is covered, the committer was refused,
+    /// a worker has ended.
     pub moved: Condvar,
+    /// What became of commits that were waited for.
+    pub answers: Mutex<Answers>,
+    /// Whoever waits for its own commit sleeps on it, and holds the answers' lock before and after.
+    pub answered: Condvar,
+    /// How many more are expected in the group that is being formed.
+    pub missing: AtomicU64,
+    /// How many wait for the lock to open a transaction.
+    pub beginning: AtomicU64,
+    /// How many turns of the lock transactions have had.
+    pub turns: AtomicU64,
 }
 
 impl<D: Pmem + Drop> Shared<D> {
@@ -134,13 +185,20 @@ impl<D: Pmem + Drop> Shared<D> {
                 working: 0,
                 closing: false,
                 open: 0,
+                group: Group::new(),
+                is_led: false,
                 covered: u64::MAX,
-                lacks_memory: false,
+                refusals: 0,
                 ended: None,
             }),
             commits: Condvar::new(),
             rounds: Condvar::new(),
             moved: Condvar::new(),
+            answers: Mutex::new(Answers::new()),
+            answered: Condvar::new(),
+            missing: AtomicU64::new(0),
+            beginning: AtomicU64::new(0),
+            turns: AtomicU64::new(0),
         }
     }
 
@@ -149,6 +207,7 @@ impl<D: Pmem + Drop> Shared<D> {
         ensures { IsTrue (is_some (mutex_guard_value result).room) }
     {
         let mut desk = self.desk.lock(rt);
+        self.turns.fetch_add(1, Ordering::SeqCst);
         for _ in rt.forever() {
             if desk.room.is_some() {
                 return desk;

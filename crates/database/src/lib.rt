@@ -2,11 +2,14 @@
 //! is nothing to do. It keeps no history.
 #![tactic(auto)]
 
+mod answers;
 mod closing;
 mod committing;
 mod database;
 mod desk;
 mod error;
+mod group;
+mod leading;
 mod opened;
 mod replies;
 mod steps;

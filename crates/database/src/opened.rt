@@ -3,7 +3,7 @@ ghost use Rattle.database.specs.Runs.{HasRun};
 use base::geometry::Geometry;
 use base::step::{Reply, Step};
 use pmem::Pmem;
-use room::{Room, Status};
+use room::{Room, Status, Usage};
 
 /// The room of a device that was opened. It shows the end of a run from that opening: whoever holds the lock leads it on by
 /// steps, and in no other way.
@@ -16,8 +16,9 @@ pub struct OpenedRoom<D: Pmem> {
 impl<D: Pmem + Drop> OpenedRoom<D> {
     ghost use Rattle.std.specs.Prelude.{◌≡◌};
     ghost use Rattle.base.specs.declared.step.Step.TheVariants.{Commit, Collect};
-    ghost use Rattle.machine.specs.Machine.{State};
-    ghost use Rattle.room.specs.Room.{Shows, ShowsStatus};
+    ghost use Rattle.room.specs.Room.{ShowsStatus};
+    ghost use Rattle.room.specs.Usage.{ShowsUsage};
+    ghost use Rattle.database.specs.Numbers.{ComesTo};
     ghost use Rattle.database.specs.Opening.{IsFresh};
     ghost use Rattle.database.specs.Runs.{Leads};
 
@@ -52,16 +53,23 @@ impl<D: Pmem + Drop> OpenedRoom<D> {
 
     /// The layout of the device.
     pub fn geometry(&self) -> Geometry
-        ensures { (q : State) → Shows D.state self.now.room q → result ≡ q.layout }
+        ensures { ComesTo (λ q. result ≡ q.layout) }
     {
         self.room.geometry()
     }
 
     /// The numbers of the ruling record, its gaps and long commits, and the next timestamp.
     pub fn status(&self) -> Status
-        ensures { (q : State) → Shows D.state self.now.room q → ShowsStatus q result }
+        ensures { ComesTo (λ q. ShowsStatus q result) }
     {
         self.room.status()
+    }
+
+    /// How the slots are used.
+    pub fn usage(&self) -> Usage
+        ensures { ComesTo (λ q. ShowsUsage q result) }
+    {
+        self.room.usage()
     }
 
     /// The room, to be closed.

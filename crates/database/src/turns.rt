@@ -2,9 +2,14 @@ use crate::desk::{Desk, Shared};
 use base::fault::Fault;
 use base::step::Reply;
 use pmem::Pmem;
+use std::sync::Wait;
 
-// A turn takes no more steps than this, so that sessions get in between. A batch of up to 22 lines is covered in one.
-const STEPS: u64 = 64;
+// A turn of the committer takes no more ticks than this, which is more than any cycle has: 62 commits of 32 keys each, in slots of two
+// lines.
+const TICKS: u64 = 8_192;
+
+// A turn of the collector makes no more visits than this, so that sessions get in between.
+const VISITS: u64 = 64;
 
 /// What came of a turn under the lock.
 #[derive(Clone, Copy)]
@@ -23,7 +28,7 @@ pub enum Turn {
 
 /// Ticks of the committer, up to the one that covers a batch.
 pub fn commit<D: Pmem + Drop>(desk: &mut Desk<D>) -> Turn {
-    for _ in 0..STEPS {
+    for _ in 0..TICKS {
         let turn = tick(desk);
         if !matches!(turn, Turn::Unfinished) {
             return turn;
@@ -34,17 +39,20 @@ pub fn commit<D: Pmem + Drop>(desk: &mut Desk<D>) -> Turn {
 
 // A tick of the committer.
 fn tick<D: Pmem + Drop>(desk: &mut Desk<D>) -> Turn {
-    desk.lacks_memory = false;
     let Some(room) = &mut desk.room else {
         return Turn::Idle;
     };
-    match room.tick() {
+    let reply = room.tick();
+    if let Reply::Refused(fault) = reply {
+        return desk.after_refusal(fault);
+    }
+    desk.refusals = 0;
+    match reply {
         Reply::Idle => Turn::Idle,
         Reply::Covered(batch) => {
             desk.covered = desk.covered.saturating_add(batch.commits().len() as u64);
             Turn::Finished
         }
-        Reply::Refused(fault) => desk.after_refusal(fault),
         _ => Turn::Unfinished,
     }
 }
@@ -57,7 +65,7 @@ pub fn collect<D: Pmem + Drop>(desk: &mut Desk<D>) -> Turn {
     let Some(room) = &mut desk.room else {
         return Turn::Idle;
     };
-    for _ in 0..STEPS {
+    for _ in 0..VISITS {
         match room.visit() {
             Reply::SweepEnd => {
                 desk.covered = 0;
@@ -75,7 +83,7 @@ impl<D: Pmem> Desk<D> {
     fn after_refusal(&mut self, fault: Fault) -> Turn {
         match fault {
             Fault::OutOfMemory => {
-                self.lacks_memory = true;
+                self.refusals = self.refusals.saturating_add(1);
                 Turn::LacksMemory
             }
             _ => {
@@ -87,11 +95,13 @@ impl<D: Pmem> Desk<D> {
 }
 
 impl<D: Pmem + Drop> Shared<D> {
-    /// Wakes those whom the committer's turn concerns: whoever waits for it, and the collector where a round is due.
-    pub fn tell(&self, desk: &Desk<D>, turn: Turn) {
+    /// Answers those who wait for their commit, and wakes those whom the turn concerns besides: whoever waits for another's, and the
+    /// collector where a round is due. Whoever waits for its own sleeps on.
+    pub fn tell<R: Wait>(&self, rt: &R, desk: &mut Desk<D>, turn: Turn) {
         if matches!(turn, Turn::Unfinished | Turn::Idle) {
             return;
         }
+        desk.answer_all(&mut self.answers.lock(rt));
         self.moved.notify_all();
         if desk.is_round_due() {
             self.rounds.notify_all();

@@ -9,31 +9,6 @@ use pmem::Pmem;
 use std::sync::{MutexGuard, Wait};
 use std::thread;
 
-// How often in a row the committer may be refused memory while a thread waits for it.
-const REFUSALS: u64 = 100;
-
-// How long a thread waits while memory is wanting.
-#[derive(Drop)]
-struct Patience {
-    refusals: u64,
-}
-
-impl Patience {
-    fn new() -> Patience {
-        Patience { refusals: 0 }
-    }
-
-    // Whether the committer was refused memory once too often.
-    fn is_over(&mut self, lacks_memory: bool) -> bool {
-        self.refusals = if lacks_memory {
-            self.refusals.saturating_add(1)
-        } else {
-            0
-        };
-        REFUSALS < self.refusals
-    }
-}
-
 impl<D: Pmem + Drop> Shared<D> {
     ghost use Rattle.std.specs.Prelude.{Ok, IfOk};
     ghost use Rattle.database.specs.Committing.{IsPrepared, IsAcknowledged, TellsCommit};
@@ -42,63 +17,48 @@ impl<D: Pmem + Drop> Shared<D> {
     pub fn commit<R: Wait>(&self, rt: &R, session: u8) -> Result<Option<Ts>, CommitError>
         ensures { IfOk result (TellsCommit session) }
     {
-        match self.prepare(rt, session) {
-            Ok(true) => match self.wait(rt, session) {
+        let (desk, prepared) = self.prepare(rt, session);
+        match prepared {
+            Ok(true) => match self.wait(rt, desk, session) {
                 Ok(timestamp) => Ok(Some(timestamp)),
                 Err(error) => Err(error),
             },
             Ok(false) => {
-                self.desk(rt).leave();
+                let mut desk = desk;
+                desk.leave();
                 Ok(None)
             }
             Err(error) => {
+                drop(desk);
                 self.give_way(rt, session, error);
                 Err(error)
             }
         }
     }
 
-    // Draws and stamps, once the committer has reserved timestamps. Whether something was written.
-    fn prepare<R: Wait>(&self, rt: &R, session: u8) -> Result<bool, CommitError>
-        ensures { IfOk result (λ wrote. IsPrepared session (Ok wrote)) }
+    // Takes the lock, draws and stamps, once the committer has reserved timestamps. Whether something was written.
+    fn prepare<R: Wait>(
+        &self,
+        rt: &R,
+        session: u8,
+    ) -> (MutexGuard<'_, Desk<D>>, Result<bool, CommitError>)
+        ensures { IfOk result.1 (λ wrote. IsPrepared session (Ok wrote)) }
     {
         let mut desk = self.desk(rt);
-        let mut patience = Patience::new();
         for _ in rt.forever() {
             if let Some(fault) = desk.ended {
-                return Err(CommitError::Refused(fault));
+                return (desk, Err(CommitError::Refused(fault)));
             }
             if let Some(room) = &mut desk.room {
                 let prepared = prepare(rt, room, session);
                 if !matches!(prepared, Err(CommitError::Refused(Fault::WindowFull))) {
-                    return prepared;
+                    return (desk, prepared);
                 }
             }
-            if patience.is_over(desk.lacks_memory) {
-                return Err(CommitError::Refused(Fault::OutOfMemory));
-            }
             desk = self.take_turn(rt, desk);
-        }
-        unreachable!()
-    }
-
-    // Waits until the commit is covered, or won't be.
-    fn wait<R: Wait>(&self, rt: &R, session: u8) -> Result<Ts, CommitError>
-        ensures { IfOk result (IsAcknowledged session) }
-    {
-        let mut desk = self.desk(rt);
-        let mut patience = Patience::new();
-        for _ in rt.forever() {
-            let answer = desk.answer(session);
-            if let Some(answer) = answer {
-                desk.leave();
-                return answer;
+            if desk.lacks_memory() {
+                return (desk, Err(CommitError::Refused(Fault::OutOfMemory)));
             }
-            if patience.is_over(desk.lacks_memory) {
-                desk.leave();
-                return Err(CommitError::Open(Fault::OutOfMemory));
-            }
-            desk = self.take_turn(rt, desk);
         }
         unreachable!()
     }
@@ -109,18 +69,25 @@ impl<D: Pmem + Drop> Shared<D> {
         let mut desk = self.desk(rt);
         let _ = desk.abort(session);
         let waits = matches!(error, CommitError::Refused(Fault::Conflict(_)));
+        if waits {
+            desk.group.excuse();
+            self.count_missing(&desk);
+        }
         let drawn = desk.last_drawn();
-        let mut patience = Patience::new();
         for _ in rt.forever() {
-            if !waits || desk.is_settled(drawn) || patience.is_over(desk.lacks_memory) {
-                desk.leave();
-                return;
+            if !waits || desk.is_settled(drawn) {
+                break;
             }
             desk = self.take_turn(rt, desk);
+            if desk.lacks_memory() {
+                break;
+            }
         }
+        desk.leave();
     }
 
-    // Lets the committer have a turn. Where no other transaction is open it is taken here, and nobody sleeps.
+    // Waits for a turn of the committer, which whoever leads a group takes for it. Where no other transaction is open it is taken here, and
+    // nobody sleeps.
     fn take_turn<'a, R: Wait>(
         &'a self,
         rt: &R,
@@ -128,11 +95,13 @@ impl<D: Pmem + Drop> Shared<D> {
     ) -> MutexGuard<'a, Desk<D>> {
         let mut desk = desk;
         if 1 < desk.open {
-            self.commits.notify_all();
+            if !desk.is_led {
+                self.commits.notify_all();
+            }
             return self.moved.wait(rt, desk);
         }
         let turn = turns::commit(&mut desk);
-        self.tell(&desk, turn);
+        self.tell(rt, &mut desk, turn);
         if matches!(turn, Turn::LacksMemory) {
             drop(desk);
             thread::yield_now();

@@ -70,11 +70,17 @@ fn work<R: Wait + Drop, D: Pmem + Drop>(rt: &R, shared: &Arc<Shared<D>, Global>,
             Duty::Commit => turns::commit(&mut desk),
             Duty::Collect => turns::collect(&mut desk),
         };
-        shared.tell(&desk, turn);
+        shared.tell(rt, &mut desk, turn);
+        shared.answered.notify_all();
         match (turn, duty) {
             (Turn::Unfinished, _) | (Turn::Finished, Duty::Commit) => {}
             // The record that drops swept gaps is due.
             (Turn::Finished, Duty::Collect) => shared.commits.notify_all(),
+            // Somebody waits, and nobody else will try again.
+            (Turn::LacksMemory, Duty::Commit) if !desk.is_led && !desk.group.is_empty() => {
+                drop(desk);
+                thread::yield_now();
+            }
             (Turn::Idle | Turn::LacksMemory | Turn::Stopped, Duty::Commit) => {
                 drop(shared.commits.wait(rt, desk));
             }

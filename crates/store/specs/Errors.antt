@@ -3,6 +3,8 @@ use Rattle.std.specs.Prelude.{ℕ, ◌-◌, nat_lt, if◌then◌else◌}
 use Rattle.base.specs.declared.fault.Fault.{Fault}
 use Rattle.base.specs.declared.fault.Fault.TheVariants.{Device, Failed, SlotsOut, SessionsFull, WriteSetFull, Conflict, OutOfMemory}
 use Rattle.base.specs.Layout.{Layout}
+use Rattle.database.specs.declared.error.CommitError.{CommitError}
+use Rattle.database.specs.declared.error.CommitError.TheVariants.{Refused, Open}
 use Rattle.store.specs.declared.error.StoreError.{StoreError}
 use Rattle.store.specs.declared.error.Part.{Part}
 
@@ -19,3 +21,8 @@ error_of OutOfMemory = StoreError.OutOfMemory
 error_of Device = StoreError.Failed
 error_of Failed = StoreError.Failed
 error_of fault = StoreError.Refused fault
+
+-- nothing of the commit is kept; or whether it is, the next opening knows
+abbrev pub commit_error : CommitError → StoreError
+commit_error (Refused fault) = error_of fault
+commit_error (Open fault) = StoreError.Unknown fault

@@ -1,1 +1,3 @@
 pub mod Errors
+pub mod Answers
+pub mod Status

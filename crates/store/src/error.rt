@@ -2,6 +2,7 @@ use anyhow;
 use base::fault::Fault;
 use base::geometry::Geometry;
 use base::key::Key;
+use database::CommitError;
 use pmem_file::OpenError;
 use std::alloc::AllocError;
 use std::{fmt, io};
@@ -149,6 +150,20 @@ impl From<Fault> for StoreError {
             Fault::OutOfMemory => StoreError::OutOfMemory,
             Fault::Device | Fault::Failed => StoreError::Failed,
             fault => StoreError::Refused(fault),
+        }
+    }
+}
+
+impl From<CommitError> for StoreError {
+    ghost use Rattle.std.specs.Prelude.{◌≡◌};
+    ghost use Rattle.store.specs.Errors.{commit_error};
+
+    ghost from_gives = { λ refused error. error ≡ commit_error refused };
+
+    fn from(refused: CommitError) -> StoreError {
+        match refused {
+            CommitError::Refused(fault) => StoreError::from(fault),
+            CommitError::Open(fault) => StoreError::Unknown(fault),
         }
     }
 }

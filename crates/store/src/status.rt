@@ -3,6 +3,7 @@ ghost use Rattle.std.specs.Prelude.{◌≡◌};
 use base::geometry::Geometry;
 use base::{NUMBER_LIMIT, Ts};
 use room;
+use room::Usage;
 
 /// How a store is laid out, and how far it has come.
 #[derive(Clone, Copy, Debug, PartialEq, Eq)]
@@ -27,10 +28,26 @@ pub struct Status {
     pub gaps: usize,
     /// How many timestamps are left to be drawn.
     pub left: u64,
+    /// How many rows are committed, of all tables.
+    pub rows: usize,
+    /// How many slots hold a version: of these rows, of rows before a change, and of what open transactions have written.
+    pub versions: u64,
+    /// How many slots hold none.
+    pub free: u64,
 }
 
 impl Status {
-    pub(crate) fn of(geometry: &Geometry, numbers: &room::Status) -> Status {
+    ghost use Rattle.std.specs.Prelude.{◌≡◌, ◌-◌};
+    ghost use Rattle.machine.specs.Machine.{State};
+    ghost use Rattle.room.specs.Room.{ShowsStatus};
+    ghost use Rattle.room.specs.Usage.{ShowsUsage};
+    ghost use Rattle.store.specs.Status.{ShowsNumbers, ShowsFill};
+
+    pub(crate) fn of(geometry: &Geometry, numbers: &room::Status, usage: &Usage) -> Status
+        ensures numbers { (q : State) → ShowsStatus q numbers.now → ShowsNumbers q result }
+        ensures fill { (q : State) → ShowsUsage q usage.now → ShowsFill q result }
+        ensures versions { result.versions ≡ result.slots - result.free }
+    {
         Status {
             version: geometry.version(),
             slots: geometry.slots(),
@@ -42,6 +59,9 @@ impl Status {
             longs: numbers.longs.as_slice().len(),
             gaps: numbers.gaps.as_slice().len(),
             left: NUMBER_LIMIT.saturating_sub(numbers.next),
+            rows: usage.rows,
+            versions: geometry.slots().saturating_sub(usage.free),
+            free: usage.free,
         }
     }
 }

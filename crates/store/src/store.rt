@@ -71,6 +71,13 @@ fn refused(name: String, geometry: Geometry, fault: Fault) -> StoreError {
 }
 
 impl<R: Wait + Drop> Store<R> {
+    ghost use Rattle.std.specs.Prelude.{◌≡◌, ◌-◌, Ok, Err, IfOk, IfErr};
+    ghost use Rattle.base.specs.declared.step.Step.TheVariants.{Begin};
+    ghost use Rattle.database.specs.Numbers.{ComesTo};
+    ghost use Rattle.database.specs.Replies.{began_of};
+    ghost use Rattle.store.specs.Answers.{Answers};
+    ghost use Rattle.store.specs.Status.{ShowsNumbers, ShowsFill};
+
     /// Makes the changes in one transaction and commits it: what they return, and the timestamp, which is `None` where nothing
     /// was written. After a conflict they are made again, on the rows as the other commit left them, up to a thousand times. At
     /// any other error, one of the changes' own among them, nothing is kept, but at `Unknown`.
@@ -107,7 +114,10 @@ impl<R: Wait + Drop> Store<R> {
     }
 
     /// Begins a transaction, which reads the rows that are committed now, and what it writes. 62 may be open, snapshots among them.
-    pub fn begin(&self) -> Result<Transaction<'_, R>, StoreError> {
+    pub fn begin(&self) -> Result<Transaction<'_, R>, StoreError>
+        ensures ok { IfOk result (λ transaction. Answers Begin began_of (Ok transaction.snapshot.reads.session)) }
+        ensures err { IfErr result (λ error. Answers Begin began_of (Err error)) }
+    {
         Ok(Transaction {
             snapshot: self.read()?,
             row_limit: self.database.geometry().row_limit(),
@@ -115,16 +125,26 @@ impl<R: Wait + Drop> Store<R> {
     }
 
     /// The rows that are committed now.
-    pub fn read(&self) -> Result<Snapshot<'_, R>, StoreError> {
+    pub fn read(&self) -> Result<Snapshot<'_, R>, StoreError>
+        ensures ok { IfOk result (λ snapshot. Answers Begin began_of (Ok snapshot.reads.session)) }
+        ensures err { IfErr result (λ error. Answers Begin began_of (Err error)) }
+    {
         Ok(Snapshot {
             alloc: self.alloc,
             reads: self.database.begin()?,
         })
     }
 
-    /// How it is laid out, and how far it has come.
-    pub fn status(&self) -> Status {
-        Status::of(&self.database.geometry(), &self.database.status())
+    /// How it is laid out, how far it has come, and how full it is. It looks at each key and each slot, while others wait. Its
+    /// numbers are read one after the other, and others may commit in between.
+    pub fn status(&self) -> Status
+        ensures numbers { ComesTo (λ q. ShowsNumbers q result) }
+        ensures fill { ComesTo (λ q. ShowsFill q result) }
+        ensures versions { result.versions ≡ result.slots - result.free }
+    {
+        let numbers = self.database.status();
+        let usage = self.database.usage();
+        Status::of(&self.database.geometry(), &numbers, &usage)
     }
 
     /// The name of its file.
@@ -136,14 +156,22 @@ impl<R: Wait + Drop> Store<R> {
     pub fn close(self) -> Result<(), StoreError> {
         let Store { name, database, .. } = self;
         match database.close() {
-            Ok(_device) => Ok(()),
-            Err(refused) => {
-                let Refused { fault, device } = refused;
-                match device.failure() {
-                    Some(cause) => Err(StoreError::Lost { name, cause }),
-                    None => Err(StoreError::NotClosed { name, fault }),
-                }
-            }
+            Ok(device) => match device.close() {
+                Ok(()) => Ok(()),
+                Err(cause) => Err(StoreError::Lost { name, cause }),
+            },
+            Err(Refused { fault, device }) => Err(not_closed(name, device, fault)),
+        }
+    }
+}
+
+// Why the file failed, where a write or a sync of it did; else why the close is refused, and then the file is closed.
+fn not_closed(name: String, device: Device, fault: Fault) -> StoreError {
+    match device.failure() {
+        Some(cause) => StoreError::Lost { name, cause },
+        None => {
+            let _ = device.close();
+            StoreError::NotClosed { name, fault }
         }
     }
 }

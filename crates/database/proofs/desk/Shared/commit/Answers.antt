@@ -1,9 +1,17 @@
 use Rattle.std.proofs.Common.{Bool, subst, Ok}
+use Rattle.std.specs.Prelude.{Result, IfOk}
+use Rattle.database.specs.declared.error.CommitError.{CommitError}
 use Rattle.database.specs.Committing.{IsPrepared}
 use Rattle.database.proofs.desk.Shared.commit.Goals as goal
 
 pub returns-in-Ok : goal.returns-in-Ok
-returns-in-Ok g c = (subst (λ (b : Bool). IsPrepared c.args.session (Ok b)) c.in-Ok-true.field-0-test c.in-Ok-true.ensures, c.in-Ok.ensures)
+returns-in-Ok g c = (
+  subst (λ (b : Bool). IsPrepared c.args.session (Ok b)) c.in-Ok-true.field-0-test
+      (subst (λ (r : Result Bool CommitError). IfOk r (λ wrote. IsPrepared c.args.session (Ok wrote))) c.in-Ok-true.is c.prepare-desk.ensures),
+  c.in-Ok.ensures,
+)
 
 pub returns-in-Ok-false : goal.returns-in-Ok-false
-returns-in-Ok-false g c = subst (λ (b : Bool). IsPrepared c.args.session (Ok b)) c.in-Ok-false.field-0-test c.in-Ok-false.ensures
+returns-in-Ok-false g c =
+    subst (λ (b : Bool). IsPrepared c.args.session (Ok b)) c.in-Ok-false.field-0-test
+    (subst (λ (r : Result Bool CommitError). IfOk r (λ wrote. IsPrepared c.args.session (Ok wrote))) c.in-Ok-false.is c.prepare-desk.ensures)

@@ -1,0 +1,43 @@
+use Rattle.std.proofs.Common.{◌≡◌, inl, ℕ, ◌+◌, ◌-◌, ◌<◌, ◌≤◌, ◌^◌, List, subst, arith}
+use Rattle.std.specs.Prelude.{Result, Ok, Err}
+use Rattle.std.proofs.lemmas.Result.{MatchResult-weaker}
+use Rattle.std.specs.Range.Bound.{start_index, end_index}
+use Rattle.base.specs.declared.fault.Fault.{Fault}
+use Rattle.base.specs.declared.key.Key.{Key}
+use Rattle.base.specs.declared.step.Step.TheVariants.{Scan}
+use Rattle.database.specs.Replies.{rows_of}
+use Rattle.database.specs.Obeys.{AnswersStep}
+use Rattle.store.proofs.reading.Snapshot.scan.Goals as goal
+
+-- the same scan, by where the range begins and where it ends
+scanned : (session table least greatest start end : ℕ) (told : Result (List (Key × List ℕ)) Fault) → least ≡ start → greatest + 1 ≡ end → least ≤ greatest
+    → AnswersStep (Scan session table least greatest) rows_of told → (start < end) × AnswersStep (Scan session table start (end - 1)) rows_of told
+scanned session table least greatest start end told first last below answers =
+    let ends : greatest ≡ end - 1 = omega (arith, last) in (
+      omega (arith, first, last, below),
+      subst (λ (n : ℕ). AnswersStep (Scan session table start n) rows_of told) ends (subst (λ (n : ℕ). AnswersStep (Scan session table n greatest) rows_of told) first answers),
+    )
+
+pub returns-in-Some-clause-ok : goal.returns-in-Some-clause-ok
+returns-in-Some-clause-ok g c has =
+    let start = start_index (g.B.RangeBounds.start_bound c.args.range) in
+    let end = end_index (g.B.RangeBounds.end_bound c.args.range) (2 ^ 64) in
+    let first : c.in-Some.least ≡ start = omega (arith, c.in-Some.ensures.least has, c.in-Some.least-is) in
+    let last : c.in-Some.greatest + 1 ≡ end = omega (arith, c.in-Some.ensures.greatest has, c.in-Some.greatest-is) in
+    let below : c.in-Some.least ≤ c.in-Some.greatest = omega (arith, c.in-Some.ensures.some, c.in-Some.least-is, c.in-Some.greatest-is) in
+    MatchResult-weaker c.scan_between.result c.scan_between.ensures
+    (λ rows answers. inl (scanned c.args.self.now.reads.session c.args.table c.in-Some.least c.in-Some.greatest start end (Ok rows.items) first last below answers))
+    (λ error answers. tt)
+
+pub returns-in-Some-clause-err : goal.returns-in-Some-clause-err
+returns-in-Some-clause-err g c has =
+    let start = start_index (g.B.RangeBounds.start_bound c.args.range) in
+    let end = end_index (g.B.RangeBounds.end_bound c.args.range) (2 ^ 64) in
+    let first : c.in-Some.least ≡ start = omega (arith, c.in-Some.ensures.least has, c.in-Some.least-is) in
+    let last : c.in-Some.greatest + 1 ≡ end = omega (arith, c.in-Some.ensures.greatest has, c.in-Some.greatest-is) in
+    let below : c.in-Some.least ≤ c.in-Some.greatest = omega (arith, c.in-Some.ensures.some, c.in-Some.least-is, c.in-Some.greatest-is) in
+    MatchResult-weaker c.scan_between.result c.scan_between.ensures
+    (λ rows answers. tt)
+    (λ error answers.
+    let told = scanned c.args.self.now.reads.session c.args.table c.in-Some.least c.in-Some.greatest start end (Err answers.0) first last below answers.2 in
+    (told.0, (answers.0, answers.1, told.1)))

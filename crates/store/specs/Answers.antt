@@ -1,0 +1,52 @@
+-- What a store's calls return for the replies to their steps.
+use Rattle.std.specs.Prelude.{◌≡◌, ◌⊎◌, ◌≤◌, ◌<◌, ◌-◌, ℕ, List, [], length, slice_get, ⊤, Option, Result, Ok, Err}
+use Rattle.std.specs.Option.{option_map}
+use Rattle.base.specs.declared.fault.Fault.{Fault}
+use Rattle.base.specs.declared.fault.Fault.TheVariants.{TooLong}
+use Rattle.base.specs.declared.key.Key.{Key}
+use Rattle.base.specs.declared.step.Step.{Step}
+use Rattle.base.specs.declared.step.Step.TheVariants.{Scan}
+use Rattle.base.specs.declared.step.Reply.{Reply}
+use Rattle.database.specs.Replies.{rows_of}
+use Rattle.database.specs.Obeys.{AnswersStep}
+use Rattle.database.specs.Committing.{AnswersPut}
+use Rattle.store.specs.declared.error.StoreError.{StoreError}
+use Rattle.store.specs.Errors.{error_of}
+
+-- A run from an opening ends in this step, and what is returned is read off its reply: the fault as the error that it becomes
+abbrev pub Answers : {A : Type 0} → Step → (Reply → Result A Fault) → Result A StoreError → Type 0
+Answers step read (Ok value) = AnswersStep step read (Ok value)
+Answers step read (Err error) = (fault : Fault) × (error ≡ error_of fault) × AnswersStep step read (Err fault)
+
+-- ---- a range
+
+-- The session scanned the table from the first key on, up to before the other one, and was told these rows; or there is no key
+-- between, and there is no row
+abbrev pub Scans : ℕ → ℕ → ℕ → ℕ → List (Key × List ℕ) → Type 0
+Scans session table start end rows =
+    ((start < end) × AnswersStep (Scan session table start (end - 1)) rows_of (Ok rows)) ⊎ ((end ≤ start) × (rows ≡ []))
+
+-- the scan was refused
+abbrev pub ScanRefused : ℕ → ℕ → ℕ → ℕ → StoreError → Type 0
+ScanRefused session table start end error =
+    (start < end) × ((fault : Fault) × (error ≡ error_of fault) × AnswersStep (Scan session table start (end - 1)) rows_of (Err fault))
+
+-- such rows, of which this is the case
+abbrev pub OfScanned : ℕ → ℕ → ℕ → ℕ → (List (Key × List ℕ) → Type 0) → Type 0
+OfScanned session table start end Fact = (all : List (Key × List ℕ)) × Scans session table start end all × Fact all
+
+-- the number of the last key
+abbrev pub last_key_of : List (Key × List ℕ) → Option ℕ
+last_key_of rows = option_map (λ row. row.0.key) (slice_get rows (length rows - 1))
+
+-- ---- a put
+
+-- what a refusal of a put is called, where rows have at most so many bytes
+abbrev pub put_error : ℕ → Fault → StoreError
+put_error limit TooLong = StoreError.RowTooLong limit
+put_error limit fault = error_of fault
+
+-- the row was put under the key by this session, or the put was refused
+abbrev pub Puts : ℕ → Key → List ℕ → ℕ → Result ⊤ StoreError → Type 0
+Puts session key row limit (Ok done) = AnswersPut session key row (Ok done)
+Puts session key row limit (Err error) = (fault : Fault) × (error ≡ put_error limit fault) × AnswersPut session key row (Err fault)

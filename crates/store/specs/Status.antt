@@ -1,0 +1,18 @@
+-- What a status tells of a state.
+use Rattle.std.specs.Prelude.{◌≡◌, ◌-◌, ◌^◌, length}
+use Rattle.machine.specs.Machine.{State}
+use Rattle.session_steps.specs.Usage.{free_slots, CountsRows}
+use Rattle.store.specs.declared.status.Status.{Status}
+
+-- the numbers of the ruling record, how many long commits and gaps it has, and how many timestamps are left
+pub record ShowsNumbers (q : State) (status : Status) : Type 0 where
+  pub record_is : status.record ≡ q.ruling.gate
+  pub persisted : status.persisted ≡ q.ruling.persisted
+  pub longs : status.longs ≡ length q.ruling.longs
+  pub gaps : status.gaps ≡ length q.ruling.gaps
+  pub left : status.left ≡ 2 ^ 62 - q.next
+
+-- how many rows are committed, and how many slots hold no version
+pub record ShowsFill (q : State) (status : Status) : Type 0 where
+  pub rows : CountsRows q status.rows
+  pub free : status.free ≡ free_slots q
