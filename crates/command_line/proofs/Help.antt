@@ -1,25 +1,43 @@
 -- What the command line is, as clap's statements take it, and which kinds of error answer with help.
-use Rattle.std.proofs.Common.{◌≡◌, ◌⊎◌, Bool, true, false, not, ◌&&◌, List, [], ◌∷◌, ◌++◌, sym, ◌∙◌, ap, subst, inl, inr, refl}
+use Rattle.std.proofs.Common.{◌≡◌, ◌⊎◌, IfOk, IsOkAnd, Result, Ok, Err, Bool, true, false, not, ◌&&◌, List, [], ◌∷◌, ◌++◌, sym, ◌∙◌, ap, subst, inl, inr, refl}
+use Rattle.std.proofs.lemmas.Result.{IfOk-weaker}
 use Rattle.clap.specs.Words.{AddsArg, AddsSubcommand, App, IsAmong, Kinds, Rule, Shape, app_of, fault_of, rule_of, shape_of, with_rule, with_subcommand}
+use Rattle.std.specs.declared.alloc.AllocError.{AllocError}
 use Rattle.clap.specs.declared.builder.arg.Arg.{Arg}
 use Rattle.clap.specs.declared.builder.command.Command.{Command}
 use Rattle.clap.specs.declared.error.kind.ErrorKind.{ErrorKind}
 use Rattle.clap.specs.declared.error.kind.ErrorKind.TheVariants as kind
 use Rattle.clap.specs.declared.error.kind.ErrorKind.TheVariants.{DisplayHelp}
-use Rattle.command_line.specs.Help.{AnswersHelp, TellsKind, subcommand_shape, wbl}
+use Rattle.command_line.specs.Help.{AnswersHelp, TellsKind, app_with, subcommand_shape, wbl}
 use Rattle.command_line.specs.Numbers.{Text}
 use Rattle.command_line.specs.declared.orders.WordFault.{WordFault}
 use Rattle.command_line.specs.declared.orders.WordFault.TheVariants.{Help, BadWords, OutOfMemory}
 
--- a command of this name with these arguments, and no subcommand
-abbrev pub app_with : Text → List Rule → App
-app_with name rules = record { top = subcommand_shape name rules; subs = [] }
+module _ (name : Text) (rules : List Rule) (rule : Rule) where
+  adds-rule : (old : Command) (a : Arg) (new : Command) → AddsArg old a new → a.global ≡ false → rule_of a ≡ rule → app_of old ≡ app_with name rules
+      → app_of new ≡ app_with name (rules ++ rule ∷ [])
+  adds-rule old a new adds local is was =
+      subst (λ (s : App). app_of new ≡ with_rule s rule) was (subst (λ (r : Rule). app_of new ≡ with_rule (app_of old) r) is (adds.shape local))
 
-pub with-arg : (old : Command) (a : Arg) (new : Command) (name : Text) (rules : List Rule) (rule : Rule)
-    → AddsArg old a new → a.global ≡ false → rule_of a ≡ rule → app_of old ≡ app_with name rules
-    → app_of new ≡ app_with name (rules ++ rule ∷ [])
-with-arg old a new name rules rule adds local is was =
-    subst (λ (s : App). app_of new ≡ with_rule s rule) was (subst (λ (r : Rule). app_of new ≡ with_rule (app_of old) r) is (adds.shape local))
+  pub first-arg : (old : Command) (a : Arg) (made : Result Command AllocError) → IfOk made (AddsArg old a) → a.global ≡ false → rule_of a ≡ rule
+      → app_of old ≡ app_with name rules → IfOk made (λ new. app_of new ≡ app_with name (rules ++ rule ∷ []))
+  first-arg old a made adds local is was = IfOk-weaker made _ _ (λ new added. adds-rule old a new added local is was) adds
+
+  pub with-arg : (made : Result Command AllocError) (a : Arg) (next : Result Command AllocError) → IfOk next (λ new. IsOkAnd made (λ old. AddsArg old a new))
+      → a.global ≡ false → rule_of a ≡ rule → IfOk made (λ old. app_of old ≡ app_with name rules)
+      → IfOk next (λ new. app_of new ≡ app_with name (rules ++ rule ∷ []))
+  with-arg (Ok old) a next adds local is was = IfOk-weaker next _ _ (λ new added. adds-rule old a new added local is was) adds
+  with-arg (Err e) a (Ok new) adds local is was = elim adds [ ]
+  with-arg (Err e) a (Err none) adds local is was = tt
+
+  pub one-arg : (a : Arg) (made : Result Command AllocError) → IfOk made (λ new. app_of new ≡ app_with name (rule_of a ∷ [])) → rule_of a ≡ rule
+      → IfOk made (λ new. app_of new ≡ app_with name (rule ∷ []))
+  one-arg a made app is = IfOk-weaker made _ _ (λ new same. same ∙ ap (λ (r : Rule). app_with name (r ∷ [])) is) app
+
+-- the shape of what was made so
+pub shape-made : (name : Text) (rules : List Rule) (made : Result Command AllocError) → IfOk made (λ command. app_of command ≡ app_with name rules)
+    → IfOk made (λ command. shape_of command ≡ subcommand_shape name rules)
+shape-made name rules made is = IfOk-weaker made _ _ (λ command app. ap (λ (a : App). a.top) app) is
 
 -- a shape that is plain has no global argument
 globals-off : (a b c d : Bool) → (a && (b && (not c && d))) ≡ true → c ≡ false
@@ -28,12 +46,21 @@ globals-off true true true d plain = cc plain
 globals-off true false c d plain = cc plain
 globals-off false b c d plain = cc plain
 
-pub with-sub : (old sub new : Command) (a : App) (s : Shape) → AddsSubcommand old sub new → shape_of sub ≡ s → s.is_plain ≡ true → app_of old ≡ a
-    → app_of new ≡ with_subcommand a s
-with-sub old sub new a s adds is plain was =
-    subst (λ (o : App). app_of new ≡ with_subcommand o s) was
-    (subst (λ (t : Shape). app_of new ≡ with_subcommand (app_of old) t) is
-    (adds.shape (globals-off _ _ _ _ (ap (λ (t : Shape). t.is_plain) is ∙ plain))))
+module _ (a : App) (s : Shape) where
+  adds-sub : (old sub new : Command) → AddsSubcommand old sub new → shape_of sub ≡ s → s.is_plain ≡ true → app_of old ≡ a → app_of new ≡ with_subcommand a s
+  adds-sub old sub new adds is plain was =
+      subst (λ (o : App). app_of new ≡ with_subcommand o s) was
+      (subst (λ (t : Shape). app_of new ≡ with_subcommand (app_of old) t) is
+      (adds.shape (globals-off _ _ _ _ (ap (λ (t : Shape). t.is_plain) is ∙ plain))))
+
+  pub with-sub : (made sub next : Result Command AllocError) → IfOk next (λ new. IsOkAnd made (λ old. IsOkAnd sub (λ added. AddsSubcommand old added new)))
+      → IfOk sub (λ command. shape_of command ≡ s) → s.is_plain ≡ true → IfOk made (λ command. app_of command ≡ a)
+      → IfOk next (λ command. app_of command ≡ with_subcommand a s)
+  with-sub (Ok old) (Ok sub) next adds is plain was = IfOk-weaker next _ _ (λ new added. adds-sub old sub new added is plain was) adds
+  with-sub (Ok old) (Err e) (Ok new) adds is plain was = elim adds [ ]
+  with-sub (Err e) sub (Ok new) adds is plain was = elim adds [ ]
+  with-sub (Ok old) (Err e) (Err none) adds is plain was = tt
+  with-sub (Err e) sub (Err none) adds is plain was = tt
 
 -- ---- the answer
 
@@ -46,3 +73,10 @@ answers words is (BadWords text) bad (inr among) = λ alone.
     let met : IsAmong is (DisplayHelp ∷ []) = subst (λ (kinds : Kinds). IsAmong is kinds) alone among in
     elim met [ inl same ↦ bad.0 same | inr none ↦ none ]
 answers words is (OutOfMemory error) told met = tt
+
+-- where the words have no fault, bad words are blamed for being unusual
+pub unusual : (words : List Text) (is : ErrorKind) (fault : WordFault) → TellsKind is fault → is ≡ kind.InvalidValue → fault_of wbl words ≡ []
+    → AnswersHelp words fault
+unusual words is (Help text) help same none = let clash : DisplayHelp ≡ kind.InvalidValue = sym help ∙ same in cc clash
+unusual words is (BadWords text) bad same none = λ alone. let clash : DisplayHelp ∷ [] ≡ [] = sym alone ∙ none in cc clash
+unusual words is (OutOfMemory error) told same none = tt

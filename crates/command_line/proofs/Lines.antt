@@ -9,10 +9,6 @@ use Rattle.command_line.specs.Scripts.{line_of_words, own_line, script_line_of}
 use Rattle.command_line.specs.declared.command.Command.{Command}
 use Rattle.command_line.specs.declared.script_line.ScriptLine.{ScriptLine}
 
-pub command_of-no_words : (words : List Text) → length words < 1 → command_of words ≡ None
-command_of-no_words [] h = refl
-command_of-no_words (a ∷ words) h = absurd (omega arith)
-
 pub command_of-three_words : (words : List Text) → 3 ≤ length words → length words < 4 → command_of words ≡ None
 command_of-three_words [] h k = absurd (omega arith)
 command_of-three_words (a ∷ []) h k = absurd (omega arith)
@@ -20,32 +16,11 @@ command_of-three_words (a ∷ b ∷ []) h k = absurd (omega arith)
 command_of-three_words (a ∷ b ∷ c ∷ []) h k = refl
 command_of-three_words (a ∷ b ∷ c ∷ d ∷ words) h k = absurd (omega arith)
 
-pub command_of-many_words : (words : List Text) → 6 ≤ length words → command_of words ≡ None
-command_of-many_words [] h = absurd (omega arith)
-command_of-many_words (a ∷ []) h = absurd (omega arith)
-command_of-many_words (a ∷ b ∷ []) h = absurd (omega arith)
-command_of-many_words (a ∷ b ∷ c ∷ []) h = absurd (omega arith)
-command_of-many_words (a ∷ b ∷ c ∷ d ∷ []) h = absurd (omega arith)
-command_of-many_words (a ∷ b ∷ c ∷ d ∷ e ∷ []) h = absurd (omega arith)
-command_of-many_words (a ∷ b ∷ c ∷ d ∷ e ∷ f ∷ words) h = refl
-
-pub own_line-no_words : (words : List Text) → length words < 1 → own_line words ≡ None
-own_line-no_words [] h = refl
-own_line-no_words (a ∷ words) h = absurd (omega arith)
-
 pub own_line-two_words : (words : List Text) → 2 ≤ length words → length words < 3 → own_line words ≡ None
 own_line-two_words [] h k = absurd (omega arith)
 own_line-two_words (a ∷ []) h k = absurd (omega arith)
 own_line-two_words (a ∷ b ∷ []) h k = refl
 own_line-two_words (a ∷ b ∷ c ∷ words) h k = absurd (omega arith)
-
-pub own_line-many_words : (words : List Text) → 5 ≤ length words → own_line words ≡ None
-own_line-many_words [] h = absurd (omega arith)
-own_line-many_words (a ∷ []) h = absurd (omega arith)
-own_line-many_words (a ∷ b ∷ []) h = absurd (omega arith)
-own_line-many_words (a ∷ b ∷ c ∷ []) h = absurd (omega arith)
-own_line-many_words (a ∷ b ∷ c ∷ d ∷ []) h = absurd (omega arith)
-own_line-many_words (a ∷ b ∷ c ∷ d ∷ e ∷ words) h = refl
 
 -- ---- the first words decide
 

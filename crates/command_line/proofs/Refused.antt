@@ -1,12 +1,12 @@
 -- Words that give an order are no others: which subcommand they name, and what its file and options are.
 use Rattle.std.proofs.Common.{◌≡◌, ◌≢◌, ◌≤◌, ℕ, Bool, List, [], ◌∷◌, true, false, Option, Some, None, refl, sym, ◌∙◌, ap, subst, inl, inr, unwrap_or, codes, length, is_some, slice_index, arith, Bor}
-use Rattle.std.specs.Prelude.{IfNone, IfSome, IsOk, Result, Ok, Err, is_err, ◌↔◌}
+use Rattle.std.specs.Prelude.{IfNone, IsOk, Result, Ok, Err, is_err, ◌↔◌}
 use Rattle.std.specs.List.{flat_map}
 use Rattle.std.proofs.lemmas.List.{nil_from_length}
 use Rattle.base.specs.Layout.{is_in_limits}
 use Rattle.command_line.specs.Lines.{texts}
 use Rattle.command_line.specs.Numbers.{Text}
-use Rattle.command_line.specs.Words.{Gives, GivesAfter, GivesNothing, GivesNothingAfter, GivesRest, HasNumber, IsLeftOut, IsOneFile, Part, Spells, SpellsFormat, SpellsThreads, WritesAtMostOne, asked_layout, flag_of, flag_words, subcommand_of, value_of}
+use Rattle.command_line.specs.Words.{GivesNothing, GivesNothingAfter, HasNumber, IsLeftOut, Part, Spells, SpellsFormat, SpellsThreads, WritesAtMostOne, asked_layout, flag_of, flag_words, subcommand_of, value_of}
 use Rattle.command_line.specs.Given.{Agrees, AreGiven, IsNamed, at_most_one, number_at}
 use Rattle.command_line.specs.declared.given.Given.{Given}
 use Rattle.command_line.specs.declared.orders.Choice.{Choice}
@@ -246,53 +246,6 @@ named : (words rest : List (Bor Text)) (first : Bor Text) (other : Text) (more :
 named words rest first other more e1 e =
     let all : first.now ∷ texts rest ≡ other ∷ more = sym (ap texts e1) ∙ e in
     (sym (same_head first.now other (texts rest) more all), same_tail first.now other (texts rest) more all)
-
--- what follows a word that is a subcommand gives nothing
-pub nothing_after : (words rest : List (Bor Text)) (first : Bor Text) (name : Text) → words ≡ first ∷ rest → first.now ≡ name → GivesNothingAfter name (texts rest)
-    → GivesNothing (texts words)
-nothing_after words rest first name e1 is never order (more, e, g) =
-    let n = named words rest first (subcommand_of order) more e1 e in
-    never order (n.0 ∙ is, subst (λ (ws : List Text). GivesRest ws order) (sym n.1) g)
-
-pub refused_after : (result : Option Order) (words rest : List (Bor Text)) (first : Bor Text) (name : Text) → words ≡ first ∷ rest → first.now ≡ name
-    → IfNone result (GivesNothingAfter name (texts rest)) → IfNone result (GivesNothing (texts words))
-refused_after None words rest first name e1 is none = nothing_after words rest first name e1 is none
-refused_after (Some order) words rest first name e1 is none = tt
-
--- what follows a word that is a subcommand gives the order
-gives_after : (words rest : List (Bor Text)) (first : Bor Text) (name : Text) (order : Order) → words ≡ first ∷ rest → first.now ≡ name → GivesAfter name (texts rest) order
-    → Gives (texts words) order
-gives_after words rest first name order e1 is (of, g) = (texts rest, ap texts e1 ∙ ap (λ (w : Text). w ∷ texts rest) (is ∙ sym of), g)
-
-pub given_after : (result : Option Order) (words rest : List (Bor Text)) (first : Bor Text) (name : Text) → words ≡ first ∷ rest → first.now ≡ name
-    → IfSome result (λ order. GivesAfter name (texts rest) order) → IfSome result (λ order. Gives (texts words) order)
-given_after None words rest first name e1 is some = tt
-given_after (Some order) words rest first name e1 is some = gives_after words rest first name order e1 is some
-
--- no one file follows
-abbrev pub NoOneFile : List Text → Type 0
-NoOneFile words = (name : Text) → IsOneFile words name → ⊥
-
-no_run-after : (words : List Text) → NoOneFile words → GivesNothingAfter (codes "run") words
-no_run-after words never (Run name) (is, one) = never name.now one
-no_run-after words never order (is, rest) = let first : initial order ≡ 114 = begins order (codes "run") is in absurd (omega (arith, first))
-
-no_check-after : (words : List Text) → NoOneFile words → GivesNothingAfter (codes "check") words
-no_check-after words never (Check name) (is, one) = never name.now one
-no_check-after words never order (is, rest) = let first : initial order ≡ 99 = begins order (codes "check") is in absurd (omega (arith, first))
-
-no_lives-after : (words : List Text) → NoOneFile words → GivesNothingAfter (codes "lives") words
-no_lives-after words never (Lives name) (is, one) = never name.now one
-no_lives-after words never order (is, rest) = let first : initial order ≡ 108 = begins order (codes "lives") is in absurd (omega (arith, first))
-
-pub no_run : (words rest : List (Bor Text)) (first : Bor Text) → words ≡ first ∷ rest → first.now ≡ codes "run" → NoOneFile (texts rest) → GivesNothing (texts words)
-no_run words rest first e1 is never = nothing_after words rest first (codes "run") e1 is (no_run-after (texts rest) never)
-
-pub no_check : (words rest : List (Bor Text)) (first : Bor Text) → words ≡ first ∷ rest → first.now ≡ codes "check" → NoOneFile (texts rest) → GivesNothing (texts words)
-no_check words rest first e1 is never = nothing_after words rest first (codes "check") e1 is (no_check-after (texts rest) never)
-
-pub no_lives : (words rest : List (Bor Text)) (first : Bor Text) → words ≡ first ∷ rest → first.now ≡ codes "lives" → NoOneFile (texts rest) → GivesNothing (texts words)
-no_lives words rest first e1 is never = nothing_after words rest first (codes "lives") e1 is (no_lives-after (texts rest) never)
 
 -- a word that is no subcommand
 pub no_subcommand : (words rest : List (Bor Text)) (first : Bor Text) → words ≡ first ∷ rest

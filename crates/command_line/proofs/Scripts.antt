@@ -49,31 +49,8 @@ goes-on fuse keeps commands one false unclosed =
     ∙ (map-append (λ (c : Command). line.Command c) commands (one ∷ [])
     ∙ ap (λ l. l ++ line.Command one ∷ []) (sym (append-nil (map (λ c. line.Command c) commands)))))
 
-pub is-closed : (fuse : Option ℕ) (keeps : Survivor) (commands : List Command) (closes : Bool) → closes ≡ false
-    → (line.Life fuse keeps ∷ (map (λ c. line.Command c) commands ++ line.Close ∷ []))
-    ≡ (line.Life fuse keeps ∷ (map (λ c. line.Command c) commands ++ closing closes)) ++ line.Close ∷ []
-is-closed fuse keeps commands true unclosed = cc unclosed
-is-closed fuse keeps commands false unclosed =
-    ap (λ l. line.Life fuse keeps ∷ l) (ap (λ l. l ++ line.Close ∷ []) (sym (append-nil (map (λ c. line.Command c) commands))))
-
 lives-with : (before : List ScriptLife) (life : ScriptLife) → flat_map lines_of_life (before ++ life ∷ []) ≡ flat_map lines_of_life before ++ lines_of_life life
 lives-with before life = flat_map-append lines_of_life before (life ∷ []) ∙ ap (λ l. flat_map lines_of_life before ++ l) (append-nil (lines_of_life life))
-
--- the last life has more lines
-pub last-grows : (old before now : List ScriptLife) (life grown : ScriptLife) (more : List ScriptLine) → old ≡ before ++ life ∷ [] → now ≡ before ++ grown ∷ []
-    → lines_of_life grown ≡ lines_of_life life ++ more → flat_map lines_of_life now ≡ flat_map lines_of_life old ++ more
-last-grows old before now life grown more was is grows =
-    ap (flat_map lines_of_life) is
-    ∙ (lives-with before grown
-    ∙ (ap (λ l. flat_map lines_of_life before ++ l) grows
-    ∙ (sym (append_assoc (flat_map lines_of_life before) (lines_of_life life) more)
-    ∙ ap (λ l. l ++ more) (sym (lives-with before life) ∙ ap (flat_map lines_of_life) (sym was)))))
-
--- one more life
-pub life-begins : (old now : List ScriptLife) (life : ScriptLife) (first : ScriptLine) → now ≡ old ++ life ∷ [] → lines_of_life life ≡ first ∷ []
-    → flat_map lines_of_life now ≡ flat_map lines_of_life old ++ first ∷ []
-life-begins old now life first is begins =
-    ap (flat_map lines_of_life) is ∙ (lives-with old life ∙ ap (λ l. flat_map lines_of_life old ++ l) begins)
 
 -- ---- lines that are out of place
 

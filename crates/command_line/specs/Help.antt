@@ -34,6 +34,10 @@ flag_rule name = record (new_rule name) { long = Some name; action = Some SetTru
 abbrev pub subcommand_shape : Text → List Rule → Shape
 subcommand_shape name rules = record (new_shape name) { rules = rules }
 
+-- a command of this name with these arguments, and no subcommand
+abbrev pub app_with : Text → List Rule → App
+app_with name rules = record { top = subcommand_shape name rules; subs = [] }
+
 abbrev pub format_shape : Shape
 format_shape = subcommand_shape (codes "format") (name_rule (codes "FILE") ∷ number_rule (codes "slots") (codes "1024") 1 65536
     ∷ number_rule (codes "places") (codes "4") 2 64 ∷ number_rule (codes "window") (codes "64") 4 1024
@@ -59,10 +63,6 @@ wbl_alone = record { top = record (new_shape (codes "wbl")) { no_binary_name = t
 -- with some
 abbrev pub wbl_with : List Shape → App
 wbl_with subs = record { top = record wbl_alone.top { is_leaf = false }; subs = subs }
-
--- with format, run and check
-abbrev pub wbl_of_images : App
-wbl_of_images = wbl_with (format_shape ∷ run_shape ∷ check_shape ∷ [])
 
 -- all of it
 abbrev pub wbl : App

@@ -2,7 +2,7 @@ use base::step::SessionStep;
 
 /// Which image of a stopped device is kept: of each word the oldest value that may have survived,
 /// or the newest.
-#[derive(Clone, Copy, Debug, PartialEq, Eq)]
+#[derive(Clone, Copy)]
 pub enum Survivor {
     Oldest,
     Newest,

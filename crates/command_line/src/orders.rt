@@ -9,7 +9,7 @@ use std::alloc::AllocError;
 use thiserror::Error;
 
 /// What the words of the command line ask for.
-#[derive(Clone, Copy, Debug, PartialEq, Eq)]
+#[derive(Clone, Copy)]
 pub enum Order<'a> {
     /// A new image is written into the file, with slots of two lines where wide ones are asked for.
     Format {
@@ -41,7 +41,7 @@ pub enum Order<'a> {
 }
 
 /// An option with a number: three of `format`, and two of `threads`.
-#[derive(Clone, Copy, Debug, PartialEq, Eq)]
+#[derive(Clone, Copy)]
 pub enum Choice {
     Slots,
     Places,

@@ -30,7 +30,7 @@ pub struct Script {
 }
 
 /// Why a text is no script.
-#[derive(Clone, Copy, Debug, PartialEq, Eq)]
+#[derive(Clone, Copy)]
 pub enum ScriptFault {
     /// The line of this number, from 1 on, is none that may stand there.
     WrongLine(u64),

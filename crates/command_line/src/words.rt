@@ -1,8 +1,9 @@
-ghost use Rattle.std.specs.Prelude.{◌≡◌, codes, false, IfErr, IfOk, OnErr};
-ghost use Rattle.clap.specs.Words.{app_of, kind_of, rule_of, shape_of};
-ghost use Rattle.command_line.specs.Help.{AnswersHelp, TellsKind, check_shape, flag_rule, format_shape, lives_shape, name_rule, number_rule, run_shape, threads_shape, wbl, wbl_alone, wbl_of_images};
+ghost use Rattle.std.specs.Prelude.{◌≡◌, [], ◌∷◌, codes, false, IfErr, IfOk, IsOkAnd, OnErr};
+ghost use Rattle.clap.specs.Words.{AddsArg, AddsSubcommand, app_of, kind_of, rule_of, shape_of};
+ghost use Rattle.command_line.specs.Help.{AnswersHelp, TellsKind, app_with, check_shape, flag_rule, format_shape, lives_shape, name_rule, number_rule, run_shape, threads_shape, wbl, wbl_alone};
 ghost use Rattle.command_line.specs.Lines.{texts};
 ghost use Rattle.command_line.specs.Words.{Gives, GivesNothing};
+ghost use Rattle.command_line.specs.declared.orders.WordFault.{WordFault as WordFaultValue};
 
 use crate::given::spelled_order;
 use crate::orders::{MOST_COMMITS, MOST_SESSIONS, Order, WordFault};
@@ -34,17 +35,23 @@ fn bad_words<'a>(alloc: Global, words: &'a [&'a str]) -> Result<WordFault, Alloc
     ensures help { IfOk result (AnswersHelp (texts words.now)) }
 {
     let mut command = command_line(alloc)?;
+    let error = error_of(&mut command, words)?;
+    Ok(word_fault(alloc, &error))
+}
+
+// What clap says of the words, or where it takes them, that they are unusual.
+fn error_of<'a>(command: &mut Command<'a>, words: &'a [&'a str]) -> Result<clap::Error, AllocError>
+    requires { app_of command.old ≡ wbl }
+    ensures help { IfOk result (λ error. (fault : WordFaultValue) → TellsKind (kind_of error) fault → AnswersHelp (texts words.now) fault) }
+{
     match command.try_get_matches_from_mut(words) {
-        Err(error) => Ok(word_fault(alloc, &error)),
-        Ok(_) => {
-            let error = command.error(ErrorKind::InvalidValue, UNUSUAL_WORDS)?;
-            Ok(word_fault(alloc, &error))
-        }
+        Err(error) => Ok(error),
+        Ok(_) => command.error(ErrorKind::InvalidValue, UNUSUAL_WORDS),
     }
 }
 
 const UNUSUAL_WORDS: &str =
-    "a number is written in digits alone, and a file whose name begins with '-' as ./-NAME";
+    "a number has 1 to 20 digits and nothing else, and a file whose name begins with '-' is written as ./-NAME";
 
 fn word_fault(alloc: Global, error: &clap::Error) -> WordFault
     ensures { TellsKind (kind_of error.now) result }
@@ -62,9 +69,32 @@ fn word_fault(alloc: Global, error: &clap::Error) -> WordFault
 fn command_line<'a>(alloc: Global) -> Result<Command<'a>, AllocError>
     ensures { IfOk result (λ command. app_of command ≡ wbl) }
 {
-    with_image_commands(alloc, program(alloc)?)?
-        .subcommand(lives_command(alloc)?)?
-        .subcommand(threads_command(alloc)?)
+    let format = with_subcommand(program(alloc), format_command(alloc));
+    let run = with_subcommand(format, run_command(alloc));
+    let check = with_subcommand(run, check_command(alloc));
+    let lives = with_subcommand(check, lives_command(alloc));
+    with_subcommand(lives, threads_command(alloc))
+}
+
+// Adds a subcommand, where there was memory for both. What failed is passed on as it is, since a function with many ways out takes
+// the prover long.
+fn with_subcommand<'a>(
+    made: Result<Command<'a>, AllocError>,
+    subcommand: Result<Command<'a>, AllocError>,
+) -> Result<Command<'a>, AllocError>
+    ensures { IfOk result (λ new. IsOkAnd made.entry (λ command. IsOkAnd subcommand.entry (λ added. AddsSubcommand command added new))) }
+{
+    made?.subcommand(subcommand?)
+}
+
+// Adds an argument, where there was memory for what was made before.
+fn with_argument<'a>(
+    made: Result<Command<'a>, AllocError>,
+    argument: Arg<'a>,
+) -> Result<Command<'a>, AllocError>
+    ensures { IfOk result (λ new. IsOkAnd made.entry (λ command. AddsArg command argument.entry new)) }
+{
+    made?.arg(argument)
 }
 
 // The program, still without subcommands.
@@ -81,49 +111,64 @@ fn program<'a>(alloc: Global) -> Result<Command<'a>, AllocError>
     Ok(command)
 }
 
-// Adds the subcommands format, run and check.
-fn with_image_commands<'a>(alloc: Global, command: Command<'a>) -> Result<Command<'a>, AllocError>
-    requires { app_of command ≡ wbl_alone }
-    ensures { IfOk result (λ command. app_of command ≡ wbl_of_images) }
+// A subcommand with an argument that has to be given, before the options.
+fn subcommand<'a>(
+    alloc: Global,
+    name: &'a str,
+    about: &'a str,
+    example: &'a str,
+    argument: Arg<'a>,
+) -> Result<Command<'a>, AllocError>
+    requires { argument.global ≡ false }
+    ensures { IfOk result (λ command. app_of command ≡ app_with name.now (rule_of argument.entry ∷ [])) }
 {
-    command
-        .subcommand(format_command(alloc)?)?
-        .subcommand(run_command(alloc)?)?
-        .subcommand(check_command(alloc)?)
+    Command::new(alloc, name)
+        .about(about)
+        .after_help(example)
+        .arg(argument)
 }
 
 fn format_command<'a>(alloc: Global) -> Result<Command<'a>, AllocError>
     ensures { IfOk result (λ command. shape_of command ≡ format_shape) }
 {
-    let slots = number_option(alloc, "slots", "1024", 1, 65_536).help(
-        "How many versions of rows there is room for, 1 to 65536",
+    let file = subcommand(
+        alloc,
+        "format",
+        "Writes a new, empty image into FILE",
+        "Example: wbl format db.img --slots 8 --places 2 --window 8\nprints: formatted 136 words",
+        file_argument(alloc),
     );
-    let places = number_option(alloc, "places", "4", 2, 64).help(
-        "How many places there are for commit records, 2 to 64",
+    let slots = with_argument(
+        file,
+        number_option(alloc, "slots", "1024", 1, 65_536).help(
+            "How many versions of rows there is room for, 1 to 65536",
+        ),
     );
-    let window = number_option(alloc, "window", "64", 4, 1024).help(
-        "How many timestamps a commit record leaves for later commits, 4 to 1024",
+    let places = with_argument(
+        slots,
+        number_option(alloc, "places", "4", 2, 64).help(
+            "How many places there are for commit records, 2 to 64",
+        ),
     );
-    let wide = wide_option(alloc);
-    Command::new(alloc, "format")
-        .about("Writes a new, empty image into FILE")
-        .after_help(
-            "Example: wbl format db.img --slots 8 --places 2 --window 8\nprints: formatted 136 words",
-        )
-        .arg(file_argument(alloc))?
-        .arg(slots)?
-        .arg(places)?
-        .arg(window)?
-        .arg(wide)
+    let window = with_argument(
+        places,
+        number_option(alloc, "window", "64", 4, 1024).help(
+            "How many timestamps a commit record leaves for later commits, 4 to 1024",
+        ),
+    );
+    with_argument(window, wide_option(alloc))
 }
 
 fn run_command<'a>(alloc: Global) -> Result<Command<'a>, AllocError>
     ensures { IfOk result (λ command. shape_of command ≡ run_shape) }
 {
-    Command::new(alloc, "run")
-        .about("Opens the image in FILE and obeys the lines of standard input")
-        .after_help(RUN_EXAMPLE)
-        .arg(file_argument(alloc))
+    subcommand(
+        alloc,
+        "run",
+        "Opens the image in FILE and obeys the lines of standard input",
+        RUN_EXAMPLE,
+        file_argument(alloc),
+    )
 }
 
 const RUN_EXAMPLE: &str = "Example: wbl run db.img, with the lines
@@ -139,22 +184,25 @@ closed and written back.";
 fn check_command<'a>(alloc: Global) -> Result<Command<'a>, AllocError>
     ensures { IfOk result (λ command. shape_of command ≡ check_shape) }
 {
-    Command::new(alloc, "check")
-        .about("Tests the image in FILE without opening it, and prints its rows")
-        .after_help(
-            "Example: wbl check db.img\nprints: sound gate 4 p 1 d 2 gaps -\n        1 7 6162\n        end 1",
-        )
-        .arg(file_argument(alloc))
+    subcommand(
+        alloc,
+        "check",
+        "Tests the image in FILE without opening it, and prints its rows",
+        "Example: wbl check db.img\nprints: sound gate 4 p 1 d 2 gaps -\n        1 7 6162\n        end 1",
+        file_argument(alloc),
+    )
 }
 
 fn lives_command<'a>(alloc: Global) -> Result<Command<'a>, AllocError>
     ensures { IfOk result (λ command. shape_of command ≡ lives_shape) }
 {
-    let script = name_argument(alloc, "SCRIPT", "The file that holds the script");
-    Command::new(alloc, "lives")
-        .about("Lives the lives of the script in SCRIPT, each stopped by a crash, and reports them")
-        .after_help(LIVES_EXAMPLE)
-        .arg(script)
+    subcommand(
+        alloc,
+        "lives",
+        "Lives the lives of the script in SCRIPT, each stopped by a crash, and reports them",
+        LIVES_EXAMPLE,
+        name_argument(alloc, "SCRIPT", "The file that holds the script"),
+    )
 }
 
 const LIVES_EXAMPLE: &str = "Example: wbl lives two.script, with the lines
@@ -174,20 +222,25 @@ and of each word the newest value that may have survived is kept. So the second 
 fn threads_command<'a>(alloc: Global) -> Result<Command<'a>, AllocError>
     ensures { IfOk result (λ command. shape_of command ≡ threads_shape) }
 {
-    let sessions = number_option(alloc, "sessions", "4", 1, MOST_SESSIONS).help(
-        "How many threads there are, each with a session of its own, 1 to 32",
+    let file = subcommand(
+        alloc,
+        "threads",
+        "Opens the image in FILE, and commits rows from several threads at once",
+        "Example: wbl threads db.img --sessions 2 --commits 3\nprints: committed 6\n        1 0 0300000000000000\n        1 1 0300000000000000\n        end 2\n        closed",
+        file_argument(alloc),
     );
-    let commits = number_option(alloc, "commits", "8", 1, MOST_COMMITS).help(
-        "How many commits each of them makes, 1 to 1000",
+    let sessions = with_argument(
+        file,
+        number_option(alloc, "sessions", "4", 1, MOST_SESSIONS).help(
+            "How many threads there are, each with a session of its own, 1 to 32",
+        ),
     );
-    Command::new(alloc, "threads")
-        .about("Opens the image in FILE, and commits rows from several threads at once")
-        .after_help(
-            "Example: wbl threads db.img --sessions 2 --commits 3\nprints: committed 6\n        1 0 0300000000000000\n        1 1 0300000000000000\n        end 2\n        closed",
-        )
-        .arg(file_argument(alloc))?
-        .arg(sessions)?
-        .arg(commits)
+    with_argument(
+        sessions,
+        number_option(alloc, "commits", "8", 1, MOST_COMMITS).help(
+            "How many commits each of them makes, 1 to 1000",
+        ),
+    )
 }
 
 fn file_argument<'a>(alloc: Global) -> Arg<'a>

@@ -118,12 +118,3 @@ told-so order stop file input old mid new None met told = tt
 told-so order stop file input old mid new (Some after) met told =
     bad-line-by after (λ (number : ℕ). IsLineOf stop number × Tells mid new number) (TellsLine order file input old new)
     (λ number t. told-by order stop file input old mid new number met t.0 t.1) told
-
--- what is returned as it is
-pub at-line : {T : Type 0} (r : Result T Stop) (order actual : Order) (file : List ℕ) (input old new : Option Text) (P : ℕ → Type 0) → order ≡ actual
-    → ((number : ℕ) → P number → EndsAtLine actual file input old new number []) → IfErr r (IfBadLine P)
-    → IfErr r (IfBadLine (λ number. EndsAtLine order file input old new number []))
-at-line (Ok x) order actual file input old new P is says p = tt
-at-line (Err y) order actual file input old new P is says p =
-    bad-line-by y P (λ (number : ℕ). EndsAtLine order file input old new number [])
-    (λ number q. subst (λ (o : Order). EndsAtLine o file input old new number []) (sym is) (says number q)) p

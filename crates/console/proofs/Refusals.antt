@@ -42,11 +42,6 @@ pub fault-on : {T : Type 0} (r : Result T Stop) (stop : Stop) (P Q : Fault → T
 fault-on (Ok x) stop P Q is says p = tt
 fault-on (Err y) stop P Q is says p = subst (IfRefused Q) (sym is) (fault-by stop P Q says p)
 
--- what is returned as it is
-pub fault-in : {T : Type 0} (r : Result T Stop) (P Q : Fault → Type 0) → ((fault : Fault) → P fault → Q fault) → IfErr r (IfRefused P) → IfErr r (IfRefused Q)
-fault-in (Ok x) P Q says p = tt
-fault-in (Err y) P Q says p = fault-by y P Q says p
-
 -- nothing is printed
 pub appends-same : (old new : Option Text) → new ≡ old → Appends old new []
 appends-same old new same = subst (λ (known : Option Text). Appends old known []) (sym same) (appends-none old)

@@ -125,7 +125,7 @@ read is of one moment.",
         name: "stat",
         form: "stat",
         short: "answers the layout and how full it is",
-        long: "Answers the layout of the store, how many rows it has and how many more it takes, and what is left of its timestamps.",
+        long: "Answers the layout of the store, how many rows and versions of rows it has, how many slots are free, and what is left of its timestamps.",
         example: "stat",
     },
     Topic {
@@ -166,7 +166,7 @@ prints them. It ends at the first line that it can't take, and what it has commi
         name: "quit",
         form: "quit",
         short: "ends, as the end of the input does",
-        long: "Ends. A transaction that is open isn't kept.",
+        long: "Ends, as exit does. A transaction that is open isn't kept.",
         example: "quit",
     },
 ];

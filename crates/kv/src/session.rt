@@ -185,10 +185,10 @@ impl<'a, R: Wait + Drop> Session<'a, R> {
     }
 
     fn status(&mut self) -> Result<Answer, Failed> {
-        let rows = self.all()?;
+        self.test_whole()?;
         let geometry = self.database.geometry();
         let status = self.database.status();
-        let statistics = Statistics::of(&geometry, &status, rows.len());
+        let statistics = Statistics::of(&geometry, &status, &self.database.usage());
         Ok(Answer::Status(statistics))
     }
 

@@ -1,6 +1,6 @@
 use base::NUMBER_LIMIT;
 use base::geometry::Geometry;
-use room::Status;
+use room::{Status, Usage};
 use std::fmt;
 
 /// How a store is laid out, and how full it is.
@@ -8,17 +8,20 @@ use std::fmt;
 pub struct Statistics {
     geometry: Geometry,
     rows: u64,
+    versions: u64,
+    free: u64,
     gaps: u64,
     longs: u64,
     left: u64,
 }
 
 impl Statistics {
-    /// Those of a store with so many rows.
-    pub fn of(geometry: &Geometry, status: &Status, rows: usize) -> Statistics {
+    pub fn of(geometry: &Geometry, status: &Status, usage: &Usage) -> Statistics {
         Statistics {
             geometry: *geometry,
-            rows: rows as u64,
+            rows: usage.rows as u64,
+            versions: geometry.slots().saturating_sub(usage.free),
+            free: usage.free,
             gaps: status.gaps.as_slice().len() as u64,
             longs: status.longs.as_slice().len() as u64,
             left: NUMBER_LIMIT.saturating_sub(status.next),
@@ -43,13 +46,15 @@ impl Statistics {
     fn write_fill<W: fmt::Write>(&self, f: &mut fmt::Formatter<W>) -> fmt::Result {
         let Statistics {
             rows,
+            versions,
+            free,
             gaps,
             longs,
             left,
             ..
         } = *self;
-        let free = self.geometry.slots().saturating_sub(rows);
         writeln!(f, "rows {rows}")?;
+        writeln!(f, "versions {versions}")?;
         writeln!(f, "free {free}")?;
         writeln!(f, "gaps {gaps}")?;
         writeln!(f, "longs {longs}")?;

@@ -37,6 +37,7 @@ pub fn parse_words(words: &[&str]) -> Result<Command, Error> {
         bail!("no command: help lists them");
     };
     match *name {
+        "exit" => parse_own("quit", arguments),
         "load" | "quit" | "help" | "timing" => parse_own(name, arguments),
         _ => Ok(Command::Ask(parse_request(name, arguments)?)),
     }

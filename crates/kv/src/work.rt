@@ -1,7 +1,7 @@
 use crate::answers::{Manner, Printer, Terminals};
 use crate::command::Command;
 use crate::help::Word;
-use crate::opening::{Device, open};
+use crate::opening::{Device, open, reason_of};
 use crate::options::{Options, command_line, read_options};
 use crate::refusal::{Failure, Reason, Stop};
 use crate::shell::{answer_command, answer_lines};
@@ -119,7 +119,9 @@ fn serve<
     let device = open(rt, alloc, options.file, options.geometry)?;
     let database = match Database::open(*rt, alloc, device) {
         Ok(database) => database,
-        Err(refused) => return Err(Failure::NotOpened(reason_of(refused))),
+        Err(Refused { fault, device }) => {
+            return Err(Failure::NotOpened(reason_of(device, fault)));
+        }
     };
     let answered = match &options.command {
         Some(command) => answer_command(rt, alloc, &database, manner, command),
@@ -137,20 +139,13 @@ fn close<R: Wait + Drop>(
     database: Database<Device, R>,
     answered: Result<bool, Stop>,
 ) -> Result<bool, Failure> {
-    match database.close() {
-        Ok(_device) => Ok(answered?),
-        Err(refused) => {
-            let stop = answered.err().unwrap_or(Stop::AtClose);
-            let reason = reason_of(refused);
-            Err(Failure::NotClosed { reason, stop })
-        }
-    }
-}
-
-// Why the device failed, where a write or a sync of it did; else why the call was refused.
-fn reason_of(refused: Refused<Device>) -> Reason {
-    match refused.device.failure() {
-        Some(error) => Reason::Io(error),
-        None => Reason::Fault(refused.fault),
-    }
+    let reason = match database.close() {
+        Ok(device) => match device.close() {
+            Ok(()) => return Ok(answered?),
+            Err(error) => Reason::Io(error),
+        },
+        Err(Refused { fault, device }) => reason_of(device, fault),
+    };
+    let stop = answered.err().unwrap_or(Stop::AtClose);
+    Err(Failure::NotClosed { reason, stop })
 }

@@ -1,3 +1,6 @@
+//! A life may end at any point, within its opening too, and its device is handed on each time: the next one has to open what is
+//! left.
+
 ghost use Rattle.std.specs.Prelude.{◌≡◌, IfOk, IfErr};
 ghost use Rattle.base.specs.declared.fault.Fault.TheVariants.{OutOfMemory};
 ghost use Rattle.machine.specs.Machine.{State};

@@ -1,3 +1,5 @@
+//! The device is at rest after a crash, and without a fuse: that was this life's alone.
+
 ghost use Rattle.std.specs.Prelude.{◌≡◌, Some, IfOk, IfErr};
 ghost use Rattle.base.specs.declared.fault.Fault.TheVariants.{OutOfMemory};
 ghost use Rattle.base.specs.Images.{log_damage};

@@ -1,3 +1,5 @@
+//! A life is data, so that one can be written down, made at random or cut shorter.
+
 use base::Ts;
 use base::fault::Fault;
 use base::gap::Gaps;

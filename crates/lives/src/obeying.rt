@@ -1,3 +1,6 @@
+//! Once the device has failed further steps say nothing. A step that was refused or found nothing to do isn't repeated, so a
+//! script may ask for more ticks than there are.
+
 ghost use Rattle.std.specs.Prelude.{◌≡◌, ◌≤◌, IfOk, Some};
 ghost use Rattle.machine.specs.Machine.{State};
 ghost use Rattle.pmem_model.specs.Sim.{device_of};

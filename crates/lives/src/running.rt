@@ -1,3 +1,5 @@
+//! One device goes through all the lives, since what a stop may leave depends on all that was done to it before.
+
 ghost use Rattle.std.specs.Prelude.{◌≡◌, [], IfOk, IfErr};
 ghost use Rattle.base.specs.declared.fault.Fault.TheVariants.{OutOfMemory};
 ghost use Rattle.base.specs.Fresh.{fresh_image};

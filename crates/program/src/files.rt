@@ -1,4 +1,4 @@
-use command_line::image_file::MOST_FILE_BYTES;
+use crate::image::{MOST_BYTES, image_bytes};
 use command_line::orders::Order;
 use std::alloc::Global;
 use std::fs::{File, Metadata, OpenOptions, Permissions, TryLockError};
@@ -25,7 +25,7 @@ pub struct Target {
 /// What an order's file holds, and where it is to be replaced.
 #[derive(Drop)]
 pub struct Found {
-    /// Nothing of a format, of an image no more than shows that it is too long, and a script whole.
+    /// Nothing of a format, the image that a file stands for, or no more than shows that it is too long, and a script whole.
     pub bytes: Vec<u8>,
     /// None for an order that only reads.
     pub target: Option<Target>,
@@ -127,9 +127,9 @@ fn is_still(rt: &impl Files, name: &str, file: &File) -> io::Result<()> {
 
 fn read_image(alloc: Global, file: &File) -> io::Result<Vec<u8>> {
     let mut bytes = Vec::new(alloc);
-    let most = MOST_FILE_BYTES as u64 + 1;
+    let most = MOST_BYTES as u64 + 1;
     file.take(most).read_to_end(&mut bytes)?;
-    Ok(bytes)
+    image_bytes(alloc, bytes)
 }
 
 // An image that is only read. Nobody writes it meanwhile who locks it; what is no regular file has no such writer.

@@ -3,6 +3,7 @@
 
 mod files;
 mod heard;
+mod image;
 mod running;
 
 pub use running::{Exit, Told, run_words};
