@@ -1,3 +1,7 @@
+ghost use Rattle.std.specs.Prelude.{IfOk};
+ghost use Rattle.pmem.specs.Words.{IsAtRest};
+ghost use Rattle.pmem_file.specs.Traces.{device_of};
+
 use crate::kinds;
 use crate::kinds::{begin, collect, cover, draw, get, put, stamp};
 use anyhow::Error;
@@ -6,7 +10,7 @@ use base::geometry::Geometry;
 use base::key::Key;
 use base::step::{Reply, Step};
 use pmem::Pmem;
-use pmem_file::{FileLines, FilePmem, Nowhere};
+use pmem_file::{FileDevice, JournaledPmem, Nowhere};
 use pmem_model::SimPmem;
 use recovery::format;
 use room::Room;
@@ -76,24 +80,24 @@ fn open<H: Threads + Sync>(rt: &H, alloc: Global, words: &[u64]) -> Result<Room<
     }
 }
 
-/// The same over a device that keeps neither its history nor its lines.
+/// The same over a device that keeps neither its history nor its image.
 pub fn load_plain<H: Threads + Sync>(
     rt: &H,
     alloc: Global,
     load: &Load,
-) -> Result<Room<FilePmem<Nowhere>>, Error> {
+) -> Result<Room<JournaledPmem<Nowhere>>, Error> {
     let mut room = open_plain(rt, alloc, load)?;
     put_each_key(&mut room, load)?;
     Ok(room)
 }
 
-/// The same over a device whose lines lie in the file of this name, which is formatted.
+/// The same over a device whose image is kept in the file of this name, which is formatted.
 pub fn load_file<H: Files<File = File> + Threads + Sync>(
     rt: &H,
     alloc: Global,
     load: &Load,
     name: &str,
-) -> Result<Room<FilePmem<FileLines>>, Error> {
+) -> Result<Room<FileDevice>, Error> {
     let mut room = open_file(rt, alloc, load, name)?;
     put_each_key(&mut room, load)?;
     Ok(room)
@@ -112,14 +116,24 @@ fn put_each_key<D: Pmem + Drop>(room: &mut Room<D>, load: &Load) -> Result<(), F
     Ok(())
 }
 
+/// A device of these words that keeps its image nowhere.
+pub fn plain(alloc: Global, words: Vec<u64>) -> Result<JournaledPmem<Nowhere>, Fault>
+    ensures { IfOk result (λ device. IsAtRest (device_of device.trace)) }
+{
+    match JournaledPmem::new(alloc, words, Nowhere, Geometry::LEAST_PLACES as usize) {
+        Ok(device) => Ok(device),
+        Err(Nowhere) => Err(Fault::OutOfMemory),
+    }
+}
+
 fn open_plain<H: Threads + Sync>(
     rt: &H,
     alloc: Global,
     load: &Load,
-) -> Result<Room<FilePmem<Nowhere>>, Error> {
+) -> Result<Room<JournaledPmem<Nowhere>>, Error> {
     let geometry = Geometry::new(load.slots, Geometry::LEAST_PLACES, Geometry::MOST_WINDOW)?;
     let words = vec![in alloc; 0; geometry.words() as usize]?;
-    let mut device = FilePmem::new(alloc, words, Nowhere)?;
+    let mut device = plain(alloc, words)?;
     if let Err(fault) = format(&mut device, geometry) {
         return Err(Error::from(fault));
     }
@@ -134,9 +148,9 @@ fn open_file<H: Files<File = File> + Threads + Sync>(
     alloc: Global,
     load: &Load,
     name: &str,
-) -> Result<Room<FilePmem<FileLines>>, Error> {
+) -> Result<Room<FileDevice>, Error> {
     let geometry = Geometry::new(load.slots, Geometry::LEAST_PLACES, Geometry::MOST_WINDOW)?;
-    let mut device = FilePmem::open(rt, alloc, name, geometry)?;
+    let mut device = FileDevice::open(rt, alloc, name, geometry)?;
     if let Err(fault) = format(&mut device, geometry) {
         return Err(Error::from(fault));
     }

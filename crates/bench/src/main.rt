@@ -2,9 +2,9 @@
 //! stores on the device; commits and reads of the engine; reads on a board beside a writer that publishes.
 //! `engine SLOTS KEYS COMMITS BATCH READS` runs the engine alone, `plain` with the same words the engine over a device that keeps
 //! no history, `together` with them too, with the updates of a batch in one transaction, `file NAME` with them the engine over a
-//! device whose lines lie in that file, and `readers N` the reads of N readers, each in a thread of its own. `open SLOTS` times the
-//! opening of an image that is full, `steps SLOTS` each kind of call by itself, and `reads SLOTS` reads of keys that have rows, of
-//! keys that have none, and of old versions.
+//! device whose image is kept in that file, and `readers N` the reads of N readers, each in a thread of its own. `open SLOTS` times the
+//! opening of an image that is full, `openings SLOTS TIMES` opens it so often, `steps SLOTS` each kind of call by itself, and
+//! `reads SLOTS` reads of keys that have rows, of keys that have none, and of old versions.
 #![tactic(auto)]
 
 ghost use Rattle.std.specs.Prelude.{◌≤◌, IfOk};
@@ -22,7 +22,7 @@ use anyhow::{Error, bail, ensure};
 use base::geometry::Geometry;
 use calls::{TOGETHER, time_reads, time_steps};
 use engine::{Load, Made, image_of_keys, load_file, load_keys, load_plain, run_load, run_together};
-use opening::time_opening;
+use opening::{open_often, time_opening};
 use pmem::Pmem;
 use pmem_model::SimPmem;
 use readers::read_beside_a_writer;
@@ -100,6 +100,11 @@ fn measure_calls<H: Print + Clock + Threads + Wait + Sync>(
 ) -> Result<(), Error> {
     match words {
         ["open", slots] => measure_opening(rt, alloc, slots.parse::<u64>()?),
+        ["openings", slots, times] => {
+            let slots = slots.parse::<u64>()?;
+            let words = image_of_keys(rt, alloc, &load_in(slots, slots))?;
+            open_often(rt, alloc, words.as_slice(), times.parse::<u64>()?)
+        }
         ["steps", slots] => measure_steps(rt, alloc, slots.parse::<u64>()?),
         ["reads", slots] => measure_reads(rt, alloc, slots.parse::<u64>()?),
         _ => measure_a_little(rt, alloc, timed),
@@ -201,7 +206,7 @@ fn measure_together<H: Print + Clock + Threads + Sync>(
     Ok(())
 }
 
-// The same over a device whose lines lie in a file. A file of that name is formatted.
+// The same over a device whose image is kept in a file. A file of that name is formatted.
 fn measure_file<H: Print + Files<File = File> + Clock + Threads + Sync>(
     rt: &H,
     alloc: Global,

@@ -1,8 +1,9 @@
 //! What a commit answers where it isn't covered, and that each does answer.
-use crate::transactions::{Device, KEY, device_in, fresh, get, opened, row};
+use crate::transactions::{Device, KEY, device_in, found, fresh, get, opened, row};
 use base::fault::Fault;
 use database::{CommitError, Database};
-use pmem_file::{FilePmem, MemoryLines, Part};
+use journal::extent_of;
+use pmem_file::{MemoryStorage, Part};
 use std::alloc::Global;
 use std::process::Abort;
 use std::sync::Wait;
@@ -12,9 +13,14 @@ use std::thread::Threads;
 // The greatest number of a record is one less than 2^62.
 const LAST_RECORD: u64 = 4_611_686_018_427_387_903;
 
-// An image whose ruling record is the last but one, so that the opening writes the last one. Its place is the first one.
+// A file whose ruling record is the last but one, so that the opening writes the last one. Its place is the first one.
 fn at_its_end(alloc: Global) -> Result<Vec<u64>, Fault> {
-    let mut words = fresh(alloc, 8)?.into_lines().into_words();
+    let words = fresh(alloc, 8)?;
+    let file = extent_of(words.as_slice()).ok_or(Fault::BadGeometry)?;
+    let Ok(storage) = found(alloc, MemoryStorage::new(words), file)?.into_storage() else {
+        return Err(Fault::Device);
+    };
+    let mut words = storage.into_words();
     for (word, value) in [(8, LAST_RECORD - 1), (9, 0), (10, 1)] {
         if let Some(slot) = words.get_mut(word) {
             *slot = value;
@@ -79,7 +85,7 @@ fn add<R: Wait + Drop>(database: &Database<Device, R>, times: u8) -> Result<bool
 #[test]
 fn whoever_begins_again_after_a_conflict_commits(rt: HostRuntime) -> Result<(), Fault> {
     let alloc = rt.alloc();
-    let database = opened(&rt, alloc, fresh(alloc, 16)?.into_lines().into_words())?;
+    let database = opened(&rt, alloc, fresh(alloc, 16)?)?;
     let (one, other) = thread::join(&rt, || add(&database, 20), || add(&database, 20));
     let (one, other) = (one?, other?);
     let last = get(&database, KEY)?;
@@ -107,36 +113,40 @@ fn commit_row<R: Wait + Drop>(database: &Database<Device, R>) -> Result<(), Comm
     }
 }
 
-// A life over lines of which this write and each after it fails: the answer to its commit, and what is found in the lines.
+// A life of which this put and each after it fails: the answer to its commit, and what is found in the words.
 fn live<R: Threads + Wait + Copy + Drop + Send + Sync + 'static>(
     rt: &R,
     alloc: Global,
-    writes: usize,
+    puts: usize,
 ) -> Result<(Result<(), CommitError>, Vec<u64>), Fault> {
-    let words = fresh(alloc, 8)?.into_lines().into_words();
-    let lines = MemoryLines::new(words).failing_after(writes, Part::Words(0b0101_0101));
-    match Database::open(*rt, alloc, FilePmem::of_lines(alloc, lines)?) {
+    let words = fresh(alloc, 8)?;
+    let file = extent_of(words.as_slice()).ok_or(Fault::BadGeometry)?;
+    let storage = MemoryStorage::new(words).failing_after(puts, Part::Words(0b0101_0101));
+    match Database::open(*rt, alloc, found(alloc, storage, file)?) {
         Ok(database) => {
             let answer = commit_row(&database);
             let device = match database.close() {
                 Ok(device) => device,
                 Err(refused) => refused.device,
             };
-            Ok((answer, device.into_lines().into_words()))
+            Ok((answer, device.release().into_words()))
         }
         Err(refused) => {
             let answer = Err(CommitError::Refused(refused.fault));
-            Ok((answer, refused.device.into_lines().into_words()))
+            Ok((answer, refused.device.release().into_words()))
         }
     }
 }
+
+// The puts of an opening, which brings the file to rest.
+const OPENING: usize = 4;
 
 #[test]
 fn each_answer_says_what_the_next_opening_finds(rt: HostRuntime) -> Result<(), Fault> {
     let alloc = rt.alloc();
     let (mut refused, mut open) = (false, false);
-    for writes in 0..40 {
-        let (answer, words) = live(&rt, alloc, writes)?;
+    for puts in OPENING..40 {
+        let (answer, words) = live(&rt, alloc, puts)?;
         let database = opened(&rt, alloc, words)?;
         let kept = get(&database, KEY)?;
         match answer {

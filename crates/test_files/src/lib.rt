@@ -1,9 +1,11 @@
-//! Lives over a device whose lines are kept elsewhere, each of whose writes fails in turn; and databases over one, opened again.
+//! Lives over the words of a file with a journal, each of whose puts fails in turn; and databases over such words, opened again.
 #![tactic(auto)]
 
 #[cfg(test)]
 mod endings;
 #[cfg(test)]
-mod lives;
+mod groups;
+#[cfg(test)]
+mod journaled;
 #[cfg(test)]
 mod transactions;

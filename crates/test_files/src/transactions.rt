@@ -1,4 +1,4 @@
-//! Each call of a database once, over lines in memory, and what the next opening finds.
+//! Each call of a database once, over the words of a file with a journal, and what the next opening finds.
 ghost use Rattle.std.specs.Prelude.{IfOk};
 ghost use Rattle.pmem.specs.Words.{IsAtRest};
 ghost use Rattle.pmem_file.specs.Traces.{device_of};
@@ -9,7 +9,8 @@ use base::geometry::Geometry;
 use base::key::Key;
 use base::row::Row;
 use database::{CommitError, Database, Refused};
-use pmem_file::{FilePmem, MemoryLines};
+use journal::{JournaledImages, extent_of};
+use pmem_file::{JournaledPmem, MemoryStorage};
 use recovery::format;
 use std::alloc::Global;
 use std::process::Abort;
@@ -17,7 +18,9 @@ use std::sync::Wait;
 use std::thread;
 use std::thread::Threads;
 
-pub type Device = FilePmem<MemoryLines>;
+pub type Device = JournaledPmem<JournaledImages<MemoryStorage>>;
+
+const PLACES: usize = 2;
 
 pub const KEY: Key = Key { table: 1, key: 7 };
 
@@ -29,41 +32,49 @@ pub fn row(number: u8) -> Result<Row, Fault> {
     Row::new(&[number])
 }
 
-// A device at rest with what was found.
-pub fn found(alloc: Global, words: Vec<u64>) -> Result<Device, Fault>
+// A device at rest with what was found in the storage.
+pub fn found(alloc: Global, storage: MemoryStorage, file: (usize, usize)) -> Result<Device, Fault>
     ensures { IfOk result (λ device. IsAtRest (device_of device.trace)) }
 {
-    FilePmem::of_lines(alloc, MemoryLines::new(words))
+    let (words, room) = file;
+    match Device::of_storage(alloc, storage, words, room, PLACES) {
+        Ok(device) => Ok(device),
+        Err(_unopened) => Err(Fault::OutOfMemory),
+    }
 }
 
-// A new image, at rest.
-pub fn fresh(alloc: Global, slots: u64) -> Result<Device, Fault>
-    ensures { IfOk result (λ device. IsAtRest (device_of device.trace)) }
-{
-    let geometry = Geometry::new(slots, 2, 64)?;
-    let Ok(words) = vec![in alloc; 0; geometry.words() as usize] else {
+// The words of a file with a new image.
+pub fn fresh(alloc: Global, slots: u64) -> Result<Vec<u64>, Fault> {
+    let geometry = Geometry::new(slots, PLACES as u64, 64)?;
+    let words = geometry.words() as usize;
+    let room = words / 8 * 9 + 16;
+    let Ok(zeros) = vec![in alloc; 0; words + room + 8] else {
         return Err(Fault::OutOfMemory);
     };
-    let mut device = found(alloc, words)?;
+    let mut device = found(alloc, MemoryStorage::new(zeros), (words, room))?;
     match format(&mut device, geometry) {
-        Ok(()) => found(alloc, device.into_lines().into_words()),
+        Ok(()) => Ok(device.release().into_words()),
         Err(fault) => Err(fault),
     }
 }
 
 pub fn device_in(closed: Result<Device, Refused<Device>>) -> Result<Vec<u64>, Fault> {
     match closed {
-        Ok(device) => Ok(device.into_lines().into_words()),
+        Ok(device) => Ok(device.release().into_words()),
         Err(refused) => Err(refused.fault),
     }
 }
 
+// The database in these words of a file.
 pub fn opened<R: Threads + Wait + Copy + Drop + Send + Sync + 'static>(
     rt: &R,
     alloc: Global,
     words: Vec<u64>,
 ) -> Result<Database<Device, R>, Fault> {
-    match Database::open(*rt, alloc, found(alloc, words)?) {
+    let Some(file) = extent_of(words.as_slice()) else {
+        return Err(Fault::BadGeometry);
+    };
+    match Database::open(*rt, alloc, found(alloc, MemoryStorage::new(words), file)?) {
         Ok(database) => Ok(database),
         Err(refused) => Err(refused.fault),
     }
@@ -114,7 +125,7 @@ fn make_commits<R: Wait + Drop + Abort>(
 #[test]
 fn a_reopened_database_has_what_was_committed(rt: HostRuntime) -> Result<(), Fault> {
     let alloc = rt.alloc();
-    let database = opened(&rt, alloc, fresh(alloc, 8)?.into_lines().into_words())?;
+    let database = opened(&rt, alloc, fresh(alloc, 8)?)?;
     make_commits(&rt, &database)?;
     let words = device_in(database.close())?;
     let database = opened(&rt, alloc, words)?;
@@ -130,7 +141,7 @@ fn a_reopened_database_has_what_was_committed(rt: HostRuntime) -> Result<(), Fau
 #[test]
 fn the_second_of_two_that_write_a_key_conflicts(rt: HostRuntime) -> Result<(), Fault> {
     let alloc = rt.alloc();
-    let database = opened(&rt, alloc, fresh(alloc, 8)?.into_lines().into_words())?;
+    let database = opened(&rt, alloc, fresh(alloc, 8)?)?;
     let mut first = database.begin()?;
     let mut second = database.begin()?;
     first.put(KEY, row(1)?)?;
@@ -156,7 +167,7 @@ fn count<R: Wait + Drop>(database: &Database<Device, R>, key: Key) -> Result<(),
 #[test]
 fn two_threads_commit_on_two_keys(rt: HostRuntime) -> Result<(), Fault> {
     let alloc = rt.alloc();
-    let database = opened(&rt, alloc, fresh(alloc, 8)?.into_lines().into_words())?;
+    let database = opened(&rt, alloc, fresh(alloc, 8)?)?;
     let (one, other) = thread::join(&rt, || count(&database, KEY), || count(&database, OTHER));
     one?;
     other?;

@@ -1,10 +1,10 @@
-use crate::life::{crashed_words, opened};
+use crate::life::opened;
 use crate::stories::Table;
 use base::fault::Fault;
 use base::key::Key;
 use base::row::Row;
 use image_check::check;
-use pmem_model::{Choice, SimPmem};
+use pmem_model::SimPmem;
 use std::alloc::Global;
 use std::thread::Threads;
 
@@ -48,17 +48,16 @@ impl Counts {
     }
 }
 
-/// Judges what a crash of this choice leaves: a check and an opening find the same rows, which are one of the tables.
+/// Judges an image that a crash may leave: a check and an opening find the same rows, which are one of the tables.
 pub fn judge<R: Threads + Sync>(
     rt: &R,
     alloc: Global,
-    device: &SimPmem,
-    choice: &Choice,
+    words: &[u64],
     allowed: &Allowed,
     counts: &mut Counts,
 ) {
     counts.images = counts.images.saturating_add(1);
-    match rows_after(rt, alloc, device, choice) {
+    match rows_of(rt, alloc, words) {
         Ok(rows) => {
             counts.expect(is_one_of(&rows, allowed.now));
             if !is_one_of(&rows, allowed.kept) {
@@ -69,16 +68,14 @@ pub fn judge<R: Threads + Sync>(
     }
 }
 
-// The rows that an opening after the crash finds, and a check too.
-fn rows_after<R: Threads + Sync>(
+// The rows that an opening of the words finds, and a check too.
+fn rows_of<R: Threads + Sync>(
     rt: &R,
     alloc: Global,
-    device: &SimPmem,
-    choice: &Choice,
+    words: &[u64],
 ) -> Result<Vec<(Key, Row)>, Fault> {
-    let words = crashed_words(device, choice)?;
-    let checked = check(rt, alloc, &words)?;
-    let (gate, rows) = opened_rows(rt, alloc, &words)?;
+    let checked = check(rt, alloc, words)?;
+    let (gate, rows) = opened_rows(rt, alloc, words)?;
     if gate == checked.gate.saturating_add(1) && rows.as_slice() == checked.rows.as_slice() {
         Ok(rows)
     } else {

@@ -50,26 +50,51 @@ fn stop_once<R: Threads + Sync>(
     counts.expect(operations(&left.device) == made);
     counts.expect(left.failed == (made < story.operations));
     let allowed = allowed_after(story, made, left.acknowledged);
-    judge_each(rt, alloc, &left.device, story, &allowed, counts)?;
-    if made % REOPENED != 0 || story.reopens {
-        return Ok(());
+    let images = images_of(alloc, &left.device)?;
+    for words in &images {
+        judge(rt, alloc, words, &allowed, counts);
     }
-    open_again(rt, alloc, &left.device, story.opening, &allowed, counts)
+    for words in &opened_again(alloc, story, made, &left.device, images)? {
+        open_each(rt, alloc, words, story.opening, &allowed, counts)?;
+    }
+    Ok(())
 }
 
-// Opens the oldest and the newest of what is left, and stops that opening everywhere.
-fn open_again<R: Threads + Sync>(
-    rt: &R,
+// The images of which the opening is stopped too: each one of these where the story asks for that, or two, or none.
+fn opened_again(
     alloc: Global,
+    story: &Story,
+    made: u64,
     device: &SimPmem,
-    most: u64,
-    allowed: &Allowed,
-    counts: &mut Counts,
-) -> Result<(), Fault> {
-    let oldest = crashed_words(device, &Choice::Oldest)?;
-    open_each(rt, alloc, &oldest, most, allowed, counts)?;
-    let newest = crashed_words(device, &Choice::Newest)?;
-    open_each(rt, alloc, &newest, most, allowed, counts)
+    images: Vec<Vec<u64>>,
+) -> Result<Vec<Vec<u64>>, Fault> {
+    if story.reopens {
+        return distinct(alloc, images);
+    }
+    let mut two = Vec::new(alloc);
+    if made % REOPENED == 0 {
+        push(&mut two, crashed_words(device, &Choice::Oldest)?)?;
+        push(&mut two, crashed_words(device, &Choice::Newest)?)?;
+    }
+    Ok(two)
+}
+
+// Each image once.
+fn distinct(alloc: Global, images: Vec<Vec<u64>>) -> Result<Vec<Vec<u64>>, Fault> {
+    let mut found = Vec::new(alloc);
+    for words in images {
+        if !found.contains(&words) {
+            push(&mut found, words)?;
+        }
+    }
+    Ok(found)
+}
+
+fn push<T: Drop>(items: &mut Vec<T>, item: T) -> Result<(), Fault> {
+    match items.push(item) {
+        Ok(()) => Ok(()),
+        Err(_) => Err(Fault::OutOfMemory),
+    }
 }
 
 // The tables that the life may leave after so many operations.
@@ -103,77 +128,52 @@ fn open_each<R: Threads + Sync>(
         let left = live(rt, alloc, words, (&[], false), Some(Failing::After(fuse)))?;
         counts.openings = counts.openings.saturating_add(1);
         counts.expect(left.failed && operations(&left.device) == fuse);
-        judge(rt, alloc, &left.device, &Choice::Oldest, allowed, counts);
-        judge(rt, alloc, &left.device, &Choice::Newest, allowed, counts);
+        let oldest = crashed_words(&left.device, &Choice::Oldest)?;
+        judge(rt, alloc, &oldest, allowed, counts);
+        let newest = crashed_words(&left.device, &Choice::Newest)?;
+        judge(rt, alloc, &newest, allowed, counts);
     }
     Ok(())
 }
 
-// Judges each image that a crash may leave where few words have several survivors, and else some.
-fn judge_each<R: Threads + Sync>(
-    rt: &R,
-    alloc: Global,
-    device: &SimPmem,
-    story: &Story,
-    allowed: &Allowed,
-    counts: &mut Counts,
-) -> Result<(), Fault> {
+// Each image that a crash may leave where few words have several survivors, and else some.
+fn images_of(alloc: Global, device: &SimPmem) -> Result<Vec<Vec<u64>>, Fault> {
     let several = with_several(alloc, device)?;
     if several.len() > MOST_WORDS {
-        return judge_apart(rt, alloc, device, story, &several, allowed, counts);
+        return images_apart(alloc, device, &several);
     }
+    let mut images = Vec::new(alloc);
     for number in 0..choices(device, &several) {
         let choice = numbered(alloc, device, &several, number)?;
-        judge_one(rt, alloc, device, story, &choice, allowed, counts)?;
+        push(&mut images, crashed_words(device, &choice)?)?;
     }
-    Ok(())
+    Ok(images)
 }
 
-// Judges an image. Where the story asks for that, its opening is stopped everywhere too.
-fn judge_one<R: Threads + Sync>(
-    rt: &R,
+// What is left of all words the oldest or the newest value, and of each alone the other one.
+fn images_apart(
     alloc: Global,
     device: &SimPmem,
-    story: &Story,
-    choice: &Choice,
-    allowed: &Allowed,
-    counts: &mut Counts,
-) -> Result<(), Fault> {
-    judge(rt, alloc, device, choice, allowed, counts);
-    if story.reopens {
-        let words = crashed_words(device, choice)?;
-        return open_each(rt, alloc, &words, story.opening, allowed, counts);
-    }
-    Ok(())
-}
-
-// Judges what is left of all words the oldest or the newest value, and of each alone the other one.
-fn judge_apart<R: Threads + Sync>(
-    rt: &R,
-    alloc: Global,
-    device: &SimPmem,
-    story: &Story,
     several: &[usize],
-    allowed: &Allowed,
-    counts: &mut Counts,
-) -> Result<(), Fault> {
-    judge_one(rt, alloc, device, story, &Choice::Oldest, allowed, counts)?;
-    judge_one(rt, alloc, device, story, &Choice::Newest, allowed, counts)?;
+) -> Result<Vec<Vec<u64>>, Fault> {
+    let mut images = Vec::new(alloc);
+    push(&mut images, crashed_words(device, &Choice::Oldest)?)?;
+    push(&mut images, crashed_words(device, &Choice::Newest)?)?;
     for word in several {
         let newest = apart(alloc, device, *word, true)?;
-        judge_one(rt, alloc, device, story, &newest, allowed, counts)?;
+        push(&mut images, crashed_words(device, &newest)?)?;
         let oldest = apart(alloc, device, *word, false)?;
-        judge_one(rt, alloc, device, story, &oldest, allowed, counts)?;
+        push(&mut images, crashed_words(device, &oldest)?)?;
     }
-    Ok(())
+    Ok(images)
 }
 
 // The words with several survivors.
 fn with_several(alloc: Global, device: &SimPmem) -> Result<Vec<usize>, Fault> {
     let mut several = Vec::new(alloc);
     for word in 0..device.words() {
-        if device.survivors(word) > 1 && several.push(word).is_err() {
-            return Err(Fault::OutOfMemory);
+        if device.survivors(word) > 1 {
+            push(&mut several, word)?;
         }
     }
     Ok(several)
@@ -218,9 +218,7 @@ fn apart(alloc: Global, device: &SimPmem, word: usize, newest: bool) -> Result<C
     for other in 0..device.words() {
         let last = device.survivors(other).saturating_sub(1) as u64;
         let number = if (other == word) == newest { last } else { 0 };
-        if numbers.push(number).is_err() {
-            return Err(Fault::OutOfMemory);
-        }
+        push(&mut numbers, number)?;
     }
     Ok(Choice::Each(numbers))
 }

@@ -15,7 +15,7 @@ pub struct Story {
     pub version: u64,
     /// Whether the room is closed then.
     pub closes: bool,
-    /// Whether the opening of each image that a stop may leave is stopped after each of its operations, or of some.
+    /// Whether the opening of each image that is judged after a stop is stopped everywhere, or of some.
     pub reopens: bool,
     /// How many of its operations its opening makes, and the opening of what it leaves.
     pub opening: u64,
@@ -139,7 +139,7 @@ pub const STORIES: &[Story] = &[
         asks: LOST_UPDATE,
         version: 2,
         closes: false,
-        reopens: false,
+        reopens: true,
         opening: 39,
         operations: 103,
         tables: &[&[], &[(7, 1)]],
@@ -165,7 +165,7 @@ pub const STORIES: &[Story] = &[
         asks: &[Begin, Put(2, 7, 4), Draw(2), Stamp(2), Commit(43), Poll(2)],
         version: 2,
         closes: false,
-        reopens: false,
+        reopens: true,
         opening: 39,
         operations: 93,
         tables: &[&[(7, 1)], &[(7, 4)]],

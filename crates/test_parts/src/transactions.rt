@@ -15,6 +15,7 @@ fn a_session_takes_the_lowest_number_that_is_free(rt: HostRuntime) -> Result<(),
     let second = transactions.begin(snapshot)?;
     assert_eq!(rt; first, 2);
     assert_eq!(rt; second, 3);
+    assert_eq!(rt; transactions.limit(), 4);
     transactions.write(
         first,
         Write {

@@ -18,7 +18,9 @@ fn assert_slots(rt: &impl Abort, index: &Index, live: Option<SlotNo>, link: Opti
 #[test]
 fn versions_of_a_key_from_draw_to_freeing(rt: HostRuntime) -> Result<(), Fail> {
     let mut index = Index::new(rt.alloc());
-    index.found(OTHER, 5)?;
+    index.reserve(OTHER, None)?;
+    index.draw(OTHER, None, Some(5), 8);
+    index.cover(OTHER, None, Some(5));
     index.reserve(KEY, None)?;
     assert_slots(&rt, &index, None, None);
     index.draw(KEY, None, Some(3), 9);

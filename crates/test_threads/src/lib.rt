@@ -1,6 +1,6 @@
 //! The engine's threads at work: a cycle that is held within while another session works and a reader reads, a committer that
-//! stops, a collector that is held, a device that fails, many sessions that conflict, and a commit that a token tells to
-//! another thread.
+//! stops, a collector that is held, a device that fails, many sessions that conflict, a commit that a token tells to another
+//! thread, and workers that sleep.
 #![tactic(auto)]
 
 #[cfg(test)]
@@ -15,6 +15,8 @@ mod fixture;
 mod held;
 #[cfg(test)]
 mod hold;
+#[cfg(test)]
+mod sleeping;
 #[cfg(test)]
 mod stopped;
 #[cfg(test)]

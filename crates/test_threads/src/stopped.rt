@@ -5,12 +5,14 @@ ghost use Rattle.pmem.specs.Words.{IsAtRest, image_of};
 ghost use Rattle.pmem_model.specs.Sim.{device_of};
 
 use crate::counting::{SharedSignals, Signals};
-use crate::fixture::{Always, Never, closed, fresh, granted, opened, put, restarted, row, running};
+use crate::fixture::{
+    Always, Never, closed, fresh, granted, key, opened, put, restarted, row, running,
+};
 use crate::hold::Holding;
 use base::fault::Fault;
 use base::key::Key;
 use base::row::Row;
-use board::{Board, History};
+use board::{Board, History, Reader};
 use engine::{Engine, Origin, Session};
 use pmem::Pmem;
 use pmem_model::SimPmem;
@@ -106,20 +108,52 @@ fn with_gap<R: Threads + Sync>(rt: &R, alloc: Global) -> Result<SimPmem, Fault>
     restarted(alloc, &audited.into_room().into_device())
 }
 
-// Commits a row while the collector is held, and lets it go on then.
-fn commit_meanwhile<D: Pmem + Drop, J: Origin, B: Drop>(
-    rt: &impl Wait,
-    session: &mut Session<D, J, B>,
-    signals: &Signals,
-) -> Result<Option<u64>, Fault> {
-    signals.cycle.wait(rt);
-    put(rt, session, 7, 1)?;
-    let committed = session.commit(rt);
-    signals.cycle.free();
-    committed
+/// What is answered while the collector is held.
+#[derive(Clone, Copy, Debug)]
+struct Meanwhile {
+    bounds: Result<(u64, u64), Fault>,
+    before: Result<Option<Row>, Fault>,
+    committed: Option<u64>,
 }
 
-// A life in which the collector is held after so many visits: what was committed meanwhile, and the device, closed.
+/// The same, and whether the collector was held until its turns were over.
+#[derive(Drop)]
+struct Held<D: Pmem> {
+    meanwhile: Meanwhile,
+    late: bool,
+    device: D,
+}
+
+// Reads, and commits a row.
+fn read_and_commit<D: Pmem + Drop, J: Origin, B: Drop>(
+    rt: &impl Wait,
+    session: &mut Session<D, J, B>,
+    reader: &mut Reader<J>,
+) -> Result<Meanwhile, Fault> {
+    let bounds = reader.at();
+    let before = reader.read(3, key(7));
+    put(rt, session, 7, 1)?;
+    Ok(Meanwhile {
+        bounds,
+        before,
+        committed: session.commit(rt)?,
+    })
+}
+
+// Does so while the collector is held, and lets it go on then.
+fn work_meanwhile<D: Pmem + Drop, J: Origin, B: Drop>(
+    rt: &impl Wait,
+    session: &mut Session<D, J, B>,
+    reader: &mut Reader<J>,
+    signals: &Signals,
+) -> Result<Meanwhile, Fault> {
+    signals.cycle.wait(rt);
+    let meanwhile = read_and_commit(rt, session, reader);
+    signals.cycle.free();
+    meanwhile
+}
+
+// A life in which the collector is held after so many visits.
 fn hold_collector<
     D: Pmem + Drop + Send + Sync + 'static,
     J: Origin + Send + Sync + 'static,
@@ -131,7 +165,7 @@ fn hold_collector<
     device: D,
     signals: SharedSignals,
     visits: u64,
-) -> Result<(Option<u64>, D), Fault>
+) -> Result<Held<D>, Fault>
     requires name { history ≡ J.book }
     requires image { image_of (D.state device) ≡ J.image }
     requires at_rest { IsAtRest (D.state device) }
@@ -139,21 +173,27 @@ fn hold_collector<
     let holding = Holding::new(granted(Arc::try_clone(&signals))?, visits);
     let engine = running::<D, J, R, Always, Holding>(rt, alloc, history, device, Always, holding)?;
     let mut session = engine.session(rt)?;
-    let committed = commit_meanwhile(rt, &mut session, &signals)?;
+    let mut reader = engine.reader(rt)?;
+    let meanwhile = work_meanwhile(rt, &mut session, &mut reader, &signals)?;
+    let late = signals.cycle.was_late();
     let sessions = granted(Vec::from_array(alloc, [session]))?;
     let audited = closed(rt, engine, sessions)?;
     match audited.into_room().close() {
-        Ok(device) => Ok((committed, device)),
+        Ok(device) => Ok(Held {
+            meanwhile,
+            late,
+            device,
+        }),
         Err((fault, _device)) => Err(fault),
     }
 }
 
 // The same of a device with a gap.
-fn committed_after<R: Threads + Wait + Copy + Drop + Send + Sync + 'static>(
+fn held_after<R: Threads + Wait + Copy + Drop + Send + Sync + 'static>(
     rt: &R,
     alloc: Global,
     visits: u64,
-) -> Result<(Option<u64>, SimPmem), Fault> {
+) -> Result<Held<SimPmem>, Fault> {
     let signals = granted(Arc::new(alloc, Signals::new()))?;
     let device = with_gap(rt, alloc)?;
     hold_collector::<_, Brand, R>(rt, alloc, History::new(), device, signals, visits)
@@ -163,9 +203,12 @@ fn committed_after<R: Threads + Wait + Copy + Drop + Send + Sync + 'static>(
 fn a_commit_inside_a_sweep(rt: HostRuntime) -> Result<(), Fail> {
     let alloc = rt.alloc();
     for visits in 1..5 {
-        let (committed, device) = committed_after(&rt, alloc, visits)?;
-        assert_eq!(rt; committed, Some(9));
-        let found = open_again(&rt, alloc, &device)?;
+        let held = held_after(&rt, alloc, visits)?;
+        assert!(rt; !held.late);
+        assert_eq!(rt; held.meanwhile.bounds, Ok((3, 3)));
+        assert_eq!(rt; held.meanwhile.before, Ok(None));
+        assert_eq!(rt; held.meanwhile.committed, Some(9));
+        let found = open_again(&rt, alloc, &held.device)?;
         assert_eq!(rt; found.rows.len(), 1);
         assert_eq!(rt; found.rows[0].1, row(1)?);
     }

@@ -1,4 +1,5 @@
-//! One thread commits and tells it by a token; another thread's reader learns that and reads the row.
+//! One thread commits twenty times and tells the last commit by a token; another thread's reader learns that and reads. The
+//! committer pruned meanwhile: the last sixteen stamps may be read.
 ghost use Rattle.std.specs.Prelude.{◌≡◌};
 ghost use Rattle.pmem.specs.Words.{IsAtRest, image_of};
 
@@ -14,20 +15,43 @@ use std::sync::{Mutex, Wait};
 use std::test::*;
 use std::thread::{Threads, join, yield_now};
 
+/// How many numbers are committed, one after the other under one key.
+const COMMITS: u64 = 20;
+
 type Answer = Result<Option<Row>, Fault>;
+
+/// What the reader is answered.
+#[derive(Clone, Copy, Debug)]
+struct Reading {
+    bounds: Result<(u64, u64), Fault>,
+    below: Answer,
+    lowest: Answer,
+    last: Answer,
+    above: Answer,
+}
 
 // What one thread lays there for another.
 type Desk<J> = Mutex<Option<Result<Token<J>, Fault>>>;
 
-// Commits a row, and asks for tokens until one covers the commit.
+// Commits one number after the other. The timestamp of the last.
+fn commit_each<D: Pmem + Drop, J: Origin, B: Drop>(
+    rt: &impl Wait,
+    session: &mut Session<D, J, B>,
+) -> Result<u64, Fault> {
+    let mut last = 0;
+    for number in 1..COMMITS + 1 {
+        put(rt, session, 7, number)?;
+        last = session.commit(rt)?.ok_or(Fault::Failed)?;
+    }
+    Ok(last)
+}
+
+// Commits, and asks for tokens until one covers the last commit.
 fn commit<D: Pmem + Drop, J: Origin, R: Wait + Drop>(
     rt: &impl Wait,
     session: &mut Session<D, J, Board<J, R>>,
 ) -> Result<Token<J>, Fault> {
-    put(rt, session, 7, 9)?;
-    let Some(timestamp) = session.commit(rt)? else {
-        return Err(Fault::Failed);
-    };
+    let timestamp = commit_each(rt, session)?;
     for _ in rt.forever() {
         let token = session.token(rt);
         if token.covers(timestamp) {
@@ -38,7 +62,7 @@ fn commit<D: Pmem + Drop, J: Origin, R: Wait + Drop>(
     unreachable!()
 }
 
-// Commits a row, and lays a token that covers it on the desk.
+// Commits, and lays a token that covers the last commit on the desk.
 fn tell<D: Pmem + Drop, J: Origin, R: Wait + Drop>(
     rt: &impl Wait,
     session: Session<D, J, Board<J, R>>,
@@ -50,15 +74,14 @@ fn tell<D: Pmem + Drop, J: Origin, R: Wait + Drop>(
     session
 }
 
-// Waits for the token on the desk, learns it and reads at its stamp.
-fn learn<J: Origin>(rt: &impl Wait, reader: Reader<J>, desk: &Desk<J>) -> Answer {
+// Waits for the token on the desk, learns it and reads.
+fn learn<J: Origin>(rt: &impl Wait, reader: Reader<J>, desk: &Desk<J>) -> Result<Reading, Fault> {
     let mut reader = reader;
     for _ in rt.forever() {
         match desk.lock(rt).take() {
             Some(Ok(token)) => {
-                let stamp = token.stamp();
                 reader.learn(token);
-                return reader.read(stamp, key(7));
+                return Ok(read_around(&mut reader));
             }
             Some(Err(fault)) => return Err(fault),
             None => yield_now(),
@@ -67,7 +90,18 @@ fn learn<J: Origin>(rt: &impl Wait, reader: Reader<J>, desk: &Desk<J>) -> Answer
     unreachable!()
 }
 
-// Has one session tell a reader in another thread of a commit.
+// Reads at the lowest and the last stamp, and beside them.
+fn read_around<J: Origin>(reader: &mut Reader<J>) -> Reading {
+    Reading {
+        bounds: reader.at(),
+        below: reader.read(6, key(7)),
+        lowest: reader.read(7, key(7)),
+        last: reader.read(22, key(7)),
+        above: reader.read(23, key(7)),
+    }
+}
+
+// Has one session tell a reader in another thread of its commits.
 fn tell_and_learn<
     D: Pmem + Drop + Send + Sync + 'static,
     J: Origin + Send + Sync + 'static,
@@ -75,7 +109,7 @@ fn tell_and_learn<
 >(
     rt: &R,
     engine: &Engine<D, J, Board<J, R>>,
-) -> Result<(Session<D, J, Board<J, R>>, Answer), Fault> {
+) -> Result<(Session<D, J, Board<J, R>>, Result<Reading, Fault>), Fault> {
     let session = engine.session(rt)?;
     let reader = engine.reader(rt)?;
     let desk = Mutex::new(None);
@@ -87,22 +121,27 @@ fn tell_across<
     D: Pmem + Drop + Send + Sync + 'static,
     J: Origin + Send + Sync + 'static,
     R: Threads + Wait + Copy + Drop + Send + Sync + 'static,
->(rt: &R, alloc: Global, history: History, device: D) -> Result<Answer, Fault>
+>(rt: &R, alloc: Global, history: History, device: D) -> Result<Reading, Fault>
     requires name { history ≡ J.book }
     requires image { image_of (D.state device) ≡ J.image }
     requires at_rest { IsAtRest (D.state device) }
 {
     let engine = running::<D, J, R, Always, Never>(rt, alloc, history, device, Always, Never)?;
-    let (session, answer) = tell_and_learn(rt, &engine)?;
+    let (session, reading) = tell_and_learn(rt, &engine)?;
     let sessions = granted(Vec::from_array(alloc, [session]))?;
     closed(rt, engine, sessions)?;
-    Ok(answer)
+    reading
 }
 
+// The opening wrote record 2, and each commit has a record of its own. At the last, 22, the committer prunes to 7.
 #[test]
-fn another_thread_reads_a_told_commit(rt: HostRuntime) -> Result<(), Fail> {
+fn another_thread_reads_told_commits(rt: HostRuntime) -> Result<(), Fail> {
     let alloc = rt.alloc();
-    let answer = tell_across::<_, Brand, _>(&rt, alloc, History::new(), fresh(alloc, 4, 8)?)?;
-    assert_eq!(rt; answer, Ok(Some(row(9)?)));
+    let reading = tell_across::<_, Brand, _>(&rt, alloc, History::new(), fresh(alloc, 32, 8)?)?;
+    assert_eq!(rt; reading.bounds, Ok((7, 22)));
+    assert_eq!(rt; reading.below, Err(Fault::TooOld));
+    assert_eq!(rt; reading.lowest, Ok(Some(row(5)?)));
+    assert_eq!(rt; reading.last, Ok(Some(row(20)?)));
+    assert_eq!(rt; reading.above, Err(Fault::NotYet));
     Ok(())
 }

@@ -1,6 +1,6 @@
 use Rattle.pmem.specs.Words.{image_of}
 use Rattle.pmem_model.specs.Sim.{device_of}
-use Rattle.test_threads.proofs.told.another_thread_reads_a_told_commit.Given as goal
+use Rattle.test_threads.proofs.told.another_thread_reads_told_commits.Given as goal
 
 -- the book of the new history
 abbrev pub ghosts-tell_across-J-Naming : goal.ghosts-tell_across-J-Naming

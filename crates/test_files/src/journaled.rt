@@ -1,0 +1,265 @@
+//! Lives over the words of a file with a journal, each of whose puts fails in turn.
+ghost use Rattle.std.specs.Prelude.{IfOk};
+ghost use Rattle.pmem.specs.Words.{IsAtRest};
+ghost use Rattle.pmem_file.specs.Traces.{device_of};
+
+use base::fault::Fault;
+use base::geometry::Geometry;
+use base::key::Key;
+use base::row::Row;
+use base::step::{Reply, Step};
+use journal::{JournaledImages, extent_of, image_in};
+use pmem::Pmem;
+use pmem_file::{JournaledPmem, MemoryStorage, Nowhere, Part};
+use recovery::format;
+use room::Room;
+use std::alloc::Global;
+use std::io::ErrorKind;
+use std::process::Abort;
+use std::thread::Threads;
+
+type Device = JournaledPmem<JournaledImages<MemoryStorage>>;
+
+// Of an image of four slots and two places.
+const WORDS: usize = 104;
+
+// An entry of all its thirteen lines fits, and of those of two commits.
+const ROOM: usize = 136;
+
+// No life makes so many puts.
+const PUTS: usize = 80;
+
+const COMMITS: u8 = 6;
+
+const KEY: Key = Key { table: 1, key: 7 };
+
+// Of each eight words of a put that fails none is written, or each other one, or all.
+const TORN: [Part; 4] = [
+    Part::Words(0),
+    Part::Words(0b0101_0101),
+    Part::Words(0b1010_1010),
+    Part::All,
+];
+
+// A life: how far it came, and what is found then.
+#[derive(Drop)]
+struct Life {
+    acknowledged: u8,
+    found: Vec<u64>,
+}
+
+// A device at rest with what the storage stands for, or with a new image where nothing is kept in it.
+fn opened(
+    alloc: Global,
+    storage: MemoryStorage,
+    geometry: Geometry,
+) -> Result<Device, MemoryStorage>
+    ensures { IfOk result (λ device. IsAtRest (device_of device.trace)) }
+{
+    let device = match Device::of_storage(alloc, storage, WORDS, ROOM, 2) {
+        Ok(device) => device,
+        Err(unopened) => return Err(unopened.storage),
+    };
+    if device.words() > 0 && device.load(0) == 0 {
+        return formatted(device, geometry);
+    }
+    Ok(device)
+}
+
+fn formatted(device: Device, geometry: Geometry) -> Result<Device, MemoryStorage>
+    ensures { IfOk result (λ device. IsAtRest (device_of device.trace)) }
+{
+    let mut device = device;
+    match format(&mut device, geometry) {
+        Ok(()) => Ok(device),
+        Err(_fault) => Err(device.release()),
+    }
+}
+
+// Opens the device, formatted where it is new, and commits the numbers behind this one, up to the first that isn't acknowledged.
+fn live<R: Threads + Sync>(
+    rt: &R,
+    alloc: Global,
+    storage: MemoryStorage,
+    before: u8,
+) -> Result<Life, Fault> {
+    let device = match opened(alloc, storage, Geometry::new(4, 2, 8)?) {
+        Ok(device) => device,
+        Err(storage) => return Ok(Life::ended(before, storage)),
+    };
+    let mut room = match Room::open(rt, alloc, device) {
+        Ok(room) => room,
+        Err((_fault, device)) => return Ok(Life::ended(before, device.release())),
+    };
+    let acknowledged = commit_behind(&mut room, before)?;
+    Ok(Life::ended(acknowledged, room.into_device().release()))
+}
+
+impl Life {
+    fn ended(acknowledged: u8, storage: MemoryStorage) -> Life {
+        Life {
+            acknowledged,
+            found: storage.into_words(),
+        }
+    }
+}
+
+// Commits the number under the key. Whether that was acknowledged.
+fn commit(room: &mut Room<Device>, number: u8) -> Result<bool, Fault> {
+    let session = 2;
+    let row = Row::new(&[number])?;
+    let put = Step::Put {
+        session,
+        key: KEY,
+        row,
+    };
+    for step in [
+        Step::Begin,
+        put,
+        Step::Draw { session },
+        Step::Stamp { session },
+    ] {
+        room.step(step);
+    }
+    for _ in 0..64 {
+        room.step(Step::Commit);
+    }
+    let polled = room.step(Step::Poll { session });
+    room.step(Step::End { session });
+    for _ in 0..5 {
+        room.step(Step::Collect);
+    }
+    Ok(matches!(polled, Reply::Committed(_)))
+}
+
+// The number that was committed last, or 0.
+fn number_in<D: Pmem + Drop>(room: &Room<D>) -> Result<u8, Fault> {
+    match room.tables()?.first() {
+        Some((_key, row)) => Ok(row.as_bytes().first().copied().unwrap_or(0)),
+        None => Ok(0),
+    }
+}
+
+// Commits so many numbers behind this one, up to the first that isn't acknowledged. The last one that is.
+fn commit_behind(room: &mut Room<Device>, before: u8) -> Result<u8, Fault> {
+    let mut acknowledged = before;
+    for _ in 0..COMMITS {
+        let number = acknowledged.saturating_add(1);
+        if !commit(room, number)? {
+            break;
+        }
+        acknowledged = number;
+    }
+    Ok(acknowledged)
+}
+
+// Opens what was found: it has all that was acknowledged, and at most the commit in hand.
+fn assert_opens<R: Threads + Sync + Abort>(rt: &R, alloc: Global, life: Life) -> Result<(), Fault> {
+    let storage = MemoryStorage::new(life.found);
+    let Ok(device) = Device::of_storage(alloc, storage, WORDS, ROOM, 2) else {
+        return Err(Fault::OutOfMemory);
+    };
+    match Room::open(rt, alloc, device) {
+        Ok(room) => {
+            let found = number_in(&room)?;
+            assert!(rt; found >= life.acknowledged && found - life.acknowledged <= 1);
+        }
+        Err((fault, _device)) => {
+            assert!(rt; life.acknowledged == 0 && fault == Fault::NotFormatted);
+        }
+    }
+    Ok(())
+}
+
+fn zeros(alloc: Global) -> Result<Vec<u64>, Fault> {
+    match vec![in alloc; 0; WORDS + ROOM + 8] {
+        Ok(words) => Ok(words),
+        Err(_) => Err(Fault::OutOfMemory),
+    }
+}
+
+// What a life leaves none of whose puts fails.
+fn lived<R: Threads + Sync>(rt: &R, alloc: Global) -> Result<Vec<u64>, Fault> {
+    Ok(live(rt, alloc, MemoryStorage::new(zeros(alloc)?), 0)?.found)
+}
+
+#[test]
+fn each_failing_put_keeps_what_was_acknowledged(rt: HostRuntime) -> Result<(), Fault> {
+    let alloc = rt.alloc();
+    for puts in 0..PUTS {
+        for torn in TORN {
+            let storage = MemoryStorage::new(zeros(alloc)?).failing_after(puts, torn);
+            let life = live(&rt, alloc, storage, 0)?;
+            assert!(rt; life.acknowledged == COMMITS || puts < PUTS - 1);
+            assert_opens(&rt, alloc, life)?;
+        }
+    }
+    Ok(())
+}
+
+#[test]
+fn so_does_each_failing_put_of_a_second_life(rt: HostRuntime) -> Result<(), Fault> {
+    let alloc = rt.alloc();
+    let before = lived(&rt, alloc)?;
+    for puts in 0..PUTS {
+        for torn in TORN {
+            let Ok(words) = before.clone() else {
+                return Err(Fault::OutOfMemory);
+            };
+            let storage = MemoryStorage::new(words).failing_after(puts, torn);
+            let life = live(&rt, alloc, storage, COMMITS)?;
+            assert!(rt; life.acknowledged == 2 * COMMITS || puts < PUTS - 1);
+            assert_opens(&rt, alloc, life)?;
+        }
+    }
+    Ok(())
+}
+
+// The number in an image without a journal.
+fn number_in_image<R: Threads + Sync>(rt: &R, alloc: Global, image: Vec<u64>) -> Result<u8, Fault> {
+    let Ok(device) = JournaledPmem::new(alloc, image, Nowhere, 2) else {
+        return Err(Fault::OutOfMemory);
+    };
+    match Room::open(rt, alloc, device) {
+        Ok(room) => number_in(&room),
+        Err((fault, _device)) => Err(fault),
+    }
+}
+
+#[test]
+fn a_closed_file_begins_with_its_image(rt: HostRuntime) -> Result<(), Fault> {
+    let alloc = rt.alloc();
+    let found = lived(&rt, alloc)?;
+    let extent = extent_of(found.as_slice());
+    let read = image_in(alloc, found.as_slice(), WORDS, ROOM);
+    let Ok(device) = Device::of_storage(alloc, MemoryStorage::new(found), WORDS, ROOM, 2) else {
+        return Err(Fault::OutOfMemory);
+    };
+    let places = device.places();
+    let (Ok(storage), Ok(read)) = (device.into_storage(), read) else {
+        return Err(Fault::OutOfMemory);
+    };
+    let mut closed = storage.into_words();
+    closed.truncate(WORDS);
+    assert!(rt; extent == Some((WORDS, ROOM)) && places == 2 && read == closed);
+    let number = number_in_image(&rt, alloc, closed)?;
+    assert!(rt; number == COMMITS);
+    Ok(())
+}
+
+#[test]
+fn a_device_says_why_a_put_failed(rt: HostRuntime) -> Result<(), Fault> {
+    let alloc = rt.alloc();
+    let storage = MemoryStorage::new(zeros(alloc)?).failing_after(4, Part::All);
+    let Ok(mut device) = Device::of_storage(alloc, storage, WORDS, ROOM, 2) else {
+        return Err(Fault::OutOfMemory);
+    };
+    let before = device.failure();
+    let formatted = format(&mut device, Geometry::new(4, 2, 8)?);
+    let failure = device.failure();
+    assert!(rt; before.is_none() && formatted == Err(Fault::Device));
+    assert!(rt; failure.map(|error| error.kind()) == Some(ErrorKind::StorageFull));
+    let closed = device.into_storage();
+    assert!(rt; closed.is_err());
+    Ok(())
+}

@@ -1,0 +1,79 @@
+use base::fault::Fault;
+use base::key::Key;
+use base::row::Row;
+use base::step::Step;
+use std::alloc::Global;
+
+/// What is asked of a room, as a line of a script asks it: a session, a table and a key, and a row of one byte.
+#[derive(Clone, Copy)]
+pub enum Ask {
+    Begin,
+    Put(u8, u16, u64, u8),
+    Delete(u8, u16, u64),
+    /// The whole of a table.
+    Scan(u8, u16),
+    Draw(u8),
+    Stamp(u8),
+    Poll(u8),
+    Abort(u8),
+    End(u8),
+    /// So many ticks.
+    Commit(u64),
+    /// So many visits.
+    Collect(u64),
+}
+
+/// The steps that are asked for.
+pub fn steps(alloc: Global, asks: &[Ask]) -> Result<Vec<Step>, Fault> {
+    let mut steps = Vec::new(alloc);
+    for ask in asks {
+        push_each(&mut steps, &step_of(*ask)?, count_of(*ask))?;
+    }
+    Ok(steps)
+}
+
+fn push_each(steps: &mut Vec<Step>, step: &Step, count: u64) -> Result<(), Fault> {
+    for _ in 0..count {
+        if steps.push(*step).is_err() {
+            return Err(Fault::OutOfMemory);
+        }
+    }
+    Ok(())
+}
+
+// How often the step is made: ticks and visits come in numbers.
+fn count_of(ask: Ask) -> u64 {
+    match ask {
+        Ask::Commit(ticks) => ticks,
+        Ask::Collect(visits) => visits,
+        _ => 1,
+    }
+}
+
+fn step_of(ask: Ask) -> Result<Step, Fault> {
+    Ok(match ask {
+        Ask::Begin => Step::Begin,
+        Ask::Put(session, table, key, byte) => Step::Put {
+            session,
+            key: Key { table, key },
+            row: Row::new(&[byte])?,
+        },
+        Ask::Delete(session, table, key) => Step::Delete {
+            session,
+            key: Key { table, key },
+        },
+        Ask::Scan(session, table) => Step::Scan {
+            session,
+            table,
+            lo: 0,
+            hi: u64::MAX,
+        },
+        Ask::Draw(session) => Step::Draw { session },
+        Ask::Stamp(session) => Step::Stamp { session },
+        Ask::Poll(session) => Step::Poll { session },
+        Ask::Abort(session) => Step::Abort { session },
+        Ask::End(session) => Step::End { session },
+        Ask::Commit(_) => Step::Commit,
+        Ask::Collect(_) => Step::Collect,
+    })
+}

@@ -1,0 +1,68 @@
+//! How many operations of each kind a life makes.
+use crate::asks::Ask;
+use crate::asks::Ask::{Begin, Collect, Commit, Draw, Put, Stamp};
+use crate::fixture::{Past, device_after, formatted, lived};
+use crate::stories::NINE_GAPS;
+use base::fault::Fault;
+use base::geometry::Geometry;
+use pmem_model::{Operations, SimPmem};
+
+/// How many operations the device made.
+pub fn operations(device: &SimPmem) -> u128 {
+    let made = device.operations();
+    made.stores as u128 + made.flushes as u128 + made.fences as u128
+}
+
+#[test]
+fn format_is_counted(rt: HostRuntime) -> Result<(), Fault> {
+    let device = formatted(rt.alloc(), Geometry::new(4, 2, 8)?)?;
+    assert_eq!(rt; operations(&device), 163);
+    let device = formatted(rt.alloc(), Geometry::wide(4, 2, 8)?)?;
+    assert_eq!(rt; operations(&device), 199);
+    Ok(())
+}
+
+// The update of a key was stamped and lost, so that the begin in its slot lies in the gap of the next opening.
+const LOST: &[Past] = &[(&[Begin, Put(2, 1, 7, 1), Draw(2), Stamp(2)], true)];
+
+/// How many slots, the lives before, the life, and its stores, flushes and fences.
+type Counted = (u64, &'static [Past], &'static [Ask], (u64, u64, u64));
+
+// An opening makes 32 stores, 5 flushes and 2 fences. A sweep of four slots, of which one begins in the gap, makes 1
+// store, 4 flushes and 1 fence. Where that slot was taken before, by a put of 8 stores, 1 flush and 1 fence and a stamp
+// of 1 store, the sweep has nothing to store. With a ninth gap an opening sweeps by 2 stores, 2 flushes and 1 fence.
+const COUNTED: &[Counted] = &[
+    (4, &[], &[], (32, 5, 2)),
+    (4, LOST, &[], (32, 5, 2)),
+    (4, LOST, &[Collect(5)], (33, 9, 3)),
+    (
+        4,
+        LOST,
+        &[
+            Begin,
+            Put(2, 1, 7, 1),
+            Draw(2),
+            Stamp(2),
+            Commit(1),
+            Collect(5),
+        ],
+        (41, 10, 4),
+    ),
+    (16, NINE_GAPS, &[], (34, 7, 3)),
+];
+
+#[test]
+fn sweeps_are_counted(rt: HostRuntime) -> Result<(), Fault> {
+    for (slots, before, asks, counts) in COUNTED {
+        let device = device_after(&rt, rt.alloc(), *slots, before)?;
+        let device = lived(&rt, rt.alloc(), device, asks)?;
+        let (stores, flushes, fences) = *counts;
+        let want = Operations {
+            stores,
+            flushes,
+            fences,
+        };
+        assert_eq!(rt; device.operations(), want);
+    }
+    Ok(())
+}

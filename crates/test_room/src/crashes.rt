@@ -1,0 +1,197 @@
+use crate::asks::steps;
+use crate::counts::operations;
+use crate::fixture::{opened, step};
+use crate::stories::{Opening, Story};
+use base::fault::Fault;
+use base::gap::Gaps;
+use base::step::{Note, Step};
+use pmem::Pmem;
+use pmem_model::{Choice, SimPmem};
+use room::Room;
+use std::alloc::Global;
+use std::process::Abort;
+use std::thread::Threads;
+
+/// Lets the story's life stop after each number of operations, and opens what a crash may leave.
+pub fn assert_each_stop<R: Threads + Sync + Abort>(
+    rt: &R,
+    alloc: Global,
+    words: &[u64],
+    story: &Story,
+) -> Result<(), Fault> {
+    let steps = steps(alloc, story.asks)?;
+    let end = match story.gates.last() {
+        Some((last, _, _)) => *last,
+        None => panic!(rt; "no gates"),
+    };
+    for fuse in 0..end.saturating_add(1) {
+        let device = SimPmem::from_words(alloc, words)?;
+        let (device, covered) = stopped(rt, alloc, device, fuse, &steps, story.closes);
+        assert!(rt; operations(&device) == fuse as u128, "fuse {fuse}");
+        let gates = gates_after(rt, story, fuse);
+        assert!(rt; covered < gates.0, "fuse {fuse}");
+        assert_each_choice(rt, alloc, &device, story.openings, gates)?;
+    }
+    Ok(())
+}
+
+// Opens what a crash may leave: of each word the oldest value, of each the newest, and of each word in turn the one while
+// all others have the other. A word with one value left is skipped, since that is one of the first two.
+fn assert_each_choice<R: Threads + Sync + Abort>(
+    rt: &R,
+    alloc: Global,
+    device: &SimPmem,
+    openings: &[Opening],
+    gates: (u64, u64),
+) -> Result<(), Fault> {
+    let (oldest, newest) = gates;
+    assert_left(
+        rt,
+        alloc,
+        device,
+        &Choice::Oldest,
+        openings,
+        (oldest, oldest),
+    )?;
+    assert_left(
+        rt,
+        alloc,
+        device,
+        &Choice::Newest,
+        openings,
+        (newest, newest),
+    )?;
+    for word in 0..device.words() {
+        if device.survivors(word) > 1 {
+            for keeps in [false, true] {
+                let choice = apart(alloc, device, word, keeps)?;
+                assert_left(rt, alloc, device, &choice, openings, gates)?;
+            }
+        }
+    }
+    Ok(())
+}
+
+// Of one word the newest value and of all others the oldest, or the other way round.
+fn apart(alloc: Global, device: &SimPmem, word: usize, newest: bool) -> Result<Choice, Fault> {
+    let mut numbers = Vec::new(alloc);
+    for other in 0..device.words() {
+        let last = device.survivors(other).saturating_sub(1) as u64;
+        let number = if (other == word) == newest { last } else { 0 };
+        if numbers.push(number).is_err() {
+            return Err(Fault::OutOfMemory);
+        }
+    }
+    Ok(Choice::Each(numbers))
+}
+
+/// Opens a device of which only so many operations succeed, makes the steps up to the one that is refused, and closes the
+/// room where that is asked. What is left, and the stamp of the last commit that was acknowledged.
+pub fn stopped<R: Threads + Sync + Abort>(
+    rt: &R,
+    alloc: Global,
+    device: SimPmem,
+    fuse: u64,
+    steps: &[Step],
+    closes: bool,
+) -> (SimPmem, u64) {
+    let mut device = device;
+    device.set_fuse(Some(fuse));
+    assert!(rt; device.at_rest());
+    let mut room = match Room::open(rt, alloc, device) {
+        Ok(room) => room,
+        Err((fault, device)) => {
+            assert!(rt; fault == Fault::Device);
+            return (device, 0);
+        }
+    };
+    let covered = run(rt, &mut room, steps);
+    if !closes {
+        return (room.into_device(), covered);
+    }
+    match room.close() {
+        Ok(device) => (device, covered),
+        Err((fault, device)) => {
+            assert!(rt; matches!(fault, Fault::Device | Fault::Failed));
+            (device, covered)
+        }
+    }
+}
+
+// Makes the steps up to the one in which the device fails, after which each is refused. The stamp of the last commit that
+// was acknowledged.
+fn run(rt: &impl Abort, room: &mut Room<SimPmem>, steps: &[Step]) -> u64 {
+    let mut covered = 0;
+    for made in steps {
+        match step(room, *made) {
+            Note::Covered(stamp) => covered = stamp,
+            Note::Refused(fault) => {
+                assert!(rt; fault == Fault::Device);
+                assert!(rt; step(room, *made) == Note::Refused(Fault::Failed));
+                return covered;
+            }
+            _ => {}
+        }
+    }
+    covered
+}
+
+// The gates of the openings after the oldest and after the newest values.
+fn gates_after(rt: &impl Abort, story: &Story, fuse: u64) -> (u64, u64) {
+    for (last, oldest, newest) in story.gates {
+        if fuse <= *last {
+            return (*oldest, *newest);
+        }
+    }
+    panic!(rt; "fuse {fuse}")
+}
+
+/// Opens what a crash of this choice leaves. It has one of two gates, and shows what belongs to that.
+pub fn assert_left<R: Threads + Sync + Abort>(
+    rt: &R,
+    alloc: Global,
+    device: &SimPmem,
+    choice: &Choice,
+    openings: &[Opening],
+    gates: (u64, u64),
+) -> Result<(), Fault> {
+    let mut room = opened(rt, alloc, device.crash(choice)?)?;
+    let status = room.status();
+    let gate = status.gate;
+    assert!(rt; gate == gates.0 || gate == gates.1, "gate {gate}");
+    let numbers = (gate, status.persisted, status.dirty, status.next);
+    for opening in openings {
+        if opening.numbers.0 == gate {
+            assert!(rt; numbers == opening.numbers, "gate {gate}");
+            assert_gaps(rt, &status.gaps, opening.gaps);
+            assert_rows(rt, &mut room, opening.rows);
+            return Ok(());
+        }
+    }
+    panic!(rt; "gate {gate}")
+}
+
+fn assert_gaps(rt: &impl Abort, gaps: &Gaps, want: &[(u64, u64)]) {
+    assert_eq!(rt; gaps.as_slice().len(), want.len());
+    for (gap, want) in gaps.as_slice().iter().zip(want.iter()) {
+        assert!(rt; gap.first == want.0 && gap.last == want.1);
+    }
+}
+
+// A new session sees these rows in table 1, and no others.
+fn assert_rows(rt: &impl Abort, room: &mut Room<SimPmem>, want: &[(u64, u8)]) {
+    assert!(rt; step(room, Step::Begin) == Note::Began(2));
+    let whole = Step::Scan {
+        session: 2,
+        table: 1,
+        lo: 0,
+        hi: u64::MAX,
+    };
+    let Note::Rows(rows) = step(room, whole) else {
+        panic!(rt; "no rows")
+    };
+    assert_eq!(rt; rows.as_slice().len(), want.len());
+    for ((key, row), (number, byte)) in rows.as_slice().iter().zip(want.iter()) {
+        assert!(rt; key.key == *number && row.as_bytes() == [*byte].as_slice());
+    }
+}

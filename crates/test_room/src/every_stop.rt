@@ -1,0 +1,159 @@
+//! Lives that stop after each number of operations, and openings that stop three times.
+use crate::crashes::{assert_each_stop, assert_left, stopped};
+use crate::fixture::device_after;
+use crate::stories::{
+    ABORTS_AND_COMMITS, CLOSE, FIRST_VERSION, NINTH_GAP, ONE_ROW, OPENING, REUSED_SLOT,
+    SECOND_UPDATE, Story, THIRD_UPDATE, THREE_COMMITS, UPDATE,
+};
+use base::fault::Fault;
+use pmem::Pmem;
+use pmem_model::{Choice, SimPmem};
+use std::alloc::Global;
+use std::process::Abort;
+use std::thread::Threads;
+
+// Lets the story's life stop everywhere.
+fn assert_story<R: Threads + Sync + Abort>(
+    rt: &R,
+    alloc: Global,
+    story: &Story,
+) -> Result<(), Fault> {
+    let image = device_after(rt, alloc, story.slots, story.before)?.image()?;
+    assert_each_stop(rt, alloc, image.as_slice(), story)
+}
+
+#[test]
+fn group_commit_is_whole_or_lost(rt: HostRuntime) -> Result<(), Fault> {
+    assert_story(&rt, rt.alloc(), &THREE_COMMITS)
+}
+
+#[test]
+fn close_is_whole_or_loses_all(rt: HostRuntime) -> Result<(), Fault> {
+    assert_story(&rt, rt.alloc(), &CLOSE)
+}
+
+#[test]
+fn update_lost_before_is_never_seen(rt: HostRuntime) -> Result<(), Fault> {
+    assert_story(&rt, rt.alloc(), &ABORTS_AND_COMMITS)
+}
+
+#[test]
+fn update_is_lost(rt: HostRuntime) -> Result<(), Fault> {
+    assert_story(&rt, rt.alloc(), &UPDATE)
+}
+
+#[test]
+fn update_is_lost_again(rt: HostRuntime) -> Result<(), Fault> {
+    assert_story(&rt, rt.alloc(), &SECOND_UPDATE)
+}
+
+#[test]
+fn third_update_is_kept(rt: HostRuntime) -> Result<(), Fault> {
+    assert_story(&rt, rt.alloc(), &THIRD_UPDATE)
+}
+
+#[test]
+fn reused_slot_never_shows_the_deleted_row(rt: HostRuntime) -> Result<(), Fault> {
+    assert_story(&rt, rt.alloc(), &REUSED_SLOT)
+}
+
+#[test]
+fn opening_reserves_timestamps_once(rt: HostRuntime) -> Result<(), Fault> {
+    assert_story(&rt, rt.alloc(), &OPENING)
+}
+
+#[test]
+fn opening_of_the_first_version_stores_the_version_first(rt: HostRuntime) -> Result<(), Fault> {
+    let mut image = device_after(&rt, rt.alloc(), 4, ONE_ROW)?.image()?;
+    if let Some(version) = image.get_mut(1) {
+        *version = 1;
+    }
+    assert_each_stop(&rt, rt.alloc(), image.as_slice(), &FIRST_VERSION)
+}
+
+#[test]
+fn ninth_gap_is_swept_at_once_or_later(rt: HostRuntime) -> Result<(), Fault> {
+    assert_story(&rt, rt.alloc(), &NINTH_GAP)
+}
+
+/// Three openings, each with the number of its operations and whether its gate survives alone, or all else does, and the
+/// gate of the fourth opening.
+type Stops = (&'static [(u64, bool)], u64);
+
+const STOPPED_OPENINGS: &[Stops] = &[
+    (&[(36, true), (20, true), (0, true)], 4),
+    (&[(36, false), (1, false), (35, false)], 4),
+    (&[(38, false), (37, false), (38, false)], 4),
+    (&[(12, true), (5, false), (38, true)], 5),
+    (&[(38, false), (37, true), (38, false)], 5),
+    (&[(37, true), (38, false), (37, true)], 6),
+    (&[(37, true), (38, true), (37, true)], 7),
+];
+
+// The first sweeps, and so does each further one while no gate has survived: it stores what no longer lies there anew.
+const STOPPED_SWEEPS: &[Stops] = &[
+    (&[(1, true), (3, true), (41, true)], 20),
+    (&[(1, false), (2, false), (39, false)], 20),
+    (&[(42, false), (39, true), (12, true)], 21),
+    (&[(43, true), (37, false), (38, true)], 22),
+    (&[(42, true), (38, true), (37, true)], 23),
+];
+
+// Of the first words of both places this survivor, and of all others the other one.
+fn gates_apart(alloc: Global, words: usize, newest: bool) -> Result<Choice, Fault> {
+    let mut numbers = Vec::new(alloc);
+    for word in 0..words {
+        let is_gate = word == 8 || word == 40;
+        if numbers.push(u64::from(is_gate == newest)).is_err() {
+            return Err(Fault::OutOfMemory);
+        }
+    }
+    Ok(Choice::Each(numbers))
+}
+
+// What three openings of an image leave, each of which stops.
+fn stopped_thrice<R: Threads + Sync + Abort>(
+    rt: &R,
+    alloc: Global,
+    words: &[u64],
+    stops: &[(u64, bool)],
+) -> Result<SimPmem, Fault> {
+    let mut device = SimPmem::from_words(alloc, words)?;
+    for (fuse, newest) in stops {
+        let (left, _) = stopped(rt, alloc, device, *fuse, &[], false);
+        device = left.crash(&gates_apart(alloc, left.words(), *newest)?)?;
+    }
+    Ok(device)
+}
+
+// Whichever of three stopped openings survive, the fourth shows what the story says of its gate.
+fn assert_stops<R: Threads + Sync + Abort>(
+    rt: &R,
+    alloc: Global,
+    story: &Story,
+    table: &[Stops],
+) -> Result<(), Fault> {
+    let image = device_after(rt, alloc, story.slots, story.before)?.image()?;
+    for (stops, gate) in table {
+        let device = stopped_thrice(rt, alloc, image.as_slice(), stops)?;
+        assert_left(
+            rt,
+            alloc,
+            &device,
+            &Choice::Oldest,
+            story.openings,
+            (*gate, *gate),
+        )?;
+    }
+    Ok(())
+}
+
+#[test]
+fn openings_stop_three_times(rt: HostRuntime) -> Result<(), Fault> {
+    assert_stops(&rt, rt.alloc(), &OPENING, STOPPED_OPENINGS)
+}
+
+#[test]
+fn sweeping_openings_stop_three_times(rt: HostRuntime) -> Result<(), Fault> {
+    assert_stops(&rt, rt.alloc(), &NINTH_GAP, STOPPED_SWEEPS)
+}

@@ -1,0 +1,84 @@
+//! A format of a device that has rows, which stops after each number of its operations.
+use crate::asks::Ask::{Begin, Commit, Draw, Put, Stamp};
+use crate::fixture::{Past, device_after};
+use base::fault::Fault;
+use base::geometry::Geometry;
+use image_check::check;
+use pmem_model::{Choice, SimPmem};
+use recovery::format;
+use std::alloc::Global;
+use std::process::Abort;
+use std::thread::Threads;
+
+// Record 3 covers the one row.
+const ONE_ROW: Past = (
+    &[Begin, Put(2, 1, 7, 1), Draw(2), Stamp(2), Commit(42)],
+    false,
+);
+
+/// The gate of the record that rules, and how many rows there are. `None`: the image isn't formatted.
+type Left = Option<(u64, usize)>;
+
+const OLD: Left = Some((3, 1));
+
+const NEW: Left = Some((1, 0));
+
+/// From the first of these numbers of operations to the second, what a crash leaves that leaves the oldest values, and one
+/// that leaves the newest.
+const STOPS: &[(u64, u64, Left, Left)] = &[
+    (0, 0, OLD, OLD),
+    (1, 2, OLD, None),
+    (3, 160, None, None),
+    (161, 162, None, NEW),
+    (163, 163, NEW, NEW),
+];
+
+// The device after a format of which only so many operations succeed.
+fn formatted_again(alloc: Global, words: &[u64], fuse: u64) -> Result<SimPmem, Fault> {
+    let mut device = SimPmem::from_words(alloc, words)?;
+    device.set_fuse(Some(fuse));
+    match format(&mut device, Geometry::new(4, 2, 8)?) {
+        Ok(()) | Err(Fault::Device) => Ok(device),
+        Err(fault) => Err(fault),
+    }
+}
+
+fn left_by<R: Threads + Sync>(
+    rt: &R,
+    alloc: Global,
+    device: &SimPmem,
+    choice: &Choice,
+) -> Result<Left, Fault> {
+    let image = device.crash(choice)?.image()?;
+    match check(rt, alloc, &image) {
+        Ok(report) => Ok(Some((report.gate, report.rows.len()))),
+        Err(Fault::NotFormatted) => Ok(None),
+        Err(fault) => Err(fault),
+    }
+}
+
+// A format that stops after so many operations.
+fn assert_stop<R: Threads + Sync + Abort>(
+    rt: &R,
+    alloc: Global,
+    words: &[u64],
+    fuse: u64,
+    left: (Left, Left),
+) -> Result<(), Fault> {
+    let device = formatted_again(alloc, words, fuse)?;
+    let oldest = left_by(rt, alloc, &device, &Choice::Oldest)?;
+    let newest = left_by(rt, alloc, &device, &Choice::Newest)?;
+    assert!(rt; (oldest, newest) == left, "fuse {fuse}");
+    Ok(())
+}
+
+#[test]
+fn format_leaves_the_old_image_or_none_or_the_new(rt: HostRuntime) -> Result<(), Fault> {
+    let image = device_after(&rt, rt.alloc(), 4, &[ONE_ROW])?.image()?;
+    for (first, last, oldest, newest) in STOPS {
+        for fuse in *first..last.saturating_add(1) {
+            assert_stop(&rt, rt.alloc(), &image, fuse, (*oldest, *newest))?;
+        }
+    }
+    Ok(())
+}

@@ -1,0 +1,55 @@
+use anyhow::Error;
+use std::sync::Wait;
+use store::{Row, RowExt, Store, key};
+
+/// A transaction that is committed, one that is aborted, one that is dropped and one that writes nothing.
+pub fn make_each<R: Print + Wait + Drop>(rt: &R, store: &Store<R>) -> Result<(), Error> {
+    let mut t = store.begin()?;
+    t.put(key(1, 5), Row::of_u64(7))?;
+    t.put(key(1, 6), Row::of_text("milk")?)?;
+    t.put(key(1, 9), Row::of_text("")?)?;
+    t.put(key(2, 0), Row::of_u64(1))?;
+    t.delete(key(2, 0))?;
+    let own = t.get(key(1, 5))?.and_then(|row| row.as_u64());
+    let before = store.read()?.get(key(1, 5))?;
+    println!(rt;
+        "{}: own write {own:?}, others see {before:?}",
+        store.name()
+    )?;
+    println!(rt; "committed {:?}", t.commit()?)?;
+
+    let mut aborted = store.begin()?;
+    aborted.put(key(1, 5), Row::of_u64(8))?;
+    aborted.abort()?;
+    let mut dropped = store.begin()?;
+    dropped.delete(key(1, 6))?;
+    drop(dropped);
+    println!(rt; "nothing written {:?}", store.begin()?.commit()?)?;
+    show_numbers(rt, store)
+}
+
+// The layout, and how far it has come. The timestamps that are left are those below 2^62 but for the one that is drawn.
+fn show_numbers<R: Print + Wait + Drop>(rt: &R, store: &Store<R>) -> Result<(), Error> {
+    let status = store.status();
+    println!(rt;
+        "version {} slots {} places {} window {} row_limit {}",
+        status.version, status.slots, status.places, status.window, status.row_limit
+    )?;
+    println!(rt;
+        "persisted {} longs {} gaps {} left {}",
+        status.persisted, status.longs, status.gaps, status.left
+    )?;
+    println!(rt;
+        "rows {} versions {} free {}",
+        status.rows, status.versions, status.free
+    )?;
+    Ok(())
+}
+
+/// What the next opening finds.
+pub fn find_all<R: Print + Wait + Drop>(rt: &R, store: &Store<R>) -> Result<(), Error> {
+    for (key, row) in store.read()?.scan(1, ..)? {
+        println!(rt; "found {key}: {row}")?;
+    }
+    Ok(())
+}

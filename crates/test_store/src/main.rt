@@ -1,0 +1,27 @@
+//! Each call of a store, two threads in conflict, and each error that a store over a working file tells.
+#![tactic(auto)]
+
+mod calls;
+mod conflicts;
+mod images;
+mod openings;
+mod ranges;
+mod refusals;
+
+use anyhow::Error;
+use store::{Geometry, Store};
+
+fn main(rt: HostRuntime) -> Result<(), Error> {
+    let geometry = Geometry::new(64, 2, 64)?;
+    let store = Store::open(rt, rt.alloc(), "calls.img", geometry)?;
+    calls::make_each(&rt, &store)?;
+    ranges::read_each(&rt, &store)?;
+    conflicts::meet_each(&rt, &store)?;
+    refusals::meet_each(&rt, &store)?;
+    store.close()?;
+    let store = Store::open(rt, rt.alloc(), "calls.img", geometry)?;
+    calls::find_all(&rt, &store)?;
+    store.close()?;
+    openings::refuse_each(&rt)?;
+    openings::end_numbers(&rt)
+}

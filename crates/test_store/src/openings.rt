@@ -1,0 +1,112 @@
+use crate::images::{bytes_of, image, set_begin};
+use anyhow::Error;
+use std::alloc::Global;
+use std::fs;
+use std::fs::File;
+use std::rt::Files;
+use std::sync::Wait;
+use std::thread::Threads;
+use store::{Geometry, Row, RowExt, Store, StoreError, key};
+
+/// Files that no store is opened over, and what is said of each.
+pub fn refuse_each<
+    R: Print
+        + AllocGlobal
+        + Files<File = File>
+        + Threads
+        + Wait
+        + Copy
+        + Drop
+        + Send
+        + Sync
+        + 'static,
+>(rt: &R) -> Result<(), Error> {
+    let alloc = rt.alloc();
+    let geometry = Geometry::new(4, 2, 64)?;
+    tell(rt, Store::open(*rt, alloc, "none/x.img", geometry))?;
+    fs::write(rt, "text.img", b"no image")?;
+    tell(rt, Store::open(*rt, alloc, "text.img", geometry))?;
+    let store = Store::open(*rt, alloc, "small.img", geometry)?;
+    tell(rt, Store::open(*rt, alloc, "small.img", geometry))?;
+    fill(rt, &store)?;
+    store.close()?;
+    tell(
+        rt,
+        Store::open(*rt, alloc, "small.img", Geometry::wide(8, 2, 64)?),
+    )?;
+
+    write(rt, alloc, "place.img", image(alloc, 0, 1)?)?;
+    tell(rt, Store::open(*rt, alloc, "place.img", geometry))?;
+    let mut words = image(alloc, 1, 1)?;
+    set_begin(&mut words, 2, 1);
+    write(rt, alloc, "slot.img", words)?;
+    tell(rt, Store::open(*rt, alloc, "slot.img", geometry))?;
+    write(rt, alloc, "numbers.img", image(alloc, 1, (1 << 62) - 1)?)?;
+    tell(rt, Store::open(*rt, alloc, "numbers.img", geometry))
+}
+
+// What is said of a store that isn't opened.
+fn tell<R: Wait + Drop + Print>(rt: &R, opened: Result<Store<R>, StoreError>) -> Result<(), Error> {
+    match opened {
+        Ok(store) => {
+            println!(rt; "{} is open", store.name())?;
+            store.close()?;
+        }
+        Err(error) => println!(rt; "not opened: {error}")?,
+    }
+    Ok(())
+}
+
+// Writes a file of these words.
+fn write<R: Files<File = File>>(
+    rt: &R,
+    alloc: Global,
+    name: &str,
+    words: Vec<u64>,
+) -> Result<(), Error> {
+    fs::write(rt, name, bytes_of(alloc, words.as_slice())?.as_slice())?;
+    Ok(())
+}
+
+// Takes the four slots, and asks for a fifth; a deletion makes room.
+fn fill<R: Print + Wait + Drop>(rt: &R, store: &Store<R>) -> Result<(), Error> {
+    for number in 1..=5 {
+        let put = store.transact(|t| t.put(key(1, number), Row::of_u64(number)));
+        if let Err(error) = put {
+            println!(rt; "refused: {error}")?;
+        }
+    }
+    store.transact(|t| t.delete(key(1, 1)))?;
+    store.transact(|t| t.put(key(1, 5), Row::of_u64(5)))?;
+    println!(rt; "{} of 4 slots have rows", store.read()?.count(1, ..)?)?;
+    Ok(())
+}
+
+/// The opening and one commit write the last two records that have numbers. A further commit is refused, and the close.
+pub fn end_numbers<
+    R: Print
+        + AllocGlobal
+        + Files<File = File>
+        + Threads
+        + Wait
+        + Copy
+        + Drop
+        + Send
+        + Sync
+        + 'static,
+>(rt: &R) -> Result<(), Error> {
+    let alloc = rt.alloc();
+    write(rt, alloc, "last.img", image(alloc, (1 << 62) - 3, 1)?)?;
+    let store = Store::open(*rt, alloc, "last.img", Geometry::new(4, 2, 64)?)?;
+    for number in 1..=2 {
+        match store.transact(|t| t.put(key(1, number), Row::of_u64(number))) {
+            Ok(_) => println!(rt; "commit {number} is kept")?,
+            Err(error) => println!(rt; "commit {number}: {error}")?,
+        }
+    }
+    match store.close() {
+        Ok(()) => println!(rt; "closed")?,
+        Err(error) => println!(rt; "{error}")?,
+    }
+    Ok(())
+}

@@ -1,0 +1,55 @@
+use anyhow::{Error, anyhow};
+use std::sync::Wait;
+use store::{Row, RowExt, Snapshot, Store, StoreError, Transaction, key};
+
+const LONG: &str = "a text that has more than thirty-two bytes";
+
+/// What a step is refused for, and that the transaction stays open.
+pub fn meet_each<R: Print + AllocGlobal + Wait + Drop>(
+    rt: &R,
+    store: &Store<R>,
+) -> Result<(), Error> {
+    let mut t = store.begin()?;
+    tell(rt, t.put(key(4, 0), Row::of_text(LONG)?))?;
+    for number in 1..=33 {
+        tell(rt, t.put(key(4, number), Row::of_u64(number)))?;
+    }
+    t.commit()?;
+    println!(rt; "{} of 33 kept", store.read()?.count(4, ..)?)?;
+    if let Err(error) = Row::of_text(
+        "0123456789012345678901234567890123456789012345678901234567890123456789012345678901234567890123456",
+    ) {
+        println!(rt; "refused: {error}")?;
+    }
+    let owned = store.transact(|t| give_up(t));
+    if let Err(error) = owned {
+        println!(rt; "refused: {error}")?;
+    }
+    println!(rt; "{} of 33 kept", store.read()?.count(4, ..)?)?;
+    open_many(rt, store)
+}
+
+fn tell(rt: &impl Print, step: Result<(), StoreError>) -> Result<(), Error> {
+    if let Err(error) = step {
+        println!(rt; "refused: {error}")?;
+    }
+    Ok(())
+}
+
+// Writes, and gives that up.
+fn give_up<R: Wait + Drop>(t: &mut Transaction<'_, R>) -> Result<(), StoreError> {
+    t.delete(key(4, 1))?;
+    Err(StoreError::Own(anyhow!("the caller's own reason")))
+}
+
+// As many snapshots at once as there may be, and one more.
+fn open_many<R: Print + AllocGlobal + Wait + Drop>(rt: &R, store: &Store<R>) -> Result<(), Error> {
+    let mut open: Vec<Snapshot<'_, R>> = Vec::new(rt.alloc());
+    for number in 1..=63 {
+        match store.read() {
+            Ok(snapshot) => open.push(snapshot)?,
+            Err(error) => println!(rt; "refused: {error}, at number {number}")?,
+        }
+    }
+    Ok(())
+}
