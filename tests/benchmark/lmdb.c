@@ -27,6 +27,9 @@ void store_open(const char *folder, uint64_t keys) {
     if (mdb_txn_commit(it)) fail("a commit");
 }
 
+void store_join(void) {
+}
+
 void store_commit(uint64_t first, uint64_t end, uint64_t keys) {
     MDB_txn *it = started(0);
     for (uint64_t number = first; number < end; number++) put(it, number % keys, number);

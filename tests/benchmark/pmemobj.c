@@ -17,6 +17,9 @@ void store_open(const char *folder, uint64_t keys) {
     pmemobj_persist(pool, rows, keys * sizeof *rows);
 }
 
+void store_join(void) {
+}
+
 void store_commit(uint64_t first, uint64_t end, uint64_t keys) {
     TX_BEGIN(pool) {
         for (uint64_t number = first; number < end; number++) {

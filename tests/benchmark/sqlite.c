@@ -4,14 +4,14 @@
 
 static char path[4096];
 
-static sqlite3 *writer;
+static _Thread_local sqlite3 *writer;
 
-static sqlite3_stmt *begin, *commit, *update;
+static _Thread_local sqlite3_stmt *begin, *commit, *update;
 
 static sqlite3 *connect_to(void) {
     sqlite3 *it;
     if (sqlite3_open(path, &it)) fail("opening");
-    sqlite3_busy_timeout(it, 10000);
+    sqlite3_busy_timeout(it, 60000);
     const char *pragmas = getenv("BENCHMARK_SYNC") ? "PRAGMA journal_mode=WAL; PRAGMA synchronous=FULL"
                                                    : "PRAGMA journal_mode=WAL; PRAGMA synchronous=OFF";
     if (sqlite3_exec(it, pragmas, 0, 0, 0)) fail("a pragma");
@@ -35,16 +35,26 @@ static void put(sqlite3_stmt *it, uint64_t key, uint64_t number) {
     step(it);
 }
 
+static void make(uint64_t keys) {
+    sqlite3 *it = connect_to();
+    if (sqlite3_exec(it, "CREATE TABLE rows (key INTEGER PRIMARY KEY, row BLOB); BEGIN", 0, 0, 0)) fail("the table");
+    sqlite3_stmt *insert = prepared(it, "INSERT INTO rows VALUES (?1, ?2)");
+    for (uint64_t key = 0; key < keys; key++) put(insert, key, ~key);
+    sqlite3_finalize(insert);
+    if (sqlite3_exec(it, "COMMIT", 0, 0, 0) || sqlite3_close(it)) fail("the rows");
+}
+
 void store_open(const char *folder, uint64_t keys) {
     snprintf(path, sizeof path, "%s/sqlite.db", folder);
+    make(keys);
+    store_join();
+}
+
+// A connection of its own.
+void store_join(void) {
     writer = connect_to();
-    if (sqlite3_exec(writer, "CREATE TABLE rows (key INTEGER PRIMARY KEY, row BLOB)", 0, 0, 0)) fail("the table");
     begin = prepared(writer, "BEGIN IMMEDIATE");
     commit = prepared(writer, "COMMIT");
-    sqlite3_stmt *insert = prepared(writer, "INSERT INTO rows VALUES (?1, ?2)");
-    step(begin);
-    for (uint64_t key = 0; key < keys; key++) put(insert, key, ~key);
-    step(commit);
     update = prepared(writer, "UPDATE rows SET row = ?2 WHERE key = ?1");
 }
 

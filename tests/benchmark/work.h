@@ -16,6 +16,8 @@ struct work {
 
 // A store is opened in an empty folder, with a row of eight bytes under each key.
 void store_open(const char *folder, uint64_t keys);
+// Whoever commits in a thread of its own calls this first.
+void store_join(void);
 // Updates the keys of these numbers, modulo the keys, in one transaction.
 void store_commit(uint64_t first, uint64_t end, uint64_t keys);
 // Reads so many rows in one transaction. How many it found, or -1 where reads are not measured.
@@ -82,7 +84,29 @@ static void run_readers(uint64_t readers, uint64_t reads) {
     print_rate("reads", readers * reads, seconds);
 }
 
-// FOLDER engine KEYS COMMITS GROUP READS, or FOLDER readers N READS
+static struct work each;
+
+static void *run_committer(void *number) {
+    store_join();
+    uint64_t first = *(uint64_t *)number * each.commits;
+    for (uint64_t at = 0; at < each.commits; at++) store_commit(first + at, first + at + 1, each.keys);
+    return NULL;
+}
+
+// So many threads, each of which makes so many commits of a row each.
+static void run_committers(uint64_t threads) {
+    pthread_t started[MOST_READERS];
+    uint64_t numbers[MOST_READERS];
+    double start = now();
+    for (uint64_t i = 0; i < threads; i++) {
+        numbers[i] = i;
+        if (pthread_create(&started[i], NULL, run_committer, &numbers[i])) fail("a thread");
+    }
+    for (uint64_t i = 0; i < threads; i++) pthread_join(started[i], NULL);
+    print_rate("commits", threads * each.commits, now() - start);
+}
+
+// FOLDER engine KEYS COMMITS GROUP READS, FOLDER readers N READS, or FOLDER committers KEYS N COMMITS
 int main(int count, char **words) {
     if (count == 7 && !strcmp(words[2], "engine")) {
         struct work work = {strtoull(words[3], 0, 10), strtoull(words[4], 0, 10), strtoull(words[5], 0, 10),
@@ -97,6 +121,14 @@ int main(int count, char **words) {
         if (!readers || readers > MOST_READERS) fail("a number");
         store_open(words[1], READER_KEYS);
         run_readers(readers, strtoull(words[4], 0, 10));
+        return 0;
+    }
+    if (count == 6 && !strcmp(words[2], "committers")) {
+        uint64_t threads = strtoull(words[4], 0, 10);
+        each.keys = strtoull(words[3], 0, 10), each.commits = strtoull(words[5], 0, 10);
+        if (!each.keys || !threads || threads > MOST_READERS) fail("a number");
+        store_open(words[1], each.keys);
+        run_committers(threads);
         return 0;
     }
     fail("the words");

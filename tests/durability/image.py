@@ -52,10 +52,10 @@ def two_programs(wbl, kv, folder):
     """While one has the file open, all others are refused, and the rows stay."""
     count = 0
     for holder in ("kv", "run"):
-        for other in (*ORDERS, "kv"):
+        for other in (*ORDERS, "kv", "check"):
             file = os.path.join(folder, f"{holder}.{other}")
             if holder == "kv":
-                held = subprocess.Popen([kv, file], stdin=subprocess.PIPE, stdout=subprocess.PIPE, text=True)
+                held = subprocess.Popen([kv, file], stdin=subprocess.PIPE, stdout=subprocess.PIPE, stderr=subprocess.DEVNULL, text=True)
                 held.stdin.write("put 1 1 aa\n")
             else:
                 made(wbl, folder, os.path.basename(file))
@@ -67,7 +67,7 @@ def two_programs(wbl, kv, folder):
                 ended = subprocess.run([kv, file], input="put 1 2 bb\n", capture_output=True, text=True, timeout=60, check=False)
                 want(ended.returncode == 1, f"kv beside {holder}", ended)
             else:
-                ended = ask(wbl, other, file, *ORDERS[other])
+                ended = ask(wbl, other, file, *ORDERS.get(other, ()))
                 refused(ended, f"{other} beside {holder}")
             want(BUSY in ended.stderr, f"{other} beside {holder} says why", ended)
             output, _ = held.communicate("put 1 3 cc\n" if holder == "kv" else COMMIT.split("\n", 1)[1])

@@ -2,13 +2,14 @@
 
 One transaction after another is sent without waiting. One is acknowledged where its answer reached the pipe before the kill.
 What is found must be the rows after exactly the acknowledged ones, or after these and the one in hand, as a whole. The same
-file goes through all lives.
+file goes through all lives; in some it has a journal that a few commits fill, and of some the next opening is killed too.
 """
 import os
 import subprocess
 import threading
 import time
 
+from journal import shorten
 from store import Lost, Transactions, acknowledged, after, rows_in
 
 KEYS = 40
@@ -40,11 +41,21 @@ def live(kv, file, transactions, delay, from_ready):
     return output, [writes for writes, _ in sent]
 
 
+def open_in_vain(kv, file, delay):
+    """An opening that a kill ends."""
+    with subprocess.Popen([kv, file], stdin=subprocess.PIPE, stdout=subprocess.DEVNULL, stderr=subprocess.DEVNULL) as child:
+        time.sleep(delay)
+        child.kill()
+
+
 def run(kv, folder, rng, kills, most_seconds=0.6):
     file = os.path.join(folder, "kill.img")
     transactions = Transactions(rng, KEYS, 4)
-    model, total, early, kept = {}, 0, 0, 0
-    for kill in range(kills):
+    model, total, early, kept, kills_done = {}, 0, 0, 0, 0
+    while kills_done < kills:
+        kill = kills_done
+        if kill and rng.random() < 0.5:
+            shorten(file)
         delay = rng.uniform(0.0, most_seconds * rng.choice([0.05, 0.2, 1.0]))
         output, sent = live(kv, file, transactions, delay, rng.random() < 0.6)
         if "kv: " in output:
@@ -54,6 +65,10 @@ def run(kv, folder, rng, kills, most_seconds=0.6):
         total += done
         for writes in sent[:done]:
             model = after(model, writes)
+        kills_done += 1
+        for _ in range(rng.choice([0, 0, 1, 2])):
+            open_in_vain(kv, file, rng.uniform(0.0, 0.03))
+            kills_done += 1
         found = rows_in(kv, file)
         if found == model:
             continue
@@ -61,5 +76,5 @@ def run(kv, folder, rng, kills, most_seconds=0.6):
             raise Lost(f"kill {kill}: expected {sorted(model.items())}, found {sorted(found.items())}")
         model = found
         kept += 1
-    return (f"{kills} kills, {early} of them before it was ready; {total} acknowledged transactions, none lost and none in part; "
+    return (f"{kills_done} kills, {early} of them before it was ready; {total} acknowledged transactions, none lost and none in part; "
             f"{kept} times the one in hand was kept, as a whole")

@@ -11,6 +11,7 @@ import shutil
 import sys
 import tempfile
 
+import cut
 import fail
 import fresh
 import image
@@ -22,13 +23,18 @@ from store import Lost
 TOP = os.path.dirname(os.path.dirname(os.path.dirname(os.path.abspath(__file__))))
 
 
-def control(kv, folder, rng, images):
-    """A device that leaves out a line must be found out."""
-    try:
-        power.run(kv, folder, rng, images, leave_out=True)
-    except Lost:
-        return "a device that leaves out the first line of each fence was found out"
-    raise Lost("a device that leaves out the first line of each fence wasn't found out")
+def control(spoil, said):
+    """A device that does less than it should must be found out."""
+    def test(kv, folder, rng, images):
+        try:
+            power.run(kv, folder, rng, images, spoil=spoil)
+        except Lost:
+            return f"a device that leaves out {said} was found out"
+        raise Lost(f"a device that leaves out {said} wasn't found out")
+    return test
+
+
+CONTROLS = (("control_words", power.without_last_words, "the last word of each entry"), ("control_syncs", power.without_syncs, "every second sync"))
 
 
 def passes(name, test):
@@ -49,7 +55,7 @@ def main():
     parser.add_argument("--kills", type=int, default=200, help="kills at random instants")
     parser.add_argument("--fresh", type=int, default=100, help="kills of a first opening")
     parser.add_argument("--power", type=int, default=500, help="images of a power failure")
-    parser.add_argument("--fail", type=int, default=200, help="how many writes and how many syncs fail at most, each in a run")
+    parser.add_argument("--fail", type=int, default=200, help="how many writes and how many syncs fail or stop kv at most, each in a run")
     parser.add_argument("--seed", type=int, default=1, help="the same seed kills at the same instants")
     parser.add_argument("--only", nargs="*", metavar="NAME", help="these tests alone, as closed_streams")
     parser.add_argument("--short", action="store_true", help="a tenth of each")
@@ -57,13 +63,15 @@ def main():
     part = 10 if words.short else 1
     tests = [("kill", kill.run, words.kills // part), ("fresh", fresh.run, words.fresh // part)]
     if shutil.which("strace"):
-        tests += [("power", power.run, words.power // part), ("fail", fail.run, words.fail // part), ("control", control, 500)]
+        tests += [("power", power.run, words.power // part), ("fail", fail.run, words.fail // part), ("stops", fail.stops, words.fail // part)]
+        tests += [(name, control(spoil, said), 500) for name, spoil, said in CONTROLS]
     else:
         print("strace is missing: no power failures, and no failing writes")
     kv = os.path.abspath(words.kv)
     tests = [(name, lambda folder, test=test, count=count: test(kv, folder, random.Random(words.seed), count)) for name, test, count in tests]
     tests += [(case.__name__, lambda folder, case=case: case(kv, folder)) for case in shell.CASES]
     wbl = os.path.abspath(words.wbl)
+    tests += [(case.__name__, lambda folder, case=case: case(kv, wbl, folder)) for case in cut.CASES]
     tests += [(f"wbl_{case.__name__}", lambda folder, case=case: case(wbl, kv, folder)) for case in image.CASES]
     failed = sum(not passes(name, test) for name, test in tests if not words.only or name in words.only)
     chosen = sum(not words.only or name in words.only for name, _ in tests)

@@ -1,13 +1,14 @@
 """Takes a run of kv apart into its system calls, and opens what a power failure before any of them might have left.
 
-strace gives the order of the writes, the syncs and the answers. An image is made so: all that was written before the last
-sync that had returned is there; of what was written since, each word of 8 bytes is there or not, by a coin. What was
-answered by then must be found in it, and at most the commit in hand besides.
+strace gives the order of the writes, the new lengths, the syncs and the answers. An image is made so: all that was done before the last
+sync that had returned is there; of what was written since, each word of 8 bytes is there or not, by a coin, and so is each new length.
+What was answered by then must be found in it, and at most the commit in hand besides.
 """
 import os
 import re
 import subprocess
 
+from journal import is_append, shorten
 from store import Lost, Transactions, acknowledged, after, rows_in
 
 KEYS = 12
@@ -52,55 +53,88 @@ def events_of(trace, file):
     return events
 
 
-def image_before(events, stop, rng):
-    """What a power failure just before that event may leave, how many were acknowledged, and how many writes were open."""
-    durable, since, done = bytearray(), [], 0
+def change(held, event):
+    """Makes the change of a write or a new length."""
+    if event[0] == "size":
+        held[event[1]:] = bytes(max(event[1] - len(held), 0))
+    elif event[0] == "write":
+        _, offset, put = event
+        held.extend(bytes(max(offset + len(put) - len(held), 0)))
+        held[offset:offset + len(put)] = put
+
+
+def some_words(held, event, rng, chance):
+    """Makes the change of a write, word by word or not."""
+    _, offset, put = event
+    held.extend(bytes(max(offset + len(put) - len(held), 0)))
+    for word in range(0, len(put), 8):
+        if rng.random() < chance:
+            held[offset + word:offset + word + 8] = put[word:word + 8]
+
+
+def image_before(first, events, stop, rng):
+    """What a power failure just before that event may leave of a file that held this first, how many were acknowledged, and how many
+    changes were open. Of those, a new length is there or not, and each word that was written; what lies past the length isn't."""
+    durable, since, done = bytearray(first), [], 0
     for event in events[:stop]:
-        if event[0] == "size":
-            durable.extend(bytes(event[1] - len(durable)))
-        elif event[0] == "write":
-            since.append(event)
-        elif event[0] == "sync":
-            for _, offset, put in since:
-                durable[offset:offset + len(put)] = put
+        if event[0] == "sync":
+            for it in since:
+                change(durable, it)
             since = []
-        else:
+        elif event[0] == "answer":
             done = event[1]
+        else:
+            since.append(event)
     if rng.random() < 0.5:
         since = since[:rng.randint(0, len(since))]
-    chance = rng.choice([0.1, 0.5, 0.9])
-    for _, offset, put in since:
-        for word in range(0, len(put), 8):
-            if rng.random() < chance:
-                durable[offset + word:offset + word + 8] = put[word:word + 8]
-    return durable, done, len(since)
+    chance, length = rng.choice([0.0, 0.1, 0.5, 0.9, 1.0]), len(durable)
+    for event in since:
+        if event[0] == "write":
+            some_words(durable, event, rng, chance)
+        elif rng.random() < 0.5:
+            length = event[1]
+    durable.extend(bytes(max(length - len(durable), 0)))
+    return durable[:length], done, len(since)
 
 
-def without_first_lines(events):
-    """A device that leaves out the first line of each fence: what must be found out."""
-    left, first = [], True
+def without_last_words(first, events):
+    """A device that leaves out the last word of each entry that it appends: what must be found out."""
+    held = bytearray(first)
     for event in events:
-        if event[0] == "write" and len(event[2]) == 64 and first:
-            first = False
+        if event[0] == "write" and is_append(held, event[1], len(event[2])):
+            yield ("write", event[1], event[2][:-8])
         else:
-            first = first or event[0] == "sync"
-            left.append(event)
-    return left
+            yield event
+        change(held, event)
 
 
-def run(kv, folder, rng, images, transactions=60, leave_out=False):
-    file, trace, left = (os.path.join(folder, name) for name in ("power.img", "power.trace", "left.img"))
-    for name in (file, trace):
-        if os.path.exists(name):
-            os.remove(name)
+def without_syncs(_first, events):
+    """A device that leaves out every second sync."""
+    syncs = 0
+    for event in events:
+        syncs += event[0] == "sync"
+        if event[0] != "sync" or syncs % 2:
+            yield event
+
+
+def traced(kv, file, text):
+    """The events of a run of kv."""
+    trace = file + ".trace"
+    subprocess.run(["strace", "-f", "-xx", "-s", "50000000", "-e", CALLS, "-o", trace, kv, file],
+                   input=text, text=True, stdout=subprocess.DEVNULL, stderr=subprocess.DEVNULL, check=True)
+    return events_of(trace, file)
+
+
+def fail_power(kv, folder, rng, images, transactions, first, spoil):
+    """Power failures within one run over a file that holds this first. How many had open changes, and how many the commit in hand."""
+    file, left = os.path.join(folder, "power.img"), os.path.join(folder, "left.img")
+    with open(file, "wb") as out:
+        out.write(first)
     source = Transactions(rng, KEYS, 3)
     sent = [source.next() for _ in range(transactions)]
-    text = "".join("\n".join(lines) + "\n" for _, lines in sent)
-    subprocess.run(["strace", "-f", "-xx", "-s", "5000000", "-e", CALLS, "-o", trace, kv, file],
-                   input=text, text=True, stdout=subprocess.DEVNULL, stderr=subprocess.DEVNULL, check=True)
-    events = events_of(trace, file)
-    if leave_out:
-        events = without_first_lines(events)
+    events = traced(kv, file, "".join("\n".join(lines) + "\n" for _, lines in sent))
+    if spoil:
+        events = list(spoil(first, events))
     models = [{}]
     for writes, _ in sent:
         models.append(after(models[-1], writes))
@@ -108,15 +142,30 @@ def run(kv, folder, rng, images, transactions=60, leave_out=False):
     torn = ahead = 0
     for number in range(images):
         stop = rng.randint(start, len(events))
-        image, done, open_writes = image_before(events, stop, rng)
-        torn += open_writes > 0
+        image, done, changes = image_before(first, events, stop, rng)
+        torn += changes > 0
         with open(left, "wb") as out:
             out.write(image)
         rows = rows_in(kv, left)
         if rows not in models[done:done + 2]:
             raise Lost(f"image {number}, before event {stop}, {done} acknowledged: found {sorted(rows.items())}")
         ahead += rows != models[done]
-    writes = sum(event[0] == "write" for event in events)
-    syncs = sum(event[0] == "sync" for event in events)
-    return (f"{images} power failures within a run of {transactions} transactions, {writes} writes and {syncs} syncs: {torn} with writes "
-            f"not yet synced; none acknowledged was lost; {ahead} had the commit in hand, as a whole")
+    return torn, ahead, sum(event[0] == "write" for event in events), sum(event[0] == "sync" for event in events)
+
+
+def small_store(kv, folder):
+    """The bytes of an empty store of 32 slots, with the smallest journal."""
+    file = os.path.join(folder, "small.img")
+    subprocess.run([kv, file, "--slots", "32"], input="", text=True, stdout=subprocess.DEVNULL, stderr=subprocess.DEVNULL, check=True)
+    shorten(file)
+    with open(file, "rb") as it:
+        return it.read()
+
+
+def run(kv, folder, rng, images, transactions=60, spoil=None):
+    new = fail_power(kv, folder, rng, images // 2, transactions, b"", spoil)
+    small = fail_power(kv, folder, rng, images - images // 2, transactions, small_store(kv, folder), spoil)
+    torn, ahead, writes, syncs = map(sum, zip(new, small))
+    return (f"{images} power failures within two runs of {transactions} transactions, from a file that isn't there and with a journal that is often "
+            f"full, {writes} writes and {syncs} syncs: {torn} with changes not yet synced; none acknowledged was lost; {ahead} had the commit in "
+            f"hand, as a whole")

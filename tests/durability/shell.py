@@ -7,6 +7,7 @@ import select
 import shutil
 import subprocess
 
+from journal import tail_of
 from store import Lost, acknowledged, rows_in
 
 DOCS = os.path.join(os.path.dirname(os.path.dirname(os.path.dirname(os.path.abspath(__file__)))), "docs")
@@ -46,6 +47,13 @@ def strace(call, how):
     return ("strace", "-f", "-o", os.devnull, "-e", f"trace={call}", "-e", f"inject={call}:{how}")
 
 
+def is_whole(file):
+    """Whether it is empty, an image, or an image with its journal."""
+    with open(file, "rb") as it:
+        held = it.read()
+    return len(held) in (0, BYTES) or (tail_of(held) or [0])[0] * 8 == BYTES
+
+
 def closed_streams(kv, folder):
     """Whatever streams are closed, the file keeps its length and opens again."""
     count = 0
@@ -56,7 +64,7 @@ def closed_streams(kv, folder):
                 os.remove(file)
             subprocess.run([kv, file], input=NEXT.encode() if 0 not in closed else None, stdout=subprocess.DEVNULL, stderr=subprocess.DEVNULL,
                            preexec_fn=lambda: [os.close(it) for it in closed], timeout=120, check=False)
-            want(not os.path.exists(file) or os.path.getsize(file) in (0, BYTES), f"closed {closed}: {os.path.getsize(file)} bytes")
+            want(not os.path.exists(file) or is_whole(file), f"closed {closed}: {os.path.getsize(file)} bytes")
             rows = rows_in(kv, file)
             want(rows in (({}, {2: "b2", 3: "b3"}) if is_new else MODELS), f"closed {closed}: found {rows}")
             want(1 in closed or 0 in closed or rows == {2: "b2", 3: "b3"}, f"closed {closed}: {rows} only")
@@ -112,7 +120,7 @@ def small_disk(kv, folder):
         file = os.path.join(place, "new.img")
         ended = kv_on(kv, file, FIRST)
         want(ended.returncode == 1 and "No space left on device" in ended.told, "a small disk", ended)
-        subprocess.run(["mount", "-o", "remount,size=128k", place], check=True)
+        subprocess.run(["mount", "-o", "remount,size=4m", place], check=True)
         ended = kv_on(kv, file, FIRST)
         want(ended.returncode == 0 and rows_in(kv, file) == ROWS, "once there is room", ended)
     finally:
@@ -336,7 +344,7 @@ def full_store(kv, folder):
     full, large = os.path.join(folder, "full.img"), os.path.join(folder, "large.img")
     ended = one(kv, full, "--slots", "8", "--window", "8", "load", text="".join(f"1 {at} {at:02x}\n" for at in range(1, 9)))
     want(ended.returncode == 0 and ended.output == "loaded 8\n" and "room for 8 rows" in ended.told, "it takes 8 rows", ended)
-    want("rows 8\nfree 0\n" in one(kv, full, "stat").output, "none is free")
+    want("rows 8\nversions 8\nfree 0\n" in one(kv, full, "stat").output, "none is free")
     for words in (["put", "1", "9", "09"], ["put", "1", "8", "ff"]):
         ended = one(kv, full, *words)
         want(ended.returncode == 3 and ended.output == "" and "no slot is free: delete rows, or copy them into a larger store" in ended.told, f"{words}", ended)
@@ -382,7 +390,11 @@ def examples_of_help(kv, folder):
 
 def shell_in(kv, folder, line):
     """What a shell does with a line, in the folder: its status, and what is printed and told, in this order."""
-    place = {**os.environ, "PATH": os.path.dirname(kv) + os.pathsep + os.environ["PATH"]}
+    programs = os.path.join(folder, "programs")
+    os.makedirs(programs, exist_ok=True)
+    if not os.path.lexists(os.path.join(programs, "kv")):
+        os.symlink(kv, os.path.join(programs, "kv"))
+    place = {**os.environ, "PATH": programs + os.pathsep + os.environ["PATH"]}
     ended = subprocess.run(["bash", "-o", "pipefail", "-c", line], cwd=folder, env=place, stdin=subprocess.DEVNULL, stdout=subprocess.PIPE, stderr=subprocess.STDOUT,
                            text=True, timeout=120, check=False)
     return ended.returncode, ended.stdout

@@ -3,7 +3,7 @@
 It runs `wbl lives` over the scripts of lives in crates/test_scripts/data; the commands of wbl over one file that the other scripts
 there name; `wbl threads`; the lives and the board of test_hostile_lives, with memory for all stores of the device and without; and
 kv over a new and over an old file. Of each it refuses the first request, then the second alone, and so on to the last; then, of
-wbl, the first and all later ones, and so on. It fails at a crash, a run that doesn't end, a row that was never put, a first line
+wbl and kv, the first and all later ones, and so on. It fails at a crash, a run that doesn't end, a row that was never put, a first line
 that differs and isn't OutOfMemory, a file that changed where the status isn't 0 or that isn't sound, a refusal of what takes no
 memory, and a call that is still refused when it is asked again. It takes minutes, and wants the programs that `rt run` makes in
 their crates' folders.
@@ -57,7 +57,7 @@ def refuse_lives(programs, name, folder):
     """A script of lives. It writes no file."""
     counts = Counter()
     script = os.path.join(SCRIPTS, name)
-    with open(script, encoding="utf-8") as it:
+    with open(script, encoding="utf-8", errors="replace") as it:
         known = judging.put_by(it.read().splitlines())
     words = [programs.wbl, "lives", script]
     whole = refusing.run(words, b"", folder)
@@ -73,7 +73,7 @@ def refuse_lives(programs, name, folder):
 
 def commands_in(name):
     """The commands of wbl in a script over one file, each with its lines. None: it has others too."""
-    with open(os.path.join(SCRIPTS, name), encoding="utf-8") as it:
+    with open(os.path.join(SCRIPTS, name), encoding="utf-8", errors="replace") as it:
         parts = it.read().split("$ ")[1:]
     commands = [part.partition("\n") for part in parts]
     if not all(command.startswith("wbl ") for command, _, _ in commands):
@@ -130,7 +130,7 @@ def judge_command(programs, ended, whole, known, kept, counts):
     counts["told"] += ended.lines != whole.lines
     if ended.status != 0 and bytes_of(file) != before:
         raise judging.Wrong("the file changed")
-    if os.path.exists(file + ".wbl-new"):
+    if any(it.startswith("db.img.wbl-new") for it in os.listdir(os.path.dirname(file))):
         raise judging.Wrong("a file was left beside it")
     if bytes_of(file) is not None and bytes_of(file) != before:
         judge_file(programs, file, known)
@@ -196,14 +196,15 @@ def refuse_kv(programs, is_new, folder):
     put_back(file, before)
     words = [programs.kv, file]
     whole = refusing.run(words, KV_LINES, folder)
-    put_back(file, before)
-    for number, ended in each_refusal(programs, words, KV_LINES, folder, False, counts):
-        try:
-            judge_kv(programs, ended, whole, file)
-        except judging.Wrong as wrong:
-            blame(f"kv over {'a new' if is_new else 'an old'} file", number, False, wrong)
-        counts["told"] += ended.told != whole.told
+    for for_good in (False, True):
         put_back(file, before)
+        for number, ended in each_refusal(programs, words, KV_LINES, folder, for_good, counts):
+            try:
+                judge_kv(programs, ended, whole, file)
+            except judging.Wrong as wrong:
+                blame(f"kv over {'a new' if is_new else 'an old'} file", number, for_good, wrong)
+            counts["told"] += ended.told != whole.told
+            put_back(file, before)
     return counts
 
 

@@ -1,5 +1,6 @@
 """Games: what one seed plays. Each returns its counts, and raises Found where a program answers otherwise than the engine in Python."""
 import collections
+import contextlib
 import os
 import pathlib
 import random
@@ -135,34 +136,43 @@ def play_memory(rng, programs):
     script = script_of(rng)
     number = int(2 ** rng.uniform(0, 13))
     status, output = programs.played(script, env={"LD_PRELOAD": programs.refuse, "REFUSE_FROM": str(number)})
-    # Memory that is refused while the words or the script are read ends the program, with nothing printed or with this alone.
-    if (status, output) not in ((1, OUT_OF_MEMORY + "\n"), (1, "")):
-        Followed(script, output.splitlines(), f"request {number} refused, status {status}").follow()
+    # Memory that is refused while the words or the script are read ends the program, with nothing printed or with one of these alone.
+    if (status, output) not in ((1, OUT_OF_MEMORY + "\n"), (1, "file fault\n"), (1, "")):
+        with contextlib.suppress(Unknown):
+            Followed(script, output.splitlines(), status, f"request {number} refused, status {status}").follow()
     return counts_of(script, 0)
 
 
 class Unknown(Exception):
-    """How many of a line's steps were made isn't printed: those before the one that was refused."""
+    """What was done isn't printed: of a line of many steps those before the one that was refused, and all once the program ends."""
 
 
 class Followed:
     """A script that is obeyed beside what a program printed for it: a line that was refused for want of memory isn't obeyed."""
 
-    def __init__(self, script, found, said):
-        self.script, self.found, self.said, self.at = script, found, said, 0
+    def __init__(self, script, found, status, said):
+        self.script, self.found, self.status, self.said, self.at = script, found, status, said, 0
 
     def is_refused(self):
         return self.at < len(self.found) and self.found[self.at] == OUT_OF_MEMORY
 
+    def is_ended(self, lines):
+        """Whether the program had no memory for one of these lines: then it ends with OutOfMemory in its place, and with 1."""
+        left = self.found[self.at:]
+        return self.status == 1 and left[-1:] == [OUT_OF_MEMORY] and left[:-1] == lines[:len(left) - 1]
+
     def want(self, text):
         lines = text.splitlines()
         found = self.found[self.at:self.at + len(lines)]
+        if found != lines and self.is_ended(lines):
+            raise Unknown
         if found != lines:
             raise Found(f"{self.said}: {first_difference(text, chr(10).join(found))}", self.script.text())
         self.at += len(lines)
 
     def follow(self):
-        """Follows all lives, up to an opening or a close that is refused, or to one of many ticks: what these leave isn't printed."""
+        """Follows all lives, up to an opening or a close that is refused, to one of many ticks, or to the program's end: what these leave isn't
+        printed."""
         words = Geometry(*self.script.geometry).formatted()
         for number, life in enumerate(self.script.lives, 1):
             self.want(f"life {number}")
@@ -176,8 +186,6 @@ class Followed:
                     if line == "close" and self.is_refused():
                         return
                     self.obey(room, line)
-            except Unknown:
-                return
             except Refused as refused:
                 self.want(refused.text)
             self.want("stopped")
@@ -190,6 +198,8 @@ class Followed:
             self.want(obeyed(room, line))
         else:
             self.want(OUT_OF_MEMORY)
+            if self.status == 1 and self.at == len(self.found):
+                raise Unknown
             name, *words = line.split()
             if name in ("commit", "collect") and int(words[0]) > 1:
                 raise Unknown
@@ -197,18 +207,18 @@ class Followed:
 
 def play_file(rng, programs):
     """Lives of kv over a file of any version, traced: after a power failure before any system call, each word that no sync followed is
-    old or new. What is left must be sound and hold what was acknowledged, or one transaction more; and kv lives on over one of them."""
+    old or new. What is left must open with what was acknowledged, or one transaction more, and what kv leaves of it be sound; and kv
+    lives on over one of them."""
     sys.path.insert(0, DURABILITY)
     import power
     from store import Transactions, acknowledged, after
 
     version = rng.choice([1, 2, 3])
     path, trace, counts = programs.path("file"), programs.path("trace"), collections.Counter()
-    words, rows = Geometry(rng.choice([16, 40]), 2, rng.choice([4, 64]), version).formatted(), {}
-    source = Transactions(rng, 8, 3)
+    written(path, Geometry(rng.choice([16, 40]), 2, rng.choice([4, 64]), version).formatted())
+    source, rows = Transactions(rng, 8, 3), {}
     for _ in range(rng.randint(1, 3)):
-        written(path, words)
-        base = bytearray(pathlib.Path(path).read_bytes())
+        first = pathlib.Path(path).read_bytes()
         sent = [source.next() for _ in range(rng.randint(1, 12))]
         text = "".join("\n".join(lines) + "\n" for _, lines in sent)
         status, output = run(["strace", "-f", "-xx", "-s", "5000000", "-e", power.CALLS, "-o", trace, programs.kv, path], text)
@@ -221,25 +231,33 @@ def play_file(rng, programs):
         counts.update(lives=1, steps=len(text.splitlines()), operations=len(events))
         for _ in range(12):
             stop = rng.randint(0, len(events))
-            words, rows = torn(rng, power, base, events, stop, models, version)
+            left, done, _ = power.image_before(first, events, stop, rng)
+            rows = rows_left(rng, programs, left, f"kv over version {version}, before call {stop}, {done} acknowledged")
+            if rows not in models[done:done + 2]:
+                raise Found(f"kv over version {version}, before call {stop}, {done} acknowledged: {sorted(rows.items())}")
             counts.update(stops=1, images=1)
-        if rng.random() < 0.5:
-            compare(f"version {version}, torn, check", checked(words), check_of(programs, programs.path("image"), words))
+        pathlib.Path(path).write_bytes(left)
     return counts
 
 
-def torn(rng, power, base, events, stop, models, version):
-    """Returns the words that a power failure before this event may leave, and the rows in them."""
-    image, done, _ = power.image_before([("size", len(base)), ("write", 0, bytes(base)), ("sync",), *events[:stop]], stop + 3, rng)
-    words = list(struct.unpack(f"<{len(image) // 8}Q", image))
+def rows_left(rng, programs, left, said):
+    """Opens and closes what a power failure left by kv. Returns the rows that kv prints, which are those of the image that it leaves."""
+    path = programs.path("left")
+    pathlib.Path(path).write_bytes(left)
+    status, output = run([programs.kv, path], "scan 1 0 100000\n")
+    if status != 0 or not output.endswith("closed\n"):
+        raise Found(f"{said}: status {status}, {output[-300:]!r}")
+    rows = {int(words[1]): words[2] for words in map(str.split, output.splitlines()) if words[0] == "row"}
+    words = words_in(path)
     try:
         _, _, live = sound(words)
     except Refused as refused:
-        raise Found(f"kv over version {version}, before call {stop}: {refused.text}") from refused
-    found = {key[1]: row.hex() for key, row, _ in live.values()}
-    if found not in models[done:done + 2]:
-        raise Found(f"kv over version {version}, before call {stop}, {done} acknowledged: {sorted(found.items())}")
-    return words, found
+        raise Found(f"{said}, once closed: {refused.text}") from refused
+    if {key[1]: row.hex() for key, row, _ in live.values()} != rows:
+        raise Found(f"{said}, once closed: other rows than kv printed")
+    if rng.random() < 0.1:
+        compare(f"{said}, check", checked(words), check_of(programs, programs.path("image"), words))
+    return rows
 
 
 def play_room(rng, programs):
