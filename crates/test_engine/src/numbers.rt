@@ -1,7 +1,0 @@
-/// The next number of a sequence, of which the upper half is used.
-pub fn next(state: &mut u64) -> u64 {
-    *state = state
-        .wrapping_mul(6_364_136_223_846_793_005)
-        .wrapping_add(1_442_695_040_888_963_407);
-    *state >> 32
-}
