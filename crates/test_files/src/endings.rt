@@ -82,10 +82,12 @@ fn add<R: Wait + Drop>(database: &Database<Device, R>, times: u8) -> Result<bool
     Ok(true)
 }
 
+// Each of the 40 commits may leave a version that the other thread's snapshot still reads, however long that thread is kept from
+// running, so there is a slot for each of them, and for the two that are being written.
 #[test]
 fn whoever_begins_again_after_a_conflict_commits(rt: HostRuntime) -> Result<(), Fault> {
     let alloc = rt.alloc();
-    let database = opened(&rt, alloc, fresh(alloc, 16)?)?;
+    let database = opened(&rt, alloc, fresh(alloc, 64)?)?;
     let (one, other) = thread::join(&rt, || add(&database, 20), || add(&database, 20));
     let (one, other) = (one?, other?);
     let last = get(&database, KEY)?;

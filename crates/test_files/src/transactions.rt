@@ -28,6 +28,9 @@ const OTHER: Key = Key { table: 1, key: 8 };
 
 const COMMITS: u8 = 20;
 
+// How often a commit is tried at most.
+const TRIES: u64 = 100_000;
+
 pub fn row(number: u8) -> Result<Row, Fault> {
     Row::new(&[number])
 }
@@ -156,10 +159,27 @@ fn the_second_of_two_that_write_a_key_conflicts(rt: HostRuntime) -> Result<(), F
     Ok(())
 }
 
+// Commits the row under the key. Where no slot is free the other thread's snapshot may need all versions, however long that thread is
+// kept from running, so it is tried again.
+fn commit_once_free<R: Wait + Drop>(
+    database: &Database<Device, R>,
+    key: Key,
+    number: u8,
+) -> Result<(), Fault> {
+    for _ in 0..TRIES {
+        match commit(database, key, number) {
+            Err(Fault::SlotsOut) => thread::yield_now(),
+            Err(fault) => return Err(fault),
+            Ok(_) => return Ok(()),
+        }
+    }
+    Err(Fault::SlotsOut)
+}
+
 // Commits one number after another under the key, in few slots, so that old ones are collected.
 fn count<R: Wait + Drop>(database: &Database<Device, R>, key: Key) -> Result<(), Fault> {
     for number in 1..=COMMITS {
-        commit(database, key, number)?;
+        commit_once_free(database, key, number)?;
     }
     Ok(())
 }
