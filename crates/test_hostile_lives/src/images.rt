@@ -1,7 +1,7 @@
-use crate::asks::Ask::{Begin, Commit, Draw, End, Poll, Put, Stamp};
-use crate::asks::{Ask, steps};
 use crate::judge::{Counts, opened_rows};
 use crate::life::{formatted, opened};
+use asks::Ask::{Begin, Commit, Draw, End, Poll, Put, Stamp};
+use asks::{Ask, steps};
 use base::fault::Fault;
 use base::key::Key;
 use base::row::Row;

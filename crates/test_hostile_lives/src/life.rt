@@ -1,5 +1,5 @@
-use crate::asks::{Ask, steps};
 use crate::stories::Story;
+use asks::{Ask, steps};
 use base::fault::Fault;
 use base::geometry::Geometry;
 use base::step::{Reply, Step};

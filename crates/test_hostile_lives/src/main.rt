@@ -3,7 +3,6 @@
 //! name alone, and `refused NAME reserved` on a device that has memory for its stores: for who refuses allocations.
 #![tactic(auto)]
 
-mod asks;
 mod images;
 mod judge;
 mod life;

@@ -1,8 +1,8 @@
 //! Runs of lives that say each reply. Where an allocation is refused, by who runs the program, the call is made once more.
-use crate::asks::{Ask, count_of, step_of};
 use crate::life::{crashed_words, fresh_words, opened};
 use crate::runs::Run;
 use anyhow::Error;
+use asks::{Ask, count_of, step_of};
 use base::fault::Fault;
 use base::geometry::Geometry;
 use base::key::Key;

@@ -1,7 +1,5 @@
-use crate::asks::Ask;
-use crate::asks::Ask::{
-    Abort, Begin, Collect, Commit, Delete, Draw, End, Get, Poll, Put, Scan, Stamp,
-};
+use asks::Ask::{Abort, Begin, Collect, Commit, Delete, Draw, End, Get, Poll, Put, Scan, Stamp};
+use asks::{LOST_UPDATE, Past};
 
 /// Lives of one device of 2 places, in any of which an allocation may be refused. Each ends in a crash that leaves the newest
 /// values, or the oldest where that is said.
@@ -9,7 +7,7 @@ pub struct Run {
     pub name: &'static str,
     pub slots: u64,
     pub window: u64,
-    pub lives: &'static [(&'static [Ask], bool)],
+    pub lives: &'static [Past],
 }
 
 pub const RUNS: &[Run] = &[
@@ -38,20 +36,7 @@ pub const RUNS: &[Run] = &[
         slots: 4,
         window: 8,
         lives: &[
-            (
-                &[
-                    Begin,
-                    Put(2, 7, 1),
-                    Draw(2),
-                    Stamp(2),
-                    Commit(42),
-                    Begin,
-                    Put(3, 7, 2),
-                    Draw(3),
-                    Stamp(3),
-                ],
-                true,
-            ),
+            (LOST_UPDATE, true),
             (&[Begin, Get(2, 7), Put(2, 7, 3), Draw(2), Stamp(2)], true),
             (
                 &[

@@ -1,7 +1,7 @@
-use crate::asks::steps;
 use crate::judge::{Allowed, Counts, judge};
 use crate::life::{Failing, crashed_words, live, operations, words_before};
 use crate::stories::Story;
+use asks::steps;
 use base::fault::Fault;
 use base::step::Step;
 use pmem::Pmem;

@@ -1,5 +1,5 @@
-use crate::asks::Ask;
-use crate::asks::Ask::{Begin, Collect, Commit, Delete, Draw, Poll, Put, PutWide, Stamp};
+use asks::Ask::{Begin, Collect, Commit, Delete, Draw, Poll, Put, PutWide, Stamp};
+use asks::{Ask, LOST_AGAIN, LOST_UPDATE, NINE_GAPS, Past, THREE_DRAWN, TWO_ROWS};
 
 /// The keys of table 1 that have a row, by rising key, and the byte of each row, once or 96 times.
 pub type Table = &'static [(u64, u8)];
@@ -9,7 +9,7 @@ pub type Table = &'static [(u64, u8)];
 pub struct Story {
     pub name: &'static str,
     pub slots: u64,
-    pub before: &'static [(&'static [Ask], bool)],
+    pub before: &'static [Past],
     pub asks: &'static [Ask],
     /// The version of the image that it begins with.
     pub version: u64,
@@ -27,47 +27,6 @@ pub struct Story {
     pub ruled: &'static [(u64, usize, usize)],
 }
 
-// Key 7 has a row. An update of it was stamped and lost.
-const LOST_UPDATE: &[Ask] = &[
-    Begin,
-    Put(2, 7, 1),
-    Draw(2),
-    Stamp(2),
-    Commit(42),
-    Begin,
-    Put(3, 7, 2),
-    Draw(3),
-    Stamp(3),
-];
-
-// Another update of it was lost too.
-const LOST_AGAIN: &[Ask] = &[Begin, Put(2, 7, 3), Draw(2), Stamp(2)];
-
-// Keys 7 and 8 have rows, of one commit.
-const TWO_ROWS: &[Ask] = &[
-    Begin,
-    Put(2, 7, 1),
-    Put(2, 8, 1),
-    Draw(2),
-    Stamp(2),
-    Stamp(2),
-    Commit(43),
-];
-
-// Three sessions update key 7, delete key 8 and insert key 9.
-const THREE_DRAWN: &[Ask] = &[
-    Begin,
-    Begin,
-    Begin,
-    Put(2, 7, 2),
-    Delete(3, 8),
-    Put(4, 9, 3),
-    Draw(3),
-    Draw(2),
-    Draw(4),
-    Stamp(2),
-];
-
 // Key 7 has a row of 96 bytes.
 const WIDE_ROW: &[Ask] = &[
     Begin,
@@ -76,32 +35,6 @@ const WIDE_ROW: &[Ask] = &[
     Stamp(2),
     Commit(43),
     Poll(2),
-];
-
-// Nine lives, of which each covers a key and leaves a gap, and the last loses an update.
-const NINE_GAPS: &[(&[Ask], bool)] = &[
-    (&[Begin, Put(2, 1, 1), Draw(2), Stamp(2), Commit(42)], false),
-    (&[Begin, Put(2, 2, 2), Draw(2), Stamp(2), Commit(42)], false),
-    (&[Begin, Put(2, 3, 3), Draw(2), Stamp(2), Commit(42)], false),
-    (&[Begin, Put(2, 4, 4), Draw(2), Stamp(2), Commit(42)], false),
-    (&[Begin, Put(2, 5, 5), Draw(2), Stamp(2), Commit(42)], false),
-    (&[Begin, Put(2, 6, 6), Draw(2), Stamp(2), Commit(42)], false),
-    (&[Begin, Put(2, 7, 7), Draw(2), Stamp(2), Commit(42)], false),
-    (&[Begin, Put(2, 8, 8), Draw(2), Stamp(2), Commit(42)], false),
-    (
-        &[
-            Begin,
-            Put(2, 9, 9),
-            Draw(2),
-            Stamp(2),
-            Commit(42),
-            Begin,
-            Put(3, 9, 10),
-            Draw(3),
-            Stamp(3),
-        ],
-        true,
-    ),
 ];
 
 const NINE_ROWS: Table = &[

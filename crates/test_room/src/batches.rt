@@ -1,7 +1,7 @@
 //! What a covering tick tells of its batch.
-use crate::asks::Ask::{Begin, Commit, Delete, Draw, Put, Stamp};
-use crate::asks::{Ask, steps};
 use crate::fixture::{fresh, opened};
+use asks::Ask::{Begin, Commit, Delete, Draw, Put, PutIn, Stamp};
+use asks::{Ask, steps};
 use base::batch::Batch;
 use base::fault::Fault;
 use base::key::Key;
@@ -42,9 +42,9 @@ const DRAWN: &[Ask] = &[
     Begin,
     Begin,
     Begin,
-    Put(2, 1, 1, 1),
-    Put(3, 1, 2, 2),
-    Put(4, 1, 3, 3),
+    Put(2, 1, 1),
+    Put(3, 2, 2),
+    Put(4, 3, 3),
     Draw(2),
     Draw(3),
     Draw(4),
@@ -85,9 +85,9 @@ fn three_writes() -> Result<[(Key, Option<Row>); 3], Fault> {
 
 const THREE_WRITES: &[Ask] = &[
     Begin,
-    Put(2, 2, 0, 1),
-    Put(2, 1, 9, 2),
-    Delete(2, 1, 8),
+    PutIn(2, 2, 0, 1),
+    Put(2, 9, 2),
+    Delete(2, 8),
     Draw(2),
     Stamp(2),
     Stamp(2),

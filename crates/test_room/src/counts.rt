@@ -1,8 +1,7 @@
 //! How many operations of each kind a life makes.
-use crate::asks::Ask;
-use crate::asks::Ask::{Begin, Collect, Commit, Draw, Put, Stamp};
-use crate::fixture::{Past, device_after, formatted, lived};
-use crate::stories::NINE_GAPS;
+use crate::fixture::{device_after, formatted, lived};
+use asks::Ask::{Begin, Collect, Commit, Draw, Put, Stamp};
+use asks::{Ask, NINE_GAPS, Past};
 use base::fault::Fault;
 use base::geometry::Geometry;
 use pmem_model::{Operations, SimPmem};
@@ -23,7 +22,7 @@ fn format_is_counted(rt: HostRuntime) -> Result<(), Fault> {
 }
 
 // The update of a key was stamped and lost, so that the begin in its slot lies in the gap of the next opening.
-const LOST: &[Past] = &[(&[Begin, Put(2, 1, 7, 1), Draw(2), Stamp(2)], true)];
+const LOST: &[Past] = &[(&[Begin, Put(2, 7, 1), Draw(2), Stamp(2)], true)];
 
 /// How many slots, the lives before, the life, and its stores, flushes and fences.
 type Counted = (u64, &'static [Past], &'static [Ask], (u64, u64, u64));
@@ -40,7 +39,7 @@ const COUNTED: &[Counted] = &[
         LOST,
         &[
             Begin,
-            Put(2, 1, 7, 1),
+            Put(2, 7, 1),
             Draw(2),
             Stamp(2),
             Commit(1),

@@ -1,7 +1,7 @@
-use crate::asks::steps;
 use crate::counts::operations;
 use crate::fixture::{opened, step};
 use crate::stories::{Opening, Story};
+use asks::steps;
 use base::fault::Fault;
 use base::gap::Gaps;
 use base::step::{Note, Step};

@@ -2,9 +2,10 @@
 use crate::crashes::{assert_each_stop, assert_left, stopped};
 use crate::fixture::device_after;
 use crate::stories::{
-    ABORTS_AND_COMMITS, CLOSE, FIRST_VERSION, NINTH_GAP, ONE_ROW, OPENING, REUSED_SLOT,
-    SECOND_UPDATE, Story, THIRD_UPDATE, THREE_COMMITS, UPDATE,
+    ABORTS_AND_COMMITS, CLOSE, FIRST_VERSION, NINTH_GAP, OPENING, REUSED_SLOT, SECOND_UPDATE,
+    Story, THIRD_UPDATE, THREE_COMMITS, UPDATE,
 };
+use asks::ONE_ROW;
 use base::fault::Fault;
 use pmem::Pmem;
 use pmem_model::{Choice, SimPmem};
@@ -64,7 +65,7 @@ fn opening_reserves_timestamps_once(rt: HostRuntime) -> Result<(), Fault> {
 
 #[test]
 fn opening_of_the_first_version_stores_the_version_first(rt: HostRuntime) -> Result<(), Fault> {
-    let mut image = device_after(&rt, rt.alloc(), 4, ONE_ROW)?.image()?;
+    let mut image = device_after(&rt, rt.alloc(), 4, &[(ONE_ROW, false)])?.image()?;
     if let Some(version) = image.get_mut(1) {
         *version = 1;
     }

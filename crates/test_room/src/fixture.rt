@@ -1,4 +1,4 @@
-use crate::asks::{Ask, steps};
+use asks::{Ask, Past, steps};
 use base::fault::Fault;
 use base::geometry::Geometry;
 use base::step::{Note, Step};
@@ -75,9 +75,6 @@ pub fn lived<R: Threads + Sync + Abort>(
     }
     Ok(room.into_device())
 }
-
-/// A life, and whether a crash then leaves the newest value of each word, or the oldest.
-pub type Past = (&'static [Ask], bool);
 
 /// A fresh device with so many slots and a window of 8, after these lives.
 pub fn device_after<R: Threads + Sync + Abort>(

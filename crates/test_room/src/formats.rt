@@ -1,6 +1,6 @@
 //! A format of a device that has rows, which stops after each number of its operations.
-use crate::asks::Ask::{Begin, Commit, Draw, Put, Stamp};
-use crate::fixture::{Past, device_after};
+use crate::fixture::device_after;
+use asks::ONE_ROW;
 use base::fault::Fault;
 use base::geometry::Geometry;
 use image_check::check;
@@ -10,13 +10,7 @@ use std::alloc::Global;
 use std::process::Abort;
 use std::thread::Threads;
 
-// Record 3 covers the one row.
-const ONE_ROW: Past = (
-    &[Begin, Put(2, 1, 7, 1), Draw(2), Stamp(2), Commit(42)],
-    false,
-);
-
-/// The gate of the record that rules, and how many rows there are. `None`: the image isn't formatted.
+/// The gate of the record that rules, which covers the one row, and how many rows there are. `None`: the image isn't formatted.
 type Left = Option<(u64, usize)>;
 
 const OLD: Left = Some((3, 1));
@@ -74,7 +68,7 @@ fn assert_stop<R: Threads + Sync + Abort>(
 
 #[test]
 fn format_leaves_the_old_image_or_none_or_the_new(rt: HostRuntime) -> Result<(), Fault> {
-    let image = device_after(&rt, rt.alloc(), 4, &[ONE_ROW])?.image()?;
+    let image = device_after(&rt, rt.alloc(), 4, &[(ONE_ROW, false)])?.image()?;
     for (first, last, oldest, newest) in STOPS {
         for fuse in *first..last.saturating_add(1) {
             assert_stop(&rt, rt.alloc(), &image, fuse, (*oldest, *newest))?;

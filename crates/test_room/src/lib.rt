@@ -3,7 +3,6 @@
 #![tactic(auto)]
 
 #[cfg(test)]
-mod asks;
 #[cfg(test)]
 mod batches;
 #[cfg(test)]

@@ -1,8 +1,8 @@
 //! Lives in which an allocation may be refused: each in turn, where the tests are run so.
-use crate::asks::Ask::{Begin, Commit, Draw, Put, Scan, Stamp};
-use crate::asks::{Ask, steps};
 use crate::counts::operations;
 use crate::fixture::{fresh, opened, step};
+use asks::Ask::{Begin, Commit, Draw, Put, Scan, Stamp};
+use asks::{Ask, steps};
 use base::fault::Fault;
 use base::key::Key;
 use base::row::Row;
@@ -17,9 +17,9 @@ use std::thread::Threads;
 const TWO_COMMITS: &[Ask] = &[
     Begin,
     Begin,
-    Put(2, 1, 1, 1),
-    Put(3, 1, 2, 2),
-    Scan(3, 1),
+    Put(2, 1, 1),
+    Put(3, 2, 2),
+    Scan(3),
     Draw(2),
     Draw(3),
     Stamp(2),

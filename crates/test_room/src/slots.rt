@@ -2,8 +2,9 @@ ghost use Rattle.std.specs.Prelude.{◌≡◌, ◌<◌, ◌≤◌, IfOk, length}
 ghost use Rattle.base.specs.Layout.{layout_with, plain_version};
 ghost use Rattle.pmem_model.specs.Sim.{device_of};
 
-use crate::asks::Ask::{Begin, Commit, Draw, End, Put, Stamp};
-use crate::fixture::{Past, device_after};
+use crate::fixture::device_after;
+use asks::Ask::{Begin, Commit, Draw, End, Put, Stamp};
+use asks::Past;
 use base::actor::Actor;
 use base::fault::Fault;
 use base::geometry::Geometry;
@@ -53,14 +54,14 @@ fn taken_slot_is_cleared(rt: HostRuntime) -> Result<(), Fault> {
 const REPLACED: Past = (
     &[
         Begin,
-        Put(2, 1, 7, 1),
+        Put(2, 7, 1),
         Draw(2),
         Stamp(2),
         Commit(42),
         End(2),
         Begin,
-        Put(2, 1, 7, 2),
-        Put(2, 1, 8, 3),
+        Put(2, 7, 2),
+        Put(2, 8, 3),
         Draw(2),
         Stamp(2),
         Stamp(2),

@@ -1,6 +1,5 @@
-use crate::asks::Ask;
-use crate::asks::Ask::{Abort, Begin, Collect, Commit, Delete, Draw, End, Poll, Put, Stamp};
-use crate::fixture::Past;
+use asks::Ask::{Abort, Begin, Collect, Commit, Delete, Draw, End, Poll, Put, Stamp};
+use asks::{Ask, LOST_AGAIN, LOST_UPDATE, NINE_GAPS, ONE_ROW, Past, TWO_ROWS};
 
 /// What an opening shows.
 #[derive(Clone, Copy)]
@@ -26,17 +25,6 @@ pub struct Story {
     pub gates: &'static [(u64, u64, u64)],
 }
 
-// Keys 7 and 8 have rows, of one commit.
-const TWO_ROWS: &[Ask] = &[
-    Begin,
-    Put(2, 1, 7, 1),
-    Put(2, 1, 8, 1),
-    Draw(2),
-    Stamp(2),
-    Stamp(2),
-    Commit(43),
-];
-
 /// Three sessions update key 7, delete key 8 and insert key 9. The opening makes 39 operations, and its record may rule
 /// from the 37th on. Two puts make 20, the stamps 4 and the cycle of four lines 44. The last three of a cycle store,
 /// flush and fence the gate.
@@ -47,9 +35,9 @@ pub const THREE_COMMITS: Story = Story {
         Begin,
         Begin,
         Begin,
-        Put(2, 1, 7, 2),
-        Delete(3, 1, 8),
-        Put(4, 1, 9, 3),
+        Put(2, 7, 2),
+        Delete(3, 8),
+        Put(4, 9, 3),
         Draw(3),
         Draw(2),
         Draw(4),
@@ -95,9 +83,9 @@ pub const CLOSE: Story = Story {
         Begin,
         Begin,
         Begin,
-        Put(2, 1, 7, 2),
-        Delete(3, 1, 8),
-        Put(4, 1, 9, 3),
+        Put(2, 7, 2),
+        Delete(3, 8),
+        Put(4, 9, 3),
         Draw(3),
         Draw(2),
         Draw(4),
@@ -130,19 +118,6 @@ pub const CLOSE: Story = Story {
     ],
 };
 
-// Key 7 has a row. An update of it was stamped and lost.
-const LOST_UPDATE: &[Ask] = &[
-    Begin,
-    Put(2, 1, 7, 1),
-    Draw(2),
-    Stamp(2),
-    Commit(42),
-    Begin,
-    Put(3, 1, 7, 2),
-    Draw(3),
-    Stamp(3),
-];
-
 /// That life: 39, 10, 1 and 41 operations, and of the update 10 and 2.
 pub const UPDATE: Story = Story {
     slots: 4,
@@ -169,9 +144,6 @@ pub const UPDATE: Story = Story {
     gates: &[(36, 2, 2), (38, 2, 3), (88, 3, 3), (90, 3, 4), (103, 4, 4)],
 };
 
-// Another update of it was lost too.
-const LOST_AGAIN: &[Ask] = &[Begin, Put(2, 1, 7, 3), Draw(2), Stamp(2)];
-
 /// That life.
 pub const SECOND_UPDATE: Story = Story {
     slots: 4,
@@ -197,14 +169,7 @@ pub const SECOND_UPDATE: Story = Story {
 pub const THIRD_UPDATE: Story = Story {
     slots: 4,
     before: &[(LOST_UPDATE, true), (LOST_AGAIN, true)],
-    asks: &[
-        Begin,
-        Put(2, 1, 7, 4),
-        Draw(2),
-        Stamp(2),
-        Commit(43),
-        Poll(2),
-    ],
+    asks: &[Begin, Put(2, 7, 4), Draw(2), Stamp(2), Commit(43), Poll(2)],
     closes: false,
     openings: &[
         Opening {
@@ -233,14 +198,14 @@ pub const ABORTS_AND_COMMITS: Story = Story {
     before: &[(LOST_UPDATE, true)],
     asks: &[
         Begin,
-        Put(2, 1, 8, 5),
-        Put(2, 1, 7, 6),
+        Put(2, 8, 5),
+        Put(2, 7, 6),
         Abort(2),
         Begin,
-        Put(2, 1, 7, 3),
-        Put(2, 1, 8, 7),
-        Delete(2, 1, 8),
-        Put(2, 1, 8, 4),
+        Put(2, 7, 3),
+        Put(2, 8, 7),
+        Delete(2, 8),
+        Put(2, 8, 4),
         Draw(2),
         Stamp(2),
         Stamp(2),
@@ -248,7 +213,7 @@ pub const ABORTS_AND_COMMITS: Story = Story {
         Poll(2),
         End(2),
         Begin,
-        Delete(2, 1, 7),
+        Delete(2, 7),
         Draw(2),
         Stamp(2),
         Commit(42),
@@ -296,20 +261,20 @@ pub const REUSED_SLOT: Story = Story {
     before: &[],
     asks: &[
         Begin,
-        Put(2, 1, 7, 1),
+        Put(2, 7, 1),
         Draw(2),
         Stamp(2),
         Commit(42),
         End(2),
         Begin,
-        Delete(2, 1, 7),
+        Delete(2, 7),
         Draw(2),
         Stamp(2),
         Commit(42),
         End(2),
         Collect(1),
         Begin,
-        Put(2, 1, 8, 2),
+        Put(2, 8, 2),
         Draw(2),
         Stamp(2),
         Commit(42),
@@ -356,12 +321,6 @@ pub const REUSED_SLOT: Story = Story {
     ],
 };
 
-/// Key 7 has a row.
-pub const ONE_ROW: &[Past] = &[(
-    &[Begin, Put(2, 1, 7, 1), Draw(2), Stamp(2), Commit(42)],
-    false,
-)];
-
 // What the openings that follow one another show.
 const ITS_OPENINGS: &[Opening] = &[
     Opening {
@@ -389,7 +348,7 @@ const ITS_OPENINGS: &[Opening] = &[
 /// The opening after a first commit. Each further one that is lost makes the gap longer.
 pub const OPENING: Story = Story {
     slots: 4,
-    before: ONE_ROW,
+    before: &[(ONE_ROW, false)],
     asks: &[],
     closes: false,
     openings: ITS_OPENINGS,
@@ -399,62 +358,12 @@ pub const OPENING: Story = Story {
 /// The same over an image of the first version: it stores, flushes and fences the version first.
 pub const FIRST_VERSION: Story = Story {
     slots: 4,
-    before: ONE_ROW,
+    before: &[(ONE_ROW, false)],
     asks: &[],
     closes: false,
     openings: ITS_OPENINGS,
     gates: &[(39, 4, 4), (41, 4, 5), (42, 5, 5)],
 };
-
-/// Nine lives, of which each covers a key and leaves a gap, and the last loses an update.
-pub const NINE_GAPS: &[Past] = &[
-    (
-        &[Begin, Put(2, 1, 1, 1), Draw(2), Stamp(2), Commit(42)],
-        false,
-    ),
-    (
-        &[Begin, Put(2, 1, 2, 2), Draw(2), Stamp(2), Commit(42)],
-        false,
-    ),
-    (
-        &[Begin, Put(2, 1, 3, 3), Draw(2), Stamp(2), Commit(42)],
-        false,
-    ),
-    (
-        &[Begin, Put(2, 1, 4, 4), Draw(2), Stamp(2), Commit(42)],
-        false,
-    ),
-    (
-        &[Begin, Put(2, 1, 5, 5), Draw(2), Stamp(2), Commit(42)],
-        false,
-    ),
-    (
-        &[Begin, Put(2, 1, 6, 6), Draw(2), Stamp(2), Commit(42)],
-        false,
-    ),
-    (
-        &[Begin, Put(2, 1, 7, 7), Draw(2), Stamp(2), Commit(42)],
-        false,
-    ),
-    (
-        &[Begin, Put(2, 1, 8, 8), Draw(2), Stamp(2), Commit(42)],
-        false,
-    ),
-    (
-        &[
-            Begin,
-            Put(2, 1, 9, 9),
-            Draw(2),
-            Stamp(2),
-            Commit(42),
-            Begin,
-            Put(3, 1, 9, 10),
-            Draw(3),
-            Stamp(3),
-        ],
-        true,
-    ),
-];
 
 const NINE_ROWS: &[(u64, u8)] = &[
     (1, 1),

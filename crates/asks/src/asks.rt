@@ -4,7 +4,7 @@ use base::row::Row;
 use base::step::Step;
 use std::alloc::Global;
 
-/// What is asked of a room: all keys are of table 1, and each row is one byte, or 96 alike.
+/// What is asked of a room: keys are of table 1 where no other is named, and each row is one byte, or 96 alike.
 #[derive(Clone, Copy, Debug)]
 pub enum Ask {
     Begin,
@@ -12,6 +12,8 @@ pub enum Ask {
     /// All keys.
     Scan(u8),
     Put(u8, u64, u8),
+    /// In the table that is named.
+    PutIn(u8, u16, u64, u8),
     PutWide(u8, u64, u8),
     Delete(u8, u64),
     Draw(u8),
@@ -68,6 +70,11 @@ pub fn step_of(ask: Ask) -> Result<Step, Fault> {
             hi: u64::MAX,
         },
         Ask::Put(session, key, byte) => Step::Put {
+            session,
+            key: Key { table, key },
+            row: Row::new(&[byte])?,
+        },
+        Ask::PutIn(session, table, key, byte) => Step::Put {
             session,
             key: Key { table, key },
             row: Row::new(&[byte])?,
