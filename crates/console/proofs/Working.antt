@@ -22,6 +22,7 @@ use Rattle.room.specs.Room.{Shows}
 use Rattle.room.specs.declared.room.Room.{Room}
 use Rattle.room.specs.declared.status.Status.{Status}
 use Rattle.workload.specs.Load.{HasFree, HasRunFrom, IsLoadFault, OpensTo}
+use Rattle.workload.proofs.Made.{engine-not-slots}
 use Rattle.command_line.specs.ImageFile.{HoldsWords, IsFileOf, is_image_length}
 use Rattle.command_line.specs.Numbers.{Text}
 use Rattle.console.specs.Kept.{Extends, IsFileWith, KeepsHistories}
@@ -72,21 +73,30 @@ load-fault file words slice sessions old fault size holds same (inl memory) = in
 load-fault file words slice sessions old fault size holds same (inr is) =
     inr (inr (record { size = size; image = words; holds = holds; is = subst (λ (i : Image). IsThreadsFault sessions i fault) same is }), appends-none old)
 
+told-other : (image : Image) (sessions : ℕ) (fault told : Fault) → (fault ≡ DeviceFault → told ≡ OutOfMemory) → told ≡ fault → OpensTo image (HasFree (2 * sessions)) → (fault ≡ SlotsOut → ⊥)
+    → OpensTo image (λ q. HasFree (2 * sessions) q × IsOther told)
+told-other image sessions fault told memory is free other = record {
+  may_open = free.may_open;
+  each = λ history drawn next stands.
+      let made = free.each history drawn next stands in
+      (made.0, made.1, (made.2, record { slots = λ e. other (sym is ∙ e); device = λ e. never-device fault told memory is e }));
+}
+
 -- what is told of a load on a device without a fuse
-pub load-told : (image : Image) (sessions : ℕ) (fault told : Fault) → (fault ≡ DeviceFault → told ≡ OutOfMemory) → (told ≡ OutOfMemory) ⊎ (told ≡ fault)
-    → IsLoadFault image sessions fault → (told ≡ OutOfMemory) ⊎ IsThreadsFault sessions image told
-load-told image sessions fault told memory (inl is) load = inl is
-load-told image sessions fault told memory (inr is) (inl why) = inr (inl (why ∙ ap (λ (f : Fault). Some f) (sym is)))
-load-told image sessions fault told memory (inr is) (inr (inl wants)) = inl (is ∙ wants)
-load-told image sessions fault told memory (inr is) (inr (inr (inl (none, device)))) = inl (memory device)
-load-told image sessions fault told memory (inr is) (inr (inr (inr (inl (lacks, slots))))) = inr (inr (inl (lacks, is ∙ slots)))
-load-told image sessions fault told memory (inr is) (inr (inr (inr (inr (free, other))))) =
-    inr (inr (inr (record {
-      may_open = free.may_open;
-      each = λ history drawn next stands.
-          let made = free.each history drawn next stands in
-          (made.0, made.1, (made.2, record { slots = λ e. other (sym is ∙ e); device = λ e. never-device fault told memory is e }));
-    })))
+pub load-told : (image : Image) (sessions commits : ℕ) (fault told : Fault) → (fault ≡ DeviceFault → told ≡ OutOfMemory) → (told ≡ OutOfMemory) ⊎ (told ≡ fault)
+    → IsLoadFault image sessions commits fault → (told ≡ OutOfMemory) ⊎ IsThreadsFault sessions image told
+load-told image sessions commits fault told memory (inl is) load = inl is
+load-told image sessions commits fault told memory (inr is) (inl why) = inr (inl (why ∙ ap (λ (f : Fault). Some f) (sym is)))
+load-told image sessions commits fault told memory (inr is) (inr (inl wants)) = inl (is ∙ wants)
+load-told image sessions commits fault told memory (inr is) (inr (inr (inl (none, device)))) = inl (memory device)
+load-told image sessions commits fault told memory (inr is) (inr (inr (inr (inl (lacks, slots))))) = inr (inr (inl (lacks, is ∙ slots)))
+load-told image sessions commits fault told memory (inr is) (inr (inr (inr (inr (inl (free, lacks, numbers)))))) =
+    inr (inr (inr (told-other image sessions fault told memory is free (λ e. apart (sym numbers ∙ e)))))
+  where
+    apart : TimestampsOut ≡ SlotsOut → ⊥
+    apart h = cc h
+load-told image sessions commits fault told memory (inr is) (inr (inr (inr (inr (inr (free, has, engine)))))) =
+    inr (inr (inr (told-other image sessions fault told memory is free (engine-not-slots image fault engine))))
 
 -- where no state that the room shows admits it, no slots ran out, and no device failed
 not-slots : {D : Type 0} {G : Ghosts D} (state : D → Device) (room : Room D G) (words : Image) (sessions : ℕ) (fault : Fault) → OpensTo words (HasFree (2 * sessions)) → ∥ HasRunFrom state words room ∥₁

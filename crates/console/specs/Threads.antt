@@ -6,7 +6,7 @@ use Rattle.base.specs.declared.fault.Fault.TheVariants.{Device as DeviceFault, S
 use Rattle.base.specs.declared.key.Key.{Key}
 use Rattle.base.specs.Images.{Image, opening_fault}
 use Rattle.image_check.specs.Checked.{ListsTables}
-use Rattle.workload.specs.Load.{HasFree, LacksFree, OpensTo}
+use Rattle.workload.specs.Load.{HasFree, HasMade, LacksFree, OpensTo}
 use Rattle.command_line.specs.ImageFile.{IsFileOf}
 use Rattle.command_line.specs.Numbers.{Text}
 use Rattle.command_line.specs.Texts.{end_line, entries_text}
@@ -26,11 +26,12 @@ threads_text sessions commits rows =
     (((codes "committed " ++ decimal (commits_of_all sessions commits)) ++ 10 ∷ []) ++ entries_text (filter (is_of_thread sessions) rows))
     ++ ((end_line sessions ++ 10 ∷ []) ++ (codes "closed" ++ 10 ∷ []))
 
--- the file may be opened, and then two slots are free for each thread; the rows that are printed are those of the image that it
--- has in the end
+-- The file may be opened, and then two slots are free for each thread; in a run from its image each thread made its commits, and all
+-- were acknowledged; the rows that are printed are those of the image that it has in the end
 pub record PrintsThreads (sessions commits : ℕ) (before : List ℕ) (old new : Option Text) (after : List ℕ) : Type 0 where
   pub opens : IsOpenable before
   pub has_slots : OpensTo opens.image (HasFree (2 * sessions))
+  pub made : HasMade opens.image sessions commits
   pub image : Image
   pub of_image : IsFileOf image after
   pub rows : List (Key × List ℕ)

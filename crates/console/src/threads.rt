@@ -4,7 +4,7 @@ ghost use Rattle.machine.specs.Machine.{State, StandsClosed};
 ghost use Rattle.base.specs.declared.fault.Fault.TheVariants.{OutOfMemory};
 ghost use Rattle.pmem_model.specs.Sim.{device_of};
 ghost use Rattle.room.specs.Room.{Shows};
-ghost use Rattle.workload.specs.Load.{HasFree, HasRunFrom, OpensTo};
+ghost use Rattle.workload.specs.Load.{HasFree, HasMadeFrom, OpensTo};
 ghost use Rattle.console.specs.BadLine.{BlamesNoLine};
 ghost use Rattle.console.specs.Kept.{KeepsHistories};
 ghost use Rattle.console.specs.Refusals.{IfRefused, IsClosingFault, IsFileFault};
@@ -60,7 +60,7 @@ fn worked_on<T: Threads + Wait + Copy + Drop + Send + Sync + 'static>(
     words: &[u64],
     load: Load,
 ) -> Result<Room<SimPmem>, Fault>
-    ensures from { IfOk result (λ room. ∥ HasRunFrom device_of words.now room ∥₁) }
+    ensures made { IfOk result (λ room. ∥ HasMadeFrom device_of words.now load.sessions load.commits room ∥₁) }
     ensures has_slots { OnOk result (OpensTo words.now (HasFree (2 * load.sessions))) }
     ensures fault { IfErr result (λ fault. (fault ≡ OutOfMemory) ⊎ IsThreadsFault load.sessions words.now fault) }
 {

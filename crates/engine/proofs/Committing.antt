@@ -70,13 +70,13 @@ commit_polled E old mid new phase n fault R is c d = Called-append _ _ _ _ _ _ c
 pub commit_ended : (old mid mid' new : List Receipt) (phase : Phase) (n : ℕ) (answer : Option ℕ) (R : List Receipt → Type 0) → IsOpenAs n phase → Called old mid (λ one. AskPrepare phase one × R one)
     → Called mid mid' (λ two. ArePolls n two × TellsLast two (note_of_commit answer)) → Asks mid' new (End n) Done → Called old new (λ added. AskCommit phase added × TellsCommit phase added answer)
 commit_ended old mid mid' new phase n answer R is c d a =
-    Called-append _ _ _ _ (λ three. (two : List Receipt) × (r : Receipt) × (three ≡ two ++ r ∷ []) × (ArePolls n two × TellsLast two (note_of_commit answer)) × (r.step ≡ End n)) _ c
-    (Called-more _ _ _ _ _ _ _ d a (λ two r polled step told. (two, r, refl, polled, step))) join
+    Called-append _ _ _ _ (λ three. (two : List Receipt) × (r : Receipt) × (three ≡ two ++ r ∷ []) × (ArePolls n two × TellsLast two (note_of_commit answer)) × (r.step ≡ End n) × (r.note ≡ Done)) _ c
+    (Called-more _ _ _ _ _ _ _ d a (λ two r polled step done. (two, r, refl, polled, step, done))) join
   where
     join : (one three : List Receipt) → AskPrepare phase one × R one
-        → (two : List Receipt) × (r : Receipt) × (three ≡ two ++ r ∷ []) × (ArePolls n two × TellsLast two (note_of_commit answer)) × (r.step ≡ End n)
+        → (two : List Receipt) × (r : Receipt) × (three ≡ two ++ r ∷ []) × (ArePolls n two × TellsLast two (note_of_commit answer)) × (r.step ≡ End n) × (r.note ≡ Done)
         → AskCommit phase (one ++ three) × TellsCommit phase (one ++ three) answer
-    join one three prepared (two, r, same, (polls, (before, poll, last, told)), step) = (
+    join one three prepared (two, r, same, (polls, (before, poll, last, told)), step, done) = (
       subst (λ (rs : List Receipt). AskCommit phase (one ++ rs)) (sym same)
           (asks_some phase n one two (r ∷ []) is.number prepared.0 polls (All-cons (λ (s : Receipt). s.step ≡ End n) r [] step (All-nil (λ (s : Receipt). s.step ≡ End n))) (omega arith)),
       record {
@@ -89,6 +89,7 @@ commit_ended old mid mid' new phase n answer R is c d a =
         polled = last_of before poll (subst (ArePolls n) last polls) ∙ ap Poll is.number;
         told = told;
         ended = step ∙ ap End is.number;
+        done = done;
       },
     )
       where

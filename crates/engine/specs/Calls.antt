@@ -95,7 +95,7 @@ pub record AskCommit (phase : Phase) (added : List Receipt) : Type 0 where
   pub ends : All (λ r. r.step ≡ End (number_of phase)) end
   pub one_end : length end ≤ 1
 
--- a transaction was open, its last poll's note tells the answer, and an end follows it
+-- a transaction was open, its last poll's note tells the answer, and an end that was done follows it
 pub record TellsCommit (phase : Phase) (added : List Receipt) (answer : Option ℕ) : Type 0 where
   pub open_then : phase ≢ Idle
   pub before : List Receipt
@@ -105,3 +105,4 @@ pub record TellsCommit (phase : Phase) (added : List Receipt) (answer : Option �
   pub polled : poll.step ≡ Poll (number_of phase)
   pub told : poll.note ≡ note_of_commit answer
   pub ended : end.step ≡ End (number_of phase)
+  pub done : end.note ≡ Done

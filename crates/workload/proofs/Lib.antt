@@ -1,2 +1,6 @@
 pub mod Slots
+pub mod Acknowledged
+pub mod Agreed
 pub mod Opens
+pub mod Made
+pub mod Tasked

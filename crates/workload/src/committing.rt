@@ -1,38 +1,53 @@
-ghost use Rattle.std.specs.Prelude.{◌≡◌, ◌≢◌, IfErr, IfSome, IsTrue};
-ghost use Rattle.base.specs.declared.fault.Fault.TheVariants.{SlotsOut};
+ghost use Rattle.std.specs.Prelude.{◌≡◌, ◌≢◌, ◌⊎◌, false, IfErr, IfOk, IsTrue, OnOk, is_some};
+ghost use Rattle.base.specs.declared.fault.Fault.TheVariants.{OutOfMemory};
+ghost use Rattle.base.specs.declared.step.Note.TheVariants.{Refused};
+ghost use Rattle.engine.specs.declared.phase.Phase.TheVariants.{Idle};
+ghost use Rattle.engine.specs.Calls.{TellsLast};
+ghost use Rattle.engine.specs.Origins.{HasHalted};
+ghost use Rattle.workload.specs.Load.{Acknowledges, Adds, AddsCommit, GivesUp, IsRefusedWith, Works, may_pass};
+ghost use Rattle.workload.specs.Tasks.{AllWork};
 
-use crate::failure::Failure;
+use crate::task::Task;
+use base::Ts;
 use base::fault::Fault;
 use base::key::Key;
 use base::row::Row;
 use engine::{Origin, Phase, Session};
 use pmem::Pmem;
-use std::sync::{Mutex, Wait};
+use std::sync::Wait;
 use std::thread::{Threads, for_each_mut, yield_now};
 
-/// Lets each session make its commits in a thread of its own. The fault of a thread that didn't make them.
+/// Lets each session make its commits in a thread of its own.
 pub fn commit_all<
     T: Threads + Wait + Sync,
     D: Pmem + Drop + Send + Sync,
     J: Origin + Send + Sync,
     B: Drop + Send,
->(rt: &T, sessions: &mut [Session<D, J, B>], commits: u64) -> Option<Fault>
-    ensures { IfSome result (λ fault. fault ≢ SlotsOut) }
+>(rt: &T, tasks: &mut [Task<D, J, B>], commits: u64)
+    ensures { AllWork (HasHalted J.image) commits tasks.new }
 {
-    let failure = Mutex::new(Failure::new());
-    let threads = sessions.len().max(1);
+    let threads = tasks.len().max(1);
     for_each_mut(
         rt,
-        sessions,
+        tasks,
         threads,
-        &|key: usize, session: &mut Session<D, J, B>| {
-            if let Err(fault) = make_commits(rt, session, key as u64, commits) {
-                failure.lock(rt).note(fault);
-            }
-        },
+        &|key: usize, task: &mut Task<D, J, B>| work(rt, task, key as u64, commits),
     );
-    let failure = failure.lock(rt);
-    failure.first()
+}
+
+// Makes the commits of one thread, and keeps the fault that ended it.
+fn work<T: Wait, D: Pmem + Drop, J: Origin, B: Drop>(
+    rt: &T,
+    task: &mut Task<D, J, B>,
+    key: u64,
+    commits: u64,
+)
+    ensures { Works (HasHalted J.image) commits task.new.session.receipts.items task.new.fault }
+{
+    task.fault = match make_commits(rt, &mut task.session, key, commits) {
+        Ok(()) => None,
+        Err(fault) => Some(fault),
+    };
 }
 
 // Puts the numbers from 1 on under this key of table 1, each in a commit.
@@ -42,14 +57,26 @@ fn make_commits<T: Wait, D: Pmem + Drop, J: Origin, B: Drop>(
     key: u64,
     commits: u64,
 ) -> Result<(), Fault>
-    ensures { IfErr result (λ fault. fault ≢ SlotsOut) }
+    ensures ok { OnOk result (Acknowledges commits session.new.receipts.items) }
+    ensures err { IfErr result (GivesUp (HasHalted J.image) session.new.receipts.items) }
 {
     let key = Key { table: 1, key };
     for made in 0..commits {
-        let row = Row::new(&(made + 1).to_le_bytes())?;
-        make_commit(rt, session, key, row)?;
+        let row = row_of(made + 1);
+        match make_commit(rt, session, key, row) {
+            Ok(()) => {}
+            Err(fault) => return Err(fault),
+        }
     }
     Ok(())
+}
+
+// The number as a row of 8 bytes, the least first.
+fn row_of(number: u64) -> Row {
+    match Row::new(&number.to_le_bytes()) {
+        Ok(row) => row,
+        Err(_) => unreachable!(),
+    }
 }
 
 // Puts the row in a commit, and tries again after faults that may pass.
@@ -59,31 +86,97 @@ fn make_commit<T: Wait, D: Pmem + Drop, J: Origin, B: Drop>(
     key: Key,
     row: Row,
 ) -> Result<(), Fault>
-    ensures { IfErr result (λ fault. fault ≢ SlotsOut) }
+    ensures ok { OnOk result (AddsCommit session.old.receipts.items session.new.receipts.items) }
+    ensures err { IfErr result (GivesUp (HasHalted J.image) session.new.receipts.items) }
 {
     for _ in rt.forever() {
-        match try_commit(rt, session, key, row) {
-            Ok(()) => return Ok(()),
-            Err(fault) => step_back(rt, session, fault)?,
+        match attempt(rt, session, key, row) {
+            Ok(is_made) => {
+                if is_made {
+                    return Ok(());
+                }
+            }
+            Err(fault) => return Err(fault),
         }
         yield_now();
     }
     unreachable!()
 }
 
-// Puts the row, unless an earlier try did, and asks for the commit.
+// Tries to put the row in a commit. Whether it is made: it isn't after a fault that may pass.
+fn attempt<T: Wait, D: Pmem + Drop, J: Origin, B: Drop>(
+    rt: &T,
+    session: &mut Session<D, J, B>,
+    key: Key,
+    row: Row,
+) -> Result<bool, Fault>
+    ensures grows { Adds session.old.receipts.items session.new.receipts.items }
+    ensures ok { IfOk result (λ made. IsTrue made → AddsCommit session.old.receipts.items session.new.receipts.items) }
+    ensures err { IfErr result (GivesUp (HasHalted J.image) session.new.receipts.items) }
+{
+    match try_commit(rt, session, key, row) {
+        Ok(committed) => Ok(committed.is_some()),
+        Err(fault) => match step_back(rt, session, fault) {
+            Ok(()) => Ok(false),
+            Err(why) => Err(why),
+        },
+    }
+}
+
+// Puts the row, unless an earlier try did, and asks for the commit. `None` if nothing was written.
 fn try_commit<T: Wait, D: Pmem + Drop, J: Origin, B: Drop>(
     rt: &T,
     session: &mut Session<D, J, B>,
     key: Key,
     row: Row,
-) -> Result<(), Fault> {
-    if matches!(session.phase(), Phase::Idle) {
-        session.begin(rt)?;
-        session.put(rt, key, row)?;
+) -> Result<Option<Ts>, Fault>
+    ensures grows { Adds session.old.receipts.items session.new.receipts.items }
+    ensures ok { IfOk result (λ committed. IsTrue (is_some committed) → AddsCommit session.old.receipts.items session.new.receipts.items) }
+    ensures err { IfErr result (λ fault. (fault ≡ OutOfMemory) ⊎ IsRefusedWith (HasHalted J.image) session.new.receipts.items fault) }
+{
+    match begin_once(rt, session, key, row) {
+        Ok(()) => match session.commit(rt) {
+            Ok(committed) => Ok(committed),
+            Err(fault) => Err(fault),
+        },
+        Err(fault) => Err(fault),
     }
-    session.commit(rt)?;
-    Ok(())
+}
+
+// Begins a transaction with the row, unless one is there.
+fn begin_once<T: Wait, D: Pmem + Drop, J: Origin, B: Drop>(
+    rt: &T,
+    session: &mut Session<D, J, B>,
+    key: Key,
+    row: Row,
+) -> Result<(), Fault>
+    ensures grows { Adds session.old.receipts.items session.new.receipts.items }
+    ensures is_open { OnOk result (session.new.phase ≢ Idle) }
+    ensures err { IfErr result (λ fault. (fault ≡ OutOfMemory) ⊎ TellsLast session.new.receipts.items (Refused fault)) }
+{
+    if matches!(session.phase(), Phase::Idle) {
+        begin_with(rt, session, key, row)
+    } else {
+        Ok(())
+    }
+}
+
+// Begins a transaction, and puts the row.
+fn begin_with<T: Wait, D: Pmem + Drop, J: Origin, B: Drop>(
+    rt: &T,
+    session: &mut Session<D, J, B>,
+    key: Key,
+    row: Row,
+) -> Result<(), Fault>
+    requires { session.old.phase ≡ Idle }
+    ensures grows { Adds session.old.receipts.items session.new.receipts.items }
+    ensures is_open { OnOk result (session.new.phase ≢ Idle) }
+    ensures err { IfErr result (λ fault. (fault ≡ OutOfMemory) ⊎ TellsLast session.new.receipts.items (Refused fault)) }
+{
+    match session.begin(rt) {
+        Ok(()) => session.put(rt, key, row),
+        Err(fault) => Err(fault),
+    }
 }
 
 // After a fault that may pass, aborts the transaction, unless its timestamp is drawn or the window is full: its commit is only
@@ -93,7 +186,8 @@ fn step_back<T: Wait, D: Pmem + Drop, J: Origin, B: Drop>(
     session: &mut Session<D, J, B>,
     fault: Fault,
 ) -> Result<(), Fault>
-    ensures { IfErr result (λ fault. fault ≢ SlotsOut) }
+    ensures grows { Adds session.old.receipts.items session.new.receipts.items }
+    ensures err { IfErr result (λ why. (may_pass why ≡ false) × (((why ≡ fault) × (session.new.receipts.items ≡ session.old.receipts.items)) ⊎ TellsLast session.new.receipts.items (Refused why))) }
 {
     if !may_pass(fault) {
         return Err(fault);
@@ -109,23 +203,29 @@ fn give_up<T: Wait, D: Pmem + Drop, J: Origin, B: Drop>(
     rt: &T,
     session: &mut Session<D, J, B>,
 ) -> Result<(), Fault>
-    ensures { IfErr result (λ fault. fault ≢ SlotsOut) }
+    ensures grows { Adds session.old.receipts.items session.new.receipts.items }
+    ensures err { IfErr result (λ why. (may_pass why ≡ false) × TellsLast session.new.receipts.items (Refused why)) }
 {
     for _ in rt.forever() {
         if !matches!(session.phase(), Phase::Active(_)) {
             return Ok(());
         }
         match session.abort(rt) {
-            Err(fault) if !may_pass(fault) => return Err(fault),
-            _ => yield_now(),
+            Ok(()) => return Ok(()),
+            Err(fault) => {
+                if !may_pass(fault) {
+                    return Err(fault);
+                }
+            }
         }
+        yield_now();
     }
     unreachable!()
 }
 
 // Whether the fault may pass while the other threads go on.
 fn may_pass(fault: Fault) -> bool
-    ensures { (fault ≡ SlotsOut) → IsTrue result }
+    ensures { result ≡ may_pass fault }
 {
     matches!(
         fault,

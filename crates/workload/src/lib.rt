@@ -2,10 +2,10 @@
 #![tactic(auto)]
 
 mod committing;
-mod failure;
 mod gate;
 mod lending;
 mod load;
 mod opening;
+mod task;
 
 pub use load::{Load, run_load};

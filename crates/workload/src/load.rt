@@ -19,7 +19,7 @@ pub struct Load {
 
 ghost use Rattle.std.specs.Prelude.{◌*◌, IfErr, IfOk, OnOk};
 ghost use Rattle.pmem.specs.Words.{IsAtRest, image_of};
-ghost use Rattle.workload.specs.Load.{HasFree, HasRunFrom, IsLoadFault, OpensTo};
+ghost use Rattle.workload.specs.Load.{HasFree, HasMadeFrom, HasNumbers, IsLoadFault, OpensTo};
 
 /// Opens the device, and lets the threads make their commits beside a committer and a collector. Thread `i`, from 0, puts the
 /// numbers from 1 to `commits` under key `i` of table 1, each as a row of 8 bytes with the least first, in a commit of its
@@ -30,12 +30,14 @@ pub fn run_load<
 >(rt: &T, alloc: Global, device: D, load: Load) -> Result<Room<D>, Fault>
     requires at_rest { IsAtRest (D.state device) }
 
-    // The history is a run from the image of this very device.
-    ensures from { IfOk result (λ room. ∥ HasRunFrom D.state (image_of (D.state device)) room ∥₁) }
+    // The history is a run from the image of this very device, in which each session made its commits, and all were acknowledged.
+    ensures made { IfOk result (λ room. ∥ HasMadeFrom D.state (image_of (D.state device)) load.sessions load.commits room ∥₁) }
 
-    // It is done only where two slots for each session are free, and `SlotsOut` says that they aren't.
+    // It is done only where two slots for each session are free, and numbers are left: `SlotsOut` and `TimestampsOut` say that
+    // they aren't.
     ensures has_slots { OnOk result (OpensTo (image_of (D.state device)) (HasFree (2 * load.sessions))) }
-    ensures fault { IfErr result (IsLoadFault (image_of (D.state device)) load.sessions) }
+    ensures has_numbers { OnOk result (OpensTo (image_of (D.state device)) (HasNumbers (load.sessions * load.commits))) }
+    ensures fault { IfErr result (IsLoadFault (image_of (D.state device)) load.sessions load.commits) }
 {
     lent::<Brand, D, T>(rt, alloc, History::new(), device, load)
 }

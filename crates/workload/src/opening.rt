@@ -1,8 +1,8 @@
 ghost use Rattle.std.specs.Prelude.{◌≡◌, ◌*◌, IfErr, IfOk, MatchBool};
 ghost use Rattle.machine.specs.Machine.{State};
 ghost use Rattle.base.specs.declared.fault.Fault.TheVariants.{OutOfMemory};
-ghost use Rattle.room.specs.Room.{Shows};
-ghost use Rattle.workload.specs.Load.{HasFree, LacksFree};
+ghost use Rattle.room.specs.Room.{Shows, ShowsStatus};
+ghost use Rattle.workload.specs.Load.{HasFree, HasNumbers, LacksFree, LacksNumbers};
 
 use crate::load::Load;
 use audited::Audited;
@@ -23,7 +23,9 @@ pub fn has_slots<D: Pmem + Drop>(audited: &Audited<D>, sessions: u64) -> Result<
 /// Whether record numbers and timestamps are left for all commits of the load: at most two records a commit, one that reserves
 /// timestamps and one that covers it, and a timestamp each. Where they end the committer writes no record any more, and who waits
 /// for one would wait for ever.
-pub fn has_numbers<D: Pmem + Drop>(audited: &Audited<D>, load: Load) -> bool {
+pub fn has_numbers<D: Pmem + Drop>(audited: &Audited<D>, load: Load) -> bool
+    ensures { (q : State) → Shows D.state audited.now.room q → ShowsStatus q audited.now.opening → MatchBool result (HasNumbers (load.sessions * load.commits) q) (LacksNumbers (load.sessions * load.commits) q) }
+{
     let commits = load.sessions.saturating_mul(load.commits);
     let opening = audited.opening();
     let window = audited.geometry().window();

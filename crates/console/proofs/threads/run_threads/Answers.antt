@@ -10,7 +10,8 @@ use Rattle.command_line.specs.ImageFile.{IsFileOf}
 use Rattle.pmem_model.specs.Sim.{device_of}
 use Rattle.recovery.specs.Read.{IsReadRefusal}
 use Rattle.room.specs.Room.{Shows}
-use Rattle.workload.specs.Load.{HasFree, HasRunFrom, OpensTo}
+use Rattle.workload.specs.Load.{HasFree, HasMade, HasRunFrom, OpensTo}
+use Rattle.workload.proofs.Made.{has-made, run-of-made}
 use Rattle.console.specs.Refusals.{IsClosingFault}
 use Rattle.console.specs.Threads.{IsThreadsFault, threads_text}
 use Rattle.console.proofs.Refusals.{fault-on}
@@ -23,6 +24,7 @@ returns-clause-prints g c =
     record {
       opens = record { size = c.in_ok-words.ensures.length; image = c.in_ok-words.words.items; holds = c.in_ok-words.ensures.ok; sound = free.may_open };
       has_slots = free;
+      made = subst (λ (i : Image). HasMade i c.args.load.sessions c.args.load.commits) c.as_slice.ensures.value (has-made device_of c.as_slice.result.now c.args.load.sessions c.args.load.commits c.in_ok-room.room c.in_ok-room.ensures.made);
       image = c.in_ok-image.image.items;
       of_image = subst (λ (i : Image). IsFileOf i c.in_ok-left.left.items) c.as_slice-3.ensures.value c.in_ok-left.ensures;
       rows = c.in_ok-report.report.rows.items;
@@ -34,7 +36,7 @@ returns-clause-prints g c =
 pub returns-clause-keeps : goal.returns-clause-keeps
 returns-clause-keeps g c =
     keeps-run device_of c.in_ok-room.room c.args.file.now c.in_ok-words.words.items c.in_ok-image.image.items c.in_ok-left.left.items c.in_ok-words.ensures.ok
-    (subst (λ (i : Image). ∥ HasRunFrom device_of i c.in_ok-room.room ∥₁) c.as_slice.ensures.value c.in_ok-room.ensures.from) c.in_ok-image.ensures.closed
+    (subst (λ (i : Image). ∥ HasRunFrom device_of i c.in_ok-room.room ∥₁) c.as_slice.ensures.value (run-of-made device_of c.as_slice.result.now c.args.load.sessions c.args.load.commits c.in_ok-room.room c.in_ok-room.ensures.made)) c.in_ok-image.ensures.closed
     (subst (λ (i : Image). IsFileOf i c.in_ok-left.left.items) c.as_slice-3.ensures.value c.in_ok-left.ensures)
 
 pub returns-in_err-room-clause-refused : goal.returns-in_err-room-clause-refused
@@ -48,7 +50,7 @@ pub returns-in_err-image-clause-refused : goal.returns-in_err-image-clause-refus
 returns-in_err-image-clause-refused g c =
     fault-on c.from_residual-in_err-image.result _ (λ fault. (fault ≡ OutOfMemory) ⊎ ((q : State) → Shows device_of c.in_ok-room.room q → IsClosingFault q fault)) _ c.from_residual-in_err-image.ensures.1
     (λ fault is. late-fault device_of c.in_ok-room.room c.args.file.now c.in_ok-words.words.items c.as_slice.result.now c.args.load.sessions (g.W.Write.contents c.args.output.now) fault
-    c.in_ok-words.ensures.length c.in_ok-words.ensures.ok c.as_slice.ensures.value c.in_ok-room.ensures.has_slots c.in_ok-room.ensures.from
+    c.in_ok-words.ensures.length c.in_ok-words.ensures.ok c.as_slice.ensures.value c.in_ok-room.ensures.has_slots (run-of-made device_of c.as_slice.result.now c.args.load.sessions c.args.load.commits c.in_ok-room.room c.in_ok-room.ensures.made)
     (closing-fault-so device_of c.in_ok-room.room fault is))
     c.in_err-image.ensures.fault
 
@@ -56,6 +58,6 @@ pub returns-in_err-report-clause-refused : goal.returns-in_err-report-clause-ref
 returns-in_err-report-clause-refused g c =
     fault-on c.from_residual-in_err-report.result _ (λ fault. IsReadRefusal c.as_slice-2.result.now fault) _ c.from_residual-in_err-report.ensures.1
     (λ fault is. late-fault device_of c.in_ok-room.room c.args.file.now c.in_ok-words.words.items c.as_slice.result.now c.args.load.sessions (g.W.Write.contents c.args.output.now) fault
-    c.in_ok-words.ensures.length c.in_ok-words.ensures.ok c.as_slice.ensures.value c.in_ok-room.ensures.has_slots c.in_ok-room.ensures.from
+    c.in_ok-words.ensures.length c.in_ok-words.ensures.ok c.as_slice.ensures.value c.in_ok-room.ensures.has_slots (run-of-made device_of c.as_slice.result.now c.args.load.sessions c.args.load.commits c.in_ok-room.room c.in_ok-room.ensures.made)
     (reading-fault-so device_of c.in_ok-room.room c.in_ok-image.image.items c.as_slice-2.result.now fault c.as_slice-2.ensures.value c.in_ok-image.ensures.closed is))
     c.in_err-report.ensures.fault

@@ -3,16 +3,16 @@ use Rattle.base.specs.Images.{Image}
 use Rattle.pmem.specs.Words.{IsAtRest, image_of}
 use Rattle.pmem.proofs.Restarted.{restarted-rests, image-restarted}
 use Rattle.pmem_model.specs.Sim.{device_of}
-use Rattle.workload.specs.Load.{HasFree, HasRunFrom, IsLoadFault, OpensTo}
+use Rattle.workload.specs.Load.{HasFree, HasMadeFrom, IsLoadFault, OpensTo}
 use Rattle.console.proofs.Working.{load-told}
 use Rattle.console.proofs.threads.worked_on.Goals as goal
 
 pub run_load-requires-clause-at_rest : goal.run_load-requires-clause-at_rest
 run_load-requires-clause-at_rest g c κs within = subst IsAtRest (sym c.in_ok-device.ensures.device) (restarted-rests c.args.words.now)
 
-pub returns-in-Ok-clause-from : goal.returns-in-Ok-clause-from
-returns-in-Ok-clause-from g c =
-    subst (λ (i : Image). ∥ HasRunFrom device_of i c.in-Ok.room ∥₁) (ap image_of c.in_ok-device.ensures.device ∙ image-restarted c.args.words.now) c.in-Ok.ensures.from
+pub returns-in-Ok-clause-made : goal.returns-in-Ok-clause-made
+returns-in-Ok-clause-made g c =
+    subst (λ (i : Image). ∥ HasMadeFrom device_of i c.args.load.sessions c.args.load.commits c.in-Ok.room ∥₁) (ap image_of c.in_ok-device.ensures.device ∙ image-restarted c.args.words.now) c.in-Ok.ensures.made
 
 pub returns-in-Ok-clause-has_slots : goal.returns-in-Ok-clause-has_slots
 returns-in-Ok-clause-has_slots g c =
@@ -21,5 +21,5 @@ returns-in-Ok-clause-has_slots g c =
 
 pub returns-in-Err-clause-fault : goal.returns-in-Err-clause-fault
 returns-in-Err-clause-fault g c =
-    load-told c.args.words.now c.args.load.sessions c.in-Err.fault c.without_fuse.result c.without_fuse.ensures.device c.without_fuse.ensures.other
-    (subst (λ (i : Image). IsLoadFault i c.args.load.sessions c.in-Err.fault) (ap image_of c.in_ok-device.ensures.device ∙ image-restarted c.args.words.now) c.in-Err.ensures.fault)
+    load-told c.args.words.now c.args.load.sessions c.args.load.commits c.in-Err.fault c.without_fuse.result c.without_fuse.ensures.device c.without_fuse.ensures.other
+    (subst (λ (i : Image). IsLoadFault i c.args.load.sessions c.args.load.commits c.in-Err.fault) (ap image_of c.in_ok-device.ensures.device ∙ image-restarted c.args.words.now) c.in-Err.ensures.fault)

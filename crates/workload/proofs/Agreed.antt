@@ -1,0 +1,110 @@
+-- What the threads' receipts say of the room's history, once the close has compared them.
+use Rattle.std.proofs.Common.{◌≡◌, ℕ, false, List, [], ◌∷◌, ◌++◌, length, Option, Some, None, inl, inr, refl, sym, ap, ◌∙◌, subst, map}
+use Rattle.std.proofs.Math.Logic.{∥∥₁_map}
+use Rattle.std.proofs.lemmas.List.{length-map}
+use Rattle.std.proofs.lemmas.List.Folds.{flat_map-map}
+use Rattle.std.proofs.lemmas.List.Elements.{All-cons, All-head, All-map, All-nil, All-tail}
+use Rattle.std.specs.Prelude.{All, flat_map, slice_get, slice_index_or}
+use Rattle.std.specs.List.{Any}
+use Rattle.base.specs.declared.fault.Fault.{Fault}
+use Rattle.base.specs.declared.step.Step.{Step}
+use Rattle.base.specs.declared.step.Step.TheVariants.{Commit as Tick}
+use Rattle.base.specs.declared.step.Note.{Note}
+use Rattle.base.specs.declared.step.Note.TheVariants.{Refused}
+use Rattle.base.specs.Images.{Image}
+use Rattle.pmem.specs.Device.{Device}
+use Rattle.pmem.specs.declared.device.Pmem.{Ghosts}
+use Rattle.audited.specs.Audit.{IsAudited}
+use Rattle.audited.specs.declared.receipt.Receipt.{Receipt}
+use Rattle.room.specs.declared.room.Room.{Room}
+use Rattle.room.specs.declared.status.Status.{Status}
+use Rattle.engine.specs.Agreement.{Agrees, IsEntry}
+use Rattle.engine.specs.Calls.{TellsLast}
+use Rattle.engine.specs.Origins.{HasHalted, IsRunFrom}
+use Rattle.workload.specs.Load.{Acknowledges, AreMade, GivesUp, HasRefusal, IsRefusedWith, Works, may_pass}
+
+-- ---- parts of a list
+
+All-left : {X : Type 0} (P : X → Type 0) (xs ys : List X) → All P (xs ++ ys) → All P xs
+All-left P [] ys all = All-nil P
+All-left P (x ∷ xs) ys all = All-cons P x xs (All-head P x (xs ++ ys) all) (All-left P xs ys (All-tail P x (xs ++ ys) all))
+
+All-right : {X : Type 0} (P : X → Type 0) (xs ys : List X) → All P (xs ++ ys) → All P ys
+All-right P [] ys all = all
+All-right P (x ∷ xs) ys all = All-right P xs ys (All-tail P x (xs ++ ys) all)
+
+All-pieces : {X A : Type 0} (P : A → Type 0) (f : X → List A) (xs : List X) → All P (flat_map f xs) → All (λ x. All P (f x)) xs
+All-pieces P f [] all = All-nil (λ x. All P (f x))
+All-pieces P f (x ∷ xs) all =
+    All-cons (λ x. All P (f x)) x xs (All-left P (f x) (flat_map f xs) all) (All-pieces P f xs (All-right P (f x) (flat_map f xs) all))
+
+slice_get-last : {X : Type 0} (xs : List X) (x : X) → slice_get (xs ++ x ∷ []) (length xs) ≡ Some x
+slice_get-last [] x = refl
+slice_get-last (y ∷ xs) x = slice_get-last xs x
+
+-- ---- all commits are made
+
+-- where no thread met a fault
+pub are-made : {T : Type 0} (f : T → List Receipt) (fault : T → Option Fault) (Halted : Fault → Type 0) (sessions commits : ℕ) (tasks : List T) (entries : List (Step × Note)) (first : ℕ) (receipts : List Receipt)
+    → length tasks ≡ sessions → first ≡ 0 → All (λ t. Works Halted commits (f t) (fault t)) tasks → All (λ t. fault t ≡ None) tasks
+    → receipts ≡ flat_map f tasks → Agrees entries first receipts → AreMade sessions commits entries
+are-made f fault Halted sessions commits tasks entries first receipts count begins works none are agrees = record {
+  threads = map f tasks;
+  count = length-map tasks f ∙ count;
+  each = All-map (Acknowledges commits) f tasks (λ k d less. made (fault (slice_index_or tasks k d)) (f (slice_index_or tasks k d)) (none k d less) (works k d less));
+  agrees = subst (λ (rs : List Receipt). Agrees entries 0 rs) (are ∙ sym (flat_map-map (λ (rs : List Receipt). rs) f tasks)) (subst (λ (n : ℕ). Agrees entries n receipts) begins agrees);
+}
+  where
+    made : (fault : Option Fault) (receipts : List Receipt) → fault ≡ None → Works Halted commits receipts fault → Acknowledges commits receipts
+    made None receipts is works = works
+    made (Some fault) receipts is works = absurd (cc is)
+
+-- ---- a thread met a fault
+
+pub run-from : {D : Type 0} {G : Ghosts D} (state : D → Device) (room : Room D G) (image : Image) (opening : Status) (entries : List (Step × Note)) → IsAudited state room image opening entries → IsRunFrom image entries
+run-from state room image opening entries a = record {
+  may_open = a.may_open;
+  runs = λ history drawn next lost stands. let r = a.runs history drawn next lost stands in (r.start, r.now, r.opens, r.run);
+}
+
+last-refusal : {D : Type 0} {G : Ghosts D} (state : D → Device) (room : Room D G) (image : Image) (opening : Status) (entries : List (Step × Note)) (first : ℕ) (receipts : List Receipt) (fault : Fault)
+    → All (IsEntry entries first) receipts → TellsLast receipts (Refused fault) → IsAudited state room image opening entries → HasRefusal image fault
+last-refusal state room image opening entries first receipts fault all (before, r, last, told) audited =
+    let one : IsEntry entries first r = All-head (IsEntry entries first) r [] (All-right (IsEntry entries first) before (r ∷ []) (subst (All (IsEntry entries first)) last all)) in record {
+      entries = entries;
+      run = run-from state room image opening entries audited;
+      place = r.place;
+      step = r.step;
+      refused = one.entry ∙ ap (λ (note : Note). Some (r.step, note)) told;
+    }
+
+halted-refusal : (image : Image) (fault : Fault) → HasHalted image fault → ∥ HasRefusal image fault ∥₁
+halted-refusal image fault halted = ∥∥₁_map halted (λ h. record {
+  entries = h.0 ++ (Tick, Refused fault) ∷ [];
+  run = h.1;
+  place = length h.0;
+  step = Tick;
+  refused = slice_get-last h.0 (Tick, Refused fault);
+})
+
+refusal : {D : Type 0} {G : Ghosts D} (state : D → Device) (room : Room D G) (image : Image) (opening : Status) (entries : List (Step × Note)) (first : ℕ) (receipts : List Receipt) (fault : Fault)
+    → All (IsEntry entries first) receipts → ∥ IsAudited state room image opening entries ∥₁ → IsRefusedWith (HasHalted image) receipts fault → ∥ HasRefusal image fault ∥₁
+refusal state room image opening entries first receipts fault all from (inl last) = ∥∥₁_map from (last-refusal state room image opening entries first receipts fault all last)
+refusal state room image opening entries first receipts fault all from (inr halted) = halted-refusal image fault halted
+
+-- the fault of some thread is a final one, which a run was refused with
+pub some-refusal : {D T : Type 0} {G : Ghosts D} (state : D → Device) (room : Room D G) (image : Image) (opening : Status) (entries : List (Step × Note)) (first commits : ℕ) (receipts : List Receipt)
+    (f : T → List Receipt) (fault : T → Option Fault) (tasks : List T) (why : Fault)
+    → All (λ t. Works (HasHalted image) commits (f t) (fault t)) tasks → Any (λ t. fault t ≡ Some why) tasks → receipts ≡ flat_map f tasks → Agrees entries first receipts
+    → ∥ IsAudited state room image opening entries ∥₁ → (may_pass why ≡ false) × ∥ HasRefusal image why ∥₁
+some-refusal state room image opening entries first commits receipts f fault tasks why works (k, task, less, is, met) are agrees from =
+    let gives = gave (fault (slice_index_or tasks k task)) (f (slice_index_or tasks k task)) (ap fault is ∙ met) (works k task less) in
+    let pieces = All-pieces (IsEntry entries first) f tasks (subst (All (IsEntry entries first)) are agrees.each) in
+    (gives.is_final, refusal state room image opening entries first (f (slice_index_or tasks k task)) why (pieces k task less) from gives.why)
+  where
+    some-inj : (a b : Fault) → Some a ≡ Some b → a ≡ b
+    some-inj a b h = cc h
+
+    gave : (fault : Option Fault) (receipts : List Receipt) → fault ≡ Some why → Works (HasHalted image) commits receipts fault → GivesUp (HasHalted image) receipts why
+    gave None receipts is works = absurd (cc is)
+    gave (Some other) receipts is works = subst (GivesUp (HasHalted image) receipts) (some-inj other why is) works

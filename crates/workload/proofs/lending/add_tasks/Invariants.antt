@@ -1,0 +1,6 @@
+use Rattle.std.proofs.Common.{◌≡◌, ◌≤◌}
+use Rattle.std.specs.Vec.{vec_len, vec_capacity}
+use Rattle.workload.proofs.lending.add_tasks.Given as goal
+
+abbrev pub invariant-loop : goal.invariant-loop
+invariant-loop g l = (vec_len l.tasks ≡ l.counter) × (l.count ≤ vec_capacity l.tasks)

@@ -1,6 +1,0 @@
-use Rattle.std.proofs.Common.{◌≡◌, ◌≤◌}
-use Rattle.std.specs.Vec.{vec_len, vec_capacity}
-use Rattle.workload.proofs.lending.sessions_of.Given as goal
-
-abbrev pub invariant-loop : goal.invariant-loop
-invariant-loop g l = (vec_len l.sessions ≡ l.counter) × (l.count ≤ vec_capacity l.sessions)

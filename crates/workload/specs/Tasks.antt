@@ -1,0 +1,17 @@
+-- What the threads are given.
+use Rattle.std.specs.Prelude.{ℕ, List, map, All}
+use Rattle.base.specs.declared.fault.Fault.{Fault}
+use Rattle.pmem.specs.declared.device.Pmem.{Ghosts}
+use Rattle.board.specs.declared.history.Naming.{Ghosts as Names}
+use Rattle.engine.specs.declared.origin.Origin.{Ghosts as Origins}
+use Rattle.engine.specs.declared.session.Session.{Session}
+use Rattle.workload.specs.declared.task.Task.{Task}
+use Rattle.workload.specs.Load.{Works}
+
+-- their sessions
+abbrev pub sessions_in : {D J B : Type 0} → {G : Ghosts D} → {N : Origins J} → {M : Names J} → List (Task D J B G N M) → List (Session D J B G N M)
+sessions_in tasks = map (λ task. task.session) tasks
+
+-- each made its commits, or met a fault at which it gave up
+abbrev pub AllWork : {D J B : Type 0} → {G : Ghosts D} → {N : Origins J} → {M : Names J} → (Fault → Type 0) → ℕ → List (Task D J B G N M) → Type 0
+AllWork Halted commits tasks = All (λ task. Works Halted commits task.session.receipts.items task.fault) tasks
