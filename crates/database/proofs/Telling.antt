@@ -1,6 +1,6 @@
 -- What a put and a commit make of a run from an opening.
 use Rattle.std.proofs.Common.{inl, inr, ℕ, Bool, true, false, List, [], ◌∷◌, ◌++◌, refl}
-use Rattle.std.specs.Prelude.{⊤, Some, None, Result, Ok, Err, IfOk, replicate}
+use Rattle.std.specs.Prelude.{⊤, Some, None, Result, Ok, Err, IfOk, IfErr, replicate}
 use Rattle.base.specs.declared.fault.Fault.{Fault}
 use Rattle.base.specs.declared.key.Key.{Key}
 use Rattle.base.specs.declared.step.Step.{Step}
@@ -14,7 +14,7 @@ use Rattle.database.specs.declared.error.CommitError.TheVariants.{Refused, Open}
 use Rattle.database.specs.Replies.{done_of, drawn_of, stamped_of, committed_of}
 use Rattle.database.specs.Runs.{HasRun, LeadsAlong, EndsSomeRun}
 use Rattle.database.specs.Obeys.{Obeys, Repeats, PutsCollecting, StampsAll, Prepares, Finishes}
-use Rattle.database.specs.Committing.{AnswersPut, DrawsAndStamps, DrawsAndEnds, PollsAndEnds, IsPrepared, IsAcknowledged}
+use Rattle.database.specs.Committing.{AnswersPut, DrawsAndStamps, DrawsAndEnds, PollsAndEnds, IsPrepared, IsAcknowledged, TellsRefusal}
 use Rattle.database.proofs.Runs.{leads-one, leads-run, leads-join, ends-run}
 
 -- one step, others like each other, and a last one
@@ -83,3 +83,9 @@ pub prepared-ok : {D : Type 0} {G : Ghosts D} (state : D → Device) (old new : 
     → ∥ HasRun state old ∥₁ → Prepares state old new session result → IfOk result (λ wrote. IsPrepared session (Ok wrote))
 prepared-ok state old new session (Ok wrote) run prepares = is-prepared state old new session (Ok wrote) run prepares
 prepared-ok state old new session (Err error) run prepares = tt
+
+-- where it returns that it is refused
+pub prepared-err : {D : Type 0} {G : Ghosts D} (state : D → Device) (old new : Room D G) (session : ℕ) (result : Result Bool CommitError)
+    → ∥ HasRun state old ∥₁ → Prepares state old new session result → IfErr result (TellsRefusal session)
+prepared-err state old new session (Ok wrote) run prepares = tt
+prepared-err state old new session (Err error) run prepares = λ key is. is-prepared state old new session (Err error) run prepares

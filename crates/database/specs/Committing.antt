@@ -1,7 +1,7 @@
 -- What a put and a commit make of a run.
 use Rattle.std.specs.Prelude.{◌≡◌, ◌⊎◌, ℕ, Bool, true, false, List, [], ◌∷◌, ◌++◌, replicate, ⊤, Option, Some, None, Result, Ok, Err}
 use Rattle.base.specs.declared.fault.Fault.{Fault}
-use Rattle.base.specs.declared.fault.Fault.TheVariants.{SlotsOut}
+use Rattle.base.specs.declared.fault.Fault.TheVariants.{SlotsOut, Conflict}
 use Rattle.base.specs.declared.key.Key.{Key}
 use Rattle.base.specs.declared.step.Step.{Step}
 use Rattle.base.specs.declared.step.Step.TheVariants.{Put, Draw, Stamp, Poll, End, Collect}
@@ -79,3 +79,7 @@ IsAcknowledged session t = EndsSomeRun (PollsAndEnds session t (Ok tt))
 abbrev pub TellsCommit : ℕ → Option ℕ → Type 0
 TellsCommit session None = IsPrepared session (Ok false)
 TellsCommit session (Some t) = IsPrepared session (Ok true) × IsAcknowledged session t
+
+-- A conflict is told only where the session's draw was refused so
+abbrev pub TellsRefusal : ℕ → CommitError → Type 0
+TellsRefusal session error = (key : Key) → error ≡ Refused (Conflict key) → IsPrepared session (Err error)

@@ -47,11 +47,11 @@ fn give_up<D: Pmem + Drop, R: Wait>(rt: &R, shared: &Shared<D>, session: u8) -> 
 }
 
 impl<'a, D: Pmem + Drop, R: Wait> Transaction<'a, D, R> {
-    ghost use Rattle.std.specs.Prelude.{◌≡◌, Ok, Err, IfOk, MatchResult};
+    ghost use Rattle.std.specs.Prelude.{◌≡◌, Ok, Err, IfOk, IfErr, MatchResult};
     ghost use Rattle.base.specs.declared.step.Step.TheVariants.{Get, Scan, Delete, Abort};
     ghost use Rattle.database.specs.Replies.{row_of, rows_of, done_of};
     ghost use Rattle.database.specs.Obeys.{AnswersStep};
-    ghost use Rattle.database.specs.Committing.{AnswersPut, TellsCommit};
+    ghost use Rattle.database.specs.Committing.{AnswersPut, TellsCommit, TellsRefusal};
 
     pub(crate) fn new(
         rt: &'a R,
@@ -130,6 +130,7 @@ impl<'a, D: Pmem + Drop, R: Wait> Transaction<'a, D, R> {
     /// was refused memory a hundred times in a row.
     pub fn commit(mut self) -> Result<Option<Ts>, CommitError>
         ensures ok { IfOk result (TellsCommit self.entry.session) }
+        ensures err { IfErr result (TellsRefusal self.entry.session) }
     {
         self.is_over = true;
         self.shared.commit(self.rt, self.session)

@@ -1,3 +1,6 @@
+ghost use Rattle.std.specs.Prelude.{ℕ};
+ghost use Rattle.database.specs.Committing.{TellsRefusal};
+
 use crate::committing::prepare;
 use crate::desk::{Desk, Shared};
 use crate::error::CommitError;
@@ -10,18 +13,19 @@ use std::sync::{MutexGuard, Wait};
 use std::thread;
 
 impl<D: Pmem + Drop> Shared<D> {
-    ghost use Rattle.std.specs.Prelude.{Ok, IfOk};
-    ghost use Rattle.database.specs.Committing.{IsPrepared, IsAcknowledged, TellsCommit};
+    ghost use Rattle.std.specs.Prelude.{Ok, IfOk, IfErr};
+    ghost use Rattle.database.specs.Committing.{IsPrepared, IsAcknowledged, TellsCommit, TellsRefusal};
 
     /// Commits the transaction of this session, and ends it.
     pub fn commit<R: Wait>(&self, rt: &R, session: u8) -> Result<Option<Ts>, CommitError>
-        ensures { IfOk result (TellsCommit session) }
+        ensures ok { IfOk result (TellsCommit session) }
+        ensures err { IfErr result (TellsRefusal session) }
     {
         let (desk, prepared) = self.prepare(rt, session);
         match prepared {
             Ok(true) => match self.wait(rt, desk, session) {
                 Ok(timestamp) => Ok(Some(timestamp)),
-                Err(error) => Err(error),
+                Err(error) => Err(without_conflict(error)),
             },
             Ok(false) => {
                 let mut desk = desk;
@@ -42,12 +46,13 @@ impl<D: Pmem + Drop> Shared<D> {
         rt: &R,
         session: u8,
     ) -> (MutexGuard<'_, Desk<D>>, Result<bool, CommitError>)
-        ensures { IfOk result.1 (λ wrote. IsPrepared session (Ok wrote)) }
+        ensures ok { IfOk result.1 (λ wrote. IsPrepared session (Ok wrote)) }
+        ensures err { IfErr result.1 (TellsRefusal session) }
     {
         let mut desk = self.desk(rt);
         for _ in rt.forever() {
             if let Some(fault) = desk.ended {
-                return (desk, Err(CommitError::Refused(fault)));
+                return (desk, Err(without_conflict(CommitError::Refused(fault))));
             }
             if let Some(room) = &mut desk.room {
                 let prepared = prepare(rt, room, session);
@@ -108,5 +113,18 @@ impl<D: Pmem + Drop> Shared<D> {
             return self.desk(rt);
         }
         desk
+    }
+}
+
+// The error of a commit where no draw was refused: so it tells of no conflict.
+fn without_conflict(error: CommitError) -> CommitError
+    ensures { (session : ℕ) → TellsRefusal session result }
+{
+    match error {
+        CommitError::Refused(fault) => match fault {
+            Fault::Conflict(_) => CommitError::Open(Fault::WrongState),
+            fault => CommitError::Refused(fault),
+        },
+        CommitError::Open(fault) => CommitError::Open(fault),
     }
 }

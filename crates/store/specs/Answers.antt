@@ -1,17 +1,20 @@
 -- What a store's calls return for the replies to their steps.
-use Rattle.std.specs.Prelude.{◌≡◌, ◌⊎◌, ◌≤◌, ◌<◌, ◌-◌, ℕ, List, [], length, slice_get, ⊤, Option, Result, Ok, Err}
+use Rattle.std.specs.Prelude.{◌≡◌, ◌≢◌, ◌⊎◌, ◌≤◌, ◌<◌, ◌-◌, ℕ, List, [], length, slice_get, ⊤, Option, Some, None, Result, Ok, Err}
+use Rattle.std.specs.Int.{w64, from_le_bytes}
 use Rattle.std.specs.Option.{option_map}
 use Rattle.base.specs.declared.fault.Fault.{Fault}
-use Rattle.base.specs.declared.fault.Fault.TheVariants.{TooLong}
+use Rattle.base.specs.declared.fault.Fault.TheVariants.{TooLong, Conflict}
 use Rattle.base.specs.declared.key.Key.{Key}
 use Rattle.base.specs.declared.step.Step.{Step}
-use Rattle.base.specs.declared.step.Step.TheVariants.{Scan}
+use Rattle.base.specs.declared.step.Step.TheVariants.{Get, Scan}
 use Rattle.base.specs.declared.step.Reply.{Reply}
-use Rattle.database.specs.Replies.{rows_of}
+use Rattle.database.specs.Replies.{row_of, rows_of}
 use Rattle.database.specs.Obeys.{AnswersStep}
-use Rattle.database.specs.Committing.{AnswersPut}
+use Rattle.database.specs.declared.error.CommitError.{CommitError}
+use Rattle.database.specs.declared.error.CommitError.TheVariants.{Refused}
+use Rattle.database.specs.Committing.{AnswersPut, IsPrepared}
 use Rattle.store.specs.declared.error.StoreError.{StoreError}
-use Rattle.store.specs.Errors.{error_of}
+use Rattle.store.specs.Errors.{error_of, commit_error}
 
 -- A run from an opening ends in this step, and what is returned is read off its reply: the fault as the error that it becomes
 abbrev pub Answers : {A : Type 0} → Step → (Reply → Result A Fault) → Result A StoreError → Type 0
@@ -50,3 +53,24 @@ put_error limit fault = error_of fault
 abbrev pub Puts : ℕ → Key → List ℕ → ℕ → Result ⊤ StoreError → Type 0
 Puts session key row limit (Ok done) = AnswersPut session key row (Ok done)
 Puts session key row limit (Err error) = (fault : Fault) × (error ≡ put_error limit fault) × AnswersPut session key row (Err fault)
+
+-- ---- a number
+
+-- there is no row; or there is one, and it is this number; or it is none; or the read was refused
+abbrev pub TellsNumber : ℕ → Key → Result (Option ℕ) StoreError → Type 0
+TellsNumber session key (Ok None) = AnswersStep (Get session key) row_of (Ok None)
+TellsNumber session key (Ok (Some number)) = (row : List ℕ) × AnswersStep (Get session key) row_of (Ok (Some row)) × (length row ≡ 8) × (number ≡ from_le_bytes w64 row)
+TellsNumber session key (Err error) =
+    ((row : List ℕ) × AnswersStep (Get session key) row_of (Ok (Some row)) × (length row ≢ 8) × (error ≡ StoreError.NotANumber key))
+    ⊎ Answers (Get session key) row_of (Err error)
+
+-- ---- a commit
+
+-- a conflict is told only where the session's draw was refused so
+abbrev pub TellsConflict : ℕ → StoreError → Type 0
+TellsConflict session error = (key : Key) → error ≡ StoreError.Conflict key → IsPrepared session (Err (Refused (Conflict key)))
+
+-- what a commit that isn't acknowledged returns
+pub record IsCommitRefusal (session : ℕ) (error : StoreError) : Type 0 where
+  pub of_commit : (refused : CommitError) × (error ≡ commit_error refused)
+  pub conflict : TellsConflict session error

@@ -1,3 +1,5 @@
 pub mod Errors
 pub mod Answers
 pub mod Status
+pub mod Trying
+pub mod Opening

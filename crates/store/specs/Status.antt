@@ -1,8 +1,17 @@
 -- What a status tells of a state.
 use Rattle.std.specs.Prelude.{◌≡◌, ◌-◌, ◌^◌, length}
+use Rattle.base.specs.Layout.{row_limit}
 use Rattle.machine.specs.Machine.{State}
 use Rattle.session_steps.specs.Usage.{free_slots, CountsRows}
 use Rattle.store.specs.declared.status.Status.{Status}
+
+-- the numbers of the layout
+pub record ShowsLayout (q : State) (status : Status) : Type 0 where
+  pub version_is : status.version ≡ q.layout.version
+  pub slots_are : status.slots ≡ q.layout.slots
+  pub places_are : status.places ≡ q.layout.places
+  pub window_is : status.window ≡ q.layout.window
+  pub limit_is : status.row_limit ≡ row_limit q.layout.version
 
 -- the numbers of the ruling record, how many long commits and gaps it has, and how many timestamps are left
 pub record ShowsNumbers (q : State) (status : Status) : Type 0 where

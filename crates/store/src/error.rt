@@ -57,14 +57,22 @@ pub enum StoreError {
         tries: u64,
         key: Key,
     },
-    #[error("no slot is free: delete rows, or copy the store into a larger one")]
+    /// A put found no slot. A row takes one, and so does each row from before a change while an open transaction may read it.
+    #[error("no slot is free, since rows fill the store or an open transaction keeps old ones: end that transaction, delete rows, or copy the store into a larger one")]
     Full,
+    /// The row is none that `put_number` writes.
+    #[error("the row under table and key {0} isn't a number, which has 8 bytes: read it as a row")]
+    NotANumber(Key),
+    /// The row has more bytes than a slot, 32 or 96 by the layout.
     #[error("the row has more than {0} bytes: shorten it")]
     RowTooLong(usize),
+    /// A put or a deletion of another key than the 32 that the transaction has written.
     #[error("the transaction has written 32 keys: commit it, and write the others in the next")]
     TooManyKeys,
+    /// As many transactions and snapshots are open as there may be.
     #[error("62 transactions are open: end one first")]
     TooManyTransactions,
+    /// The allocator refused memory. The step changed nothing.
     #[error("memory was refused: free some, then ask again")]
     OutOfMemory,
     /// A write or a sync of the file failed before. The close says why.

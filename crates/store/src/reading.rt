@@ -1,5 +1,6 @@
 use crate::error::StoreError;
 use crate::ranges::ends_of;
+use crate::row::RowExt;
 use crate::rows::{first_rows, last_rows};
 use base::key::Key;
 use base::row::Row;
@@ -22,16 +23,31 @@ impl<R: Wait + Drop> Snapshot<'_, R> {
     ghost use Rattle.std.specs.Range.Bound.{start_index, end_index};
     ghost use Rattle.base.specs.declared.step.Step.TheVariants.{Get, Scan};
     ghost use Rattle.database.specs.Replies.{row_of, rows_of};
-    ghost use Rattle.store.specs.Answers.{Answers, Scans, ScanRefused, OfScanned, last_key_of};
+    ghost use Rattle.store.specs.Answers.{Answers, Scans, ScanRefused, OfScanned, TellsNumber, last_key_of};
 
-    /// The row under the key.
+    /// The row under the key, or `None` where there is none.
     pub fn get(&self, key: Key) -> Result<Option<Row>, StoreError>
         ensures { Answers (Get self.now.reads.session key) row_of result }
     {
         Ok(self.reads.get(key)?)
     }
 
-    /// The rows of the table at the keys of the range, by rising key.
+    /// The number under the key, or `None` where there is no row. `NotANumber` where there is one of other than 8 bytes.
+    pub fn number(&self, key: Key) -> Result<Option<u64>, StoreError>
+        ensures { TellsNumber self.now.reads.session key result }
+    {
+        match self.get(key) {
+            Ok(Some(row)) => match row.as_u64() {
+                Some(number) => Ok(Some(number)),
+                None => Err(StoreError::NotANumber(key)),
+            },
+            Ok(None) => Ok(None),
+            Err(error) => Err(error),
+        }
+    }
+
+    /// The rows of the table at the keys of the range, by rising key. All are read in one step, and take memory, so
+    /// `OutOfMemory` may be answered.
     pub fn scan<B: RangeBounds<u64>>(
         &self,
         table: u16,
@@ -58,45 +74,50 @@ impl<R: Wait + Drop> Snapshot<'_, R> {
         Ok(self.reads.scan(table, least, greatest)?)
     }
 
-    /// The rows of the table at the keys of the range, from the least key on, at most `limit` of them. All are read.
+    /// The rows of the table at the keys of the range, from the least key on, at most `limit` of them. All rows of the range are
+    /// read, as by `scan`.
     pub fn first<B: RangeBounds<u64>>(
         &self,
         table: u16,
         range: B,
         limit: usize,
     ) -> Result<Vec<(Key, Row)>, StoreError>
-        ensures { B.has_bounds range → IfOk result (λ rows. OfScanned self.now.reads.session table (start_index (B.start_bound range)) (end_index (B.end_bound range) (2 ^ 64)) (λ all. rows.items ≡ take limit all)) }
+        ensures ok { B.has_bounds range → IfOk result (λ rows. OfScanned self.now.reads.session table (start_index (B.start_bound range)) (end_index (B.end_bound range) (2 ^ 64)) (λ all. rows.items ≡ take limit all)) }
+        ensures err { B.has_bounds range → IfErr result (λ error. ScanRefused self.now.reads.session table (start_index (B.start_bound range)) (end_index (B.end_bound range) (2 ^ 64)) error) }
     {
         let mut rows = self.scan(table, range)?;
         first_rows(&mut rows, limit);
         Ok(rows)
     }
 
-    /// The same from the greatest key on, by falling key.
+    /// The same from the greatest key on: at most `limit` rows, by falling key.
     pub fn last<B: RangeBounds<u64>>(
         &self,
         table: u16,
         range: B,
         limit: usize,
     ) -> Result<Vec<(Key, Row)>, StoreError>
-        ensures { B.has_bounds range → IfOk result (λ rows. OfScanned self.now.reads.session table (start_index (B.start_bound range)) (end_index (B.end_bound range) (2 ^ 64)) (λ all. rows.items ≡ take limit (reverse all))) }
+        ensures ok { B.has_bounds range → IfOk result (λ rows. OfScanned self.now.reads.session table (start_index (B.start_bound range)) (end_index (B.end_bound range) (2 ^ 64)) (λ all. rows.items ≡ take limit (reverse all))) }
+        ensures err { B.has_bounds range → IfErr result (λ error. ScanRefused self.now.reads.session table (start_index (B.start_bound range)) (end_index (B.end_bound range) (2 ^ 64)) error) }
     {
         let mut rows = self.scan(table, range)?;
         last_rows(&mut rows, limit);
         Ok(rows)
     }
 
-    /// The greatest number under which the table has a row.
+    /// The greatest number under which the table has a row, or `None` where it has no row. All its rows are read, as by `scan`.
     pub fn last_key(&self, table: u16) -> Result<Option<u64>, StoreError>
-        ensures { IfOk result (λ number. OfScanned self.now.reads.session table 0 (2 ^ 64) (λ all. number ≡ last_key_of all)) }
+        ensures ok { IfOk result (λ number. OfScanned self.now.reads.session table 0 (2 ^ 64) (λ all. number ≡ last_key_of all)) }
+        ensures err { IfErr result (λ error. ScanRefused self.now.reads.session table 0 (2 ^ 64) error) }
     {
         let rows = self.scan(table, ..)?;
         Ok(rows.last().map(|(key, _)| key.key))
     }
 
-    /// How many rows the table has at the keys of the range.
+    /// How many rows the table has at the keys of the range. They are read, as by `scan`.
     pub fn count<B: RangeBounds<u64>>(&self, table: u16, range: B) -> Result<usize, StoreError>
-        ensures { B.has_bounds range → IfOk result (λ count. OfScanned self.now.reads.session table (start_index (B.start_bound range)) (end_index (B.end_bound range) (2 ^ 64)) (λ all. count ≡ length all)) }
+        ensures ok { B.has_bounds range → IfOk result (λ count. OfScanned self.now.reads.session table (start_index (B.start_bound range)) (end_index (B.end_bound range) (2 ^ 64)) (λ all. count ≡ length all)) }
+        ensures err { B.has_bounds range → IfErr result (λ error. ScanRefused self.now.reads.session table (start_index (B.start_bound range)) (end_index (B.end_bound range) (2 ^ 64)) error) }
     {
         Ok(self.scan(table, range)?.len())
     }

@@ -15,16 +15,16 @@ pub fn key(table: u16, key: u64) -> Key
 
 /// Rows that are numbers, and rows that are texts.
 pub trait RowExt {
-    /// The number, in 8 bytes.
+    /// The number, in 8 bytes, the lowest first.
     fn of_u64(number: u64) -> Row;
 
-    /// The bytes of the text.
+    /// The bytes of the text: up to 96, else `RowTooLong`.
     fn of_text(text: &str) -> Result<Row, StoreError>;
 
-    /// The number, if the row has 8 bytes.
+    /// The number, or `None` where the row hasn't 8 bytes.
     fn as_u64(&self) -> Option<u64>;
 
-    /// The text, if the row is one.
+    /// The text, or `None` where the row isn't UTF-8.
     fn as_text(&self) -> Option<&str>;
 }
 

@@ -41,9 +41,10 @@ impl Status {
     ghost use Rattle.machine.specs.Machine.{State};
     ghost use Rattle.room.specs.Room.{ShowsStatus};
     ghost use Rattle.room.specs.Usage.{ShowsUsage};
-    ghost use Rattle.store.specs.Status.{ShowsNumbers, ShowsFill};
+    ghost use Rattle.store.specs.Status.{ShowsLayout, ShowsNumbers, ShowsFill};
 
     pub(crate) fn of(geometry: &Geometry, numbers: &room::Status, usage: &Usage) -> Status
+        ensures layout { (q : State) → geometry.now ≡ q.layout → ShowsLayout q result }
         ensures numbers { (q : State) → ShowsStatus q numbers.now → ShowsNumbers q result }
         ensures fill { (q : State) → ShowsUsage q usage.now → ShowsFill q result }
         ensures versions { result.versions ≡ result.slots - result.free }

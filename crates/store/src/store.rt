@@ -1,3 +1,11 @@
+ghost use Rattle.std.specs.Prelude.{◌≡◌, ℕ};
+ghost use Rattle.std.specs.String.{string_bytes};
+ghost use Rattle.base.specs.declared.fault.Fault.TheVariants.{Damaged};
+ghost use Rattle.store_file.specs.Opening.{TellsLayout};
+ghost use Rattle.store.specs.declared.error.StoreError.{StoreError};
+ghost use Rattle.store.specs.Errors.{part_of};
+ghost use Rattle.store.specs.Opening.{IsOpeningError, IsClosingError};
+
 use crate::error::{Layout, Part, StoreError};
 use crate::reading::Snapshot;
 use crate::status::Status;
@@ -5,6 +13,7 @@ use crate::transaction::Transaction;
 use base::Ts;
 use base::fault::Fault;
 use base::geometry::Geometry;
+use base::key::Key;
 use database::{Database, Refused};
 use std::alloc::Global;
 use std::fs::File;
@@ -16,6 +25,14 @@ use store_file::{Device, Refusal, open_database};
 // How often `transact` begins a transaction.
 const TRIES: u64 = 1_000;
 
+// What a try comes to where nothing else is refused.
+#[derive(Drop)]
+enum Attempt<T> {
+    Committed(T, Option<Ts>),
+    // Another commit came first, on this key.
+    Conflict(Key),
+}
+
 /// A store of rows in a file. Threads share it by reference. A drop leaves the file as a crash would: what was committed is kept.
 #[derive(Drop)]
 pub struct Store<R: Wait + Drop> {
@@ -25,14 +42,24 @@ pub struct Store<R: Wait + Drop> {
 }
 
 impl<R: Files<File = File> + Threads + Wait + Copy + Drop + Send + Sync + 'static> Store<R> {
+    ghost use Rattle.std.specs.Prelude.{◌≡◌, IfOk, IfErr, OnOk};
+    ghost use Rattle.std.specs.String.{string_bytes};
+    ghost use Rattle.store_file.specs.Opening.{OpensLayout};
+    ghost use Rattle.store.specs.Opening.{IsOpeningError};
+
     /// Opens the file, which is made with this layout where it is missing or empty. One that holds a store of another layout is
-    /// left as it is, and the error says both.
+    /// left as it is, and the error says both. It reads the whole file, and waits for its syncs, but not for another process:
+    /// that is `File`, as is a file that is no store. `Damaged`, `NotOpened`, `Lost` and `OutOfMemory` are its other errors.
     pub fn open(
         rt: R,
         alloc: Global,
         name: &str,
         geometry: Geometry,
-    ) -> Result<Store<R>, StoreError> {
+    ) -> Result<Store<R>, StoreError>
+        ensures ok { OnOk result (OpensLayout geometry) }
+        ensures name { IfOk result (λ store. string_bytes store.name ≡ name.now) }
+        ensures err { IfErr result (IsOpeningError name.now geometry) }
+    {
         let name = String::from_str(alloc, name)?;
         match open_database(&rt, alloc, name.as_str(), geometry) {
             Ok(database) => Ok(Store {
@@ -46,7 +73,10 @@ impl<R: Files<File = File> + Threads + Wait + Copy + Drop + Send + Sync + 'stati
 }
 
 // The error that names the file, and the layout that was asked for.
-fn not_opened(name: String, geometry: Geometry, refusal: Refusal) -> StoreError {
+fn not_opened(name: String, geometry: Geometry, refusal: Refusal) -> StoreError
+    requires layout { TellsLayout geometry refusal }
+    ensures { IsOpeningError (string_bytes name) geometry result }
+{
     match refusal {
         Refusal::File(cause) => StoreError::File { name, cause },
         Refusal::OtherLayout(found) => StoreError::OtherLayout {
@@ -60,7 +90,10 @@ fn not_opened(name: String, geometry: Geometry, refusal: Refusal) -> StoreError 
 }
 
 // What is damaged, or why else the opening is refused.
-fn refused(name: String, geometry: Geometry, fault: Fault) -> StoreError {
+fn refused(name: String, geometry: Geometry, fault: Fault) -> StoreError
+    ensures names { IsOpeningError (string_bytes name) geometry result }
+    ensures part { (number : ℕ) → fault ≡ Damaged number → result ≡ StoreError.Damaged name (part_of geometry number) }
+{
     match fault {
         Fault::Damaged(number) => StoreError::Damaged {
             name,
@@ -71,21 +104,28 @@ fn refused(name: String, geometry: Geometry, fault: Fault) -> StoreError {
 }
 
 impl<R: Wait + Drop> Store<R> {
-    ghost use Rattle.std.specs.Prelude.{◌≡◌, ◌-◌, Ok, Err, IfOk, IfErr};
+    ghost use Rattle.std.specs.Prelude.{◌≡◌, ◌-◌, Ok, Err, IfOk, IfErr, OnOk};
+    ghost use Rattle.std.specs.String.{string_bytes};
+    ghost use Rattle.base.specs.Layout.{row_limit};
     ghost use Rattle.base.specs.declared.step.Step.TheVariants.{Begin};
     ghost use Rattle.database.specs.Numbers.{ComesTo};
     ghost use Rattle.database.specs.Replies.{began_of};
     ghost use Rattle.store.specs.Answers.{Answers};
-    ghost use Rattle.store.specs.Status.{ShowsNumbers, ShowsFill};
+    ghost use Rattle.store.specs.Opening.{IsCovered, IsClosingError};
+    ghost use Rattle.store.specs.Trying.{CommitsWithin, FailsWithin, Fails, EndsTry};
+    ghost use Rattle.store.specs.Status.{ShowsLayout, ShowsNumbers, ShowsFill};
 
     /// Makes the changes in one transaction and commits it: what they return, and the timestamp, which is `None` where nothing
     /// was written. After a conflict they are made again, on the rows as the other commit left them, up to a thousand times. At
-    /// any other error, one of the changes' own among them, nothing is kept, but at `Unknown`.
+    /// any other error, one of the changes' own among them, nothing is kept, but at `Unknown`. It waits for a sync of the file, as
+    /// a commit does.
     pub fn transact<T: Drop, F: Drop + FnMut(&mut Transaction<'_, R>) -> Result<T, StoreError>>(
         &self,
         changes: F,
     ) -> Result<(T, Option<Ts>), StoreError>
         requires callable { F.IsAlwaysCallable changes }
+        ensures ok { IfOk result (λ done. CommitsWithin F.step (λ lent. lent.now.snapshot.reads.session) 1000 changes done.0 done.1) }
+        ensures err { IfErr result (FailsWithin F.step (λ lent. lent.now.snapshot.reads.session) 1000 changes) }
     {
         self.transact_within(TRIES, changes)
     }
@@ -96,26 +136,54 @@ impl<R: Wait + Drop> Store<R> {
         F: Drop + FnMut(&mut Transaction<'_, R>) -> Result<T, StoreError>,
     >(&self, tries: u64, mut changes: F) -> Result<(T, Option<Ts>), StoreError>
         requires callable { F.IsAlwaysCallable changes }
+        ensures ok { IfOk result (λ done. CommitsWithin F.step (λ lent. lent.now.snapshot.reads.session) tries changes done.0 done.1) }
+        ensures err { IfErr result (FailsWithin F.step (λ lent. lent.now.snapshot.reads.session) tries changes) }
     {
-        for _ in 1..tries {
-            let mut transaction = self.begin()?;
-            let value = changes(&mut transaction)?;
-            match transaction.commit() {
-                Err(StoreError::Conflict(_)) => {}
-                committed => return Ok((value, committed?)),
+        for _made in 1..tries {
+            match self.attempt(&mut changes) {
+                Ok(Attempt::Committed(value, timestamp)) => return Ok((value, timestamp)),
+                Ok(Attempt::Conflict(_)) => {}
+                Err(error) => return Err(error),
             }
         }
-        let mut transaction = self.begin()?;
-        let value = changes(&mut transaction)?;
-        match transaction.commit() {
-            Err(StoreError::Conflict(key)) => Err(StoreError::GivenUp { tries, key }),
-            committed => Ok((value, committed?)),
+        match self.attempt(&mut changes) {
+            Ok(Attempt::Committed(value, timestamp)) => Ok((value, timestamp)),
+            Ok(Attempt::Conflict(key)) => Err(StoreError::GivenUp { tries, key }),
+            Err(error) => Err(error),
         }
     }
 
-    /// Begins a transaction, which reads the rows that are committed now, and what it writes. 62 may be open, snapshots among them.
+    // One try: the changes on a transaction of their own, and its commit.
+    fn attempt<T: Drop, F: Drop + FnMut(&mut Transaction<'_, R>) -> Result<T, StoreError>>(
+        &self,
+        changes: &mut F,
+    ) -> Result<Attempt<T>, StoreError>
+        requires callable { F.IsAlwaysCallable changes.old }
+        ensures callable { F.IsAlwaysCallable changes.new }
+        ensures ok { IfOk result (λ attempt. EndsTry F.step (λ lent. lent.now.snapshot.reads.session) changes.old attempt changes.new) }
+        ensures err { IfErr result (Fails F.step (λ lent. lent.now.snapshot.reads.session) changes.old) }
+    {
+        let mut transaction = self.begin()?;
+        match changes(&mut transaction) {
+            Ok(value) => match transaction.commit() {
+                Ok(timestamp) => Ok(Attempt::Committed(value, timestamp)),
+                Err(error) => match error {
+                    StoreError::Conflict(key) => Ok(Attempt::Conflict(key)),
+                    error => Err(error),
+                },
+            },
+            Err(error) => {
+                let _ = transaction.abort();
+                Err(error)
+            }
+        }
+    }
+
+    /// Begins a transaction, which reads the rows that are committed now, and what it writes. 62 may be open, snapshots among
+    /// them: a further one is refused with `TooManyTransactions`. It waits as a read does.
     pub fn begin(&self) -> Result<Transaction<'_, R>, StoreError>
         ensures ok { IfOk result (λ transaction. Answers Begin began_of (Ok transaction.snapshot.reads.session)) }
+        ensures limit { IfOk result (λ transaction. ComesTo (λ q. transaction.row_limit ≡ row_limit q.layout.version)) }
         ensures err { IfErr result (λ error. Answers Begin began_of (Err error)) }
     {
         Ok(Transaction {
@@ -124,7 +192,7 @@ impl<R: Wait + Drop> Store<R> {
         })
     }
 
-    /// The rows that are committed now.
+    /// The rows that are committed now, to be read as long as the snapshot is kept. The same 62 count, and it waits as a read does.
     pub fn read(&self) -> Result<Snapshot<'_, R>, StoreError>
         ensures ok { IfOk result (λ snapshot. Answers Begin began_of (Ok snapshot.reads.session)) }
         ensures err { IfErr result (λ error. Answers Begin began_of (Err error)) }
@@ -138,6 +206,7 @@ impl<R: Wait + Drop> Store<R> {
     /// How it is laid out, how far it has come, and how full it is. It looks at each key and each slot, while others wait. Its
     /// numbers are read one after the other, and others may commit in between.
     pub fn status(&self) -> Status
+        ensures layout { ComesTo (λ q. ShowsLayout q result) }
         ensures numbers { ComesTo (λ q. ShowsNumbers q result) }
         ensures fill { ComesTo (λ q. ShowsFill q result) }
         ensures versions { result.versions ≡ result.slots - result.free }
@@ -148,12 +217,18 @@ impl<R: Wait + Drop> Store<R> {
     }
 
     /// The name of its file.
-    pub fn name(&self) -> &str {
+    pub fn name(&self) -> &str
+        ensures { result.now ≡ string_bytes self.now.name }
+    {
         self.name.as_str()
     }
 
-    /// Covers all that was committed, and closes the file. No transaction is open: each borrows from it.
-    pub fn close(self) -> Result<(), StoreError> {
+    /// Covers all that was committed, and closes the file. It waits for the store's two threads to end, and for the last syncs.
+    /// `Lost` and `NotClosed` are its errors. No transaction is open: each borrows from it.
+    pub fn close(self) -> Result<(), StoreError>
+        ensures ok { OnOk result IsCovered }
+        ensures err { IfErr result (IsClosingError (string_bytes self.name)) }
+    {
         let Store { name, database, .. } = self;
         match database.close() {
             Ok(device) => match device.close() {
@@ -166,7 +241,9 @@ impl<R: Wait + Drop> Store<R> {
 }
 
 // Why the file failed, where a write or a sync of it did; else why the close is refused, and then the file is closed.
-fn not_closed(name: String, device: Device, fault: Fault) -> StoreError {
+fn not_closed(name: String, device: Device, fault: Fault) -> StoreError
+    ensures { IsClosingError (string_bytes name) result }
+{
     match device.failure() {
         Some(cause) => StoreError::Lost { name, cause },
         None => {

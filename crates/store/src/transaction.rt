@@ -3,6 +3,7 @@ ghost use Rattle.store.specs.Answers.{put_error};
 
 use crate::error::StoreError;
 use crate::reading::Snapshot;
+use crate::row::RowExt;
 use base::Ts;
 use base::fault::Fault;
 use base::key::Key;
@@ -10,7 +11,8 @@ use base::row::Row;
 use std::ops::Deref;
 use std::sync::Wait;
 
-/// Reads of a snapshot, and writes that are kept together or not at all. A drop gives it up.
+/// Reads of a snapshot, and writes of up to 32 keys that are kept together or not at all. It takes one of 62 sessions up to its
+/// end, and a drop gives it up. A step that is refused changes nothing, and the transaction stays open.
 #[derive(Drop)]
 pub struct Transaction<'a, R: Wait + Drop> {
     pub(crate) snapshot: Snapshot<'a, R>,
@@ -28,13 +30,15 @@ impl<'a, R: Wait + Drop> Deref for Transaction<'a, R> {
 }
 
 impl<R: Wait + Drop> Transaction<'_, R> {
-    ghost use Rattle.std.specs.Prelude.{IfOk};
+    ghost use Rattle.std.specs.Prelude.{IfOk, IfErr};
+    ghost use Rattle.std.specs.Int.{w64, to_le_bytes};
     ghost use Rattle.base.specs.declared.step.Step.TheVariants.{Delete, Abort};
     ghost use Rattle.database.specs.Replies.{done_of};
     ghost use Rattle.database.specs.Committing.{TellsCommit};
-    ghost use Rattle.store.specs.Answers.{Answers, Puts};
+    ghost use Rattle.store.specs.Answers.{Answers, Puts, IsCommitRefusal};
 
-    /// Writes the row under the key.
+    /// Writes the row under the key. `RowTooLong`, `TooManyKeys` and `Full` refuse it. It waits as a read does, and where no slot
+    /// is free looks for those that nobody needs first.
     pub fn put(&mut self, key: Key, row: Row) -> Result<(), StoreError>
         ensures { Puts self.old.snapshot.reads.session key row self.old.row_limit result }
     {
@@ -44,24 +48,36 @@ impl<R: Wait + Drop> Transaction<'_, R> {
         }
     }
 
-    /// Deletes the row under the key, if there is one.
+    /// Writes the number under the key, in 8 bytes.
+    pub fn put_number(&mut self, key: Key, number: u64) -> Result<(), StoreError>
+        ensures { Puts self.old.snapshot.reads.session key (to_le_bytes w64 number) self.old.row_limit result }
+    {
+        self.put(key, Row::of_u64(number))
+    }
+
+    /// Deletes the row under the key, if there is one. `TooManyKeys` refuses it.
     pub fn delete(&mut self, key: Key) -> Result<(), StoreError>
         ensures { Answers (Delete self.old.snapshot.reads.session key) done_of result }
     {
         Ok(self.snapshot.reads.delete(key)?)
     }
 
-    /// Commits, and returns once that is durable: its timestamp, or `None` where nothing was written. At an error nothing of it
-    /// is kept, but at `Unknown`. `Conflict` is answered once the commit that was in the way is covered.
+    /// Commits, and returns once that is durable: its timestamp, or `None` where nothing was written. It waits for a sync of the
+    /// file, which commits of other threads share. At an error nothing of it is kept, but at `Unknown`. `Conflict` is answered once
+    /// the commit that was in the way is covered.
     pub fn commit(self) -> Result<Option<Ts>, StoreError>
-        ensures { IfOk result (TellsCommit self.entry.snapshot.reads.session) }
+        ensures ok { IfOk result (TellsCommit self.entry.snapshot.reads.session) }
+        ensures err { IfErr result (IsCommitRefusal self.entry.snapshot.reads.session) }
     {
         let Transaction { snapshot, .. } = self;
         let Snapshot { reads, .. } = snapshot;
-        Ok(reads.commit()?)
+        match reads.commit() {
+            Ok(timestamp) => Ok(timestamp),
+            Err(refused) => Err(StoreError::from(refused)),
+        }
     }
 
-    /// Gives it up.
+    /// Gives it up, as a drop does, and tells of a file that has failed.
     pub fn abort(self) -> Result<(), StoreError>
         ensures { Answers (Abort self.entry.snapshot.reads.session) done_of result }
     {

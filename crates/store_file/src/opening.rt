@@ -1,8 +1,10 @@
-ghost use Rattle.std.specs.Prelude.{◌≡◌, ◌↔◌, IfOk, IsTrue};
+ghost use Rattle.std.specs.Prelude.{◌≡◌, ◌↔◌, None, IfOk, IfErr, OnOk, IsTrue};
+ghost use Rattle.base.specs.Images.{opening_fault};
 ghost use Rattle.base.specs.Layout.{Layout, opened_layout};
 ghost use Rattle.log_area.specs.Rulings.{IsLaidOut};
 ghost use Rattle.pmem.specs.Words.{IsAtRest, image_of};
 ghost use Rattle.pmem_file.specs.Traces.{device_of};
+ghost use Rattle.store_file.specs.Opening.{IsFoundWith, OpensLayout, TellsLayout};
 
 use base::fault::Fault;
 use base::geometry::Geometry;
@@ -39,18 +41,24 @@ pub fn open_file<R: Files<File = File>>(
 ) -> Result<Device, Refusal>
     ensures rest { IfOk result (λ device. IsAtRest (device_of device.trace)) }
     ensures layout { IfOk result (λ device. (found : Layout) × IsLaidOut found (image_of (device_of device.trace)) × (opened_layout found ≡ opened_layout geometry) × (device.places ≡ found.places)) }
+    ensures other { IfErr result (TellsLayout geometry) }
 {
-    let device = open_formatted(rt, alloc, name, geometry)?;
+    let device = match open_formatted(rt, alloc, name, geometry) {
+        Ok(device) => device,
+        Err(refusal) => return Err(refusal),
+    };
     let found = match read_geometry(&device) {
         Ok(found) => found,
         Err(fault) => return Err(refusal_of(device, fault)),
     };
-    let is_asked_for = is_same(&found.opened(), &geometry.opened());
-    if is_asked_for && device.places() as u64 == found.places() {
-        return Ok(device);
+    if !is_same(&found.opened(), &geometry.opened()) {
+        let _ = device.close();
+        return Err(Refusal::OtherLayout(found));
     }
-    let _ = device.close();
-    Err(Refusal::OtherLayout(found))
+    if device.places() as u64 != found.places() {
+        return Err(refusal_of(device, Fault::WrongState));
+    }
+    Ok(device)
 }
 
 // The device of the file, which is made and formatted where it is missing or empty.
@@ -60,7 +68,8 @@ fn open_formatted<R: Files<File = File>>(
     name: &str,
     geometry: Geometry,
 ) -> Result<Device, Refusal>
-    ensures { IfOk result (λ device. IsAtRest (device_of device.trace)) }
+    ensures ok { IfOk result (λ device. IsAtRest (device_of device.trace)) }
+    ensures err { (layout : Layout) → IfErr result (TellsLayout layout) }
 {
     let device = match FileDevice::open(rt, alloc, name, geometry) {
         Ok(device) => device,
@@ -73,7 +82,8 @@ fn open_formatted<R: Files<File = File>>(
 }
 
 fn formatted(device: Device, geometry: Geometry) -> Result<Device, Refusal>
-    ensures { IfOk result (λ device. IsAtRest (device_of device.trace)) }
+    ensures ok { IfOk result (λ device. IsAtRest (device_of device.trace)) }
+    ensures err { (layout : Layout) → IfErr result (TellsLayout layout) }
 {
     let mut device = device;
     match format(&mut device, geometry) {
@@ -92,16 +102,20 @@ fn is_same(one: &Geometry, other: &Geometry) -> bool
         && one.window() == other.window()
 }
 
-// The same, and of the device only that it is at rest.
-fn open_at_rest<R: Files<File = File>>(
+// The same, in one fact.
+fn open_found<R: Files<File = File>>(
     rt: &R,
     alloc: Global,
     name: &str,
     geometry: Geometry,
 ) -> Result<Device, Refusal>
-    ensures { IfOk result (λ device. IsAtRest (device_of device.trace)) }
+    ensures ok { IfOk result (λ device. IsFoundWith geometry (device_of device.trace)) }
+    ensures err { IfErr result (TellsLayout geometry) }
 {
-    open_file(rt, alloc, name, geometry)
+    match open_file(rt, alloc, name, geometry) {
+        Ok(device) => Ok(device),
+        Err(refusal) => Err(refusal),
+    }
 }
 
 /// The database over the file, which is made with this layout where it is missing or empty.
@@ -110,15 +124,39 @@ pub fn open_database<R: Files<File = File> + Threads + Wait + Copy + Drop + Send
     alloc: Global,
     name: &str,
     geometry: Geometry,
-) -> Result<Database<Device, R>, Refusal> {
-    match Database::open(*rt, alloc, open_at_rest(rt, alloc, name, geometry)?) {
+) -> Result<Database<Device, R>, Refusal>
+    ensures ok { OnOk result (OpensLayout geometry) }
+    ensures err { IfErr result (TellsLayout geometry) }
+{
+    match open_found(rt, alloc, name, geometry) {
+        Ok(device) => match open_over(rt, alloc, device) {
+            Ok(database) => Ok(database),
+            Err(refusal) => Err(refusal),
+        },
+        Err(refusal) => Err(refusal),
+    }
+}
+
+// The database over this device.
+fn open_over<R: Threads + Wait + Copy + Drop + Send + Sync + 'static>(
+    rt: &R,
+    alloc: Global,
+    device: Device,
+) -> Result<Database<Device, R>, Refusal>
+    requires at_rest { IsAtRest (device_of device.trace) }
+    ensures ok { OnOk result (opening_fault (image_of (device_of device.trace)) ≡ None) }
+    ensures err { (layout : Layout) → IfErr result (TellsLayout layout) }
+{
+    match Database::open(*rt, alloc, device) {
         Ok(database) => Ok(database),
         Err(Refused { fault, device }) => Err(refusal_of(device, fault)),
     }
 }
 
 // Why the file failed, where a write or a sync of it did; else why it is refused, and then it is closed.
-fn refusal_of(device: Device, fault: Fault) -> Refusal {
+fn refusal_of(device: Device, fault: Fault) -> Refusal
+    ensures { (layout : Layout) → TellsLayout layout result }
+{
     match device.failure() {
         Some(cause) => Refusal::Lost(cause),
         None => {

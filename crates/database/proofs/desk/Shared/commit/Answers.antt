@@ -4,14 +4,17 @@ use Rattle.database.specs.declared.error.CommitError.{CommitError}
 use Rattle.database.specs.Committing.{IsPrepared}
 use Rattle.database.proofs.desk.Shared.commit.Goals as goal
 
-pub returns-in-Ok : goal.returns-in-Ok
-returns-in-Ok g c = (
+pub returns-in-Ok-clause-ok : goal.returns-in-Ok-clause-ok
+returns-in-Ok-clause-ok g c = (
   subst (λ (b : Bool). IsPrepared c.args.session (Ok b)) c.in-Ok-true.field-0-test
-      (subst (λ (r : Result Bool CommitError). IfOk r (λ wrote. IsPrepared c.args.session (Ok wrote))) c.in-Ok-true.is c.prepare-desk.ensures),
+      (subst (λ (r : Result Bool CommitError). IfOk r (λ wrote. IsPrepared c.args.session (Ok wrote))) c.in-Ok-true.is c.prepare-desk.ensures.ok),
   c.in-Ok.ensures,
 )
 
-pub returns-in-Ok-false : goal.returns-in-Ok-false
-returns-in-Ok-false g c =
+pub returns-in-Ok-false-clause-ok : goal.returns-in-Ok-false-clause-ok
+returns-in-Ok-false-clause-ok g c =
     subst (λ (b : Bool). IsPrepared c.args.session (Ok b)) c.in-Ok-false.field-0-test
-    (subst (λ (r : Result Bool CommitError). IfOk r (λ wrote. IsPrepared c.args.session (Ok wrote))) c.in-Ok-false.is c.prepare-desk.ensures)
+    (subst (λ (r : Result Bool CommitError). IfOk r (λ wrote. IsPrepared c.args.session (Ok wrote))) c.in-Ok-false.is c.prepare-desk.ensures.ok)
+
+pub returns-in-Err-wait-clause-err : goal.returns-in-Err-wait-clause-err
+returns-in-Err-wait-clause-err g c = c.without_conflict.ensures c.args.session

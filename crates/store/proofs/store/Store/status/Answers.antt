@@ -1,8 +1,13 @@
+use Rattle.std.proofs.Common.{◌≡◌}
 use Rattle.room.specs.Room.{ShowsStatus}
 use Rattle.room.specs.Usage.{ShowsUsage}
 use Rattle.database.proofs.Numbers.{comes-weaken}
-use Rattle.store.specs.Status.{ShowsNumbers, ShowsFill}
+use Rattle.store.specs.Status.{ShowsLayout, ShowsNumbers, ShowsFill}
 use Rattle.store.proofs.store.Store.status.Goals as goal
+
+pub returns-clause-layout : goal.returns-clause-layout
+returns-clause-layout g c =
+    comes-weaken (λ q. c.geometry.result ≡ q.layout) (λ q. ShowsLayout q c.of.result) c.of.ensures.layout c.geometry.ensures
 
 pub returns-clause-numbers : goal.returns-clause-numbers
 returns-clause-numbers g c =
