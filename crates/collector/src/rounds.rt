@@ -56,8 +56,8 @@ impl Collector {
 
     // Whether gaps stand that aren't swept.
     #[inline(always)]
-    fn is_due(&self, gaps: GapList) -> bool
-        ensures { result ≡ is_due self.now.swept gaps }
+    fn is_due(&self, gaps: &GapList) -> bool
+        ensures { result ≡ is_due self.now.swept gaps.now }
     {
         !self.swept && !gaps.gaps().as_slice().is_empty()
     }
@@ -70,7 +70,7 @@ impl Collector {
         &mut self,
         device: &mut D,
         geometry: Geometry,
-        gaps: GapList,
+        gaps: &GapList,
         slots: &mut SlotAlloc,
         readers: &R,
     ) -> Result<Visit, Fault>
@@ -80,10 +80,10 @@ impl Collector {
         ensures visit { IfOk result (λ visit. visit ≡ visit_at geometry self.old.place) }
         ensures moved { OnOk result (self.new ≡ moved_on geometry self.old) }
         ensures freed { OnOk result (slots.new ≡ freed_at geometry self.old.place (R.covered readers.now) (value_of (D.state device.old)) slots.old) }
-        ensures run { OnOk result (Runs (tick_operations geometry gaps self.old.swept self.old.place (value_of (D.state device.old))) (D.state device.old) (D.state device.new)) }
+        ensures run { OnOk result (Runs (tick_operations geometry gaps.now self.old.swept self.old.place (value_of (D.state device.old))) (D.state device.old) (D.state device.new)) }
 
         ensures fault { IfErr result (λ fault. fault ≡ Fault.Device) }
-        ensures stopped { OnErr result (StopsWithin (tick_operations geometry gaps self.old.swept self.old.place (value_of (D.state device.old))) (D.state device.old) (D.state device.new)) }
+        ensures stopped { OnErr result (StopsWithin (tick_operations geometry gaps.now self.old.swept self.old.place (value_of (D.state device.old))) (D.state device.old) (D.state device.new)) }
         ensures same { OnErr result (self.new ≡ self.old) }
         ensures kept { OnErr result (slots.new ≡ slots.old) }
     {
@@ -100,7 +100,7 @@ impl Collector {
         &mut self,
         device: &mut D,
         geometry: Geometry,
-        gaps: GapList,
+        gaps: &GapList,
         slots: &mut SlotAlloc,
         readers: &R,
     ) -> Result<Visit, Fault>
@@ -110,9 +110,9 @@ impl Collector {
         ensures visit { IfOk result (λ visit. visit ≡ Slot self.old.place) }
         ensures moved { OnOk result (self.new ≡ record { place = self.old.place + 1; swept = self.old.swept }) }
         ensures freed { OnOk result (slots.new ≡ freed geometry self.old.place (R.covered readers.now) (value_of (D.state device.old)) slots.old) }
-        ensures run { OnOk result (Runs (slot_operations geometry gaps self.old.swept self.old.place (value_of (D.state device.old))) (D.state device.old) (D.state device.new)) }
+        ensures run { OnOk result (Runs (slot_operations geometry gaps.now self.old.swept self.old.place (value_of (D.state device.old))) (D.state device.old) (D.state device.new)) }
         ensures fault { IfErr result (λ fault. fault ≡ Fault.Device) }
-        ensures stopped { OnErr result (StopsWithin (slot_operations geometry gaps self.old.swept self.old.place (value_of (D.state device.old))) (D.state device.old) (D.state device.new)) }
+        ensures stopped { OnErr result (StopsWithin (slot_operations geometry gaps.now self.old.swept self.old.place (value_of (D.state device.old))) (D.state device.old) (D.state device.new)) }
         ensures same { OnErr result (self.new ≡ self.old) }
         ensures kept { OnErr result (slots.new ≡ slots.old) }
     {
@@ -131,12 +131,12 @@ impl Collector {
 
     // Visits the closing place.
     #[inline(never)]
-    fn end_sweep<D: Pmem>(&mut self, device: &mut D, gaps: GapList) -> Result<Visit, Fault>
+    fn end_sweep<D: Pmem>(&mut self, device: &mut D, gaps: &GapList) -> Result<Visit, Fault>
         ensures visit { IfOk result (λ visit. visit ≡ SweepEnd) }
         ensures moved { OnOk result (self.new ≡ record { place = 0; swept = true }) }
-        ensures run { OnOk result (Runs (end_operations gaps self.old.swept) (D.state device.old) (D.state device.new)) }
+        ensures run { OnOk result (Runs (end_operations gaps.now self.old.swept) (D.state device.old) (D.state device.new)) }
         ensures fault { IfErr result (λ fault. fault ≡ Fault.Device) }
-        ensures stopped { OnErr result (StopsWithin (end_operations gaps self.old.swept) (D.state device.old) (D.state device.new)) }
+        ensures stopped { OnErr result (StopsWithin (end_operations gaps.now self.old.swept) (D.state device.old) (D.state device.new)) }
         ensures same { OnErr result (self.new ≡ self.old) }
     {
         if self.is_due(gaps) {

@@ -17,13 +17,13 @@ use pmem::Pmem;
 pub(crate) fn sweep_slot<D: Pmem>(
     device: &mut D,
     geometry: Geometry,
-    gaps: GapList,
+    gaps: &GapList,
     slot: SlotNo,
 ) -> Result<(), Fault>
     requires slot { slot < geometry.slots }
     requires size { (D.state device.old).words ≡ total_words geometry }
-    ensures ok { OnOk result (Runs (sweep_operations geometry gaps (value_of (D.state device.old)) slot) (D.state device.old) (D.state device.new)) }
-    ensures err { OnErr result (StopsWithin (sweep_operations geometry gaps (value_of (D.state device.old)) slot) (D.state device.old) (D.state device.new)) }
+    ensures ok { OnOk result (Runs (sweep_operations geometry gaps.now (value_of (D.state device.old)) slot) (D.state device.old) (D.state device.new)) }
+    ensures err { OnErr result (StopsWithin (sweep_operations geometry gaps.now (value_of (D.state device.old)) slot) (D.state device.old) (D.state device.new)) }
     ensures fault { IfErr result (λ fault. fault ≡ Fault.Device) }
 {
     let start = geometry.slot_start(slot);
@@ -34,10 +34,10 @@ pub(crate) fn sweep_slot<D: Pmem>(
 }
 
 // Stores 0 in a word that lies in a gap.
-fn zero_in_gap<D: Pmem>(device: &mut D, gaps: GapList, word: usize) -> Result<(), Fault>
+fn zero_in_gap<D: Pmem>(device: &mut D, gaps: &GapList, word: usize) -> Result<(), Fault>
     requires { word < (D.state device.old).words }
-    ensures ok { OnOk result (Runs (zero_operations gaps word (value_of (D.state device.old) word)) (D.state device.old) (D.state device.new)) }
-    ensures err { OnErr result (StopsWithin (zero_operations gaps word (value_of (D.state device.old) word)) (D.state device.old) (D.state device.new)) }
+    ensures ok { OnOk result (Runs (zero_operations gaps.now word (value_of (D.state device.old) word)) (D.state device.old) (D.state device.new)) }
+    ensures err { OnErr result (StopsWithin (zero_operations gaps.now word (value_of (D.state device.old) word)) (D.state device.old) (D.state device.new)) }
     ensures fault { IfErr result (λ fault. fault ≡ Fault.Device) }
     ensures size { (D.state device.new).words ≡ (D.state device.old).words }
 {

@@ -121,6 +121,14 @@ impl Index {
         }
     }
 
+    // The same, where the hints say that it may be.
+    #[inline(always)]
+    pub(crate) fn hinted(&self, key: Key) -> Entry
+        ensures { result ≡ entry_at self.now key }
+    {
+        self.entry(key, hint_for(self.hints.as_slice(), key))
+    }
+
     /// The slot of the key's covered row.
     #[inline(always)]
     pub fn live(&self, key: Key, near: Option<usize>) -> Option<SlotNo>

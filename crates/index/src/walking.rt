@@ -47,13 +47,7 @@ impl Index {
         ensures tables { (counts : ℕ → Bool) (tables : Tables) → CountsAs counts snapshot.now geometry (image_of (D.state device.now)) → IsLinked snapshot.now (image_of (D.state device.now)) key (entry_at self.now key).newest
             → ShowsTables counts geometry (image_of (D.state device.now)) tables → option_map (λ found. found.row) result ≡ tables key }
     {
-        follow(
-            device,
-            geometry,
-            snapshot,
-            self.entry(key, None).newest,
-            key,
-        )
+        follow(device, geometry, snapshot, self.hinted(key).newest, key)
     }
 }
 

@@ -29,6 +29,9 @@ pub struct JournaledPmem<I: Images> {
 
     // The lines of which words were stored since the image was kept, by rising number. There is room for each from the opening on.
     changed: Vec<usize>,
+
+    // At which place of that list the line was that a word was stored to last.
+    last: usize,
     images: I,
 
     // The places for records.
@@ -80,6 +83,7 @@ impl<I: Images> JournaledPmem<I> {
             words,
             flushed,
             changed,
+            last: 0,
             images,
             places,
             is_gate_stored: false,
@@ -267,8 +271,9 @@ impl<I: Images> Pmem for JournaledPmem<I> {
 
     // It fails only where there is no memory.
     fn store(&mut self, word: usize, value: u64) -> Result<(), Fault> {
-        match add_line(&mut self.changed, word / 8) {
-            Ok(()) => {
+        match add_line(&mut self.changed, self.last, word / 8) {
+            Ok(place) => {
+                self.last = place;
                 self.words[word] = value;
                 self.is_gate_stored = is_stored(self.is_gate_stored, self.places, word);
                 self.trace.note(Operation::Store { word, value });

@@ -5,7 +5,7 @@ use Rattle.std.proofs.Math.Logic.{∥∥₁_elim, ∥∥₁_map}
 use Rattle.std.proofs.Math.Nat.{ℕ_set}
 use Rattle.std.proofs.lemmas.Bool.{and_parts, cases_lt, eq-eqb, eqb-true, leb-true, not-true}
 use Rattle.std.proofs.lemmas.List.Sums.{sum_by-cons}
-use Rattle.std.specs.Prelude.{Option, Some, None, nat_eq, nat_le, find, sum_by}
+use Rattle.std.specs.Prelude.{Option, Some, None, Result, Ok, Err, nat_eq, nat_le, find, sum_by}
 use Rattle.std.specs.List.{list_all, list_any}
 use Rattle.std.specs.Option.{option_map}
 use Rattle.base.specs.declared.fault.Fault.{Fault}
@@ -31,6 +31,7 @@ use Rattle.cycle_simulation.specs.Closing.{ClosesAs}
 use Rattle.cycle_simulation.proofs.Closings.{closes-on}
 use Rattle.session_steps.specs.declared.sessions.Sessions.{Sessions}
 use Rattle.session_steps.specs.Shows.{plain_drawn, HoldsDrawn, Shows as SessionsShow}
+use Rattle.session_steps.specs.Replies.{stamped}
 use Rattle.session_steps.specs.Steps.{Steps, ShowsSome as SessionsShowSome}
 use Rattle.session_steps.proofs.Effects.{none-failed}
 use Rattle.session_steps.proofs.OneTransaction.{found, not-both}
@@ -187,6 +188,12 @@ module _ (q q' : State) (n : ℕ) (r : SessionReply) (un : refusal q (step.Stamp
       by (answered none told same) = same
       by (memory_refused none takes told same) = absurd (cc takes)
       by (device_failed none operating told same) = absurd (unrefused_so DeviceFault (as-refused r DeviceFault told))
+
+-- it is refused where the call returns a fault
+pub stamped-told : (r : Result Bool Fault) (fault : Fault) → stamped r ≡ Refused fault → r ≡ Err fault
+stamped-told (Ok true) fault told = absurd (cc told)
+stamped-told (Ok false) fault told = absurd (cc told)
+stamped-told (Err other) fault told = let same : other ≡ fault = cc told in ap (λ (f : Fault). let r : Result Bool Fault = Err f in r) same
 
 -- ---- a part
 

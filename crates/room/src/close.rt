@@ -6,7 +6,7 @@ use crate::room::Room;
 use crate::volatile::VolatileState;
 use base::NUMBER_LIMIT;
 use base::fault::Fault;
-use base::step::{Reply, SessionReply, SessionStep};
+use base::step::Reply;
 use group_commit::Cycle;
 use pmem::Pmem;
 use std::alloc::Global;
@@ -109,8 +109,7 @@ impl VolatileState {
         ensures err { IfErr result (ClosePhaseFailed self.old (D.state device.old) (D.state device.new)) }
     {
         while let Some(session) = self.unstamped() {
-            let step = SessionStep::Stamp { session };
-            if let SessionReply::Refused(fault) = self.sessions.step(device, step) {
+            if let Err(fault) = self.sessions.stamp(device, session) {
                 return Err(fault);
             }
         }

@@ -5,6 +5,7 @@ mod close;
 mod counting;
 mod law;
 mod opening;
+mod replies;
 mod room;
 mod status;
 mod tick;

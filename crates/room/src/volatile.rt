@@ -1,6 +1,7 @@
 //! What a room keeps in ordinary memory, apart from its device. A stop loses all of it, so nothing here may be what an acknowledged
 //! commit rests on.
 
+use crate::replies::{began, done, drawn, read, scanned, stamped};
 use base::fault::Fault;
 use base::key::Key;
 use base::row::Row;
@@ -59,17 +60,29 @@ impl VolatileState {
     // One step, on the device on which the volatile state shows a plain state: one of a session, a visit of the collector, or a
     // tick. A crash within it leaves the history before it or after it, or with the batch in hand. The tick that chooses a
     // batch takes memory from `alloc`; what sessions take is from their own, and a visit takes none.
+    #[inline(always)]
     pub(crate) fn step<D: Pmem>(&mut self, alloc: Global, device: &mut D, step: Step) -> Reply
         requires shown { ∥ ShowsSome self.old (D.state device.old) ∥₁ }
         ensures step { Steps self.old self.new (D.state device.old) (D.state device.new) step result }
     {
         match step {
+            Step::Begin => began(self.sessions.begin()),
+            Step::Get { session, key } => read(self.sessions.get(device, session, key)),
+            Step::Scan {
+                session,
+                table,
+                lo,
+                hi,
+            } => scanned(self.sessions.scan(device, session, table, lo, hi)),
+            Step::Put { session, key, row } => done(self.sessions.put(device, session, key, row)),
+            Step::Delete { session, key } => done(self.sessions.delete(session, key)),
+            Step::Draw { session } => drawn(self.sessions.draw(session)),
+            Step::Stamp { session } => stamped(self.sessions.stamp(device, session)),
+            Step::Poll { session } => Reply::from(self.sessions.poll(session)),
+            Step::Abort { session } => done(self.sessions.abort(session)),
+            Step::End { session } => done(self.sessions.end(session)),
             Step::Commit => self.tick(alloc, device),
             Step::Collect => self.collect(device),
-            _ => match step.of_session() {
-                Some(step) => Reply::from(self.sessions.step(device, step)),
-                None => unreachable!(),
-            },
         }
     }
 

@@ -23,6 +23,7 @@ pub mod OpenedStates
 pub mod Failing
 pub mod Effects
 pub mod Stepping
+pub mod Quietly
 pub mod LineRoom
 pub mod Stamped
 pub mod Puts

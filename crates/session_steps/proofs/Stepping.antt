@@ -136,7 +136,3 @@ shown-held-on s device some = ∥∥₁_map some (λ shown. (shown.1.hidden, hol
 
 pub shown-held : (s : Sessions) (device : Device) → ∥ ShowsSome s device ∥₁ → ∥ HoldsSome s ∥₁
 shown-held s device some = ∥∥₁_map some (λ shown. (shown.1.hidden, held-on s shown.1.hidden device (holds-of s device shown.0 shown.1 shown.2)))
-
--- the same step, under another name
-pub steps-as : (old new : Sessions) (before now : Device) (step asked : SessionStep) (r : SessionReply) → step ≡ asked → Steps old new before now asked r → Steps old new before now step r
-steps-as old new before now step asked r is steps = subst (λ (x : SessionStep). Steps old new before now x r) (sym is) steps

@@ -3,6 +3,7 @@ pub mod Giving
 pub mod Drawing
 pub mod Stamping
 pub mod Steps
+pub mod Replies
 pub mod Collecting
 pub mod Covering
 pub mod Opening

@@ -3,25 +3,26 @@
 use crate::active::active_in;
 use crate::giving::give_back;
 use crate::sessions::Sessions;
-use base::step::SessionReply;
+use base::fault::Fault;
 
 impl Sessions {
     ghost use Rattle.base.specs.declared.step.SessionStep.TheVariants.{Abort};
+    ghost use Rattle.session_steps.specs.Replies.{done};
     ghost use Rattle.session_steps.specs.Steps.{HoldsSome, Takes};
 
-    // Gives up what a session has written.
+    /// Gives up what a session has written.
     #[inline(never)]
-    pub(crate) fn abort(&mut self, session: u8) -> SessionReply
+    pub fn abort(&mut self, session: u8) -> Result<(), Fault>
         requires shown { ∥ HoldsSome self.old ∥₁ }
-        ensures step { Takes self.old self.new (Abort session) result }
+        ensures step { Takes self.old self.new (Abort session) (done result) }
     {
         match active_in(&self.transactions, session) {
             Ok(active) => {
                 give_back(&mut self.slots, active.writes);
                 self.transactions.end(session);
-                SessionReply::Done
+                Ok(())
             }
-            Err(fault) => SessionReply::Refused(fault),
+            Err(fault) => Err(fault),
         }
     }
 }

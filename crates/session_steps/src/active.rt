@@ -24,7 +24,7 @@ pub fn is_full_for(writes: &WriteSet, key: Key) -> bool
     ensures full { result ≡ is_full_of key writes.now }
     ensures room { OnFalse result (HasRoomFor key writes.now) }
 {
-    writes.find(key).is_none() && writes.is_full()
+    writes.is_full() && writes.find(key).is_none()
 }
 
 /// The session of this number, where it is Active.

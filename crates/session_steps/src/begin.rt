@@ -1,19 +1,20 @@
 use crate::sessions::Sessions;
-use base::step::SessionReply;
+use base::fault::Fault;
 
 impl Sessions {
     ghost use Rattle.base.specs.declared.step.SessionStep.TheVariants.{Begin};
+    ghost use Rattle.session_steps.specs.Replies.{began};
     ghost use Rattle.session_steps.specs.Steps.{HoldsSome, Takes};
 
-    // Opens a session under the lowest number that is free.
+    /// Opens a session under the lowest number that is free. Its number.
     #[inline(never)]
-    pub(crate) fn begin(&mut self) -> SessionReply
+    pub fn begin(&mut self) -> Result<u8, Fault>
         requires shown { ∥ HoldsSome self.old ∥₁ }
-        ensures step { Takes self.old self.new Begin result }
+        ensures step { Takes self.old self.new Begin (began result) }
     {
         match self.transactions.begin(self.numbers.snapshot()) {
-            Ok(number) => SessionReply::Began(number),
-            Err(fault) => SessionReply::Refused(fault),
+            Ok(number) => Ok(number),
+            Err(fault) => Err(fault),
         }
     }
 }

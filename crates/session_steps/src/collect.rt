@@ -99,19 +99,19 @@ impl Sessions {
         ensures fault { IfErr result (λ fault. fault ≡ Fault.Device) }
     {
         if self.collector.has_swept() {
-            self.visit(device, GapList::none())
+            self.visit(device, &GapList::none())
         } else {
             let gaps = GapList::of(self.numbers.record.gaps());
-            self.visit(device, gaps)
+            self.visit(device, &gaps)
         }
     }
 
     // One visit. Until the gaps are swept they are those that the ruling record names; no visit asks for them then, and none
     // is copied.
     #[inline(always)]
-    fn visit<D: Pmem>(&mut self, device: &mut D, gaps: GapList) -> Result<Visit, Fault>
+    fn visit<D: Pmem>(&mut self, device: &mut D, gaps: &GapList) -> Result<Visit, Fault>
         requires shown { ∥ ShowsSome self.old (D.state device.old) ∥₁ }
-        requires gaps { self.old.collector.swept ≡ false → gaps ≡ self.old.numbers.record.gaps }
+        requires gaps { self.old.collector.swept ≡ false → gaps.now ≡ self.old.numbers.record.gaps }
         ensures step { Collects self.old self.new (D.state device.old) (D.state device.new) result }
         ensures fault { IfErr result (λ fault. fault ≡ Fault.Device) }
     {

@@ -6,29 +6,29 @@ use crate::giving::{give, lines_with, own_slot};
 use crate::sessions::Sessions;
 use base::fault::Fault;
 use base::key::Key;
-use base::step::SessionReply;
 use txn::Write;
 
 impl Sessions {
     ghost use Rattle.base.specs.declared.step.SessionStep.TheVariants.{Delete};
+    ghost use Rattle.session_steps.specs.Replies.{done};
     ghost use Rattle.session_steps.specs.Steps.{HoldsSome, Takes};
 
-    // Writes a deletion, and frees the slot that the session has for the key.
+    /// Writes a deletion, and frees the slot that the session has for the key.
     #[inline(never)]
-    pub(crate) fn delete(&mut self, session: u8, key: Key) -> SessionReply
+    pub fn delete(&mut self, session: u8, key: Key) -> Result<(), Fault>
         requires shown { ∥ HoldsSome self.old ∥₁ }
-        ensures step { Takes self.old self.new (Delete session key) result }
+        ensures step { Takes self.old self.new (Delete session key) (done result) }
     {
         let active = match active_in(&self.transactions, session) {
             Ok(active) => active,
-            Err(fault) => return SessionReply::Refused(fault),
+            Err(fault) => return Err(fault),
         };
         if is_full_for(active.writes, key) {
-            return SessionReply::Refused(Fault::WriteSetFull);
+            return Err(Fault::WriteSetFull);
         }
         match self.dirty.promise(session, lines_with(active.writes, key)) {
             Ok(()) => {}
-            Err(fault) => return SessionReply::Refused(fault),
+            Err(fault) => return Err(fault),
         }
         give(&mut self.slots, own_slot(active.writes, key));
         let deletion = Write {
@@ -38,6 +38,6 @@ impl Sessions {
             place: self.index.place(key),
         };
         self.transactions.write(session, deletion);
-        SessionReply::Done
+        Ok(())
     }
 }

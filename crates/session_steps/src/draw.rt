@@ -15,7 +15,6 @@ use crate::touching::touch_lines;
 use base::Ts;
 use base::fault::Fault;
 use base::key::Key;
-use base::step::SessionReply;
 use index::Index;
 use snapshot::Snapshot;
 use txn::{DrawnCommit, Transaction, WriteSet};
@@ -27,54 +26,55 @@ impl Sessions {
     ghost use Rattle.txn.specs.declared.write.Write.{Write};
     ghost use Rattle.txn.specs.Transactions.{transaction_at};
     ghost use Rattle.txn.specs.declared.transaction.Transaction.TheVariants.{Active as IsActiveWith};
+    ghost use Rattle.session_steps.specs.Replies.{drawn};
     ghost use Rattle.session_steps.specs.Steps.{HoldsSome, Takes};
 
-    // Draws a timestamp for what a session has written.
+    /// Draws a timestamp for what a session has written, and none where it has written nothing.
     #[inline(never)]
-    pub(crate) fn draw(&mut self, session: u8) -> SessionReply
+    pub fn draw(&mut self, session: u8) -> Result<Option<Ts>, Fault>
         requires shown { ∥ HoldsSome self.old ∥₁ }
-        ensures step { Takes self.old self.new (Draw session) result }
+        ensures step { Takes self.old self.new (Draw session) (drawn result) }
     {
         let active = match active_in(&self.transactions, session) {
             Ok(active) => active,
-            Err(fault) => return SessionReply::Refused(fault),
+            Err(fault) => return Err(fault),
         };
         if active.writes.is_empty() {
             self.transactions.set(session, Transaction::ReadOnly);
-            return SessionReply::Done;
+            return Ok(None);
         }
         if let Some(key) = conflict(&self.index, active.snapshot, active.writes) {
-            return SessionReply::Refused(Fault::Conflict(key));
+            return Err(Fault::Conflict(key));
         }
         if self.numbers.is_window_full() {
-            return SessionReply::Refused(Fault::WindowFull);
+            return Err(Fault::WindowFull);
         }
         if self.numbers.is_near_limit() {
-            return SessionReply::Refused(Fault::TimestampsOut);
+            return Err(Fault::TimestampsOut);
         }
         self.draw_next(session)
     }
 
     // Draws the next timestamp, against which nothing stands but want of memory. The growths come before any change: room for the
     // keys in the index, and for the commit among those that are drawn. There is room for the lines since the writes were put.
-    fn draw_next(&mut self, session: u8) -> SessionReply
+    fn draw_next(&mut self, session: u8) -> Result<Option<Ts>, Fault>
         requires shown { ∥ HoldsSome self.old ∥₁ }
         requires active { (snapshot : Seen) (writes : List Write) → transaction_at self.old.transactions session ≡ Some (IsActiveWith snapshot writes) → (writes ≢ []) × (conflict_in self.old.index snapshot writes ≡ None) }
         requires window { nat_eq self.old.numbers.next self.old.numbers.record.dirty ≡ false }
         requires early { nat_le (2 ^ 62) (self.old.numbers.next + 2 * self.old.numbers.geometry.window) ≡ false }
-        ensures step { Takes self.old self.new (Draw session) result }
+        ensures step { Takes self.old self.new (Draw session) (drawn result) }
     {
         let writes = match active_in(&self.transactions, session) {
             Ok(active) => active.writes,
-            Err(fault) => return SessionReply::Refused(fault),
+            Err(fault) => return Err(fault),
         };
         match reserve_keys(&mut self.index, writes) {
             Ok(()) => {}
-            Err(fault) => return SessionReply::Refused(fault),
+            Err(fault) => return Err(fault),
         }
         match self.drawn.reserve() {
             Ok(()) => {}
-            Err(fault) => return SessionReply::Refused(fault),
+            Err(fault) => return Err(fault),
         }
         touch_lines(
             &mut self.dirty,
@@ -92,7 +92,7 @@ impl Sessions {
             writes,
             stamped: 0,
         });
-        SessionReply::Drawn(timestamp)
+        Ok(Some(timestamp))
     }
 }
 

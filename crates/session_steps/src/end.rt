@@ -1,12 +1,12 @@
 use crate::sessions::Sessions;
 use base::fault::Fault;
-use base::step::SessionReply;
 use txn::Transaction;
 
 impl Sessions {
     ghost use Rattle.std.specs.Prelude.{◌≡◌, true, IfErr, OnOk};
     ghost use Rattle.base.specs.declared.step.SessionStep.TheVariants.{End};
     ghost use Rattle.txn.specs.Transactions.{transaction_at};
+    ghost use Rattle.session_steps.specs.Replies.{done};
     ghost use Rattle.session_steps.specs.Steps.{Takes, IsBarred, is_over, is_over_at};
 
     // Whether a session is open and over.
@@ -28,17 +28,17 @@ impl Sessions {
         }
     }
 
-    // Ends a session that is over.
+    /// Ends a session that is over.
     #[inline(never)]
-    pub(crate) fn end(&mut self, session: u8) -> SessionReply
-        ensures step { Takes self.old self.new (End session) result }
+    pub fn end(&mut self, session: u8) -> Result<(), Fault>
+        ensures step { Takes self.old self.new (End session) (done result) }
     {
         match self.over(session) {
             Ok(()) => {
                 self.transactions.end(session);
-                SessionReply::Done
+                Ok(())
             }
-            Err(fault) => SessionReply::Refused(fault),
+            Err(fault) => Err(fault),
         }
     }
 }

@@ -1,31 +1,33 @@
 use crate::active::active_in;
 use crate::sessions::Sessions;
+use base::fault::Fault;
 use base::key::Key;
-use base::step::SessionReply;
+use base::row::Row;
 use pmem::Pmem;
 
 impl Sessions {
     ghost use Rattle.base.specs.declared.step.SessionStep.TheVariants.{Get};
     ghost use Rattle.session_steps.specs.Shows.{Hidden};
+    ghost use Rattle.session_steps.specs.Replies.{read};
     ghost use Rattle.session_steps.specs.Steps.{HoldsOn, HoldsSomeOn, Goes};
 
-    // The session's own write of the key, or the row of its snapshot.
+    /// The session's own write of the key, or the row of its snapshot.
     #[inline(never)]
-    pub(crate) fn get<D: Pmem>(&self, device: &D, session: u8, key: Key) -> SessionReply
+    pub fn get<D: Pmem>(&self, device: &D, session: u8, key: Key) -> Result<Option<Row>, Fault>
         requires shown { ∥ HoldsSomeOn self.now (D.state device.now) ∥₁ }
-        ensures step { (h : Hidden) → HoldsOn self.now h (D.state device.now) → Goes self.now self.now (Get session key) result h }
+        ensures step { (h : Hidden) → HoldsOn self.now h (D.state device.now) → Goes self.now self.now (Get session key) (read result) h }
     {
         let active = match active_in(&self.transactions, session) {
             Ok(active) => active,
-            Err(fault) => return SessionReply::Refused(fault),
+            Err(fault) => return Err(fault),
         };
         match active.writes.find(key) {
-            Some(write) => SessionReply::Row(write.row),
+            Some(write) => Ok(write.row),
             None => {
                 let geometry = self.numbers.geometry;
                 match self.index.walk(device, geometry, key, active.snapshot) {
-                    Some(found) => SessionReply::Row(Some(found.row)),
-                    None => SessionReply::Row(None),
+                    Some(found) => Ok(Some(found.row)),
+                    None => Ok(None),
                 }
             }
         }

@@ -20,7 +20,6 @@ mod put;
 mod scan;
 mod sessions;
 mod stamp;
-mod step;
 mod tables;
 mod touching;
 mod usage;

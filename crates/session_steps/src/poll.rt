@@ -7,9 +7,9 @@ impl Sessions {
     ghost use Rattle.base.specs.declared.step.SessionStep.TheVariants.{Poll};
     ghost use Rattle.session_steps.specs.Steps.{Takes};
 
-    // How far a session's commit has come.
+    /// How far a session's commit has come.
     #[inline(never)]
-    pub(crate) fn poll(&self, session: u8) -> SessionReply
+    pub fn poll(&self, session: u8) -> SessionReply
         ensures step { Takes self.now self.now (Poll session) result }
     {
         match self.transactions.get(session) {

@@ -13,7 +13,6 @@ use base::actor::Actor;
 use base::fault::Fault;
 use base::key::Key;
 use base::row::Row;
-use base::step::SessionReply;
 use pmem::Pmem;
 use txn::Write;
 use version_slot::{Version, fill};
@@ -30,29 +29,30 @@ impl Sessions {
     ghost use Rattle.txn.specs.Transactions.{transaction_at};
     ghost use Rattle.version_slot.specs.Words.{IsVersion, slot_at};
     ghost use Rattle.session_steps.specs.Giving.{IsReady, HasLinesWith};
+    ghost use Rattle.session_steps.specs.Replies.{done};
     ghost use Rattle.session_steps.specs.Steps.{HoldsSomeOn, TakesOn};
 
-    // Writes a row that a slot holds: in the slot that the session has for the key, or else in the lowest free one.
+    /// Writes a row that a slot holds: in the slot that the session has for the key, or else in the lowest free one.
     #[inline(never)]
-    pub(crate) fn put<D: Pmem>(
+    pub fn put<D: Pmem>(
         &mut self,
         device: &mut D,
         session: u8,
         key: Key,
         row: Row,
-    ) -> SessionReply
+    ) -> Result<(), Fault>
         requires shown { ∥ HoldsSomeOn self.old (D.state device.old) ∥₁ }
-        ensures step { TakesOn self.old self.new (D.state device.old) (D.state device.new) (Put session key row) result }
+        ensures step { TakesOn self.old self.new (D.state device.old) (D.state device.new) (Put session key row) (done result) }
     {
         let active = match active_in(&self.transactions, session) {
             Ok(active) => active,
-            Err(fault) => return SessionReply::Refused(fault),
+            Err(fault) => return Err(fault),
         };
         if row.as_bytes().len() > self.numbers.geometry.row_limit() {
-            return SessionReply::Refused(Fault::TooLong);
+            return Err(Fault::TooLong);
         }
         if is_full_for(active.writes, key) {
-            return SessionReply::Refused(Fault::WriteSetFull);
+            return Err(Fault::WriteSetFull);
         }
         match own_slot(active.writes, key) {
             Some(slot) => self.fill_own(device, session, slot, key, row),
@@ -71,12 +71,12 @@ impl Sessions {
         slot: SlotNo,
         key: Key,
         row: Row,
-    ) -> SessionReply
+    ) -> Result<(), Fault>
         requires shown { ∥ HoldsSomeOn self.old (D.state device.old) ∥₁ }
         requires ready { IsReady self.old.transactions session key (Some slot) }
         requires row { length row ≤ row_limit self.old.numbers.geometry.version }
-        ensures step { TakesOn self.old self.new (D.state device.old) (D.state device.new) (Put session key row) result }
-        ensures link { result ≡ Done → IsVersion self.old.numbers.geometry (slot_at self.old.numbers.geometry slot (value_of (D.state device.new)))
+        ensures step { TakesOn self.old self.new (D.state device.old) (D.state device.new) (Put session key row) (done result) }
+        ensures link { done result ≡ Done → IsVersion self.old.numbers.geometry (slot_at self.old.numbers.geometry slot (value_of (D.state device.new)))
             (record { key = key; row = row; previous = head_of (entry_at self.old.index key) }) }
     {
         let place = self.index.place(key);
@@ -89,9 +89,9 @@ impl Sessions {
             Ok(()) => {
                 self.transactions
                     .write(session, row_write(key, row, slot, place));
-                SessionReply::Done
+                Ok(())
             }
-            Err(fault) => SessionReply::Refused(fault),
+            Err(fault) => Err(fault),
         }
     }
 
@@ -104,20 +104,20 @@ impl Sessions {
         key: Key,
         row: Row,
         lines: u16,
-    ) -> SessionReply
+    ) -> Result<(), Fault>
         requires shown { ∥ HoldsSomeOn self.old (D.state device.old) ∥₁ }
         requires ready { IsReady self.old.transactions session key None }
         requires within { (2 ≤ session) × (session < 64) }
         requires row { length row ≤ row_limit self.old.numbers.geometry.version }
         requires lines { HasLinesWith key lines (transaction_at self.old.transactions session) }
-        ensures step { TakesOn self.old self.new (D.state device.old) (D.state device.new) (Put session key row) result }
+        ensures step { TakesOn self.old self.new (D.state device.old) (D.state device.new) (Put session key row) (done result) }
     {
         if !self.slots.has_free() {
-            return SessionReply::Refused(Fault::SlotsOut);
+            return Err(Fault::SlotsOut);
         }
         match self.dirty.promise(session, lines) {
             Ok(()) => self.fill_taken(device, session, key, row),
-            Err(fault) => SessionReply::Refused(fault),
+            Err(fault) => Err(fault),
         }
     }
 
@@ -129,14 +129,14 @@ impl Sessions {
         session: u8,
         key: Key,
         row: Row,
-    ) -> SessionReply
+    ) -> Result<(), Fault>
         requires shown { ∥ HoldsSomeOn self.old (D.state device.old) ∥₁ }
         requires ready { IsReady self.old.transactions session key None }
         requires within { (2 ≤ session) × (session < 64) }
         requires row { length row ≤ row_limit self.old.numbers.geometry.version }
         requires lines { HasLinesWith key (promised_to self.old.dirty session) (transaction_at self.old.transactions session) }
-        ensures step { TakesOn self.old self.new (D.state device.old) (D.state device.new) (Put session key row) result }
-        ensures link { result ≡ Done → (slot : ℕ) × (lowest_free self.old.slots ≡ Some slot)
+        ensures step { TakesOn self.old self.new (D.state device.old) (D.state device.new) (Put session key row) (done result) }
+        ensures link { done result ≡ Done → (slot : ℕ) × (lowest_free self.old.slots ≡ Some slot)
             × IsVersion self.old.numbers.geometry (slot_at self.old.numbers.geometry slot (value_of (D.state device.new)))
             (record { key = key; row = row; previous = head_of (entry_at self.old.index key) }) }
     {
@@ -149,17 +149,17 @@ impl Sessions {
         };
         let slot = match self.slots.take(device, geometry, Actor::session(session)) {
             Ok(slot) => slot,
-            Err(fault) => return SessionReply::Refused(fault),
+            Err(fault) => return Err(fault),
         };
         match fill(device, geometry, slot, &version) {
             Ok(()) => {
                 self.transactions
                     .write(session, row_write(key, row, slot, place));
-                SessionReply::Done
+                Ok(())
             }
             Err(fault) => {
                 self.slots.give(slot);
-                SessionReply::Refused(fault)
+                Err(fault)
             }
         }
     }

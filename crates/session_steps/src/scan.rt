@@ -17,7 +17,6 @@ use base::fault::Fault;
 use base::key::Key;
 use base::row::Row;
 use base::rows::Rows;
-use base::step::SessionReply;
 use index::{KeyRange, listed};
 use pmem::Pmem;
 use snapshot::Snapshot;
@@ -28,29 +27,30 @@ use txn::WriteSet;
 impl Sessions {
     ghost use Rattle.base.specs.declared.step.SessionStep.TheVariants.{Scan};
     ghost use Rattle.session_steps.specs.Shows.{Hidden};
+    ghost use Rattle.session_steps.specs.Replies.{scanned};
     ghost use Rattle.session_steps.specs.Steps.{HoldsOn, HoldsSomeOn, Goes};
 
-    // The rows that the session sees at the keys of the table from lo to hi, both included.
+    /// The rows that the session sees at the keys of the table from lo to hi, both included.
     #[inline(never)]
-    pub(crate) fn scan<D: Pmem>(
+    pub fn scan<D: Pmem>(
         &self,
         device: &D,
         session: u8,
         table: u16,
         lo: u64,
         hi: u64,
-    ) -> SessionReply
+    ) -> Result<Rows, Fault>
         requires shown { ∥ HoldsSomeOn self.now (D.state device.now) ∥₁ }
-        ensures step { (h : Hidden) → HoldsOn self.now h (D.state device.now) → Goes self.now self.now (Scan session table lo hi) result h }
+        ensures step { (h : Hidden) → HoldsOn self.now h (D.state device.now) → Goes self.now self.now (Scan session table lo hi) (scanned result) h }
     {
         let active = match active_in(&self.transactions, session) {
             Ok(active) => active,
-            Err(fault) => return SessionReply::Refused(fault),
+            Err(fault) => return Err(fault),
         };
         let range = KeyRange::Within { table, lo, hi };
         match self.seen_rows(device, active.snapshot, active.writes, range) {
-            Ok(rows) => SessionReply::Rows(Rows::new(rows)),
-            Err(_) => SessionReply::Refused(Fault::OutOfMemory),
+            Ok(rows) => Ok(Rows::new(rows)),
+            Err(_) => Err(Fault::OutOfMemory),
         }
     }
 

@@ -13,7 +13,6 @@ ghost use Rattle.session_steps.specs.Stamping.{IsNextIn};
 use crate::sessions::Sessions;
 use base::fault::Fault;
 use base::geometry::Geometry;
-use base::step::SessionReply;
 use base::{SlotNo, Ts};
 use pmem::Pmem;
 use txn::{DrawnCommit, Transaction, Write};
@@ -34,6 +33,7 @@ impl Sessions {
     ghost use Rattle.txn.specs.Transactions.{transaction_at};
     ghost use Rattle.txn.specs.declared.transaction.Transaction.TheVariants.{Drawn};
     ghost use Rattle.session_steps.specs.Stamping.{IsNextOf, is_unstamped};
+    ghost use Rattle.session_steps.specs.Replies.{stamped};
     ghost use Rattle.session_steps.specs.Steps.{HoldsSomeOn, TakesOn, IsBarred};
 
     // The write that the session of this number stamps next.
@@ -54,28 +54,24 @@ impl Sessions {
         }
     }
 
-    // Stamps one write more of a session's commit.
+    /// Stamps one write more of a session's commit. Whether it was the last.
     #[inline(never)]
-    pub(crate) fn stamp<D: Pmem>(&mut self, device: &mut D, session: u8) -> SessionReply
+    pub fn stamp<D: Pmem>(&mut self, device: &mut D, session: u8) -> Result<bool, Fault>
         requires shown { ∥ HoldsSomeOn self.old (D.state device.old) ∥₁ }
-        ensures step { TakesOn self.old self.new (D.state device.old) (D.state device.new) (Stamp session) result }
+        ensures step { TakesOn self.old self.new (D.state device.old) (D.state device.new) (Stamp session) (stamped result) }
     {
         let next = match self.unstamped(session) {
             Ok(next) => next,
-            Err(fault) => return SessionReply::Refused(fault),
+            Err(fault) => return Err(fault),
         };
         let geometry = self.numbers.geometry;
         let ended = self.index.live(next.write.key, next.write.place);
         match stamp_write(device, geometry, next.write.slot, ended, next.timestamp) {
             Ok(()) => {
                 self.drawn.stamp(next.timestamp);
-                if next.is_last {
-                    SessionReply::Stamped
-                } else {
-                    SessionReply::More
-                }
+                if next.is_last { Ok(true) } else { Ok(false) }
             }
-            Err(fault) => SessionReply::Refused(fault),
+            Err(fault) => Err(fault),
         }
     }
 }

@@ -11,7 +11,7 @@ returns-then-self-slots-clause-stopped g c =
     let new = g.D.Pmem.state c.visit_slot.new.device in
     let place = c.args.self.now.place in
     let within : place < c.args.geometry.slots = omega (arith, c.if-self-slots.true, c.slots.ensures.value) in
-    subst (λ (b : Bool). OnErr c.visit_slot.result (StopsWithin (cond b (slot_operations c.args.geometry c.args.gaps c.args.self.now.swept place (value_of old)) (end_operations c.args.gaps c.args.self.now.swept)) old new))
+    subst (λ (b : Bool). OnErr c.visit_slot.result (StopsWithin (cond b (slot_operations c.args.geometry c.args.gaps.now c.args.self.now.swept place (value_of old)) (end_operations c.args.gaps.now c.args.self.now.swept)) old new))
     (sym (lt-ltb place c.args.geometry.slots within)) c.visit_slot.ensures.stopped
 
 pub returns-else-self-slots-clause-stopped : goal.returns-else-self-slots-clause-stopped
@@ -20,5 +20,5 @@ returns-else-self-slots-clause-stopped g c =
     let new = g.D.Pmem.state c.end_sweep.new.device in
     let place = c.args.self.now.place in
     let past : c.args.geometry.slots ≤ place = omega (arith, c.if-self-slots.false, c.slots.ensures.value) in
-    subst (λ (b : Bool). OnErr c.end_sweep.result (StopsWithin (cond b (slot_operations c.args.geometry c.args.gaps c.args.self.now.swept place (value_of old)) (end_operations c.args.gaps c.args.self.now.swept)) old new))
+    subst (λ (b : Bool). OnErr c.end_sweep.result (StopsWithin (cond b (slot_operations c.args.geometry c.args.gaps.now c.args.self.now.swept place (value_of old)) (end_operations c.args.gaps.now c.args.self.now.swept)) old new))
     (sym (le-ltb place c.args.geometry.slots past)) c.end_sweep.ensures.stopped

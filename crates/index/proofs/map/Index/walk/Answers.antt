@@ -1,7 +1,7 @@
 use Rattle.index.proofs.map.Index.walk.Goals as goal
 
 pub returns-clause-none : goal.returns-clause-none
-returns-clause-none g c = rw c.entry.ensures at c.follow.ensures.none
+returns-clause-none g c = rw c.hinted.ensures at c.follow.ensures.none
 
 pub returns-clause-tables : goal.returns-clause-tables
-returns-clause-tables g c = rw c.entry.ensures at c.follow.ensures.tables
+returns-clause-tables g c = rw c.hinted.ensures at c.follow.ensures.tables

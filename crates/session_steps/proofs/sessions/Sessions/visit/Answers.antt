@@ -24,7 +24,7 @@ returns-in-Ok-Slot-clause-step g c =
     collects-shown c.args.self.now _ (g.D.Pmem.state c.args.device.now) (g.D.Pmem.state c.tick.new.device) _
     (λ h holds. collects-at c.args.self.now h (g.D.Pmem.state c.args.device.now) (g.D.Pmem.state c.tick.new.device) holds (g.met.D.Pmem.orderly _) (g.met.D.Pmem.orderly _) c.in-Ok-Slot.slot (seen_by c.args.self.now.numbers.record) c.tick.new.self c.is_free-was_free.result c.tick.new.slots c.forget_freed.new.index
     refl (sym c.in-Ok-Slot.field-0-is ∙ c.in-Ok-Slot.ensures.visit) c.in-Ok-Slot.ensures.moved c.in-Ok-Slot.ensures.freed
-    (subst (λ (ops : List Operation). Runs ops (g.D.Pmem.state c.args.device.now) (g.D.Pmem.state c.tick.new.device)) (same-operations c.args.self.now.numbers.geometry c.args.gaps c.args.self.now.numbers.record.gaps c.args.self.now.collector.swept c.args.self.now.collector.place (value_of (g.D.Pmem.state c.args.device.now)) c.requires.gaps) c.in-Ok-Slot.ensures.run)
+    (subst (λ (ops : List Operation). Runs ops (g.D.Pmem.state c.args.device.now) (g.D.Pmem.state c.tick.new.device)) (same-operations c.args.self.now.numbers.geometry c.args.gaps.now c.args.self.now.numbers.record.gaps c.args.self.now.collector.swept c.args.self.now.collector.place (value_of (g.D.Pmem.state c.args.device.now)) c.requires.gaps) c.in-Ok-Slot.ensures.run)
     (c.is_free-was_free.ensures ∙ ap (is_free c.args.self.now.slots) c.place.ensures) c.forget_freed.ensures.forgets c.forget_freed.ensures.room)
 
 pub returns-in-Ok-SweepEnd-clause-step : goal.returns-in-Ok-SweepEnd-clause-step
@@ -32,10 +32,10 @@ returns-in-Ok-SweepEnd-clause-step g c =
     collects-shown c.args.self.now _ (g.D.Pmem.state c.args.device.now) (g.D.Pmem.state c.tick.new.device) _
     (λ h holds. collects-end c.args.self.now h (g.D.Pmem.state c.args.device.now) (g.D.Pmem.state c.tick.new.device) holds (g.met.D.Pmem.orderly _) (g.met.D.Pmem.orderly _) c.tick.new.self c.tick.new.slots
     (sym c.in-Ok-SweepEnd.field-0-is ∙ c.in-Ok-SweepEnd.ensures.visit) c.in-Ok-SweepEnd.ensures.moved (all_cover (seen_by c.args.self.now.numbers.record) c.args.self.now.transactions) c.in-Ok-SweepEnd.ensures.freed
-    (subst (λ (ops : List Operation). Runs ops (g.D.Pmem.state c.args.device.now) (g.D.Pmem.state c.tick.new.device)) (same-operations c.args.self.now.numbers.geometry c.args.gaps c.args.self.now.numbers.record.gaps c.args.self.now.collector.swept c.args.self.now.collector.place (value_of (g.D.Pmem.state c.args.device.now)) c.requires.gaps) c.in-Ok-SweepEnd.ensures.run))
+    (subst (λ (ops : List Operation). Runs ops (g.D.Pmem.state c.args.device.now) (g.D.Pmem.state c.tick.new.device)) (same-operations c.args.self.now.numbers.geometry c.args.gaps.now c.args.self.now.numbers.record.gaps c.args.self.now.collector.swept c.args.self.now.collector.place (value_of (g.D.Pmem.state c.args.device.now)) c.requires.gaps) c.in-Ok-SweepEnd.ensures.run))
 
 pub returns-in-Err-clause-step : goal.returns-in-Err-clause-step
 returns-in-Err-clause-step g c =
     collects-shown c.args.self.now _ (g.D.Pmem.state c.args.device.now) (g.D.Pmem.state c.tick.new.device) _
     (λ h holds. rw (c.in-Err.ensures.same, c.in-Err.ensures.kept) (collects-stopped c.args.self.now h (g.D.Pmem.state c.args.device.now) (g.D.Pmem.state c.tick.new.device) holds (g.met.D.Pmem.orderly _) (g.met.D.Pmem.orderly _) c.in-Err.fault c.in-Err.ensures.fault
-    (subst (λ (ops : List Operation). StopsWithin ops (g.D.Pmem.state c.args.device.now) (g.D.Pmem.state c.tick.new.device)) (same-operations c.args.self.now.numbers.geometry c.args.gaps c.args.self.now.numbers.record.gaps c.args.self.now.collector.swept c.args.self.now.collector.place (value_of (g.D.Pmem.state c.args.device.now)) c.requires.gaps) c.in-Err.ensures.stopped)))
+    (subst (λ (ops : List Operation). StopsWithin ops (g.D.Pmem.state c.args.device.now) (g.D.Pmem.state c.tick.new.device)) (same-operations c.args.self.now.numbers.geometry c.args.gaps.now c.args.self.now.numbers.record.gaps c.args.self.now.collector.swept c.args.self.now.collector.place (value_of (g.D.Pmem.state c.args.device.now)) c.requires.gaps) c.in-Err.ensures.stopped)))

@@ -1,0 +1,80 @@
+//! What each call of a session returns, as the reply of its step. A reply has the size of the largest there is, so it is made here,
+//! where it is returned, and not below.
+
+ghost use Rattle.std.specs.Prelude.{◌≡◌};
+ghost use Rattle.base.specs.Steps.{as_reply};
+ghost use Rattle.session_steps.specs.Replies.{began, read, scanned, done, drawn, stamped};
+
+use base::Ts;
+use base::fault::Fault;
+use base::row::Row;
+use base::rows::Rows;
+use base::step::Reply;
+
+// The number of a session that began.
+#[inline(always)]
+pub(crate) fn began(returned: Result<u8, Fault>) -> Reply
+    ensures { result ≡ as_reply (began returned) }
+{
+    match returned {
+        Ok(session) => Reply::Began(session),
+        Err(fault) => Reply::Refused(fault),
+    }
+}
+
+// The row that was read, if there is one.
+#[inline(always)]
+pub(crate) fn read(returned: Result<Option<Row>, Fault>) -> Reply
+    ensures { result ≡ as_reply (read returned) }
+{
+    match returned {
+        Ok(row) => Reply::Row(row),
+        Err(fault) => Reply::Refused(fault),
+    }
+}
+
+// The rows that were read.
+#[inline(always)]
+pub(crate) fn scanned(returned: Result<Rows, Fault>) -> Reply
+    ensures { result ≡ as_reply (scanned returned) }
+{
+    match returned {
+        Ok(rows) => Reply::Rows(rows),
+        Err(fault) => Reply::Refused(fault),
+    }
+}
+
+// That it is done.
+#[inline(always)]
+pub(crate) fn done(returned: Result<(), Fault>) -> Reply
+    ensures { result ≡ as_reply (done returned) }
+{
+    match returned {
+        Ok(()) => Reply::Done,
+        Err(fault) => Reply::Refused(fault),
+    }
+}
+
+// The timestamp that was drawn, and none where nothing was written.
+#[inline(always)]
+pub(crate) fn drawn(returned: Result<Option<Ts>, Fault>) -> Reply
+    ensures { result ≡ as_reply (drawn returned) }
+{
+    match returned {
+        Ok(Some(timestamp)) => Reply::Drawn(timestamp),
+        Ok(None) => Reply::Done,
+        Err(fault) => Reply::Refused(fault),
+    }
+}
+
+// Whether the write that was stamped was the last.
+#[inline(always)]
+pub(crate) fn stamped(returned: Result<bool, Fault>) -> Reply
+    ensures { result ≡ as_reply (stamped returned) }
+{
+    match returned {
+        Ok(true) => Reply::Stamped,
+        Ok(false) => Reply::More,
+        Err(fault) => Reply::Refused(fault),
+    }
+}

@@ -1,0 +1,38 @@
+-- What the calls of a session return, as its replies.
+use Rattle.std.specs.Prelude.{ℕ, Bool, true, false, List, Option, Some, None, Result, Ok, Err, ⊤}
+use Rattle.base.specs.declared.fault.Fault.{Fault}
+use Rattle.base.specs.declared.key.Key.{Key}
+use Rattle.base.specs.declared.step.SessionReply.{SessionReply}
+use Rattle.base.specs.declared.step.SessionReply.TheVariants.{Began, Row, Rows, Done, Drawn, More, Stamped, Refused}
+
+-- the number of a session that began
+abbrev pub began : Result ℕ Fault → SessionReply
+began (Ok number) = Began number
+began (Err fault) = Refused fault
+
+-- the row that was read, if there is one
+abbrev pub read : Result (Option (List ℕ)) Fault → SessionReply
+read (Ok row) = Row row
+read (Err fault) = Refused fault
+
+-- the rows that were read
+abbrev pub scanned : Result (List (Key × List ℕ)) Fault → SessionReply
+scanned (Ok rows) = Rows rows
+scanned (Err fault) = Refused fault
+
+-- that it is done
+abbrev pub done : Result ⊤ Fault → SessionReply
+done (Ok nothing) = Done
+done (Err fault) = Refused fault
+
+-- the timestamp that was drawn, and none where nothing was written
+abbrev pub drawn : Result (Option ℕ) Fault → SessionReply
+drawn (Ok (Some timestamp)) = Drawn timestamp
+drawn (Ok None) = Done
+drawn (Err fault) = Refused fault
+
+-- whether the write that was stamped was the last
+abbrev pub stamped : Result Bool Fault → SessionReply
+stamped (Ok true) = Stamped
+stamped (Ok false) = More
+stamped (Err fault) = Refused fault
