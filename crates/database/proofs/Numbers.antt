@@ -1,5 +1,5 @@
 -- Numbers are those of a state that a run comes to.
-use Rattle.std.proofs.Common.{◌≡◌, inl, inr}
+use Rattle.std.proofs.Common.{inl, inr}
 use Rattle.std.proofs.Math.Logic.{∥∥₁_map}
 use Rattle.machine.specs.Machine.{State, final}
 use Rattle.pmem.specs.Device.{Device}

@@ -162,3 +162,24 @@ lived_from state room now opened Ends r images ends = record {
 pub lived : {D : Type 0} {G : Ghosts D} (state : D → Device) (room : Room D G) (now : Device) (Ends : State → Type 0) → ∥ HasRun state room ∥₁
     → ((q : State) → Shows state room q → LeavesOnly (device_of state room) now (StandsClosing q)) → ((q : State) → Shows state room q → Ends q) → ∥ HasLived now Ends ∥₁
 lived state room now Ends run images ends = ∥∥₁_map run (λ r. lived_from state room now r.0 Ends r.1 images ends)
+
+-- of a room to which nothing was done
+pub run-same : {D : Type 0} {G : Ghosts D} (state : D → Device) (old new : Room D G) → device_of state new ≡ device_of state old → ((q : State) → Shows state old q → Shows state new q)
+    → ∥ HasRun state old ∥₁ → ∥ HasRun state new ∥₁
+run-same state old new is shows some = ∥∥₁_map some (λ has. (
+  has.0,
+  record {
+    first = has.1.first;
+    is_opened = has.1.is_opened;
+    steps = has.1.steps;
+    replies = has.1.replies;
+    leads = λ q first. let a = has.1.leads q first in (
+      a.0,
+      record {
+        run = a.1.run;
+        shows = shows (final q a.0) a.1.shows;
+        images = subst (λ (d : Device). LeavesOnly (device_of state has.1.first) d (StandsAlong q a.0)) (sym is) a.1.images;
+      },
+    );
+  },
+))

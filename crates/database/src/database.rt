@@ -10,6 +10,7 @@ use room::{Room, Status, Usage};
 use std::alloc::Global;
 use std::sync::{Arc, Wait};
 use std::thread::Threads;
+use sync_ahead::SyncAhead;
 
 /// Why a device isn't opened or closed, and the device.
 #[derive(Drop)]
@@ -26,7 +27,7 @@ pub struct Database<D: Pmem + Drop, R: Wait + Drop> {
 }
 
 impl<
-    D: Pmem + Drop + Send + Sync + 'static,
+    D: SyncAhead + Drop + Send + Sync + 'static,
     R: Threads + Wait + Copy + Drop + Send + Sync + 'static,
 > Database<D, R> {
     ghost use Rattle.std.specs.Prelude.{◌≡◌, List, ℕ, None, IfOk, IfErr};
@@ -38,6 +39,8 @@ impl<
 
     /// Opens a device at rest. `NoThread` and want of memory for the threads come before anything is done to it.
     pub fn open(rt: R, alloc: Global, device: D) -> Result<Database<D, R>, Refused<D>>
+    where
+        D::Pending: Send,
         requires at_rest { IsAtRest (D.state device) }
         ensures may_open { IfOk result (λ _. opening_fault (image_of (D.state device)) ≡ None) }
         ensures fault { IfErr result (λ e. IsOpeningRefusal (D.state device) (D.state e.device) e.fault) }
@@ -73,7 +76,7 @@ impl<D: Pmem + Drop, R: Wait + Drop> Drop for Database<D, R> {
     }
 }
 
-impl<D: Pmem + Drop, R: Wait + Drop> Database<D, R> {
+impl<D: SyncAhead + Drop, R: Wait + Drop> Database<D, R> {
     ghost use Rattle.std.specs.Prelude.{◌≡◌, Ok, Err, IfOk, IfErr};
     ghost use Rattle.base.specs.declared.step.Step.TheVariants.{Begin};
     ghost use Rattle.database.specs.Replies.{began_of};

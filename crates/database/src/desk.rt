@@ -26,8 +26,12 @@ pub struct Desk<D: Pmem> {
     pub open: u64,
     /// The commits that are waited for.
     pub group: Group,
-    /// One of those who wait takes the committer's turns.
+    /// Somebody takes the committer's turns for those who wait.
     pub is_led: bool,
+    /// Whoever takes a turn of the committer syncs, without the lock: nobody else makes a tick until it is done.
+    pub is_syncing: bool,
+    /// The committer's worker is to be woken once nobody takes its turns.
+    pub is_wanted: bool,
     /// How many commits were covered since the collector's last round.
     pub covered: u64,
     /// How many ticks in a row were refused for want of memory.
@@ -187,6 +191,8 @@ impl<D: Pmem + Drop> Shared<D> {
                 open: 0,
                 group: Group::new(),
                 is_led: false,
+                is_syncing: false,
+                is_wanted: false,
                 covered: u64::MAX,
                 refusals: 0,
                 ended: None,

@@ -1,14 +1,13 @@
 use crate::desk::{Desk, Shared};
 use crate::error::CommitError;
-use crate::turns;
 use crate::turns::Turn;
 use base::Ts;
 use base::fault::Fault;
-use pmem::Pmem;
 use std::hint::spin_loop;
 use std::sync::atomic::Ordering;
 use std::sync::{MutexGuard, Wait};
 use std::thread;
+use sync_ahead::SyncAhead;
 
 // A leader goes on once so many yields in a row were in vain, and after so many at most.
 const TRIES: u64 = 2;
@@ -18,7 +17,7 @@ const MOST_TRIES: u64 = 1_000;
 // How often it looks after a yield whether somebody has had a turn of the lock.
 const LOOKS: u64 = 1_500;
 
-impl<D: Pmem + Drop> Shared<D> {
+impl<D: SyncAhead + Drop> Shared<D> {
     ghost use Rattle.std.specs.Prelude.{IfOk};
     ghost use Rattle.base.specs.declared.step.Step.TheVariants.{Begin};
     ghost use Rattle.database.specs.Replies.{began_of};
@@ -98,14 +97,15 @@ impl<D: Pmem + Drop> Shared<D> {
         rt: &R,
         desk: MutexGuard<'a, Desk<D>>,
     ) -> MutexGuard<'a, Desk<D>> {
-        let mut desk = desk;
-        let turn = turns::commit(&mut desk);
+        let (mut desk, turn) = self.take_ticks(rt, desk);
         self.tell(rt, &mut desk, turn);
         match turn {
             Turn::Idle => {
                 desk.is_led = false;
+                self.recall(&mut desk);
                 self.moved.wait(rt, desk)
             }
+            Turn::Busy => self.moved.wait(rt, desk),
             Turn::LacksMemory => {
                 drop(desk);
                 thread::yield_now();
@@ -115,13 +115,14 @@ impl<D: Pmem + Drop> Shared<D> {
         }
     }
 
-    // Wakes those who are answered, and leaves the committer with those who aren't.
+    // Wakes those who are answered, and leaves the committer with those who aren't: who came while the group was synced.
     fn end_lead(&self, desk: MutexGuard<'_, Desk<D>>) {
         let mut desk = desk;
         desk.is_led = false;
         if !desk.group.is_empty() {
-            self.commits.notify_all();
+            desk.is_wanted = true;
         }
+        self.recall(&mut desk);
         drop(desk);
         self.answered.notify_all();
     }
@@ -181,6 +182,27 @@ impl<D: Pmem + Drop> Shared<D> {
     fn missing_now(&self) -> u64 {
         let missing = self.missing.load(Ordering::SeqCst);
         missing.saturating_add(self.beginning.load(Ordering::SeqCst))
+    }
+
+    /// A turn of the committer's worker. Those who wait and have nobody to lead them are a group, which it leads. While another leads
+    /// there is none.
+    pub fn take_over<'a, R: Wait>(
+        &'a self,
+        rt: &R,
+        desk: MutexGuard<'a, Desk<D>>,
+    ) -> (MutexGuard<'a, Desk<D>>, Turn) {
+        if desk.is_led {
+            return (desk, Turn::Busy);
+        }
+        if desk.group.is_empty() {
+            return self.take_ticks(rt, desk);
+        }
+        let mut desk = desk;
+        desk.is_led = true;
+        let desk = self.gather(rt, desk);
+        let (mut desk, turn) = self.take_ticks(rt, desk);
+        desk.is_led = false;
+        (desk, turn)
     }
 
     /// Says how many are expected. Those who come later say it again.

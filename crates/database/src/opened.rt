@@ -4,6 +4,7 @@ use base::geometry::Geometry;
 use base::step::{Reply, Step};
 use pmem::Pmem;
 use room::{Room, Status, Usage};
+use sync_ahead::SyncAhead;
 
 /// The room of a device that was opened. It shows the end of a run from that opening: whoever holds the lock leads it on by
 /// steps, and in no other way.
@@ -78,5 +79,17 @@ impl<D: Pmem + Drop> OpenedRoom<D> {
         ensures run { ∥ HasRun D.state result ∥₁ }
     {
         self.room
+    }
+}
+
+impl<D: SyncAhead + Drop> OpenedRoom<D> {
+    /// Hands out the sync that the next tick would wait for, if it can be made ahead of it. It is no step.
+    pub fn begin_sync(&mut self) -> Option<D::Pending> {
+        self.room.begin_sync()
+    }
+
+    /// Takes it back, which is no step either.
+    pub fn end_sync(&mut self, pending: D::Pending) {
+        self.room.end_sync(pending);
     }
 }

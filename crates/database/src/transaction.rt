@@ -13,6 +13,7 @@ use base::row::Row;
 use pmem::Pmem;
 use std::alloc::Global;
 use std::sync::{Arc, Wait};
+use sync_ahead::SyncAhead;
 
 /// Reads and writes of one snapshot. A drop aborts it.
 pub struct Transaction<'a, D: Pmem + Drop, R: Wait> {
@@ -46,7 +47,7 @@ fn give_up<D: Pmem + Drop, R: Wait>(rt: &R, shared: &Shared<D>, session: u8) -> 
     aborted
 }
 
-impl<'a, D: Pmem + Drop, R: Wait> Transaction<'a, D, R> {
+impl<'a, D: SyncAhead + Drop, R: Wait> Transaction<'a, D, R> {
     ghost use Rattle.std.specs.Prelude.{◌≡◌, Ok, Err, IfOk, IfErr, MatchResult};
     ghost use Rattle.base.specs.declared.step.Step.TheVariants.{Get, Scan, Delete, Abort};
     ghost use Rattle.database.specs.Replies.{row_of, rows_of, done_of};

@@ -2,14 +2,18 @@ use crate::desk::{Desk, Shared};
 use base::fault::Fault;
 use base::step::Reply;
 use pmem::Pmem;
-use std::sync::Wait;
+use std::sync::{MutexGuard, Wait};
+use sync_ahead::SyncAhead;
 
 // A turn of the committer takes no more ticks than this, which is more than any cycle has: 62 commits of 32 keys each, in slots of two
 // lines.
 const TICKS: u64 = 8_192;
 
-// A turn of the collector makes no more visits than this, so that sessions get in between.
-const VISITS: u64 = 64;
+// A turn of the collector makes a fourth of a round's visits, and no fewer and no more than these: so a few turns end a round, however
+// many threads ask for the lock, and sessions get in between.
+const LEAST_VISITS: u64 = 64;
+
+const MOST_VISITS: u64 = 1_024;
 
 /// What came of a turn under the lock.
 #[derive(Clone, Copy)]
@@ -20,21 +24,12 @@ pub enum Turn {
     Finished,
     /// There was nothing to do.
     Idle,
+    /// Another takes the committer's turns.
+    Busy,
     /// Memory was refused, which passes.
     LacksMemory,
     /// Something else was refused, which doesn't.
     Stopped,
-}
-
-/// Ticks of the committer, up to the one that covers a batch.
-pub fn commit<D: Pmem + Drop>(desk: &mut Desk<D>) -> Turn {
-    for _ in 0..TICKS {
-        let turn = tick(desk);
-        if !matches!(turn, Turn::Unfinished) {
-            return turn;
-        }
-    }
-    Turn::Unfinished
 }
 
 // A tick of the committer.
@@ -65,7 +60,8 @@ pub fn collect<D: Pmem + Drop>(desk: &mut Desk<D>) -> Turn {
     let Some(room) = &mut desk.room else {
         return Turn::Idle;
     };
-    for _ in 0..VISITS {
+    let visits = (room.geometry().slots() / 4).clamp(LEAST_VISITS, MOST_VISITS);
+    for _ in 0..visits {
         match room.visit() {
             Reply::SweepEnd => {
                 desk.covered = 0;
@@ -98,13 +94,85 @@ impl<D: Pmem + Drop> Shared<D> {
     /// Answers those who wait for their commit, and wakes those whom the turn concerns besides: whoever waits for another's, and the
     /// collector where a round is due. Whoever waits for its own sleeps on.
     pub fn tell<R: Wait>(&self, rt: &R, desk: &mut Desk<D>, turn: Turn) {
-        if matches!(turn, Turn::Unfinished | Turn::Idle) {
+        if matches!(turn, Turn::Unfinished | Turn::Idle | Turn::Busy) {
             return;
         }
         desk.answer_all(&mut self.answers.lock(rt));
         self.moved.notify_all();
         if desk.is_round_due() {
             self.rounds.notify_all();
+        }
+    }
+}
+
+impl<D: SyncAhead + Drop> Shared<D> {
+    /// A turn of the committer: ticks up to the one that covers a batch. What one of them would sync is synced before it, without the
+    /// lock, so that others read, write and stamp meanwhile. What they stamp is of the next batch.
+    pub fn take_ticks<'a, R: Wait>(
+        &'a self,
+        rt: &R,
+        desk: MutexGuard<'a, Desk<D>>,
+    ) -> (MutexGuard<'a, Desk<D>>, Turn) {
+        let mut desk = desk;
+        if desk.is_syncing {
+            return (desk, Turn::Busy);
+        }
+        for _ in 0..TICKS {
+            let turn = tick(&mut desk);
+            if !matches!(turn, Turn::Unfinished) {
+                return (desk, turn);
+            }
+            desk = self.sync_ahead(rt, desk);
+        }
+        self.moved.notify_all();
+        (desk, Turn::Unfinished)
+    }
+
+    // Makes the sync that the next tick would wait for, if there is one.
+    fn sync_ahead<'a, R: Wait>(
+        &'a self,
+        rt: &R,
+        desk: MutexGuard<'a, Desk<D>>,
+    ) -> MutexGuard<'a, Desk<D>> {
+        let mut desk = desk;
+        let Some(mut pending) = desk.begin_sync() else {
+            return desk;
+        };
+        drop(desk);
+        D::sync(&mut pending);
+        let mut desk = self.desk.lock(rt);
+        desk.end_sync(pending);
+        if !desk.is_led {
+            self.recall(&mut desk);
+        }
+        desk
+    }
+
+    /// Wakes the committer's worker, if it is wanted.
+    pub fn recall(&self, desk: &mut Desk<D>) {
+        if desk.is_wanted {
+            desk.is_wanted = false;
+            self.commits.notify_all();
+        }
+    }
+}
+
+impl<D: SyncAhead + Drop> Desk<D> {
+    // Hands out a sync, if the next tick would wait for one.
+    fn begin_sync(&mut self) -> Option<D::Pending> {
+        let Some(room) = &mut self.room else {
+            return None;
+        };
+        let pending = room.begin_sync();
+        self.is_syncing = pending.is_some();
+        pending
+    }
+
+    // Takes it back. The room is there, since a close waits for whoever syncs.
+    fn end_sync(&mut self, pending: D::Pending) {
+        self.is_syncing = false;
+        if let Some(room) = &mut self.room {
+            room.end_sync(pending);
         }
     }
 }

@@ -4,15 +4,14 @@ ghost use Rattle.database.specs.Committing.{TellsRefusal};
 use crate::committing::prepare;
 use crate::desk::{Desk, Shared};
 use crate::error::CommitError;
-use crate::turns;
 use crate::turns::Turn;
 use base::Ts;
 use base::fault::Fault;
-use pmem::Pmem;
 use std::sync::{MutexGuard, Wait};
 use std::thread;
+use sync_ahead::SyncAhead;
 
-impl<D: Pmem + Drop> Shared<D> {
+impl<D: SyncAhead + Drop> Shared<D> {
     ghost use Rattle.std.specs.Prelude.{Ok, IfOk, IfErr};
     ghost use Rattle.database.specs.Committing.{IsPrepared, IsAcknowledged, TellsCommit, TellsRefusal};
 
@@ -105,14 +104,17 @@ impl<D: Pmem + Drop> Shared<D> {
             }
             return self.moved.wait(rt, desk);
         }
-        let turn = turns::commit(&mut desk);
+        let (mut desk, turn) = self.take_ticks(rt, desk);
         self.tell(rt, &mut desk, turn);
-        if matches!(turn, Turn::LacksMemory) {
-            drop(desk);
-            thread::yield_now();
-            return self.desk(rt);
+        match turn {
+            Turn::Busy => self.moved.wait(rt, desk),
+            Turn::LacksMemory => {
+                drop(desk);
+                thread::yield_now();
+                self.desk(rt)
+            }
+            _ => desk,
         }
-        desk
     }
 }
 

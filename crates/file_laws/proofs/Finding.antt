@@ -54,17 +54,17 @@ is-found layout places device later since image same orderly continues gates mig
         subst (λ (l : List ℕ). IsAmong l (slice_index image word)) (sym (continues.past device.clock word (omega arith) ∙ orderly.now word))
         (gates word is (omega (arith, within, continues.same_words)))
 
-module _ {I : Type 0} {H : Ghosts I} where
+module _ {I P : Type 0} {H : Ghosts I P} where
   -- what is known of an image that may be found of the device
-  pub record Found (device : JournaledPmem I H) (since : ℕ) (image : Image) : Type 0 where
+  pub record Found (device : JournaledPmem I P H) (since : ℕ) (image : Image) : Type 0 where
     pub left : ∥ MightHaveLeft (state_of device) since image ∥₁
     pub gates : (word : ℕ) → is_gate device.places word ≡ true → word < (state_of device).words → Survives (state_of device) word (slice_index image word)
 
-  orderly : (device : JournaledPmem I H) → IsOrderly (state_of device)
+  orderly : (device : JournaledPmem I P H) → IsOrderly (state_of device)
   orderly device = orderly_of (state_of device) device.words.items device.shown
 
   -- a room comes from the beginning of the device that it was opened on
-  begins : {G : pmem.Ghosts (JournaledPmem I H)} (room : Room (JournaledPmem I H) G) (since : ℕ) (q : State) → since ≡ 0 → Shows state_of room q → ComesFrom (device_of state_of room) since q
+  begins : {G : pmem.Ghosts (JournaledPmem I P H)} (room : Room (JournaledPmem I P H) G) (since : ℕ) (q : State) → since ≡ 0 → Shows state_of room q → ComesFrom (device_of state_of room) since q
       → RunsSince state_of room room 0 [] [] q []
   begins room since q zero_is shows comes = record {
     shows = shows;
@@ -72,14 +72,14 @@ module _ {I : Type 0} {H : Ghosts I} where
     runs = run-none state_of room q (orderly room.device) shows;
   }
 
-  pub begins-opened : {G : pmem.Ghosts (JournaledPmem I H)} (device : JournaledPmem I H) (room : Room (JournaledPmem I H) G) (history : List Commit) (next : ℕ) (lost : List ℕ) (q : State)
+  pub begins-opened : {G : pmem.Ghosts (JournaledPmem I P H)} (device : JournaledPmem I P H) (room : Room (JournaledPmem I P H) G) (history : List Commit) (next : ℕ) (lost : List ℕ) (q : State)
       → (state_of device).clock ≡ 0 → OpensAs (image_of (state_of device)) history lost q → Shows state_of room q
       → LeavesOnly (state_of device) (device_of state_of room) (StandsOpening (image_of (state_of device)) history next) → RunsSince state_of room room 0 [] [] q []
   begins-opened device room history next lost q zero_is opens shows leaves =
       begins room (state_of device).clock q zero_is shows (comes-opened (state_of device) (device_of state_of room) history next lost q opens leaves)
 
   -- and was formatted before
-  pub begins-formatted : {G : pmem.Ghosts (JournaledPmem I H)} (unformatted device : JournaledPmem I H) (room : Room (JournaledPmem I H) G) (layout : Layout) (history : List Commit) (next : ℕ) (lost : List ℕ) (q : State)
+  pub begins-formatted : {G : pmem.Ghosts (JournaledPmem I P H)} (unformatted device : JournaledPmem I P H) (room : Room (JournaledPmem I P H) G) (layout : Layout) (history : List Commit) (next : ℕ) (lost : List ℕ) (q : State)
       → (state_of unformatted).clock ≡ 0 → ((image : Image) → MayLeave (state_of unformatted) image → is_formatted image ≡ false)
       → LeavesOnly (state_of unformatted) (state_of device) (IsFormatting (state_of unformatted) layout) → image_of (state_of device) ≡ fresh_image layout
       → OpensAs (image_of (state_of device)) history lost q → Shows state_of room q
@@ -90,12 +90,12 @@ module _ {I : Type 0} {H : Ghosts I} where
       (comes-opened (state_of device) (device_of state_of room) history next lost q opens leaves))
 
   -- of what the device becomes it is found at that moment
-  found-of : (device : JournaledPmem I H) (later : Device) (q : State) (since : ℕ) (image : Image) → HasPlaces device q → Continues (state_of device) later → Found device since image
+  found-of : (device : JournaledPmem I P H) (later : Device) (q : State) (since : ℕ) (image : Image) → HasPlaces device q → Continues (state_of device) later → Found device since image
       → ∥ IsFound q.layout later 0 (state_of device).clock image ∥₁
   found-of device later q since image places continues found =
       ∥∥₁_map found.left (λ might. is-found q.layout device.places (state_of device) later since image places (orderly device) continues found.gates might)
 
-  module _ {G : pmem.Ghosts (JournaledPmem I H)} (first next last : Room (JournaledPmem I H) G) (found : JournaledPmem I H) (since : ℕ) (steps : List Step) (replies : List Reply) (q : State) (states : List State) (image : Image) where
+  module _ {G : pmem.Ghosts (JournaledPmem I P H)} (first next last : Room (JournaledPmem I P H) G) (found : JournaledPmem I P H) (since : ℕ) (steps : List Step) (replies : List Reply) (q : State) (states : List State) (image : Image) where
     pub found-between : RunsSince state_of first last 0 steps replies q states → state_of found ≡ device_of state_of last → HasPlaces found (final q states) → Found found since image → ∥ StandsAt (final q states) image ∥₁
     found-between runs same places is =
         ∥∥₁_map (found-of found (state_of found) (final q states) since image places (continues_refl (state_of found)) is) (λ one.
@@ -108,7 +108,7 @@ module _ {I : Type 0} {H : Ghosts I} where
         ∥∥₁_map (found-of found (device_of state_of last) (final q states) since image places after is) (λ here.
         found-within state_of first next last 0 (state_of found).clock steps replies step reply q states q' image runs.shows runs.comes runs.runs one before.later after.later here)
 
-    module _ (device : JournaledPmem I H) (runs : RunsSince state_of first last 0 steps replies q states) (leaves : LeavesOnly (device_of state_of last) (state_of device) (StandsClosing (final q states))) where
+    module _ (device : JournaledPmem I P H) (runs : RunsSince state_of first last 0 steps replies q states) (leaves : LeavesOnly (device_of state_of last) (state_of device) (StandsClosing (final q states))) where
       pub found-in-close : Continues (device_of state_of last) (state_of found) → Continues (state_of found) (state_of device) → HasPlaces found (final q states) → Found found since image → ∥ StandsClosing (final q states) image ∥₁
       found-in-close before after places is =
           ∥∥₁_map (found-of found (state_of device) (final q states) since image places after is) (λ here.

@@ -8,13 +8,13 @@ use Rattle.pmem_file.specs.Traces as trace
 use Rattle.pmem_file.specs.declared.journaled.JournaledPmem.{JournaledPmem}
 
 -- all that was done to it
-abbrev pub state_of : {I : Type 0} → {H : Ghosts I} → JournaledPmem I H → Device
+abbrev pub state_of : {I P : Type 0} → {H : Ghosts I P} → JournaledPmem I P H → Device
 state_of device = trace.device_of device.trace
 
 -- the image may be found, once all has stopped
-abbrev pub MayFind : {I : Type 0} → {H : Ghosts I} → (I → List ℕ → Type 0) → JournaledPmem I H → Image → Type 0
+abbrev pub MayFind : {I P : Type 0} → {H : Ghosts I P} → (I → List ℕ → Type 0) → JournaledPmem I P H → Image → Type 0
 MayFind may_hold device image = may_hold device.images image
 
 -- it has as many places for records as the state's layout
-abbrev pub HasPlaces : {I : Type 0} → {H : Ghosts I} → JournaledPmem I H → State → Type 0
+abbrev pub HasPlaces : {I P : Type 0} → {H : Ghosts I P} → JournaledPmem I P H → State → Type 0
 HasPlaces device q = device.places ≡ q.layout.places

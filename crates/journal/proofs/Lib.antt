@@ -12,3 +12,4 @@ pub mod Changes
 pub mod Appended
 pub mod Placed
 pub mod Settled
+pub mod Within

@@ -13,11 +13,11 @@ use std::alloc::Global;
 use std::io;
 use std::io::ErrorKind;
 
-/// Keeps these words in place of those that are durable, from which they differ in the lines of these numbers alone, as an entry
-/// behind the first `position` words of the journal, and answers where that entry ends. It is one write, and a wait. Where it has
-/// no room the image in place and the journal are written anew before. At each instant, and where a write fails, the file stands
-/// for the durable words or for these.
-pub(crate) fn keep_words<S: Storage>(
+/// Writes these words in place of those that are durable, from which they differ in the lines of these numbers alone, as an entry
+/// behind the first `position` words of the journal, and answers where that entry ends. It is one write: a sync makes them
+/// durable. Where it has no room the image in place and the journal are written anew before. At each instant, and where a write
+/// fails, the file stands for the durable words or for these, and once it is synced for these.
+pub(crate) fn begin_words<S: Storage>(
     alloc: Global,
     storage: &mut S,
     durable: &mut Vec<u64>,
@@ -31,12 +31,12 @@ pub(crate) fn keep_words<S: Storage>(
     requires fits { length durable.old.items + room + 8 < 2 ^ 58 }
     requires known { ∥ Rests (S.may_hold storage.old) (length durable.old.items) room true position durable.old.items ∥₁ }
     ensures either { FoundEither (S.may_hold storage.new) (length durable.old.items) room durable.old.items words.now }
-    ensures rests { IfOk result (λ next. ∥ Rests (S.may_hold storage.new) (length durable.old.items) room true next words.now ∥₁) }
+    ensures rests { IfOk result (λ next. ∥ Rests (S.shows storage.new) (length durable.old.items) room true next words.now ∥₁) }
     ensures durable { OnOk result (durable.new.items ≡ words.now) }
     ensures err { OnErr result (durable.new.items ≡ durable.old.items) }
 {
     let changed = changed_lines(alloc, durable.as_slice(), words, numbers)?;
-    let next = keep_changed(
+    let next = write_changed(
         alloc,
         storage,
         durable.as_slice(),
@@ -94,7 +94,7 @@ fn push_changed(
 }
 
 // The same of lines that make the words of the durable ones.
-fn keep_changed<S: Storage>(
+fn write_changed<S: Storage>(
     alloc: Global,
     storage: &mut S,
     durable: &[u64],
@@ -109,7 +109,7 @@ fn keep_changed<S: Storage>(
     requires changed { AreChanged changed.now durable.now words.now }
     requires known { ∥ Rests (S.may_hold storage.old) (length durable.now) room true position durable.now ∥₁ }
     ensures either { FoundEither (S.may_hold storage.new) (length durable.now) room durable.now words.now }
-    ensures rests { IfOk result (λ next. ∥ Rests (S.may_hold storage.new) (length durable.now) room true next words.now ∥₁) }
+    ensures rests { IfOk result (λ next. ∥ Rests (S.shows storage.new) (length durable.now) room true next words.now ∥₁) }
 {
     if changed.is_empty() {
         return Ok(position);
@@ -142,10 +142,10 @@ fn append<S: Storage>(
     requires changed { AreChanged changed.now durable.now words.now }
     requires known { ∥ Rests (S.may_hold storage.old) (length durable.now) room true position durable.now ∥₁ }
     ensures either { FoundEither (S.may_hold storage.new) (length durable.now) room durable.now words.now }
-    ensures rests { IfOk result (λ next. ∥ Rests (S.may_hold storage.new) (length durable.now) room true next words.now ∥₁) }
+    ensures rests { IfOk result (λ next. ∥ Rests (S.shows storage.new) (length durable.now) room true next words.now ∥₁) }
 {
     let payloads = line_payloads(alloc, changed)?;
     let entry = entry_words(alloc, payloads.as_slice(), true)?;
-    storage.put(durable.len() + position, entry.as_slice())?;
+    storage.write(durable.len() + position, entry.as_slice())?;
     Ok(position + entry.len())
 }

@@ -5,15 +5,42 @@ use std::io;
 
 /// Where images are kept, each as a whole.
 pub trait Images {
+    /// A sync of the image that was begun, which is made where the images aren't at hand.
+    type Pending: Drop;
+
     /// This image may be found, once the process or the machine has stopped.
     ghost may_hold: { Self → List ℕ → Type 0 };
 
-    /// Keeps the image, which differs from each that may be found in the lines of these numbers alone, and waits until it
-    /// persists. Meanwhile, and where it fails, the one before or this one may be found; once it succeeded, this one.
-    fn keep(&mut self, words: &Vec<u64>, lines: &[usize]) -> io::Result<()>
-        requires differs { (image : List ℕ) → may_hold self.old image → DiffersIn lines.now words.now.items image }
+    /// This image was written last: it is found, once `finish` has succeeded.
+    ghost shows: { Self → List ℕ → Type 0 };
+
+    /// Writes the image, which differs from the one that was written last in the lines of these numbers alone, and doesn't wait
+    /// until it persists. From then on, also where it fails, one that might be found before or this one may be found.
+    fn begin(&mut self, words: &Vec<u64>, lines: &[usize]) -> io::Result<()>
+        requires differs { (image : List ℕ) → shows self.old image → DiffersIn lines.now words.now.items image }
         ensures whole { (image : List ℕ) → may_hold self.new image → may_hold self.old image ⊎ (image ≡ words.now.items) }
-        ensures kept { OnOk result ((image : List ℕ) → may_hold self.new image → image ≡ words.now.items) };
+        ensures begun { OnOk result ((image : List ℕ) → shows self.new image → image ≡ words.now.items) };
+
+    /// Waits until the image persists that was written last. Once it succeeded no other is found.
+    fn finish(&mut self) -> io::Result<()>
+        ensures whole { (image : List ℕ) → may_hold self.new image → may_hold self.old image }
+        ensures kept { OnOk result ((image : List ℕ) → may_hold self.new image → shows self.old image) };
+
+    /// Hands out a sync that another thread may make before `finish`, if there is one: `finish` takes no time then, once it was
+    /// taken back. It changes no image, and until then nothing is written and `finish` doesn't succeed.
+    fn hand_out(&mut self) -> Option<Self::Pending>
+        ensures found { (image : List ℕ) → may_hold self.new image → may_hold self.old image }
+        ensures shown { (image : List ℕ) → shows self.new image → shows self.old image };
+
+    /// Makes a sync that was handed out, and waits until it ends.
+    fn sync_apart(pending: &mut Self::Pending);
+
+    /// Takes back what was handed out, with what came of it. It changes no image.
+    fn take_back(&mut self, pending: Self::Pending)
+        ensures found { (image : List ℕ) → may_hold self.new image → may_hold self.old image }
+        ensures shown { (image : List ℕ) → shows self.new image → shows self.old image };
+
+    ghost shown_is_found: { (images : Self) (image : List ℕ) → shows images image → may_hold images image };
 }
 
 /// Keeps nothing: the words are gone with the process.
@@ -21,12 +48,34 @@ pub trait Images {
 pub struct Nowhere;
 
 impl Images for Nowhere {
+    type Pending = ();
+
     // Nothing is claimed of what is found.
     ghost may_hold = { λ _ _. ⊥ };
 
-    fn keep(&mut self, words: &Vec<u64>, lines: &[usize]) -> io::Result<()> {
+    ghost shows = { λ _ _. ⊥ };
+
+    ghost shown_is_found = { λ _ _ shown. shown };
+
+    fn begin(&mut self, words: &Vec<u64>, lines: &[usize]) -> io::Result<()> {
         let _ = words;
         let _ = lines;
         Ok(())
+    }
+
+    fn finish(&mut self) -> io::Result<()> {
+        Ok(())
+    }
+
+    fn hand_out(&mut self) -> Option<()> {
+        None
+    }
+
+    fn sync_apart(pending: &mut ()) {
+        let _ = pending;
+    }
+
+    fn take_back(&mut self, pending: ()) {
+        let _ = pending;
     }
 }

@@ -1,9 +1,10 @@
-ghost use Rattle.std.specs.Prelude.{◌≡◌, ℕ, List, ◌+◌, ◌%◌, ◌<◌, ◌^◌, true, false, length, IfOk};
+ghost use Rattle.std.specs.Prelude.{◌≡◌, ℕ, List, ◌+◌, ◌%◌, ◌<◌, ◌^◌, true, false, length, IfOk, OnOk};
+ghost use Rattle.std.proofs.Common.{inl};
 ghost use Rattle.journal.specs.Kept.{HoldsOnly};
 ghost use Rattle.journal.specs.Files.{MayBe, Opens};
 ghost use Rattle.journal.specs.States.{IsOff, Rests};
 
-use crate::appending::keep_words;
+use crate::appending::begin_words;
 use crate::file_image::image_in;
 use crate::images::Images;
 use crate::rewriting::{rewrite, settle};
@@ -19,19 +20,23 @@ pub struct JournaledImages<S: Storage> {
     alloc: Global,
     storage: S,
 
-    // The image that was kept last.
-    durable: Vec<u64>,
+    // The image that was written last.
+    written: Vec<u64>,
 
     // So many words the journal has, and so many of them are entries.
     room: usize,
     position: usize,
 
-    // A write failed, and which image is found isn't known any more: none is kept.
+    // It isn't synced.
+    is_begun: bool,
+
+    // A write or a sync failed, and which image is found isn't known any more: none is kept.
     failed: bool,
     failure: Option<io::Error>,
-    ghost whole: { length durable.items % 8 ≡ 0 },
-    ghost fits: { length durable.items + room + 8 < 2 ^ 58 },
-    ghost rests: { failed ≡ false → ∥ Rests (S.may_hold storage) (length durable.items) room true position durable.items ∥₁ },
+    ghost whole: { length written.items % 8 ≡ 0 },
+    ghost fits: { length written.items + room + 8 < 2 ^ 58 },
+    ghost rests: { failed ≡ false → is_begun ≡ false → ∥ Rests (S.may_hold storage) (length written.items) room true position written.items ∥₁ },
+    ghost begun: { failed ≡ false → is_begun ≡ true → ∥ Rests (S.shows storage) (length written.items) room true position written.items ∥₁ },
 }
 
 /// Why a file isn't opened, and the file.
@@ -55,8 +60,8 @@ impl<S: Storage> JournaledImages<S> {
     where
         S: Drop,
         requires holds { HoldsOnly (S.may_hold storage) (length file.now) file.now }
-        ensures stands { IfOk result (λ images. Opens words room file.now images.durable.items) }
-        ensures found { IfOk result (λ images. (image : List ℕ) → MayBe (S.may_hold images.storage) images.room images.durable.items image → image ≡ images.durable.items) }
+        ensures stands { IfOk result (λ images. Opens words room file.now images.written.items) }
+        ensures found { IfOk result (λ images. (image : List ℕ) → MayBe (S.may_hold images.storage) images.room images.written.items image → image ≡ images.written.items) }
     {
         let durable = match image_in(alloc, file, words, room) {
             Ok(durable) => durable,
@@ -68,9 +73,10 @@ impl<S: Storage> JournaledImages<S> {
             Ok(()) => Ok(JournaledImages {
                 alloc,
                 storage,
-                durable,
+                written: durable,
                 room,
                 position: 0,
+                is_begun: false,
                 failed: false,
                 failure: None,
             }),
@@ -78,11 +84,11 @@ impl<S: Storage> JournaledImages<S> {
         }
     }
 
-    /// The image that was kept last.
+    /// The image that was written last.
     pub fn image(&self) -> &[u64]
-        ensures { result.now ≡ self.now.durable.items }
+        ensures { result.now ≡ self.now.written.items }
     {
-        self.durable.as_slice()
+        self.written.as_slice()
     }
 
     /// Why an image wasn't kept, if one wasn't. None is kept since then.
@@ -99,41 +105,38 @@ impl<S: Storage> JournaledImages<S> {
         self.storage
     }
 
-    /// Brings the image in place, and hands out where it is kept: the file's first words alone are the image then. Fails where a keep
-    /// failed.
+    /// Brings the image in place, and hands out where it is kept: the file's first words alone are the image then. Fails where an
+    /// image isn't kept.
     pub fn close(self) -> io::Result<S>
     where
         S: Drop,
-        ensures { IfOk result (λ storage. ∥ IsOff (S.may_hold storage) (length self.durable.items) self.room self.durable.items ∥₁) }
+        ensures { IfOk result (λ storage. ∥ IsOff (S.may_hold storage) (length self.written.items) self.room self.written.items ∥₁) }
+    {
+        if self.failed || self.is_begun {
+            return Err(io::Error::from(ErrorKind::InvalidData));
+        }
+        let mut storage = self.storage;
+        settle(&mut storage, self.written.as_slice(), self.room, true)?;
+        Ok(storage)
+    }
+
+    // Waits until the image persists that was written last, if it doesn't yet.
+    fn complete(&mut self) -> io::Result<()>
+        ensures found { (word x : ℕ) → S.may_hold self.new.storage word x → S.may_hold self.old.storage word x }
+        ensures written { self.new.written.items ≡ self.old.written.items }
+        ensures room { self.new.room ≡ self.old.room }
+        ensures works { OnOk result (self.new.failed ≡ false) }
+        ensures done { OnOk result (self.new.is_begun ≡ false) }
     {
         if self.failed {
             return Err(io::Error::from(ErrorKind::InvalidData));
         }
-        let mut storage = self.storage;
-        settle(&mut storage, self.durable.as_slice(), self.room, true)?;
-        Ok(storage)
-    }
-}
-
-impl<S: Storage> Images for JournaledImages<S> {
-    // The image that was kept last, or one that a file stands for whose words may be found.
-    ghost may_hold = { λ images image. MayBe (S.may_hold images.storage) images.room images.durable.items image };
-
-    fn keep(&mut self, words: &Vec<u64>, lines: &[usize]) -> io::Result<()> {
-        if self.failed {
-            return Err(io::Error::from(ErrorKind::InvalidData));
+        if !self.is_begun {
+            return Ok(());
         }
-        match keep_words(
-            self.alloc,
-            &mut self.storage,
-            &mut self.durable,
-            words.as_slice(),
-            lines,
-            self.room,
-            self.position,
-        ) {
-            Ok(next) => {
-                self.position = next;
+        match self.storage.sync() {
+            Ok(()) => {
+                self.is_begun = false;
                 Ok(())
             }
             Err(error) => {
@@ -142,5 +145,56 @@ impl<S: Storage> Images for JournaledImages<S> {
                 Err(error)
             }
         }
+    }
+}
+
+impl<S: Storage> Images for JournaledImages<S> {
+    type Pending = S::Pending;
+
+    // The image that was written last, or one that a file stands for whose words may be found.
+    ghost may_hold = { λ images image. MayBe (S.may_hold images.storage) images.room images.written.items image };
+
+    ghost shows = { λ images image. image ≡ images.written.items };
+
+    ghost shown_is_found = { λ images image shown. inl shown };
+
+    fn begin(&mut self, words: &Vec<u64>, lines: &[usize]) -> io::Result<()> {
+        self.complete()?;
+        match begin_words(
+            self.alloc,
+            &mut self.storage,
+            &mut self.written,
+            words.as_slice(),
+            lines,
+            self.room,
+            self.position,
+        ) {
+            Ok(next) => {
+                self.position = next;
+                self.is_begun = true;
+                Ok(())
+            }
+            Err(error) => {
+                self.failed = true;
+                self.failure = Some(error);
+                Err(error)
+            }
+        }
+    }
+
+    fn finish(&mut self) -> io::Result<()> {
+        self.complete()
+    }
+
+    fn hand_out(&mut self) -> Option<S::Pending> {
+        self.storage.hand_out()
+    }
+
+    fn sync_apart(pending: &mut S::Pending) {
+        S::sync_apart(pending);
+    }
+
+    fn take_back(&mut self, pending: S::Pending) {
+        self.storage.take_back(pending);
     }
 }

@@ -2,7 +2,7 @@ ghost use Rattle.std.specs.Prelude.{◌≡◌, ◌⊎◌, ℕ, ◌+◌, ◌<◌,
 ghost use Rattle.journal.specs.Files.{tail_of, FoundOpens};
 ghost use Rattle.journal.specs.States.{Knows, IsInPlace, IsOff, IsClear, Rests};
 
-use crate::storage::Storage;
+use crate::storage::{Storage, put};
 use std::alloc::Global;
 use std::io;
 
@@ -58,7 +58,7 @@ fn put_in_place<S: Storage>(
     ensures opens { FoundOpens (S.may_hold storage.new) (length image.now) room image.now }
     ensures done { OnOk result (∥ IsInPlace (S.may_hold storage.new) (length image.now) room pass image.now ∥₁) }
 {
-    storage.put(0, image)
+    put(storage, 0, image)
 }
 
 // From now on the journal doesn't count.
@@ -69,7 +69,7 @@ fn turn_off<S: Storage>(storage: &mut S, image: &[u64], room: usize, pass: bool)
     ensures done { OnOk result (∥ IsOff (S.may_hold storage.new) (length image.now) room image.now ∥₁) }
 {
     let words = image.len();
-    storage.put(words + room, &tail(0, words, room, pass))
+    put(storage, words + room, &tail(0, words, room, pass))
 }
 
 // Leaves nothing in it.
@@ -82,7 +82,7 @@ fn clear<S: Storage>(alloc: Global, storage: &mut S, image: &[u64], room: usize)
     let words = image.len();
     let mut rest = Vec::from_elem(alloc, 0, room)?;
     rest.extend_from_slice(&tail(0, words, room, true))?;
-    storage.put(words, rest.as_slice())
+    put(storage, words, rest.as_slice())
 }
 
 // From now on the journal counts.
@@ -93,7 +93,7 @@ fn turn_on<S: Storage>(storage: &mut S, image: &[u64], room: usize) -> io::Resul
     ensures done { OnOk result (∥ Rests (S.may_hold storage.new) (length image.now) room true 0 image.now ∥₁) }
 {
     let words = image.len();
-    storage.put(words + room, &tail(MAGIC, words, room, true))
+    put(storage, words + room, &tail(MAGIC, words, room, true))
 }
 
 // The tail's words.

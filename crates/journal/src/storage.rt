@@ -5,12 +5,50 @@ use std::io;
 
 /// Where words are kept, numbered from 0 on.
 pub trait Storage {
+    /// A sync of what was written, which is made where the storage isn't at hand.
+    type Pending: Drop;
+
     /// A word may be found with this value, once the process or the machine has stopped.
     ghost may_hold: { Self → ℕ → ℕ → Type 0 };
 
-    /// Puts these words, the first as this one, and waits until they persist. Meanwhile, and where it fails, each of them may be
-    /// found as it was or as it was to be; once it succeeded, as it was to be.
-    fn put(&mut self, start: usize, words: &[u64]) -> io::Result<()>
-        ensures puts { (word x : ℕ) → may_hold self.new word x → may_hold self.old word x ⊎ IsInRun start words.now word x }
-        ensures kept { OnOk result ((word x : ℕ) → start ≤ word → word < start + length words.now → may_hold self.new word x → x ≡ slice_index words.now (word - start)) };
+    /// A word has this value by what was written last: it is found so, once a sync has succeeded.
+    ghost shows: { Self → ℕ → ℕ → Type 0 };
+
+    /// Writes these words, the first as this one. From then on, also where it fails, each of them may be found as it was or as it
+    /// was to be, until a sync succeeds.
+    fn write(&mut self, start: usize, words: &[u64]) -> io::Result<()>
+        ensures found { (word x : ℕ) → may_hold self.new word x → may_hold self.old word x ⊎ IsInRun start words.now word x }
+        ensures others { (word x : ℕ) → shows self.new word x → shows self.old word x ⊎ IsInRun start words.now word x }
+        ensures written { OnOk result ((word x : ℕ) → start ≤ word → word < start + length words.now → shows self.new word x → x ≡ slice_index words.now (word - start)) };
+
+    /// Waits until what was written persists. Once it succeeded, each word is found as it was written last.
+    fn sync(&mut self) -> io::Result<()>
+        ensures found { (word x : ℕ) → may_hold self.new word x → may_hold self.old word x }
+        ensures synced { OnOk result ((word x : ℕ) → may_hold self.new word x → shows self.old word x) };
+
+    /// Hands out a sync that another thread may make meanwhile, if it has one: the next one here takes no time then. It changes no
+    /// word, and until it is taken back nothing is written and no sync succeeds here.
+    fn hand_out(&mut self) -> Option<Self::Pending>
+        ensures found { (word x : ℕ) → may_hold self.new word x → may_hold self.old word x }
+        ensures shown { (word x : ℕ) → shows self.new word x → shows self.old word x };
+
+    /// Makes a sync that was handed out, and waits until it ends.
+    fn sync_apart(pending: &mut Self::Pending);
+
+    /// Takes back what was handed out, with what came of it. It changes no word.
+    fn take_back(&mut self, pending: Self::Pending)
+        ensures found { (word x : ℕ) → may_hold self.new word x → may_hold self.old word x }
+        ensures shown { (word x : ℕ) → shows self.new word x → shows self.old word x };
+
+    ghost shown_is_found: { (storage : Self) (word x : ℕ) → shows storage word x → may_hold storage word x };
+}
+
+/// Writes these words, and waits until they persist. Meanwhile, and where it fails, each of them may be found as it was or as it
+/// was to be; once it succeeded, as it was to be.
+pub(crate) fn put<S: Storage>(storage: &mut S, start: usize, words: &[u64]) -> io::Result<()>
+    ensures puts { (word x : ℕ) → S.may_hold storage.new word x → S.may_hold storage.old word x ⊎ IsInRun start words.now word x }
+    ensures kept { OnOk result ((word x : ℕ) → start ≤ word → word < start + length words.now → S.may_hold storage.new word x → x ≡ slice_index words.now (word - start)) }
+{
+    storage.write(start, words)?;
+    storage.sync()
 }

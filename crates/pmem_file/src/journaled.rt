@@ -16,7 +16,9 @@ use journal::{Images, JournaledImages, Storage, Unopened};
 use pmem::Pmem;
 use std::alloc::Global;
 use std::io;
+use std::mem::swap;
 use std::snapshot::Snapshot;
+use sync_ahead::SyncAhead;
 
 /// A device whose fences order, and whose image is kept at those that make a gate durable.
 #[derive(Drop)]
@@ -27,7 +29,7 @@ pub struct JournaledPmem<I: Images> {
     // committer flushes a line once in a cycle, and all others fence each line at once.
     flushed: Vec<Flushed>,
 
-    // The lines of which words were stored since the image was kept, by rising number. There is room for each from the opening on.
+    // The lines of which words were stored since an image was written, by rising number. There is room for each from the opening on.
     changed: Vec<usize>,
 
     // At which place of that list the line was that a word was stored to last.
@@ -40,17 +42,25 @@ pub struct JournaledPmem<I: Images> {
     // A gate was stored since the image was kept.
     is_gate_stored: bool,
 
+    // And since one was written, which may not be synced.
+    is_gate_unwritten: bool,
+
     // The image wasn't kept: no further fence succeeds.
     failed: bool,
     trace: Trace,
 
     // What was done up to the last image that was kept.
     kept: Snapshot<Trace>,
+
+    // What was done up to the last image that was written, while it isn't kept.
+    written: Snapshot<Trace>,
     ghost shown: { IsShown (device_of trace) words.items },
     ghost mirrored: { IsMirrored (device_of trace) words.items flushed.items (HoldsGate places (I.may_hold images)) },
     ghost since: { IsSince (device_of trace) (device_of kept.value).clock (I.may_hold images) },
     ghost gates: { is_gate_stored ≡ false → HoldsOnly (HoldsGate places (I.may_hold images)) (length words.items) words.items },
-    ghost changes: { failed ≡ false → (image : List ℕ) → I.may_hold images image → DiffersIn changed.items words.items image },
+    ghost since_written: { failed ≡ false → IsSince (device_of trace) (device_of written.value).clock (I.shows images) },
+    ghost gates_written: { failed ≡ false → is_gate_unwritten ≡ false → HoldsOnly (HoldsGate places (I.shows images)) (length words.items) words.items },
+    ghost changes: { failed ≡ false → (image : List ℕ) → I.shows images image → DiffersIn changed.items words.items image },
 }
 
 impl<I: Images> JournaledPmem<I> {
@@ -79,6 +89,7 @@ impl<I: Images> JournaledPmem<I> {
         };
         let trace = Trace::begun(&words);
         let kept = Snapshot::of(&trace);
+        let written = Snapshot::of(&trace);
         Ok(JournaledPmem {
             words,
             flushed,
@@ -87,9 +98,11 @@ impl<I: Images> JournaledPmem<I> {
             images,
             places,
             is_gate_stored: false,
+            is_gate_unwritten: false,
             failed: false,
             trace,
             kept,
+            written,
         })
     }
 
@@ -133,25 +146,71 @@ impl<I: Images> JournaledPmem<I> {
         forget(&mut self.flushed, actor);
     }
 
-    // A fence that keeps the image.
+    // A fence that makes a gate durable: the image is kept before it.
     fn persist(&mut self, actor: u8) -> Result<(), Fault>
         requires { self.old.failed ≡ false }
         ensures ok { OnOk result (device_of self.new.trace ≡ fenced actor (device_of self.old.trace)) }
         ensures err { OnErr result (device_of self.new.trace ≡ failed (device_of self.old.trace)) }
         ensures fault { IfErr result (λ fault. fault ≡ Fault.Device) }
     {
-        match self.images.keep(&self.words, self.changed.as_slice()) {
+        match self.keep() {
             Ok(()) => {
-                self.changed.clear();
-                self.trace.note(Operation::Fence { actor });
-                self.kept = Snapshot::of(&self.trace);
-                self.is_gate_stored = false;
-                forget(&mut self.flushed, actor);
+                self.order(actor);
                 Ok(())
             }
-            Err(_) => {
+            Err(_) => Err(self.refuse()),
+        }
+    }
+
+    // Keeps an image with the gates as they are now: the one that is written, where it has them.
+    fn keep(&mut self) -> io::Result<()>
+        requires { self.old.failed ≡ false }
+        ensures trace { self.new.trace ≡ self.old.trace }
+        ensures kept { OnOk result (self.new.is_gate_stored ≡ false) }
+    {
+        if !self.is_gate_unwritten {
+            return self.finish();
+        }
+        self.write()?;
+        self.finish()
+    }
+
+    // Writes the image as it is now, and doesn't wait until it persists.
+    fn write(&mut self) -> io::Result<()>
+        requires { self.old.failed ≡ false }
+        ensures trace { self.new.trace ≡ self.old.trace }
+        ensures written { OnOk result (self.new.is_gate_unwritten ≡ false) }
+        ensures works { OnOk result (self.new.failed ≡ false) }
+    {
+        match self.images.begin(&self.words, self.changed.as_slice()) {
+            Ok(()) => {
+                self.changed.clear();
+                self.written = Snapshot::of(&self.trace);
+                self.is_gate_unwritten = false;
+                Ok(())
+            }
+            Err(error) => {
                 self.failed = true;
-                Err(self.refuse())
+                Err(error)
+            }
+        }
+    }
+
+    // Waits until the image persists that was written last.
+    fn finish(&mut self) -> io::Result<()>
+        requires { self.old.failed ≡ false }
+        ensures trace { self.new.trace ≡ self.old.trace }
+        ensures kept { OnOk result (self.new.is_gate_stored ≡ self.old.is_gate_unwritten) }
+    {
+        match self.images.finish() {
+            Ok(()) => {
+                swap(&mut self.kept, &mut self.written);
+                self.is_gate_stored = self.is_gate_unwritten;
+                Ok(())
+            }
+            Err(error) => {
+                self.failed = true;
+                Err(error)
             }
         }
     }
@@ -206,7 +265,7 @@ impl<S: Storage> JournaledPmem<JournaledImages<S>> {
     pub fn into_storage(self) -> io::Result<S>
     where
         S: Drop,
-        ensures { IfOk result (λ storage. ∥ IsOff (S.may_hold storage) (length self.images.durable.items) self.images.room self.images.durable.items ∥₁) }
+        ensures { IfOk result (λ storage. ∥ IsOff (S.may_hold storage) (length self.images.written.items) self.images.room self.images.written.items ∥₁) }
     {
         self.images.close()
     }
@@ -276,6 +335,7 @@ impl<I: Images> Pmem for JournaledPmem<I> {
                 self.last = place;
                 self.words[word] = value;
                 self.is_gate_stored = is_stored(self.is_gate_stored, self.places, word);
+                self.is_gate_unwritten = is_stored(self.is_gate_unwritten, self.places, word);
                 self.trace.note(Operation::Store { word, value });
                 Ok(())
             }
@@ -305,5 +365,28 @@ impl<I: Images> Pmem for JournaledPmem<I> {
         }
         self.order(actor);
         Ok(())
+    }
+}
+
+impl<I: Images> SyncAhead for JournaledPmem<I> {
+    type Pending = I::Pending;
+
+    // Where the fence would make a gate durable the image is written here. Where that fails, so does the fence.
+    fn begin_sync(&mut self, actor: Actor) -> Option<I::Pending> {
+        if self.failed || !self.is_gate_unwritten || !self.makes_a_gate_durable(actor.number) {
+            return None;
+        }
+        match self.write() {
+            Ok(()) => self.images.hand_out(),
+            Err(_) => None,
+        }
+    }
+
+    fn sync(pending: &mut I::Pending) {
+        I::sync_apart(pending);
+    }
+
+    fn end_sync(&mut self, pending: I::Pending) {
+        self.images.take_back(pending);
     }
 }

@@ -11,18 +11,19 @@ use std::alloc::Global;
 use std::io;
 use std::io::ErrorKind;
 
-/// Words in memory, which say what they hold. Puts can be made to fail, and to be torn then.
+/// Words in memory, which say what they hold: what is written is found at once. Writes and syncs can be made to fail, and writes to
+/// be torn then.
 #[derive(Drop)]
 pub struct MemoryStorage {
     words: Vec<u64>,
 
-    // How many puts succeed until each further one fails.
+    // How many writes and syncs succeed until each further one fails.
     left: Option<usize>,
     torn: Part,
 }
 
 impl MemoryStorage {
-    /// These words, of which no put fails.
+    /// These words, of which no write fails.
     pub fn new(words: Vec<u64>) -> MemoryStorage
         ensures { stored_in result ≡ words.items }
     {
@@ -33,13 +34,14 @@ impl MemoryStorage {
         }
     }
 
-    /// The same, with so many puts until each further one fails. Of each eight words of one that fails this part is written.
-    pub fn failing_after(self, puts: usize, torn: Part) -> MemoryStorage
+    /// The same, with so many writes and syncs until each further one fails. Of each eight words of a write that fails this part is
+    /// written.
+    pub fn failing_after(self, calls: usize, torn: Part) -> MemoryStorage
         ensures { stored_in result ≡ stored_in self }
     {
         MemoryStorage {
             words: self.words,
-            left: Some(puts),
+            left: Some(calls),
             torn,
         }
     }
@@ -51,6 +53,20 @@ impl MemoryStorage {
         ensures only { HoldsOnly (IsStored self) (length result.items) result.items }
     {
         self.words
+    }
+
+    // Whether a write or a sync succeeds, of which one less does so from now on.
+    fn take_call(&mut self) -> bool
+        ensures { stored_in self.new ≡ stored_in self.old }
+    {
+        match self.left {
+            None => true,
+            Some(0) => false,
+            Some(left) => {
+                self.left = Some(left - 1);
+                true
+            }
+        }
     }
 }
 
@@ -82,21 +98,43 @@ impl JournaledPmem<JournaledImages<MemoryStorage>> {
 }
 
 impl Storage for MemoryStorage {
+    // There is nothing to wait for.
+    type Pending = ();
+
     ghost may_hold = { IsStored };
 
-    fn put(&mut self, start: usize, words: &[u64]) -> io::Result<()> {
-        match self.left {
-            None => {}
-            Some(0) => {
-                let _ = write_words(&mut self.words, start, words, self.torn);
-                return Err(io::Error::from(ErrorKind::StorageFull));
-            }
-            Some(left) => self.left = Some(left - 1),
+    ghost shows = { IsStored };
+
+    ghost shown_is_found = { λ _ _ _ shown. shown };
+
+    fn write(&mut self, start: usize, words: &[u64]) -> io::Result<()> {
+        if !self.take_call() {
+            let _ = write_words(&mut self.words, start, words, self.torn);
+            return Err(io::Error::from(ErrorKind::StorageFull));
         }
         match write_words(&mut self.words, start, words, Part::All) {
             Some(()) => Ok(()),
             None => Err(io::Error::from(ErrorKind::InvalidInput)),
         }
+    }
+
+    fn sync(&mut self) -> io::Result<()> {
+        if self.take_call() {
+            return Ok(());
+        }
+        Err(io::Error::from(ErrorKind::StorageFull))
+    }
+
+    fn hand_out(&mut self) -> Option<()> {
+        Some(())
+    }
+
+    fn sync_apart(pending: &mut ()) {
+        let _ = pending;
+    }
+
+    fn take_back(&mut self, pending: ()) {
+        let _ = pending;
     }
 }
 

@@ -1,8 +1,9 @@
 use byteorder::{ByteOrder, LittleEndian};
 use journal::Storage;
-use std::alloc::{AllocError, Global};
+use std::alloc::Global;
 use std::fs::File;
 use std::io;
+use std::os::fd::AsRawFd;
 use std::os::unix::fs::FileExt;
 
 // The words that one write takes. A put of fewer is one write.
@@ -20,16 +21,43 @@ pub struct FileStorage {
 
     // The bytes of a write.
     bytes: Vec<u8>,
+    apart: Apart,
+
+    // The same open file, for a sync that is made apart, while none is.
+    other: Option<File>,
+}
+
+// A sync that is made apart, of all that was written up to now.
+#[derive(Clone, Copy)]
+enum Apart {
+    /// None is.
+    None,
+    /// It is handed out, by the descriptor of this number. The system tells of a failed write once: so no other sync may answer
+    /// meanwhile.
+    Out(i32),
+    /// It was taken back, and this came of it.
+    Ended(io::Result<()>),
+}
+
+/// A sync of a file's data, which any thread may make.
+#[derive(Drop)]
+pub struct FileSync {
+    file: File,
+
+    // What came of it, once it was made.
+    ended: Option<io::Result<()>>,
 }
 
 impl FileStorage {
-    pub(crate) fn new(
-        alloc: Global,
-        file: File,
-        held: Vec<File>,
-    ) -> Result<FileStorage, AllocError> {
+    pub(crate) fn new(alloc: Global, file: File, held: Vec<File>) -> io::Result<FileStorage> {
         let bytes = Vec::from_elem(alloc, 0, MOST_WORDS * WORD_BYTES)?;
-        Ok(FileStorage { file, held, bytes })
+        Ok(FileStorage {
+            other: Some(file.try_clone()?),
+            file,
+            held,
+            bytes,
+            apart: Apart::None,
+        })
     }
 
     /// Makes it so many words long, with zeros behind those that it has. Where these have no place on the disk it stays as long
@@ -65,7 +93,7 @@ impl FileStorage {
         self.file.sync_all()
     }
 
-    fn write(&mut self, start: usize, words: &[u64]) -> io::Result<()> {
+    fn write_words(&mut self, start: usize, words: &[u64]) -> io::Result<()> {
         let mut at = byte_of(start)?;
         for part in words.chunks(MOST_WORDS) {
             let size = part.len() * WORD_BYTES;
@@ -77,7 +105,7 @@ impl FileStorage {
             self.file.write_all_at(bytes, at)?;
             at = at.saturating_add(size as u64);
         }
-        self.file.sync_data()
+        Ok(())
     }
 }
 
@@ -87,11 +115,63 @@ fn byte_of(word: usize) -> io::Result<u64> {
     byte.ok_or(io::Error::from(io::ErrorKind::InvalidInput))
 }
 
+// While a sync is made apart.
+fn busy() -> io::Error {
+    io::Error::from(io::ErrorKind::ResourceBusy)
+}
+
 impl Storage for FileStorage {
-    // No clause says what a file holds: that it meets `put` is trusted of the system, and not claimed here.
+    type Pending = FileSync;
+
+    // No clause says what a file holds: that it meets `write` and `sync` is trusted of the system, and not claimed here.
     ghost may_hold = { λ _ _ _. ⊥ };
 
-    fn put(&mut self, start: usize, words: &[u64]) -> io::Result<()> {
-        self.write(start, words)
+    ghost shows = { λ _ _ _. ⊥ };
+
+    ghost shown_is_found = { λ _ _ _ shown. shown };
+
+    fn write(&mut self, start: usize, words: &[u64]) -> io::Result<()> {
+        match self.apart {
+            Apart::Out(_) => Err(busy()),
+            Apart::Ended(Err(error)) => Err(error),
+            Apart::None | Apart::Ended(Ok(())) => {
+                self.apart = Apart::None;
+                self.write_words(start, words)
+            }
+        }
+    }
+
+    fn sync(&mut self) -> io::Result<()> {
+        match self.apart {
+            Apart::None => self.file.sync_data(),
+            Apart::Out(_) => Err(busy()),
+            Apart::Ended(ended) => ended,
+        }
+    }
+
+    fn hand_out(&mut self) -> Option<FileSync> {
+        if !matches!(self.apart, Apart::None) {
+            return None;
+        }
+        let file = self.other.take()?;
+        self.apart = Apart::Out(file.as_raw_fd());
+        Some(FileSync { file, ended: None })
+    }
+
+    fn sync_apart(pending: &mut FileSync) {
+        pending.ended = Some(pending.file.sync_data());
+    }
+
+    // One that wasn't made leaves the next sync to make its own; one of another file is none of this one.
+    fn take_back(&mut self, pending: FileSync) {
+        let FileSync { file, ended } = pending;
+        if !matches!(self.apart, Apart::Out(number) if number == file.as_raw_fd()) {
+            return;
+        }
+        self.apart = match ended {
+            Some(ended) => Apart::Ended(ended),
+            None => Apart::None,
+        };
+        self.other = Some(file);
     }
 }

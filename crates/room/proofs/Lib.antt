@@ -11,3 +11,4 @@ pub mod Stamps
 pub mod ClosingCycle
 pub mod Closes
 pub mod Advancing
+pub mod Untouched

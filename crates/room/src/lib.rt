@@ -1,6 +1,7 @@
 //! The room: every step of the engine, one at a time.
 #![tactic(auto)]
 
+mod ahead;
 mod close;
 mod counting;
 mod law;

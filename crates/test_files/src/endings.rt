@@ -115,15 +115,15 @@ fn commit_row<R: Wait + Drop>(database: &Database<Device, R>) -> Result<(), Comm
     }
 }
 
-// A life of which this put and each after it fails: the answer to its commit, and what is found in the words.
+// A life of which this write or sync and each after it fails: the answer to its commit, and what is found in the words.
 fn live<R: Threads + Wait + Copy + Drop + Send + Sync + 'static>(
     rt: &R,
     alloc: Global,
-    puts: usize,
+    calls: usize,
 ) -> Result<(Result<(), CommitError>, Vec<u64>), Fault> {
     let words = fresh(alloc, 8)?;
     let file = extent_of(words.as_slice()).ok_or(Fault::BadGeometry)?;
-    let storage = MemoryStorage::new(words).failing_after(puts, Part::Words(0b0101_0101));
+    let storage = MemoryStorage::new(words).failing_after(calls, Part::Words(0b0101_0101));
     match Database::open(*rt, alloc, found(alloc, storage, file)?) {
         Ok(database) => {
             let answer = commit_row(&database);
@@ -140,15 +140,15 @@ fn live<R: Threads + Wait + Copy + Drop + Send + Sync + 'static>(
     }
 }
 
-// The puts of an opening, which brings the file to rest.
-const OPENING: usize = 4;
+// The writes and syncs of an opening, which brings the file to rest.
+const OPENING: usize = 8;
 
 #[test]
 fn each_answer_says_what_the_next_opening_finds(rt: HostRuntime) -> Result<(), Fault> {
     let alloc = rt.alloc();
     let (mut refused, mut open) = (false, false);
-    for puts in OPENING..40 {
-        let (answer, words) = live(&rt, alloc, puts)?;
+    for calls in OPENING..80 {
+        let (answer, words) = live(&rt, alloc, calls)?;
         let database = opened(&rt, alloc, words)?;
         let kept = get(&database, KEY)?;
         match answer {
@@ -160,7 +160,7 @@ fn each_answer_says_what_the_next_opening_finds(rt: HostRuntime) -> Result<(), F
             Err(CommitError::Open(_)) => open = true,
         }
     }
-    let (answer, _words) = live(&rt, alloc, 40)?;
+    let (answer, _words) = live(&rt, alloc, 80)?;
     assert!(rt; refused && open && answer.is_ok());
     Ok(())
 }

@@ -1,8 +1,9 @@
-//! Lives over the words of a file with a journal, each of whose puts fails in turn.
+//! Lives over the words of a file with a journal, each of whose writes and syncs fails in turn.
 ghost use Rattle.std.specs.Prelude.{IfOk};
 ghost use Rattle.pmem.specs.Words.{IsAtRest};
 ghost use Rattle.pmem_file.specs.Traces.{device_of};
 
+use base::actor::Actor;
 use base::fault::Fault;
 use base::geometry::Geometry;
 use base::key::Key;
@@ -17,6 +18,7 @@ use std::alloc::Global;
 use std::io::ErrorKind;
 use std::process::Abort;
 use std::thread::Threads;
+use sync_ahead::SyncAhead;
 
 type Device = JournaledPmem<JournaledImages<MemoryStorage>>;
 
@@ -26,14 +28,16 @@ const WORDS: usize = 104;
 // An entry of all its thirteen lines fits, and of those of two commits.
 const ROOM: usize = 136;
 
-// No life makes so many puts.
-const PUTS: usize = 80;
+// No life makes so many writes and syncs.
+const CALLS: usize = 160;
 
 const COMMITS: u8 = 6;
 
 const KEY: Key = Key { table: 1, key: 7 };
 
-// Of each eight words of a put that fails none is written, or each other one, or all.
+const OTHER: Key = Key { table: 1, key: 8 };
+
+// Of each eight words of a write that fails none is written, or each other one, or all.
 const TORN: [Part; 4] = [
     Part::Words(0),
     Part::Words(0b0101_0101),
@@ -123,6 +127,7 @@ fn commit(room: &mut Room<Device>, number: u8) -> Result<bool, Fault> {
     }
     for _ in 0..64 {
         room.step(Step::Commit);
+        sync_ahead(room)?;
     }
     let polled = room.step(Step::Poll { session });
     room.step(Step::End { session });
@@ -130,6 +135,26 @@ fn commit(room: &mut Room<Device>, number: u8) -> Result<bool, Fault> {
         room.step(Step::Collect);
     }
     Ok(matches!(polled, Reply::Committed(_)))
+}
+
+// Makes the sync that the next tick would wait for. Meanwhile another session writes, and gives that up.
+fn sync_ahead(room: &mut Room<Device>) -> Result<(), Fault> {
+    let Some(mut pending) = room.begin_sync() else {
+        return Ok(());
+    };
+    let session = 3;
+    let row = Row::new(&[0])?;
+    let put = Step::Put {
+        session,
+        key: OTHER,
+        row,
+    };
+    for step in [Step::Begin, put, Step::Abort { session }] {
+        room.step(step);
+    }
+    Device::sync(&mut pending);
+    room.end_sync(pending);
+    Ok(())
 }
 
 // The number that was committed last, or 0.
@@ -178,19 +203,19 @@ fn zeros(alloc: Global) -> Result<Vec<u64>, Fault> {
     }
 }
 
-// What a life leaves none of whose puts fails.
+// What a life leaves none of whose writes and syncs fails.
 fn lived<R: Threads + Sync>(rt: &R, alloc: Global) -> Result<Vec<u64>, Fault> {
     Ok(live(rt, alloc, MemoryStorage::new(zeros(alloc)?), 0)?.found)
 }
 
 #[test]
-fn each_failing_put_keeps_what_was_acknowledged(rt: HostRuntime) -> Result<(), Fault> {
+fn each_failing_call_keeps_what_was_acknowledged(rt: HostRuntime) -> Result<(), Fault> {
     let alloc = rt.alloc();
-    for puts in 0..PUTS {
+    for calls in 0..CALLS {
         for torn in TORN {
-            let storage = MemoryStorage::new(zeros(alloc)?).failing_after(puts, torn);
+            let storage = MemoryStorage::new(zeros(alloc)?).failing_after(calls, torn);
             let life = live(&rt, alloc, storage, 0)?;
-            assert!(rt; life.acknowledged == COMMITS || puts < PUTS - 1);
+            assert!(rt; life.acknowledged == COMMITS || calls < CALLS - 1);
             assert_opens(&rt, alloc, life)?;
         }
     }
@@ -198,17 +223,17 @@ fn each_failing_put_keeps_what_was_acknowledged(rt: HostRuntime) -> Result<(), F
 }
 
 #[test]
-fn so_does_each_failing_put_of_a_second_life(rt: HostRuntime) -> Result<(), Fault> {
+fn so_does_each_failing_call_of_a_second_life(rt: HostRuntime) -> Result<(), Fault> {
     let alloc = rt.alloc();
     let before = lived(&rt, alloc)?;
-    for puts in 0..PUTS {
+    for calls in 0..CALLS {
         for torn in TORN {
             let Ok(words) = before.clone() else {
                 return Err(Fault::OutOfMemory);
             };
-            let storage = MemoryStorage::new(words).failing_after(puts, torn);
+            let storage = MemoryStorage::new(words).failing_after(calls, torn);
             let life = live(&rt, alloc, storage, COMMITS)?;
-            assert!(rt; life.acknowledged == 2 * COMMITS || puts < PUTS - 1);
+            assert!(rt; life.acknowledged == 2 * COMMITS || calls < CALLS - 1);
             assert_opens(&rt, alloc, life)?;
         }
     }
@@ -248,9 +273,9 @@ fn a_closed_file_begins_with_its_image(rt: HostRuntime) -> Result<(), Fault> {
 }
 
 #[test]
-fn a_device_says_why_a_put_failed(rt: HostRuntime) -> Result<(), Fault> {
+fn a_device_says_why_a_call_failed(rt: HostRuntime) -> Result<(), Fault> {
     let alloc = rt.alloc();
-    let storage = MemoryStorage::new(zeros(alloc)?).failing_after(4, Part::All);
+    let storage = MemoryStorage::new(zeros(alloc)?).failing_after(8, Part::All);
     let Ok(mut device) = Device::of_storage(alloc, storage, WORDS, ROOM, 2) else {
         return Err(Fault::OutOfMemory);
     };
@@ -261,5 +286,42 @@ fn a_device_says_why_a_put_failed(rt: HostRuntime) -> Result<(), Fault> {
     assert!(rt; failure.map(|error| error.kind()) == Some(ErrorKind::StorageFull));
     let closed = device.into_storage();
     assert!(rt; closed.is_err());
+    Ok(())
+}
+
+// A device at rest with the image that these words stand for, of which so many further writes and syncs succeed, and the value of
+// its first word.
+fn at_rest(alloc: Global, words: Vec<u64>, calls: usize) -> Result<(Device, u64), Fault> {
+    let storage = MemoryStorage::new(words).failing_after(calls, Part::Words(0));
+    match Device::of_storage(alloc, storage, WORDS, ROOM, 2) {
+        Ok(device) if device.words() > 0 => {
+            let first = device.load(0);
+            Ok((device, first))
+        }
+        _ => Err(Fault::OutOfMemory),
+    }
+}
+
+#[test]
+fn a_sync_ahead_that_fails_is_told_by_the_fence(rt: HostRuntime) -> Result<(), Fault> {
+    let alloc = rt.alloc();
+    // An opening makes eight calls. Then the image is written, and it is synced.
+    for calls in [8, 9, 10] {
+        let (mut device, first) = at_rest(alloc, lived(&rt, alloc)?, calls)?;
+        if device.words() > 0 {
+            device.store(0, first ^ 1)?;
+            device.flush(Actor::COMMITTER, 0)?;
+        }
+        let pending = device.begin_sync(Actor::COMMITTER);
+        assert!(rt; pending.is_some() == (calls > 8));
+        if let Some(pending) = pending {
+            device.end_sync(pending);
+        }
+        let fenced = device.fence(Actor::COMMITTER);
+        assert!(rt; fenced.is_ok() == (calls == 10));
+        assert!(rt; device.failure().is_some() == (calls < 10));
+        let (_device, found) = at_rest(alloc, device.release().into_words(), CALLS)?;
+        assert!(rt; found == if calls == 8 { first } else { first ^ 1 });
+    }
     Ok(())
 }

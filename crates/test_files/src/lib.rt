@@ -1,4 +1,4 @@
-//! Lives over the words of a file with a journal, each of whose puts fails in turn; and databases over such words, opened again.
+//! Lives over the words of a file with a journal, each of whose writes and syncs fails in turn; and databases over such words, opened again.
 #![tactic(auto)]
 
 #[cfg(test)]

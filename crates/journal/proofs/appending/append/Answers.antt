@@ -4,6 +4,7 @@ use Rattle.journal.specs.Entries.{entry}
 use Rattle.journal.specs.States.{Rests}
 use Rattle.journal.proofs.Changes.{numbers-below, small_payloads, entry_size}
 use Rattle.journal.proofs.Files.{Puts, Keeps}
+use Rattle.journal.proofs.Within.{rests_within}
 use Rattle.journal.proofs.Appended.{rests-either, append-either, append-kept}
 use Rattle.journal.proofs.appending.append.Goals as goal
 
@@ -24,18 +25,18 @@ returns-in_err-entry-clause-either g c =
     let durable = c.args.durable.now in
     rests-either (g.S.Storage.may_hold c.args.storage.now) (length durable) c.args.room true c.args.position durable c.args.words.now c.requires.known
 
-pub returns-in_err-put-clause-either : goal.returns-in_err-put-clause-either
-returns-in_err-put-clause-either g c =
+pub returns-in_err-write-clause-either : goal.returns-in_err-write-clause-either
+returns-in_err-write-clause-either g c =
     let durable = c.args.durable.now in
     let lines = c.args.changed.now in
     let changed = c.requires.changed in
     let old = g.S.Storage.may_hold c.args.storage.now in
-    let new = g.S.Storage.may_hold c.put.new.self in
+    let new = g.S.Storage.may_hold c.write.new.self in
     let P : List ℕ → Type 0 = λ l. Puts old new (length durable + c.args.position) l in
     let is = c.as_slice-2.ensures.value ∙ c.in_ok-entry.ensures ∙ ap (λ (l : List ℕ). entry true l) (c.as_slice.ensures.value ∙ c.in_ok-payloads.ensures) in
     append-either old new (length durable) c.args.room true c.args.position durable c.args.words.now lines c.requires.known changed.lines_are
     (omega (arith, entry_size true lines changed.lines_are, c.requires.within)) c.requires.same (λ word lt. changed.makes word (omega (arith, lt, c.requires.same)))
-    (subst P is c.put.ensures.puts)
+    (subst P is c.write.ensures.found)
 
 pub returns-clause-either : goal.returns-clause-either
 returns-clause-either g c =
@@ -43,12 +44,12 @@ returns-clause-either g c =
     let lines = c.args.changed.now in
     let changed = c.requires.changed in
     let old = g.S.Storage.may_hold c.args.storage.now in
-    let new = g.S.Storage.may_hold c.put.new.self in
+    let new = g.S.Storage.may_hold c.write.new.self in
     let P : List ℕ → Type 0 = λ l. Puts old new (length durable + c.args.position) l in
     let is = c.as_slice-2.ensures.value ∙ c.in_ok-entry.ensures ∙ ap (λ (l : List ℕ). entry true l) (c.as_slice.ensures.value ∙ c.in_ok-payloads.ensures) in
     append-either old new (length durable) c.args.room true c.args.position durable c.args.words.now lines c.requires.known changed.lines_are
     (omega (arith, entry_size true lines changed.lines_are, c.requires.within)) c.requires.same (λ word lt. changed.makes word (omega (arith, lt, c.requires.same)))
-    (subst P is c.put.ensures.puts)
+    (subst P is c.write.ensures.found)
 
 pub returns-clause-rests : goal.returns-clause-rests
 returns-clause-rests g c =
@@ -56,8 +57,9 @@ returns-clause-rests g c =
     let words = c.args.words.now in
     let lines = c.args.changed.now in
     let changed = c.requires.changed in
-    let old = g.S.Storage.may_hold c.args.storage.now in
-    let new = g.S.Storage.may_hold c.put.new.self in
+    let held = g.S.Storage.may_hold c.args.storage.now in
+    let old = g.S.Storage.shows c.args.storage.now in
+    let new = g.S.Storage.shows c.write.new.self in
     let start : ℕ = length durable + c.args.position in
     let P : List ℕ → Type 0 = λ l. Puts old new start l in
     let K : List ℕ → Type 0 = λ l. Keeps new start l in
@@ -66,7 +68,8 @@ returns-clause-rests g c =
     let is = c.as_slice-2.ensures.value ∙ made in
     let count : c.len.result ≡ length c.in_ok-entry.entry.items = omega (arith, c.len.ensures, c.in_ok-entry.entry.ok.0) in
     let N : ℕ → Type 0 = λ n. ∥ Rests new (length durable) c.args.room true (c.args.position + n) words ∥₁ in
-    subst N (sym count) (subst R (sym made) (∥∥₁_map c.requires.known (λ r.
+    let known = rests_within held old (length durable) c.args.room true c.args.position durable (g.met.S.Storage.shown_is_found c.args.storage.now) c.requires.known in
+    subst N (sym count) (subst R (sym made) (∥∥₁_map known (λ r.
     append-kept old new (length durable) c.args.room true c.args.position durable words lines r changed.lines_are
     (omega (arith, entry_size true lines changed.lines_are, c.requires.within)) c.requires.same (λ word lt. changed.makes word (omega (arith, lt, c.requires.same)))
-    (subst P is c.put.ensures.puts) (subst K is c.in_ok-put.ensures.kept))))
+    (subst P is c.write.ensures.others) (subst K is c.in_ok-write.ensures.written))))

@@ -21,7 +21,7 @@ returns-clause-opens g c =
     let image = c.args.image.now in
     let words = length image in
     let old = g.S.Storage.may_hold c.args.storage.now in
-    let new = g.S.Storage.may_hold c.put.new.self in
+    let new = g.S.Storage.may_hold c.put.new.storage in
     let P : List ℕ → Type 0 = λ l. Puts old new words l in
     let is : c.as_slice.result.now ≡ cleared words c.args.room = c.as_slice.ensures.value ∙ c.in_ok-extend_from_slice.ensures.items ∙ (λ i. c.in_ok-rest.ensures.items_if_clones_equal (λ y e. e) i ++ c.tail.ensures i) in
     merely-opens new words c.args.room image c.requires.known (λ known. clear-opens old new words c.args.room image known (subst P is c.put.ensures.puts))
@@ -31,7 +31,7 @@ returns-clause-done g c =
     let image = c.args.image.now in
     let words = length image in
     let old = g.S.Storage.may_hold c.args.storage.now in
-    let new = g.S.Storage.may_hold c.put.new.self in
+    let new = g.S.Storage.may_hold c.put.new.storage in
     let P : List ℕ → Type 0 = λ l. Puts old new words l in
     let K : List ℕ → Type 0 = λ l. OnOk c.put.result (Keeps new words l) in
     let is : c.as_slice.result.now ≡ cleared words c.args.room = c.as_slice.ensures.value ∙ c.in_ok-extend_from_slice.ensures.items ∙ (λ i. c.in_ok-rest.ensures.items_if_clones_equal (λ y e. e) i ++ c.tail.ensures i) in

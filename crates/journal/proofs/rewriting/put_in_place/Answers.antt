@@ -7,12 +7,12 @@ pub returns-clause-opens : goal.returns-clause-opens
 returns-clause-opens g c =
     let image = c.args.image.now in
     let old = g.S.Storage.may_hold c.args.storage.now in
-    let new = g.S.Storage.may_hold c.put.new.self in
+    let new = g.S.Storage.may_hold c.put.new.storage in
     merely-opens new (length image) c.args.room image c.requires (λ known. place-opens old new (length image) c.args.room c.args.pass image known c.put.ensures.puts)
 
 pub returns-clause-done : goal.returns-clause-done
 returns-clause-done g c =
     let image = c.args.image.now in
     let old = g.S.Storage.may_hold c.args.storage.now in
-    let new = g.S.Storage.may_hold c.put.new.self in
+    let new = g.S.Storage.may_hold c.put.new.storage in
     on_ok c.put.result (λ kept. ∥∥₁_map c.requires (λ known. place-kept old new (length image) c.args.room c.args.pass image known c.put.ensures.puts kept)) c.put.ensures.kept

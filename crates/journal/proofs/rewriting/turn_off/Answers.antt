@@ -9,7 +9,7 @@ returns-clause-opens g c =
     let image = c.args.image.now in
     let words = length image in
     let old = g.S.Storage.may_hold c.args.storage.now in
-    let new = g.S.Storage.may_hold c.put.new.self in
+    let new = g.S.Storage.may_hold c.put.new.storage in
     let P : List ℕ → Type 0 = λ l. Puts old new (words + c.args.room) l in
     merely-opens new words c.args.room image c.requires.known (λ known. off-opens old new words c.args.room c.args.pass image known (subst P c.tail.ensures c.put.ensures.puts))
 
@@ -18,7 +18,7 @@ returns-clause-done g c =
     let image = c.args.image.now in
     let words = length image in
     let old = g.S.Storage.may_hold c.args.storage.now in
-    let new = g.S.Storage.may_hold c.put.new.self in
+    let new = g.S.Storage.may_hold c.put.new.storage in
     let P : List ℕ → Type 0 = λ l. Puts old new (words + c.args.room) l in
     let K : List ℕ → Type 0 = λ l. OnOk c.put.result (Keeps new (words + c.args.room) l) in
     on_ok c.put.result (λ kept. ∥∥₁_map c.requires.known (λ known. off-kept old new words c.args.room c.args.pass image known (subst P c.tail.ensures c.put.ensures.puts) kept)) (subst K c.tail.ensures c.put.ensures.kept)

@@ -6,4 +6,4 @@ use Rattle.journal.proofs.journaled.JournaledImages.close.Goals as goal
 pub settle-requires-clause-known : goal.settle-requires-clause-known
 settle-requires-clause-known g c =
     let P : List ℕ → Type 0 = λ l. ∥ Knows (g.S.Storage.may_hold c.args.self.storage) (length l) c.args.self.room true l ∥₁ in
-    subst P (sym c.as_slice.ensures.value) (∥∥₁_map (c.args.self.rests c.if-self.false) (λ r. r.known))
+    subst P (sym c.as_slice.ensures.value) (∥∥₁_map (c.args.self.rests c.if-self.false c.if-self-2.false) (λ r. r.known))

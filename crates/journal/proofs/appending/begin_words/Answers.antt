@@ -3,7 +3,7 @@ use Rattle.std.proofs.lemmas.List.{ext_get_or}
 use Rattle.journal.specs.declared.line.Line.{Line}
 use Rattle.journal.specs.Changes.{AreChanged}
 use Rattle.journal.proofs.Appended.{rests-either}
-use Rattle.journal.proofs.appending.keep_words.Goals as goal
+use Rattle.journal.proofs.appending.begin_words.Goals as goal
 
 pub returns-in_err-changed-clause-either : goal.returns-in_err-changed-clause-either
 returns-in_err-changed-clause-either g c =

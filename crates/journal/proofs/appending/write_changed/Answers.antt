@@ -5,8 +5,9 @@ use Rattle.journal.specs.declared.line.Line.{Line}
 use Rattle.journal.specs.Changes.{AreChanged}
 use Rattle.journal.specs.States.{Rests}
 use Rattle.journal.proofs.Changes.{unchanged}
+use Rattle.journal.proofs.Within.{rests_within}
 use Rattle.journal.proofs.Appended.{rests-either, opens-either}
-use Rattle.journal.proofs.appending.keep_changed.Goals as goal
+use Rattle.journal.proofs.appending.write_changed.Goals as goal
 
 none : (lines : List Line) → length lines ≡ 0 → lines ≡ []
 none [] is = refl
@@ -23,8 +24,11 @@ returns-then-is_empty-clause-rests g c =
     let words = c.args.words.now in
     let empty : length c.args.changed.now ≡ 0 = eqb-true _ _ (sym c.is_empty.ensures ∙ c.if-is_empty.true) in
     let P : List Line → Type 0 = λ l. AreChanged l durable words in
-    let R : List ℕ → Type 0 = λ l. ∥ Rests (g.S.Storage.may_hold c.args.storage.now) (length durable) c.args.room true c.args.position l ∥₁ in
-    subst R (sym (unchanged durable words (subst P (none c.args.changed.now empty) c.requires.changed) c.requires.same)) c.requires.known
+    let held = g.S.Storage.may_hold c.args.storage.now in
+    let shown = g.S.Storage.shows c.args.storage.now in
+    let R : List ℕ → Type 0 = λ l. ∥ Rests shown (length durable) c.args.room true c.args.position l ∥₁ in
+    subst R (sym (unchanged durable words (subst P (none c.args.changed.now empty) c.requires.changed) c.requires.same))
+    (rests_within held shown (length durable) c.args.room true c.args.position durable (g.met.S.Storage.shown_is_found c.args.storage.now) c.requires.known)
 
 pub returns-then-size-room-clause-either : goal.returns-then-size-room-clause-either
 returns-then-size-room-clause-either g c =

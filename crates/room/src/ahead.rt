@@ -1,0 +1,27 @@
+//! A sync that is made ahead of a fence is no step: the room shows what it showed, on a device to which nothing was done.
+
+use crate::room::Room;
+use base::actor::Actor;
+use sync_ahead::SyncAhead;
+
+impl<D: SyncAhead + Drop> Room<D> {
+    ghost use Rattle.std.specs.Prelude.{◌≡◌};
+    ghost use Rattle.machine.specs.Machine.{State};
+    ghost use Rattle.room.specs.Room.{Shows, device_of};
+
+    /// Hands out the sync that the committer's next tick would wait for, if it can be made ahead of it.
+    pub fn begin_sync(&mut self) -> Option<D::Pending>
+        ensures device { device_of D.state self.new ≡ device_of D.state self.old }
+        ensures shows { (q : State) → Shows D.state self.old q → Shows D.state self.new q }
+    {
+        self.device.begin_sync(Actor::COMMITTER)
+    }
+
+    /// Takes it back.
+    pub fn end_sync(&mut self, pending: D::Pending)
+        ensures device { device_of D.state self.new ≡ device_of D.state self.old }
+        ensures shows { (q : State) → Shows D.state self.old q → Shows D.state self.new q }
+    {
+        self.device.end_sync(pending);
+    }
+}

@@ -1,0 +1,26 @@
+//! Persistent memory whose fences may wait for a disk: most of that wait can be made ahead of the fence, by a thread that doesn't
+//! hold the device, so that others use it meanwhile.
+#![tactic(auto)]
+
+ghost use Rattle.std.specs.Prelude.{◌≡◌};
+
+use base::actor::Actor;
+use pmem::Pmem;
+
+/// A device that may sync ahead of a fence. No promise of the device rests on it: a fence waits for what wasn't synced ahead.
+pub trait SyncAhead: Pmem {
+    /// A sync, which is made where the device isn't at hand, and what came of it.
+    type Pending: Drop;
+
+    /// Where this actor's next fence would wait for a sync, hands that sync out, to be made and taken back before the fence. `None`
+    /// where the fence waits for nothing that can be made ahead of it. It counts as no operation.
+    fn begin_sync(&mut self, actor: Actor) -> Option<Self::Pending>
+        ensures { Self.state self.new ≡ Self.state self.old };
+
+    /// Makes it, and waits until it ends.
+    fn sync(pending: &mut Self::Pending);
+
+    /// Takes it back. It counts as no operation.
+    fn end_sync(&mut self, pending: Self::Pending)
+        ensures { Self.state self.new ≡ Self.state self.old };
+}
