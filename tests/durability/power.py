@@ -1,7 +1,7 @@
 """Takes a run of kv apart into its system calls, and opens what a power failure before any of them might have left.
 
 strace gives the order of the writes, the new lengths, the syncs and the answers. An image is made so: all that was done before the last
-sync that had returned is there; of what was written since, each word of 8 bytes is there or not, by a coin, and so is each new length.
+sync began that had returned is there; of what was written since, each word of 8 bytes is there or not, by a coin, and so is each new length.
 What was answered by then must be found in it, and at most the commit in hand besides.
 """
 import os
@@ -12,7 +12,7 @@ from journal import is_append, shorten
 from store import Lost, Transactions, acknowledged, after, rows_in
 
 KEYS = 12
-CALLS = "trace=openat,ftruncate,pwrite64,fdatasync,fsync,write"
+CALLS = "trace=openat,fcntl,ftruncate,pwrite64,fdatasync,fsync,write"
 TEXT = re.compile(r'"((?:\\x[0-9a-f]{2})*)"')
 
 
@@ -21,30 +21,41 @@ def bytes_in(call):
 
 
 def calls_in(trace):
-    """The system calls of a trace, each whole."""
+    """The system calls of a trace: its process, its text, and whether it has returned. One that others came in between is told twice."""
     pending = {}
     for line in open(trace):
         process, rest = line.split(None, 1)
         if "<unfinished" in rest:
             pending[process] = rest.split("<unfinished")[0].rstrip()
+            yield process, rest, False
         elif "resumed>" in rest:
-            yield pending.pop(process) + rest.split("resumed>")[1]
+            yield process, pending.pop(process) + rest.split("resumed>")[1], True
         else:
-            yield rest
+            yield process, rest, True
 
 
 def events_of(trace, file):
-    """('size', bytes), ('write', offset, bytes), ('sync',) and ('answer', how many were acknowledged by then), in order."""
-    events, number, done = [], None, 0
-    for call in calls_in(trace):
+    """('size', bytes), ('write', offset, bytes), ('sync', how many of those came before it began) and ('answer', how many were acknowledged
+    by then), in order. A sync may be made by a copy of the descriptor."""
+    events, numbers, done, changes, begun = [], set(), 0, 0, {}
+    for process, call, returned in calls_in(trace):
+        if not returned:
+            begun[process] = changes
+            continue
+        before = begun.pop(process, changes)
+        number = call.split("(", 1)[-1].split(",")[0].split(")")[0]
         if call.startswith("openat") and bytes_in(call).decode(errors="replace") == file:
-            number = call.rsplit("=", 1)[1].split()[0]
-        elif number and call.startswith(f"ftruncate({number},"):
+            numbers = {call.rsplit("=", 1)[1].split()[0]}
+        elif call.startswith("fcntl") and "F_DUPFD" in call and number in numbers:
+            numbers.add(call.rsplit("=", 1)[1].split()[0])
+        elif call.startswith("ftruncate") and number in numbers:
             events.append(("size", int(call.split(",")[1].split(")")[0])))
-        elif number and call.startswith(f"pwrite64({number},"):
+            changes += 1
+        elif call.startswith("pwrite64") and number in numbers:
             events.append(("write", int(re.search(r", (\d+)\)\s*=", call).group(1)), bytes_in(call)))
-        elif number and call.startswith((f"fdatasync({number})", f"fsync({number})")):
-            events.append(("sync",))
+            changes += 1
+        elif call.startswith(("fdatasync", "fsync")) and number in numbers:
+            events.append(("sync", before))
         elif call.startswith("write(1,"):
             more = acknowledged(bytes_in(call).decode())
             if more:
@@ -75,12 +86,12 @@ def some_words(held, event, rng, chance):
 def image_before(first, events, stop, rng):
     """What a power failure just before that event may leave of a file that held this first, how many were acknowledged, and how many
     changes were open. Of those, a new length is there or not, and each word that was written; what lies past the length isn't."""
-    durable, since, done = bytearray(first), [], 0
+    durable, since, done, synced = bytearray(first), [], 0, 0
     for event in events[:stop]:
         if event[0] == "sync":
-            for it in since:
-                change(durable, it)
-            since = []
+            while since and synced < event[1]:
+                change(durable, since.pop(0))
+                synced += 1
         elif event[0] == "answer":
             done = event[1]
         else:
