@@ -293,13 +293,14 @@ fn a_device_says_why_a_call_failed(rt: HostRuntime) -> Result<(), Fault> {
 // its first word.
 fn at_rest(alloc: Global, words: Vec<u64>, calls: usize) -> Result<(Device, u64), Fault> {
     let storage = MemoryStorage::new(words).failing_after(calls, Part::Words(0));
-    match Device::of_storage(alloc, storage, WORDS, ROOM, 2) {
-        Ok(device) if device.words() > 0 => {
-            let first = device.load(0);
-            Ok((device, first))
-        }
-        _ => Err(Fault::OutOfMemory),
+    let Ok(device) = Device::of_storage(alloc, storage, WORDS, ROOM, 2) else {
+        return Err(Fault::OutOfMemory);
+    };
+    if device.words() == 0 {
+        return Err(Fault::BadGeometry);
     }
+    let first = device.load(0);
+    Ok((device, first))
 }
 
 #[test]
