@@ -5,13 +5,13 @@ use store::{Row, RowExt, Store, key};
 /// A transaction that is committed, one that is aborted, one that is dropped and one that writes nothing.
 pub fn make_each<R: Print + Wait + Drop>(rt: &R, store: &Store<R>) -> Result<(), Error> {
     let mut t = store.begin()?;
-    t.put(key(1, 5), Row::of_u64(7))?;
+    t.put_number(key(1, 5), 7)?;
     t.put(key(1, 6), Row::of_text("milk")?)?;
     t.put(key(1, 9), Row::of_text("")?)?;
     t.put(key(2, 0), Row::of_u64(1))?;
     t.delete(key(2, 0))?;
-    let own = t.get(key(1, 5))?.and_then(|row| row.as_u64());
-    let before = store.read()?.get(key(1, 5))?;
+    let own = t.number(key(1, 5))?;
+    let before = store.read()?.number(key(1, 5))?;
     println!(rt;
         "{}: own write {own:?}, others see {before:?}",
         store.name()

@@ -16,7 +16,7 @@ pub fn meet_each<R: Print + Threads + Wait + Drop + Sync>(
     let (one, other) = thread::join(rt, || add(store), || add(store));
     one?;
     other?;
-    let sum = store.read()?.get(SUM)?.and_then(|row| row.as_u64());
+    let sum = store.read()?.number(SUM)?;
     println!(rt; "two threads added {sum:?}")?;
 
     let mut late = store.begin()?;
@@ -32,8 +32,8 @@ pub fn meet_each<R: Print + Threads + Wait + Drop + Sync>(
 fn add<R: Wait + Drop>(store: &Store<R>) -> Result<(), StoreError> {
     for _ in 0..TIMES {
         store.transact(|t| {
-            let sum = t.get(SUM)?.and_then(|row| row.as_u64()).unwrap_or(0);
-            t.put(SUM, Row::of_u64(sum.saturating_add(1)))
+            let sum = t.number(SUM)?.unwrap_or(0);
+            t.put_number(SUM, sum.saturating_add(1))
         })?;
     }
     Ok(())
@@ -57,7 +57,7 @@ fn give_up<R: Print + Wait + Drop>(rt: &R, store: &Store<R>) -> Result<(), Error
         t.put(SUM, Row::of_u64(6))?;
         Ok(tries)
     })?;
-    let sum = store.read()?.get(SUM)?.and_then(|row| row.as_u64());
+    let sum = store.read()?.number(SUM)?;
     println!(rt; "in try {seen} committed {sum:?}")?;
     Ok(())
 }

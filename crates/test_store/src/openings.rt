@@ -79,6 +79,23 @@ fn fill<R: Print + Wait + Drop>(rt: &R, store: &Store<R>) -> Result<(), Error> {
     store.transact(|t| t.delete(key(1, 1)))?;
     store.transact(|t| t.put(key(1, 5), Row::of_u64(5)))?;
     println!(rt; "{} of 4 slots have rows", store.read()?.count(1, ..)?)?;
+    keep_old(rt, store)
+}
+
+// Two rows take two slots, and two more while a snapshot keeps them as they were.
+fn keep_old<R: Print + Wait + Drop>(rt: &R, store: &Store<R>) -> Result<(), Error> {
+    store.transact(|t| t.delete(key(1, 2)))?;
+    store.transact(|t| t.delete(key(1, 3)))?;
+    let old = store.read()?;
+    store.transact(|t| t.put_number(key(1, 4), 40))?;
+    store.transact(|t| t.put_number(key(1, 5), 50))?;
+    if let Err(error) = store.transact(|t| t.put_number(key(1, 4), 41)) {
+        println!(rt; "refused: {error}")?;
+    }
+    println!(rt; "old {:?}", old.number(key(1, 4))?)?;
+    drop(old);
+    store.transact(|t| t.put_number(key(1, 4), 41))?;
+    println!(rt; "new {:?}", store.read()?.number(key(1, 4))?)?;
     Ok(())
 }
 

@@ -21,6 +21,9 @@ pub fn meet_each<R: Print + AllocGlobal + Wait + Drop>(
     ) {
         println!(rt; "refused: {error}")?;
     }
+    if let Err(error) = store.read()?.number(key(1, 6)) {
+        println!(rt; "refused: {error}")?;
+    }
     let owned = store.transact(|t| give_up(t));
     if let Err(error) = owned {
         println!(rt; "refused: {error}")?;
