@@ -3,34 +3,11 @@ use Rattle.std.proofs.Common.{◌≡◌, ◌≤◌, ◌<◌, ◌+◌, ℕ, List,
 use Rattle.std.specs.Prelude.{Option, Result, Ok, Err, OnOk}
 use Rattle.std.specs.Io.KnownBytes.{Appends}
 use Rattle.std.proofs.lemmas.List.{drop_more, length-drop}
-use Rattle.base.specs.declared.fault.Fault.{Fault}
-use Rattle.base.specs.declared.fault.Fault.TheVariants.{BadGeometry, OutOfMemory}
 use Rattle.command_line.specs.Numbers.{Text}
-use Rattle.command_line.specs.Scripts.{IfBadGeometry, IfWrongLine}
 use Rattle.lives.specs.declared.life.LifeReport.{LifeReport}
-use Rattle.command_line.specs.declared.script.ScriptFault.{ScriptFault}
 use Rattle.command_line.specs.declared.script.ScriptFault.TheVariants as script
-use Rattle.console.specs.BadLine.{IfBadLine}
-use Rattle.console.specs.Refusals.{IfRefused}
-use Rattle.console.specs.Scripts.{life_text, lives_text, stop_of}
-use Rattle.console.specs.declared.stop.Stop.{Stop}
+use Rattle.console.specs.Scripts.{life_text, lives_text}
 use Rattle.console.proofs.Obeyed.{appends-more}
-
-line-by : (fault : ScriptFault) (P Q : ℕ → Type 0) → ((number : ℕ) → P number → Q number) → IfWrongLine P fault → IfBadLine Q (stop_of fault)
-line-by (script.WrongLine number) P Q says p = says number p
-line-by script.BadGeometry P Q says p = tt
-line-by script.OutOfMemory P Q says p = tt
-
-pub line-told : (fault : ScriptFault) (stop : Stop) (P Q : ℕ → Type 0) → stop ≡ stop_of fault → ((number : ℕ) → P number → Q number) → IfWrongLine P fault → IfBadLine Q stop
-line-told fault stop P Q is says p = subst (IfBadLine Q) (sym is) (line-by fault P Q says p)
-
-geometry-refused : (fault : ScriptFault) (P : Type 0) (Q : Fault → Type 0) → (P → Q BadGeometry) → Q OutOfMemory → IfBadGeometry P fault → IfRefused Q (stop_of fault)
-geometry-refused (script.WrongLine number) P Q says memory p = tt
-geometry-refused script.BadGeometry P Q says memory p = says p
-geometry-refused script.OutOfMemory P Q says memory p = memory
-
-pub geometry-told : (fault : ScriptFault) (stop : Stop) (P : Type 0) (Q : Fault → Type 0) → stop ≡ stop_of fault → (P → Q BadGeometry) → Q OutOfMemory → IfBadGeometry P fault → IfRefused Q stop
-geometry-told fault stop P Q is says memory p = subst (IfRefused Q) (sym is) (geometry-refused fault P Q says memory p)
 
 -- ---- the lives of a script
 

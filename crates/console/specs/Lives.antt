@@ -1,9 +1,8 @@
 -- A life of the program: what it prints and what FILE holds then, from the image that FILE held.
-use Rattle.std.specs.Prelude.{◌≡◌, ℕ, ◌-◌, List, [], ◌∷◌, ◌++◌, length, codes, decimal, true, Option, Some, None}
+use Rattle.std.specs.Prelude.{◌≡◌, ℕ, ◌-◌, List, [], ◌∷◌, ◌++◌, length, codes, true, Option, Some, None}
 use Rattle.std.specs.Io.KnownBytes.{Appends}
 use Rattle.base.specs.Commits.{Commit}
 use Rattle.base.specs.Images.{Image, opening_fault}
-use Rattle.base.specs.Layout.{layout_with, plain_version, total_words}
 use Rattle.machine.specs.Machine.{State, StandsAt, StandsClosed, closing_fault, closing_gate}
 use Rattle.machine.specs.Openings.{OpensAs}
 use Rattle.base.specs.Stands.{Stands}

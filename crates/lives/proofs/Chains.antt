@@ -29,10 +29,9 @@ use Rattle.lives.specs.declared.life.Life.{Life}
 use Rattle.lives.specs.declared.life.LifeReport.{LifeReport}
 use Rattle.lives.specs.Plain.{IsReport, Tells, asked_of, closed_of, opening_of, report_of}
 use Rattle.lives.specs.Chains.{fresh_world, AreLives}
-use Rattle.lives.specs.Stops.{AreStopped, IsStopped, PlaysOn, ReportsDevice, StopsBy, WhereItStands}
+use Rattle.lives.specs.Stops.{AreStopped, IsStopped, WhereItStands}
 use Rattle.lives.specs.Told.{steps_of}
 use Rattle.lives.specs.Parts.{HasLived, HasObeyed, HasEnded, MayAsk, HasPlayed}
-use Rattle.lives.specs.declared.life.Repeated.{Repeated}
 use Rattle.lives.proofs.Taken.{runs-up}
 use Rattle.lives.proofs.Ends.{leaves-now, may-ask, ends-as_asked}
 

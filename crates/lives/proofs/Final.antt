@@ -1,5 +1,5 @@
 -- A step that was refused, or found nothing to do, changes nothing, and would be answered the same again.
-use Rattle.std.proofs.Common.{◌≡◌, ℕ, zero, suc, Bool, true, false, cond, List, [], ◌∷◌, ◌++◌, replicate, refl, sym, ◌∙◌, ap, inr, arith}
+use Rattle.std.proofs.Common.{◌≡◌, ℕ, zero, suc, Bool, true, false, cond, List, [], ◌++◌, replicate, refl, sym, ◌∙◌, ap, inr, arith}
 use Rattle.std.specs.Prelude.{Option, Some, None}
 use Rattle.base.specs.Lists.{is_nil}
 use Rattle.base.specs.declared.step.Step.{Step}
@@ -10,7 +10,7 @@ use Rattle.base.specs.declared.step.Reply.{Reply}
 use Rattle.base.specs.declared.step.Reply.TheVariants.{Began, Row, Rows, Done, Drawn as DrewAs, More, Stamped, Waiting, Committed, Idle, Ticked, Covered, Visited, SweepEnd, Refused}
 use Rattle.base.specs.Replies.{is_failure}
 use Rattle.machine.specs.Machine.{State, Hand, Stepped, refused, answered, memory_refused, device_failed, Answers, next_state, state_ticked, state_ticked_on, taken_in_hand, ticked, ticked_on, is_idle, is_last_stamp, next_stage, writes_of, StandsWithin}
-use Rattle.machine.specs.Collecting.{collected, is_at_slot}
+use Rattle.machine.specs.Collecting.{is_at_slot}
 use Rattle.machine.proofs.Runs.{StandsAt-within}
 use Rattle.pmem.specs.Device.{Device, IsOrderly}
 use Rattle.pmem.proofs.Images.{leaves_refl}

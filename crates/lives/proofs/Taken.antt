@@ -13,13 +13,12 @@ use Rattle.machine.proofs.Failures.{failed-after}
 use Rattle.pmem.specs.Device.{Device, IsOrderly}
 use Rattle.pmem.specs.declared.device.Pmem.{Ghosts}
 use Rattle.room.specs.Room.{Shows, StepsTo as RoomStepsTo, device_of as device_in}
-use Rattle.room.specs.Committing.{ShowsIn}
 use Rattle.room.specs.Steps.{StepsTo}
 use Rattle.room.specs.declared.volatile.VolatileState.{VolatileState}
 use Rattle.room.specs.declared.room.Room.{Room}
 use Rattle.lives.specs.Parts.{HasObeyed, HasRepeated}
 use Rattle.lives.specs.Stops.{StepsOn}
-use Rattle.lives.specs.Told.{AreTold, IsTold, has_failed, is_final, steps_of}
+use Rattle.lives.specs.Told.{AreTold, has_failed, is_final, steps_of}
 use Rattle.lives.specs.declared.life.Repeated.{Repeated}
 use Rattle.lives.proofs.Final.{final-works, is-final-again, repeats}
 

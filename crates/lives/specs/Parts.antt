@@ -6,7 +6,7 @@ use Rattle.base.specs.declared.step.Step.{Step}
 use Rattle.base.specs.declared.step.Reply.{Reply}
 use Rattle.base.specs.Images.{Image, ruling}
 use Rattle.machine.specs.Machine.{State, final}
-use Rattle.machine.specs.Lives.{World, IsWorld, Numbers, Opens, RunsUp, EndsAs, Life as PlainLife, numbers_of as state_numbers}
+use Rattle.machine.specs.Lives.{World, Numbers, Opens, RunsUp, EndsAs, Life as PlainLife, numbers_of as state_numbers}
 use Rattle.pmem.specs.Device.{Device}
 use Rattle.lives.specs.Plain.{Tells, asked_of, closed_of, opening_of, report_of}
 use Rattle.lives.specs.Stops.{PlaysOn, ReportsDevice, StepsOn, StopsBy}

@@ -1,5 +1,5 @@
 -- A conflict is told where a draw was refused for it.
-use Rattle.std.proofs.Common.{◌≡◌, ℕ, Ok, Err, ap, subst}
+use Rattle.std.proofs.Common.{◌≡◌, ℕ, Err, ap, subst}
 use Rattle.base.specs.declared.fault.Fault.{Fault}
 use Rattle.base.specs.declared.fault.Fault.TheVariants.{Conflict}
 use Rattle.base.specs.declared.key.Key.{Key}

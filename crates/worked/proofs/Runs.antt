@@ -1,17 +1,16 @@
 -- The worked runs, by computing them. What computes too long from the start is computed in pieces: a state in between is
 -- the one whose numbers are written out.
-use Rattle.std.proofs.Common.{◌≡◌, false, List, [], ◌∷◌, ◌++◌, refl, ap, ◌∙◌}
+use Rattle.std.proofs.Common.{◌≡◌, List, [], ◌∷◌, ◌++◌, refl, ap, ◌∙◌}
 use Rattle.std.specs.Prelude.{None, Some, map}
 use Rattle.std.specs.List.{range_with_len}
 use Rattle.base.specs.declared.step.Step.{Step}
 use Rattle.base.specs.declared.step.Step.TheVariants.{Begin, Get, Put, Delete, Draw, Stamp, Poll, End}
-use Rattle.base.specs.declared.step.Reply.{Reply}
 use Rattle.base.specs.Commits.{after}
 use Rattle.base.specs.Lists.{replaced}
 use Rattle.machine.specs.Machine.{State, Active, Drew, BySession, by_commit, device_failed, most_sessions, closed}
 use Rattle.machine.specs.Replay.{replies, end}
 use Rattle.worked.specs.Images.{key_7, ab, commit_1, record_of}
-use Rattle.worked.specs.Runs.{numbers, key_8, numbered_key, ticks, last_reply, start, insert, inserted, committed, updated, two_keys, with_32_keys, without, collects, deleted_with, FirstCommit, FailedFence, LostCommit, EmptyWriteSet, HalfWritten, CloseThenOpen, SessionNumbers, OwnWrites, Scans, Update, TwoKeys, AbortedWrites, FullWriteSet, NoSlotLeft, FirstCommitterWins, NoTimestampLeft, FreedSlots, SweptGaps}
+use Rattle.worked.specs.Runs.{numbers, key_8, numbered_key, ticks, last_reply, start, insert, inserted, committed, updated, two_keys, FirstCommit, FailedFence, LostCommit, EmptyWriteSet, HalfWritten, CloseThenOpen, SessionNumbers, OwnWrites, Scans, Update, TwoKeys, AbortedWrites, FullWriteSet, NoSlotLeft, FirstCommitterWins, NoTimestampLeft, FreedSlots, SweptGaps}
 
 -- ---- states in between
 

@@ -2,7 +2,7 @@
 use Rattle.std.specs.Prelude.{ℕ, ◌≡◌, true, false, List, [], ◌∷◌, ◌++◌, map, replicate, Option, Some, None}
 use Rattle.std.specs.List.{range_with_len}
 use Rattle.base.specs.declared.key.Key.{Key}
-use Rattle.base.specs.declared.fault.Fault.TheVariants.{Device, Failed, Conflict, WindowFull, SlotsOut, SessionsFull, WriteSetFull, NoSession, WrongState, TimestampsOut}
+use Rattle.base.specs.declared.fault.Fault.TheVariants.{Device, Failed, Conflict, WindowFull, SlotsOut, WriteSetFull, NoSession, WrongState, TimestampsOut}
 use Rattle.base.specs.declared.step.Step.{Step}
 use Rattle.base.specs.declared.step.Step.TheVariants.{Begin, Get, Scan, Put, Delete, Draw, Stamp, Poll, Abort, End, Commit as CommitTick, Collect}
 use Rattle.base.specs.declared.step.Stage.TheVariants.{Chosen, LineFlushed, LinesFenced, BodyStored, BodyFlushed, BodyFenced, GateStored, GateFlushed}

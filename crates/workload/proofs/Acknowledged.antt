@@ -1,11 +1,10 @@
 -- How receipts grow, and which of them tell of acknowledged commits.
-use Rattle.std.proofs.Common.{◌≡◌, ◌⊎◌, ℕ, ◌+◌, suc, zero, true, false, List, [], ◌∷◌, ◌++◌, Option, Some, None, inl, inr, refl, sym, ap, ◌∙◌, subst, append_assoc, append-nil}
+use Rattle.std.proofs.Common.{◌≡◌, ◌⊎◌, ℕ, ◌+◌, suc, zero, true, false, List, [], ◌∷◌, ◌++◌, Option, Some, None, inl, inr, refl, sym, ap, ◌∙◌, subst, append_assoc}
 use Rattle.std.specs.Prelude.{◌≢◌, IsTrue, is_some}
 use Rattle.std.proofs.lemmas.Bool.{false≢true}
 use Rattle.std.proofs.Math.Numerals.{suc-eq-add-one}
 use Rattle.base.specs.declared.fault.Fault.{Fault}
 use Rattle.base.specs.declared.fault.Fault.TheVariants.{OutOfMemory}
-use Rattle.base.specs.declared.step.Step.{Step}
 use Rattle.base.specs.declared.step.Note.{Note}
 use Rattle.base.specs.declared.step.Note.TheVariants.{Refused}
 use Rattle.audited.specs.declared.receipt.Receipt.{Receipt}
@@ -13,33 +12,13 @@ use Rattle.engine.specs.declared.phase.Phase.{Phase}
 use Rattle.engine.specs.declared.phase.Phase.TheVariants.{Idle, Active, Drawn, Stamped, Covered}
 use Rattle.engine.specs.Calls.{Called, DeclinesCall, TellsCommit, TellsEnd, TellsLast}
 use Rattle.engine.specs.Phases.{number_of}
-use Rattle.engine.specs.Receipts.{Asks, Declines, Refuses}
+use Rattle.engine.specs.Receipts.{Declines}
 use Rattle.workload.specs.Load.{Acknowledges, Adds, AddsCommit, GivesUp, IsRefusedWith, may_pass}
 
 -- ---- receipts are added
 
-pub adds-none : (old : List Receipt) → Adds old old
-adds-none old = ([], sym (append-nil old))
-
 pub adds-trans : (old mid new : List Receipt) → Adds old mid → Adds mid new → Adds old new
 adds-trans old mid new (one, is) (two, so) = (one ++ two, so ∙ (ap (λ (rs : List Receipt). rs ++ two) is ∙ append_assoc old one two))
-
-pub adds-same : (old new : List Receipt) → new ≡ old → Adds old new
-adds-same old new same = ([], same ∙ sym (append-nil old))
-
-pub adds-asked : (old new : List Receipt) (step : Step) (note : Note) → Asks old new step note → Adds old new
-adds-asked old new step note asks = (asks.receipt ∷ [], asks.added)
-
-pub adds-refused : (old new : List Receipt) (step : Step) (fault : Fault) → Refuses old new step fault → Adds old new
-adds-refused old new step fault (inl (same, memory)) = adds-same old new same
-adds-refused old new step fault (inr asks) = adds-asked old new step (Refused fault) asks
-
-pub adds-declined : (phase : Phase) (old new : List Receipt) (step : Step) (fault : Fault) → Declines phase old new step fault → Adds old new
-adds-declined phase old new step fault (inl (there, refuses)) = adds-refused old new step fault refuses
-adds-declined phase old new step fault (inr (idle, none, same)) = adds-same old new same
-
-pub adds-called : (old new : List Receipt) (fact : List Receipt → Type 0) → Called old new fact → Adds old new
-adds-called old new fact called = (called.added, called.is)
 
 -- ---- commits are acknowledged
 
@@ -98,14 +77,6 @@ commit-some first old new phase None Asked grows called is = absurd (false≢tru
 commit-some first old new phase (Some t) Asked grows called is = adds-commit-after first old new grows (commit-adds old new phase t Asked called)
 
 -- ---- a call is refused
-
-pub refused-asked : (old new : List Receipt) (step : Step) (fault : Fault) → Refuses old new step fault → (fault ≡ OutOfMemory) ⊎ TellsLast new (Refused fault)
-refused-asked old new step fault (inl (same, memory)) = inl memory
-refused-asked old new step fault (inr asks) = inr (old, asks.receipt, asks.added, asks.told)
-
-pub refused-declined : (phase : Phase) (old new : List Receipt) (step : Step) (fault : Fault) → phase ≢ Idle → Declines phase old new step fault → (fault ≡ OutOfMemory) ⊎ TellsLast new (Refused fault)
-refused-declined phase old new step fault there (inl (is, refuses)) = refused-asked old new step fault refuses
-refused-declined phase old new step fault there (inr (idle, none, same)) = absurd (there idle)
 
 tells-more : (old added new : List Receipt) (note : Note) → new ≡ old ++ added → TellsLast added note → TellsLast new note
 tells-more old added new note is (before, r, last, told) = (old ++ before, r, is ∙ (ap (λ (rs : List Receipt). old ++ rs) last ∙ sym (append_assoc old before (r ∷ []))), told)

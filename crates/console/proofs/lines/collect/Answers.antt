@@ -1,4 +1,4 @@
-use Rattle.std.proofs.Common.{◌≡◌, ◌∙◌, ◌-◌, ◌≤◌, ◌⊎◌, false, suc, inl, inr, ap, arith, rules}
+use Rattle.std.proofs.Common.{◌-◌, false, suc, inl, inr, arith, rules}
 use Rattle.base.specs.declared.step.Step.TheVariants as step
 use Rattle.console.specs.Obeyed.{is_answered}
 use Rattle.console.specs.Rounds.{visits_needed}

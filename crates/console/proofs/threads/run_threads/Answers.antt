@@ -1,9 +1,8 @@
-use Rattle.std.proofs.Common.{◌≡◌, ◌⊎◌, ◌*◌, List, ℕ, subst, sym}
-use Rattle.std.specs.Prelude.{None}
+use Rattle.std.proofs.Common.{◌≡◌, ◌⊎◌, ◌*◌, List, ℕ, subst}
 use Rattle.std.specs.Io.KnownBytes.{Appends}
 use Rattle.base.specs.declared.fault.Fault.TheVariants.{OutOfMemory}
 use Rattle.base.specs.declared.key.Key.{Key}
-use Rattle.base.specs.Images.{Image, opening_fault}
+use Rattle.base.specs.Images.{Image}
 use Rattle.machine.specs.Machine.{State}
 use Rattle.image_check.specs.Checked.{ListsTables}
 use Rattle.command_line.specs.ImageFile.{IsFileOf}

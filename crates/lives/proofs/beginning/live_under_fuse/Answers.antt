@@ -1,4 +1,4 @@
-use Rattle.std.proofs.Common.{◌≡◌, ◌∙◌, inl, false, List, [], ap, subst, refl}
+use Rattle.std.proofs.Common.{◌≡◌, ◌∙◌, inl, List, ap, subst, refl}
 use Rattle.std.specs.Prelude.{None, Err}
 use Rattle.std.proofs.lemmas.Result.{IfOk-weaker}
 use Rattle.base.specs.declared.step.Reply.{Reply}
