@@ -4,7 +4,7 @@ use Rattle.dirty_table.specs.declared.touches.Touch.{Touch}
 use Rattle.dirty_table.specs.Touches.{is_touched, are_from, are_in_order}
 use Rattle.dirty_table.proofs.Places.{rest-from, touched-rest}
 use Rattle.dirty_table.proofs.Tables.{added, place_le}
-use Rattle.dirty_table.proofs.touches.add.Goals as goal
+use Rattle.dirty_table.proofs.touches.put_in.Goals as goal
 
 pub split_at-requires : goal.split_at-requires
 split_at-requires c = subst (λ (n : ℕ). n ≤ length c.as_slice-listed.result.now) (sym c.place-place.ensures) (place_le c.args.touch.line c.as_slice-listed.result.now)
