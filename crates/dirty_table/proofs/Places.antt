@@ -1,12 +1,14 @@
 -- Touches by rising line: those from a line on.
-use Rattle.std.proofs.Common.{◌≡◌, ◌⊎◌, ℕ, zero, suc, ◌+◌, ◌<◌, ◌≤◌, Bool, true, false, cond, ◌&&◌, ◌||◌, not, nat_eq, nat_le, nat_lt, List, [], ◌∷◌, length, drop, Option, Some, None, refl, sym, ◌∙◌, ap, subst, arith, get_or}
-use Rattle.std.specs.List.{list_any, find, position_or_len}
+use Rattle.std.proofs.Common.{◌≡◌, ◌⊎◌, ℕ, zero, suc, ◌+◌, ◌-◌, ◌<◌, ◌≤◌, Bool, true, false, cond, ◌&&◌, ◌||◌, not, nat_eq, nat_le, nat_lt, List, [], ◌∷◌, ◌++◌, length, drop, Option, Some, None, refl, sym, ◌∙◌, ap, subst, arith, get_or}
+use Rattle.std.specs.List.{list_any, find, position_or_len, slice_get, All}
 use Rattle.std.specs.List.Sorted.{IsNonDecreasingBy, IsPartitionPoint}
 use Rattle.std.proofs.lemmas.Bool.{and_parts, and_from, leb-true, leb-false, ltb-true, ltb-false, lt-ltb, le-leb, eqb-true}
 use Rattle.std.proofs.lemmas.Bool.Decides.{nat_tests}
+use Rattle.std.proofs.lemmas.List.Elements.{All-head, All-tail}
 use Rattle.std.proofs.lemmas.List.Sums.{position_or_len_is}
+use Rattle.std.proofs.lemmas.Option.{get_or_from_slice_get}
 use Rattle.dirty_table.specs.declared.touches.Touch.{Touch}
-use Rattle.dirty_table.specs.Touches.{is_touched, are_from, are_in_order}
+use Rattle.dirty_table.specs.Touches.{is_touched, are_from, are_in_order, put_in, with_touch}
 
 -- the first line isn't below the number that they are from, and each isn't below those before it
 no_lower : (low : ℕ) (touches : List Touch) → are_from low touches ≡ true → (i j : ℕ) (d : Touch) → i ≤ j → j < length touches → (low ≤ (get_or touches i d).line) × ((get_or touches i d).line ≤ (get_or touches j d).line)
@@ -133,3 +135,46 @@ first-tells session line (touch ∷ touches) o =
     by true is false le o rest = rest (subst (λ (low : ℕ). are_from low touches ≡ true) (eqb-true touch.line line is) o)
     by false is true le o rest = above-untouched session line touch.line touches (higher touch.line le is) o ∙ sym is
     by false is false le o rest = above-untouched session line touch.line touches (higher touch.line le is) o ∙ sym is
+
+-- ---- a line above all
+
+-- each is below what the last is below
+pub below-last : (line : ℕ) (touches : List Touch) (last : Touch) → are_in_order touches ≡ true → slice_get touches (length touches - 1) ≡ Some last → last.line < line → All (λ touch. touch.line < line) touches
+below-last line touches last o is lt k d within =
+    let le : (get_or touches k d).line ≤ (get_or touches (length touches - 1) d).line = rising touches o k (length touches - 1) d (omega (arith, within)) (omega (arith, within)) in
+    let same : get_or touches (length touches - 1) d ≡ last = get_or_from_slice_get touches (length touches - 1) last d is in
+    let line-is : (get_or touches (length touches - 1) d).line ≡ last.line = ap (λ (touch : Touch). touch.line) same in
+    omega (arith, le, line-is, lt)
+
+pub below-none : (line : ℕ) (touches : List Touch) → slice_get touches (length touches - 1) ≡ None → All (λ touch. touch.line < line) touches
+below-none line [] is k d within = absurd (omega (arith, within))
+below-none line (touch ∷ touches) is k d within =
+    let at : length (touch ∷ touches) - 1 ≡ length touches = omega arith in
+    absurd (some (length touches) touch touches (omega arith) (sym (ap (λ (n : ℕ). slice_get (touch ∷ touches) n) at) ∙ is))
+  where
+    some : (n : ℕ) (x : Touch) (xs : List Touch) → n ≤ length xs → slice_get (x ∷ xs) n ≡ None → ⊥
+    some zero x xs le is = absurd (cc is)
+    some (suc n) x [] le is = absurd (omega (arith, le))
+    some (suc n) x (y ∷ ys) le is = some n y ys (omega (arith, le)) is
+
+-- a touch of a line above all goes last
+pub put_in-last : (new : Touch) (touches : List Touch) → All (λ touch. touch.line < new.line) touches → with_touch new touches ≡ touches ++ new ∷ []
+put_in-last new touches below = ap (λ (b : Bool). cond b touches (put_in new touches)) (untouched touches below) ∙ last touches below
+  where
+    apart : (l : ℕ) → l < new.line → nat_eq l new.line ≡ false
+    apart l lt = grind (arith, nat_tests)
+
+    above : (l : ℕ) → l < new.line → nat_le new.line l ≡ false
+    above l lt = grind (arith, nat_tests)
+
+    neither : (a b c : Bool) → b ≡ false → c ≡ false → ((a && b) || c) ≡ false
+    neither true b c is none = (λ i. is i || none i)
+    neither false b c is none = none
+
+    untouched : (ts : List Touch) → All (λ touch. touch.line < new.line) ts → is_touched ts new.session new.line ≡ false
+    untouched [] all = refl
+    untouched (touch ∷ ts) all = neither (nat_eq touch.session new.session) (nat_eq touch.line new.line) (is_touched ts new.session new.line) (apart touch.line (All-head (λ (t : Touch). t.line < new.line) touch ts all)) (untouched ts (All-tail (λ (t : Touch). t.line < new.line) touch ts all))
+
+    last : (ts : List Touch) → All (λ touch. touch.line < new.line) ts → put_in new ts ≡ ts ++ new ∷ []
+    last [] all = refl
+    last (touch ∷ ts) all = ap (λ (b : Bool). cond b (new ∷ touch ∷ ts) (touch ∷ put_in new ts)) (above touch.line (All-head (λ (t : Touch). t.line < new.line) touch ts all)) ∙ ap (λ (l : List Touch). touch ∷ l) (last ts (All-tail (λ (t : Touch). t.line < new.line) touch ts all))

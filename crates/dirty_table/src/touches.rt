@@ -1,4 +1,4 @@
-ghost use Rattle.std.specs.Prelude.{◌≡◌, ◌+◌, ◌<◌, ◌≤◌, nat_le, vec_len, vec_capacity, ◌&&◌, find, drop, IsTrue};
+ghost use Rattle.std.specs.Prelude.{◌≡◌, ◌+◌, ◌<◌, ◌≤◌, nat_le, vec_len, vec_capacity, ◌&&◌, find, drop, IsTrue, All};
 ghost use Rattle.std.specs.List.{position_or_len};
 ghost use Rattle.dirty_table.specs.Touches.{has, is_touched, are_from, are_in_order, with_touch};
 
@@ -53,9 +53,37 @@ fn has_session(touches: &[Touch], session: u8, line: u64) -> bool
     }
 }
 
+// Whether each line is below this one.
+#[inline(always)]
+fn are_below(touches: &[Touch], line: u64) -> bool
+    requires { IsTrue (are_in_order touches.now) }
+    ensures { IsTrue result → All (λ touch. touch.line < line) touches.now }
+{
+    match touches.last() {
+        Some(last) => last.line < line,
+        None => true,
+    }
+}
+
 /// Puts one in, where there is room, unless it is there.
 #[inline(always)]
 pub(crate) fn add(touches: &mut Vec<Touch>, touch: Touch)
+    requires order { IsTrue (are_in_order touches.old.items) }
+    requires room { vec_len touches.old < vec_capacity touches.old }
+    ensures items { touches.new.items ≡ with_touch touch touches.old.items }
+    ensures len { vec_len touches.new ≤ vec_len touches.old + 1 }
+    ensures capacity { vec_capacity touches.old ≤ vec_capacity touches.new }
+{
+    if are_below(touches.as_slice(), touch.line) {
+        touches.push_reserved(touch);
+    } else {
+        put_in(touches, touch);
+    }
+}
+
+// The same, by a search of its place.
+#[inline(never)]
+fn put_in(touches: &mut Vec<Touch>, touch: Touch)
     requires order { IsTrue (are_in_order touches.old.items) }
     requires room { vec_len touches.old < vec_capacity touches.old }
     ensures items { touches.new.items ≡ with_touch touch touches.old.items }

@@ -1,31 +1,8 @@
 -- The lines of which words were stored since an image was kept.
-use Rattle.std.proofs.Common.{◌≡◌, inl, inr, ℕ, zero, suc, ◌/◌, ◌<◌, ◌≤◌, Bool, true, false, ◌==◌, List, [], ◌∷◌, length, set, get_or, refl, sym, ◌∙◌, ap, arith}
-use Rattle.std.specs.Prelude.{insert}
-use Rattle.std.proofs.lemmas.Bool.{or_left, or_right, or_cases, eq-eqb, true≢false}
+use Rattle.std.proofs.Common.{◌≡◌, ℕ, ◌/◌, Bool, true, false, List, [], length, set, get_or, refl, sym, ◌∙◌, ap, arith}
+use Rattle.std.proofs.lemmas.Bool.{true≢false}
 use Rattle.std.proofs.lemmas.List.{length-set, get_or-set_other}
 use Rattle.journal.specs.Changes.{DiffersIn, is_listed}
-
--- ---- a number is put in
-
-pub listed-at : (numbers : List ℕ) (at number d : ℕ) → at < length numbers → get_or numbers at d ≡ number → is_listed numbers number ≡ true
-listed-at [] at number d lt is = absurd (omega (arith, lt))
-listed-at (first ∷ numbers) zero number d lt is = or_left (first == number) (is_listed numbers number) (eq-eqb first number is)
-listed-at (first ∷ numbers) (suc at) number d lt is = or_right (first == number) (is_listed numbers number) (listed-at numbers at number d (omega (arith, lt)) is)
-
-pub listed-inserted : (numbers : List ℕ) (at number : ℕ) → at ≤ length numbers → is_listed (insert numbers at number) number ≡ true
-listed-inserted numbers zero number le = or_left (number == number) (is_listed numbers number) (eq-eqb number number refl)
-listed-inserted [] (suc at) number le = absurd (omega (arith, le))
-listed-inserted (first ∷ numbers) (suc at) number le = or_right (first == number) (is_listed (insert numbers at number) number) (listed-inserted numbers at number (omega (arith, le)))
-
-pub listed-more : (numbers : List ℕ) (at number other : ℕ) → at ≤ length numbers → is_listed numbers other ≡ true → is_listed (insert numbers at number) other ≡ true
-listed-more numbers zero number other le is = or_right (number == other) (is_listed numbers other) is
-listed-more [] (suc at) number other le is = absurd (omega (arith, le))
-listed-more (first ∷ numbers) (suc at) number other le is = elim (or_cases (first == other) (is_listed numbers other) is) [
-  | inl here ↦ or_left (first == other) (is_listed (insert numbers at number) other) here
-  | inr there ↦ or_right (first == other) (is_listed (insert numbers at number) other) (listed-more numbers at number other (omega (arith, le)) there)
-]
-
--- ---- what differs
 
 -- after a store to one of these lines
 pub differs-stored : (numbers more words image : List ℕ) (word value : ℕ) → DiffersIn numbers words image → is_listed more (word / 8) ≡ true

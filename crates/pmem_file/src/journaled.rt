@@ -7,7 +7,7 @@ ghost use Rattle.pmem_file.specs.Mirrored.{IsMirrored};
 ghost use Rattle.pmem_file.specs.Journaled.{HoldsGate, IsSince, is_gate, is_gate_line, is_gate_flushed};
 ghost use Rattle.pmem_file.specs.Traces.{device_of};
 
-use crate::changed::add_line;
+use crate::changed::ChangedLines;
 use crate::flushed::{Flushed, MOST_ACTORS, forget};
 use crate::trace::{Operation, Trace};
 use base::actor::Actor;
@@ -29,11 +29,8 @@ pub struct JournaledPmem<I: Images> {
     // committer flushes a line once in a cycle, and all others fence each line at once.
     flushed: Vec<Flushed>,
 
-    // The lines of which words were stored since an image was written, by rising number. There is room for each from the opening on.
-    changed: Vec<usize>,
-
-    // At which place of that list the line was that a word was stored to last.
-    last: usize,
+    // The lines of which words were stored since an image was written. There is room for each from the opening on.
+    changed: ChangedLines,
     images: I,
 
     // The places for records.
@@ -60,7 +57,7 @@ pub struct JournaledPmem<I: Images> {
     ghost gates: { is_gate_stored ≡ false → HoldsOnly (HoldsGate places (I.may_hold images)) (length words.items) words.items },
     ghost since_written: { failed ≡ false → IsSince (device_of trace) (device_of written.value).clock (I.shows images) },
     ghost gates_written: { failed ≡ false → is_gate_unwritten ≡ false → HoldsOnly (HoldsGate places (I.shows images)) (length words.items) words.items },
-    ghost changes: { failed ≡ false → (image : List ℕ) → I.shows images image → DiffersIn changed.items words.items image },
+    ghost changes: { failed ≡ false → (image : List ℕ) → I.shows images image → DiffersIn changed words.items image },
 }
 
 impl<I: Images> JournaledPmem<I> {
@@ -84,7 +81,7 @@ impl<I: Images> JournaledPmem<I> {
         let Ok(flushed) = Vec::with_capacity(alloc, lines.saturating_add(MOST_ACTORS)) else {
             return Err(images);
         };
-        let Ok(changed) = Vec::with_capacity(alloc, lines) else {
+        let Ok(changed) = ChangedLines::new(alloc, lines.saturating_add(1)) else {
             return Err(images);
         };
         let trace = Trace::begun(&words);
@@ -94,7 +91,6 @@ impl<I: Images> JournaledPmem<I> {
             words,
             flushed,
             changed,
-            last: 0,
             images,
             places,
             is_gate_stored: false,
@@ -283,6 +279,10 @@ fn unopened<S: Storage>(images: JournaledImages<S>) -> Unopened<S> {
 fn is_gate(places: usize, word: usize) -> bool
     ensures { result ≡ is_gate places word }
 {
+    // Most words lie behind all places.
+    if word / 32 > places {
+        return false;
+    }
     word < 8 || word % 32 == 8 && (word - 8) / 32 < places
 }
 
@@ -330,9 +330,8 @@ impl<I: Images> Pmem for JournaledPmem<I> {
 
     // It fails only where there is no memory.
     fn store(&mut self, word: usize, value: u64) -> Result<(), Fault> {
-        match add_line(&mut self.changed, self.last, word / 8) {
-            Ok(place) => {
-                self.last = place;
+        match self.changed.add(word / 8) {
+            Ok(()) => {
                 self.words[word] = value;
                 self.is_gate_stored = is_stored(self.is_gate_stored, self.places, word);
                 self.is_gate_unwritten = is_stored(self.is_gate_unwritten, self.places, word);

@@ -36,10 +36,10 @@ invariant_of-self g c =
       gates = h.gates;
       since_written = λ works. w.back;
       gates_written = λ works. w.gates;
-      changes = λ works image may. subst (λ (l : List ℕ). DiffersIn l words image) (sym c.clear.ensures.items) (differs-nowhere words image (begun image may));
+      changes = λ works image may. subst (λ (l : List ℕ). DiffersIn l words image) (sym c.clear.ensures) (differs-nowhere words image (begun image may));
     }
 
 pub begin-requires : goal.begin-requires
 begin-requires g c = record {
-  differs = λ image may. subst (λ (l : List ℕ). DiffersIn l c.args.self.now.words.items image) (sym c.as_slice.ensures.value) (c.args.self.now.changes c.requires image may);
+  differs = λ image may. subst (λ (l : List ℕ). DiffersIn l c.args.self.now.words.items image) (sym c.as_slice.ensures) (c.args.self.now.changes c.requires image may);
 }
