@@ -1,4 +1,4 @@
-use Rattle.std.proofs.Common.{rules, tests, arith, ◌≡◌, ◌<◌, true, false, length, get_or}
+use Rattle.std.proofs.Common.{rules, tests, ◌≡◌, ◌<◌, true, false, length, get_or}
 use Rattle.std.proofs.lemmas.List.Filters.{FiltersInPlace-more_no, FiltersInPlace-more_swap}
 use Rattle.txn.specs.DrawnCommits.{is_uncovered}
 use Rattle.txn.proofs.drawn.gather_uncovered.Goals as goal
