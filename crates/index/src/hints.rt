@@ -37,11 +37,18 @@ pub(crate) fn note(hints: &mut [usize], key: Key, place: usize) {
 }
 
 /// Makes more hints, and all of them anew, where there are no more than entries.
+#[inline(always)]
 pub(crate) fn widen(hints: &mut Vec<usize>, entries: &[(Key, Entry)]) -> Result<(), AllocError> {
-    let count = entries.len();
-    if count < hints.len() {
+    if entries.len() < hints.len() {
         return Ok(());
     }
+    renew(hints, entries)
+}
+
+// Makes all hints anew, more than there are entries.
+#[inline(never)]
+fn renew(hints: &mut Vec<usize>, entries: &[(Key, Entry)]) -> Result<(), AllocError> {
+    let count = entries.len();
     hints.resize(count.saturating_add(count).saturating_add(FEWEST), 0)?;
     for place in 0..count {
         note(hints.as_mut_slice(), entries[place].0, place);

@@ -1,4 +1,5 @@
-ghost use Rattle.std.specs.Prelude.{◌≡◌, ◌==◌, not, filter};
+ghost use Rattle.std.specs.Prelude.{◌≡◌, filter};
+ghost use Rattle.pmem_file.specs.Flushes.{is_of_another};
 
 /// As many actors flush lines.
 pub(crate) const MOST_ACTORS: usize = 64;
@@ -12,7 +13,23 @@ pub(crate) struct Flushed {
 
 /// What the actor flushed is fenced.
 pub(crate) fn forget(flushed: &mut Vec<Flushed>, actor: u8)
-    ensures { flushed.new.items ≡ filter (λ one. not (one.actor == actor)) flushed.old.items }
+    ensures { flushed.new.items ≡ filter (is_of_another actor) flushed.old.items }
 {
-    flushed.retain(|one| one.actor != actor);
+    forget_last(flushed, actor);
+    if !flushed.is_empty() {
+        flushed.retain(|one| one.actor != actor);
+    }
+}
+
+// What the actor flushed last, up to what another flushed. Mostly it is all that there is.
+#[inline(always)]
+fn forget_last(flushed: &mut Vec<Flushed>, actor: u8)
+    ensures { filter (is_of_another actor) flushed.new.items ≡ filter (is_of_another actor) flushed.old.items }
+{
+    while let Some(last) = flushed.as_slice().last() {
+        if last.actor != actor {
+            return;
+        }
+        let _ = flushed.pop();
+    }
 }

@@ -1,8 +1,9 @@
 -- Draw.
-use Rattle.std.proofs.Common.{◌≡◌, ◌≢◌, inl, ℕ, ◌+◌, ◌*◌, ◌^◌, Bool, true, false, ◌&&◌, ◌||◌, cond, not, List, [], ◌∷◌, ◌++◌, refl, sym, ◌∙◌, ap, subst, nat_eq, nat_le}
+use Rattle.std.proofs.Common.{◌≡◌, ◌≢◌, inl, ℕ, ◌+◌, ◌*◌, ◌^◌, Bool, true, false, ◌&&◌, ◌||◌, cond, not, List, [], ◌∷◌, ◌++◌, map, refl, sym, ◌∙◌, ap, subst, nat_eq, nat_le, nat_lt}
 use Rattle.std.specs.Prelude.{Option, Some, None, All}
-use Rattle.std.specs.List.{flat_map}
+use Rattle.std.specs.List.{flat_map, list_all}
 use Rattle.std.specs.Option.{option_map, option_map_or}
+use Rattle.std.proofs.lemmas.Bool.{and_from, and_parts}
 use Rattle.std.proofs.lemmas.List.{map-append}
 use Rattle.base.specs.declared.key.Key.{Key}
 use Rattle.base.specs.declared.fault.Fault.{Fault}
@@ -12,15 +13,17 @@ use Rattle.base.specs.declared.step.Reply.TheVariants as reply
 use Rattle.base.specs.declared.step.SessionStep.TheVariants.{Draw}
 use Rattle.base.specs.declared.step.SessionReply.TheVariants.{Done, Drawn as DrewAs, Refused}
 use Rattle.base.specs.Commits.{Writes}
+use Rattle.base.specs.Records.{Record, is_committed}
 use Rattle.base.specs.Search.{first_of as first_there, some_if}
 use Rattle.base.specs.Lists.{is_nil}
-use Rattle.machine.specs.Machine.{State, Session, Active as Reads, answered, memory_refused, refusal, conflict_of, writes_of, state_drawn, is_too_long, overfills, lacks_slot, chooses, by_commit}
+use Rattle.machine.specs.Machine.{State, Session, Drawn as PlainDrawn, Active as Reads, answered, memory_refused, refusal, conflict_of, writes_of, state_drawn, is_too_long, overfills, lacks_slot, chooses, by_commit}
 use Rattle.snapshot.specs.Snapshots.{Seen}
 use Rattle.txn.specs.InFlight.{InFlight}
 use Rattle.txn.specs.declared.drawn.DrawnCommit.{DrawnCommit}
 use Rattle.txn.specs.declared.transaction.Transaction.{Transaction}
 use Rattle.txn.specs.declared.transaction.Transaction.TheVariants.{Active, Drawn, ReadOnly}
 use Rattle.txn.specs.declared.write.Write.{Write}
+use Rattle.txn.specs.DrawnCommits.{are_below}
 use Rattle.txn.specs.Transactions.{transaction_at, Sets}
 use Rattle.txn.specs.WriteSets.{plain_writes, plain_write, write_of}
 use Rattle.dirty_table.specs.Touches.{Table}
@@ -37,6 +40,14 @@ use Rattle.session_steps.proofs.LastDrawn.{conflict-is}
 use Rattle.session_steps.proofs.OneSet.{sessions-kept}
 use Rattle.session_steps.proofs.Refusals.{passes}
 use Rattle.session_steps.proofs.CodeTests.{same-drawers}
+
+-- ---- what is drawn has earlier timestamps
+
+pub all-early : (ruling : Record) (next : ℕ) (ds : List DrawnCommit) → list_all (λ (d : PlainDrawn). not (is_committed ruling d.commit.timestamp) && nat_lt d.commit.timestamp next) (map plain_drawn ds) ≡ true → are_below next ds ≡ true
+all-early ruling next [] all = refl
+all-early ruling next (d ∷ ds) all =
+    let both = and_parts (not (is_committed ruling d.timestamp) && nat_lt d.timestamp next) (list_all (λ (d : PlainDrawn). not (is_committed ruling d.commit.timestamp) && nat_lt d.commit.timestamp next) (map plain_drawn ds)) all in
+    and_from (nat_lt d.timestamp next) (are_below next ds) (and_parts (not (is_committed ruling d.timestamp)) (nat_lt d.timestamp next) both.0).1 (all-early ruling next ds both.1)
 
 -- ---- what is asked of a draw
 

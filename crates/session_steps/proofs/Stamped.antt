@@ -238,7 +238,7 @@ module _ (s : Sessions) (h : Hidden) (n : ℕ) (next : Unstamped) (before now : 
   q = plain_of s h
 
   abbrev ended : Option ℕ
-  ended = live_of (entry_at s.index next.write.key)
+  ended = live_of (entry_at s.index next.write.now.key)
 
   held : Holds s h
   held = held-on s h before holds
@@ -247,7 +247,7 @@ module _ (s : Sessions) (h : Hidden) (n : ℕ) (next : Unstamped) (before now : 
   plain-at = drawn-plain s h next.timestamp ∙ ap (option_map plain_drawn) is_next.at
 
   left : nat_lt is_next.commit.stamped (length is_next.commit.writes) ≡ true
-  left = let lt = slice_get_within is_next.commit.writes is_next.commit.stamped next.write is_next.is_next.write_is in grind (arith, nat_tests)
+  left = let lt = slice_get_within is_next.commit.writes is_next.commit.stamped next.write.now is_next.is_next.write_is in grind (arith, nat_tests)
 
   here : q.sessions n ≡ Some (Drew next.timestamp)
   here = found s h n _ at
@@ -255,27 +255,27 @@ module _ (s : Sessions) (h : Hidden) (n : ℕ) (next : Unstamped) (before now : 
   allowed : refusal q (step.Stamp n) ≡ None
   allowed = passes q (step.Stamp n) n _ holds.works refl here (allows-stamp s n h (Drawn next.timestamp) held at ∙ ap (λ (o : Option DrawnCommit). has_left o) is_next.at ∙ left)
 
-  deals : stamped_write q n ≡ Some (next.write.key, next.write.row)
+  deals : stamped_write q n ≡ Some (next.write.now.key, next.write.now.row)
   deals =
       ap (λ (o : Option Session). option_and_then (λ d. slice_get d.commit.writes d.stamped) (drawn_at q (timestamp_of o))) here ∙ ap (option_and_then (λ d. slice_get d.commit.writes d.stamped)) plain-at
       ∙ slice_get-plain_writes is_next.commit.writes is_next.commit.stamped ∙ ap (option_map plain_write) is_next.is_next.write_is
 
-  pub own-slot : IsSlotOf q (version_by next.write.key (ByCommit next.timestamp)) next.write.slot
+  pub own-slot : IsSlotOf q (version_by next.write.now.key (ByCommit next.timestamp)) next.write.now.slot
   own-slot =
       let has = found-all (HoldsDrawn s q) (λ d. nat_eq d.timestamp next.timestamp) s.drawn.commits is_next.commit holds.agrees.drawn is_next.at in
       let stamp-of : nat_eq is_next.commit.timestamp next.timestamp ≡ true = find-passes (λ (d : DrawnCommit). nat_eq d.timestamp next.timestamp) s.drawn.commits is_next.commit is_next.at in
       let same : is_next.commit.timestamp ≡ next.timestamp = grind (arith, nat_tests) in
-      let lt = slice_get_within is_next.commit.writes is_next.commit.stamped next.write is_next.is_next.write_is in
-      let one = has.writes is_next.commit.stamped next.write lt in
-      let this : get_or is_next.commit.writes is_next.commit.stamped next.write ≡ next.write = get_or_from_slice_get is_next.commit.writes is_next.commit.stamped next.write next.write is_next.is_next.write_is in
-      subst (λ (u : ℕ). IsSlotOf q (version_by next.write.key (ByCommit u)) next.write.slot) same
+      let lt = slice_get_within is_next.commit.writes is_next.commit.stamped next.write.now is_next.is_next.write_is in
+      let one = has.writes is_next.commit.stamped next.write.now lt in
+      let this : get_or is_next.commit.writes is_next.commit.stamped next.write.now ≡ next.write.now = get_or_from_slice_get is_next.commit.writes is_next.commit.stamped next.write.now next.write.now is_next.is_next.write_is in
+      subst (λ (u : ℕ). IsSlotOf q (version_by next.write.now.key (ByCommit u)) next.write.now.slot) same
       (subst (λ (w : Write). IsSlotOf q (version_by w.key (ByCommit is_next.commit.timestamp)) w.slot) this one.slot)
 
-  pub ended-slot : IsSlotOf q (newest_of q next.write.key) ended
-  ended-slot = (holds.agrees.index next.write.key).live
+  pub ended-slot : IsSlotOf q (newest_of q next.write.now.key) ended
+  ended-slot = (holds.agrees.index next.write.now.key).live
 
-  own-by : IsSlotOf q (version_by next.write.key (ByCommit (timestamp_of (q.sessions n)))) next.write.slot
-  own-by = subst (λ (o : Option Session). IsSlotOf q (version_by next.write.key (ByCommit (timestamp_of o))) next.write.slot) (sym here) own-slot
+  own-by : IsSlotOf q (version_by next.write.now.key (ByCommit (timestamp_of (q.sessions n)))) next.write.now.slot
+  own-by = subst (λ (o : Option Session). IsSlotOf q (version_by next.write.now.key (ByCommit (timestamp_of o))) next.write.now.slot) (sym here) own-slot
 
   -- all that it stores is its own
   stores-only : (a : Layout) (own end : Option ℕ) (t : ℕ) → list_all (is_by_actor (Some n)) (begin_operations a own t ++ end_operations a end t) ≡ true
@@ -285,8 +285,8 @@ module _ (s : Sessions) (h : Hidden) (n : ℕ) (next : Unstamped) (before now : 
   stores-only a (Some own) (Some slot) t = refl
 
   -- with the timestamp as the machine has it
-  as-run : (t : ℕ) → Runs (stamp_operations q next.write.slot ended next.timestamp) before now → t ≡ next.timestamp → Runs (stamp_operations q next.write.slot ended t) before now
-  as-run t run is = subst (λ (u : ℕ). Runs (stamp_operations q next.write.slot ended u) before now) (sym is) run
+  as-run : (t : ℕ) → Runs (stamp_operations q next.write.now.slot ended next.timestamp) before now → t ≡ next.timestamp → Runs (stamp_operations q next.write.now.slot ended t) before now
+  as-run t run is = subst (λ (u : ℕ). Runs (stamp_operations q next.write.now.slot ended u) before now) (sym is) run
 
   stamp-time : timestamp_of (q.sessions n) ≡ next.timestamp
   stamp-time = ap (λ (o : Option Session). timestamp_of o) here
@@ -303,11 +303,11 @@ module _ (s : Sessions) (h : Hidden) (n : ℕ) (next : Unstamped) (before now : 
       (λ i. record q { drawn = counted-is next.timestamp s.drawn.commits holds.upholds.keeps.draws.counted (whole-at s h next.timestamp is_next.commit held is_next.at ∙ ap not left) i })
       ∙ ap (λ (u : ℕ). let q' : State = record q { drawn = map (counted u) q.drawn } in q') (sym stamp-time)
 
-  goes-stamped : (spare : ℕ) (r : SessionReply) → as_reply r ≡ cond next.is_last reply.Stamped reply.More → ((fault : Fault) → r ≡ Refused fault → ⊥) → Runs (stamp_operations q next.write.slot ended next.timestamp) before now
+  goes-stamped : (spare : ℕ) (r : SessionReply) → as_reply r ≡ cond next.is_last reply.Stamped reply.More → ((fault : Fault) → r ≡ Refused fault → ⊥) → Runs (stamp_operations q next.write.now.slot ended next.timestamp) before now
       → GoesOn s (record s { drawn = record { commits = map (with_stamp next.timestamp) s.drawn.commits; spare = spare } }) before now (Stamp n) r h
   goes-stamped spare r replied untold run =
-      let leads = stamps-lead.stored h.origin q n next.write.key next.write.row next.write.slot ended before now allowed deals own-by ended-slot (as-run (timestamp_of (q.sessions n)) run stamp-time) holds.upholds in
-      let counts = stamps-count.stored q n next.timestamp next.write.slot ended before now run in
+      let leads = stamps-lead.stored h.origin q n next.write.now.key next.write.now.row next.write.now.slot ended before now allowed deals own-by ended-slot (as-run (timestamp_of (q.sessions n)) run stamp-time) holds.upholds in
+      let counts = stamps-count.stored q n next.timestamp next.write.now.slot ended before now run in
       record {
         goes = record {
           next = h;
@@ -318,35 +318,35 @@ module _ (s : Sessions) (h : Hidden) (n : ℕ) (next : Unstamped) (before now : 
         };
         upholds = subst (λ (p : State). Upholds h.origin p now) (sym (then-is spare)) leads.upholds;
         effect = all-made (subst (λ (p : State). LeavesOnly before now (StandsWithin q p)) (sym (then-is spare)) leads.images) (omega (arith, counts.failed)) counts.operations
-            record { operations = stamp_operations q next.write.slot ended next.timestamp; made = run.made; by_actor = stores-only q.layout next.write.slot ended next.timestamp } untold;
+            record { operations = stamp_operations q next.write.now.slot ended next.timestamp; made = run.made; by_actor = stores-only q.layout next.write.now.slot ended next.timestamp } untold;
       }
 
-  pub stamps-last : (commits : InFlight) → next.is_last ≡ true → commits.commits ≡ map (with_stamp next.timestamp) s.drawn.commits → Runs (stamp_operations q next.write.slot ended next.timestamp) before now → GoesOn s (record s { drawn = commits }) before now (Stamp n) Stamped h
+  pub stamps-last : (commits : InFlight) → next.is_last ≡ true → commits.commits ≡ map (with_stamp next.timestamp) s.drawn.commits → Runs (stamp_operations q next.write.now.slot ended next.timestamp) before now → GoesOn s (record s { drawn = commits }) before now (Stamp n) Stamped h
   stamps-last commits last is run =
       subst (λ (x : InFlight). GoesOn s (record s { drawn = x }) before now (Stamp n) Stamped h) (λ i. record { commits = sym is i; spare = commits.spare })
       (goes-stamped commits.spare Stamped (sym (ap (λ (b : Bool). cond b reply.Stamped reply.More) last)) (λ fault told. absurd (cc told)) run)
 
-  pub stamps-more : (commits : InFlight) → next.is_last ≡ false → commits.commits ≡ map (with_stamp next.timestamp) s.drawn.commits → Runs (stamp_operations q next.write.slot ended next.timestamp) before now → GoesOn s (record s { drawn = commits }) before now (Stamp n) More h
+  pub stamps-more : (commits : InFlight) → next.is_last ≡ false → commits.commits ≡ map (with_stamp next.timestamp) s.drawn.commits → Runs (stamp_operations q next.write.now.slot ended next.timestamp) before now → GoesOn s (record s { drawn = commits }) before now (Stamp n) More h
   stamps-more commits last is run =
       subst (λ (x : InFlight). GoesOn s (record s { drawn = x }) before now (Stamp n) More h) (λ i. record { commits = sym is i; spare = commits.spare })
       (goes-stamped commits.spare More (sym (ap (λ (b : Bool). cond b reply.Stamped reply.More) last)) (λ fault told. absurd (cc told)) run)
 
   -- the device stopped it
-  pub stamps-stopped : (fault : Fault) → fault ≡ DeviceFault → StopsWithin (stamp_operations q next.write.slot ended next.timestamp) before now → GoesOn s s before now (Stamp n) (Refused fault) h
+  pub stamps-stopped : (fault : Fault) → fault ≡ DeviceFault → StopsWithin (stamp_operations q next.write.now.slot ended next.timestamp) before now → GoesOn s s before now (Stamp n) (Refused fault) h
   stamps-stopped fault is stops =
-      let by-time = subst (λ (u : ℕ). StopsWithin (stamp_operations q next.write.slot ended u) before now) (sym stamp-time) stops in
-      let leads = stamps-lead.stopped h.origin q n next.write.key next.write.row next.write.slot ended before now allowed deals own-by ended-slot by-time holds.upholds in
-      let counts = stamps-count.stopped q n next.timestamp next.write.slot ended before now stops in
-      let some : 0 < length (stamp_operations q next.write.slot ended (timestamp_of (q.sessions n))) = let lt = by-time.1 in omega (arith, lt) in
+      let by-time = subst (λ (u : ℕ). StopsWithin (stamp_operations q next.write.now.slot ended u) before now) (sym stamp-time) stops in
+      let leads = stamps-lead.stopped h.origin q n next.write.now.key next.write.now.row next.write.now.slot ended before now allowed deals own-by ended-slot by-time holds.upholds in
+      let counts = stamps-count.stopped q n next.timestamp next.write.now.slot ended before now stops in
+      let some : 0 < length (stamp_operations q next.write.now.slot ended (timestamp_of (q.sessions n))) = let lt = by-time.1 in omega (arith, lt) in
       record {
         goes = record {
           next = record h { failed = true };
           origin = refl;
-          stepped = device_failed allowed (stamps-operate h.origin q n next.write.key next.write.row next.write.slot ended holds.upholds.keeps deals own-by ended-slot some) (ap (λ (f : Fault). reply.Refused f) is) refl;
+          stepped = device_failed allowed (stamps-operate h.origin q n next.write.now.key next.write.now.row next.write.now.slot ended holds.upholds.keeps deals own-by ended-slot some) (ap (λ (f : Fault). reply.Refused f) is) refl;
           agrees = failed-agrees s h holds.agrees;
           drawers = same-drawers s.drawn.commits;
         };
         upholds = leads.upholds;
         effect = last-failed fault is refl (λ told same. cc same) leads.images counts.failed counts.operations
-            (stopped-by n (stamp_operations q next.write.slot ended next.timestamp) stops (stores-only q.layout next.write.slot ended next.timestamp));
+            (stopped-by n (stamp_operations q next.write.now.slot ended next.timestamp) stops (stores-only q.layout next.write.now.slot ended next.timestamp));
       }

@@ -16,7 +16,7 @@ pub record IsNextIn (d : DrawnCommit) (write : Write) (is_last : Bool) : Type 0 
 pub record IsNextOf (commits : List DrawnCommit) (next : Unstamped) : Type 0 where
   pub commit : DrawnCommit
   pub at : drawn_at next.timestamp commits ≡ Some commit
-  pub is_next : IsNextIn commit next.write next.is_last
+  pub is_next : IsNextIn commit next.write.now next.is_last
 
 -- a write of the commit is left
 abbrev pub has_left : Option DrawnCommit → Bool

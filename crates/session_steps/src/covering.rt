@@ -64,6 +64,7 @@ impl Sessions {
         cover_commits(&mut self.index, commits, ruling);
         self.dirty.forget(&sessions);
         self.numbers.record = ruling;
-        self.drawn.cover(&self.numbers.snapshot());
+        self.drawn
+            .cover(&self.numbers.snapshot(), &mut self.transactions);
     }
 }

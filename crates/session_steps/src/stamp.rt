@@ -20,9 +20,9 @@ use version_slot::{stamp_begin, stamp_end};
 
 /// The next write of a commit that isn't stamped whole.
 #[derive(Clone, Copy)]
-pub struct Unstamped {
+pub struct Unstamped<'a> {
     pub timestamp: Ts,
-    pub write: Write,
+    pub write: &'a Write,
     /// Whether none is left after it.
     pub is_last: bool,
 }
@@ -38,7 +38,7 @@ impl Sessions {
 
     // The write that the session of this number stamps next.
     #[inline(always)]
-    fn unstamped(&self, session: u8) -> Result<Unstamped, Fault>
+    fn unstamped(&self, session: u8) -> Result<Unstamped<'_>, Fault>
         ensures at { IfOk result (λ next. transaction_at self.now.transactions session ≡ Some (Drawn next.timestamp)) }
         ensures next { IfOk result (λ next. IsNextOf self.now.drawn.commits next) }
         ensures fault { IfErr result (λ fault. IsBarred (is_unstamped self.now.drawn.commits) (transaction_at self.now.transactions session) fault) }
@@ -64,12 +64,14 @@ impl Sessions {
             Ok(next) => next,
             Err(fault) => return Err(fault),
         };
+        let timestamp = next.timestamp;
+        let is_last = next.is_last;
         let geometry = self.numbers.geometry;
         let ended = self.index.live(next.write.key, next.write.place);
-        match stamp_write(device, geometry, next.write.slot, ended, next.timestamp) {
+        match stamp_write(device, geometry, next.write.slot, ended, timestamp) {
             Ok(()) => {
-                self.drawn.stamp(next.timestamp);
-                if next.is_last { Ok(true) } else { Ok(false) }
+                self.drawn.stamp(timestamp);
+                if is_last { Ok(true) } else { Ok(false) }
             }
             Err(fault) => Err(fault),
         }
@@ -78,8 +80,8 @@ impl Sessions {
 
 // The next write of a commit, if one is left.
 #[inline(always)]
-fn next_of(timestamp: Ts, commit: &DrawnCommit) -> Result<Unstamped, Fault>
-    ensures ok { IfOk result (λ next. IsNextIn commit.now next.write next.is_last) }
+fn next_of(timestamp: Ts, commit: &DrawnCommit) -> Result<Unstamped<'_>, Fault>
+    ensures ok { IfOk result (λ next. IsNextIn commit.now next.write.now next.is_last) }
     ensures timestamp { IfOk result (λ next. next.timestamp ≡ timestamp) }
     ensures fault { IfErr result (λ fault. fault ≡ WrongState) }
     ensures none { OnErr result (nat_lt commit.now.stamped (length commit.now.writes) ≡ false) }

@@ -1,5 +1,6 @@
 //! Which drawn commits a batch takes, what its record says, and what a close takes.
 ghost use Rattle.std.specs.Prelude.{◌≡◌, ◌<◌, ◌≤◌, ◌^◌, All, IfOk};
+ghost use Rattle.txn.specs.DrawnCommits.{are_below};
 
 use base::Ts;
 use base::fault::Fault;
@@ -16,7 +17,7 @@ use txn::{DrawnCommit, DrawnCommits, Write, WriteSet};
 
 // A commit that deletes one key.
 fn deletion(alloc: Global, session: u8, timestamp: Ts, stamped: usize) -> Result<DrawnCommit, Fault>
-    ensures { IfOk result (λ commit. commit.session ≡ session) }
+    ensures { IfOk result (λ commit. (commit.session ≡ session) × (commit.timestamp ≡ timestamp)) }
 {
     let mut writes = WriteSet::new(alloc)?;
     if !writes.is_full() {
@@ -38,14 +39,28 @@ fn deletion(alloc: Global, session: u8, timestamp: Ts, stamped: usize) -> Result
     })
 }
 
+// Whether each commit has a timestamp below this one.
+pub(crate) fn is_above(drawn: &DrawnCommits, timestamp: Ts) -> bool
+    ensures { result ≡ are_below timestamp drawn.now.commits }
+{
+    drawn
+        .as_slice()
+        .iter()
+        .all(|commit| commit.timestamp < timestamp)
+}
+
 // These commits, drawn in this order: of each the session, the timestamp and how many of its writes are stamped.
 fn drawn_by(alloc: Global, commits: &[(u8, Ts, usize)]) -> Result<DrawnCommits, Fault>
     requires { All (λ commit. commit.0 < 64) commits.now }
 {
     let mut drawn = DrawnCommits::new(alloc);
     for (session, timestamp, stamped) in commits {
+        let commit = deletion(alloc, *session, *timestamp, *stamped)?;
         drawn.reserve()?;
-        drawn.push(deletion(alloc, *session, *timestamp, *stamped)?);
+        if !is_above(&drawn, *timestamp) {
+            return Err(Fault::WrongState);
+        }
+        drawn.push(commit);
     }
     Ok(drawn)
 }

@@ -1,4 +1,5 @@
 //! Open transactions by the numbers of their sessions, and drawn commits until a record covers them.
+use crate::batches::is_above;
 use base::Ts;
 use base::key::Key;
 use base::longs::Longs;
@@ -62,6 +63,7 @@ fn commits_are_covered_as_far_as_they_are_stamped(rt: HostRuntime) -> Result<(),
             place: None,
         });
         drawn.reserve()?;
+        assert!(rt; is_above(&drawn, timestamp));
         drawn.push(DrawnCommit {
             session,
             timestamp,
@@ -78,7 +80,9 @@ fn commits_are_covered_as_far_as_they_are_stamped(rt: HostRuntime) -> Result<(),
     drawn.stamp(8);
     assert_eq!(rt; drawn.reach(7, 0), 9);
     assert!(rt; drawn.as_slice()[0].is_stamped());
-    drawn.cover(&Snapshot::new(8, GapList::none(), Longs::none()));
+    let mut transactions = Transactions::new(rt.alloc());
+    let snapshot = Snapshot::new(8, GapList::none(), Longs::none());
+    drawn.cover(&snapshot, &mut transactions);
     assert!(rt; drawn.get(8).is_none());
     assert!(rt; drawn.get(9).is_some());
     assert_eq!(rt; drawn.reach(8, 0), 9);

@@ -1,6 +1,7 @@
-ghost use Rattle.std.specs.Prelude.{◌≡◌, map};
-ghost use Rattle.txn.specs.DrawnCommits.{with_stamp};
+ghost use Rattle.std.specs.Prelude.{◌≡◌, ◌≤◌, length, take, filter, map, IsTrue};
+ghost use Rattle.txn.specs.DrawnCommits.{are_in_order, is_uncovered, place_of, with_stamp};
 
+use crate::transactions::Transactions;
 use crate::write_set::WriteSet;
 use base::Ts;
 use base::fault::Fault;
@@ -40,7 +41,7 @@ impl DrawnCommit {
     }
 }
 
-/// The commits that are drawn and not covered, in the order in which they were drawn.
+/// The commits that are drawn and not covered, in the order in which they were drawn, that of their timestamps.
 #[derive(Drop)]
 pub struct DrawnCommits {
     commits: Vec<DrawnCommit>,
@@ -49,20 +50,19 @@ pub struct DrawnCommits {
 impl Model for DrawnCommits {
     ghost use Rattle.std.specs.Prelude.{vec_len, vec_capacity, ◌-◌, IsTrue};
     ghost use Rattle.txn.specs.InFlight.{InFlight};
-    ghost use Rattle.txn.specs.DrawnCommits.{are_numbered};
+    ghost use Rattle.txn.specs.DrawnCommits.{are_numbered, are_in_order};
 
     ghost Value = { InFlight };
 
     ghost view = { λ d. record { commits = d.commits.items; spare = vec_capacity d.commits - vec_len d.commits } };
 
-    ghost invariant = { λ d. IsTrue (are_numbered d.commits.items) };
+    ghost invariant = { λ d. IsTrue (are_numbered d.commits.items) × IsTrue (are_in_order d.commits.items) };
 }
 
 impl DrawnCommits {
-    ghost use Rattle.std.specs.Prelude.{◌≤◌, ◌<◌, ◌++◌, [], ◌∷◌, not, filter, length, option_copied, IfErr, IsTrue, OnOk, OnErr};
+    ghost use Rattle.std.specs.Prelude.{◌≤◌, ◌<◌, ◌++◌, [], ◌∷◌, filter, length, option_copied, IfErr, IsTrue, OnOk, OnErr};
     ghost use Rattle.base.specs.declared.fault.Fault.TheVariants.{OutOfMemory};
-    ghost use Rattle.snapshot.specs.Snapshots.{covers};
-    ghost use Rattle.txn.specs.DrawnCommits.{are_numbered, drawn_at, reach, passed_over};
+    ghost use Rattle.txn.specs.DrawnCommits.{are_below, are_numbered, drawn_at, is_uncovered, reach, passed_over};
 
     /// None is drawn.
     pub fn new(alloc: Global) -> DrawnCommits
@@ -73,7 +73,7 @@ impl DrawnCommits {
         }
     }
 
-    /// The commits, by rising timestamp where they were drawn so. The sessions that drew them have numbers below 64.
+    /// The commits, by rising timestamp. The sessions that drew them have numbers below 64.
     pub fn as_slice(&self) -> &[DrawnCommit]
         ensures commits { result.now ≡ self.now.commits }
         ensures numbered { IsTrue (are_numbered self.now.commits) }
@@ -86,10 +86,17 @@ impl DrawnCommits {
     pub fn get(&self, timestamp: Ts) -> Option<&DrawnCommit>
         ensures { option_copied result ≡ drawn_at timestamp self.now.commits }
     {
-        self.commits
-            .as_slice()
-            .iter()
-            .find(|commit| commit.timestamp == timestamp)
+        let commits = self.commits.as_slice();
+        match commits.get(place(commits, timestamp)) {
+            Some(commit) => {
+                if commit.timestamp == timestamp {
+                    Some(commit)
+                } else {
+                    None
+                }
+            }
+            None => None,
+        }
     }
 
     /// Makes room for one more, and changes nothing else.
@@ -108,6 +115,7 @@ impl DrawnCommits {
     /// Adds the commit that was drawn last, where there is room for it.
     pub fn push(&mut self, commit: DrawnCommit)
         requires room { 0 < self.old.spare }
+        requires last { IsTrue (are_below commit.timestamp self.old.commits) }
         requires numbered { commit.session < 64 }
         ensures { self.new.commits ≡ self.old.commits ++ commit ∷ [] }
     {
@@ -118,15 +126,17 @@ impl DrawnCommits {
     pub fn stamp(&mut self, timestamp: Ts)
         ensures { self.new.commits ≡ map (with_stamp timestamp) self.old.commits }
     {
-        stamp_each(self.commits.as_mut_slice(), timestamp);
+        stamp_in(self.commits.as_mut_slice(), timestamp);
     }
 
-    /// The commits that the snapshot covers are drawn no more. The others keep their order.
-    pub fn cover(&mut self, snapshot: &Snapshot)
-        ensures { self.new.commits ≡ filter (λ d. not (covers snapshot.now d.timestamp)) self.old.commits }
+    /// The commits that the snapshot covers are drawn no more, and transactions that begin may have their sets. The others keep
+    /// their order.
+    pub fn cover(&mut self, snapshot: &Snapshot, transactions: &mut Transactions)
+        ensures commits { self.new.commits ≡ filter (is_uncovered snapshot.now) self.old.commits }
+        ensures transactions { transactions.new ≡ transactions.old }
     {
-        self.commits
-            .retain(|commit| !snapshot.covers(commit.timestamp));
+        let kept = gather_uncovered(self.commits.as_mut_slice(), snapshot);
+        hand_back(&mut self.commits, kept, transactions);
     }
 
     /// Up to which timestamp a record reaches that may pass over so many commits that aren't stamped: that of the last
@@ -161,11 +171,58 @@ impl DrawnCommits {
     }
 }
 
-// One more write of the commits of this timestamp is stamped.
-fn stamp_each(commits: &mut [DrawnCommit], timestamp: Ts)
+// Puts those that the snapshot doesn't cover before all others, in their order. How many they are.
+fn gather_uncovered(commits: &mut [DrawnCommit], snapshot: &Snapshot) -> usize
+    ensures uncovered { take result commits.new ≡ filter (is_uncovered snapshot.now) commits.old }
+    ensures within { result ≤ length commits.new }
+{
+    let mut kept = 0;
+    for at in 0..commits.len() {
+        if !snapshot.covers(commits[at].timestamp) {
+            commits.swap(kept, at);
+            kept += 1;
+        }
+    }
+    kept
+}
+
+// Only the first so many stay. Transactions that begin may have the sets of the others.
+fn hand_back(commits: &mut Vec<DrawnCommit>, kept: usize, transactions: &mut Transactions)
+    ensures commits { commits.new.items ≡ take kept commits.old.items }
+    ensures transactions { transactions.new ≡ transactions.old }
+{
+    while commits.len() > kept {
+        if let Some(commit) = commits.pop() {
+            transactions.keep(commit.writes);
+        }
+    }
+}
+
+// How many come before the first whose timestamp isn't below. A commit is mostly asked for while it is the last.
+#[inline(always)]
+fn place(commits: &[DrawnCommit], timestamp: Ts) -> usize
+    requires { IsTrue (are_in_order commits.now) }
+    ensures { result ≡ place_of timestamp commits.now }
+{
+    match commits.last() {
+        Some(last) => {
+            if last.timestamp == timestamp {
+                commits.len() - 1
+            } else {
+                commits.partition_point(|commit| commit.timestamp < timestamp)
+            }
+        }
+        None => 0,
+    }
+}
+
+// One more write of the commit of this timestamp is stamped, if there is one.
+fn stamp_in(commits: &mut [DrawnCommit], timestamp: Ts)
+    requires { IsTrue (are_in_order commits.old) }
     ensures { commits.new ≡ map (with_stamp timestamp) commits.old }
 {
-    for commit in commits {
-        commit.stamp(timestamp);
+    let at = place(commits, timestamp);
+    if at < commits.len() {
+        commits[at].stamp(timestamp);
     }
 }

@@ -1,5 +1,6 @@
-ghost use Rattle.std.specs.Prelude.{◌≡◌, ◌⊎◌, ◌≤◌, ◌<◌, length, IfSome};
+ghost use Rattle.std.specs.Prelude.{◌≡◌, ◌⊎◌, ◌≤◌, ◌<◌, [], length, IfSome, IfOk, IfErr};
 ghost use Rattle.slab.specs.Slab.{slab_len};
+ghost use Rattle.base.specs.declared.fault.Fault.TheVariants.{OutOfMemory};
 ghost use Rattle.txn.specs.Tables.{entry_at};
 
 use crate::transaction::Transaction;
@@ -20,6 +21,8 @@ pub struct Transactions {
     places: [Option<usize>; 62],
     // No session has a number from here on.
     limit: u8,
+    // Sets whose transactions ended, for those that begin. There is room for them from the first begin on.
+    ended: Vec<WriteSet>,
     alloc: Global,
 }
 
@@ -63,6 +66,35 @@ fn lowered(slab: &Slab<Transaction>, limit: u8) -> u8
     if slab.is_empty() { FIRST } else { limit }
 }
 
+// A set without writes: one whose transaction ended, or a new one.
+fn empty_set(ended: &mut Vec<WriteSet>, alloc: Global) -> Result<WriteSet, Fault>
+    ensures set { IfOk result (λ writes. writes ≡ []) }
+    ensures fault { IfErr result (λ fault. fault ≡ OutOfMemory) }
+{
+    if let Some(mut writes) = ended.pop() {
+        writes.clear();
+        return Ok(writes);
+    }
+    if ended.reserve(MOST as usize).is_err() {
+        return Err(Fault::OutOfMemory);
+    }
+    WriteSet::new(alloc)
+}
+
+// Keeps a set whose transaction ended, where there is room.
+fn keep(ended: &mut Vec<WriteSet>, writes: WriteSet) {
+    if ended.len() < ended.capacity() {
+        ended.push_reserved(writes);
+    }
+}
+
+// Keeps the set of a transaction that ended, if it has one.
+fn keep_of(ended: &mut Vec<WriteSet>, transaction: Option<Transaction>) {
+    if let Some(Transaction::Active { writes, .. }) = transaction {
+        keep(ended, writes);
+    }
+}
+
 impl Transactions {
     ghost use Rattle.std.specs.Prelude.{ℕ, ◌⊎◌, [], Some, None, IsSome, IfOk, IfErr, IfNone, option_copied};
     ghost use Rattle.base.specs.declared.fault.Fault.TheVariants.{SessionsFull, OutOfMemory};
@@ -81,6 +113,7 @@ impl Transactions {
             slab: Slab::new(alloc),
             places: [None; 62],
             limit: FIRST,
+            ended: Vec::new(alloc),
             alloc,
         }
     }
@@ -126,7 +159,7 @@ impl Transactions {
         let Some(number) = self.free() else {
             return Err(Fault::SessionsFull);
         };
-        let writes = match WriteSet::new(self.alloc) {
+        let writes = match empty_set(&mut self.ended, self.alloc) {
             Ok(writes) => writes,
             Err(fault) => return Err(fault),
         };
@@ -147,7 +180,8 @@ impl Transactions {
     {
         if let Some(place) = place_of(&self.places, number) {
             if let Some(found) = self.slab.get_mut(place) {
-                drop(mem::replace(found, transaction));
+                let before = mem::replace(found, transaction);
+                keep_of(&mut self.ended, Some(before));
             }
         }
     }
@@ -158,10 +192,18 @@ impl Transactions {
         ensures { Sets self.old self.new number None }
     {
         if let Some(place) = place_of(&self.places, number) {
-            self.slab.try_remove(place);
+            let ended = self.slab.try_remove(place);
+            keep_of(&mut self.ended, ended);
             self.places[(number - FIRST) as usize] = None;
             self.limit = lowered(&self.slab, self.limit);
         }
+    }
+
+    /// Keeps the set of a commit that is drawn no more, for a transaction that begins.
+    pub fn keep(&mut self, writes: WriteSet)
+        ensures { self.new ≡ self.old }
+    {
+        keep(&mut self.ended, writes);
     }
 
     /// An Active transaction draws this timestamp. Its writes are moved out.
@@ -180,6 +222,7 @@ impl Transactions {
     }
 
     /// Writes in place, for an Active transaction with room for it.
+    #[inline(always)]
     pub fn write(&mut self, number: u8, write: Write)
         requires { (snapshot : Seen) × (writes : List Write) × (transaction_at self.old number ≡ Some (Active snapshot writes)) × HasRoomFor write.key writes }
         ensures { (snapshot : Seen) (writes : List Write) → transaction_at self.old number ≡ Some (Active snapshot writes) → Sets self.old self.new number (Some (Active snapshot (with_write_at write writes))) }

@@ -5,7 +5,7 @@ use Rattle.session_steps.proofs.stamp.next_of.Goals as goal
 
 pub overflow_add-result : goal.overflow_add-result
 overflow_add-result c =
-    let lt = slice_get_within c.args.commit.now.writes c.args.commit.now.stamped c.in-Some.write (sym c.in-Some.ensures) in
+    let lt = slice_get_within c.args.commit.now.writes c.args.commit.now.stamped c.in-Some.write.now (sym c.in-Some.ensures) in
     let few = c.len-len.ensures.few in
     let is = c.len-len.ensures.len in
     omega (arith, lt, few, is)

@@ -1,5 +1,5 @@
 use Rattle.std.proofs.Common.{◌≡◌, ℕ, true, List, subst, sym, rules}
-use Rattle.std.specs.Prelude.{All}
+use Rattle.std.specs.Prelude.{All, Option}
 use Rattle.std.proofs.Math.Bool.{Bool-set}
 use Rattle.std.proofs.Math.Logic.{∥∥₁_elim}
 use Rattle.base.specs.Records.{Record, is_well_formed}
@@ -7,7 +7,8 @@ use Rattle.machine.specs.Machine.{State}
 use Rattle.dirty_table.specs.Touches.{has}
 use Rattle.txn.specs.declared.drawn.DrawnCommit.{DrawnCommit}
 use Rattle.session_steps.specs.Shows.{has_drawn_by, plain_of, HoldsDrawn}
-use Rattle.session_steps.specs.Covering.{CoversCommits, committed_by, left_by}
+use Rattle.txn.specs.declared.transaction.Transaction.{Transaction}
+use Rattle.session_steps.specs.Covering.{CoversCommits, HasCovered, committed_by, left_by}
 use Rattle.gap_list.proofs.Tidy.{well_formed-tidy}
 use Rattle.session_steps.proofs.CoveredBatch.{has-covered, shows-covered}
 use Rattle.session_steps.proofs.sessions.Sessions.cover.Goals as goal
@@ -24,9 +25,10 @@ snapshot-requires c = ∥∥₁_elim c.requires (Bool-set _ _) (λ some.
 
 pub returns-clause-covers : goal.returns-clause-covers
 returns-clause-covers c = λ h hand may.
-    has-covered c.args.self.now c.args.ruling h hand may c.cover_commits.new.index c.forget.new.self c.sessions_of-sessions.result c.cover.new.self
+    subst (λ (ts : List (Option Transaction)). HasCovered c.args.self.now (record c.args.self.now { numbers = record { geometry = c.args.self.now.numbers.geometry; «record» = c.args.ruling; next = c.args.self.now.numbers.next }; index = c.cover_commits.new.index; dirty = c.forget.new.self; drawn = c.cover.new.self; transactions = ts }) h hand) (sym c.cover.ensures.transactions)
+    (has-covered c.args.self.now c.args.ruling h hand may c.cover_commits.new.index c.forget.new.self c.sessions_of-sessions.result c.cover.new.self
     (subst (λ (ds : List DrawnCommit). CoversCommits (committed_by c.args.ruling ds) c.args.self.now.index c.cover_commits.new.index) c.as_slice-commits.ensures.commits c.cover_commits.ensures) c.forget.ensures.touches c.forget.ensures.promised
-    (subst (λ (ds : List DrawnCommit). (n : ℕ) → has c.sessions_of-sessions.result n ≡ has_drawn_by (committed_by c.args.ruling ds) n) c.as_slice-commits.ensures.commits c.sessions_of-sessions.ensures) left
+    (subst (λ (ds : List DrawnCommit). (n : ℕ) → has c.sessions_of-sessions.result n ≡ has_drawn_by (committed_by c.args.ruling ds) n) c.as_slice-commits.ensures.commits c.sessions_of-sessions.ensures) left)
   where
     left : c.cover.new.self.commits ≡ left_by c.args.ruling c.args.self.now.drawn.commits
     left = search rules

@@ -1,15 +1,16 @@
-use Rattle.std.proofs.Common.{◌∙◌, ap, subst, refl, List, [], ◌∷◌, ◌++◌}
+use Rattle.std.proofs.Common.{◌≡◌, ◌∙◌, ap, subst, sym, refl, ℕ, true, List, [], ◌∷◌, ◌++◌}
 use Rattle.std.specs.Prelude.{Option}
 use Rattle.std.proofs.Math.Bool.{Bool-set}
 use Rattle.std.proofs.Math.Bridge.{le_prop}
 use Rattle.std.proofs.Math.Logic.{∥∥₁_elim}
 use Rattle.dirty_table.specs.Touches.{promised_to}
+use Rattle.txn.specs.DrawnCommits.{are_below}
 use Rattle.txn.specs.declared.drawn.DrawnCommit.{DrawnCommit}
 use Rattle.txn.specs.declared.transaction.Transaction.{Transaction}
 use Rattle.txn.specs.declared.write.Write.{Write}
 use Rattle.base.specs.declared.step.SessionStep.TheVariants.{Draw}
 use Rattle.session_steps.specs.Shows.{HasLines}
-use Rattle.session_steps.proofs.Draws.{draws, draws-not}
+use Rattle.session_steps.proofs.Draws.{all-early, draws, draws-not}
 use Rattle.session_steps.proofs.Noted.{fits-lines}
 use Rattle.session_steps.proofs.OneTransaction.{inactive}
 use Rattle.session_steps.proofs.CodeTests.{one-active}
@@ -20,6 +21,13 @@ touch_lines-requires-clause-fits c = ∥∥₁_elim c.requires.shown (Bool-set _
 
 pub touch_lines-requires-clause-room : goal.touch_lines-requires-clause-room
 touch_lines-requires-clause-room c = ∥∥₁_elim c.requires.shown le_prop (λ shown. subst (λ (t : Option Transaction). HasLines (promised_to c.args.self.now.dirty c.args.session) t) c.in-Ok.ensures.ok (shown.1.agrees.room c.args.session))
+
+pub push-requires-clause-last : goal.push-requires-clause-last
+push-requires-clause-last c =
+    ∥∥₁_elim c.requires.shown (Bool-set _ _)
+    (λ shown. subst (λ (n : ℕ). are_below n c.reserve.new.self.commits ≡ true) (sym c.draw-timestamp.ensures.timestamp)
+    (subst (λ (ds : List DrawnCommit). are_below c.args.self.now.numbers.next ds ≡ true) (sym c.reserve.ensures.commits)
+    (all-early c.args.self.now.numbers.record c.args.self.now.numbers.next c.args.self.now.drawn.commits shown.1.keeps.numbers.drawn)))
 
 pub returns-in-Err : goal.returns-in-Err
 returns-in-Err c = record { step = λ h holds. inactive c.args.self.now (Draw c.args.session) c.args.session c.in-Err.fault h refl refl c.in-Err.ensures.fault holds }

@@ -27,34 +27,34 @@ returns-in-Err g c = record {
 pub stamp_write-requires-clause-own : goal.stamp_write-requires-clause-own
 stamp_write-requires-clause-own g c =
     ∥∥₁_elim c.requires.shown (Bool-set _ _)
-    (λ shown. fits-of (plain_of c.args.self.now shown.0) (version_by c.in-Ok.next.write.key (ByCommit c.in-Ok.next.timestamp)) c.in-Ok.next.write.slot (own-slot c.args.self.now shown.0 c.args.session c.in-Ok.next (g.D.Pmem.state c.args.device.now) (g.D.Pmem.state c.args.device.now) shown.1 c.in-Ok.ensures.at c.in-Ok.ensures.next))
+    (λ shown. fits-of (plain_of c.args.self.now shown.0) (version_by c.in-Ok.next.write.now.key (ByCommit c.in-Ok.next.timestamp)) c.in-Ok.next.write.now.slot (own-slot c.args.self.now shown.0 c.args.session c.in-Ok.next (g.D.Pmem.state c.args.device.now) (g.D.Pmem.state c.args.device.now) shown.1 c.in-Ok.ensures.at c.in-Ok.ensures.next))
 
 pub stamp_write-requires-clause-ended : goal.stamp_write-requires-clause-ended
 stamp_write-requires-clause-ended g c =
     ∥∥₁_elim c.requires.shown (Bool-set _ _)
     (λ shown. ap (λ (o : Option ℕ). fits_slot c.args.self.now.numbers.geometry.slots o) c.live-ended.ensures
-    ∙ fits-of (plain_of c.args.self.now shown.0) (newest_of (plain_of c.args.self.now shown.0) c.in-Ok.next.write.key) (live_of (entry_at c.args.self.now.index c.in-Ok.next.write.key)) (ended-slot c.args.self.now shown.0 c.args.session c.in-Ok.next (g.D.Pmem.state c.args.device.now) (g.D.Pmem.state c.args.device.now) shown.1 c.in-Ok.ensures.at c.in-Ok.ensures.next))
+    ∙ fits-of (plain_of c.args.self.now shown.0) (newest_of (plain_of c.args.self.now shown.0) c.in-Ok.next.write.now.key) (live_of (entry_at c.args.self.now.index c.in-Ok.next.write.now.key)) (ended-slot c.args.self.now shown.0 c.args.session c.in-Ok.next (g.D.Pmem.state c.args.device.now) (g.D.Pmem.state c.args.device.now) shown.1 c.in-Ok.ensures.at c.in-Ok.ensures.next))
 
 pub stamp_write-requires-clause-device : goal.stamp_write-requires-clause-device
 stamp_write-requires-clause-device g c = ∥∥₁_elim c.requires.shown (ℕ_set _ _) (λ shown. words-are _ _ (g.D.Pmem.state c.args.device.now) (g.met.D.Pmem.orderly _) shown.1.upholds)
 
-pub returns-then-next : goal.returns-then-next
-returns-then-next g c = record {
+pub returns-then-is_last : goal.returns-then-is_last
+returns-then-is_last g c = record {
   step = λ h holds.
-      stamps-last c.args.self.now h c.args.session c.in-Ok.next (g.D.Pmem.state c.args.device.now) (g.D.Pmem.state c.stamp_write.new.device) holds c.in-Ok.ensures.at c.in-Ok.ensures.next c.stamp.new.self c.if-next.true c.stamp.ensures
-      (subst (λ (o : Option ℕ). Runs (begin_operations c.args.self.now.numbers.geometry c.in-Ok.next.write.slot c.in-Ok.next.timestamp ++ end_operations c.args.self.now.numbers.geometry o c.in-Ok.next.timestamp) (g.D.Pmem.state c.args.device.now) (g.D.Pmem.state c.stamp_write.new.device)) c.live-ended.ensures c.in-Ok-stamp_write.ensures.ok);
+      stamps-last c.args.self.now h c.args.session c.in-Ok.next (g.D.Pmem.state c.args.device.now) (g.D.Pmem.state c.stamp_write.new.device) holds c.in-Ok.ensures.at c.in-Ok.ensures.next c.stamp.new.self c.if-is_last.true c.stamp.ensures
+      (subst (λ (o : Option ℕ). Runs (begin_operations c.args.self.now.numbers.geometry c.in-Ok.next.write.now.slot c.in-Ok.next.timestamp ++ end_operations c.args.self.now.numbers.geometry o c.in-Ok.next.timestamp) (g.D.Pmem.state c.args.device.now) (g.D.Pmem.state c.stamp_write.new.device)) c.live-ended.ensures c.in-Ok-stamp_write.ensures.ok);
 }
 
-pub returns-else-next : goal.returns-else-next
-returns-else-next g c = record {
+pub returns-else-is_last : goal.returns-else-is_last
+returns-else-is_last g c = record {
   step = λ h holds.
-      stamps-more c.args.self.now h c.args.session c.in-Ok.next (g.D.Pmem.state c.args.device.now) (g.D.Pmem.state c.stamp_write.new.device) holds c.in-Ok.ensures.at c.in-Ok.ensures.next c.stamp.new.self c.if-next.false c.stamp.ensures
-      (subst (λ (o : Option ℕ). Runs (begin_operations c.args.self.now.numbers.geometry c.in-Ok.next.write.slot c.in-Ok.next.timestamp ++ end_operations c.args.self.now.numbers.geometry o c.in-Ok.next.timestamp) (g.D.Pmem.state c.args.device.now) (g.D.Pmem.state c.stamp_write.new.device)) c.live-ended.ensures c.in-Ok-stamp_write.ensures.ok);
+      stamps-more c.args.self.now h c.args.session c.in-Ok.next (g.D.Pmem.state c.args.device.now) (g.D.Pmem.state c.stamp_write.new.device) holds c.in-Ok.ensures.at c.in-Ok.ensures.next c.stamp.new.self c.if-is_last.false c.stamp.ensures
+      (subst (λ (o : Option ℕ). Runs (begin_operations c.args.self.now.numbers.geometry c.in-Ok.next.write.now.slot c.in-Ok.next.timestamp ++ end_operations c.args.self.now.numbers.geometry o c.in-Ok.next.timestamp) (g.D.Pmem.state c.args.device.now) (g.D.Pmem.state c.stamp_write.new.device)) c.live-ended.ensures c.in-Ok-stamp_write.ensures.ok);
 }
 
 pub returns-in-Err-stamp_write : goal.returns-in-Err-stamp_write
 returns-in-Err-stamp_write g c = record {
   step = λ h holds.
       stamps-stopped c.args.self.now h c.args.session c.in-Ok.next (g.D.Pmem.state c.args.device.now) (g.D.Pmem.state c.stamp_write.new.device) holds c.in-Ok.ensures.at c.in-Ok.ensures.next c.in-Err-stamp_write.fault c.in-Err-stamp_write.ensures.fault
-      (subst (λ (o : Option ℕ). StopsWithin (begin_operations c.args.self.now.numbers.geometry c.in-Ok.next.write.slot c.in-Ok.next.timestamp ++ end_operations c.args.self.now.numbers.geometry o c.in-Ok.next.timestamp) (g.D.Pmem.state c.args.device.now) (g.D.Pmem.state c.stamp_write.new.device)) c.live-ended.ensures c.in-Err-stamp_write.ensures.err);
+      (subst (λ (o : Option ℕ). StopsWithin (begin_operations c.args.self.now.numbers.geometry c.in-Ok.next.write.now.slot c.in-Ok.next.timestamp ++ end_operations c.args.self.now.numbers.geometry o c.in-Ok.next.timestamp) (g.D.Pmem.state c.args.device.now) (g.D.Pmem.state c.stamp_write.new.device)) c.live-ended.ensures c.in-Err-stamp_write.ensures.err);
 }

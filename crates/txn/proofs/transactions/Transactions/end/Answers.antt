@@ -12,10 +12,10 @@ still-above slab places limit lower table above le (inr same) = (subst (λ (n : 
 
 pub invariant_of-self : goal.invariant_of-self
 invariant_of-self c =
-    let table = (removed c.self.inside.slab c.try_remove.new.self c.self.inside.places c.args.number c.in-Some.place c.self.invariant.0 (sym c.in-Some.ensures.place) c.try_remove.ensures.updates).table in
+    let table = (removed c.self.inside.slab c.try_remove-ended.new.self c.self.inside.places c.args.number c.in-Some.place c.self.invariant.0 (sym c.in-Some.ensures.place) c.try_remove-ended.ensures.updates).table in
     let number = number-of c.self.inside.places c.args.number c.in-Some.place c.self.invariant.0.size (sym c.in-Some.ensures.place) in
-    let rest = still-above c.try_remove.new.self _ c.self.inside.limit c.lowered-self-inside.result table (above-taken_out c.self.inside.places c.args.number c.self.inside.limit c.self.invariant.0.size number.0 number.1 c.self.invariant.1) c.self.invariant.2 c.lowered-self-inside.ensures in
+    let rest = still-above c.try_remove-ended.new.self _ c.self.inside.limit c.lowered-self-inside.result table (above-taken_out c.self.inside.places c.args.number c.self.inside.limit c.self.invariant.0.size number.0 number.1 c.self.invariant.1) c.self.invariant.2 c.lowered-self-inside.ensures in
     (table, rest.0, rest.1)
 
 pub returns-in-Some : goal.returns-in-Some
-returns-in-Some c = rw (← c.self.view_is) (removed c.self.inside.slab c.try_remove.new.self c.self.inside.places c.args.number c.in-Some.place c.self.invariant.0 (sym c.in-Some.ensures.place) c.try_remove.ensures.updates).sets
+returns-in-Some c = rw (← c.self.view_is) (removed c.self.inside.slab c.try_remove-ended.new.self c.self.inside.places c.args.number c.in-Some.place c.self.invariant.0 (sym c.in-Some.ensures.place) c.try_remove-ended.ensures.updates).sets
