@@ -17,7 +17,7 @@ use txn::{DrawnCommit, DrawnCommits, Write, WriteSet};
 
 // A commit that deletes one key.
 fn deletion(alloc: Global, session: u8, timestamp: Ts, stamped: usize) -> Result<DrawnCommit, Fault>
-    ensures { IfOk result (λ commit. (commit.session ≡ session) × (commit.timestamp ≡ timestamp)) }
+    ensures { IfOk result (λ commit. commit.session ≡ session) }
 {
     let mut writes = WriteSet::new(alloc)?;
     if !writes.is_full() {
@@ -40,7 +40,7 @@ fn deletion(alloc: Global, session: u8, timestamp: Ts, stamped: usize) -> Result
 }
 
 // Whether each commit has a timestamp below this one.
-pub(crate) fn is_above(drawn: &DrawnCommits, timestamp: Ts) -> bool
+fn is_above(drawn: &DrawnCommits, timestamp: Ts) -> bool
     ensures { result ≡ are_below timestamp drawn.now.commits }
 {
     drawn
@@ -49,18 +49,25 @@ pub(crate) fn is_above(drawn: &DrawnCommits, timestamp: Ts) -> bool
         .all(|commit| commit.timestamp < timestamp)
 }
 
+// Adds a commit that was drawn after all others.
+pub(crate) fn push(drawn: &mut DrawnCommits, commit: DrawnCommit) -> Result<(), Fault>
+    requires { commit.session < 64 }
+{
+    drawn.reserve()?;
+    if !is_above(drawn, commit.timestamp) {
+        return Err(Fault::WrongState);
+    }
+    drawn.push(commit);
+    Ok(())
+}
+
 // These commits, drawn in this order: of each the session, the timestamp and how many of its writes are stamped.
 fn drawn_by(alloc: Global, commits: &[(u8, Ts, usize)]) -> Result<DrawnCommits, Fault>
     requires { All (λ commit. commit.0 < 64) commits.now }
 {
     let mut drawn = DrawnCommits::new(alloc);
     for (session, timestamp, stamped) in commits {
-        let commit = deletion(alloc, *session, *timestamp, *stamped)?;
-        drawn.reserve()?;
-        if !is_above(&drawn, *timestamp) {
-            return Err(Fault::WrongState);
-        }
-        drawn.push(commit);
+        push(&mut drawn, deletion(alloc, *session, *timestamp, *stamped)?)?;
     }
     Ok(drawn)
 }
@@ -150,8 +157,10 @@ fn a_commit_above_thirteen_unstamped_ones_waits(rt: HostRuntime) -> Result<(), F
     let ruling = Record::new(2, 0, 65, Gaps::none(), Longs::none());
     let mut drawn = DrawnCommits::new(rt.alloc());
     for session in 2..16 {
-        drawn.reserve()?;
-        drawn.push(deletion(rt.alloc(), session, Ts::from(session) - 1, 0)?);
+        push(
+            &mut drawn,
+            deletion(rt.alloc(), session, Ts::from(session) - 1, 0)?,
+        )?;
     }
     drawn.stamp(14);
     assert!(rt; is_idle(geometry, ruling, 15, false, &drawn));

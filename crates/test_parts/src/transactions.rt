@@ -1,5 +1,5 @@
 //! Open transactions by the numbers of their sessions, and drawn commits until a record covers them.
-use crate::batches::is_above;
+use crate::batches::push;
 use base::Ts;
 use base::key::Key;
 use base::longs::Longs;
@@ -62,14 +62,13 @@ fn commits_are_covered_as_far_as_they_are_stamped(rt: HostRuntime) -> Result<(),
             slot: None,
             place: None,
         });
-        drawn.reserve()?;
-        assert!(rt; is_above(&drawn, timestamp));
-        drawn.push(DrawnCommit {
+        let commit = DrawnCommit {
             session,
             timestamp,
             writes,
             stamped: 0,
-        });
+        };
+        push(&mut drawn, commit)?;
     }
     assert_eq!(rt; drawn.reach(7, 0), 7);
     drawn.stamp(9);

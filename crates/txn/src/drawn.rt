@@ -178,7 +178,8 @@ fn gather_uncovered(commits: &mut [DrawnCommit], snapshot: &Snapshot) -> usize
 {
     let mut kept = 0;
     for at in 0..commits.len() {
-        if !snapshot.covers(commits[at].timestamp) {
+        let stays = !snapshot.covers(commits[at].timestamp);
+        if stays {
             commits.swap(kept, at);
             kept += 1;
         }
