@@ -1,9 +1,9 @@
-use crate::engine::{key_in, step};
+use crate::engine::key_in;
+use crate::kinds::{begin, draw, end, get, poll, put, stamp, visit};
 use crate::slow::is_covered;
 use anyhow::Error;
 use base::fault::Fault;
-use base::row::Row;
-use base::step::{Reply, Step};
+use base::step::Reply;
 use pmem::Pmem;
 use room::Room;
 use std::rt::Clock;
@@ -53,20 +53,27 @@ enum Asked {
 }
 
 impl Asked {
-    fn step_in(self, session: u8) -> Result<Step, Fault> {
+    fn ask<D: Pmem + Drop>(self, room: &mut Room<D>, session: u8) -> Result<(), Fault> {
         match self {
-            Asked::Begin => Ok(Step::Begin),
+            Asked::Begin => {
+                begin(room)?;
+            }
             Asked::Put { first, keys } => {
                 let number = first.saturating_add(u64::from(session));
-                let row = Row::new(&number.to_le_bytes())?;
-                let key = key_in(1, number, keys);
-                Ok(Step::Put { session, key, row })
+                put(room, session, key_in(1, number, keys), number)?;
             }
-            Asked::Draw => Ok(Step::Draw { session }),
-            Asked::Stamp => Ok(Step::Stamp { session }),
-            Asked::Poll => Ok(Step::Poll { session }),
-            Asked::End => Ok(Step::End { session }),
+            Asked::Draw => {
+                draw(room, session)?;
+            }
+            Asked::Stamp => {
+                stamp(room, session)?;
+            }
+            Asked::Poll => {
+                poll(room, session)?;
+            }
+            Asked::End => end(room, session)?,
         }
+        Ok(())
     }
 }
 
@@ -132,7 +139,7 @@ fn ask_each<H: Clock, D: Pmem + Drop>(
 ) -> Result<u128, Error> {
     let start = Instant::now(rt)?;
     for session in FIRST..FIRST + TOGETHER {
-        step(room, asked.step_in(session)?)?;
+        asked.ask(room, session)?;
     }
     Ok(start.elapsed(rt)?.as_nanos())
 }
@@ -140,8 +147,10 @@ fn ask_each<H: Clock, D: Pmem + Drop>(
 // Ticks the committer until it has covered a batch, or has nothing to do. How often.
 fn tick<D: Pmem + Drop>(room: &mut Room<D>) -> Result<u64, Fault> {
     for ticks in 1..u64::MAX {
-        if !matches!(step(room, Step::Commit)?, Reply::Ticked(_)) {
-            return Ok(ticks);
+        match room.tick() {
+            Reply::Ticked(_) => {}
+            Reply::Refused(fault) => return Err(fault),
+            _ => return Ok(ticks),
         }
     }
     Ok(u64::MAX)
@@ -149,7 +158,7 @@ fn tick<D: Pmem + Drop>(room: &mut Room<D>) -> Result<u64, Fault> {
 
 fn collect<D: Pmem + Drop>(room: &mut Room<D>, visits: u64) -> Result<(), Fault> {
     for _ in 0..visits {
-        step(room, Step::Collect)?;
+        visit(room)?;
     }
     Ok(())
 }
@@ -162,7 +171,7 @@ pub fn time_reads<H: Clock, D: Pmem + Drop>(
     keys: u64,
     reads: u64,
 ) -> Result<Reading, Error> {
-    step(room, Step::Begin)?;
+    begin(room)?;
     let present = read_in_turn(rt, room, 1, keys, reads)?;
     let absent = read_in_turn(rt, room, 2, keys, reads)?;
     for number in 0..NEWER * OLD_KEYS {
@@ -187,13 +196,7 @@ fn read_in_turn<H: Clock, D: Pmem + Drop>(
     let start = Instant::now(rt)?;
     for number in 0..reads {
         let key = key_in(table, number, keys);
-        step(
-            room,
-            Step::Get {
-                session: FIRST,
-                key,
-            },
-        )?;
+        get(room, FIRST, key)?;
     }
     Ok(start.elapsed(rt)?.as_nanos())
 }

@@ -8,7 +8,6 @@ use anyhow::Error;
 use base::fault::Fault;
 use base::geometry::Geometry;
 use base::key::Key;
-use base::step::{Reply, Step};
 use pmem::Pmem;
 use pmem_file::{FileDevice, JournaledPmem, Nowhere};
 use pmem_model::SimPmem;
@@ -271,14 +270,6 @@ pub fn key_in(table: u16, number: u64, keys: u64) -> Key {
     }
 }
 
-/// Makes a step that is not refused.
-pub fn step<D: Pmem + Drop>(room: &mut Room<D>, step: Step) -> Result<Reply, Fault> {
-    match room.step(step) {
-        Reply::Refused(fault) => Err(fault),
-        reply => Ok(reply),
-    }
-}
-
 // Reads in one session. How many rows it found.
 fn read_rows<D: Pmem + Drop>(room: &mut Room<D>, load: &Load) -> Result<u64, Fault> {
     let mut rows: u64 = 0;
@@ -288,6 +279,6 @@ fn read_rows<D: Pmem + Drop>(room: &mut Room<D>, load: &Load) -> Result<u64, Fau
             rows = rows.saturating_add(1);
         }
     }
-    step(room, Step::Abort { session })?;
+    room.abort(session)?;
     Ok(rows)
 }

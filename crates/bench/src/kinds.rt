@@ -1,9 +1,10 @@
+use base::Ts;
 use base::fault::Fault;
 use base::key::Key;
 use base::row::Row;
-use base::step::{Reply, Stage, Step};
+use base::step::{Reply, Stage};
 use pmem::Pmem;
-use room::Room;
+use room::{CommitStatus, Room};
 
 // Each kind of call has a function of its own, which isn't inlined: its instructions are counted by its name.
 
@@ -21,11 +22,7 @@ fn told(reply: &Reply) -> Result<(), Fault> {
 /// Begins a session. Its number.
 #[inline(never)]
 pub fn begin<D: Pmem + Drop>(room: &mut Room<D>) -> Result<u8, Fault> {
-    match &room.step(Step::Begin) {
-        Reply::Began(session) => Ok(*session),
-        Reply::Refused(fault) => Err(*fault),
-        _ => Err(Fault::WrongState),
-    }
+    room.begin()
 }
 
 #[inline(never)]
@@ -36,36 +33,35 @@ pub fn put<D: Pmem + Drop>(
     number: u64,
 ) -> Result<(), Fault> {
     let row = Row::new(&number.to_le_bytes())?;
-    told(&room.step(Step::Put { session, key, row }))
+    room.put(session, key, row)
 }
 
 #[inline(never)]
-pub fn draw<D: Pmem + Drop>(room: &mut Room<D>, session: u8) -> Result<(), Fault> {
-    told(&room.step(Step::Draw { session }))
+pub fn draw<D: Pmem + Drop>(room: &mut Room<D>, session: u8) -> Result<Option<Ts>, Fault> {
+    room.draw(session)
 }
 
 #[inline(never)]
-pub fn stamp<D: Pmem + Drop>(room: &mut Room<D>, session: u8) -> Result<(), Fault> {
-    told(&room.step(Step::Stamp { session }))
+pub fn stamp<D: Pmem + Drop>(room: &mut Room<D>, session: u8) -> Result<bool, Fault> {
+    room.stamp(session)
 }
 
 #[inline(never)]
-pub fn poll<D: Pmem + Drop>(room: &mut Room<D>, session: u8) -> Result<(), Fault> {
-    told(&room.step(Step::Poll { session }))
+pub fn poll<D: Pmem + Drop>(room: &Room<D>, session: u8) -> Result<CommitStatus, Fault> {
+    room.poll(session)
 }
 
 #[inline(never)]
 pub fn end<D: Pmem + Drop>(room: &mut Room<D>, session: u8) -> Result<(), Fault> {
-    told(&room.step(Step::End { session }))
+    room.end(session)
 }
 
 /// Reads the row of the key. Whether there is one.
 #[inline(never)]
-pub fn get<D: Pmem + Drop>(room: &mut Room<D>, session: u8, key: Key) -> Result<bool, Fault> {
-    match &room.step(Step::Get { session, key }) {
-        Reply::Row(row) => Ok(row.is_some()),
-        Reply::Refused(fault) => Err(*fault),
-        _ => Err(Fault::WrongState),
+pub fn get<D: Pmem + Drop>(room: &Room<D>, session: u8, key: Key) -> Result<bool, Fault> {
+    match &room.get(session, key) {
+        Ok(row) => Ok(row.is_some()),
+        Err(fault) => Err(*fault),
     }
 }
 

@@ -1,10 +1,8 @@
-use crate::engine::step;
-use crate::kinds::{begin, collect, cover, draw, put, stamp};
+use crate::kinds::{begin, collect, cover, draw, end, poll, put, stamp};
 use base::fault::Fault;
 use base::key::Key;
-use base::step::{Reply, Step};
 use pmem::Pmem;
-use room::Room;
+use room::{CommitStatus, Room};
 
 // The key that the slow transaction inserts.
 const SLOW: Key = Key { table: 2, key: 0 };
@@ -39,9 +37,9 @@ pub fn is_covered<D: Pmem + Drop>(room: &mut Room<D>, number: u64) -> Result<boo
     draw(room, session)?;
     stamp(room, session)?;
     cover(room)?;
-    match step(room, Step::Poll { session })? {
-        Reply::Committed(_) => {
-            step(room, Step::End { session })?;
+    match poll(room, session)? {
+        CommitStatus::Committed(_) => {
+            end(room, session)?;
             Ok(true)
         }
         _ => Ok(false),

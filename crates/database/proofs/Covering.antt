@@ -14,10 +14,9 @@ use Rattle.machine.specs.Machine.{State, Session, Active, Drew, WroteNothing, St
 use Rattle.pmem.specs.Device.{Device, IsOrderly}
 use Rattle.pmem.specs.declared.device.Pmem.{Ghosts}
 use Rattle.room.specs.declared.room.Room.{Room}
-use Rattle.room.specs.Room.{Shows, RunsTo}
+use Rattle.room.specs.Room.{Shows, RunsTo, Leads}
 use Rattle.room.proofs.Runs.{run-none, run-then}
 use Rattle.database.specs.Replies.{committed_of, drawn_of}
-use Rattle.database.specs.Runs.{Leads}
 use Rattle.database.specs.Obeys.{Obeys, Repeats, StampsAll, Covers, DrawsNothing}
 
 -- ---- one step after another

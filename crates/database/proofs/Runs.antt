@@ -16,9 +16,9 @@ use Rattle.pmem.specs.Words.{LeavesOnly, image_of}
 use Rattle.pmem.proofs.Images.{leaves_refl, leaves_trans, leaves_weaken}
 use Rattle.pmem.specs.declared.device.Pmem.{Ghosts}
 use Rattle.room.specs.declared.room.Room.{Room}
-use Rattle.room.specs.Room.{Shows, RunsTo, device_of}
+use Rattle.room.specs.Room.{Shows, RunsTo, device_of, Leads}
 use Rattle.database.specs.Opening.{IsFresh}
-use Rattle.database.specs.Runs.{Leads, LeadsAlong, IsRunFrom, HasRun, IsRunOf, EndsSomeRun}
+use Rattle.database.specs.Runs.{LeadsAlong, IsRunFrom, HasRun, IsRunOf, EndsSomeRun}
 use Rattle.database.specs.Obeys.{Obeys, IsStep, AnswersStep}
 use Rattle.database.specs.Closing.{HasLived}
 

@@ -11,11 +11,11 @@ use Rattle.base.specs.Stands.{has_timestamp}
 use Rattle.pmem.specs.Device.{Device}
 use Rattle.pmem.specs.declared.device.Pmem.{Ghosts}
 use Rattle.room.specs.declared.room.Room.{Room}
-use Rattle.room.specs.Room.{Shows, RunsTo}
+use Rattle.room.specs.Room.{Shows, RunsTo, Leads}
 use Rattle.database.specs.declared.error.CommitError.{CommitError}
 use Rattle.database.specs.declared.error.CommitError.TheVariants.{Refused, Open}
 use Rattle.database.specs.Replies.{done_of, drawn_of, stamped_of, committed_of}
-use Rattle.database.specs.Runs.{Leads, EndsSomeRun}
+use Rattle.database.specs.Runs.{EndsSomeRun}
 
 -- the room makes this step, and what is returned is read off its reply
 abbrev pub Obeys : {D A : Type 0} → {G : Ghosts D} → (D → Device) → Room D G → Room D G → Step → (Reply → Result A Fault) → Result A Fault → Type 0

@@ -11,14 +11,10 @@ use Rattle.pmem.specs.Device.{Device}
 use Rattle.pmem.specs.Words.{IsAtRest, LeavesOnly, image_of}
 use Rattle.pmem.specs.declared.device.Pmem.{Ghosts}
 use Rattle.room.specs.declared.room.Room.{Room}
-use Rattle.room.specs.Room.{Shows, StepsTo, device_of}
+use Rattle.room.specs.Room.{Shows, device_of}
 use Rattle.database.specs.Opening.{IsOpenedFrom}
 
 -- ---- of a room
-
--- the room makes this step, with this reply
-abbrev pub Leads : {D : Type 0} → {G : Ghosts D} → (D → Device) → Room D G → Room D G → Step → Reply → Type 0
-Leads state old new step reply = (q : State) → Shows state old q → (q' : State) × StepsTo state old new step reply q q'
 
 -- the steps lead from q through these states, of which the room shows the last, and a crash meanwhile leaves what stands for one
 pub record GoesAlong {D : Type 0} {G : Ghosts D} (state : D → Device) (old new : Room D G) (steps : List Step) (replies : List Reply) (q : State) (states : List State) : Type 0 where

@@ -11,7 +11,6 @@ mod error;
 mod group;
 mod leading;
 mod opened;
-mod replies;
 mod steps;
 mod transaction;
 mod turns;

@@ -1,7 +1,7 @@
 ghost use Rattle.database.specs.Runs.{HasRun};
 
 use base::geometry::Geometry;
-use base::step::{Reply, Step};
+use base::step::Reply;
 use pmem::Pmem;
 use room::{Room, Status, Usage};
 use sync_ahead::SyncAhead;
@@ -10,18 +10,17 @@ use sync_ahead::SyncAhead;
 /// steps, and in no other way.
 #[derive(Drop)]
 pub struct OpenedRoom<D: Pmem> {
-    room: Room<D>,
+    pub(crate) room: Room<D>,
     ghost run: { ∥ HasRun D.state room ∥₁ },
 }
 
 impl<D: Pmem + Drop> OpenedRoom<D> {
     ghost use Rattle.std.specs.Prelude.{◌≡◌};
     ghost use Rattle.base.specs.declared.step.Step.TheVariants.{Commit, Collect};
-    ghost use Rattle.room.specs.Room.{ShowsStatus};
+    ghost use Rattle.room.specs.Room.{Leads, ShowsStatus};
     ghost use Rattle.room.specs.Usage.{ShowsUsage};
     ghost use Rattle.database.specs.Numbers.{ComesTo};
     ghost use Rattle.database.specs.Opening.{IsFresh};
-    ghost use Rattle.database.specs.Runs.{Leads};
 
     /// The room as its opening left it.
     pub fn new(room: Room<D>) -> OpenedRoom<D>
@@ -29,13 +28,6 @@ impl<D: Pmem + Drop> OpenedRoom<D> {
         ensures { result.room ≡ room }
     {
         OpenedRoom { room }
-    }
-
-    /// One step.
-    pub fn step(&mut self, step: Step) -> Reply
-        ensures step { Leads D.state self.old.room self.new.room step result }
-    {
-        self.room.step(step)
     }
 
     /// A tick of the committer.

@@ -1,23 +1,24 @@
+ghost use Rattle.std.specs.Prelude.{◌≡◌};
+ghost use Rattle.base.specs.Steps.{as_reply};
+ghost use Rattle.session_steps.specs.Replies.{polled as polled_reply};
 ghost use Rattle.base.specs.declared.step.Step.TheVariants.{Begin, Get, Scan, Put, Delete, Draw, Stamp, Poll, Abort, End, Collect};
 ghost use Rattle.database.specs.Replies.{began_of, row_of, rows_of, done_of, drawn_of, stamped_of, committed_of};
 ghost use Rattle.database.specs.Obeys.{Obeys, Repeats};
 
 use crate::opened::OpenedRoom;
-use crate::replies::{began_of, committed_of, done_of, drawn_of, row_of, rows_of, stamped_of};
 use base::Ts;
 use base::fault::Fault;
 use base::key::Key;
 use base::row::Row;
 use base::rows::Rows;
-use base::step::Step;
 use pmem::Pmem;
+use room::CommitStatus;
 
 /// Opens a session. Its number.
 pub fn begin<D: Pmem + Drop>(room: &mut OpenedRoom<D>) -> Result<u8, Fault>
     ensures { Obeys D.state room.old.room room.new.room Begin began_of result }
 {
-    let reply = room.step(Step::Begin);
-    began_of(reply)
+    room.room.begin()
 }
 
 /// The row under the key, as the session's transaction sees it.
@@ -28,8 +29,7 @@ pub fn get<D: Pmem + Drop>(
 ) -> Result<Option<Row>, Fault>
     ensures { Obeys D.state room.old.room room.new.room (Get session key) row_of result }
 {
-    let reply = room.step(Step::Get { session, key });
-    row_of(&reply)
+    room.room.get(session, key)
 }
 
 /// The rows of the table at the keys from `lo` to `hi`, both included, by rising key.
@@ -42,13 +42,7 @@ pub fn scan<D: Pmem + Drop>(
 ) -> Result<Rows, Fault>
     ensures { Obeys D.state room.old.room room.new.room (Scan session table lo hi) rows_of result }
 {
-    let reply = room.step(Step::Scan {
-        session,
-        table,
-        lo,
-        hi,
-    });
-    rows_of(reply)
+    room.room.scan(session, table, lo, hi)
 }
 
 /// Writes the row under the key.
@@ -60,56 +54,61 @@ pub fn put<D: Pmem + Drop>(
 ) -> Result<(), Fault>
     ensures { Obeys D.state room.old.room room.new.room (Put session key row) done_of result }
 {
-    let reply = room.step(Step::Put { session, key, row });
-    done_of(reply)
+    room.room.put(session, key, row)
 }
 
 /// Deletes the row under the key, if there is one.
 pub fn delete<D: Pmem + Drop>(room: &mut OpenedRoom<D>, session: u8, key: Key) -> Result<(), Fault>
     ensures { Obeys D.state room.old.room room.new.room (Delete session key) done_of result }
 {
-    let reply = room.step(Step::Delete { session, key });
-    done_of(reply)
+    room.room.delete(session, key)
 }
 
 /// Draws a timestamp. `None` if nothing was written.
 pub fn draw<D: Pmem + Drop>(room: &mut OpenedRoom<D>, session: u8) -> Result<Option<Ts>, Fault>
     ensures { Obeys D.state room.old.room room.new.room (Draw session) drawn_of result }
 {
-    let reply = room.step(Step::Draw { session });
-    drawn_of(reply)
+    room.room.draw(session)
 }
 
 /// Stamps one key. Whether all are stamped.
 pub fn stamp<D: Pmem + Drop>(room: &mut OpenedRoom<D>, session: u8) -> Result<bool, Fault>
     ensures { Obeys D.state room.old.room room.new.room (Stamp session) stamped_of result }
 {
-    let reply = room.step(Step::Stamp { session });
-    stamped_of(reply)
+    room.room.stamp(session)
 }
 
 /// The timestamp of the commit, once it is covered.
 pub fn poll<D: Pmem + Drop>(room: &mut OpenedRoom<D>, session: u8) -> Result<Option<Ts>, Fault>
     ensures { Obeys D.state room.old.room room.new.room (Poll session) committed_of result }
 {
-    let reply = room.step(Step::Poll { session });
-    committed_of(reply)
+    committed_in(room.room.poll(session))
+}
+
+// The timestamp, once the commit is covered. What wrote nothing has none.
+fn committed_in(polled: Result<CommitStatus, Fault>) -> Result<Option<Ts>, Fault>
+    ensures { result ≡ committed_of (as_reply (polled_reply polled)) }
+{
+    match polled {
+        Ok(CommitStatus::Waiting) => Ok(None),
+        Ok(CommitStatus::Committed(timestamp)) => Ok(Some(timestamp)),
+        Ok(CommitStatus::ReadOnly) => Err(Fault::WrongState),
+        Err(fault) => Err(fault),
+    }
 }
 
 /// Gives the transaction up.
 pub fn abort<D: Pmem + Drop>(room: &mut OpenedRoom<D>, session: u8) -> Result<(), Fault>
     ensures { Obeys D.state room.old.room room.new.room (Abort session) done_of result }
 {
-    let reply = room.step(Step::Abort { session });
-    done_of(reply)
+    room.room.abort(session)
 }
 
 /// Ends a transaction that is covered.
 pub fn end<D: Pmem + Drop>(room: &mut OpenedRoom<D>, session: u8) -> Result<(), Fault>
     ensures { Obeys D.state room.old.room room.new.room (End session) done_of result }
 {
-    let reply = room.step(Step::End { session });
-    done_of(reply)
+    room.room.end(session)
 }
 
 /// Visits so many places of the collector's round.
@@ -117,7 +116,7 @@ pub fn collect<D: Pmem + Drop>(room: &mut OpenedRoom<D>, places: u64)
     ensures { Repeats D.state room.old.room room.new.room Collect }
 {
     for _ in 0..places {
-        let reply = room.step(Step::Collect);
+        let reply = room.visit();
         drop(reply);
     }
 }

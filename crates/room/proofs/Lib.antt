@@ -12,3 +12,4 @@ pub mod ClosingCycle
 pub mod Closes
 pub mod Advancing
 pub mod Untouched
+pub mod Calls

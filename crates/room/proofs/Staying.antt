@@ -242,13 +242,6 @@ session-steps old new cycle before now s r steps q shows works =
       },
     )
 
--- the same, under the names of the machine
-pub steps-named : (old : Sessions) (new : VolatileState) (before now : Device) (s : SessionStep) (step : Step) (r : SessionReply) (reply : Reply) → as_step s ≡ step → reply ≡ as_reply r
-    → SessionSteps old new.sessions before now s r → StepsIn old new.cycle new before now step reply
-steps-named old new before now s step r reply is told steps = λ q shows works.
-    subst (λ (x : Step). (q' : State) × StepsToIn new.sessions new.cycle before now x reply q q') is
-    (subst (λ (x : Reply). (q' : State) × StepsToIn new.sessions new.cycle before now (as_step s) x q q') (sym told) (session-steps old new.sessions new.cycle before now s r steps q shows works))
-
 -- ---- a visit of the collector
 
 visit-told-back : (r : Result Visit Fault) (told : Fault) → visit.as_reply r ≡ reply.Refused told → r ≡ Err told

@@ -1,6 +1,5 @@
 -- A room to whose device nothing was done.
-use Rattle.std.proofs.Common.{◌≡◌, Bool, sym, ◌∙◌, subst}
-use Rattle.base.specs.Images.{Image}
+use Rattle.std.proofs.Common.{◌≡◌, sym, ◌∙◌, subst}
 use Rattle.machine.specs.Machine.{State}
 use Rattle.pmem.specs.Device.{Device, MayLeave}
 use Rattle.pmem.specs.declared.device.Pmem.{Ghosts}

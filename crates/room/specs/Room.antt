@@ -45,6 +45,10 @@ pub record StepsTo {D : Type 0} {G : Ghosts D} (state : D → Device) (old new :
   pub shows : Shows state new q'
   pub effect : HasEffect (device_of state old) (device_of state new) (StandsWithin q q') (most_operations q step) (actor_of step) (λ fault. reply ≡ Refused fault)
 
+-- from each state that the room showed, the step leads to one with this reply
+abbrev pub Leads : {D : Type 0} → {G : Ghosts D} → (D → Device) → Room D G → Room D G → Step → Reply → Type 0
+Leads state old new step reply = (q : State) → Shows state old q → (q' : State) × StepsTo state old new step reply q q'
+
 -- the steps lead from q through these states, of which the room shows the last
 pub record RunsTo {D : Type 0} {G : Ghosts D} (state : D → Device) (old new : Room D G) (steps : List Step) (replies : List Reply) (q : State) (states : List State) : Type 0 where
   pub run : Run q steps replies states

@@ -1,9 +1,11 @@
 -- What a step makes of the volatile state and its device.
-use Rattle.std.specs.Prelude.{◌≡◌, ℕ, Bool, false, Option, Some}
+use Rattle.std.specs.Prelude.{◌≡◌, ℕ, Bool, false, Option, Some, Result, Ok, Err}
+use Rattle.base.specs.declared.fault.Fault.{Fault}
 use Rattle.base.specs.declared.step.Step.{Step}
 use Rattle.base.specs.declared.step.Step.TheVariants.{Commit as CommitTick, Collect}
 use Rattle.base.specs.declared.step.Reply.{Reply}
 use Rattle.base.specs.declared.step.Reply.TheVariants.{Refused}
+use Rattle.base.specs.Replies.{is_failure}
 use Rattle.base.specs.Actors.{committer, collector}
 use Rattle.machine.specs.Machine.{State, Stepped, session_of, most_operations, StandsWithin}
 use Rattle.pmem.specs.Device.{Device}
@@ -45,3 +47,8 @@ ShowsSome c device = ShowsSomeIn c.sessions c.cycle device
 -- some state is shown, failed or not as this says
 abbrev pub ShowsAs : VolatileState → Device → Bool → Type 0
 ShowsAs c device failed = (q : State) × ShowsIn c.sessions c.cycle device q × (q.failed ≡ failed)
+
+-- what a call returns reports a failing device
+abbrev pub reports_failure : {A : Type 0} → Result A Fault → Bool
+reports_failure (Ok x) = false
+reports_failure (Err fault) = is_failure (Refused fault)

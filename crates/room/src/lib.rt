@@ -8,6 +8,7 @@ mod law;
 mod opening;
 mod replies;
 mod room;
+mod sessions;
 mod status;
 mod tick;
 mod usage;
@@ -16,5 +17,6 @@ mod workers;
 
 pub use law::steps_run;
 pub use room::Room;
+pub use session_steps::CommitStatus;
 pub use status::Status;
 pub use usage::Usage;

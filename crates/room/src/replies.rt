@@ -3,13 +3,14 @@
 
 ghost use Rattle.std.specs.Prelude.{◌≡◌};
 ghost use Rattle.base.specs.Steps.{as_reply};
-ghost use Rattle.session_steps.specs.Replies.{began, read, scanned, done, drawn, stamped};
+ghost use Rattle.session_steps.specs.Replies.{began, read, scanned, done, drawn, stamped, polled};
 
 use base::Ts;
 use base::fault::Fault;
 use base::row::Row;
 use base::rows::Rows;
 use base::step::Reply;
+use session_steps::CommitStatus;
 
 // The number of a session that began.
 #[inline(always)]
@@ -75,6 +76,19 @@ pub(crate) fn stamped(returned: Result<bool, Fault>) -> Reply
     match returned {
         Ok(true) => Reply::Stamped,
         Ok(false) => Reply::More,
+        Err(fault) => Reply::Refused(fault),
+    }
+}
+
+// How far the commit has come, and that it is done where nothing was written.
+#[inline(always)]
+pub(crate) fn polled(returned: Result<CommitStatus, Fault>) -> Reply
+    ensures { result ≡ as_reply (polled returned) }
+{
+    match returned {
+        Ok(CommitStatus::Waiting) => Reply::Waiting,
+        Ok(CommitStatus::Committed(timestamp)) => Reply::Committed(timestamp),
+        Ok(CommitStatus::ReadOnly) => Reply::Done,
         Err(fault) => Reply::Refused(fault),
     }
 }

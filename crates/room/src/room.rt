@@ -4,6 +4,7 @@
 ghost use Rattle.std.specs.Prelude.{◌≡◌, false};
 ghost use Rattle.room.specs.Steps.{ShowsAs};
 
+use crate::replies::{began, done, drawn, polled, read, scanned, stamped};
 use crate::status::Status;
 use crate::volatile::VolatileState;
 use base::fault::Fault;
@@ -29,19 +30,32 @@ impl<D: Pmem + Drop> Room<D> {
     ghost use Rattle.base.specs.Commits.{after, Lists};
     ghost use Rattle.machine.specs.Machine.{State, closing_gate};
     ghost use Rattle.base.specs.declared.fault.Fault.TheVariants.{OutOfMemory};
-    ghost use Rattle.room.specs.Room.{Shows, StepsTo, RunsTo, ShowsStatus, device_of};
+    ghost use Rattle.room.specs.Room.{Shows, Leads, RunsTo, ShowsStatus, device_of};
 
     /// One step. A crash within it leaves the history before it or after it, or with the batch in hand.
     #[inline(never)]
     pub fn step(&mut self, step: Step) -> Reply
-        ensures step { (q : State) → Shows D.state self.old q → (q' : State) × StepsTo D.state self.old self.new step result q q' }
+        ensures step { Leads D.state self.old self.new step result }
     {
-        if self.failed {
-            return Reply::Refused(Fault::Failed);
+        match step {
+            Step::Begin => began(self.begin()),
+            Step::Get { session, key } => read(self.get(session, key)),
+            Step::Scan {
+                session,
+                table,
+                lo,
+                hi,
+            } => scanned(self.scan(session, table, lo, hi)),
+            Step::Put { session, key, row } => done(self.put(session, key, row)),
+            Step::Delete { session, key } => done(self.delete(session, key)),
+            Step::Draw { session } => drawn(self.draw(session)),
+            Step::Stamp { session } => stamped(self.stamp(session)),
+            Step::Poll { session } => polled(self.poll(session)),
+            Step::Abort { session } => done(self.abort(session)),
+            Step::End { session } => done(self.end(session)),
+            Step::Commit => self.tick(),
+            Step::Collect => self.visit(),
         }
-        let reply = self.volatile.step(self.alloc, &mut self.device, step);
-        self.failed = reply.is_failure();
-        reply
     }
 
     /// These steps, one after the other, and their replies. Room for all of them is made first: `OutOfMemory`, the only

@@ -1,11 +1,10 @@
 //! What a room keeps in ordinary memory, apart from its device. A stop loses all of it, so nothing here may be what an acknowledged
 //! commit rests on.
 
-use crate::replies::{began, done, drawn, read, scanned, stamped};
 use base::fault::Fault;
 use base::key::Key;
 use base::row::Row;
-use base::step::{Reply, Step};
+use base::step::Reply;
 use collector::Visit;
 use group_commit::Cycle;
 use pmem::Pmem;
@@ -55,35 +54,6 @@ impl VolatileState {
     {
         let records = if self.cycle.is_some() { 2 } else { 1 };
         self.sessions.numbers().record.gate() + records
-    }
-
-    // One step, on the device on which the volatile state shows a plain state: one of a session, a visit of the collector, or a
-    // tick. A crash within it leaves the history before it or after it, or with the batch in hand. The tick that chooses a
-    // batch takes memory from `alloc`; what sessions take is from their own, and a visit takes none.
-    #[inline(always)]
-    pub(crate) fn step<D: Pmem>(&mut self, alloc: Global, device: &mut D, step: Step) -> Reply
-        requires shown { ∥ ShowsSome self.old (D.state device.old) ∥₁ }
-        ensures step { Steps self.old self.new (D.state device.old) (D.state device.new) step result }
-    {
-        match step {
-            Step::Begin => began(self.sessions.begin()),
-            Step::Get { session, key } => read(self.sessions.get(device, session, key)),
-            Step::Scan {
-                session,
-                table,
-                lo,
-                hi,
-            } => scanned(self.sessions.scan(device, session, table, lo, hi)),
-            Step::Put { session, key, row } => done(self.sessions.put(device, session, key, row)),
-            Step::Delete { session, key } => done(self.sessions.delete(session, key)),
-            Step::Draw { session } => drawn(self.sessions.draw(session)),
-            Step::Stamp { session } => stamped(self.sessions.stamp(device, session)),
-            Step::Poll { session } => Reply::from(self.sessions.poll(session)),
-            Step::Abort { session } => done(self.sessions.abort(session)),
-            Step::End { session } => done(self.sessions.end(session)),
-            Step::Commit => self.tick(alloc, device),
-            Step::Collect => self.collect(device),
-        }
     }
 
     // One visit of the collector. The batch in hand stays as it is, also where a sweep ends: the gaps that were swept

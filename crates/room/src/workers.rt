@@ -8,13 +8,12 @@ use pmem::Pmem;
 
 impl<D: Pmem + Drop> Room<D> {
     ghost use Rattle.base.specs.declared.step.Step.TheVariants.{Commit, Collect};
-    ghost use Rattle.machine.specs.Machine.{State};
-    ghost use Rattle.room.specs.Room.{Shows, StepsTo};
+    ghost use Rattle.room.specs.Room.{Leads};
 
     /// A tick of the committer: `step` of `Step::Commit`, without moving a step.
     #[inline(always)]
     pub fn tick(&mut self) -> Reply
-        ensures step { (q : State) → Shows D.state self.old q → (q' : State) × StepsTo D.state self.old self.new Commit result q q' }
+        ensures step { Leads D.state self.old self.new Commit result }
     {
         if self.failed {
             return Reply::Refused(Fault::Failed);
@@ -27,7 +26,7 @@ impl<D: Pmem + Drop> Room<D> {
     /// A visit of the collector: `step` of `Step::Collect`, without moving a step.
     #[inline(always)]
     pub fn visit(&mut self) -> Reply
-        ensures step { (q : State) → Shows D.state self.old q → (q' : State) × StepsTo D.state self.old self.new Collect result q q' }
+        ensures step { Leads D.state self.old self.new Collect result }
     {
         if self.failed {
             return Reply::Refused(Fault::Failed);

@@ -3,7 +3,9 @@ use Rattle.std.specs.Prelude.{ℕ, Bool, true, false, List, Option, Some, None, 
 use Rattle.base.specs.declared.fault.Fault.{Fault}
 use Rattle.base.specs.declared.key.Key.{Key}
 use Rattle.base.specs.declared.step.SessionReply.{SessionReply}
-use Rattle.base.specs.declared.step.SessionReply.TheVariants.{Began, Row, Rows, Done, Drawn, More, Stamped, Refused}
+use Rattle.base.specs.declared.step.SessionReply.TheVariants.{Began, Row, Rows, Done, Drawn, More, Stamped, Waiting, Committed, Refused}
+use Rattle.session_steps.specs.declared.poll.CommitStatus.{CommitStatus}
+use Rattle.session_steps.specs.declared.poll.CommitStatus.TheVariants.{Waiting as Waits, Committed as IsCommitted, ReadOnly}
 
 -- the number of a session that began
 abbrev pub began : Result ℕ Fault → SessionReply
@@ -36,3 +38,10 @@ abbrev pub stamped : Result Bool Fault → SessionReply
 stamped (Ok true) = Stamped
 stamped (Ok false) = More
 stamped (Err fault) = Refused fault
+
+-- how far the commit has come, and that it is done where nothing was written
+abbrev pub polled : Result CommitStatus Fault → SessionReply
+polled (Ok Waits) = Waiting
+polled (Ok (IsCommitted timestamp)) = Committed timestamp
+polled (Ok ReadOnly) = Done
+polled (Err fault) = Refused fault

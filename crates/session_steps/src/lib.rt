@@ -26,4 +26,5 @@ mod usage;
 
 pub use law::{sessions_show_any_hand, table_has_the_lines_of_a_batch};
 pub use numbers::Numbers;
+pub use poll::CommitStatus;
 pub use sessions::Sessions;

@@ -6,4 +6,4 @@ pub loop-init : goal.loop-init
 loop-init g c = repeats-none g.D.Pmem.state c.args.room.now.room Collect (g.met.D.Pmem.orderly c.args.room.now.room.device)
 
 pub loop-preserved : goal.loop-preserved
-loop-preserved g c = repeats-then g.D.Pmem.state c.args.room.now.room c.loop.room.room c.step-reply.new.self.room Collect c.step-reply.result c.loop.invariant c.step-reply.ensures.step
+loop-preserved g c = repeats-then g.D.Pmem.state c.args.room.now.room c.loop.room.room c.visit-reply.new.self.room Collect c.visit-reply.result c.loop.invariant c.visit-reply.ensures.step

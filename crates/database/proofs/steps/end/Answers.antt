@@ -1,4 +1,12 @@
+use Rattle.base.specs.Steps.{as_reply}
+use Rattle.base.specs.declared.step.Step.TheVariants.{End}
+use Rattle.session_steps.specs.Replies.{done}
+use Rattle.database.proofs.Runs.{run-led}
+use Rattle.database.proofs.Readings.{reads-done}
 use Rattle.database.proofs.steps.end.Goals as goal
 
+pub invariant_of-room : goal.invariant_of-room
+invariant_of-room g c = record { run = run-led g.D.Pmem.state c.args.room.now.room c.end.new.self (End c.args.session) (as_reply (done c.end.result)) c.args.room.now.run c.end.ensures.step }
+
 pub returns : goal.returns
-returns g c = (c.step-reply.result, c.step-reply.ensures.step, c.done_of.ensures)
+returns g c = (as_reply (done c.end.result), c.end.ensures.step, reads-done c.end.result)

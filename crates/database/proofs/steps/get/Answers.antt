@@ -1,4 +1,8 @@
+use Rattle.base.specs.Steps.{as_reply}
+use Rattle.base.specs.declared.step.Step.TheVariants.{Get}
+use Rattle.session_steps.specs.Replies.{read}
+use Rattle.database.proofs.Readings.{reads-row}
 use Rattle.database.proofs.steps.get.Goals as goal
 
 pub returns : goal.returns
-returns g c = (c.step-reply.result, c.step-reply.ensures.step, c.row_of.ensures)
+returns g c = (as_reply (read c.get.result), c.get.ensures.step, reads-row c.get.result)

@@ -1,4 +1,6 @@
+use Rattle.base.specs.Steps.{as_reply}
+use Rattle.session_steps.specs.Replies.{polled}
 use Rattle.database.proofs.steps.poll.Goals as goal
 
 pub returns : goal.returns
-returns g c = (c.step-reply.result, c.step-reply.ensures.step, c.committed_of.ensures)
+returns g c = (as_reply (polled c.poll.result), c.poll.ensures.step, c.committed_in.ensures)

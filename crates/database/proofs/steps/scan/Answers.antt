@@ -1,4 +1,8 @@
+use Rattle.base.specs.Steps.{as_reply}
+use Rattle.base.specs.declared.step.Step.TheVariants.{Scan}
+use Rattle.session_steps.specs.Replies.{scanned}
+use Rattle.database.proofs.Readings.{reads-rows}
 use Rattle.database.proofs.steps.scan.Goals as goal
 
 pub returns : goal.returns
-returns g c = (c.step-reply.result, c.step-reply.ensures.step, c.rows_of.ensures)
+returns g c = (as_reply (scanned c.scan.result), c.scan.ensures.step, reads-rows c.scan.result)

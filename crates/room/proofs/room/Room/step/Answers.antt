@@ -1,17 +1,39 @@
-use Rattle.room.proofs.Rooms.{step-on, step-refused, shows-some, shows-then}
+use Rattle.std.proofs.Common.{refl}
+use Rattle.room.proofs.Calls.{leads-named}
 use Rattle.room.proofs.room.Room.step.Goals as goal
 
-pub returns-then-self : goal.returns-then-self
-returns-then-self g c = record { step = step-refused g.D.Pmem.state c.args.self.now c.args.step (g.met.D.Pmem.orderly c.args.self.now.device) c.if-self.true }
+pub returns-in-Begin : goal.returns-in-Begin
+returns-in-Begin g c = record { step = leads-named g.D.Pmem.state _ _ _ _ _ _ c.in-Begin.is c.began.ensures c.begin.ensures.step }
 
-pub step-reply-requires : goal.step-reply-requires
-step-reply-requires g c = record { shown = shows-some c.args.self.now.volatile _ c.args.self.now.failed c.if-self.false c.args.self.now.shown }
+pub returns-in-Get : goal.returns-in-Get
+returns-in-Get g c = record { step = leads-named g.D.Pmem.state _ _ _ _ _ _ c.in-Get.is c.read.ensures c.get.ensures.step }
 
-pub invariant_of-self : goal.invariant_of-self
-invariant_of-self g c = record {
-  shown = shows-then c.args.self.now.volatile c.step-reply.new.self (g.D.Pmem.state c.args.self.now.device) (g.D.Pmem.state c.step-reply.new.device) c.args.step c.step-reply.result
-      c.is_failure-self.result c.is_failure-self.ensures c.step-reply.ensures.step (shows-some c.args.self.now.volatile _ c.args.self.now.failed c.if-self.false c.args.self.now.shown);
-}
+pub returns-in-Scan : goal.returns-in-Scan
+returns-in-Scan g c = record { step = leads-named g.D.Pmem.state _ _ _ _ _ _ c.in-Scan.is c.scanned.ensures c.scan.ensures.step }
 
-pub returns : goal.returns
-returns g c = record { step = step-on g.D.Pmem.state c.args.self.now _ c.args.step c.step-reply.result c.if-self.false c.is_failure-self.ensures c.step-reply.ensures.step }
+pub returns-in-Put : goal.returns-in-Put
+returns-in-Put g c = record { step = leads-named g.D.Pmem.state _ _ _ _ _ _ c.in-Put.is c.done.ensures c.put.ensures.step }
+
+pub returns-in-Delete : goal.returns-in-Delete
+returns-in-Delete g c = record { step = leads-named g.D.Pmem.state _ _ _ _ _ _ c.in-Delete.is c.done-in-Delete.ensures c.delete.ensures.step }
+
+pub returns-in-Draw : goal.returns-in-Draw
+returns-in-Draw g c = record { step = leads-named g.D.Pmem.state _ _ _ _ _ _ c.in-Draw.is c.drawn.ensures c.draw.ensures.step }
+
+pub returns-in-Stamp : goal.returns-in-Stamp
+returns-in-Stamp g c = record { step = leads-named g.D.Pmem.state _ _ _ _ _ _ c.in-Stamp.is c.stamped.ensures c.stamp.ensures.step }
+
+pub returns-in-Poll : goal.returns-in-Poll
+returns-in-Poll g c = record { step = leads-named g.D.Pmem.state _ _ _ _ _ _ c.in-Poll.is c.polled.ensures c.poll.ensures.step }
+
+pub returns-in-Abort : goal.returns-in-Abort
+returns-in-Abort g c = record { step = leads-named g.D.Pmem.state _ _ _ _ _ _ c.in-Abort.is c.done-in-Abort.ensures c.abort.ensures.step }
+
+pub returns-in-End : goal.returns-in-End
+returns-in-End g c = record { step = leads-named g.D.Pmem.state _ _ _ _ _ _ c.in-End.is c.done-in-End.ensures c.end.ensures.step }
+
+pub returns-in-Commit : goal.returns-in-Commit
+returns-in-Commit g c = record { step = leads-named g.D.Pmem.state _ _ _ _ _ _ c.in-Commit.is refl c.tick.ensures.step }
+
+pub returns-in-Collect : goal.returns-in-Collect
+returns-in-Collect g c = record { step = leads-named g.D.Pmem.state _ _ _ _ _ _ c.in-Collect.is refl c.visit.ensures.step }
