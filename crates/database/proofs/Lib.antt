@@ -2,3 +2,4 @@ pub mod Runs
 pub mod Covering
 pub mod Telling
 pub mod Numbers
+pub mod Errors
