@@ -3,3 +3,4 @@ pub mod Covering
 pub mod Telling
 pub mod Numbers
 pub mod Readings
+pub mod Errors

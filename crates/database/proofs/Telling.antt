@@ -1,7 +1,8 @@
 -- What a put and a commit make of a run from an opening.
-use Rattle.std.proofs.Common.{inl, inr, ℕ, Bool, true, false, List, [], ◌∷◌, ◌++◌, refl}
+use Rattle.std.proofs.Common.{inl, inr, ℕ, Bool, true, false, List, [], ◌∷◌, ◌++◌, refl, ap, ◌≡◌}
 use Rattle.std.specs.Prelude.{⊤, Some, None, Result, Ok, Err, IfOk, IfErr, replicate}
 use Rattle.base.specs.declared.fault.Fault.{Fault}
+use Rattle.base.specs.declared.fault.Fault.TheVariants.{WindowFull}
 use Rattle.base.specs.declared.key.Key.{Key}
 use Rattle.base.specs.declared.step.Step.{Step}
 use Rattle.base.specs.declared.step.Step.TheVariants.{Put, Draw, Stamp, Poll, End, Collect}
@@ -14,7 +15,7 @@ use Rattle.database.specs.declared.error.CommitError.TheVariants.{Refused, Open}
 use Rattle.database.specs.Replies.{done_of, drawn_of, stamped_of, committed_of}
 use Rattle.database.specs.Runs.{HasRun, LeadsAlong, EndsSomeRun}
 use Rattle.database.specs.Obeys.{Obeys, Repeats, PutsCollecting, StampsAll, Prepares, Finishes}
-use Rattle.database.specs.Committing.{AnswersPut, DrawsAndStamps, DrawsAndEnds, PollsAndEnds, IsPrepared, IsAcknowledged, TellsRefusal}
+use Rattle.database.specs.Committing.{AnswersPut, DrawsAndStamps, DrawsAndEnds, PollsAndEnds, IsPrepared, IsAcknowledged, TellsUnprepared}
 use Rattle.database.proofs.Runs.{leads-one, leads-run, leads-join, ends-run}
 
 -- one step, others like each other, and a last one
@@ -58,7 +59,7 @@ ended_so state old new session result Fact so run drawn draws last =
     ends-run state old new _ _ Fact run (leads_two state old drawn new (Draw session) drawn_of _ (End session) done_of result draws last)
     (so _ _ (record { drawn = draws.0; last = last.0; steps_are = refl; replies_are = refl; drew = draws.2; tells = last.2 }))
 
-polled_so : {D : Type 0} {G : Ghosts D} (state : D → Device) (old new : Room D G) (session t : ℕ) (result : Result ⊤ Fault) (Fact : List Step → List Reply → Type 0)
+pub polled_so : {D : Type 0} {G : Ghosts D} (state : D → Device) (old new : Room D G) (session t : ℕ) (result : Result ⊤ Fault) (Fact : List Step → List Reply → Type 0)
     → ((steps : List Step) (replies : List Reply) → PollsAndEnds session t result steps replies → Fact steps replies)
     → ∥ HasRun state old ∥₁ → (mid : Room D G) → Obeys state old mid (Poll session) committed_of (Ok (Some t)) → Obeys state mid new (End session) done_of result → EndsSomeRun Fact
 polled_so state old new session t result Fact so run mid polls last =
@@ -84,8 +85,8 @@ pub prepared-ok : {D : Type 0} {G : Ghosts D} (state : D → Device) (old new : 
 prepared-ok state old new session (Ok wrote) run prepares = is-prepared state old new session (Ok wrote) run prepares
 prepared-ok state old new session (Err error) run prepares = tt
 
--- where it returns that it is refused
+-- where it returns why it isn't
 pub prepared-err : {D : Type 0} {G : Ghosts D} (state : D → Device) (old new : Room D G) (session : ℕ) (result : Result Bool CommitError)
-    → ∥ HasRun state old ∥₁ → Prepares state old new session result → IfErr result (TellsRefusal session)
-prepared-err state old new session (Ok wrote) run prepares = tt
-prepared-err state old new session (Err error) run prepares = λ key is. is-prepared state old new session (Err error) run prepares
+    → ∥ HasRun state old ∥₁ → Prepares state old new session result → (result ≡ Err (Refused WindowFull) → ⊥) → IfErr result (TellsUnprepared session)
+prepared-err state old new session (Ok wrote) run prepares other = tt
+prepared-err state old new session (Err error) run prepares other = inl (is-prepared state old new session (Err error) run prepares, λ is. other (ap Err is))

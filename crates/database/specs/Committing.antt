@@ -1,16 +1,17 @@
 -- What a put and a commit make of a run.
-use Rattle.std.specs.Prelude.{◌≡◌, ◌⊎◌, ℕ, Bool, true, false, List, [], ◌∷◌, ◌++◌, replicate, ⊤, Option, Some, None, Result, Ok, Err}
+use Rattle.std.specs.Prelude.{◌≡◌, ◌≢◌, ◌⊎◌, ℕ, Bool, true, false, List, [], ◌∷◌, ◌++◌, replicate, ⊤, Option, Some, None, Result, Ok, Err, MatchResult}
 use Rattle.base.specs.declared.fault.Fault.{Fault}
-use Rattle.base.specs.declared.fault.Fault.TheVariants.{SlotsOut, Conflict}
+use Rattle.base.specs.declared.fault.Fault.TheVariants.{SlotsOut, Conflict, WindowFull, OutOfMemory, TimestampsOut, Failed, Device as DeviceFault}
 use Rattle.base.specs.declared.key.Key.{Key}
 use Rattle.base.specs.declared.step.Step.{Step}
-use Rattle.base.specs.declared.step.Step.TheVariants.{Put, Draw, Stamp, Poll, End, Collect}
+use Rattle.base.specs.declared.step.Step.TheVariants.{Put, Draw, Stamp, Poll, Abort, End, Commit as CommitTick, Collect}
 use Rattle.base.specs.declared.step.Reply.{Reply}
+use Rattle.base.specs.declared.step.Reply.TheVariants.{Refused as RefusedWith}
 use Rattle.database.specs.declared.error.CommitError.{CommitError}
 use Rattle.database.specs.declared.error.CommitError.TheVariants.{Refused, Open}
 use Rattle.database.specs.Replies.{done_of, drawn_of, stamped_of, committed_of}
 use Rattle.database.specs.Runs.{EndsSomeRun}
-use Rattle.database.specs.Obeys.{IsStep, all_stamped}
+use Rattle.database.specs.Obeys.{IsStep, AnswersStep, all_stamped}
 
 -- ---- a put
 
@@ -79,6 +80,51 @@ IsAcknowledged session t = EndsSomeRun (PollsAndEnds session t (Ok tt))
 abbrev pub TellsCommit : ℕ → Option ℕ → Type 0
 TellsCommit session None = IsPrepared session (Ok false)
 TellsCommit session (Some t) = IsPrepared session (Ok true) × IsAcknowledged session t
+
+-- ---- a commit that isn't acknowledged
+
+-- with such a fault the committer ends; after want of memory it goes on
+abbrev pub IsLast : Fault → Type 0
+IsLast fault = (fault ≡ TimestampsOut) ⊎ ((fault ≡ DeviceFault) ⊎ (fault ≡ Failed))
+
+-- a tick of the committer was refused with this fault, and it ended
+abbrev pub HasEnded : Fault → Type 0
+HasEnded fault = EndsSomeRun (λ steps replies. (steps ≡ CommitTick ∷ []) × (replies ≡ RefusedWith fault ∷ []) × IsLast fault)
+
+-- Why a commit isn't drawn whose draw wasn't refused: the committer had ended, or found no memory for the record that a full window waits for
+abbrev pub StopsBefore : CommitError → Type 0
+StopsBefore (Refused fault) = HasEnded fault ⊎ (fault ≡ OutOfMemory)
+StopsBefore (Open fault) = ⊥
+
+-- Why what isn't covered won't be in this life: the committer has ended, or finds no memory. Without a record number more it won't be in a later one
+abbrev pub StopsAfter : CommitError → Type 0
+StopsAfter (Refused fault) = (fault ≡ TimestampsOut) × HasEnded fault
+StopsAfter (Open fault) = HasEnded fault ⊎ (fault ≡ OutOfMemory)
+
+-- the session's poll was refused so, or it told the timestamp and the end was refused so
+abbrev pub StopsAtEnd : ℕ → CommitError → Type 0
+StopsAtEnd session (Refused fault) = ⊥
+StopsAtEnd session (Open fault) = EndsSomeRun (λ steps replies. IsStep (Poll session) committed_of (Err fault) steps replies ⊎ ((t : ℕ) × PollsAndEnds session t (Err fault) steps replies))
+
+-- why a commit that is drawn and stamped isn't acknowledged: its own poll told that it isn't covered, and nothing more will be; or that poll, or its end, was refused
+abbrev pub GivesUp : ℕ → CommitError → Type 0
+GivesUp session error = ∥ ((AnswersStep (Poll session) committed_of (Ok None) × StopsAfter error) ⊎ StopsAtEnd session error) ∥₁
+
+-- what becomes of such a commit
+abbrev pub IsAnswered : ℕ → Result ℕ CommitError → Type 0
+IsAnswered session result = MatchResult result (IsAcknowledged session) (GivesUp session)
+
+-- why one isn't drawn and stamped: its steps gave this reason, though no full window, which is waited for; or it stopped before them
+abbrev pub TellsUnprepared : ℕ → CommitError → Type 0
+TellsUnprepared session error = (IsPrepared session (Err error) × (error ≢ Refused WindowFull)) ⊎ StopsBefore error
+
+-- the session's abort was asked for: where its draw was refused it is over, and its slots are free
+abbrev pub IsGivenBack : ℕ → Type 0
+IsGivenBack session = (result : Result ⊤ Fault) × AnswersStep (Abort session) done_of result
+
+-- What an error tells: that the commit wasn't drawn and stamped, for the reason that its steps gave, or before them; or that it was, and why it isn't acknowledged
+abbrev pub TellsError : ℕ → CommitError → Type 0
+TellsError session error = (TellsUnprepared session error × IsGivenBack session) ⊎ (IsPrepared session (Ok true) × GivesUp session error)
 
 -- A conflict is told only where the session's draw was refused so
 abbrev pub TellsRefusal : ℕ → CommitError → Type 0

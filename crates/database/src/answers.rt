@@ -1,16 +1,17 @@
-ghost use Rattle.std.specs.Prelude.{◌<◌, IfOk, IfSome};
-ghost use Rattle.database.specs.Committing.{IsAcknowledged};
+ghost use Rattle.std.specs.Prelude.{◌<◌, IfSome};
+ghost use Rattle.std.specs.Result.{ForOk, ForErr};
+ghost use Rattle.database.specs.Committing.{IsAcknowledged, GivesUp, IsAnswered};
 
 use crate::error::CommitError;
 use base::Ts;
-use base::fault::Fault;
 
-/// A commit of this session that is covered, and its timestamp.
+/// What became of a commit of this session.
 #[derive(Clone, Copy, Drop)]
-pub struct Acknowledged {
+pub struct Answer {
     session: u8,
-    timestamp: Ts,
-    ghost told: { IsAcknowledged session timestamp },
+    result: Result<Ts, CommitError>,
+    ghost told: { ForOk result (IsAcknowledged session) },
+    ghost why: { ForErr result (GivesUp session) },
 }
 
 // A place for an answer.
@@ -20,7 +21,7 @@ enum Place {
     /// Somebody waits for an answer here.
     Awaited,
     /// Its answer, which wasn't taken yet.
-    Answered(Result<Acknowledged, CommitError>),
+    Answered(Answer),
 }
 
 /// What became of commits that are waited for.
@@ -49,26 +50,25 @@ impl Answers {
 
     /// Leaves the answer to this session's commit there.
     pub fn put(&mut self, place: usize, session: u8, answer: Result<Ts, CommitError>)
-        requires { IfOk answer (IsAcknowledged session) }
+        requires { IsAnswered session answer }
     {
-        self.places[place % 64] = Place::Answered(match answer {
-            Ok(timestamp) => Ok(Acknowledged { session, timestamp }),
-            Err(error) => Err(error),
+        self.places[place % 64] = Place::Answered(Answer {
+            session,
+            result: answer,
         });
     }
 
     /// Takes the answer to this session's commit from there, if it came.
     pub fn take(&mut self, place: usize, session: u8) -> Option<Result<Ts, CommitError>>
-        ensures { IfSome result (λ answer. IfOk answer (IsAcknowledged session)) }
+        ensures { IfSome result (IsAnswered session) }
     {
         let Place::Answered(answer) = self.places[place % 64] else {
             return None;
         };
-        self.places[place % 64] = Place::Free;
-        match answer {
-            Ok(it) if it.session == session => Some(Ok(it.timestamp)),
-            Ok(_) => Some(Err(CommitError::Open(Fault::WrongState))),
-            Err(error) => Some(Err(error)),
+        if answer.session != session {
+            return None;
         }
+        self.places[place % 64] = Place::Free;
+        Some(answer.result)
     }
 }

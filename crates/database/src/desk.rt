@@ -1,3 +1,6 @@
+ghost use Rattle.std.specs.Option.{ForSome};
+ghost use Rattle.database.specs.Committing.{HasEnded};
+
 use crate::answers::Answers;
 use crate::committing::finish;
 use crate::error::CommitError;
@@ -38,14 +41,15 @@ pub struct Desk<D: Pmem> {
     pub refusals: u64,
     /// Why nothing more will be covered: what the committer was refused with.
     pub ended: Option<Fault>,
+    ghost ended_so: { ForSome ended HasEnded },
 }
 
 impl<D: Pmem + Drop> Desk<D> {
-    ghost use Rattle.std.specs.Prelude.{IsTrue, is_some, IfSome, IfOk};
+    ghost use Rattle.std.specs.Prelude.{IsTrue, is_some, IfSome};
     ghost use Rattle.base.specs.declared.step.Step.TheVariants.{Begin, Abort};
     ghost use Rattle.database.specs.Replies.{began_of, done_of};
     ghost use Rattle.database.specs.Obeys.{AnswersStep};
-    ghost use Rattle.database.specs.Committing.{IsAcknowledged};
+    ghost use Rattle.database.specs.Committing.{IsAnswered, StopsAfter};
 
     /// Opens a transaction. The number of its session.
     pub fn begin(&mut self) -> Result<u8, Fault>
@@ -80,7 +84,7 @@ impl<D: Pmem + Drop> Desk<D> {
 
     /// The answer to the session's commit, once there is one.
     pub fn answer(&mut self, session: u8) -> Option<Result<Ts, CommitError>>
-        ensures { IfSome result (λ answer. IfOk answer (IsAcknowledged session)) }
+        ensures { IfSome result (IsAnswered session) }
     {
         let Some(room) = &mut self.room else {
             return None;
@@ -96,7 +100,9 @@ impl<D: Pmem + Drop> Desk<D> {
     }
 
     // Why a commit that isn't covered is waited for no longer.
-    fn given_up(&self) -> Option<CommitError> {
+    fn given_up(&self) -> Option<CommitError>
+        ensures { IfSome result StopsAfter }
+    {
         match self.ended {
             Some(Fault::TimestampsOut) => Some(CommitError::Refused(Fault::TimestampsOut)),
             Some(fault) => Some(CommitError::Open(fault)),

@@ -18,11 +18,10 @@ const MOST_TRIES: u64 = 1_000;
 const LOOKS: u64 = 1_500;
 
 impl<D: SyncAhead + Drop> Shared<D> {
-    ghost use Rattle.std.specs.Prelude.{IfOk};
     ghost use Rattle.base.specs.declared.step.Step.TheVariants.{Begin};
     ghost use Rattle.database.specs.Replies.{began_of};
     ghost use Rattle.database.specs.Obeys.{AnswersStep};
-    ghost use Rattle.database.specs.Committing.{IsAcknowledged};
+    ghost use Rattle.database.specs.Committing.{IsAnswered};
 
     /// Joins the group that is being formed, and waits until the commit of this session is covered, or won't be. The first of a group
     /// leads it: it makes the committer's ticks itself, so that nobody has to be woken for them.
@@ -32,7 +31,7 @@ impl<D: SyncAhead + Drop> Shared<D> {
         desk: MutexGuard<'a, Desk<D>>,
         session: u8,
     ) -> Result<Ts, CommitError>
-        ensures { IfOk result (IsAcknowledged session) }
+        ensures { IsAnswered session result }
     {
         let mut desk = desk;
         desk.group.join();
@@ -55,7 +54,7 @@ impl<D: SyncAhead + Drop> Shared<D> {
 
     // Sleeps until the answer is there.
     fn take_answer<R: Wait>(&self, rt: &R, session: u8, place: usize) -> Result<Ts, CommitError>
-        ensures { IfOk result (IsAcknowledged session) }
+        ensures { IsAnswered session result }
     {
         let mut answers = self.answers.lock(rt);
         for _ in rt.forever() {
@@ -75,7 +74,7 @@ impl<D: SyncAhead + Drop> Shared<D> {
         desk: MutexGuard<'a, Desk<D>>,
         session: u8,
     ) -> Result<Ts, CommitError>
-        ensures { IfOk result (IsAcknowledged session) }
+        ensures { IsAnswered session result }
     {
         let mut desk = self.gather(rt, desk);
         for _ in rt.forever() {

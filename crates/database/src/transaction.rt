@@ -52,7 +52,7 @@ impl<'a, D: SyncAhead + Drop, R: Wait> Transaction<'a, D, R> {
     ghost use Rattle.base.specs.declared.step.Step.TheVariants.{Get, Scan, Delete, Abort};
     ghost use Rattle.database.specs.Replies.{row_of, rows_of, done_of};
     ghost use Rattle.database.specs.Obeys.{AnswersStep};
-    ghost use Rattle.database.specs.Committing.{AnswersPut, TellsCommit, TellsRefusal};
+    ghost use Rattle.database.specs.Committing.{AnswersPut, TellsCommit, TellsError};
 
     pub(crate) fn new(
         rt: &'a R,
@@ -131,7 +131,7 @@ impl<'a, D: SyncAhead + Drop, R: Wait> Transaction<'a, D, R> {
     /// was refused memory a hundred times in a row.
     pub fn commit(mut self) -> Result<Option<Ts>, CommitError>
         ensures ok { IfOk result (TellsCommit self.entry.session) }
-        ensures err { IfErr result (TellsRefusal self.entry.session) }
+        ensures err { IfErr result (TellsError self.entry.session) }
     {
         self.is_over = true;
         self.shared.commit(self.rt, self.session)

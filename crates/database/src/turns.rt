@@ -75,8 +75,14 @@ pub fn collect<D: Pmem + Drop>(desk: &mut Desk<D>) -> Turn {
 }
 
 impl<D: Pmem> Desk<D> {
+    ghost use Rattle.std.specs.Prelude.{◌≢◌};
+    ghost use Rattle.base.specs.declared.fault.Fault.TheVariants.{OutOfMemory};
+    ghost use Rattle.database.specs.Committing.{HasEnded};
+
     // What a refusal of a tick comes to: want of memory passes, and nothing else does.
-    fn after_refusal(&mut self, fault: Fault) -> Turn {
+    fn after_refusal(&mut self, fault: Fault) -> Turn
+        requires { fault ≢ OutOfMemory → HasEnded fault }
+    {
         match fault {
             Fault::OutOfMemory => {
                 self.refusals = self.refusals.saturating_add(1);

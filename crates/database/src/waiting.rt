@@ -1,5 +1,6 @@
-ghost use Rattle.std.specs.Prelude.{ℕ};
-ghost use Rattle.database.specs.Committing.{TellsRefusal};
+ghost use Rattle.std.specs.Prelude.{◌≡◌, ◌↔◌, IsTrue, Err};
+ghost use Rattle.base.specs.declared.fault.Fault.TheVariants.{WindowFull};
+ghost use Rattle.database.specs.declared.error.CommitError.TheVariants.{Refused};
 
 use crate::committing::prepare;
 use crate::desk::{Desk, Shared};
@@ -13,18 +14,18 @@ use sync_ahead::SyncAhead;
 
 impl<D: SyncAhead + Drop> Shared<D> {
     ghost use Rattle.std.specs.Prelude.{Ok, IfOk, IfErr};
-    ghost use Rattle.database.specs.Committing.{IsPrepared, IsAcknowledged, TellsCommit, TellsRefusal};
+    ghost use Rattle.database.specs.Committing.{IsPrepared, IsGivenBack, TellsCommit, TellsUnprepared, TellsError};
 
     /// Commits the transaction of this session, and ends it.
     pub fn commit<R: Wait>(&self, rt: &R, session: u8) -> Result<Option<Ts>, CommitError>
         ensures ok { IfOk result (TellsCommit session) }
-        ensures err { IfErr result (TellsRefusal session) }
+        ensures err { IfErr result (TellsError session) }
     {
         let (desk, prepared) = self.prepare(rt, session);
         match prepared {
             Ok(true) => match self.wait(rt, desk, session) {
                 Ok(timestamp) => Ok(Some(timestamp)),
-                Err(error) => Err(without_conflict(error)),
+                Err(error) => Err(error),
             },
             Ok(false) => {
                 let mut desk = desk;
@@ -46,16 +47,16 @@ impl<D: SyncAhead + Drop> Shared<D> {
         session: u8,
     ) -> (MutexGuard<'_, Desk<D>>, Result<bool, CommitError>)
         ensures ok { IfOk result.1 (λ wrote. IsPrepared session (Ok wrote)) }
-        ensures err { IfErr result.1 (TellsRefusal session) }
+        ensures err { IfErr result.1 (TellsUnprepared session) }
     {
         let mut desk = self.desk(rt);
         for _ in rt.forever() {
             if let Some(fault) = desk.ended {
-                return (desk, Err(without_conflict(CommitError::Refused(fault))));
+                return (desk, Err(CommitError::Refused(fault)));
             }
             if let Some(room) = &mut desk.room {
                 let prepared = prepare(rt, room, session);
-                if !matches!(prepared, Err(CommitError::Refused(Fault::WindowFull))) {
+                if !is_full(&prepared) {
                     return (desk, prepared);
                 }
             }
@@ -69,7 +70,9 @@ impl<D: SyncAhead + Drop> Shared<D> {
 
     // Ends a transaction whose commit was refused. A conflict is told once whatever is drawn is covered or given up: a
     // transaction that is begun then sees the commit that was in the way.
-    fn give_way<R: Wait>(&self, rt: &R, session: u8, error: CommitError) {
+    fn give_way<R: Wait>(&self, rt: &R, session: u8, error: CommitError)
+        ensures { IsGivenBack session }
+    {
         let mut desk = self.desk(rt);
         let _ = desk.abort(session);
         let waits = matches!(error, CommitError::Refused(Fault::Conflict(_)));
@@ -118,15 +121,9 @@ impl<D: SyncAhead + Drop> Shared<D> {
     }
 }
 
-// The error of a commit where no draw was refused: so it tells of no conflict.
-fn without_conflict(error: CommitError) -> CommitError
-    ensures { (session : ℕ) → TellsRefusal session result }
+// Whether the draw found no timestamp left in the window.
+fn is_full(prepared: &Result<bool, CommitError>) -> bool
+    ensures { IsTrue result ↔ (prepared.now ≡ Err (Refused WindowFull)) }
 {
-    match error {
-        CommitError::Refused(fault) => match fault {
-            Fault::Conflict(_) => CommitError::Open(Fault::WrongState),
-            fault => CommitError::Refused(fault),
-        },
-        CommitError::Open(fault) => CommitError::Open(fault),
-    }
+    matches!(prepared, Err(CommitError::Refused(Fault::WindowFull)))
 }

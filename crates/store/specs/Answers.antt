@@ -12,7 +12,7 @@ use Rattle.database.specs.Replies.{row_of, rows_of}
 use Rattle.database.specs.Obeys.{AnswersStep}
 use Rattle.database.specs.declared.error.CommitError.{CommitError}
 use Rattle.database.specs.declared.error.CommitError.TheVariants.{Refused}
-use Rattle.database.specs.Committing.{AnswersPut, IsPrepared}
+use Rattle.database.specs.Committing.{AnswersPut, IsPrepared, TellsError}
 use Rattle.store.specs.declared.error.StoreError.{StoreError}
 use Rattle.store.specs.Errors.{error_of, commit_error}
 
@@ -72,5 +72,5 @@ TellsConflict session error = (key : Key) → error ≡ StoreError.Conflict key 
 
 -- what a commit that isn't acknowledged returns
 pub record IsCommitRefusal (session : ℕ) (error : StoreError) : Type 0 where
-  pub of_commit : (refused : CommitError) × (error ≡ commit_error refused)
+  pub of_commit : (refused : CommitError) × (error ≡ commit_error refused) × TellsError session refused
   pub conflict : TellsConflict session error

@@ -1,6 +1,9 @@
 use Rattle.std.proofs.Common.{ℕ, subst}
-use Rattle.database.specs.Committing.{IsAcknowledged}
+use Rattle.database.specs.Committing.{IsAnswered}
+use Rattle.database.proofs.Errors.{answered-so}
 use Rattle.database.proofs.answers.Answers.take.Goals as goal
 
-pub returns-in-Ok : goal.returns-in-Ok
-returns-in-Ok c = subst (λ (n : ℕ). IsAcknowledged n c.in-Ok.it.timestamp) c.if-it-session.true c.in-Ok.it.told
+pub returns : goal.returns
+returns c =
+    subst (λ (n : ℕ). IsAnswered n c.in-Answered.answer.result) c.if-answer-session.false
+    (answered-so c.in-Answered.answer.session c.in-Answered.answer.result c.in-Answered.answer.told c.in-Answered.answer.why)

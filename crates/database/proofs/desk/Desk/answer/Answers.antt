@@ -1,9 +1,23 @@
-use Rattle.std.proofs.Common.{subst, Ok}
+use Rattle.std.proofs.Common.{inl, inr, subst, Ok}
 use Rattle.database.specs.Obeys.{Finishes}
 use Rattle.database.proofs.Telling.{is-acknowledged}
+use Rattle.database.proofs.Errors.{finish-waits, finish-refused}
 use Rattle.database.proofs.desk.Desk.answer.Goals as goal
 
 pub returns-in-Ok-Some : goal.returns-in-Ok-Some
 returns-in-Ok-Some g c =
     is-acknowledged g.D.Pmem.state c.in-Some.room.room c.finish.new.room.room c.args.session c.in-Ok-Some.timestamp c.in-Some.room.run
     (subst (λ o. Finishes g.D.Pmem.state c.in-Some.room.room c.finish.new.room.room c.args.session (Ok o)) c.in-Ok-Some.field-0-is c.in-Ok-Some.ensures.steps)
+
+pub returns-in-Some-given_up : goal.returns-in-Some-given_up
+returns-in-Some-given_up g c =
+    ∣ inl (
+      finish-waits g.D.Pmem.state c.in-Some.room.room c.finish.new.room.room c.args.session c.in-Some.room.run
+          (subst (λ o. Finishes g.D.Pmem.state c.in-Some.room.room c.finish.new.room.room c.args.session (Ok o)) c.in-Ok-None.field-0-is c.in-Ok-None.ensures.steps),
+      c.in-Some-given_up.ensures,
+    ) ∣₁
+
+pub returns-in-Err : goal.returns-in-Err
+returns-in-Err g c =
+    ∣ inr (finish-refused g.D.Pmem.state c.in-Some.room.room c.finish.new.room.room c.args.session c.in-Err.fault c.in-Some.room.run
+    (subst (λ r. Finishes g.D.Pmem.state c.in-Some.room.room c.finish.new.room.room c.args.session r) c.in-Err.is c.finish.ensures.steps)) ∣₁

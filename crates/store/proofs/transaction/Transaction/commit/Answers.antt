@@ -1,4 +1,5 @@
 use Rattle.std.proofs.Common.{sym, subst}
+use Rattle.database.proofs.Errors.{tells-refusal}
 use Rattle.store.specs.Answers.{TellsConflict}
 use Rattle.store.proofs.Conflicts.{conflict-told}
 use Rattle.store.proofs.transaction.Transaction.commit.Goals as goal
@@ -7,6 +8,6 @@ pub returns-in-Err-clause-err : goal.returns-in-Err-clause-err
 returns-in-Err-clause-err g c =
     let session = c.args.self.snapshot.reads.session in
     record {
-      of_commit = (c.in-Err.refused, c.from.ensures);
-      conflict = subst (TellsConflict session) (sym c.from.ensures) (conflict-told session c.in-Err.refused c.in-Err.ensures.err);
+      of_commit = (c.in-Err.refused, c.from.ensures, c.in-Err.ensures.err);
+      conflict = subst (TellsConflict session) (sym c.from.ensures) (conflict-told session c.in-Err.refused (tells-refusal session c.in-Err.refused c.in-Err.ensures.err));
     }

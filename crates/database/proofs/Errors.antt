@@ -1,0 +1,96 @@
+-- What the error of a commit tells.
+use Rattle.std.proofs.Common.{◌≡◌, ◌≢◌, ◌⊎◌, inl, inr, ℕ, Bool, true, false, [], ◌∷◌, refl, sym, subst}
+use mathlib.Core.HLevel.{⊥_prop}
+use Rattle.std.specs.Prelude.{Some, None, Result, Ok, Err}
+use Rattle.std.specs.Result.{ForOk, ForErr}
+use Rattle.std.specs.Option.{option_or}
+use Rattle.std.proofs.Math.Logic.{∥∥₁_elim, ∥∥₁_prop}
+use Rattle.base.specs.declared.fault.Fault.{Fault}
+use Rattle.base.specs.declared.fault.Fault.TheVariants.{Conflict, OutOfMemory, TimestampsOut, Failed, Device as DeviceFault}
+use Rattle.base.specs.declared.key.Key.{Key}
+use Rattle.base.specs.declared.step.Step.TheVariants.{Poll, Commit as CommitTick}
+use Rattle.base.specs.declared.step.Reply.{Reply}
+use Rattle.base.specs.declared.step.Reply.TheVariants.{Refused as RefusedWith}
+use Rattle.base.specs.Search.{some_if}
+use Rattle.base.specs.Images.{ruling}
+use Rattle.base.proofs.Histories.{history_in, sound-stands, opens-sound}
+use Rattle.machine.specs.Machine.{State, Stepped, refused, answered, memory_refused, device_failed, final}
+use Rattle.machine.proofs.Runs.{IsAnswer, Answers-answer}
+use Rattle.pmem.specs.Device.{Device}
+use Rattle.pmem.specs.Words.{image_of}
+use Rattle.pmem.specs.declared.device.Pmem.{Ghosts}
+use Rattle.room.specs.declared.room.Room.{Room}
+use Rattle.database.specs.declared.error.CommitError.{CommitError}
+use Rattle.database.specs.declared.error.CommitError.TheVariants.{Refused, Open}
+use Rattle.database.specs.Replies.{committed_of}
+use Rattle.database.specs.Runs.{Leads, HasRun, IsRunFrom}
+use Rattle.database.specs.Obeys.{Finishes, AnswersStep}
+use Rattle.database.specs.Committing.{IsAcknowledged, IsLast, HasEnded, StopsAfter, StopsAtEnd, GivesUp, IsAnswered, TellsError, TellsRefusal}
+use Rattle.database.proofs.Runs.{leads-one, ends-run, answers-step}
+use Rattle.database.proofs.Telling.{polled_so}
+
+-- ---- a tick that is refused
+
+by-tests : (failed past : Bool) (fault : Fault) → option_or (some_if failed Failed) (option_or (some_if past TimestampsOut) None) ≡ Some fault → IsLast fault
+by-tests true past fault e = let same : fault ≡ Failed = cc e in inr (inr same)
+by-tests false true fault e = let same : fault ≡ TimestampsOut = cc e in inl same
+by-tests false false fault e = absurd (cc e)
+
+is-last : (q q' : State) (fault : Fault) (reply : Reply) → Stepped q CommitTick reply q' → reply ≡ RefusedWith fault → fault ≢ OutOfMemory → IsLast fault
+is-last q q' fault reply (refused f why is same) told other = let same_fault : f ≡ fault = cc (sym is, told) in subst IsLast same_fault (by-tests q.failed _ f why)
+is-last q q' fault reply (answered free is same) told other = absurd (subst IsAnswer told (Answers-answer q CommitTick reply is))
+is-last q q' fault reply (memory_refused free takes is same) told other = absurd (other (cc (sym told, is)))
+is-last q q' fault reply (device_failed free operates is same) told other = let device : fault ≡ DeviceFault = cc (sym told, is) in inr (inl device)
+
+-- some state is shown, from which the tick was made
+last_from : {D : Type 0} {G : Ghosts D} (state : D → Device) (old new : Room D G) (fault : Fault) (opened : Device) → IsRunFrom state opened old
+    → Leads state old new CommitTick (RefusedWith fault) → fault ≢ OutOfMemory → IsLast fault
+last_from state old new fault opened r leads other =
+    let image = image_of opened in
+    let s = r.is_opened.shows (history_in image) [] (ruling image).dirty [] (sound-stands image (opens-sound image r.is_opened.may_open)) in
+    let a = r.leads s.0 s.2 in
+    let b = leads (final s.0 a.0) a.1.shows in is-last (final s.0 a.0) b.0 fault (RefusedWith fault) b.1.stepped refl other
+
+pub has-ended : {D : Type 0} {G : Ghosts D} (state : D → Device) (old new : Room D G) (fault : Fault) → ∥ HasRun state old ∥₁
+    → Leads state old new CommitTick (RefusedWith fault) → fault ≢ OutOfMemory → HasEnded fault
+has-ended state old new fault run leads other =
+    ∥∥₁_elim run ∥∥₁_prop (λ r.
+    ends-run state old new (CommitTick ∷ []) (RefusedWith fault ∷ []) _ run (leads-one state old new CommitTick (RefusedWith fault) leads) (refl, refl, last_from state old new fault r.0 r.1 leads other))
+
+-- ---- a commit that is waited for
+
+-- its poll told that it isn't covered
+pub finish-waits : {D : Type 0} {G : Ghosts D} (state : D → Device) (old new : Room D G) (session : ℕ) → ∥ HasRun state old ∥₁
+    → Finishes state old new session (Ok None) → AnswersStep (Poll session) committed_of (Ok None)
+finish-waits state old new session run polls = answers-step state old new (Poll session) committed_of (Ok None) run polls.0
+
+-- what is kept of a commit says what became of it
+pub answered-so : (session : ℕ) (result : Result ℕ CommitError) → ForOk result (IsAcknowledged session) → ForErr result (GivesUp session) → IsAnswered session result
+answered-so session (Ok t) told why = told t refl
+answered-so session (Err error) told why = why error refl
+
+-- its poll, or its end, was refused
+pub finish-refused : {D : Type 0} {G : Ghosts D} (state : D → Device) (old new : Room D G) (session : ℕ) (fault : Fault) → ∥ HasRun state old ∥₁
+    → Finishes state old new session (Err fault) → StopsAtEnd session (Open fault)
+finish-refused state old new session fault run (inl one) =
+    ends-run state old new (Poll session ∷ []) (one.0 ∷ []) _ run (leads-one state old new (Poll session) one.0 one.1) (inl (one.0, refl, refl, one.2))
+finish-refused state old new session fault run (inr (mid, t, polls, last)) = polled_so state old new session t (Err fault) _ (λ steps replies is. inr (t, is)) run mid polls last
+
+-- ---- a conflict
+
+not-last : (fault : Fault) (key : Key) → fault ≡ Conflict key → IsLast fault → ⊥
+not-last fault key e (inl out) = absurd (cc (sym e, out))
+not-last fault key e (inr (inl device)) = absurd (cc (sym e, device))
+not-last fault key e (inr (inr failed)) = absurd (cc (sym e, failed))
+
+not-given-up : (session : ℕ) (fault : Fault) (key : Key) → fault ≡ Conflict key → (AnswersStep (Poll session) committed_of (Ok None) × StopsAfter (Refused fault)) ⊎ StopsAtEnd session (Refused fault) → ⊥
+not-given-up session fault key e (inl (polled, stops)) = absurd (cc (sym e, stops.0))
+not-given-up session fault key e (inr never) = absurd never
+
+-- a conflict is told where the draw was refused so
+pub tells-refusal : (session : ℕ) (error : CommitError) → TellsError session error → TellsRefusal session error
+tells-refusal session (Open fault) tells key e = absurd (cc e)
+tells-refusal session (Refused fault) (inl (inl (prepared, other), back)) key e = prepared
+tells-refusal session (Refused fault) (inl (inr (inl ended), back)) key e = let is : fault ≡ Conflict key = cc e in absurd (∥∥₁_elim ended ⊥_prop (λ t. not-last fault key is t.7.2))
+tells-refusal session (Refused fault) (inl (inr (inr memory), back)) key e = absurd (cc (sym memory, e))
+tells-refusal session (Refused fault) (inr (prepared, gives)) key e = let is : fault ≡ Conflict key = cc e in absurd (∥∥₁_elim gives ⊥_prop (λ why. not-given-up session fault key is why))
