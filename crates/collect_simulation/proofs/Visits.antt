@@ -27,7 +27,8 @@ use Rattle.device_invariant.proofs.Zeroing.{zeroing-keeps}
 use Rattle.device_invariant.proofs.Laws.{flushes-keep, fences-keep, failing-keeps}
 use Rattle.step_simulation.specs.Moves.{Leads}
 use Rattle.step_simulation.proofs.Leading.{along-map, leads-run, leads-stopped}
-use Rattle.collector.specs.Sweeping.{zero_operations, sweep_operations}
+use Rattle.version_slot.specs.Operations.{zero_operations}
+use Rattle.collector.specs.Sweeping.{sweep_operations}
 use Rattle.collect_simulation.specs.Visits.{visit_operations}
 use Rattle.collect_simulation.specs.Laws.{VisitsKeep, VisitsLead, SweepsEnd}
 use Rattle.collect_simulation.proofs.WithoutOperations.{upholds-moved}

@@ -2,7 +2,8 @@ ghost use Rattle.std.specs.Prelude.{◌≡◌, ◌<◌, ◌+◌, IfErr, OnErr, O
 ghost use Rattle.base.specs.Layout.{slot_start, total_words};
 ghost use Rattle.pmem.specs.Words.{value_of};
 ghost use Rattle.pmem.specs.Trace.{Runs, StopsWithin};
-ghost use Rattle.collector.specs.Sweeping.{zero_operations, sweep_operations};
+ghost use Rattle.version_slot.specs.Operations.{zero_operations};
+ghost use Rattle.collector.specs.Sweeping.{sweep_operations};
 
 use base::SlotNo;
 use base::actor::Actor;

@@ -1,6 +1,7 @@
 //! The superblock and the log area: what they hold, which record rules, and how a record is written.
 #![tactic(auto)]
 
+mod law;
 mod order;
 mod reading;
 mod record;
@@ -11,6 +12,7 @@ mod updating;
 mod write;
 mod writing;
 
+pub use law::records_are_replaced_whole;
 pub use reading::latest;
 pub use record::Record;
 pub use ruling::Ruling;

@@ -1,15 +1,17 @@
 //! The superblock says how long the device is, so an image that was cut or lengthened is refused.
 
-ghost use Rattle.std.specs.Prelude.{◌≡◌, ◌⊎◌, ◌+◌, ◌^◌, ◌<◌, ◌≤◌, ◌&&◌, nat_eq, ℕ, length, slice_index, IfOk, IfErr, OnOk, OnErr, Some, List};
+ghost use Rattle.std.specs.Prelude.{◌≡◌, ◌+◌, ◌^◌, ◌<◌, ◌≤◌, ◌&&◌, nat_eq, ℕ, length, slice_index, IfOk, IfErr, OnOk, OnErr, Some, List};
 ghost use Rattle.base.specs.Layout.{total_words};
-ghost use Rattle.pmem.specs.Words.{HasOneFailure, IsSettledAt, Makes, Spares, image_of};
+ghost use Rattle.pmem.specs.Trace.{Runs, StopsWithin};
+ghost use Rattle.pmem.specs.Words.{image_of};
 ghost use Rattle.log_area.specs.Rulings.{IsLaidOut, IsHead, layout_damage};
+ghost use Rattle.log_area.specs.Writings.{geometry_operations};
 ghost use Rattle.base.specs.Fresh.{superblock_words};
 
 use base::actor::Actor;
 use base::fault::Fault;
 use base::geometry::Geometry;
-use pmem::Pmem;
+use pmem::{Pmem, store_all};
 
 /// The superblock's word 0, `WBL-PRF1`.
 pub const FORMATTED: u64 = 0x5742_4C2D_5052_4631;
@@ -71,17 +73,11 @@ fn has_good_end(words: &[u64; 8], count: usize, total: u64) -> bool
 /// Stores words 1 to 7 of the superblock, and waits until they persist.
 pub fn write_geometry<D: Pmem>(device: &mut D, geometry: Geometry) -> Result<(), Fault>
     requires { 8 ≤ (D.state device.old).words }
+    ensures run { OnOk result (Runs (geometry_operations geometry) (D.state device.old) (D.state device.new)) }
+    ensures stopped { OnErr result (StopsWithin (geometry_operations geometry) (D.state device.old) (D.state device.new)) }
     ensures fault { IfErr result (λ fault. fault ≡ Fault.Device) }
-    ensures made { OnOk result (Makes 7 1 1 0 (D.state device.old) (D.state device.new)) }
-    ensures failed { OnErr result (HasOneFailure (D.state device.old) (D.state device.new)) }
-    ensures holds { OnOk result ((word : ℕ) → 1 ≤ word → word < 8
-        → IsSettledAt (D.state device.new) word (slice_index (superblock_words geometry) word)) }
-    ensures others { Spares (λ word. (word ≡ 0) ⊎ (8 ≤ word)) (D.state device.old) (D.state device.new) }
 {
-    let words = superblock(geometry);
-    for word in 1..8 {
-        device.store(word, words[word])?;
-    }
+    store_all(device, 1, &superblock(geometry)[1..])?;
     device.flush(Actor::COMMITTER, 0)?;
     device.fence(Actor::COMMITTER)?;
     Ok(())

@@ -1,7 +1,9 @@
 //! The version is one word, so a crash leaves the old one or the new one.
 
-ghost use Rattle.std.specs.Prelude.{◌≡◌, ◌≢◌, ◌+◌, ◌<◌, ◌≤◌, IfErr, OnOk, OnErr};
-ghost use Rattle.pmem.specs.Words.{HasOneFailure, IsSettledAt, IsStore, Keeps, Makes, OldOr, Spares, operations_of};
+ghost use Rattle.std.specs.Prelude.{◌≡◌, ◌≤◌, IfErr, OnOk, OnErr};
+ghost use Rattle.base.specs.Actors.{committer};
+ghost use Rattle.pmem.specs.Persisting.{set_operations};
+ghost use Rattle.pmem.specs.Trace.{Runs, StopsWithin};
 
 use base::actor::Actor;
 use base::fault::Fault;
@@ -12,15 +14,9 @@ use pmem::{Pmem, set_word};
 /// until it persists.
 pub fn update_version<D: Pmem>(device: &mut D, geometry: Geometry) -> Result<(), Fault>
     requires { 8 ≤ (D.state device.old).words }
+    ensures run { OnOk result (Runs (set_operations committer 1 geometry.version) (D.state device.old) (D.state device.new)) }
+    ensures stopped { OnErr result (StopsWithin (set_operations committer 1 geometry.version) (D.state device.old) (D.state device.new)) }
     ensures fault { IfErr result (λ fault. fault ≡ Fault.Device) }
-    ensures made { OnOk result (Makes 1 1 1 0 (D.state device.old) (D.state device.new)) }
-    ensures failed { OnErr result (HasOneFailure (D.state device.old) (D.state device.new)) }
-    ensures few { OnErr result (operations_of (D.state device.new) < operations_of (D.state device.old) + 3) }
-    ensures holds { OnOk result (IsSettledAt (D.state device.new) 1 geometry.version) }
-
-    // A crash meanwhile leaves the old version or this one, and every other word as it was.
-    ensures keeps { Keeps (D.state device.old) (D.state device.new) (OldOr (D.state device.old) (IsStore 1 geometry.version)) }
-    ensures others { Spares (λ other. other ≢ 1) (D.state device.old) (D.state device.new) }
 {
     set_word(device, Actor::COMMITTER, 1, geometry.version())
 }

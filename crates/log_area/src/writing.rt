@@ -33,15 +33,12 @@ impl Model for Writing {
 }
 
 impl Writing {
-    ghost use Rattle.std.specs.Prelude.{◌≡◌, ◌≢◌, ◌↔◌, ◌+◌, ◌^◌, ◌<◌, ◌≤◌, ℕ, IsTrue, IfOk, IfErr, OnOk, OnErr};
+    ghost use Rattle.std.specs.Prelude.{◌≡◌, ◌≢◌, ◌↔◌, ◌+◌, ◌^◌, ◌<◌, ◌≤◌, IsTrue, IfOk, IfErr, OnOk, OnErr};
     ghost use Rattle.base.specs.Layout.{total_words};
-    ghost use Rattle.base.specs.Records.{Record as Value};
     ghost use Rattle.pmem.specs.Device.{failed};
-    ghost use Rattle.pmem.specs.Words.{LeavesOnly, Spares};
     ghost use Rattle.pmem.specs.Trace.{applied};
-    ghost use Rattle.log_area.specs.Rulings.{HoldsRecord};
     ghost use Rattle.log_area.specs.Stages.{IsStage, reached_by};
-    ghost use Rattle.log_area.specs.Writings.{begun, advanced, start_of, operation_of, IsWriting, IsReplacing, IsRuledMeanwhile, IsOutside};
+    ghost use Rattle.log_area.specs.Writings.{begun, advanced, start_of, operation_of};
 
     /// Nothing is stored yet.
     pub fn new(geometry: Geometry, target: Record) -> Writing
@@ -90,17 +87,6 @@ impl Writing {
         // One operation, the stage's.
         ensures operation { OnOk result (D.state device.new ≡ applied (operation_of self.old) (D.state device.old)) }
         ensures failure { OnErr result (D.state device.new ≡ failed (D.state device.old)) }
-
-        // What it makes of the place's words, and of the others.
-        ensures place { (before : ℕ) → IsWriting before self.old (D.state device.old) → IsWriting before self.new (D.state device.new) }
-        ensures outside { Spares (IsOutside self.old) (D.state device.old) (D.state device.new) }
-
-        // Where a record ruled before, it or the new one rules whatever a crash leaves.
-        ensures replaces { (old : Value) → IsReplacing old self.old (D.state device.old) → IsReplacing old self.new (D.state device.new) }
-        ensures images { (old : Value) → IsReplacing old self.old (D.state device.old)
-            → LeavesOnly (D.state device.old) (D.state device.new) (IsRuledMeanwhile old self.new) }
-        ensures done { (old : Value) → IsReplacing old self.old (D.state device.old) → self.new.stage ≡ WritingStage.Done
-            → HoldsRecord self.new.layout self.new.target (D.state device.new) }
     {
         self.operate(device)?;
         let reached = self.stage.reached();

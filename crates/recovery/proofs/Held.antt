@@ -94,10 +94,6 @@ placed-keys : (n : ℕ) (live : List LiveSlot) → keys_of (placed n live) ≡ m
 placed-keys n [] = refl
 placed-keys n (s ∷ live) = ap (λ (keys : List Key). s.key ∷ keys) (placed-keys (suc n) live)
 
-placed-size : (n : ℕ) (live : List LiveSlot) → length (placed n live) ≡ length live
-placed-size n [] = refl
-placed-size n (s ∷ live) = ap suc (placed-size (suc n) live)
-
 placed-there : (n : ℕ) (live : List LiveSlot) (key : Key) (place : ℕ) → lookup_key (placed n live) key ≡ Some place → (k : ℕ) × (n + k ≡ place) × ((s : LiveSlot) × (slice_get live k ≡ Some s) × (s.key ≡ key))
 placed-there n [] key place found = absurd (cc found)
 placed-there n (t ∷ live) key place found = by (key_eq t.key key) refl (placed-there (suc n) live key place) found

@@ -1,5 +1,5 @@
 -- Which slots a sweep stores in, and that it leaves the others as they are.
-use Rattle.std.proofs.Common.{◌≡◌, ℕ, ◌+◌, ◌*◌, ◌<◌, ◌/◌, nat_eq, Bool, true, false, cond, ◌||◌, List, map, get_or, length, refl, sym, ◌∙◌, ap, subst, arith}
+use Rattle.std.proofs.Common.{◌≡◌, ℕ, ◌+◌, ◌*◌, ◌<◌, nat_eq, Bool, true, false, cond, ◌||◌, List, map, get_or, length, refl, sym, ◌∙◌, ap, subst, arith}
 use Rattle.std.specs.Prelude.{Option, None}
 use Rattle.std.specs.List.{range_with_len}
 use Rattle.std.proofs.lemmas.List.FromFn.{length-map-range_with_len, get_or-map-range_with_len}
@@ -10,12 +10,9 @@ use Rattle.machine.specs.Laws.{OpensUpdated}
 use Rattle.base.specs.Records.{Record, is_in, opened_gaps}
 use Rattle.base.specs.Images.{Image, layout_of, ruling, slot_word, begin_of, end_of}
 use Rattle.machine.specs.Openings.{lies_in_gap, updated}
-use Rattle.pmem.specs.Device.{Device, flushed}
-use Rattle.pmem.specs.Words.{value_of}
 use Rattle.recovery.specs.declared.slots.SlotReading.{SlotReading}
 use Rattle.recovery.specs.Slots.{reading_in, readings_below}
-use Rattle.recovery.specs.Sweeping.{lies, is_hit_by, hits_below, AreHits, zeroed, cleaned}
-use Rattle.recovery.proofs.SweptSlots.{zeroed-is}
+use Rattle.recovery.specs.Sweeping.{is_hit_by, hits_below, AreHits}
 
 -- ---- by what was read
 
@@ -43,12 +40,6 @@ hits-size image n = length-map-range_with_len (λ slot. lies_in_gap image 0 slot
 pub hit-at : (image : Image) (n slot : ℕ) (d : Bool) (hits : List Bool) → hits ≡ hits_below image n → slot < n → get_or hits slot d ≡ (lies_in_gap image 0 slot || lies_in_gap image 1 slot)
 unfolding hits_below
 hit-at image n slot d hits are h = ap (λ (xs : List Bool). get_or xs slot d) are ∙ get_or-map-range_with_len (λ slot. lies_in_gap image 0 slot || lies_in_gap image 1 slot) 0 n slot slot d h (omega arith)
-
--- a slot whose begin and end lie in no gap stays as it is
-pub cleaned-same : (r : Record) (at : ℕ) (old : Device) → lies r (value_of old at) ≡ false → lies r (value_of (zeroed r at old) (at + 1)) ≡ false → cleaned r at old ≡ old
-cleaned-same r at old begun ended =
-    (λ i. cond (begun i || ended i) (flushed 0 (at / 8) (zeroed r (at + 1) (zeroed r at old))) (zeroed r (at + 1) (zeroed r at old)))
-    ∙ zeroed-is r (at + 1) (zeroed r at old) false ended ∙ zeroed-is r at old false begun
 
 -- ---- an image that is updated first
 

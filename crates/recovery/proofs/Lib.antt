@@ -5,11 +5,10 @@ pub mod Opens
 pub mod Visits
 pub mod Readings
 pub mod Hits
-pub mod Unhit
+pub mod Kept
 pub mod Beginning
 pub mod Lives
 pub mod Updates
-pub mod Zeros
 pub mod Fresh
 pub mod LiveRows
 pub mod WhatIsRead

@@ -1,10 +1,10 @@
 -- What an opening makes of a device.
-use Rattle.std.proofs.Common.{◌≡◌, ◌⊎◌, inl, inr, ℕ, ◌+◌, ◌-◌, ◌*◌, ◌^◌, ◌<◌, ◌≤◌, Bool, true, false, cond, not, ◌||◌, ◌&&◌, List, [], length, get_or, map, refl, sym, ◌∙◌, ap, subst, arith, nat_le, nat_lt}
+use Rattle.std.proofs.Common.{◌≡◌, ◌⊎◌, inl, inr, ℕ, ◌+◌, ◌-◌, ◌*◌, ◌^◌, ◌<◌, ◌≤◌, Bool, true, false, cond, not, ◌||◌, ◌&&◌, List, [], length, get_or, map, refl, sym, ◌∙◌, ap, subst, arith, nat_le}
 use Rattle.std.specs.Prelude.{Option, Some, None}
 use Rattle.std.specs.List.{range_with_len}
 use Rattle.std.proofs.lemmas.Bool.{and_parts, leb-true, leb-false, cases_lt, or_parts}
 use Rattle.std.proofs.lemmas.List.{get_or_past}
-use Rattle.std.proofs.lemmas.List.FromFn.{length-map-range_with_len, get_or-map-range_with_len}
+use Rattle.std.proofs.lemmas.List.Elements.{All-append}
 use Rattle.base.specs.declared.gap.Gap.{Gap}
 use Rattle.base.specs.declared.fault.Fault.{Fault}
 use Rattle.base.specs.declared.fault.Fault.TheVariants.{TimestampsOut, OutOfMemory, Device as DeviceFault}
@@ -14,31 +14,35 @@ use Rattle.base.specs.Layout.{Layout, total_words, is_known_version, is_in_limit
 use Rattle.base.specs.Records.{Record, opened_gaps}
 use Rattle.base.specs.Images.{Image, IsSound, damage, layout_of, ruling, is_shown, opening_fault, is_near_limit, needs_sweep, IsRuledBy, log_damage}
 use Rattle.base.specs.Stands.{Stands}
-use Rattle.machine.specs.Openings.{IsOpenedGaps, Counts, opening_record, gaps_kept, swept, opened_slots, words_swept, lines_swept, record_counts, StandsOpening}
+use Rattle.machine.specs.Openings.{IsOpenedGaps, opening_record, gaps_kept, swept, opened_slots, record_counts, StandsOpening}
 use Rattle.base.proofs.Histories.{opens-sound}
 use Rattle.machine.proofs.OpenedRecords.{formed-kept}
 use Rattle.machine.proofs.Opened.{covers-of}
 use Rattle.machine.proofs.Sweeps.{unmarked-low, swept-unmarked}
 use Rattle.pmem.specs.Device.{Device, IsOrderly}
-use Rattle.pmem.specs.Words.{value_of, IsAtRest, LeavesOnly, image_of, Keeps, OldOr, Spares, Makes, HasOldWords, operations_of}
+use Rattle.pmem.specs.Trace.{Operation, Runs, StopsWithin}
+use Rattle.pmem.specs.Words.{value_of, IsAtRest, LeavesOnly, image_of, Spares, HasOldWords}
 use Rattle.pmem.proofs.Images.{leaves_refl, leaves_trans, leaves_weaken, leaves_both}
 use Rattle.pmem.proofs.AtRest.{left_at_rest}
+use Rattle.pmem.proofs.Lists.{StoresOnly, StoreOnly, store-weaker, IsInTwo, runs-in_two, stops-in_two, orderly-run, makes-run, count_of, count_of-append, one_store, one_flush, one_fence, one_failure-stopped, few-stopped}
 use Rattle.pmem.proofs.Spares.{spares_fewer, spares_trans}
 use Rattle.pmem.proofs.OperationEffects.{only-settled}
 use Rattle.pmem.proofs.Changes.{settled_at-shrinks}
-use Rattle.log_area.specs.Rulings.{IsRecordFor, HoldsRecord}
-use Rattle.log_area.specs.Writings.{IsNextRecord, IsRuledByEither, IsOutside, begun}
+use Rattle.log_area.specs.Rulings.{IsRecordFor}
+use Rattle.log_area.specs.Writings.{IsNextRecord, IsRuledByEither, IsOutside, begun, record_operations}
 use Rattle.log_area.proofs.Rulings.{place_below, log_within}
 use Rattle.log_area.proofs.AtRest.{laid, fits_image, rest_holds}
-use Rattle.log_area.proofs.Heads.{laid_size, laid_limits, image_size}
+use Rattle.log_area.proofs.Heads.{laid_size, laid_limits, image_size, image_word}
+use Rattle.log_area.proofs.Whole.{record-holds, record-images, record-images_stopped, record-only, record-spares, record-spares_stopped}
 use Rattle.recovery.specs.Gaps.{few_gaps, MayRule}
 use Rattle.recovery.specs.Slots.{IsUnder, IsSlotsFault, free_below, bad_below}
 use Rattle.recovery.specs.Live.{live_below}
-use Rattle.recovery.specs.Sweeping.{IsSwept, is_hit}
-use Rattle.recovery.specs.Opened.{HasSlotsOf, Refuses, IsExamined, Examined, HasOpenedToday, IsCutBefore, IsCutShort, IsRefusal, IsUpdatedFirst, sweep_operations, total}
+use Rattle.recovery.specs.Sweeping.{is_hit}
+use Rattle.recovery.specs.Opened.{HasSlotsOf, Refuses, IsExamined, Examined, HasOpenedToday, IsCutBefore, IsCutShort, IsRefusal, IsUpdatedFirst, MakesAll, gap_operations, today_operations, total}
 use Rattle.recovery.specs.declared.rows.LiveSlot.{LiveSlot}
 use Rattle.base.proofs.WellFormed.{WellFormed, well_formed-parts}
 use Rattle.base.proofs.Options.{or-none, some_if-none}
+use Rattle.recovery.proofs.Kept.{AreKept, are_kept, kept_stopped, gaps-only, gap-counts}
 use Rattle.recovery.proofs.Opens.{stands-opening, record_after}
 use Rattle.recovery.proofs.Ruled.{images-sweeping, ruled-swept}
 use Rattle.recovery.proofs.Beginning.{fault-log, fault-slots, fault-limit, no-damage, no-fault}
@@ -47,26 +51,6 @@ use Rattle.recovery.proofs.Beginning.{fault-log, fault-slots, fault-limit, no-da
 
 opening-near : (image : Image) → opening_fault image ≡ None → is_near_limit image ≡ false
 opening-near image none = some_if-none (is_near_limit image) TimestampsOut (or-none (some_if (is_near_limit image) TimestampsOut) _ (or-none (damage image) _ none).1).0
-
--- ---- what isn't swept
-
-needs-many : (r : Record) (gaps : Option (List Gap)) → gaps ≡ few_gaps r → gaps ≡ None → nat_lt 8 (length (opened_gaps r)) ≡ true
-needs-many r gaps few none = by (nat_lt 8 (length (opened_gaps r))) (sym few ∙ none)
-  where
-    by : (b : Bool) → cond b None (Some (opened_gaps r)) ≡ None → b ≡ true
-    by true e = refl
-    by false e = absurd (cc e)
-
--- more gaps than a record holds need a sweep
-pub many-gaps : (image : Image) (layout : Layout) (r : Record) (gaps : Option (List Gap)) → IsRuledBy layout r image → gaps ≡ few_gaps r → gaps ≡ None → needs_sweep image ≡ true
-many-gaps image layout r gaps rules few none = ap (λ (x : Record). nat_lt 8 (length (opened_gaps x))) rules.by_record ∙ needs-many r gaps few none
-
--- where too many gaps are swept, a word that isn't hit is spared
-pub unswept-spared : (old new : Device) (layout : Layout) (r : Record) (gaps : Option (List Gap)) → IsRuledBy layout r (image_of old) → gaps ≡ few_gaps r → gaps ≡ None → Spares (λ word. is_hit layout r old word ≡ false) old new
-    → Spares (λ word. (needs_sweep (image_of old) && is_hit layout r old word) ≡ false) old new
-unswept-spared old new layout r gaps rules few none spares =
-    let many : needs_sweep (image_of old) ≡ true = many-gaps (image_of old) layout r gaps rules few none in
-    spares_fewer (λ word alone. sym (ap (λ (b : Bool). b && is_hit layout r old word) many) ∙ alone) spares
 
 -- ---- a refused examination
 
@@ -177,63 +161,49 @@ module _ (image : Image) (layout : Layout) (r : Record) (gaps : Option (List Gap
 
 -- ---- the device, first with its gaps swept and then with the record written
 
-module _ (old mid new : Device) (orderly : IsOrderly mid) (rest : IsAtRest old) (layout : Layout) (r : Record) (gaps : Option (List Gap)) (free : List Bool) (live : List LiveSlot) (ex : Examined (image_of old) layout r gaps free live)
-    (kept : Keeps old mid (OldOr old (IsSwept layout r old))) where
+module _ (old : Device) (rest : IsAtRest old) (layout : Layout) (r : Record) (gaps : Option (List Gap)) (free : List Bool) (live : List LiveSlot) (ex : Examined (image_of old) layout r gaps free live) where
   rules : IsRuledBy layout r (image_of old)
   rules = (is (image_of old) layout r gaps free live ex).rules
-
-  same-words : mid.words ≡ old.words
-  same-words = kept.images.continues.same_words
 
   old-words : old.words ≡ total_words layout
   old-words = sym (image_size old) ∙ size (image_of old) layout r gaps free live ex
 
-  pub device-words : mid.words ≡ total_words layout
-  device-words = same-words ∙ old-words
-
-  abbrev pub after : Record
+  abbrev after : Record
   after = opening_record layout r (gaps_kept (opened_gaps r))
 
-  pub images-swept : (history drawn : List Commit) (next : ℕ) → Stands (image_of old) history drawn next → LeavesOnly old mid (StandsOpening (image_of old) history next)
-  images-swept = images-sweeping layout r old rest rules mid kept
+  module _ {mid : Device} (orderly : IsOrderly mid) (kept : AreKept layout r old mid) where
+    same-words : mid.words ≡ old.words
+    same-words = kept.kept.images.continues.same_words
 
-  module _ (rested : IsAtRest mid) (swept-is : image_of mid ≡ opened_slots (image_of old)) where
     rules-mid : IsRuledBy layout r (image_of mid)
-    rules-mid = ruled-swept layout r old rest rules mid rested same-words kept (λ word lt. orderly.some word lt)
+    rules-mid = ruled-swept layout r old rest rules mid kept.rest same-words kept.kept (λ word lt. orderly.some word lt)
 
-    pub next-target : (target : Record) → target ≡ after → IsNextRecord layout r target mid
-    next-target target made =
-        subst (λ (x : Record). IsNextRecord layout r x mid) (sym made)
-        (record { holds = rest_holds layout r mid rested rules-mid; next = refl; fits = opened-fits (image_of old) layout r gaps free live ex })
+    follows : IsNextRecord layout r after mid
+    follows = record { holds = rest_holds layout r mid kept.rest rules-mid; next = refl; fits = opened-fits (image_of old) layout r gaps free live ex }
 
     -- the words of the superblock and of the slots lie outside the place
-    before_it : (target : Record) (word : ℕ) → word < 8 → IsOutside (begun layout target) word
-    before_it target word lt = inl (omega (arith, lt))
+    outside : (word : ℕ) → 8 + 32 * layout.places ≤ word → IsOutside (begun layout after) word
+    outside word le = inr (omega (arith, le, place_below layout after (layout-good layout r (image_of old) rules)))
 
-    outside : (target : Record) (word : ℕ) → 8 + 32 * layout.places ≤ word → IsOutside (begun layout target) word
-    outside target word le = inr (omega (arith, le, place_below layout target (layout-good layout r (image_of old) rules)))
-
-    slots-same : (target : Record) (image : Image) → HasOldWords (IsOutside (begun layout target)) mid image → IsRuledByEither layout r target image → HasSlotsOf (opened_slots (image_of old)) image
-    slots-same target image words either = subst (λ (i : Image). HasSlotsOf i image) swept-is (record {
-      size = sizes either ∙ sym (image_size mid ∙ device-words);
+    slots-same : (image : Image) → HasOldWords (IsOutside (begun layout after)) mid image → IsRuledByEither layout r after image → HasSlotsOf (opened_slots (image_of old)) image
+    slots-same image words either = subst (λ (i : Image). HasSlotsOf i image) kept.image (record {
+      size = sizes either ∙ sym (image_size mid ∙ same-words ∙ old-words);
       laid_out = laid either ∙ sym rules-mid.laid_out;
       same = λ word le. same word (subst (λ (n : ℕ). 8 + 32 * n ≤ word) (ap (λ (l : Layout). l.places) rules-mid.laid_out) le) (cases_lt word mid.words);
     })
       where
-        sizes : IsRuledByEither layout r target image → length image ≡ total_words layout
+        sizes : IsRuledByEither layout r after image → length image ≡ total_words layout
         sizes (inl a) = laid_size layout image (laid layout r image a)
-        sizes (inr b) = laid_size layout image (laid layout target image b)
+        sizes (inr b) = laid_size layout image (laid layout after image b)
 
-        laid : IsRuledByEither layout r target image → layout_of image ≡ layout
+        laid : IsRuledByEither layout r after image → layout_of image ≡ layout
         laid (inl a) = a.laid_out
         laid (inr b) = b.laid_out
 
         same : (word : ℕ) → 8 + 32 * layout.places ≤ word → (word < mid.words) ⊎ (mid.words ≤ word) → get_or image word 0 ≡ get_or (image_of mid) word 0
-        same word le (inl lt) =
-            only-settled mid word (get_or image word 0) (rested word lt) (words word lt (outside target word le))
-            ∙ sym (get_or-map-range_with_len (value_of mid) 0 mid.words word word 0 lt (omega arith))
+        same word le (inl lt) = only-settled mid word (get_or image word 0) (kept.rest word lt) (words word lt (outside word le)) ∙ sym (image_word mid word lt)
         same word le (inr ge) =
-            get_or_past image word 0 (omega (arith, ge, device-words, sizes either)) ∙ sym (get_or_past (image_of mid) word 0 (omega (arith, ge, image_size mid)))
+            get_or_past image word 0 (omega (arith, ge, same-words, old-words, sizes either)) ∙ sym (get_or_past (image_of mid) word 0 (omega (arith, ge, image_size mid)))
 
     -- either record, in the words of the image before
     either-before : (image : Image) → IsRuledByEither layout r after image → IsRuledBy (layout_of (image_of old)) (ruling (image_of old)) image ⊎ IsRuledBy (layout_of (image_of old)) (record_after (image_of old)) image
@@ -242,74 +212,99 @@ module _ (old mid new : Device) (orderly : IsOrderly mid) (rest : IsAtRest old) 
         inr (subst (λ (l : Layout). IsRuledBy l (record_after (image_of old)) image) (sym rules.laid_out) (subst (λ (x : Record). IsRuledBy layout x image) (record-is (image_of old) layout r gaps free live ex) b))
 
     -- whatever a crash leaves while the record is written
-    pub images-meanwhile : (target : Record) → target ≡ after → LeavesOnly mid new (IsRuledByEither layout r target) → Spares (IsOutside (begun layout target)) mid new
+    images-meanwhile : {new : Device} → LeavesOnly mid new (IsRuledByEither layout r after) → Spares (IsOutside (begun layout after)) mid new
         → (history drawn : List Commit) (next : ℕ) → Stands (image_of old) history drawn next → LeavesOnly old new (StandsOpening (image_of old) history next)
-    images-meanwhile target made ruled spares history drawn next s =
-        let step : (image : Image) → (IsRuledByEither layout r target image × HasOldWords (IsOutside (begun layout target)) mid image) → StandsOpening (image_of old) history next image =
-        λ image both.
-        stands-opening (image_of old) image history drawn next s (slots-same target image both.1 both.0)
-        (either-before image (subst (λ (x : Record). IsRuledByEither layout r x image) made both.0)) in
-        leaves_trans (images-swept history drawn next s) (leaves_weaken step (leaves_both ruled spares.left))
+    images-meanwhile ruled spares history drawn next s =
+        let step : (image : Image) → (IsRuledByEither layout r after image × HasOldWords (IsOutside (begun layout after)) mid image) → StandsOpening (image_of old) history next image =
+        λ image both. stands-opening (image_of old) image history drawn next s (slots-same image both.1 both.0) (either-before image both.0) in
+        leaves_trans (images-sweeping layout r old rest rules mid kept.kept history drawn next s) (leaves_weaken step (leaves_both ruled spares.left))
 
     value-swept : (word : ℕ) → word < old.words → value_of mid word ≡ get_or (opened_slots (image_of old)) word 0
-    value-swept word lt = sym (get_or-map-range_with_len (value_of mid) 0 mid.words word word 0 (omega (arith, lt, same-words)) (omega arith)) ∙ ap (λ (i : Image). get_or i word 0) swept-is
+    value-swept word lt = sym (image_word mid word (omega (arith, lt, same-words))) ∙ ap (λ (i : Image). get_or i word 0) kept.image
 
     low-word : (word : ℕ) → word < 8 → value_of mid word ≡ value_of old word
     low-word word low =
         let lt : word < old.words = omega (arith, low, old-words, log_within layout) in
-        value-swept word lt ∙ by (needs_sweep (image_of old)) ∙ get_or-map-range_with_len (value_of old) 0 old.words word word 0 lt (omega arith)
+        value-swept word lt ∙ by (needs_sweep (image_of old)) ∙ image_word old word lt
       where
         by : (b : Bool) → get_or (cond b (swept (image_of old)) (image_of old)) word 0 ≡ get_or (image_of old) word 0
         by true = swept-unmarked (image_of old) word (unmarked-low (layout_of (image_of old)) word (omega (arith, low)))
         by false = refl
 
-    pub has-opened : (target : Record) → target ≡ after → HoldsRecord layout target new → Spares (IsOutside (begun layout target)) mid new
-        → Spares (λ word. (needs_sweep (image_of old) && is_hit layout r old word) ≡ false) old mid
-        → (needs_sweep (image_of old) ≡ false → Makes 0 0 0 0 old mid) → (needs_sweep (image_of old) ≡ true → Makes (words_swept (image_of old)) (lines_swept (image_of old)) 1 0 old mid) → Makes 32 5 2 0 mid new
-        → (next : ℕ) → next ≡ r.dirty → HasOpenedToday old new layout target next free live
+    has-opened : {new : Device} → Runs (record_operations layout after) mid new → MakesAll (record_counts (image_of old)) old new → HasOpenedToday old new layout after r.dirty free live
     unfolding free_below
-    has-opened target made holds spares unswept none some makes next next-is =
+    has-opened run made =
         let e = is (image_of old) layout r gaps free live ex in
+        let spares = record-spares layout after run in
         record {
           opens = e.opens;
           layout_is = sym rules.laid_out;
-          record_is = made ∙ record-is (image_of old) layout r gaps free live ex;
-          next_is = next-is ∙ ap (λ (x : Record). x.dirty) (sym rules.by_record);
+          record_is = record-is (image_of old) layout r gaps free live ex;
+          next_is = ap (λ (x : Record). x.dirty) (sym rules.by_record);
           free_is = e.free_are ∙ ap (λ (n : ℕ). map (λ slot. not (is_shown (ruling (image_of old)) (image_of old) slot)) (range_with_len 0 n)) (ap (λ (l : Layout). l.slots) (sym rules.laid_out));
           live_is = e.live_are ∙ ap (λ (l : Layout). live_below (image_of old) l.slots) (sym rules.laid_out);
-          holds = holds;
+          holds = record-holds layout after r follows run;
           left_alone = spares_trans
-              (spares_fewer (λ word alone. sym (λ i. needs_sweep (image_of old) && is_hit (rules.laid_out i) (rules.by_record i) old word) ∙ alone.1) unswept)
+              (spares_fewer (λ word alone. sym (λ i. needs_sweep (image_of old) && is_hit (rules.laid_out i) (rules.by_record i) old word) ∙ alone.1) kept.others)
               (spares_fewer (λ word alone. alone.0) spares);
           superblock = λ word lt.
-              settled_at-shrinks (spares.kept word (before_it target word lt)) (record { settled = rested word (omega (arith, lt, device-words, log_within layout)); holds = low-word word lt });
+              settled_at-shrinks (spares.kept word (inl (omega (arith, lt)))) (record { settled = kept.rest word (omega (arith, lt, same-words, old-words, log_within layout)); holds = low-word word lt });
           slots = λ word le lt.
-              settled_at-shrinks (spares.kept word (outside target word le)) (record { settled = rested word (omega (arith, lt, same-words)); holds = value-swept word lt });
-          made = counted (needs_sweep (image_of old)) refl;
+              settled_at-shrinks (spares.kept word (outside word le)) (record { settled = kept.rest word (omega (arith, lt, same-words)); holds = value-swept word lt });
+          made = made;
         }
+
+  -- ---- the whole list
+
+  today-only : StoreOnly (λ word x. Unit {0}) (today_operations layout r old)
+  today-only =
+      All-append (StoresOnly (λ word x. Unit {0})) (gap_operations layout r old) (record_operations layout after)
+      (gaps-only layout r old) (store-weaker (λ word x inside. tt) (record_operations layout after) (record-only layout after))
+
+  today-count : (one : Operation → ℕ) → count_of one (today_operations layout r old) ≡ count_of one (gap_operations layout r old) + count_of one (record_operations layout after)
+  today-count one = count_of-append one (gap_operations layout r old) (record_operations layout after)
+
+  module _ {new : Device} (run : Runs (today_operations layout r old) old new) where
+    parts : IsInTwo (gap_operations layout r old) (record_operations layout after) old new
+    parts = runs-in_two (gap_operations layout r old) (record_operations layout after) run
+
+    pub today-images : (history drawn : List Commit) (next : ℕ) → Stands (image_of old) history drawn next → LeavesOnly old new (StandsOpening (image_of old) history next)
+    today-images =
+        let orderly = orderly-run parts.first in
+        let kept = are_kept layout r rules rest parts.first in
+        images-meanwhile orderly kept (record-images layout after r (follows orderly kept) parts.then) (record-spares layout after parts.then)
+
+    pub today-opened : HasOpenedToday old new layout after r.dirty free live
+    today-opened =
+        let made = makes-run (λ word x. Unit {0}) today-only run in
+        let counts = gap-counts layout r old rules in
+        has-opened (orderly-run parts.first) (are_kept layout r rules rest parts.first) parts.then (record {
+          stores_made = omega (arith, made.stores_made, today-count one_store, counts.stores);
+          flushes_made = omega (arith, made.flushes_made, today-count one_flush, counts.flushes);
+          fences_made = omega (arith, made.fences_made, today-count one_fence, counts.fences);
+          failures_made = made.failures_made;
+        })
+
+  -- where it stops
+  module _ {new : Device} (stop : StopsWithin (today_operations layout r old) old new) where
+    pub today-images_stopped : (history drawn : List Commit) (next : ℕ) → Stands (image_of old) history drawn next → LeavesOnly old new (StandsOpening (image_of old) history next)
+    today-images_stopped = by (stops-in_two (gap_operations layout r old) (record_operations layout after) stop)
       where
-        makes_trans : {a b c : Device} → Makes 0 0 0 0 a b → Makes 32 5 2 0 b c → Makes 32 5 2 0 a c
-        makes_trans x y = record {
-          stores_made = omega (arith, x.stores_made, y.stores_made);
-          flushes_made = omega (arith, x.flushes_made, y.flushes_made);
-          fences_made = omega (arith, x.fences_made, y.fences_made);
-          failures_made = omega (arith, x.failures_made, y.failures_made);
+        by : StopsWithin (gap_operations layout r old) old new ⊎ ((mid : Device) × Runs (gap_operations layout r old) old mid × StopsWithin (record_operations layout after) mid new)
+            → (history drawn : List Commit) (next : ℕ) → Stands (image_of old) history drawn next → LeavesOnly old new (StandsOpening (image_of old) history next)
+        by (inl stops) = images-sweeping layout r old rest rules new (kept_stopped layout r rules stops)
+        by (inr (mid, run, stops)) =
+            let orderly = orderly-run run in
+            let kept = are_kept layout r rules rest run in
+            images-meanwhile orderly kept (record-images_stopped layout after r (follows orderly kept) stops) (record-spares_stopped layout after stops)
+
+    pub today-cut : IsCutBefore (total (record_counts (image_of old))) old new
+    today-cut =
+        let counts = gap-counts layout r old rules in
+        record {
+          failed = let one = one_failure-stopped (λ word x. Unit {0}) today-only stop in omega (arith, one);
+          few = omega (arith, few-stopped (λ word x. Unit {0}) today-only stop, today-count one_store, today-count one_flush, today-count one_fence, counts.stores, counts.flushes, counts.fences);
         }
-
-        made_both : {a b c : Device} (n m : ℕ) → Makes n m 1 0 a b → Makes 32 5 2 0 b c → Makes (32 + n) (5 + m) 3 0 a c
-        made_both n m x y = record {
-          stores_made = omega (arith, x.stores_made, y.stores_made);
-          flushes_made = omega (arith, x.flushes_made, y.flushes_made);
-          fences_made = omega (arith, x.fences_made, y.fences_made);
-          failures_made = omega (arith, x.failures_made, y.failures_made);
-        }
-
-        counts_by : Bool → Counts
-        counts_by b = cond b (record { stores = 32 + words_swept (image_of old); flushes = 5 + lines_swept (image_of old); fences = 3 }) (record { stores = 32; flushes = 5; fences = 2 })
-
-        counted : (b : Bool) → needs_sweep (image_of old) ≡ b → Makes (counts_by b).stores (counts_by b).flushes (counts_by b).fences 0 old new
-        counted true many = made_both (words_swept (image_of old)) (lines_swept (image_of old)) (some many) makes
-        counted false few = makes_trans (none few) makes
 
 -- a refusal leaves the device as it was
 pub images-refused : (device : Device) → IsOrderly device → IsAtRest device → (history drawn : List Commit) (next : ℕ) → Stands (image_of device) history drawn next
@@ -327,30 +322,6 @@ pub refusal-examined : (device : Device) (fault : Fault) → Refuses (image_of d
 unfolding Refuses
 refusal-examined device fault refused = inl (refused, refl)
 
--- it is cut short within its sweep, or within its record
-abbrev counts_at : Image → Bool → Counts
-counts_at image b = cond b (record { stores = 32 + words_swept image; flushes = 5 + lines_swept image; fences = 3 }) (record { stores = 32; flushes = 5; fences = 2 })
-
-abbrev all_at : Image → Bool → ℕ
-all_at image b = total (counts_at image b)
-
-pub cut-early : (old new : Device) → old.failures < new.failures → needs_sweep (image_of old) ≡ true → operations_of new < operations_of old + sweep_operations (image_of old) → IsCutBefore (total (record_counts (image_of old))) old new
-cut-early old new failed many few = record {
-  failed = failed;
-  few = subst (λ (b : Bool). operations_of new < operations_of old + all_at (image_of old) b) (sym many) (omega (arith, few));
-}
-
-pub cut-late : (old mid new : Device) → old.failures < new.failures → (needs_sweep (image_of old) ≡ false → Makes 0 0 0 0 old mid)
-    → (needs_sweep (image_of old) ≡ true → Makes (words_swept (image_of old)) (lines_swept (image_of old)) 1 0 old mid) → operations_of new < operations_of mid + 39 → IsCutBefore (total (record_counts (image_of old))) old new
-cut-late old mid new failed none made few = record { failed = failed; few = by (needs_sweep (image_of old)) refl }
-  where
-    by : (b : Bool) → needs_sweep (image_of old) ≡ b → operations_of new < operations_of old + all_at (image_of old) b
-    by true is = let m = made is in omega (arith, few, m.stores_made, m.flushes_made, m.fences_made)
-    by false is = let m = none is in omega (arith, few, m.stores_made, m.flushes_made, m.fences_made)
-
 pub refusal-device : (old new : Device) (fault : Fault) (layout : Layout) (r : Record) (gaps : Option (List Gap)) (free : List Bool) (live : List LiveSlot) → Examined (image_of old) layout r gaps free live → fault ≡ DeviceFault → IsCutShort old new
     → IsRefusal (opening_fault (image_of old)) old new fault
 refusal-device old new fault layout r gaps free live ex is-device more = inr ((is (image_of old) layout r gaps free live ex).opens, is-device, more)
-
-pub ruled-size : (device : Device) (layout : Layout) (r : Record) → IsRuledBy layout r (image_of device) → device.words ≡ total_words layout
-ruled-size device layout r rules = sym (length-map-range_with_len (value_of device) 0 device.words) ∙ laid_size layout (image_of device) (laid layout r (image_of device) rules)

@@ -17,7 +17,6 @@ use Rattle.machine.proofs.Opened.{opened-rows, opened-still, opened-counts, cove
 use Rattle.base.proofs.Layouts.{line-words}
 use Rattle.base.specs.Stands.{Stands}
 use Rattle.machine.specs.Openings.{StandsOpening, opening_record, opened, gaps_kept, opened_slots}
-use Rattle.base.proofs.Options.{or-none, map-none, some_if_not-none}
 use Rattle.base.proofs.Search.{first_below-nowhere}
 use Rattle.recovery.specs.Opened.{HasSlotsOf}
 
@@ -30,23 +29,6 @@ pub record IsFaultless (image : Image) : Type 0 where
   pub gates : first_below (layout_of image).places (is_wrong_gate image) ≡ None
   pub well_ruled : is_ruled image ≡ true
   pub slots : first_below (layout_of image).slots (is_bad_slot (ruling image) image) ≡ None
-
-pub faultless : (image : Image) → IsSound image → IsFaultless image
-faultless image sound =
-    let a = or-none _ _ sound in
-    let b = or-none _ _ a.1 in
-    let c = or-none _ _ b.1 in
-    let d = or-none _ _ c.1 in
-    let e = or-none _ _ d.1 in
-    let f = or-none _ _ e.1 in
-    record {
-      formatted = some_if_not-none (is_formatted image) NotFormatted a.0;
-      known = some_if_not-none (is_known_version (layout_of image).version) (Version (layout_of image).version) b.0;
-      geometry = some_if_not-none (has_good_geometry image) BadGeometry c.0;
-      gates = map-none Damaged _ d.0;
-      well_ruled = some_if_not-none (is_ruled image) (Damaged (ruling_place image)) e.0;
-      slots = map-none (λ slot. Damaged ((layout_of image).places + slot)) _ f.0;
-    }
 
 pub sound-faultless : (image : Image) → IsFaultless image → IsSound image
 sound-faultless image is =

@@ -1,9 +1,11 @@
 -- An image that an opening gives the version of today.
-use Rattle.std.proofs.Common.{◌≡◌, ◌≢◌, ◌⊎◌, inl, inr, ℕ, ◌<◌, ◌≤◌, Bool, true, false, cond, not, ◌&&◌, List, [], ◌∷◌, length, get_or, map, flat_map, refl, sym, ◌∙◌, ap, subst, arith, nat_eq, true≢false}
+use Rattle.std.proofs.Common.{◌≡◌, ◌≢◌, ◌⊎◌, inl, inr, ℕ, ◌+◌, ◌<◌, ◌≤◌, Bool, true, false, cond, not, ◌&&◌, List, [], ◌∷◌, length, get_or, map, flat_map, refl, sym, ◌∙◌, ap, subst, arith, nat_eq, true≢false}
 use Rattle.std.specs.Prelude.{Option, None}
 use Rattle.std.specs.List.{range_with_len}
-use Rattle.std.proofs.lemmas.Bool.{cases_eq, cases_lt, eq-eqb, ne_eqb}
+use Rattle.std.proofs.lemmas.Bool.{cases_eq, cases_lt}
 use Rattle.std.proofs.lemmas.List.{ext_get_or, get_or_past}
+use Rattle.std.proofs.lemmas.List.Elements.{All-nil}
+use Rattle.base.specs.Actors.{committer}
 use Rattle.base.specs.declared.gap.Gap.{Gap}
 use Rattle.base.specs.Commits.{Commit}
 use Rattle.base.specs.Layout.{Layout, opened_layout, opened_version, total_words}
@@ -17,8 +19,14 @@ use Rattle.base.proofs.Histories.{history_in, sound-stands, opens-sound}
 use Rattle.machine.proofs.Opened.{whole-of, size-of}
 use Rattle.machine.proofs.Updated.{updated-open}
 use Rattle.pmem.specs.Device.{Device}
-use Rattle.pmem.specs.Words.{value_of, IsAtRest, IsSettled, IsSettledAt, IsStore, IsWithin, LeavesOnly, image_of, Keeps, OldOr, Spares}
+use Rattle.pmem.specs.Persisting.{set_operations}
+use Rattle.pmem.specs.Trace.{Operation, Runs, StopsWithin}
+use Rattle.pmem.specs.Words.{value_of, IsAtRest, IsSettled, IsSettledAt, IsStore, IsWithin, LeavesOnly, image_of, Keeps, Makes, OldOr, Spares}
+use Rattle.pmem.proofs.Counts.{makes_none}
 use Rattle.pmem.proofs.Images.{leaves_trans, leaves_weaken}
+use Rattle.pmem.proofs.Lists.{StoresOnly, StoreOnly, keeps-run, keeps-stopped, spares-run, store-weaker, makes_trans, count_of, one_store, one_flush, one_fence, few-stopped, one_failure-stopped}
+use Rattle.pmem.proofs.Stores.{set-only, set-made, set-settles}
+use Rattle.pmem.proofs.Traces.{words-run}
 use Rattle.pmem.proofs.Spares.{spares_fewer, spares_trans}
 use Rattle.pmem.proofs.OperationEffects.{only-settled}
 use Rattle.log_area.proofs.Rulings.{log_within}
@@ -26,7 +34,7 @@ use Rattle.log_area.proofs.Heads.{image_word, image_size}
 use Rattle.recovery.specs.Slots.{free_below}
 use Rattle.recovery.specs.Live.{live_at, live_below}
 use Rattle.recovery.specs.Sweeping.{is_hit, lies}
-use Rattle.recovery.specs.Opened.{Examined, HasOpened, HasOpenedToday, IsCutBefore, IsCutShort, IsUpdatedFirst, MakesAll, free_in, is_swept, is_updated, total}
+use Rattle.recovery.specs.Opened.{Examined, HasOpened, HasOpenedToday, IsCutBefore, IsCutShort, IsUpdatedFirst, MakesAll, free_in, is_swept, is_updated, total, update_operations}
 use Rattle.recovery.specs.declared.rows.LiveSlot.{LiveSlot}
 use Rattle.recovery.proofs.Lives.{is}
 
@@ -178,24 +186,101 @@ module _ (old : Device) (rest : IsAtRest old) (opens : opening_fault (image_of o
     image-updated = ext_get_or 0 (image_of new) (updated image) (image_size new ∙ same-words ∙ sym (image_size old) ∙ sym up.size) (λ word lt.
         image_word new word (omega (arith, lt, image_size new)) ∙ value-updated word (omega (arith, lt, image_size new)))
 
--- where the image has today's version already, nothing is done
-module _ (old : Device) (opens : opening_fault (image_of old) ≡ None) (current : (layout_of (image_of old)).version ≡ opened_version (layout_of (image_of old)).version) where
-  pub none-updated : updates (image_of old) ≡ false
-  none-updated = ap not (eq-eqb (layout_of (image_of old)).version (opened_version (layout_of (image_of old)).version) current)
+-- ---- a device whose image opens
 
-  pub image-current : image_of old ≡ updated (image_of old)
-  image-current = sym ((updated-open (image_of old) opens).same none-updated)
+-- it has a superblock
+pub opened-size : (old : Device) → opening_fault (image_of old) ≡ None → 8 ≤ old.words
+opened-size old opens =
+    let a : Layout = layout_of (image_of old) in
+    let size = (size-of (image_of old) (whole-of (image_of old) (opens-sound (image_of old) opens)).geometry).1 in
+    omega (arith, log_within a, size, image_size old)
 
--- where it has another, its word alone is stored
-module _ (old : Device) (other : (layout_of (image_of old)).version ≢ opened_version (layout_of (image_of old)).version) where
-  pub some-updated : updates (image_of old) ≡ true
-  some-updated = ap not (ne_eqb (layout_of (image_of old)).version (opened_version (layout_of (image_of old)).version) other)
+-- ---- what an update does
 
-  pub others-spared : (new : Device) → Spares (λ word. word ≢ 1) old new → Spares (λ word. is_updated old word ≡ false) old new
-  others-spared new spares = spares_fewer (λ word alone one. true≢false (sym (both word one) ∙ alone)) spares
+module _ (old : Device) where
+  abbrev version : ℕ
+  version = opened_version (layout_of (image_of old)).version
+
+  -- the word of the version, where an update changes that
+  abbrev IsNewVersion : ℕ → ℕ → Type 0
+  IsNewVersion word x = IsStore 1 version word x × (is_updated old word ≡ true)
+
+  update-only : StoreOnly IsNewVersion (update_operations (image_of old))
+  update-only = by (updates (image_of old)) refl
     where
-      both : (word : ℕ) → word ≡ 1 → is_updated old word ≡ true
-      both word one = ap (λ (b : Bool). b && nat_eq word 1) some-updated ∙ eq-eqb word 1 one
+      by : (b : Bool) → updates (image_of old) ≡ b → StoreOnly IsNewVersion (cond b (set_operations committer 1 version) [])
+      by true some = set-only committer 1 version IsNewVersion ((refl, refl), ap (λ (b : Bool). b && nat_eq 1 1) some)
+      by false none = All-nil (StoresOnly IsNewVersion)
+
+  update-keeps : StoreOnly (OldOr old (IsStore 1 version)) (update_operations (image_of old))
+  update-keeps = store-weaker (λ word x this. inr this.0) (update_operations (image_of old)) update-only
+
+abbrev counts_by : Bool → Counts
+counts_by b = cond b (record { stores = 1; flushes = 1; fences = 1 }) (record { stores = 0; flushes = 0; fences = 0 })
+
+abbrev set_by : ℕ → Bool → List Operation
+set_by v b = cond b (set_operations committer 1 v) []
+
+length-by : (v : ℕ) (b : Bool) → count_of one_store (set_by v b) + count_of one_flush (set_by v b) + count_of one_fence (set_by v b) ≡ total (counts_by b)
+length-by v true = refl
+length-by v false = refl
+
+-- what it makes of a device
+pub record IsUpdate (old new : Device) : Type 0 where
+  pub image : image_of new ≡ updated (image_of old)
+  pub rest : IsAtRest new
+  pub made : MakesAll (update_counts (image_of old)) old new
+  pub others : Spares (λ word. is_updated old word ≡ false) old new
+  pub images : (history drawn : List Commit) (next : ℕ) → Stands (image_of old) history drawn next → LeavesOnly old new (StandsOpening (image_of old) history next)
+  pub first : LeavesOnly old new (IsUpdatedFirst (image_of old))
+
+module _ {old new : Device} (rest : IsAtRest old) (opens : opening_fault (image_of old) ≡ None) where
+  pub is_update : Runs (update_operations (image_of old)) old new → IsUpdate old new
+  is_update run = by (updates (image_of old)) refl run
+    where
+      keeps : Keeps old new (OldOr old (IsStore 1 (version old)))
+      keeps = keeps-run (OldOr old (IsStore 1 (version old))) (λ word x there. inl there) (update-keeps old) run
+
+      others : Spares (λ word. is_updated old word ≡ false) old new
+      others = spares-run (IsNewVersion old) (λ word. is_updated old word ≡ false) (λ word x this alone. true≢false (sym this.1 ∙ alone)) (update-only old) run
+
+      by : (b : Bool) → updates (image_of old) ≡ b → Runs (set_by (version old) b) old new → IsUpdate old new
+      by true some set =
+          let holds = set-settles committer 1 (version old) set (omega (arith, opened-size old opens)) in
+          let far = spares-run (IsStore 1 (version old)) (λ word. word ≢ 1) (λ word x this far. far this.0) (set-only committer 1 (version old) (IsStore 1 (version old)) (refl, refl)) set in
+          record {
+            image = image-updated old rest opens new (words-run run) holds far;
+            rest = rest-updated old rest opens new (words-run run) holds far;
+            made = subst (λ (b : Bool). MakesAll (counts_by b) old new) (sym some) (set-made committer 1 (version old) set);
+            others = others;
+            images = images-updating old rest opens new keeps;
+            first = version-updating old rest opens new keeps;
+          }
+      by false none nothing = record {
+        image = ap image_of nothing.made ∙ sym ((updated-open (image_of old) opens).same none);
+        rest = subst IsAtRest (sym nothing.made) rest;
+        made = subst (λ (b : Bool). MakesAll (counts_by b) old new) (sym none) (subst (Makes 0 0 0 0 old) (sym nothing.made) (makes_none old));
+        others = others;
+        images = images-updating old rest opens new keeps;
+        first = version-updating old rest opens new keeps;
+      }
+
+  -- where it stops
+  module _ (stop : StopsWithin (update_operations (image_of old)) old new) where
+    stopped : Keeps old new (OldOr old (IsStore 1 (version old)))
+    stopped = keeps-stopped (OldOr old (IsStore 1 (version old))) (λ word x there. inl there) (update-keeps old) stop
+
+    pub update-images_stopped : (history drawn : List Commit) (next : ℕ) → Stands (image_of old) history drawn next → LeavesOnly old new (StandsOpening (image_of old) history next)
+    update-images_stopped = images-updating old rest opens new stopped
+
+    pub update-first_stopped : LeavesOnly old new (IsUpdatedFirst (image_of old))
+    update-first_stopped = version-updating old rest opens new stopped
+
+    pub update-cut : IsCutShort old new
+    update-cut = record {
+      failed = let one = one_failure-stopped (IsNewVersion old) (update-only old) stop in omega (arith, one);
+      few = omega (arith, few-stopped (IsNewVersion old) (update-only old) stop, length-by (version old) (updates (image_of old)));
+    }
 
 -- ---- the opening of an image, once it is updated
 
@@ -277,20 +362,5 @@ module _ (old mid new : Device) (opens : opening_fault (image_of old) ≡ None) 
       slots = λ word past lt.
           subst (λ (n : ℕ). IsSettledAt new word n) (ap (λ (i : Image). get_or (opened_slots i) word 0) updated-is ∙ gone.slots word (omega (arith, past)))
           (today.slots word past (omega (arith, lt, same-words)));
-      made = let m = subst (λ (c : Counts). MakesAll c mid new) same-counts today.made in
-          record {
-            stores_made = omega (arith, m.stores_made, made-update.stores_made);
-            flushes_made = omega (arith, m.flushes_made, made-update.flushes_made);
-            fences_made = omega (arith, m.fences_made, made-update.fences_made);
-            failures_made = omega (arith, m.failures_made, made-update.failures_made);
-          };
+      made = makes_trans made-update (subst (λ (c : Counts). MakesAll c mid new) same-counts today.made);
     }
-
--- ---- a device whose image opens
-
--- it has a superblock
-pub opened-size : (old : Device) → opening_fault (image_of old) ≡ None → 8 ≤ old.words
-opened-size old opens =
-    let a : Layout = layout_of (image_of old) in
-    let size = (size-of (image_of old) (whole-of (image_of old) (opens-sound (image_of old) opens)).geometry).1 in
-    omega (arith, log_within a, size, image_size old)

@@ -9,7 +9,7 @@ use Rattle.base.specs.Search.{first_below, some_if}
 use Rattle.base.specs.Layout.{Layout, is_known_version}
 use Rattle.base.specs.Records.{Record}
 use Rattle.base.specs.Images.{Image, IsSound, layout_of, ruling, is_formatted, has_good_geometry, is_wrong_gate, is_ruled, ruling_place, is_bad_slot, IsRuledBy, log_damage}
-use Rattle.recovery.specs.Slots.{IsUnder, IsSlotsFault, bad_below}
+use Rattle.recovery.specs.Slots.{IsSlotsFault, bad_below}
 use Rattle.recovery.specs.Read.{IsRead, IsReadRefusal, TellsLogFault, rows_below}
 use Rattle.recovery.proofs.Opens.{known-good}
 use Rattle.recovery.specs.Opened.{Examined}
@@ -20,10 +20,6 @@ use Rattle.base.specs.declared.gap.Gap.{Gap}
 
 pub refusal-log : (image : Image) (fault : Fault) → log_damage image ≡ Some fault → IsReadRefusal image fault
 refusal-log image fault is = inl (log-first image fault is)
-
-pub under-own : (layout : Layout) (r : Record) (image : Image) → IsUnder layout r image → IsUnder layout (ruling image) image
-unfolding IsUnder
-under-own layout r image under = (under.0, refl)
 
 module _ (layout : Layout) (r : Record) (image : Image) (rules : IsRuledBy layout r image) where
   -- the same, with what stands at the end of the list

@@ -1,21 +1,24 @@
 -- The record that an opening writes, what it leaves alone, and what an opening gives.
-use Rattle.std.specs.Prelude.{◌≡◌, ◌⊎◌, ℕ, ◌+◌, ◌*◌, ◌<◌, ◌≤◌, Bool, false, not, nat_eq, ◌&&◌, List, length, map, slice_index, Option, Some, None}
+use Rattle.std.specs.Prelude.{◌≡◌, ◌⊎◌, ℕ, ◌+◌, ◌*◌, ◌<◌, ◌≤◌, Bool, false, not, nat_eq, ◌&&◌, if◌then◌else◌, List, [], ◌++◌, length, map, slice_index, Option, Some, None}
 use Rattle.std.specs.List.{range_with_len}
 use Rattle.base.specs.declared.gap.Gap.{Gap}
 use Rattle.base.specs.declared.fault.Fault.{Fault}
 use Rattle.base.specs.declared.fault.Fault.TheVariants.{OutOfMemory, Device as DeviceFault}
-use Rattle.base.specs.Layout.{Layout, opened_layout}
+use Rattle.base.specs.Actors.{committer}
+use Rattle.base.specs.Layout.{Layout, opened_layout, opened_version}
 use Rattle.base.specs.Records.{Record, opened_gaps}
 use Rattle.base.specs.Images.{Image, layout_of, ruling, is_shown, opening_fault, needs_sweep, IsRuledBy}
-use Rattle.machine.specs.Openings.{Counts, opening_record, opening_counts, record_counts, gaps_kept, opened_slots, words_swept, lines_swept, updated, updates}
+use Rattle.machine.specs.Openings.{Counts, opening_record, opening_counts, record_counts, gaps_kept, opened_slots, updated, updates}
 use Rattle.pmem.specs.Device.{Device}
+use Rattle.pmem.specs.Persisting.{set_operations}
+use Rattle.pmem.specs.Trace.{Operation}
 use Rattle.pmem.specs.Words.{value_of, image_of, IsSettledAt, Makes, Spares, operations_of}
 use Rattle.log_area.specs.Rulings.{HoldsRecord}
-use Rattle.log_area.specs.Writings.{IsOutside, begun}
+use Rattle.log_area.specs.Writings.{IsOutside, begun, record_operations}
 use Rattle.recovery.specs.Gaps.{few_gaps}
 use Rattle.recovery.specs.Slots.{free_below}
 use Rattle.recovery.specs.Live.{live_below}
-use Rattle.recovery.specs.Sweeping.{is_hit}
+use Rattle.recovery.specs.Sweeping.{is_hit, whole_sweep}
 use Rattle.recovery.specs.declared.rows.LiveSlot.{LiveSlot}
 
 -- the words after the log area are the same
@@ -50,6 +53,18 @@ is_swept device word = needs_sweep (image_of device) && is_hit (layout_of (image
 -- the word is that of the version, which an opening changes
 abbrev pub is_updated : Device → ℕ → Bool
 is_updated device word = updates (image_of device) && nat_eq word 1
+
+-- the version becomes that of today, where it is another
+abbrev pub update_operations : Image → List Operation
+update_operations image = if updates image then set_operations committer 1 (opened_version (layout_of image).version) else []
+
+-- gaps are swept where a record can't hold them
+abbrev pub gap_operations : Layout → Record → Device → List Operation
+gap_operations layout r device = if needs_sweep (image_of device) then whole_sweep layout r (value_of device) else []
+
+-- and the record is written with which a life begins
+abbrev pub today_operations : Layout → Record → Device → List Operation
+today_operations layout r device = gap_operations layout r device ++ record_operations layout (opening_record layout r (gaps_kept (opened_gaps r)))
 
 -- the word is none of the record's place, and an opening neither sweeps nor updates it
 abbrev pub IsLeftAlone : Device → Layout → Record → ℕ → Type 0
@@ -99,10 +114,6 @@ pub record HasOpened (old new : Device) (layout : Layout) (r : Record) (next : �
   pub superblock : (word : ℕ) → word < 8 → IsSettledAt new word (slice_index (updated (image_of old)) word)
   pub slots : (word : ℕ) → 8 + 32 * layout.places ≤ word → word < old.words → IsSettledAt new word (slice_index (opened_slots (image_of old)) word)
   pub made : MakesOpening (image_of old) old new
-
--- how many operations a sweep makes
-abbrev pub sweep_operations : Image → ℕ
-sweep_operations image = words_swept image + lines_swept image + 1
 
 -- all of them together
 abbrev pub total : Counts → ℕ

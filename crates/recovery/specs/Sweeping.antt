@@ -1,13 +1,16 @@
--- What a sweep makes of a device, word by word.
-use Rattle.std.specs.Prelude.{◌≡◌, ℕ, ◌+◌, ◌/◌, Bool, ◌&&◌, ◌||◌, if◌then◌else◌, IsTrue, List, map, Option, None}
+-- What a sweep does to a device, and what it stores.
+use Rattle.std.specs.Prelude.{◌≡◌, ℕ, ◌+◌, Bool, ◌&&◌, ◌||◌, if◌then◌else◌, IsTrue, List, [], ◌∷◌, ◌++◌, flat_map, map, Option, None}
 use Rattle.std.specs.List.{range_with_len}
 use Rattle.base.specs.declared.gap.Gap.{Gap}
-use Rattle.base.specs.Layout.{Layout}
+use Rattle.base.specs.Actors.{committer}
+use Rattle.base.specs.Layout.{Layout, slot_start}
 use Rattle.base.specs.Records.{Record, is_in, opened_gaps}
 use Rattle.base.specs.Images.{Image}
 use Rattle.machine.specs.Openings.{is_mark, lies_in_gap}
-use Rattle.pmem.specs.Device.{Device, stored, flushed}
+use Rattle.pmem.specs.Device.{Device}
+use Rattle.pmem.specs.Trace.{Operation, fence_op}
 use Rattle.pmem.specs.Words.{value_of}
+use Rattle.version_slot.specs.Operations.{sweep_operations}
 use Rattle.recovery.specs.declared.slots.SlotReading.{SlotReading}
 
 -- the timestamp lies in a gap with which an opening goes on after the record
@@ -26,12 +29,6 @@ hits_below image n = map (λ slot. lies_in_gap image 0 slot || lies_in_gap image
 unfoldable pub AreHits : Image → Layout → Option (List Gap) → List Bool → Type 0
 AreHits image layout gaps hits = gaps ≡ None → hits ≡ hits_below image layout.slots
 
--- 0, stored over such a timestamp in this word
-pub record IsZeroed (r : Record) (at : ℕ) (old : Device) (word x : ℕ) : Type 0 where
-  pub there : word ≡ at
-  pub lay : IsTrue (lies r (value_of old word))
-  pub zero : x ≡ 0
-
 -- the word is a begin or an end, and its timestamp lies in a gap
 abbrev pub is_hit : Layout → Record → Device → ℕ → Bool
 is_hit a r device word = is_mark a word && lies r (value_of device word)
@@ -41,12 +38,15 @@ pub record IsSwept (a : Layout) (r : Record) (old : Device) (word x : ℕ) : Typ
   pub hit : IsTrue (is_hit a r old word)
   pub zero : x ≡ 0
 
--- 0 is stored in the word where it lies in a gap
-abbrev pub zeroed : Record → ℕ → Device → Device
-zeroed r word device = if lies r (value_of device word) then stored word 0 device else device
+-- a slot is swept where its begin or its end lies in a gap
+abbrev pub slot_operations : Layout → Record → (ℕ → ℕ) → ℕ → List Operation
+slot_operations a r value slot =
+    if lies r (value (slot_start a slot)) || lies r (value (slot_start a slot + 1)) then sweep_operations a committer (opened_gaps r) value slot else []
 
--- the begin and the end at these words are swept, and their line is flushed where one was
-abbrev pub cleaned : Record → ℕ → Device → Device
-cleaned r start device =
-    if lies r (value_of device start) || lies r (value_of (zeroed r start device) (start + 1))
-    then flushed 0 (start / 8) (zeroed r (start + 1) (zeroed r start device)) else zeroed r (start + 1) (zeroed r start device)
+-- the slots below a number, in order
+abbrev pub sweep_below : Layout → Record → (ℕ → ℕ) → ℕ → List Operation
+sweep_below a r value n = flat_map (slot_operations a r value) (range_with_len 0 n)
+
+-- all of them, and a fence waits until that persists
+abbrev pub whole_sweep : Layout → Record → (ℕ → ℕ) → List Operation
+whole_sweep a r value = sweep_below a r value a.slots ++ fence_op committer ∷ []

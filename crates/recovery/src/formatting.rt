@@ -1,11 +1,12 @@
 //! Word 0 goes first and comes last, and each time that persists before anything else is stored: so whatever stops a format
 //! leaves an image that isn't formatted, or a whole one.
 
-ghost use Rattle.std.specs.Prelude.{◌≡◌, ◌+◌, ◌/◌, ◌<◌, ℕ, IsTrue, IfErr, OnOk, OnErr};
-ghost use Rattle.base.specs.Layout.{is_in_limits, total_words};
+ghost use Rattle.std.specs.Prelude.{◌≡◌, ◌+◌, ◌/◌, ◌<◌, ℕ, IfErr, OnOk, OnErr};
+ghost use Rattle.base.specs.Layout.{total_words};
+ghost use Rattle.pmem.specs.Trace.{Runs, StopsWithin};
 ghost use Rattle.pmem.specs.Words.{LeavesOnly, IsAtRest, image_of, IsSettledAt, Makes};
 ghost use Rattle.base.specs.Fresh.{first_record, fresh_word, fresh_image, StandsEmpty};
-ghost use Rattle.recovery.specs.Fresh.{IsFormatting, IsFormatRefusal};
+ghost use Rattle.recovery.specs.Fresh.{IsFormatting, IsFormatRefusal, format_operations};
 
 use crate::clearing::clear;
 use base::actor::Actor;
@@ -39,12 +40,9 @@ pub fn format<D: Pmem>(device: &mut D, geometry: Geometry) -> Result<(), Fault>
 // The operations of a format, up to the first that fails.
 fn write_fresh<D: Pmem>(device: &mut D, geometry: Geometry) -> Result<(), Fault>
     requires size { (D.state device.old).words ≡ total_words geometry }
-    requires limits { IsTrue (is_in_limits geometry) }
+    ensures run { OnOk result (Runs (format_operations geometry) (D.state device.old) (D.state device.new)) }
+    ensures stopped { OnErr result (StopsWithin (format_operations geometry) (D.state device.old) (D.state device.new)) }
     ensures fault { IfErr result (λ fault. fault ≡ Fault.Device) }
-    ensures failed { OnErr result ((D.state device.new).failures ≡ (D.state device.old).failures + 1) }
-    ensures made { OnOk result (Makes (total_words geometry + 33) (total_words geometry / 8 + 7) 6 0 (D.state device.old) (D.state device.new)) }
-    ensures settled { OnOk result ((word : ℕ) → word < total_words geometry → IsSettledAt (D.state device.new) word (fresh_word geometry word)) }
-    ensures images { LeavesOnly (D.state device.old) (D.state device.new) (IsFormatting (D.state device.old) geometry) }
 {
     set_word(device, Actor::COMMITTER, 0, 0)?;
     clear(device)?;

@@ -2,16 +2,17 @@
 //! timestamp is drawn twice, and versions that carry one of them count for nobody. All that takes memory comes before the first
 //! operation, so an opening that is refused leaves the image as it was.
 
-ghost use Rattle.std.specs.Prelude.{◌≡◌, ◌+◌, ◌-◌, ◌*◌, ◌^◌, ◌<◌, ◌≤◌, ◌&&◌, ℕ, true, false, List, [], IfOk, IfErr, OnOk, OnErr, MatchResult};
+ghost use Rattle.std.specs.Prelude.{◌≡◌, ◌+◌, ◌-◌, ◌*◌, ◌^◌, ◌<◌, ◌≤◌, ℕ, List, [], IfOk, IfErr, OnOk, OnErr, MatchResult};
 ghost use Rattle.base.specs.Commits.{Commit};
 ghost use Rattle.base.specs.Records.{opened_gaps};
-ghost use Rattle.base.specs.Images.{opening_fault, needs_sweep, IsRuledBy};
+ghost use Rattle.base.specs.Images.{opening_fault, IsRuledBy};
 ghost use Rattle.base.specs.Stands.{Stands};
-ghost use Rattle.machine.specs.Openings.{StandsOpening, gaps_kept, opened_slots, record_counts, words_swept, lines_swept};
-ghost use Rattle.pmem.specs.Words.{LeavesOnly, IsAtRest, image_of, Keeps, OldOr, Makes, Spares, operations_of};
+ghost use Rattle.machine.specs.Openings.{StandsOpening, gaps_kept, opening_record};
+ghost use Rattle.pmem.specs.Trace.{Runs, StopsWithin};
+ghost use Rattle.pmem.specs.Words.{LeavesOnly, IsAtRest, image_of};
 ghost use Rattle.recovery.specs.Gaps.{few_gaps};
-ghost use Rattle.recovery.specs.Sweeping.{is_hit, AreHits, IsSwept};
-ghost use Rattle.recovery.specs.Opened.{Examined as IsExaminedAs, HasOpened, HasOpenedToday, IsCutBefore, IsCutShort, IsRefusal, IsUpdatedFirst, sweep_operations, total};
+ghost use Rattle.recovery.specs.Sweeping.{AreHits};
+ghost use Rattle.recovery.specs.Opened.{Examined as IsExaminedAs, HasOpened, IsCutShort, IsRefusal, IsUpdatedFirst, gap_operations, today_operations};
 ghost use Rattle.recovery.specs.Read.{TellsLogFault};
 
 use crate::examining::{Examined, examine};
@@ -153,15 +154,20 @@ impl Examined {
 
     // The same of an image of today's version.
     fn open_today<D: Pmem>(self, device: &mut D) -> Result<OpenedImage, Fault>
-        requires at_rest { IsAtRest (D.state device.old) }
         requires examined { IsExaminedAs (image_of (D.state device.old)) self.geometry self.ruling self.gaps self.free.items self.live.items }
         requires hits { AreHits (image_of (D.state device.old)) self.geometry self.gaps self.hits.items }
-        ensures ok { IfOk result (λ life. HasOpenedToday (D.state device.old) (D.state device.new) life.geometry life.ruling life.next life.free.items life.live.items) }
+        ensures ok { IfOk result (λ life. life ≡ record {
+          geometry = self.geometry;
+          ruling = opening_record self.geometry self.ruling (gaps_kept (opened_gaps self.ruling));
+          next = self.ruling.dirty;
+          free = self.free;
+          live = self.live;
+          places = self.places;
+        }) }
         ensures places { IfOk result (λ life. life.places ≡ self.places) }
+        ensures run { OnOk result (Runs (today_operations self.geometry self.ruling (D.state device.old)) (D.state device.old) (D.state device.new)) }
+        ensures stopped { OnErr result (StopsWithin (today_operations self.geometry self.ruling (D.state device.old)) (D.state device.old) (D.state device.new)) }
         ensures fault { IfErr result (λ fault. fault ≡ Fault.Device) }
-        ensures failed { OnErr result (IsCutBefore (total (record_counts (image_of (D.state device.old)))) (D.state device.old) (D.state device.new)) }
-        ensures images { (history drawn : List Commit) (next : ℕ) → Stands (image_of (D.state device.old)) history drawn next
-            → LeavesOnly (D.state device.old) (D.state device.new) (StandsOpening (image_of (D.state device.old)) history next) }
     {
         let hits = self.hits.as_slice();
         let gaps = match keep_gaps(device, self.geometry, self.ruling, self.gaps, hits) {
@@ -184,21 +190,13 @@ fn keep_gaps<D: Pmem>(
     gaps: Option<Gaps>,
     hits: &[bool],
 ) -> Result<Gaps, Fault>
-    requires at_rest { IsAtRest (D.state device.old) }
     requires rules { IsRuledBy geometry ruling (image_of (D.state device.old)) }
     requires gaps { gaps ≡ few_gaps ruling }
     requires hits { AreHits (image_of (D.state device.old)) geometry gaps hits.now }
-    ensures fault { IfErr result (λ fault. fault ≡ Fault.Device) }
-    ensures failed { OnErr result ((D.state device.new).failures ≡ (D.state device.old).failures + 1) }
-    ensures few { OnErr result ((needs_sweep (image_of (D.state device.old)) ≡ true) × (operations_of (D.state device.new) < operations_of (D.state device.old) + sweep_operations (image_of (D.state device.old)))) }
-    ensures kept { Keeps (D.state device.old) (D.state device.new) (OldOr (D.state device.old) (IsSwept geometry ruling (D.state device.old))) }
-    ensures others { OnOk result (Spares (λ word. (needs_sweep (image_of (D.state device.old)) && is_hit geometry ruling (D.state device.old) word) ≡ false) (D.state device.old) (D.state device.new)) }
     ensures ok { IfOk result (λ left. left ≡ gaps_kept (opened_gaps ruling)) }
-    ensures rest { OnOk result (IsAtRest (D.state device.new)) }
-    ensures image { OnOk result (image_of (D.state device.new) ≡ opened_slots (image_of (D.state device.old))) }
-    ensures none { OnOk result (needs_sweep (image_of (D.state device.old)) ≡ false → Makes 0 0 0 0 (D.state device.old) (D.state device.new)) }
-    ensures made { OnOk result (needs_sweep (image_of (D.state device.old)) ≡ true
-        → Makes (words_swept (image_of (D.state device.old))) (lines_swept (image_of (D.state device.old))) 1 0 (D.state device.old) (D.state device.new)) }
+    ensures run { OnOk result (Runs (gap_operations geometry ruling (D.state device.old)) (D.state device.old) (D.state device.new)) }
+    ensures stopped { OnErr result (StopsWithin (gap_operations geometry ruling (D.state device.old)) (D.state device.old) (D.state device.new)) }
+    ensures fault { IfErr result (λ fault. fault ≡ Fault.Device) }
 {
     match gaps {
         Some(few) => Ok(few),

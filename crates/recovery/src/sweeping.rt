@@ -2,14 +2,16 @@
 //! persists before a record without gaps is written: under a record that drops a gap, a timestamp that lies in it would count as
 //! committed.
 
-ghost use Rattle.std.specs.Prelude.{◌≡◌, ◌+◌, ◌<◌, ◌≤◌, false, IfOk, IfErr, OnOk, OnErr, ◌||◌, if◌then◌else◌, map};
-ghost use Rattle.base.specs.Layout.{slot_start, total_words};
+ghost use Rattle.std.specs.Prelude.{◌≡◌, ◌+◌, ◌<◌, ◌||◌, IfOk, IfErr, OnOk, OnErr, map};
+ghost use Rattle.base.specs.Actors.{committer};
+ghost use Rattle.base.specs.Layout.{total_words};
+ghost use Rattle.base.specs.Records.{opened_gaps};
 ghost use Rattle.base.specs.Images.{IsRuledBy};
-ghost use Rattle.machine.specs.Openings.{swept, words_swept, lines_swept};
-ghost use Rattle.pmem.specs.Words.{value_of, image_of, IsAtRest, Keeps, OldOr, Makes, Spares, operations_of};
+ghost use Rattle.pmem.specs.Trace.{Runs, StopsWithin};
+ghost use Rattle.pmem.specs.Words.{value_of, image_of};
+ghost use Rattle.version_slot.specs.Operations.{sweep_operations, zero_operations};
 ghost use Rattle.recovery.specs.Gaps.{MayRule};
-ghost use Rattle.recovery.specs.Opened.{sweep_operations};
-ghost use Rattle.recovery.specs.Sweeping.{lies, is_hit, is_hit_by, hits_below, IsZeroed, IsSwept, zeroed, cleaned};
+ghost use Rattle.recovery.specs.Sweeping.{is_hit_by, hits_below, whole_sweep};
 
 use crate::gaps::lies_in_gap;
 use crate::slots::SlotReading;
@@ -44,17 +46,11 @@ pub fn sweep<D: Pmem>(
     ruling: Record,
     hits: &[bool],
 ) -> Result<(), Fault>
-    requires at_rest { IsAtRest (D.state device.old) }
     requires rules { IsRuledBy geometry ruling (image_of (D.state device.old)) }
     requires hits { hits.now ≡ hits_below (image_of (D.state device.old)) geometry.slots }
+    ensures run { OnOk result (Runs (whole_sweep geometry ruling (value_of (D.state device.old))) (D.state device.old) (D.state device.new)) }
+    ensures stopped { OnErr result (StopsWithin (whole_sweep geometry ruling (value_of (D.state device.old))) (D.state device.old) (D.state device.new)) }
     ensures fault { IfErr result (λ fault. fault ≡ Fault.Device) }
-    ensures failed { OnErr result ((D.state device.new).failures ≡ (D.state device.old).failures + 1) }
-    ensures kept { Keeps (D.state device.old) (D.state device.new) (OldOr (D.state device.old) (IsSwept geometry ruling (D.state device.old))) }
-    ensures others { OnOk result (Spares (λ word. is_hit geometry ruling (D.state device.old) word ≡ false) (D.state device.old) (D.state device.new)) }
-    ensures few { OnErr result (operations_of (D.state device.new) < operations_of (D.state device.old) + sweep_operations (image_of (D.state device.old))) }
-    ensures rest { OnOk result (IsAtRest (D.state device.new)) }
-    ensures image { OnOk result (image_of (D.state device.new) ≡ swept (image_of (D.state device.old))) }
-    ensures made { OnOk result (Makes (words_swept (image_of (D.state device.old))) (lines_swept (image_of (D.state device.old))) 1 0 (D.state device.old) (D.state device.new)) }
 {
     for slot in 0..geometry.slots() {
         if hits[slot as usize] {
@@ -75,35 +71,28 @@ fn sweep_slot<D: Pmem>(
     requires may_rule { MayRule ruling }
     requires size { (D.state device.old).words ≡ total_words geometry }
     requires slot { slot < geometry.slots }
+    ensures run { OnOk result (Runs (sweep_operations geometry committer (opened_gaps ruling) (value_of (D.state device.old)) slot) (D.state device.old) (D.state device.new)) }
+    ensures stopped { OnErr result (StopsWithin (sweep_operations geometry committer (opened_gaps ruling) (value_of (D.state device.old)) slot) (D.state device.old) (D.state device.new)) }
     ensures fault { IfErr result (λ fault. fault ≡ Fault.Device) }
-    ensures failed { OnErr result ((D.state device.new).failures ≡ (D.state device.old).failures + 1) }
-    ensures kept { Keeps (D.state device.old) (D.state device.new) (OldOr (D.state device.old) (IsSwept geometry ruling (D.state device.old))) }
-    ensures ok { OnOk result (D.state device.new ≡ cleaned ruling (slot_start geometry slot) (D.state device.old)) }
-    ensures few { OnErr result (operations_of (D.state device.new) ≤ operations_of (cleaned ruling (slot_start geometry slot) (D.state device.old))) }
 {
     let start = geometry.slot_start(slot);
-    let begun = sweep_word(device, ruling, start)?;
-    let ended = sweep_word(device, ruling, start + 1)?;
-    if begun || ended {
-        device.flush(Actor::COMMITTER, geometry.slot_line(slot))?;
-    }
+    zero_in_gap(device, ruling, start)?;
+    zero_in_gap(device, ruling, start + 1)?;
+    device.flush(Actor::COMMITTER, geometry.slot_line(slot))?;
     Ok(())
 }
 
-// Stores 0 in a word that lies in a gap, and tells whether it did.
-fn sweep_word<D: Pmem>(device: &mut D, ruling: Record, word: usize) -> Result<bool, Fault>
+// Stores 0 in a word that lies in a gap.
+fn zero_in_gap<D: Pmem>(device: &mut D, ruling: Record, word: usize) -> Result<(), Fault>
     requires may_rule { MayRule ruling }
     requires within { word < (D.state device.old).words }
+    ensures run { OnOk result (Runs (zero_operations (opened_gaps ruling) word (value_of (D.state device.old) word)) (D.state device.old) (D.state device.new)) }
+    ensures stopped { OnErr result (StopsWithin (zero_operations (opened_gaps ruling) word (value_of (D.state device.old) word)) (D.state device.old) (D.state device.new)) }
     ensures fault { IfErr result (λ fault. fault ≡ Fault.Device) }
-    ensures failed { OnErr result ((D.state device.new).failures ≡ (D.state device.old).failures + 1) }
-    ensures kept { Keeps (D.state device.old) (D.state device.new) (OldOr (D.state device.old) (IsZeroed ruling word (D.state device.old))) }
-    ensures ok { OnOk result (D.state device.new ≡ zeroed ruling word (D.state device.old)) }
-    ensures none { OnErr result (operations_of (D.state device.new) ≡ operations_of (D.state device.old)) }
-    ensures tells { IfOk result (λ did. did ≡ lies ruling (value_of (D.state device.old) word)) }
+    ensures size { (D.state device.new).words ≡ (D.state device.old).words }
 {
-    let swept = lies_in_gap(ruling, device.load(word));
-    if swept {
+    if lies_in_gap(ruling, device.load(word)) {
         device.store(word, 0)?;
     }
-    Ok(swept)
+    Ok(())
 }

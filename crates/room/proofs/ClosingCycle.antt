@@ -20,14 +20,12 @@ use Rattle.pmem.specs.Device.{Device, IsOrderly, MayLeave, flushed, fenced, fail
 use Rattle.pmem.specs.Trace.{applied}
 use Rattle.pmem.specs.Words.{LeavesOnly, HasNoFailure, Spares}
 use Rattle.pmem.proofs.Images.{leaves_refl, leaves_trans}
-use Rattle.pmem.proofs.Spares.{spares-failed}
 use Rattle.log_area.specs.declared.stage.WritingStage.TheVariants.{StoreBody, Done}
 use Rattle.log_area.specs.Stages.{IsStage, next_stage, operations_before}
 use Rattle.log_area.specs.Rulings.{HoldsRecord}
 use Rattle.log_area.specs.Writings.{Progress, begun, advanced, operation_of, IsOutside, IsNextRecord, IsRuledByEither}
-use Rattle.log_area.proofs.Replacing.{replacing_begun, replacing_next, images_next, images_failed, spares_next}
-use Rattle.log_area.proofs.Ticks.{same_words, writing_next}
-use Rattle.log_area.proofs.Whole.{IsRun, run_none, run_next, run_holds, spares_on, images_on, fewer_left}
+use Rattle.log_area.proofs.Ticks.{none_failed, same_words}
+use Rattle.log_area.proofs.Whole.{IsWritten, written-none, written-more, written-stops, written-whole, record-spares, record-spares_stopped, record-images as images_of_record, record-images_stopped, record-holds, fewer_left}
 use Rattle.log_area.proofs.Stages.{staged-next}
 use Rattle.dirty_table.specs.Touches.{has, lines_touched}
 use Rattle.txn.specs.declared.drawn.DrawnCommit.{DrawnCommit}
@@ -145,14 +143,6 @@ module _ (c : VolatileState) (before now : Device) (rests : c.cycle ≡ None) (s
       closing-writes.closed shown.shown.hidden.origin q before now closing persisted in_range outside
       (subst (λ (p : State). HoldsRecord p.layout (closing_record p) now) (sym shown.shown.plain) (holds q.ruling follows))
 
--- one operation more of its writing
-run-on : (layout : Layout) (target : Record) (p : Progress) (old mid new : Device) → IsRun layout target p old mid → IsOrderly mid → IsOrderly new → IsStage p.stage → p.stage ≢ Done → new ≡ applied (operation_of p) mid → IsRun layout target (advanced p) old new
-run-on layout target p old mid new run orderly orderly' staged un made =
-    run_next layout target p old mid new run (advanced p) refl staged un made (spares_next mid new orderly orderly' p staged made)
-    (λ before writing. writing_next p before orderly un made writing)
-    (λ r replacing. replacing_next r p mid new orderly orderly' staged un made replacing)
-    (λ r replacing. images_next r p mid new orderly orderly' staged un made replacing)
-
 -- ---- how far the cycle has come
 
 -- so many lines are flushed, as far as this state goes
@@ -171,7 +161,7 @@ pub record IsPersisted (c : VolatileState) (before now : Device) (q : State) : T
 pub record IsRecording (c : VolatileState) (before now : Device) (writing : Progress) : Type 0 where
   pub between : Device
   pub persists : (q : State) → Shows c before q → q.failed ≡ false → IsPersisted c before between q
-  pub run : IsRun c.sessions.numbers.geometry (last_record c) writing between now
+  pub run : IsWritten c.sessions.numbers.geometry (last_record c) writing between now
   pub staged : IsStage writing.stage
 
 abbrev pub HasCome : VolatileState → List ℕ → Device → Device → Progress → CycleStage → Type 0
@@ -269,7 +259,7 @@ module _ (c : VolatileState) (before now : Device) (cycle : Cycling) (so_far : I
                   let whole : count ≡ length (lines_in q (drawn_of q)) = counted ∙ ap length (lines-are c now q cycle.sessions at.shown so_far.drew rises) ∙ length-map (lines_in q (drawn_of q)) (line_number q.layout) in
                   let went = closing-flushes.fence at.shown.shown.hidden.origin q now new orderly orderly' (is-closing c now q at.shown works rests stamped) fences (subst (AreFlushed q now) whole at.flushed) in
                   record { shown = moved c now new q at.shown went.0.closing.upholds; persisted = went.1; images = leaves_trans at.images went.0.images };
-              run = run_none c.sessions.numbers.geometry (last_record c) cycle.writing new orderly' come.1;
+              run = written-none c.sessions.numbers.geometry (last_record c) cycle.writing orderly' come.1;
               staged = subst IsStage (sym (ap (λ (p : Progress). p.stage) come.1)) (omega arith, omega arith);
             };
           }
@@ -280,13 +270,17 @@ module _ (c : VolatileState) (before now : Device) (cycle : Cycling) (so_far : I
 
       writes-on : IsRecording c before now cycle.writing → new ≡ applied (operation_of cycle.writing) now → IsCovering c before new (record cycle { writing = advanced cycle.writing; stage = WriteRecord })
       writes-on at operates =
-          let run = run-on c.sessions.numbers.geometry (last_record c) cycle.writing at.between now new at.run orderly orderly' at.staged unfinished operates in
           record {
             drew = so_far.drew;
             layout = so_far.layout;
-            no_failure = omega (arith, so_far.no_failure, at.run.made.failures_made, run.made.failures_made);
+            no_failure = none_failed cycle.writing now new unfinished operates ∙ so_far.no_failure;
             words = same_words cycle.writing now new operates ∙ so_far.words;
-            come = record { between = at.between; persists = at.persists; run = run; staged = staged-next cycle.writing.stage at.staged };
+            come = record {
+              between = at.between;
+              persists = at.persists;
+              run = written-more c.sessions.numbers.geometry (last_record c) cycle.writing (advanced cycle.writing) at.run at.staged unfinished orderly' operates refl;
+              staged = staged-next cycle.writing.stage at.staged;
+            };
           }
 
       pub ticks : (after : Cycling) → after ≡ ticked_in lines cycle → IsCovering c before new after
@@ -315,18 +309,15 @@ module _ (c : VolatileState) (before now : Device) (cycle : Cycling) (so_far : I
 
     -- ---- a tick that fails
 
-    module _ (fails : new ≡ failed now) where
+    module _ (unfinished : cycle.writing.stage ≢ Done) (fails : new ≡ failed now) where
       images-at : (stage : CycleStage) → HasCome c lines before now cycle.writing stage → (q : State) → Shows c before q → q.failed ≡ false → LeavesOnly before new (StandsClosing q)
       images-at (FlushLines count from) come q shown works =
           let at = come.2 q shown works in
           leaves_trans at.images (closing-flushes.failing at.shown.shown.hidden.origin q now new orderly orderly' (is-closing c now q at.shown works rests stamped) fails)
       images-at WriteRecord come q shown works =
           let at = come.persists q shown works in
-          let layout = c.sessions.numbers.geometry in
-          let spares = spares_on layout (last_record c) cycle.writing come.between now new come.run (spares-failed (IsOutside cycle.writing) now new orderly orderly' fails) in
-          leaves_trans at.images (record-images c come.between new rests stamped numbered q at.shown works at.persisted spares (λ old next.
-          let begins = replacing_begun layout old (last_record c) come.between next in
-          images_on layout (last_record c) cycle.writing come.between now new come.run cycle.writing old refl refl (images_failed old cycle.writing now new orderly orderly' fails (come.run.replaces old begins)) begins))
+          let stop = written-stops c.sessions.numbers.geometry (last_record c) cycle.writing come.run come.staged unfinished orderly' fails in
+          leaves_trans at.images (record-images c come.between new rests stamped numbered q at.shown works at.persisted (record-spares_stopped c.sessions.numbers.geometry (last_record c) stop) (λ old next. record-images_stopped c.sessions.numbers.geometry (last_record c) old next stop))
 
       pub fails-then : (fault : Fault) → fault ≡ DeviceFault → ClosePhaseFailed c before new fault
       fails-then fault is = record { fault_is = is; failure = omega (arith, so_far.no_failure, ap (λ (d : Device). d.failures) fails); images = images-at cycle.stage so_far.come }
@@ -340,12 +331,13 @@ module _ (c : VolatileState) (before now : Device) (cycle : Cycling) (so_far : I
       by (FlushLines count from) come = let clash : StoreBody 1 ≡ Done = sym (ap (λ (p : Progress). p.stage) come.1) ∙ done in absurd (cc clash)
       by WriteRecord come =
           let layout = c.sessions.numbers.geometry in
+          let run = written-whole layout (last_record c) cycle.writing come.run done in
           record {
             no_failure = so_far.no_failure;
             images = λ q shown works.
                 let at = come.persists q shown works in
-                leaves_trans at.images (record-images c come.between now rests stamped numbered q at.shown works at.persisted come.run.outside (λ old next. come.run.images old (replacing_begun layout old (last_record c) come.between next)));
+                leaves_trans at.images (record-images c come.between now rests stamped numbered q at.shown works at.persisted (record-spares layout (last_record c) run) (λ old next. images_of_record layout (last_record c) old next run));
             closed = λ q shown works.
                 let at = come.persists q shown works in
-                record-closed c come.between now rests stamped numbered q at.shown works at.persisted come.run.outside (run_holds layout (last_record c) cycle.writing come.between now come.run done);
+                record-closed c come.between now rests stamped numbered q at.shown works at.persisted (record-spares layout (last_record c) run) (λ old next. record-holds layout (last_record c) old next run);
           }

@@ -39,7 +39,8 @@ use Rattle.index.specs.Entries.{entry_at, forgotten, KeepsRoom}
 use Rattle.collector.specs.declared.rounds.Collector.{Collector}
 use Rattle.collector.specs.declared.visit.Visit.{Visit}
 use Rattle.collector.specs.declared.visit.Visit.TheVariants.{Slot, SweepEnd}
-use Rattle.collector.specs.Sweeping.{zero_operations, sweep_operations, tick_operations}
+use Rattle.version_slot.specs.Operations.{zero_operations}
+use Rattle.collector.specs.Sweeping.{sweep_operations, tick_operations}
 use Rattle.collector.specs.Ticks.{visit_at, moved_on, freed_at}
 use Rattle.state_invariant.specs.Kept.{Origin, version_by, wanted}
 use Rattle.state_invariant.specs.Shown.{word_of, HasVersion, Newest, Replaced, IsReplaced, ShowsAs, class_of_drawn, class_of_version}

@@ -4,3 +4,4 @@ pub mod ImageSlots
 pub mod Operations
 mod Padding
 pub mod Parts
+pub mod Sweeps

@@ -1,14 +1,14 @@
-ghost use Rattle.std.specs.Prelude.{◌≡◌, ◌+◌, ◌^◌, ◌<◌, ◌≤◌, length, slice_index, IfErr, OnErr, OnOk, Some};
+ghost use Rattle.std.specs.Prelude.{◌≡◌, ◌<◌, ◌≤◌, length, IfErr, OnErr, OnOk, Some};
 ghost use Rattle.base.specs.Layout.{row_limit, total_words};
 ghost use Rattle.pmem.specs.Words.{value_of};
 ghost use Rattle.pmem.specs.Trace.{Runs, StopsWithin};
-ghost use Rattle.version_slot.specs.Operations.{begin_operations, end_operations, fill_operations, store_operations};
+ghost use Rattle.version_slot.specs.Operations.{begin_operations, end_operations, fill_operations};
 ghost use Rattle.version_slot.specs.Words.{IsVersion, link_number, slot_at};
 
 use crate::words::Version;
 use base::fault::Fault;
 use base::geometry::Geometry;
-use pmem::Pmem;
+use pmem::{Pmem, store_all};
 
 /// Stores 0 in a slot's end and then a version in the words after it, to the slot's last: 7 stores, or 15 where a slot has
 /// two lines. The begin stays.
@@ -65,22 +65,4 @@ pub fn stamp_end<D: Pmem>(
     ensures stopped { OnErr result (StopsWithin (end_operations geometry (Some slot) timestamp) (D.state device.old) (D.state device.new)) }
 {
     store_all(device, geometry.slot_start(slot) + 1, &[timestamp])
-}
-
-// Stores the values in the words from one on, in order, up to the first that fails.
-fn store_all<D: Pmem>(device: &mut D, first: usize, values: &[u64]) -> Result<(), Fault>
-    requires fits { first + length values.now < 2 ^ 64 }
-    requires device { first + length values.now ≤ (D.state device.old).words }
-    ensures fault { IfErr result (λ fault. fault ≡ Fault.Device) }
-    ensures size { (D.state device.new).words ≡ (D.state device.old).words }
-    ensures run { OnOk result (Runs (store_operations first (slice_index values.now) (length values.now)) (D.state device.old) (D.state device.new)) }
-    ensures stopped { OnErr result (StopsWithin (store_operations first (slice_index values.now) (length values.now)) (D.state device.old) (D.state device.new)) }
-{
-    for (k, value) in values.iter().enumerate() {
-        match device.store(first + k, *value) {
-            Ok(()) => {}
-            Err(fault) => return Err(fault),
-        }
-    }
-    Ok(())
 }

@@ -2,7 +2,7 @@ use Rattle.std.proofs.Common.{sym, ◌∙◌, ap}
 use Rattle.base.specs.Records.{is_in}
 use Rattle.base.proofs.Results.{on_err}
 use Rattle.pmem.specs.Words.{value_of}
-use Rattle.collector.proofs.Sweeps.{zero-stops}
+use Rattle.version_slot.proofs.Sweeps.{zero-stops}
 use Rattle.collector.proofs.sweeping.zero_in_gap.Goals as goal
 
 pub returns-in_err-store-clause-err : goal.returns-in_err-store-clause-err

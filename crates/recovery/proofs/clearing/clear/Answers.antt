@@ -1,41 +1,43 @@
-use Rattle.std.proofs.Common.{ℕ, ◌-◌, ◌/◌, ◌<◌, ◌∙◌, subst, arith, refl}
-use Rattle.pmem.specs.Words.{Makes}
-use Rattle.pmem.proofs.Spares.{spares_trans, spares-fenced, spares-failed}
-use Rattle.recovery.proofs.Zeros.{holds-fenced, made-clear}
+use Rattle.std.proofs.Common.{ℕ, ◌-◌, ◌/◌, List, [], ◌∷◌, ◌++◌, subst, arith}
+use Rattle.base.proofs.Results.{on_err}
+use Rattle.base.specs.Actors.{committer}
+use Rattle.pmem.specs.Persisting.{flush_operations, store_operations}
+use Rattle.pmem.specs.Trace.{Operation, fence_op, Runs, StopsWithin}
+use Rattle.pmem.proofs.Traces.{runs-more, runs-then, stops-first, stops-one, stops-then, words-run}
+use Rattle.recovery.specs.Fresh.{clear_operations}
 use Rattle.recovery.proofs.clearing.clear.Goals as goal
 
-abbrev Low : ℕ → Type 0
-Low word = word < 8
+abbrev stores : ℕ → List Operation
+stores words = store_operations 8 (λ k. 0) (words - 8)
 
-pub returns-in_err-flush_lines-clause-others : goal.returns-in_err-flush_lines-clause-others
-returns-in_err-flush_lines-clause-others g c = spares_trans c.in_ok-store_zeros.ensures.others c.in_err-flush_lines.ensures.others
+abbrev flushes : ℕ → List Operation
+flushes words = flush_operations committer 1 (words / 8 - 1)
 
-pub returns-in_err-fence-clause-others : goal.returns-in_err-fence-clause-others
-returns-in_err-fence-clause-others g c =
+pub flush_lines-requires-clause-within : goal.flush_lines-requires-clause-within
+flush_lines-requires-clause-within g c = omega (arith, c.requires, c.words-words.ensures, words-run c.in_ok-store_zeros.ensures.run)
+
+pub returns-in_err-store_zeros-clause-stopped : goal.returns-in_err-store_zeros-clause-stopped
+returns-in_err-store_zeros-clause-stopped g c =
+    let words : ℕ = c.words-words.result in
+    on_err c.from_residual.result (subst (λ (n : ℕ). StopsWithin (clear_operations n) (g.D.Pmem.state c.args.device.now) (g.D.Pmem.state c.store_zeros.new.device)) c.words-words.ensures
+    (stops-first {xs = stores words ++ flushes words} (fence_op committer ∷ []) (stops-first {xs = stores words} (flushes words) c.in_err-store_zeros.ensures.stopped)))
+
+pub returns-in_err-flush_lines-clause-stopped : goal.returns-in_err-flush_lines-clause-stopped
+returns-in_err-flush_lines-clause-stopped g c =
+    let words : ℕ = c.words-words.result in
+    on_err c.from_residual-in_err-flush_lines.result (subst (λ (n : ℕ). StopsWithin (clear_operations n) (g.D.Pmem.state c.args.device.now) (g.D.Pmem.state c.flush_lines.new.device)) c.words-words.ensures
+    (stops-first {xs = stores words ++ flushes words} (fence_op committer ∷ []) (stops-then c.in_ok-store_zeros.ensures.run c.in_err-flush_lines.ensures.stopped)))
+
+pub returns-in_err-fence-clause-stopped : goal.returns-in_err-fence-clause-stopped
+returns-in_err-fence-clause-stopped g c =
+    let state = g.D.Pmem.state in
     let orderly = g.met.D.Pmem.orderly in
-    let state = g.D.Pmem.state in
-    spares_trans (spares_trans c.in_ok-store_zeros.ensures.others c.in_ok-flush_lines.ensures.others)
-    (spares-failed Low (state c.flush_lines.new.device) (state c.fence.new.self) (orderly c.flush_lines.new.device) (orderly c.fence.new.self) c.in_err-fence.ensures.err)
+    on_err c.from_residual-in_err-fence.result (subst (λ (n : ℕ). StopsWithin (clear_operations n) (state c.args.device.now) (state c.fence.new.self)) c.words-words.ensures
+    (stops-then (runs-then c.in_ok-store_zeros.ensures.run c.in_ok-flush_lines.ensures.run) (stops-one (fence_op committer) (state c.flush_lines.new.device) (state c.fence.new.self) (orderly c.flush_lines.new.device) (orderly c.fence.new.self) c.in_err-fence.ensures.err)))
 
-pub returns-clause-others : goal.returns-clause-others
-returns-clause-others g c =
-    let orderly = g.met.D.Pmem.orderly in
+pub returns-clause-run : goal.returns-clause-run
+returns-clause-run g c =
     let state = g.D.Pmem.state in
-    spares_trans (spares_trans c.in_ok-store_zeros.ensures.others c.in_ok-flush_lines.ensures.others)
-    (spares-fenced Low (state c.flush_lines.new.device) (state c.fence.new.self) (orderly c.flush_lines.new.device) (orderly c.fence.new.self) 0 c.in_ok-fence.ensures.ok)
-
-pub returns-clause-holds : goal.returns-clause-holds
-returns-clause-holds g c =
-    let state = g.D.Pmem.state in
-    let size = c.words-words.ensures in
-    λ w low h.
-    holds-fenced (state c.flush_lines.new.device) (state c.fence.new.self) 0 w refl c.in_ok-fence.ensures.ok
-    (c.in_ok-flush_lines.ensures.ready w low (omega (arith, h, size, c.requires.lines)))
-    (c.in_ok-flush_lines.ensures.values w ∙ c.in_ok-store_zeros.ensures.zero w low (omega (arith, h, size)))
-
-pub returns-clause-made : goal.returns-clause-made
-returns-clause-made g c =
-    let state = g.D.Pmem.state in
-    subst (λ (n : ℕ). Makes (n - 8) (n / 8 - 1) 1 0 (state c.args.device.now) (state c.fence.new.self)) c.words-words.ensures
-    (made-clear (c.words-words.result - 8) (c.words-words.result / 8 - 1) (state c.args.device.now) (state c.store_zeros.new.device) (state c.flush_lines.new.device) (state c.fence.new.self) 0
-    c.in_ok-store_zeros.ensures.made c.in_ok-flush_lines.ensures.made c.in_ok-fence.ensures.ok)
+    let words : ℕ = c.words-words.result in
+    subst (λ (n : ℕ). Runs (clear_operations n) (state c.args.device.now) (state c.fence.new.self)) c.words-words.ensures
+    (runs-more (stores words ++ flushes words) (fence_op committer) (state c.args.device.now) (state c.flush_lines.new.device) (state c.fence.new.self) (g.met.D.Pmem.orderly c.fence.new.self) c.in_ok-fence.ensures.ok (runs-then c.in_ok-store_zeros.ensures.run c.in_ok-flush_lines.ensures.run))

@@ -1,10 +1,6 @@
-use Rattle.std.proofs.Common.{◌≡◌, ℕ, ◌-◌, ◌<◌, ◌≤◌}
-use Rattle.pmem.specs.Words.{value_of, Makes, Spares}
+use Rattle.pmem.specs.Persisting.{store_operations}
+use Rattle.pmem.specs.Trace.{Runs}
 use Rattle.recovery.proofs.clearing.store_zeros.Given as goal
 
-abbrev pub invariant-loop-word : goal.invariant-loop-word
-invariant-loop-word g l = record {
-  zero : (w : ℕ) → 8 ≤ w → w < l.word → value_of (g.D.Pmem.state l.device) w ≡ 0;
-  others : Spares (λ w. w < 8) (g.D.Pmem.state l.initial.device) (g.D.Pmem.state l.device);
-  made : Makes (l.word - 8) 0 0 0 (g.D.Pmem.state l.initial.device) (g.D.Pmem.state l.device);
-}
+abbrev pub invariant-loop-k : goal.invariant-loop-k
+invariant-loop-k g l = Runs (store_operations l.first (λ k. 0) l.k) (g.D.Pmem.state l.initial.device) (g.D.Pmem.state l.device)

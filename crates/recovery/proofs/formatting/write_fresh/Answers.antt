@@ -1,185 +1,118 @@
-use Rattle.std.proofs.Common.{ℕ, subst, arith}
+use Rattle.std.proofs.Common.{ℕ, List, ◌++◌, ◌∙◌, subst, arith}
+use Rattle.base.specs.Actors.{committer}
+use Rattle.base.specs.Layout.{Layout, total_words}
+use Rattle.base.specs.Images.{superblock_word}
+use Rattle.base.specs.Fresh.{first_record}
 use Rattle.base.specs.Records.{Record}
-use Rattle.pmem.specs.Words.{Spares}
-use Rattle.log_area.specs.Writings.{IsOutside, IsWriting, begun, finished}
+use Rattle.base.proofs.Results.{on_err}
+use Rattle.pmem.specs.Device.{Device}
+use Rattle.pmem.specs.Persisting.{set_operations}
+use Rattle.pmem.specs.Trace.{Operation, Runs, StopsWithin}
+use Rattle.pmem.proofs.Traces.{runs-then, stops-first, stops-then, words-run}
+use Rattle.log_area.specs.Writings.{geometry_operations, record_operations}
 use Rattle.log_area.proofs.Rulings.{log_within}
-use Rattle.recovery.proofs.Fresh.{stage1-images, enough1, size1, begun2, size2, begun3, begun4, stage5-images, all-settled, all-made}
+use Rattle.recovery.specs.Fresh.{clear_operations, fresh_operations, format_operations}
 use Rattle.recovery.proofs.formatting.write_fresh.Goals as goal
 
+module _ (layout : Layout) where
+  abbrev first : List Operation
+  first = set_operations committer 0 0
+
+  abbrev last : List Operation
+  last = set_operations committer 0 superblock_word
+
+  abbrev cleared : List Operation
+  cleared = clear_operations (total_words layout)
+
+  abbrev recorded : List Operation
+  recorded = record_operations layout first_record
+
+  abbrev block : List Operation
+  block = geometry_operations layout
+
+  module _ {d0 d1 : Device} where
+    at-first : StopsWithin first d0 d1 → StopsWithin (format_operations layout) d0 d1
+    at-first stop = stops-first {xs = first ++ fresh_operations layout} last (stops-first {xs = first} (fresh_operations layout) stop)
+
+    module _ {d2 : Device} (r1 : Runs first d0 d1) where
+      within : StopsWithin (fresh_operations layout) d1 d2 → StopsWithin (format_operations layout) d0 d2
+      within stop = stops-first {xs = first ++ fresh_operations layout} last (stops-then r1 stop)
+
+      at-clear : StopsWithin cleared d1 d2 → StopsWithin (format_operations layout) d0 d2
+      at-clear stop = within (stops-first {xs = cleared ++ recorded} block (stops-first {xs = cleared} recorded stop))
+
+module _ (layout : Layout) {d0 d1 d2 d3 : Device} (r1 : Runs (set_operations committer 0 0) d0 d1) (r2 : Runs (clear_operations (total_words layout)) d1 d2) where
+  at-record : StopsWithin (record_operations layout first_record) d2 d3 → StopsWithin (format_operations layout) d0 d3
+  at-record stop = within layout r1 (stops-first {xs = cleared layout ++ recorded layout} (block layout) (stops-then r2 stop))
+
+  module _ {d4 : Device} (r3 : Runs (record_operations layout first_record) d2 d3) where
+    at-geometry : StopsWithin (geometry_operations layout) d3 d4 → StopsWithin (format_operations layout) d0 d4
+    at-geometry stop = within layout r1 (stops-then (runs-then r2 r3) stop)
+
+    module _ (r4 : Runs (geometry_operations layout) d3 d4) where
+      before_last : Runs (set_operations committer 0 0 ++ fresh_operations layout) d0 d4
+      before_last = runs-then r1 (runs-then (runs-then r2 r3) r4)
+
+      at-last : {d5 : Device} → StopsWithin (set_operations committer 0 superblock_word) d4 d5 → StopsWithin (format_operations layout) d0 d5
+      at-last stop = stops-then before_last stop
+
+      whole : {d5 : Device} → Runs (set_operations committer 0 superblock_word) d4 d5 → Runs (format_operations layout) d0 d5
+      whole r5 = runs-then before_last r5
+
 pub set_word-requires : goal.set_word-requires
-set_word-requires g c =
-    let state = g.D.Pmem.state in
-    let layout = c.args.geometry in
-    let limits = c.requires.limits in
-    let d0 = state c.args.device.now in
-    omega (arith, c.requires.size, log_within layout)
+set_word-requires g c = omega (arith, c.requires.size, log_within c.args.geometry)
 
-pub returns-in_err-set_word-clause-images : goal.returns-in_err-set_word-clause-images
-returns-in_err-set_word-clause-images g c =
-    let state = g.D.Pmem.state in
-    let layout = c.args.geometry in
-    let limits = c.requires.limits in
-    let d0 = state c.args.device.now in
-    stage1-images layout limits d0 (state c.set_word.new.device) c.requires.size c.in_err-set_word.ensures.keeps
+pub returns-in_err-set_word-clause-stopped : goal.returns-in_err-set_word-clause-stopped
+returns-in_err-set_word-clause-stopped g c = on_err c.from_residual.result (at-first c.args.geometry c.in_err-set_word.ensures.stopped)
 
-pub clear-requires-clause-some : goal.clear-requires-clause-some
-clear-requires-clause-some g c =
-    let state = g.D.Pmem.state in
-    let layout = c.args.geometry in
-    let limits = c.requires.limits in
-    let d0 = state c.args.device.now in
-    let d1 = state c.set_word.new.device in
-    let k1 = c.in_ok-set_word.ensures.keeps in
-    let h1 = c.in_ok-set_word.ensures.holds in
-    (enough1 layout limits d0 d1 c.requires.size k1 h1).0
+pub clear-requires : goal.clear-requires
+clear-requires g c = omega (arith, c.requires.size, words-run c.in_ok-set_word.ensures.run, log_within c.args.geometry)
 
-pub clear-requires-clause-lines : goal.clear-requires-clause-lines
-clear-requires-clause-lines g c =
+pub returns-in_err-clear-clause-stopped : goal.returns-in_err-clear-clause-stopped
+returns-in_err-clear-clause-stopped g c =
     let state = g.D.Pmem.state in
-    let layout = c.args.geometry in
-    let limits = c.requires.limits in
-    let d0 = state c.args.device.now in
-    let d1 = state c.set_word.new.device in
-    let k1 = c.in_ok-set_word.ensures.keeps in
-    let h1 = c.in_ok-set_word.ensures.holds in
-    (enough1 layout limits d0 d1 c.requires.size k1 h1).1
-
-pub returns-in_err-clear-clause-images : goal.returns-in_err-clear-clause-images
-returns-in_err-clear-clause-images g c =
-    let state = g.D.Pmem.state in
-    let layout = c.args.geometry in
-    let limits = c.requires.limits in
-    let d0 = state c.args.device.now in
-    let d1 = state c.set_word.new.device in
-    let k1 = c.in_ok-set_word.ensures.keeps in
-    let h1 = c.in_ok-set_word.ensures.holds in
-    let d2 = state c.clear.new.device in
-    (begun2 layout limits d0 d1 c.requires.size k1 h1 d2 c.in_err-clear.ensures.others).images
+    let size = words-run c.in_ok-set_word.ensures.run ∙ c.requires.size in
+    on_err c.from_residual-in_err-clear.result
+    (at-clear c.args.geometry c.in_ok-set_word.ensures.run (subst (λ (n : ℕ). StopsWithin (clear_operations n) (state c.set_word.new.device) (state c.clear.new.device)) size c.in_err-clear.ensures.stopped))
 
 pub write_record-requires : goal.write_record-requires
-write_record-requires g c =
-    let state = g.D.Pmem.state in
-    let layout = c.args.geometry in
-    let limits = c.requires.limits in
-    let d0 = state c.args.device.now in
-    let d1 = state c.set_word.new.device in
-    let k1 = c.in_ok-set_word.ensures.keeps in
-    let h1 = c.in_ok-set_word.ensures.holds in
-    let d2 = state c.clear.new.device in
-    size2 layout limits d0 d1 c.requires.size k1 h1 d2 c.in_ok-clear.ensures.others
+write_record-requires g c = words-run c.in_ok-clear.ensures.run ∙ words-run c.in_ok-set_word.ensures.run ∙ c.requires.size
 
-pub returns-in_err-write_record-clause-images : goal.returns-in_err-write_record-clause-images
-returns-in_err-write_record-clause-images g c =
+pub returns-in_err-write_record-clause-stopped : goal.returns-in_err-write_record-clause-stopped
+returns-in_err-write_record-clause-stopped g c =
     let state = g.D.Pmem.state in
-    let layout = c.args.geometry in
-    let limits = c.requires.limits in
-    let d0 = state c.args.device.now in
-    let d1 = state c.set_word.new.device in
-    let k1 = c.in_ok-set_word.ensures.keeps in
-    let h1 = c.in_ok-set_word.ensures.holds in
-    let d2 = state c.clear.new.device in
-    let d3 = state c.write_record.new.device in
-    let s2 = c.in_ok-clear.ensures.others in
-    let s3 = subst (λ (r : Record). Spares (IsOutside (begun layout r)) d2 d3) c.first_record.ensures c.in_err-write_record.ensures.outside in
-    (begun3 layout limits d0 d1 c.requires.size k1 h1 d2 s2 d3 s3).images
+    let size = words-run c.in_ok-set_word.ensures.run ∙ c.requires.size in
+    let r2 = subst (λ (n : ℕ). Runs (clear_operations n) (state c.set_word.new.device) (state c.clear.new.device)) size c.in_ok-clear.ensures.run in
+    on_err c.from_residual-in_err-write_record.result
+    (at-record c.args.geometry c.in_ok-set_word.ensures.run r2 (subst (λ (r : Record). StopsWithin (record_operations c.args.geometry r) (state c.clear.new.device) (state c.write_record.new.device)) c.first_record.ensures c.in_err-write_record.ensures.stopped))
 
-pub returns-in_err-write_geometry-clause-images : goal.returns-in_err-write_geometry-clause-images
-returns-in_err-write_geometry-clause-images g c =
-    let state = g.D.Pmem.state in
-    let layout = c.args.geometry in
-    let limits = c.requires.limits in
-    let d0 = state c.args.device.now in
-    let d1 = state c.set_word.new.device in
-    let k1 = c.in_ok-set_word.ensures.keeps in
-    let h1 = c.in_ok-set_word.ensures.holds in
-    let d2 = state c.clear.new.device in
-    let d3 = state c.write_record.new.device in
-    let s2 = c.in_ok-clear.ensures.others in
-    let s3 = subst (λ (r : Record). Spares (IsOutside (begun layout r)) d2 d3) c.first_record.ensures c.in_ok-write_record.ensures.outside in
-    let d4 = state c.write_geometry.new.device in
-    (begun4 layout limits d0 d1 c.requires.size k1 h1 d2 s2 d3 s3 d4 c.in_err-write_geometry.ensures.others).images
+pub write_geometry-requires : goal.write_geometry-requires
+write_geometry-requires g c = omega (arith, c.requires.size, words-run c.in_ok-set_word.ensures.run, words-run c.in_ok-clear.ensures.run, words-run c.in_ok-write_record.ensures.run, log_within c.args.geometry)
 
-pub returns-in_err-done-clause-images : goal.returns-in_err-done-clause-images
-returns-in_err-done-clause-images g c =
+pub returns-in_err-write_geometry-clause-stopped : goal.returns-in_err-write_geometry-clause-stopped
+returns-in_err-write_geometry-clause-stopped g c =
     let state = g.D.Pmem.state in
-    let layout = c.args.geometry in
-    let limits = c.requires.limits in
-    let d0 = state c.args.device.now in
-    let d1 = state c.set_word.new.device in
-    let k1 = c.in_ok-set_word.ensures.keeps in
-    let h1 = c.in_ok-set_word.ensures.holds in
-    let d2 = state c.clear.new.device in
-    let d3 = state c.write_record.new.device in
-    let s2 = c.in_ok-clear.ensures.others in
-    let s3 = subst (λ (r : Record). Spares (IsOutside (begun layout r)) d2 d3) c.first_record.ensures c.in_ok-write_record.ensures.outside in
-    let d4 = state c.write_geometry.new.device in
-    let s4 = c.in_ok-write_geometry.ensures.others in
-    let d5 = state c.set_word-2.new.device in
-    let h2 = c.in_ok-clear.ensures.holds in
-    let h3 = subst (λ (r : Record). (before : ℕ) → IsWriting before (begun layout r) d2 → IsWriting before (finished layout r) d3) c.first_record.ensures c.in_ok-write_record.ensures.place in
-    let h4 = c.in_ok-write_geometry.ensures.holds in
-    stage5-images layout limits d0 d1 c.requires.size k1 h1 d2 s2 d3 s3 d4 s4 h2 h3 h4 d5 c.in_err-done.ensures.keeps
+    let size = words-run c.in_ok-set_word.ensures.run ∙ c.requires.size in
+    let r2 = subst (λ (n : ℕ). Runs (clear_operations n) (state c.set_word.new.device) (state c.clear.new.device)) size c.in_ok-clear.ensures.run in
+    let r3 = subst (λ (r : Record). Runs (record_operations c.args.geometry r) (state c.clear.new.device) (state c.write_record.new.device)) c.first_record.ensures c.in_ok-write_record.ensures.run in
+    on_err c.from_residual-in_err-write_geometry.result (at-geometry c.args.geometry c.in_ok-set_word.ensures.run r2 r3 c.in_err-write_geometry.ensures.stopped)
 
-pub returns-clause-images : goal.returns-clause-images
-returns-clause-images g c =
-    let state = g.D.Pmem.state in
-    let layout = c.args.geometry in
-    let limits = c.requires.limits in
-    let d0 = state c.args.device.now in
-    let d1 = state c.set_word.new.device in
-    let k1 = c.in_ok-set_word.ensures.keeps in
-    let h1 = c.in_ok-set_word.ensures.holds in
-    let d2 = state c.clear.new.device in
-    let d3 = state c.write_record.new.device in
-    let s2 = c.in_ok-clear.ensures.others in
-    let s3 = subst (λ (r : Record). Spares (IsOutside (begun layout r)) d2 d3) c.first_record.ensures c.in_ok-write_record.ensures.outside in
-    let d4 = state c.write_geometry.new.device in
-    let s4 = c.in_ok-write_geometry.ensures.others in
-    let d5 = state c.set_word-2.new.device in
-    let h2 = c.in_ok-clear.ensures.holds in
-    let h3 = subst (λ (r : Record). (before : ℕ) → IsWriting before (begun layout r) d2 → IsWriting before (finished layout r) d3) c.first_record.ensures c.in_ok-write_record.ensures.place in
-    let h4 = c.in_ok-write_geometry.ensures.holds in
-    stage5-images layout limits d0 d1 c.requires.size k1 h1 d2 s2 d3 s3 d4 s4 h2 h3 h4 d5 c.in_ok-done.ensures.keeps
+pub set_word-requires-2 : goal.set_word-requires-2
+set_word-requires-2 g c =
+    omega (arith, c.requires.size, words-run c.in_ok-set_word.ensures.run, words-run c.in_ok-clear.ensures.run, words-run c.in_ok-write_record.ensures.run, words-run c.in_ok-write_geometry.ensures.run, log_within c.args.geometry)
 
-pub returns-clause-settled : goal.returns-clause-settled
-returns-clause-settled g c =
+pub returns-in_err-done-clause-stopped : goal.returns-in_err-done-clause-stopped
+returns-in_err-done-clause-stopped g c =
     let state = g.D.Pmem.state in
-    let layout = c.args.geometry in
-    let limits = c.requires.limits in
-    let d0 = state c.args.device.now in
-    let d1 = state c.set_word.new.device in
-    let k1 = c.in_ok-set_word.ensures.keeps in
-    let h1 = c.in_ok-set_word.ensures.holds in
-    let d2 = state c.clear.new.device in
-    let d3 = state c.write_record.new.device in
-    let s2 = c.in_ok-clear.ensures.others in
-    let s3 = subst (λ (r : Record). Spares (IsOutside (begun layout r)) d2 d3) c.first_record.ensures c.in_ok-write_record.ensures.outside in
-    let d4 = state c.write_geometry.new.device in
-    let s4 = c.in_ok-write_geometry.ensures.others in
-    let d5 = state c.set_word-2.new.device in
-    let h2 = c.in_ok-clear.ensures.holds in
-    let h3 = subst (λ (r : Record). (before : ℕ) → IsWriting before (begun layout r) d2 → IsWriting before (finished layout r) d3) c.first_record.ensures c.in_ok-write_record.ensures.place in
-    let h4 = c.in_ok-write_geometry.ensures.holds in
-    all-settled layout limits d0 d1 c.requires.size k1 h1 d2 s2 d3 s3 d4 s4 h2 h3 h4 d5 c.in_ok-done.ensures.keeps c.in_ok-done.ensures.holds c.in_ok-done.ensures.others
+    let size = words-run c.in_ok-set_word.ensures.run ∙ c.requires.size in
+    let r2 = subst (λ (n : ℕ). Runs (clear_operations n) (state c.set_word.new.device) (state c.clear.new.device)) size c.in_ok-clear.ensures.run in
+    let r3 = subst (λ (r : Record). Runs (record_operations c.args.geometry r) (state c.clear.new.device) (state c.write_record.new.device)) c.first_record.ensures c.in_ok-write_record.ensures.run in
+    on_err c.from_residual-in_err-done.result (at-last c.args.geometry c.in_ok-set_word.ensures.run r2 r3 c.in_ok-write_geometry.ensures.run c.in_err-done.ensures.stopped)
 
-pub returns-clause-made : goal.returns-clause-made
-returns-clause-made g c =
+pub returns-clause-run : goal.returns-clause-run
+returns-clause-run g c =
     let state = g.D.Pmem.state in
-    let layout = c.args.geometry in
-    let limits = c.requires.limits in
-    let d0 = state c.args.device.now in
-    let d1 = state c.set_word.new.device in
-    let k1 = c.in_ok-set_word.ensures.keeps in
-    let h1 = c.in_ok-set_word.ensures.holds in
-    let d2 = state c.clear.new.device in
-    let d3 = state c.write_record.new.device in
-    let s2 = c.in_ok-clear.ensures.others in
-    let s3 = subst (λ (r : Record). Spares (IsOutside (begun layout r)) d2 d3) c.first_record.ensures c.in_ok-write_record.ensures.outside in
-    let d4 = state c.write_geometry.new.device in
-    let s4 = c.in_ok-write_geometry.ensures.others in
-    let d5 = state c.set_word-2.new.device in
-    let h2 = c.in_ok-clear.ensures.holds in
-    let h3 = subst (λ (r : Record). (before : ℕ) → IsWriting before (begun layout r) d2 → IsWriting before (finished layout r) d3) c.first_record.ensures c.in_ok-write_record.ensures.place in
-    let h4 = c.in_ok-write_geometry.ensures.holds in
-    let e = enough1 layout limits d0 d1 c.requires.size k1 h1 in
-    all-made layout d0 d1 d2 d3 d4 d5 (size1 layout limits d0 d1 c.requires.size k1 h1) e.0 e.1 c.in_ok-set_word.ensures.made c.in_ok-clear.ensures.made c.in_ok-write_record.ensures.made c.in_ok-write_geometry.ensures.made c.in_ok-done.ensures.made
+    let size = words-run c.in_ok-set_word.ensures.run ∙ c.requires.size in
+    let r2 = subst (λ (n : ℕ). Runs (clear_operations n) (state c.set_word.new.device) (state c.clear.new.device)) size c.in_ok-clear.ensures.run in
+    let r3 = subst (λ (r : Record). Runs (record_operations c.args.geometry r) (state c.clear.new.device) (state c.write_record.new.device)) c.first_record.ensures c.in_ok-write_record.ensures.run in
+    whole c.args.geometry c.in_ok-set_word.ensures.run r2 r3 c.in_ok-write_geometry.ensures.run c.in_ok-done.ensures.run

@@ -1,6 +1,7 @@
 use Rattle.std.proofs.Common.{length, ◌∙◌, ap}
 use Rattle.pmem.specs.Words.{image_of}
-use Rattle.recovery.proofs.Lives.{under, ruled-size}
+use Rattle.recovery.proofs.Kept.{ruled-size}
+use Rattle.recovery.proofs.Lives.{under}
 use Rattle.recovery.proofs.WhatIsRead.{refusal-log, refusal-slots, refusal-memory, is-read}
 use Rattle.recovery.proofs.Readings.{readings-size}
 use Rattle.recovery.proofs.reading.read_device.Goals as goal

@@ -1,11 +1,14 @@
 use Rattle.std.proofs.Common.{◌≡◌, ◌<◌, ◌+◌, ℕ, length, sym, ap, ◌∙◌, subst, arith}
+use Rattle.base.specs.Actors.{committer}
 use Rattle.base.proofs.Results.{on_err}
-use Rattle.pmem.specs.Words.{image_of}
-use Rattle.pmem.proofs.Runs.{keeps-fenced, keeps-failed}
-use Rattle.recovery.proofs.Lives.{may-rule, ruled-size}
-use Rattle.recovery.proofs.SweptSlots.{IsSweptUpTo, swept-none, swept-more, swept-error, swept-few, fence-few, swept-rests, swept-spares, swept-image, swept-made}
+use Rattle.pmem.specs.Trace.{fence_op, Runs}
+use Rattle.pmem.specs.Words.{value_of, image_of}
+use Rattle.pmem.proofs.Traces.{runs_none, runs-more, stops-one, stops-then, words-run}
+use Rattle.recovery.specs.Sweeping.{sweep_below}
+use Rattle.recovery.proofs.Kept.{ruled-size}
+use Rattle.recovery.proofs.Lives.{may-rule}
+use Rattle.recovery.proofs.SweptSlots.{hit-is, swept-hit, swept-unhit, stops-hit}
 use Rattle.recovery.proofs.Hits.{hits-size, hit-at}
-use Rattle.recovery.proofs.Unhit.{swept-past}
 use Rattle.recovery.proofs.sweeping.sweep.Goals as goal
 use Rattle.recovery.proofs.sweeping.sweep.Goals.{then-hits-slot+in_ok-sweep_slot, else-hits-slot}
 
@@ -13,35 +16,10 @@ pub sweep_slot-requires-clause-may_rule : goal.sweep_slot-requires-clause-may_ru
 sweep_slot-requires-clause-may_rule g c = may-rule c.args.geometry c.args.ruling (image_of (g.D.Pmem.state c.args.device.now)) c.requires.rules
 
 pub sweep_slot-requires-clause-size : goal.sweep_slot-requires-clause-size
-sweep_slot-requires-clause-size g c =
-    c.loop-slot.invariant.kept.images.continues.same_words ∙ ruled-size (g.D.Pmem.state c.args.device.now) c.args.geometry c.args.ruling c.requires.rules
+sweep_slot-requires-clause-size g c = words-run c.loop-slot.invariant ∙ ruled-size (g.D.Pmem.state c.args.device.now) c.args.geometry c.args.ruling c.requires.rules
 
 pub loop-slot-init : goal.loop-slot-init
-loop-slot-init g c =
-    let start = g.D.Pmem.state c.args.device.now in
-    swept-none c.args.geometry c.args.ruling start (g.met.D.Pmem.orderly c.args.device.now)
-
-pub returns-in_err-sweep_slot-clause-kept : goal.returns-in_err-sweep_slot-clause-kept
-returns-in_err-sweep_slot-clause-kept g c =
-    let start = g.D.Pmem.state c.args.device.now in
-    let rules = c.requires.rules in
-    swept-error c.args.geometry c.args.ruling start rules (ruled-size start c.args.geometry c.args.ruling rules)
-    c.loop-slot.slot (omega (arith, c.loop-slot-test.true, c.slots-slot-end.ensures.value)) (g.D.Pmem.state c.loop-slot.device) c.loop-slot.invariant (g.D.Pmem.state c.sweep_slot.new.device) c.in_err-sweep_slot.ensures.kept
-
-pub returns-in_err-sweep_slot-clause-few : goal.returns-in_err-sweep_slot-clause-few
-returns-in_err-sweep_slot-clause-few g c =
-    let start = g.D.Pmem.state c.args.device.now in
-    let rules = c.requires.rules in
-    on_err c.from_residual.result (swept-few c.args.geometry c.args.ruling start rules (ruled-size start c.args.geometry c.args.ruling rules)
-    c.loop-slot.slot (omega (arith, c.loop-slot-test.true, c.slots-slot-end.ensures.value)) (g.D.Pmem.state c.loop-slot.device) c.loop-slot.invariant (g.D.Pmem.state c.sweep_slot.new.device) c.in_err-sweep_slot.ensures.few)
-
-pub returns-in_err-fence-clause-few : goal.returns-in_err-fence-clause-few
-returns-in_err-fence-clause-few g c =
-    let start = g.D.Pmem.state c.args.device.now in
-    let rules = c.requires.rules in
-    let done : c.loop-slot.slot ≡ c.args.geometry.slots = omega (arith, c.loop-slot-test.false, c.loop-slot.auto.slot-end, c.slots-slot-end.ensures.value) in
-    let inv = subst (λ (n : ℕ). IsSweptUpTo c.args.geometry c.args.ruling start n (g.D.Pmem.state c.loop-slot.device)) done c.loop-slot.invariant in
-    on_err c.from_residual-in_err-fence.result (fence-few c.args.geometry c.args.ruling start rules (g.D.Pmem.state c.loop-slot.device) (g.D.Pmem.state c.fence.new.self) inv c.in_err-fence.ensures.err)
+loop-slot-init g c = runs_none (g.D.Pmem.state c.args.device.now) (g.met.D.Pmem.orderly c.args.device.now)
 
 pub bounds-hits-slot : goal.bounds-hits-slot
 bounds-hits-slot g c = omega (arith, c.loop-slot-test.true, c.slots-slot-end.ensures.value, ap length c.requires.hits, hits-size (image_of (g.D.Pmem.state c.args.device.now)) c.args.geometry.slots)
@@ -49,64 +27,39 @@ bounds-hits-slot g c = omega (arith, c.loop-slot-test.true, c.slots-slot-end.ens
 pub loop-slot-preserved : goal.loop-slot-preserved
 loop-slot-preserved g c =
     let start = g.D.Pmem.state c.args.device.now in
-    let rules = c.requires.rules in
-    let size = ruled-size start c.args.geometry c.args.ruling rules in
     let slot = c.loop-slot.slot in
     let within : slot < c.args.geometry.slots = omega (arith, c.loop-slot-test.true, c.slots-slot-end.ensures.value) in
-    let hit = hit-at (image_of start) c.args.geometry.slots slot _ c.args.hits.now c.requires.hits within in
+    let hit = sym (hit-is c.args.geometry c.args.ruling start c.requires.rules (ruled-size start c.args.geometry c.args.ruling c.requires.rules) slot within) ∙ sym (hit-at (image_of start) c.args.geometry.slots slot _ c.args.hits.now c.requires.hits within) in
     elim c.if-hits-slot.branch [
       | then-hits-slot+in_ok-sweep_slot w ↦
-          subst (λ device. IsSweptUpTo c.args.geometry c.args.ruling start (slot + 1) (g.D.Pmem.state device)) (sym w.device-is)
-          (swept-more c.args.geometry c.args.ruling start rules size slot within (g.D.Pmem.state c.loop-slot.device) c.loop-slot.invariant (g.D.Pmem.state w.sweep_slot.new.device) w.in_ok-sweep_slot.ensures.ok w.in_ok-sweep_slot.ensures.kept)
+          subst (λ device. Runs (sweep_below c.args.geometry c.args.ruling (value_of start) (slot + 1)) start (g.D.Pmem.state device)) (sym w.device-is)
+          (swept-hit c.args.geometry c.args.ruling start slot c.loop-slot.invariant (hit ∙ w.if-hits-slot.true) w.in_ok-sweep_slot.ensures.run)
       | else-hits-slot w ↦
-          subst (λ device. IsSweptUpTo c.args.geometry c.args.ruling start (slot + 1) (g.D.Pmem.state device)) (sym w.device-is)
-          (swept-past c.args.geometry c.args.ruling start rules size slot within (g.D.Pmem.state c.loop-slot.device) (g.met.D.Pmem.orderly c.loop-slot.device) c.loop-slot.invariant (sym hit ∙ w.if-hits-slot.false))
+          subst (λ device. Runs (sweep_below c.args.geometry c.args.ruling (value_of start) (slot + 1)) start (g.D.Pmem.state device)) (sym w.device-is)
+          (swept-unhit c.args.geometry c.args.ruling start slot c.loop-slot.invariant (hit ∙ w.if-hits-slot.false))
     ]
 
-pub returns-in_err-fence-clause-kept : goal.returns-in_err-fence-clause-kept
-returns-in_err-fence-clause-kept g c =
+pub returns-in_err-sweep_slot-clause-stopped : goal.returns-in_err-sweep_slot-clause-stopped
+returns-in_err-sweep_slot-clause-stopped g c =
+    let start = g.D.Pmem.state c.args.device.now in
+    let slot = c.loop-slot.slot in
+    let within : slot < c.args.geometry.slots = omega (arith, c.loop-slot-test.true, c.slots-slot-end.ensures.value) in
+    let hit = sym (hit-is c.args.geometry c.args.ruling start c.requires.rules (ruled-size start c.args.geometry c.args.ruling c.requires.rules) slot within) ∙ sym (hit-at (image_of start) c.args.geometry.slots slot _ c.args.hits.now c.requires.hits within) in
+    on_err c.from_residual.result (stops-hit c.args.geometry c.args.ruling start slot c.loop-slot.invariant (hit ∙ c.if-hits-slot.true) within c.in_err-sweep_slot.ensures.stopped)
+
+pub returns-in_err-fence-clause-stopped : goal.returns-in_err-fence-clause-stopped
+returns-in_err-fence-clause-stopped g c =
+    let state = g.D.Pmem.state in
     let orderly = g.met.D.Pmem.orderly in
-    keeps-failed (orderly c.loop-slot.device) (orderly c.fence.new.self) c.loop-slot.invariant.kept c.in_err-fence.ensures.err
-
-pub returns-clause-kept : goal.returns-clause-kept
-returns-clause-kept g c =
-    let orderly = g.met.D.Pmem.orderly in
-    keeps-fenced 0 (orderly c.loop-slot.device) (orderly c.fence.new.self) c.loop-slot.invariant.kept c.in_ok-fence.ensures.ok
-
-pub returns-clause-others : goal.returns-clause-others
-returns-clause-others g c =
-    let start = g.D.Pmem.state c.args.device.now in
-    let orderly = g.met.D.Pmem.orderly in
-    let rules = c.requires.rules in
+    let start = state c.args.device.now in
     let done : c.loop-slot.slot ≡ c.args.geometry.slots = omega (arith, c.loop-slot-test.false, c.loop-slot.auto.slot-end, c.slots-slot-end.ensures.value) in
-    let inv = subst (λ (n : ℕ). IsSweptUpTo c.args.geometry c.args.ruling start n (g.D.Pmem.state c.loop-slot.device)) done c.loop-slot.invariant in
-    swept-spares c.args.geometry c.args.ruling start rules (ruled-size start c.args.geometry c.args.ruling rules) c.requires.at_rest
-    (g.D.Pmem.state c.loop-slot.device) (g.D.Pmem.state c.fence.new.self) inv c.in_ok-fence.ensures.ok
-    (keeps-fenced 0 (orderly c.loop-slot.device) (orderly c.fence.new.self) c.loop-slot.invariant.kept c.in_ok-fence.ensures.ok)
+    let all = subst (λ (n : ℕ). Runs (sweep_below c.args.geometry c.args.ruling (value_of start) n) start (state c.loop-slot.device)) done c.loop-slot.invariant in
+    on_err c.from_residual-in_err-fence.result (stops-then all (stops-one (fence_op committer) (state c.loop-slot.device) (state c.fence.new.self) (orderly c.loop-slot.device) (orderly c.fence.new.self) c.in_err-fence.ensures.err))
 
-pub returns-clause-rest : goal.returns-clause-rest
-returns-clause-rest g c =
-    let start = g.D.Pmem.state c.args.device.now in
-    let rules = c.requires.rules in
+pub returns-clause-run : goal.returns-clause-run
+returns-clause-run g c =
+    let state = g.D.Pmem.state in
+    let start = state c.args.device.now in
     let done : c.loop-slot.slot ≡ c.args.geometry.slots = omega (arith, c.loop-slot-test.false, c.loop-slot.auto.slot-end, c.slots-slot-end.ensures.value) in
-    let inv = subst (λ (n : ℕ). IsSweptUpTo c.args.geometry c.args.ruling start n (g.D.Pmem.state c.loop-slot.device)) done c.loop-slot.invariant in
-    swept-rests c.args.geometry c.args.ruling start rules (ruled-size start c.args.geometry c.args.ruling rules) c.requires.at_rest
-    (g.D.Pmem.state c.loop-slot.device) (g.D.Pmem.state c.fence.new.self) inv c.in_ok-fence.ensures.ok
-
-pub returns-clause-image : goal.returns-clause-image
-returns-clause-image g c =
-    let start = g.D.Pmem.state c.args.device.now in
-    let rules = c.requires.rules in
-    let done : c.loop-slot.slot ≡ c.args.geometry.slots = omega (arith, c.loop-slot-test.false, c.loop-slot.auto.slot-end, c.slots-slot-end.ensures.value) in
-    let inv = subst (λ (n : ℕ). IsSweptUpTo c.args.geometry c.args.ruling start n (g.D.Pmem.state c.loop-slot.device)) done c.loop-slot.invariant in
-    swept-image c.args.geometry c.args.ruling start rules (ruled-size start c.args.geometry c.args.ruling rules) c.requires.at_rest
-    (g.D.Pmem.state c.loop-slot.device) (g.D.Pmem.state c.fence.new.self) inv c.in_ok-fence.ensures.ok
-
-pub returns-clause-made : goal.returns-clause-made
-returns-clause-made g c =
-    let start = g.D.Pmem.state c.args.device.now in
-    let rules = c.requires.rules in
-    let done : c.loop-slot.slot ≡ c.args.geometry.slots = omega (arith, c.loop-slot-test.false, c.loop-slot.auto.slot-end, c.slots-slot-end.ensures.value) in
-    let inv = subst (λ (n : ℕ). IsSweptUpTo c.args.geometry c.args.ruling start n (g.D.Pmem.state c.loop-slot.device)) done c.loop-slot.invariant in
-    swept-made c.args.geometry c.args.ruling start rules (ruled-size start c.args.geometry c.args.ruling rules) c.requires.at_rest
-    (g.D.Pmem.state c.loop-slot.device) (g.D.Pmem.state c.fence.new.self) inv c.in_ok-fence.ensures.ok
+    let all = subst (λ (n : ℕ). Runs (sweep_below c.args.geometry c.args.ruling (value_of start) n) start (state c.loop-slot.device)) done c.loop-slot.invariant in
+    runs-more (sweep_below c.args.geometry c.args.ruling (value_of start) c.args.geometry.slots) (fence_op committer) start (state c.loop-slot.device) (state c.fence.new.self) (g.met.D.Pmem.orderly c.fence.new.self) c.in_ok-fence.ensures.ok all

@@ -1,70 +1,109 @@
-use Rattle.std.proofs.Common.{List, OnErr, IfOk, sym, subst, ◌≡◌}
-use Rattle.std.specs.Prelude.{Bool, false, Option, None, Result, Ok, Err}
-use Rattle.base.specs.declared.fault.Fault.{Fault}
-use Rattle.base.specs.declared.gap.Gap.{Gap}
-use Rattle.base.specs.Images.{opening_fault}
+use Rattle.std.proofs.Common.{◌≡◌, ℕ, List, OnErr, OnOk, IfOk, sym, subst}
+use Rattle.std.specs.Prelude.{Result, Ok, Err}
+use Rattle.base.specs.Commits.{Commit}
+use Rattle.base.specs.Images.{Image}
 use Rattle.base.specs.Layout.{Layout, opened_layout}
-use Rattle.machine.specs.Openings.{record_counts, update_counts, updated}
-use Rattle.base.specs.Records.{Record}
+use Rattle.base.specs.Records.{opened_gaps}
+use Rattle.base.specs.Stands.{Stands}
+use Rattle.base.specs.declared.fault.Fault.{Fault}
+use Rattle.machine.specs.Openings.{StandsOpening, gaps_kept, opening_record, updated}
 use Rattle.machine.proofs.Updated.{updated-open}
 use Rattle.pmem.specs.Device.{Device}
-use Rattle.pmem.specs.Words.{image_of, Spares}
-use Rattle.base.specs.Images.{Image}
+use Rattle.pmem.specs.Trace.{Runs, StopsWithin}
+use Rattle.pmem.specs.Words.{LeavesOnly, image_of, IsAtRest}
+use Rattle.recovery.specs.declared.examining.Examined.{Examined as Found}
 use Rattle.recovery.specs.declared.opening.OpenedImage.{OpenedImage}
-use Rattle.recovery.specs.Opened.{Examined, HasOpened, HasOpenedToday, IsCutBefore, IsCutShort, MakesAll, is_updated, total}
-use Rattle.recovery.specs.declared.rows.LiveSlot.{LiveSlot}
-use Rattle.recovery.proofs.Lives.{is}
-use Rattle.recovery.proofs.Updates.{examined-updated, cut-after, images-after, version-after, has-opened-updated}
+use Rattle.recovery.specs.Opened.{Examined, IsExamined, HasOpened, IsCutShort, today_operations, update_operations}
+use Rattle.recovery.specs.Sweeping.{AreHits}
+use Rattle.recovery.proofs.Lives.{is, today-images, today-images_stopped, today-opened, today-cut}
+use Rattle.recovery.proofs.Updates.{IsUpdate, is_update, update-cut, update-images_stopped, update-first_stopped, examined-updated, cut-after, images-after, version-after, has-opened-updated}
 use Rattle.recovery.proofs.Hits.{hits-now}
 use Rattle.recovery.proofs.examining.Examined.open.Goals as goal
 
+module _ (old mid : Device) (self : Found) (rest : IsAtRest old) (ex : Examined (image_of old) self.geometry self.ruling self.gaps self.free.items self.live.items) where
+  known : IsExamined (image_of old) self.geometry self.ruling self.gaps self.free.items self.live.items
+  known = is (image_of old) self.geometry self.ruling self.gaps self.free.items self.live.items ex
+
+  -- after the update
+  module _ (today : Layout) (is-today : today ≡ opened_layout self.geometry) (run : Runs (update_operations (image_of old)) old mid) where
+    done : IsUpdate old mid
+    done = is_update rest known.opens run
+
+    examined-now : Examined (image_of mid) today self.ruling self.gaps self.free.items self.live.items
+    examined-now =
+        subst (λ (i : Image). Examined i today self.ruling self.gaps self.free.items self.live.items) (sym done.image)
+        (subst (λ (l : Layout). Examined (updated (image_of old)) l self.ruling self.gaps self.free.items self.live.items) (sym is-today)
+        (examined-updated (image_of old) (updated-open (image_of old) known.opens) self.geometry self.ruling self.gaps self.free.items self.live.items ex))
+
+    hits-mid : AreHits (image_of old) self.geometry self.gaps self.hits.items → AreHits (image_of mid) today self.gaps self.hits.items
+    hits-mid hits = hits-now (image_of old) (image_of mid) (updated-open (image_of old) known.opens) self.geometry today self.gaps self.hits.items hits done.image is-today
+
+    abbrev life : OpenedImage
+    life = record { geometry = today; ruling = opening_record today self.ruling (gaps_kept (opened_gaps self.ruling)); next = self.ruling.dirty; free = self.free; live = self.live; places = self.places }
+
+    module _ (new : Device) where
+      opened-now : (result : Result OpenedImage Fault) → IfOk result (λ l. l ≡ life) → OnOk result (Runs (today_operations today self.ruling mid) mid new) → IfOk result (λ l. HasOpened old new l.geometry l.ruling l.next l.free.items l.live.items)
+      opened-now (Ok l) same run =
+          subst (λ (l : OpenedImage). HasOpened old new l.geometry l.ruling l.next l.free.items l.live.items) (sym same)
+          (has-opened-updated old mid new known.opens done.image done.made done.others.left.continues.same_words done.others life.geometry life.ruling life.next life.free.items life.live.items
+          (today-opened mid done.rest today self.ruling self.gaps self.free.items self.live.items examined-now run))
+      opened-now (Err fault) same run = tt
+
+      cut-now : (result : Result OpenedImage Fault) → OnErr result (StopsWithin (today_operations today self.ruling mid) mid new) → OnErr result (IsCutShort old new)
+      cut-now (Ok l) stop = tt
+      cut-now (Err fault) stop = cut-after old mid new known.opens done.image done.made (today-cut mid done.rest today self.ruling self.gaps self.free.items self.live.items examined-now stop)
+
+      -- whatever a crash leaves meanwhile
+      images-now : (result : Result OpenedImage Fault) → OnOk result (Runs (today_operations today self.ruling mid) mid new) → OnErr result (StopsWithin (today_operations today self.ruling mid) mid new)
+          → (history drawn : List Commit) (next : ℕ) → Stands (image_of mid) history drawn next → LeavesOnly mid new (StandsOpening (image_of mid) history next)
+      images-now (Ok l) run stop = today-images mid done.rest today self.ruling self.gaps self.free.items self.live.items examined-now run
+      images-now (Err fault) run stop = today-images_stopped mid done.rest today self.ruling self.gaps self.free.items self.live.items examined-now stop
+
 pub update-requires-clause-opens : goal.update-requires-clause-opens
-update-requires-clause-opens g c = (is (image_of (g.D.Pmem.state c.args.device.now)) c.args.self.geometry c.args.self.ruling c.args.self.gaps c.args.self.free.items c.args.self.live.items c.requires.examined).opens
+update-requires-clause-opens g c = (known (g.D.Pmem.state c.args.device.now) (g.D.Pmem.state c.args.device.now) c.args.self c.requires.at_rest c.requires.examined).opens
 
 pub update-requires-clause-laid_out : goal.update-requires-clause-laid_out
-update-requires-clause-laid_out g c = (is (image_of (g.D.Pmem.state c.args.device.now)) c.args.self.geometry c.args.self.ruling c.args.self.gaps c.args.self.free.items c.args.self.live.items c.requires.examined).rules.laid_out
+update-requires-clause-laid_out g c = (known (g.D.Pmem.state c.args.device.now) (g.D.Pmem.state c.args.device.now) c.args.self c.requires.at_rest c.requires.examined).rules.laid_out
 
--- what was examined is known of the image as it is then
-examined-now : (before now : Image) (layout today : Layout) (r : Record) (gaps : Option (List Gap)) (free : List Bool) (live : List LiveSlot) → Examined before layout r gaps free live → now ≡ updated before → today ≡ opened_layout layout
-    → Examined now today r gaps free live
-examined-now before now layout today r gaps free live ex same is-today =
-    subst (λ (i : Image). Examined i today r gaps free live) (sym same)
-    (subst (λ (l : Layout). Examined (updated before) l r gaps free live) (sym is-today) (examined-updated before (updated-open before (is before layout r gaps free live ex).opens) layout r gaps free live ex))
+pub returns-in-Err-clause-failed : goal.returns-in-Err-clause-failed
+returns-in-Err-clause-failed g c = update-cut c.requires.at_rest (known (g.D.Pmem.state c.args.device.now) (g.D.Pmem.state c.update.new.device) c.args.self c.requires.at_rest c.requires.examined).opens c.in-Err.ensures.stopped
+
+pub returns-in-Err-clause-images : goal.returns-in-Err-clause-images
+returns-in-Err-clause-images g c = update-images_stopped c.requires.at_rest (known (g.D.Pmem.state c.args.device.now) (g.D.Pmem.state c.update.new.device) c.args.self c.requires.at_rest c.requires.examined).opens c.in-Err.ensures.stopped
+
+pub returns-in-Err-clause-version : goal.returns-in-Err-clause-version
+returns-in-Err-clause-version g c = update-first_stopped c.requires.at_rest (known (g.D.Pmem.state c.args.device.now) (g.D.Pmem.state c.update.new.device) c.args.self c.requires.at_rest c.requires.examined).opens c.in-Err.ensures.stopped
 
 pub open_today-requires-clause-examined : goal.open_today-requires-clause-examined
-open_today-requires-clause-examined g c =
-    examined-now (image_of (g.D.Pmem.state c.args.device.now)) (image_of (g.D.Pmem.state c.update.new.device)) c.args.self.geometry c.in-Ok.geometry c.args.self.ruling c.args.self.gaps c.args.self.free.items c.args.self.live.items c.requires.examined c.in-Ok.ensures.image c.in-Ok.ensures.ok
+open_today-requires-clause-examined g c = examined-now (g.D.Pmem.state c.args.device.now) (g.D.Pmem.state c.update.new.device) c.args.self c.requires.at_rest c.requires.examined c.in-Ok.geometry c.in-Ok.ensures.ok c.in-Ok.ensures.run
 
 pub open_today-requires-clause-hits : goal.open_today-requires-clause-hits
-open_today-requires-clause-hits g c =
-    let image = image_of (g.D.Pmem.state c.args.device.now) in
-    hits-now image (image_of (g.D.Pmem.state c.update.new.device)) (updated-open image (is image c.args.self.geometry c.args.self.ruling c.args.self.gaps c.args.self.free.items c.args.self.live.items c.requires.examined).opens) c.args.self.geometry c.in-Ok.geometry c.args.self.gaps c.args.self.hits.items c.requires.hits c.in-Ok.ensures.image c.in-Ok.ensures.ok
-
-module _ (old mid new : Device) (opens : opening_fault (image_of old) ≡ None) (updated-is : image_of mid ≡ updated (image_of old)) (made : MakesAll (update_counts (image_of old)) old mid) where
-  opened-then : Spares (λ word. is_updated old word ≡ false) old mid → (result : Result OpenedImage Fault) → IfOk result (λ life. HasOpenedToday mid new life.geometry life.ruling life.next life.free.items life.live.items)
-      → IfOk result (λ life. HasOpened old new life.geometry life.ruling life.next life.free.items life.live.items)
-  opened-then spares (Ok life) today = has-opened-updated old mid new opens updated-is made spares.left.continues.same_words spares life.geometry life.ruling life.next life.free.items life.live.items today
-  opened-then spares (Err fault) today = tt
-
-  cut-then : (result : Result OpenedImage Fault) → OnErr result (IsCutBefore (total (record_counts (image_of mid))) mid new) → OnErr result (IsCutShort old new)
-  cut-then (Ok life) cut = tt
-  cut-then (Err fault) cut = cut-after old mid new opens updated-is made cut
+open_today-requires-clause-hits g c = hits-mid (g.D.Pmem.state c.args.device.now) (g.D.Pmem.state c.update.new.device) c.args.self c.requires.at_rest c.requires.examined c.in-Ok.geometry c.in-Ok.ensures.ok c.in-Ok.ensures.run c.requires.hits
 
 pub returns-clause-ok : goal.returns-clause-ok
 returns-clause-ok g c =
-    opened-then (g.D.Pmem.state c.args.device.now) (g.D.Pmem.state c.update.new.device) (g.D.Pmem.state c.open_today.new.device) (is (image_of (g.D.Pmem.state c.args.device.now)) c.args.self.geometry c.args.self.ruling c.args.self.gaps c.args.self.free.items c.args.self.live.items c.requires.examined).opens c.in-Ok.ensures.image c.in-Ok.ensures.made c.in-Ok.ensures.others
-    c.open_today.result c.open_today.ensures.ok
+    opened-now (g.D.Pmem.state c.args.device.now) (g.D.Pmem.state c.update.new.device) c.args.self c.requires.at_rest c.requires.examined c.in-Ok.geometry c.in-Ok.ensures.ok c.in-Ok.ensures.run (g.D.Pmem.state c.open_today.new.device)
+    c.open_today.result c.open_today.ensures.ok c.open_today.ensures.run
 
 pub returns-clause-failed : goal.returns-clause-failed
 returns-clause-failed g c =
-    cut-then (g.D.Pmem.state c.args.device.now) (g.D.Pmem.state c.update.new.device) (g.D.Pmem.state c.open_today.new.device) (is (image_of (g.D.Pmem.state c.args.device.now)) c.args.self.geometry c.args.self.ruling c.args.self.gaps c.args.self.free.items c.args.self.live.items c.requires.examined).opens c.in-Ok.ensures.image c.in-Ok.ensures.made c.open_today.result c.open_today.ensures.failed
+    cut-now (g.D.Pmem.state c.args.device.now) (g.D.Pmem.state c.update.new.device) c.args.self c.requires.at_rest c.requires.examined c.in-Ok.geometry c.in-Ok.ensures.ok c.in-Ok.ensures.run (g.D.Pmem.state c.open_today.new.device)
+    c.open_today.result c.open_today.ensures.stopped
 
 pub returns-clause-images : goal.returns-clause-images
 returns-clause-images g c history drawn next stands =
-    images-after (g.D.Pmem.state c.args.device.now) (g.D.Pmem.state c.update.new.device) (g.D.Pmem.state c.open_today.new.device) (is (image_of (g.D.Pmem.state c.args.device.now)) c.args.self.geometry c.args.self.ruling c.args.self.gaps c.args.self.free.items c.args.self.live.items c.requires.examined).opens c.in-Ok.ensures.image c.in-Ok.ensures.made history drawn next stands
-    (c.in-Ok.ensures.images history drawn next stands) c.open_today.ensures.images
+    let old = g.D.Pmem.state c.args.device.now in
+    let mid = g.D.Pmem.state c.update.new.device in
+    let new = g.D.Pmem.state c.open_today.new.device in
+    let update = done old mid c.args.self c.requires.at_rest c.requires.examined c.in-Ok.geometry c.in-Ok.ensures.ok c.in-Ok.ensures.run in
+    images-after old mid new (known old mid c.args.self c.requires.at_rest c.requires.examined).opens update.image update.made history drawn next stands (update.images history drawn next stands)
+    (images-now old mid c.args.self c.requires.at_rest c.requires.examined c.in-Ok.geometry c.in-Ok.ensures.ok c.in-Ok.ensures.run new c.open_today.result c.open_today.ensures.run c.open_today.ensures.stopped)
 
 pub returns-clause-version : goal.returns-clause-version
 returns-clause-version g c =
-    version-after (g.D.Pmem.state c.args.device.now) (g.D.Pmem.state c.update.new.device) (g.D.Pmem.state c.open_today.new.device) (is (image_of (g.D.Pmem.state c.args.device.now)) c.args.self.geometry c.args.self.ruling c.args.self.gaps c.args.self.free.items c.args.self.live.items c.requires.examined).opens c.in-Ok.ensures.image c.in-Ok.ensures.made
-    c.in-Ok.ensures.version c.open_today.ensures.images
+    let old = g.D.Pmem.state c.args.device.now in
+    let mid = g.D.Pmem.state c.update.new.device in
+    let new = g.D.Pmem.state c.open_today.new.device in
+    let update = done old mid c.args.self c.requires.at_rest c.requires.examined c.in-Ok.geometry c.in-Ok.ensures.ok c.in-Ok.ensures.run in
+    version-after old mid new (known old mid c.args.self c.requires.at_rest c.requires.examined).opens update.image update.made update.first
+    (images-now old mid c.args.self c.requires.at_rest c.requires.examined c.in-Ok.geometry c.in-Ok.ensures.ok c.in-Ok.ensures.run new c.open_today.result c.open_today.ensures.run c.open_today.ensures.stopped)

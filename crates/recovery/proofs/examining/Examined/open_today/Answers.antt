@@ -1,8 +1,14 @@
-use Rattle.std.proofs.Common.{sym, refl, subst, arith}
+use Rattle.std.proofs.Common.{◌∙◌, subst}
+use Rattle.base.specs.Records.{Record}
+use Rattle.pmem.specs.Trace.{Runs, StopsWithin}
 use Rattle.pmem.specs.Words.{image_of}
-use Rattle.recovery.specs.declared.opening.OpenedImage.{OpenedImage}
-use Rattle.recovery.specs.Opened.{HasOpenedToday}
-use Rattle.recovery.proofs.Lives.{is, some-dirty, limit, gate-limit, target-is, device-words, next-target, images-swept, images-meanwhile, has-opened, cut-early, cut-late}
+use Rattle.pmem.proofs.Traces.{runs-then, stops-first, stops-then, words-run}
+use Rattle.log_area.specs.Writings.{record_operations}
+use Rattle.machine.specs.Openings.{gaps_kept, opening_record}
+use Rattle.base.specs.Records.{opened_gaps}
+use Rattle.recovery.specs.Opened.{gap_operations}
+use Rattle.recovery.proofs.Kept.{ruled-size}
+use Rattle.recovery.proofs.Lives.{is, some-dirty, limit, gate-limit, target-is}
 use Rattle.recovery.proofs.examining.Examined.open_today.Goals as goal
 
 -- ---- the gaps
@@ -13,14 +19,10 @@ keep_gaps-requires-clause-rules g c = (is (image_of (g.D.Pmem.state c.args.devic
 pub keep_gaps-requires-clause-gaps : goal.keep_gaps-requires-clause-gaps
 keep_gaps-requires-clause-gaps g c = (is (image_of (g.D.Pmem.state c.args.device.now)) c.args.self.geometry c.args.self.ruling c.args.self.gaps c.args.self.free.items c.args.self.live.items c.requires.examined).gaps_are
 
-pub returns-in-Err-clause-failed : goal.returns-in-Err-clause-failed
-returns-in-Err-clause-failed g c =
-    cut-early (g.D.Pmem.state c.args.device.now) (g.D.Pmem.state c.keep_gaps.new.device) (omega (arith, c.in-Err.ensures.failed)) c.in-Err.ensures.few.0 c.in-Err.ensures.few.1
-
-pub returns-in-Err-clause-images : goal.returns-in-Err-clause-images
-returns-in-Err-clause-images g c =
-    let mid = g.D.Pmem.state c.keep_gaps.new.device in
-    images-swept (g.D.Pmem.state c.args.device.now) mid mid (g.met.D.Pmem.orderly c.keep_gaps.new.device) c.requires.at_rest c.args.self.geometry c.args.self.ruling c.args.self.gaps c.args.self.free.items c.args.self.live.items c.requires.examined c.in-Err.ensures.kept
+pub returns-in-Err-clause-stopped : goal.returns-in-Err-clause-stopped
+returns-in-Err-clause-stopped g c =
+    let after = opening_record c.args.self.geometry c.args.self.ruling (gaps_kept (opened_gaps c.args.self.ruling)) in
+    stops-first {xs = gap_operations c.args.self.geometry c.args.self.ruling (g.D.Pmem.state c.args.device.now)} (record_operations c.args.self.geometry after) c.in-Err.ensures.stopped
 
 -- ---- the record
 
@@ -34,49 +36,19 @@ pub next_record-target-requires-clause-gate : goal.next_record-target-requires-c
 next_record-target-requires-clause-gate g c = gate-limit (image_of (g.D.Pmem.state c.args.device.now)) c.args.self.geometry c.args.self.ruling c.args.self.gaps c.args.self.free.items c.args.self.live.items c.requires.examined
 
 pub write_record-requires : goal.write_record-requires
-write_record-requires g c =
-    let mid = g.D.Pmem.state c.keep_gaps.new.device in
-    device-words (g.D.Pmem.state c.args.device.now) mid mid (g.met.D.Pmem.orderly c.keep_gaps.new.device) c.requires.at_rest c.args.self.geometry c.args.self.ruling c.args.self.gaps c.args.self.free.items c.args.self.live.items c.requires.examined c.in-Ok.ensures.kept
+write_record-requires g c = words-run c.in-Ok.ensures.run ∙ ruled-size (g.D.Pmem.state c.args.device.now) c.args.self.geometry c.args.self.ruling (is (image_of (g.D.Pmem.state c.args.device.now)) c.args.self.geometry c.args.self.ruling c.args.self.gaps c.args.self.free.items c.args.self.live.items c.requires.examined).rules
 
-pub returns-in-Err-write_record-clause-failed : goal.returns-in-Err-write_record-clause-failed
-returns-in-Err-write_record-clause-failed g c =
-    cut-late (g.D.Pmem.state c.args.device.now) (g.D.Pmem.state c.keep_gaps.new.device) (g.D.Pmem.state c.write_record.new.device)
-    (omega (arith, c.in-Err-write_record.ensures.failed, c.in-Ok.ensures.kept.images.continues.failures)) c.in-Ok.ensures.none c.in-Ok.ensures.made c.in-Err-write_record.ensures.few
+pub returns-in-Err-write_record-clause-stopped : goal.returns-in-Err-write_record-clause-stopped
+returns-in-Err-write_record-clause-stopped g c =
+    let same = target-is (image_of (g.D.Pmem.state c.args.device.now)) c.args.self.geometry c.args.self.ruling c.args.self.gaps c.args.self.free.items c.args.self.live.items c.requires.examined c.next_record-target.result c.in-Ok.gaps c.in-Ok.ensures.ok c.next_record-target.ensures in
+    stops-then c.in-Ok.ensures.run (subst (λ (r : Record). StopsWithin (record_operations c.args.self.geometry r) (g.D.Pmem.state c.keep_gaps.new.device) (g.D.Pmem.state c.write_record.new.device)) same c.in-Err-write_record.ensures.stopped)
 
-pub returns-in-Err-write_record-clause-images : goal.returns-in-Err-write_record-clause-images
-returns-in-Err-write_record-clause-images g c =
-    let old = g.D.Pmem.state c.args.device.now in
-    let mid = g.D.Pmem.state c.keep_gaps.new.device in
-    let new = g.D.Pmem.state c.write_record.new.device in
-    let orderly = g.met.D.Pmem.orderly c.keep_gaps.new.device in
-    let kept = c.in-Ok.ensures in
-    let target = c.next_record-target.result in
-    let same = target-is (image_of old) c.args.self.geometry c.args.self.ruling c.args.self.gaps c.args.self.free.items c.args.self.live.items c.requires.examined target c.in-Ok.gaps kept.ok c.next_record-target.ensures in
-    let follows = next-target old mid new orderly c.requires.at_rest c.args.self.geometry c.args.self.ruling c.args.self.gaps c.args.self.free.items c.args.self.live.items c.requires.examined kept.kept kept.rest kept.image target same in
-    images-meanwhile old mid new orderly c.requires.at_rest c.args.self.geometry c.args.self.ruling c.args.self.gaps c.args.self.free.items c.args.self.live.items c.requires.examined kept.kept kept.rest kept.image target same (c.in-Err-write_record.ensures.images c.args.self.ruling follows) c.in-Err-write_record.ensures.outside
-
-pub returns-in-Ok-write_record-clause-images : goal.returns-in-Ok-write_record-clause-images
-returns-in-Ok-write_record-clause-images g c =
-    let old = g.D.Pmem.state c.args.device.now in
-    let mid = g.D.Pmem.state c.keep_gaps.new.device in
-    let new = g.D.Pmem.state c.write_record.new.device in
-    let orderly = g.met.D.Pmem.orderly c.keep_gaps.new.device in
-    let kept = c.in-Ok.ensures in
-    let target = c.next_record-target.result in
-    let same = target-is (image_of old) c.args.self.geometry c.args.self.ruling c.args.self.gaps c.args.self.free.items c.args.self.live.items c.requires.examined target c.in-Ok.gaps kept.ok c.next_record-target.ensures in
-    let follows = next-target old mid new orderly c.requires.at_rest c.args.self.geometry c.args.self.ruling c.args.self.gaps c.args.self.free.items c.args.self.live.items c.requires.examined kept.kept kept.rest kept.image target same in
-    images-meanwhile old mid new orderly c.requires.at_rest c.args.self.geometry c.args.self.ruling c.args.self.gaps c.args.self.free.items c.args.self.live.items c.requires.examined kept.kept kept.rest kept.image target same (c.in-Ok-write_record.ensures.images c.args.self.ruling follows) c.in-Ok-write_record.ensures.outside
+pub returns-in-Ok-write_record-clause-run : goal.returns-in-Ok-write_record-clause-run
+returns-in-Ok-write_record-clause-run g c =
+    let same = target-is (image_of (g.D.Pmem.state c.args.device.now)) c.args.self.geometry c.args.self.ruling c.args.self.gaps c.args.self.free.items c.args.self.live.items c.requires.examined c.next_record-target.result c.in-Ok.gaps c.in-Ok.ensures.ok c.next_record-target.ensures in
+    runs-then c.in-Ok.ensures.run (subst (λ (r : Record). Runs (record_operations c.args.self.geometry r) (g.D.Pmem.state c.keep_gaps.new.device) (g.D.Pmem.state c.write_record.new.device)) same c.in-Ok-write_record.ensures.run)
 
 pub returns-in-Ok-write_record-clause-ok : goal.returns-in-Ok-write_record-clause-ok
 returns-in-Ok-write_record-clause-ok g c =
-    let old = g.D.Pmem.state c.args.device.now in
-    let mid = g.D.Pmem.state c.keep_gaps.new.device in
-    let new = g.D.Pmem.state c.write_record.new.device in
-    let orderly = g.met.D.Pmem.orderly c.keep_gaps.new.device in
-    let kept = c.in-Ok.ensures in
-    let target = c.next_record-target.result in
-    let same = target-is (image_of old) c.args.self.geometry c.args.self.ruling c.args.self.gaps c.args.self.free.items c.args.self.live.items c.requires.examined target c.in-Ok.gaps kept.ok c.next_record-target.ensures in
-    let follows = next-target old mid new orderly c.requires.at_rest c.args.self.geometry c.args.self.ruling c.args.self.gaps c.args.self.free.items c.args.self.live.items c.requires.examined kept.kept kept.rest kept.image target same in
-    let has = has-opened old mid new orderly c.requires.at_rest c.args.self.geometry c.args.self.ruling c.args.self.gaps c.args.self.free.items c.args.self.live.items c.requires.examined kept.kept kept.rest kept.image target same
-    (c.in-Ok-write_record.ensures.holds c.args.self.ruling follows) c.in-Ok-write_record.ensures.outside kept.others kept.none kept.made c.in-Ok-write_record.ensures.made c.args.self.ruling.dirty refl in
-    subst (λ (life : OpenedImage). HasOpenedToday old new life.geometry life.ruling life.next life.free.items life.live.items) (sym c.begun.ensures) has
+    let same = target-is (image_of (g.D.Pmem.state c.args.device.now)) c.args.self.geometry c.args.self.ruling c.args.self.gaps c.args.self.free.items c.args.self.live.items c.requires.examined c.next_record-target.result c.in-Ok.gaps c.in-Ok.ensures.ok c.next_record-target.ensures in
+    c.begun.ensures ∙ (λ i. record { geometry = c.args.self.geometry; ruling = same i; next = c.args.self.ruling.dirty; free = c.args.self.free; live = c.args.self.live; places = c.args.self.places })

@@ -48,7 +48,7 @@ returns-in_err-tick-clause-err g c =
     let state = g.D.Pmem.state in
     reported c.from_residual.result _ (ClosePhaseFailed c.args.self.now (state c.args.device.now) (state c.tick.new.device)) c.from_residual.ensures.1
     (fails-then c.args.self.now (state c.args.device.now) (state c.loop-cycle.device) c.loop-cycle.cycle c.loop-cycle.invariant c.requires.rests c.requires.stamped c.requires.numbered
-    (state c.tick.new.device) (g.met.D.Pmem.orderly _) (g.met.D.Pmem.orderly _) c.in_err-tick.ensures.failure _ c.in_err-tick.ensures.fault)
+    (state c.tick.new.device) (g.met.D.Pmem.orderly _) (g.met.D.Pmem.orderly _) (iff_false c.is_done.ensures c.loop-cycle-test.true) c.in_err-tick.ensures.failure _ c.in_err-tick.ensures.fault)
 
 pub loop-cycle-smaller : goal.loop-cycle-smaller
 loop-cycle-smaller g c =

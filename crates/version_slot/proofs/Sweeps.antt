@@ -1,7 +1,6 @@
 -- The operations of a sweep, from those of its parts.
 use Rattle.std.proofs.Common.{◌≡◌, ◌≢◌, ℕ, ◌+◌, ◌/◌, Bool, true, false, cond, List, [], ◌∷◌, ◌++◌, sym, ◌∙◌, ap, subst, arith}
 use Rattle.base.specs.declared.gap.Gap.{Gap}
-use Rattle.base.specs.Actors.{collector}
 use Rattle.base.specs.Layout.{Layout, slot_start}
 use Rattle.base.specs.Records.{is_in}
 use Rattle.pmem.specs.Device.{Device, IsOrderly, flushed, failed}
@@ -9,7 +8,7 @@ use Rattle.pmem.specs.Words.{value_of}
 use Rattle.pmem.specs.Trace.{Operation, store_op, flush_op, Runs, StopsWithin}
 use Rattle.pmem.proofs.OperationEffects.{value-stored_other}
 use Rattle.pmem.proofs.Traces.{runs-then, runs-more, stops-one, stops-first, stops-then}
-use Rattle.collector.specs.Sweeping.{zero_operations, sweep_operations}
+use Rattle.version_slot.specs.Operations.{zero_operations, sweep_operations}
 
 pub zero-stops : (gaps : List Gap) (word value : ℕ) (old new : Device) → is_in gaps value ≡ true → IsOrderly old → IsOrderly new → new ≡ failed old → StopsWithin (zero_operations gaps word value) old new
 zero-stops gaps word value old new gap orderly orderly' is =
@@ -23,7 +22,13 @@ zero-others gaps word value other old new apart run = by (is_in gaps value) run
     by true r = ap (λ (d : Device). value_of d other) r.made ∙ value-stored_other word 0 old other apart
     by false r = ap (λ (d : Device). value_of d other) r.made
 
-module _ (a : Layout) (gaps : List Gap) (slot start line : ℕ) (old one : Device) (at : start ≡ slot_start a slot) (first : Runs (zero_operations gaps start (value_of old start)) old one) where
+pub stops-begin : (a : Layout) (actor : ℕ) (gaps : List Gap) (slot start : ℕ) (old new : Device) → start ≡ slot_start a slot → StopsWithin (zero_operations gaps start (value_of old start)) old new → StopsWithin (sweep_operations a actor gaps (value_of old) slot) old new
+stops-begin a actor gaps slot start old new at stop =
+    let begins = zero_operations gaps (slot_start a slot) (value_of old (slot_start a slot)) in
+    let ends = zero_operations gaps (slot_start a slot + 1) (value_of old (slot_start a slot + 1)) in
+    stops-first {xs = begins ++ ends} (flush_op actor (slot_start a slot / 8) ∷ []) (stops-first {xs = begins} ends (subst (λ (k : ℕ). StopsWithin (zero_operations gaps k (value_of old k)) old new) at stop))
+
+module _ (a : Layout) (actor : ℕ) (gaps : List Gap) (slot start line : ℕ) (old one : Device) (at : start ≡ slot_start a slot) (first : Runs (zero_operations gaps start (value_of old start)) old one) where
   abbrev begins : List Operation
   begins = zero_operations gaps (slot_start a slot) (value_of old (slot_start a slot))
 
@@ -40,15 +45,15 @@ module _ (a : Layout) (gaps : List Gap) (slot start line : ℕ) (old one : Devic
   end-are : zero_operations gaps (start + 1) (value_of one (start + 1)) ≡ ends
   end-are = ap (zero_operations gaps (start + 1)) same ∙ ap (λ (k : ℕ). zero_operations gaps (k + 1) (value_of old (k + 1))) at
 
-  pub stops-end : (new : Device) → StopsWithin (zero_operations gaps (start + 1) (value_of one (start + 1))) one new → StopsWithin (sweep_operations a gaps (value_of old) slot) old new
-  stops-end new stop = stops-first (flush_op collector (slot_start a slot / 8) ∷ []) (stops-then begun (subst (λ (ops : List Operation). StopsWithin ops one new) end-are stop))
+  pub stops-end : (new : Device) → StopsWithin (zero_operations gaps (start + 1) (value_of one (start + 1))) one new → StopsWithin (sweep_operations a actor gaps (value_of old) slot) old new
+  stops-end new stop = stops-first (flush_op actor (slot_start a slot / 8) ∷ []) (stops-then begun (subst (λ (ops : List Operation). StopsWithin ops one new) end-are stop))
 
   module _ (two : Device) (second : Runs (zero_operations gaps (start + 1) (value_of one (start + 1))) one two) (new : Device) (orderly : IsOrderly two) (orderly' : IsOrderly new) where
     both : Runs (begins ++ ends) old two
     both = runs-then begun (subst (λ (ops : List Operation). Runs ops one two) end-are second)
 
-    pub stops-flush : new ≡ failed two → StopsWithin (sweep_operations a gaps (value_of old) slot) old new
-    stops-flush is = stops-then both (stops-one (flush_op collector (slot_start a slot / 8)) two new orderly orderly' is)
+    pub stops-flush : new ≡ failed two → StopsWithin (sweep_operations a actor gaps (value_of old) slot) old new
+    stops-flush is = stops-then both (stops-one (flush_op actor (slot_start a slot / 8)) two new orderly orderly' is)
 
-    pub runs-sweep : line ≡ slot_start a slot / 8 → new ≡ flushed collector line two → Runs (sweep_operations a gaps (value_of old) slot) old new
-    runs-sweep line_is is = runs-more (begins ++ ends) (flush_op collector (slot_start a slot / 8)) old two new orderly' (is ∙ ap (λ (l : ℕ). flushed collector l two) line_is) both
+    pub runs-sweep : line ≡ slot_start a slot / 8 → new ≡ flushed actor line two → Runs (sweep_operations a actor gaps (value_of old) slot) old new
+    runs-sweep line_is is = runs-more (begins ++ ends) (flush_op actor (slot_start a slot / 8)) old two new orderly' (is ∙ ap (λ (l : ℕ). flushed actor l two) line_is) both
