@@ -1,5 +1,7 @@
 -- A file: an image in place, a journal behind it, and a tail of one line.
 use Rattle.std.specs.Prelude.{◌≡◌, ◌⊎◌, ℕ, ◌+◌, ◌-◌, ◌%◌, ◌<◌, ◌≤◌, ◌^◌, Bool, true, false, ◌==◌, if◌then◌else◌, List, [], ◌∷◌, length, take, drop, slice_index}
+use Rattle.std.specs.declared.io.ErrorKind.{ErrorKind}
+use Rattle.std.specs.declared.io.ErrorKind.TheVariants.{InvalidInput, InvalidData, OutOfMemory}
 use Rattle.journal.specs.declared.line.Line.{Line}
 use Rattle.journal.specs.Kept.{IsFound}
 use Rattle.journal.specs.InPlace.{put_over}
@@ -59,6 +61,12 @@ pub record IsFile (words room count : ℕ) : Type 0 where
   pub whole : words % 8 ≡ 0
   pub fits : words + room + 8 < 2 ^ 58
   pub size : count ≡ words + room + 8
+
+-- why no image is read: the file has another length, or its pass is none, or there is no memory
+abbrev pub TellsUnread : ℕ → ℕ → List ℕ → ErrorKind → Type 0
+TellsUnread words room file kind =
+    ((kind ≡ InvalidInput) × (IsFile words room (length file) → ⊥))
+    ⊎ (((kind ≡ InvalidData) × (1 < slice_index file (words + room + 3))) ⊎ (kind ≡ OutOfMemory))
 
 -- eight words are a tail's, as far as these are the same in each
 pub record IsTail (tail : List ℕ) : Type 0 where

@@ -1,8 +1,7 @@
 ghost use Rattle.std.specs.Prelude.{◌≡◌, ◌+◌, ◌*◌, ◌<◌, ◌≤◌, ◌^◌, ◌++◌, ℕ, length, slice_index, All, IfOk, OnOk};
 ghost use Rattle.journal.specs.LinePayloads.{low, packed, line_payloads, payloads_of_lines, line_of, lines_of};
 
-use std::alloc::Global;
-use std::io;
+use std::alloc::{AllocError, Global};
 
 /// A line of eight words.
 #[derive(Clone, Copy, Debug)]
@@ -25,7 +24,7 @@ fn packed(line: &Line) -> u64
 }
 
 // Adds the payloads of a line.
-fn push_line(payloads: &mut Vec<u64>, line: &Line) -> io::Result<()>
+fn push_line(payloads: &mut Vec<u64>, line: &Line) -> Result<(), AllocError>
     requires { line.now.number < 2 ^ 55 }
     ensures { OnOk result (payloads.new.items ≡ payloads.old.items ++ line_payloads line.now) }
 {
@@ -37,7 +36,7 @@ fn push_line(payloads: &mut Vec<u64>, line: &Line) -> io::Result<()>
 }
 
 /// The payloads of lines.
-pub fn line_payloads(alloc: Global, lines: &[Line]) -> io::Result<Vec<u64>>
+pub fn line_payloads(alloc: Global, lines: &[Line]) -> Result<Vec<u64>, AllocError>
     requires { All (λ line. line.number < 2 ^ 55) lines.now }
     ensures { IfOk result (λ payloads. payloads.items ≡ payloads_of_lines lines.now) }
 {
