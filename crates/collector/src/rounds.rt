@@ -6,10 +6,10 @@ ghost use Rattle.std.specs.Prelude.{◌≡◌, OnErr, OnOk, IfErr};
 use crate::readers::Readers;
 use crate::sweeping::sweep_slot;
 use crate::visit::Visit;
-use base::SlotNo;
 use base::actor::Actor;
 use base::fault::Fault;
 use base::geometry::Geometry;
+use base::{SlotNo, Ts};
 use gap_list::GapList;
 use pmem::Pmem;
 use slot_alloc::SlotAlloc;
@@ -94,7 +94,36 @@ impl Collector {
         }
     }
 
-    // Visits the slot of the place.
+    /// The same in a life whose gaps are swept: no operation is made, so nothing fails.
+    #[inline(always)]
+    pub fn visit<D: Pmem, R: Readers>(
+        &mut self,
+        device: &D,
+        geometry: Geometry,
+        slots: &mut SlotAlloc,
+        readers: &R,
+    ) -> Visit
+        requires slots { length slots.old ≡ geometry.slots }
+        requires size { (D.state device.now).words ≡ total_words geometry }
+        ensures visit { result ≡ visit_at geometry self.old.place }
+        ensures moved { self.new ≡ moved_on geometry self.old }
+        ensures freed { slots.new ≡ freed_at geometry self.old.place (R.covered readers.now) (value_of (D.state device.now)) slots.old }
+    {
+        let slot = self.place;
+        if slot >= geometry.slots() {
+            self.place = 0;
+            self.swept = true;
+            return Visit::SweepEnd;
+        }
+        match held_end(device, geometry, slots, slot) {
+            Some(ended) if readers.cover(ended) => slots.give(slot),
+            _ => {}
+        }
+        self.place += 1;
+        Visit::Slot(slot)
+    }
+
+    // Visits the slot of the place, and sweeps it where that is due.
     #[inline(always)]
     fn visit_slot<D: Pmem, R: Readers>(
         &mut self,
@@ -117,13 +146,14 @@ impl Collector {
         ensures kept { OnErr result (slots.new ≡ slots.old) }
     {
         let slot = self.place;
-        let ended = device.load(geometry.slot_start(slot) + 1);
+        let ended = held_end(device, geometry, slots, slot);
         if self.is_due(gaps) {
             sweep_slot(device, geometry, gaps, slot)?;
         }
-        // A slot that is free stays free, whoever reads.
-        if !slots.is_free(slot) && readers.cover(ended) {
-            slots.give(slot);
+        if let Some(ended) = ended {
+            if readers.cover(ended) {
+                slots.give(slot);
+            }
         }
         self.place += 1;
         Ok(Visit::Slot(slot))
@@ -145,5 +175,25 @@ impl Collector {
         self.place = 0;
         self.swept = true;
         Ok(Visit::SweepEnd)
+    }
+}
+
+ghost use Rattle.std.specs.Prelude.{◌+◌, ◌<◌, true, IfSome, IfNone};
+ghost use Rattle.base.specs.Layout.{slot_start, total_words};
+ghost use Rattle.pmem.specs.Words.{value_of};
+ghost use Rattle.slot_alloc.specs.Free.{is_free};
+
+// The end of the version that a slot holds. A slot that is free stays free, whoever reads: of it nothing is loaded.
+#[inline(always)]
+fn held_end<D: Pmem>(device: &D, geometry: Geometry, slots: &SlotAlloc, slot: SlotNo) -> Option<Ts>
+    requires slot { slot < geometry.slots }
+    requires size { (D.state device.now).words ≡ total_words geometry }
+    ensures held { IfSome result (λ ended. ended ≡ value_of (D.state device.now) (slot_start geometry slot + 1)) }
+    ensures free { IfNone result (is_free slots.now slot ≡ true) }
+{
+    if slots.is_free(slot) {
+        None
+    } else {
+        Some(device.load(geometry.slot_start(slot) + 1))
     }
 }

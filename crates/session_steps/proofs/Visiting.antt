@@ -449,6 +449,15 @@ pub same-operations : (a : Layout) (given gaps : List Gap) (swept : Bool) (spot 
 same-operations a given gaps true spot value are = refl
 same-operations a given gaps false spot value are = ap (λ (gaps : List Gap). tick_operations a gaps false spot value) (are refl)
 
+-- and there is none then
+pub swept-runs : (a : Layout) (gaps : List Gap) (swept : Bool) (place : ℕ) (device : Device) → IsOrderly device → swept ≡ true → Runs (tick_operations a gaps swept place (value_of device)) device device
+swept-runs a gaps false place device orderly is = absurd (cc is)
+swept-runs a gaps true place device orderly is = by (nat_lt place a.slots)
+  where
+    by : (b : Bool) → Runs (cond b [] []) device device
+    by true = record { made = refl; orderly = orderly }
+    by false = record { made = refl; orderly = orderly }
+
 -- the operations of a visit keep the device's size
 pub words-kept : (a : Layout) (gaps : List Gap) (swept : Bool) (place : ℕ) (before now : Device) → Runs (tick_operations a gaps swept place (value_of before)) before now → now.words ≡ before.words
 words-kept a gaps swept place before now run =

@@ -7,7 +7,8 @@
 
 ghost use Rattle.std.specs.Prelude.{◌≡◌, ◌<◌};
 ghost use Rattle.base.specs.Layout.{total_words};
-ghost use Rattle.index.specs.Entries.{KeepsRoom};
+ghost use Rattle.index.specs.Entries.{entry_at, forgotten, KeepsRoom, Sets};
+ghost use Rattle.version_slot.specs.Words.{key_in, slot_at};
 ghost use Rattle.pmem.specs.Words.{value_of};
 ghost use Rattle.snapshot.specs.Snapshots.{seen_by};
 ghost use Rattle.session_steps.specs.Collecting.{all_cover, each_covers, ForgetsFreed};
@@ -52,13 +53,14 @@ impl<'a> SnapshotsInUse<'a> {
 impl<'a> Readers for SnapshotsInUse<'a> {
     ghost covered = { λ readers ts. all_cover (seen_by readers.numbers.now.record) readers.transactions.now ts };
 
-    #[inline(always)]
+    #[inline(never)]
     fn cover(&self, ts: Ts) -> bool {
         self.numbers.record.commits(ts) && self.each_covers(ts)
     }
 }
 
 // The index forgets the version in a slot that was visited, if the visit freed it: no entry names a slot that was free before.
+#[inline(always)]
 fn forget_freed<D: Pmem>(
     index: &mut Index,
     was_free: bool,
@@ -73,12 +75,23 @@ fn forget_freed<D: Pmem>(
     ensures room { KeepsRoom index.old index.new }
 {
     if !was_free && slots.is_free(slot) {
-        index.forget(key(device, geometry, slot), slot);
+        forget(index, device, geometry, slot);
     }
 }
 
+// The index forgets the version in a slot.
+#[inline(never)]
+fn forget<D: Pmem>(index: &mut Index, device: &D, geometry: Geometry, slot: SlotNo)
+    requires slot { slot < geometry.slots }
+    requires device { (D.state device.now).words ≡ total_words geometry }
+    ensures forgets { Sets index.old index.new (key_in (slot_at geometry slot (value_of (D.state device.now)))) (forgotten slot (entry_at index.old (key_in (slot_at geometry slot (value_of (D.state device.now)))))) }
+    ensures room { KeepsRoom index.old index.new }
+{
+    index.forget(key(device, geometry, slot), slot);
+}
+
 impl Sessions {
-    ghost use Rattle.std.specs.Prelude.{false, IfErr};
+    ghost use Rattle.std.specs.Prelude.{true, Ok, IfErr};
     ghost use Rattle.session_steps.specs.Steps.{ShowsSome};
     ghost use Rattle.session_steps.specs.Collecting.{Collects};
 
@@ -99,21 +112,18 @@ impl Sessions {
         ensures fault { IfErr result (λ fault. fault ≡ Fault.Device) }
     {
         if self.collector.has_swept() {
-            self.visit(device, &GapList::none())
+            Ok(self.visit(device))
         } else {
-            let gaps = GapList::of(self.numbers.record.gaps());
-            self.visit(device, &gaps)
+            self.sweep(device)
         }
     }
 
-    // One visit. Until the gaps are swept they are those that the ruling record names; no visit asks for them then, and none
-    // is copied.
+    // One visit once the gaps are swept.
     #[inline(always)]
-    fn visit<D: Pmem>(&mut self, device: &mut D, gaps: &GapList) -> Result<Visit, Fault>
-        requires shown { ∥ ShowsSome self.old (D.state device.old) ∥₁ }
-        requires gaps { self.old.collector.swept ≡ false → gaps.now ≡ self.old.numbers.record.gaps }
-        ensures step { Collects self.old self.new (D.state device.old) (D.state device.new) result }
-        ensures fault { IfErr result (λ fault. fault ≡ Fault.Device) }
+    fn visit<D: Pmem>(&mut self, device: &D) -> Visit
+        requires shown { ∥ ShowsSome self.old (D.state device.now) ∥₁ }
+        requires swept { self.old.collector.swept ≡ true }
+        ensures { Collects self.old self.new (D.state device.now) (D.state device.now) (Ok result) }
     {
         let geometry = self.numbers.geometry;
         let was_free = self.slots.is_free(self.collector.place());
@@ -123,7 +133,40 @@ impl Sessions {
         };
         match self
             .collector
-            .tick(device, geometry, gaps, &mut self.slots, &readers)
+            .visit(device, geometry, &mut self.slots, &readers)
+        {
+            Visit::Slot(slot) => {
+                forget_freed(
+                    &mut self.index,
+                    was_free,
+                    &self.slots,
+                    device,
+                    geometry,
+                    slot,
+                );
+                Visit::Slot(slot)
+            }
+            Visit::SweepEnd => Visit::SweepEnd,
+        }
+    }
+
+    // One visit before: the gaps are those that the ruling record names.
+    #[inline(never)]
+    fn sweep<D: Pmem>(&mut self, device: &mut D) -> Result<Visit, Fault>
+        requires shown { ∥ ShowsSome self.old (D.state device.old) ∥₁ }
+        ensures step { Collects self.old self.new (D.state device.old) (D.state device.new) result }
+        ensures fault { IfErr result (λ fault. fault ≡ Fault.Device) }
+    {
+        let gaps = GapList::of(self.numbers.record.gaps());
+        let geometry = self.numbers.geometry;
+        let was_free = self.slots.is_free(self.collector.place());
+        let readers = SnapshotsInUse {
+            numbers: &self.numbers,
+            transactions: &self.transactions,
+        };
+        match self
+            .collector
+            .tick(device, geometry, &gaps, &mut self.slots, &readers)
         {
             Ok(Visit::Slot(slot)) => {
                 forget_freed(
