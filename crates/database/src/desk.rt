@@ -7,11 +7,17 @@ use crate::steps;
 use base::Ts;
 use base::fault::Fault;
 use pmem::Pmem;
-use std::sync::atomic::{AtomicU64, Ordering};
+use std::hint::spin_loop;
 use std::sync::{Condvar, Mutex, MutexGuard, Wait};
+use std::thread;
 
 // How often in a row the committer may be refused memory while somebody waits for it.
 const REFUSALS: u64 = 100;
+
+// How often a lock is tried before others are let run, and how often they are before one sleeps.
+const LOOKS: u64 = 200;
+
+const YIELDS: u64 = 20;
 
 /// What lies under the lock.
 #[derive(Drop)]
@@ -28,8 +34,14 @@ pub struct Desk<D: Pmem> {
     pub group: Group,
     /// Somebody takes the committer's turns for those who wait.
     pub is_led: bool,
+    /// Somebody leads the group after a while, if nobody has by then.
+    pub is_watched: bool,
     /// Whoever takes a turn of the committer syncs, without the lock: nobody else makes a tick until it is done.
     pub is_syncing: bool,
+    /// A sync was made so, and a round of the collector begins beside the next one.
+    pub syncs_apart: bool,
+    /// Somebody was answered and has to be woken.
+    pub is_told: bool,
     /// The committer's worker is to be woken once nobody takes its turns.
     pub is_wanted: bool,
     /// How many commits were covered since the collector's last round.
@@ -105,6 +117,16 @@ impl<D: Pmem + Drop> Desk<D> {
         }
     }
 
+    /// How many are expected in the group that is being formed.
+    pub fn missing(&self) -> u64 {
+        self.group.missing(self.open)
+    }
+
+    /// Whether nobody is.
+    pub fn is_whole(&self) -> bool {
+        self.missing() == 0
+    }
+
     /// Whether the committer was refused memory too often.
     pub fn lacks_memory(&self) -> bool {
         REFUSALS < self.refusals
@@ -124,6 +146,7 @@ impl<D: Pmem + Drop> Desk<D> {
         if let Some(answer) = self.answer(session) {
             self.group.leave(session);
             self.leave();
+            self.is_told = true;
             answers.put(place, session, answer);
         }
     }
@@ -153,6 +176,21 @@ impl<D: Pmem + Drop> Desk<D> {
     }
 }
 
+// Takes a lock that nobody holds for long: it sleeps only after it has tried for a while. Whoever sleeps before would have to be woken,
+// and the lock would stand free until it runs.
+fn enter<'a, T, R: Wait>(rt: &R, lock: &'a Mutex<T>) -> MutexGuard<'a, T> {
+    for _ in 0..YIELDS {
+        for _ in 0..LOOKS {
+            if let Some(guard) = lock.try_lock() {
+                return guard;
+            }
+            spin_loop();
+        }
+        thread::yield_now();
+    }
+    lock.lock(rt)
+}
+
 /// What the threads share.
 #[derive(Drop)]
 pub struct Shared<D: Pmem> {
@@ -168,17 +206,14 @@ pub struct Shared<D: Pmem> {
     pub answers: Mutex<Answers>,
     /// Whoever waits for its own commit sleeps on it, and holds the answers' lock before and after.
     pub answered: Condvar,
-    /// How many more are expected in the group that is being formed.
-    pub missing: AtomicU64,
-    /// How many wait for the lock to open a transaction.
-    pub beginning: AtomicU64,
-    /// How many turns of the lock transactions have had.
-    pub turns: AtomicU64,
 }
 
 impl<D: Pmem + Drop> Shared<D> {
     ghost use Rattle.std.specs.Prelude.{IsTrue, is_some};
     ghost use Rattle.std.specs.Sync.Mutex.{mutex_guard_value};
+    ghost use Rattle.base.specs.declared.step.Step.TheVariants.{Begin};
+    ghost use Rattle.database.specs.Replies.{began_of};
+    ghost use Rattle.database.specs.Obeys.{AnswersStep};
     ghost use Rattle.database.specs.Opening.{IsFresh};
 
     /// No room yet.
@@ -191,7 +226,10 @@ impl<D: Pmem + Drop> Shared<D> {
                 open: 0,
                 group: Group::new(),
                 is_led: false,
+                is_watched: false,
                 is_syncing: false,
+                syncs_apart: false,
+                is_told: false,
                 is_wanted: false,
                 covered: u64::MAX,
                 refusals: 0,
@@ -202,18 +240,35 @@ impl<D: Pmem + Drop> Shared<D> {
             moved: Condvar::new(),
             answers: Mutex::new(Answers::new()),
             answered: Condvar::new(),
-            missing: AtomicU64::new(0),
-            beginning: AtomicU64::new(0),
-            turns: AtomicU64::new(0),
         }
+    }
+
+    /// Takes the lock.
+    pub fn enter<R: Wait>(&self, rt: &R) -> MutexGuard<'_, Desk<D>> {
+        enter(rt, &self.desk)
+    }
+
+    /// Gives the lock up, and then wakes those who are answered, so that they don't wait for it.
+    pub fn exit(&self, desk: MutexGuard<'_, Desk<D>>) {
+        let mut desk = desk;
+        let is_told = desk.is_told;
+        desk.is_told = false;
+        drop(desk);
+        if is_told {
+            self.answered.notify_all();
+        }
+    }
+
+    /// Takes the answers' lock.
+    pub fn enter_answers<R: Wait>(&self, rt: &R) -> MutexGuard<'_, Answers> {
+        enter(rt, &self.answers)
     }
 
     /// Takes the lock once the room is there, as it is from the opening to the close.
     pub fn desk<R: Wait>(&self, rt: &R) -> MutexGuard<'_, Desk<D>>
         ensures { IsTrue (is_some (mutex_guard_value result).room) }
     {
-        let mut desk = self.desk.lock(rt);
-        self.turns.fetch_add(1, Ordering::SeqCst);
+        let mut desk = self.enter(rt);
         for _ in rt.forever() {
             if desk.room.is_some() {
                 return desk;
@@ -221,6 +276,13 @@ impl<D: Pmem + Drop> Shared<D> {
             desk = self.moved.wait(rt, desk);
         }
         unreachable!()
+    }
+
+    /// Opens a transaction. The number of its session.
+    pub fn begin<R: Wait>(&self, rt: &R) -> Result<u8, Fault>
+        ensures { AnswersStep Begin began_of result }
+    {
+        self.desk(rt).begin()
     }
 
     /// Puts the room in, as its opening left it.
@@ -242,6 +304,13 @@ impl<D: Pmem + Drop> Shared<D> {
                 return;
             }
             desk = self.moved.wait(rt, desk);
+        }
+    }
+
+    /// Wakes whoever watches a group that lacks nobody since somebody won't come.
+    pub fn urge(&self, desk: &Desk<D>) {
+        if desk.is_watched && desk.is_whole() {
+            self.moved.notify_all();
         }
     }
 

@@ -44,6 +44,7 @@ fn give_up<D: Pmem + Drop, R: Wait>(rt: &R, shared: &Shared<D>, session: u8) -> 
     let mut desk = shared.desk(rt);
     let aborted = desk.abort(session);
     desk.leave();
+    shared.urge(&desk);
     aborted
 }
 

@@ -92,14 +92,14 @@ impl<D: Pmem> Desk<D> {
 
 impl<D: Pmem + Drop> Shared<D> {
     /// Answers those who wait for their commit, and wakes those whom the turn concerns besides: whoever waits for another's, and the
-    /// collector where a round is due. Whoever waits for its own sleeps on.
+    /// collector where a round is due, unless it is woken beside a sync. Whoever waits for its own sleeps on.
     pub fn tell<R: Wait>(&self, rt: &R, desk: &mut Desk<D>, turn: Turn) {
         if matches!(turn, Turn::Unfinished | Turn::Idle | Turn::Busy) {
             return;
         }
-        desk.answer_all(&mut self.answers.lock(rt));
+        desk.answer_all(&mut self.enter_answers(rt));
         self.moved.notify_all();
-        if desk.is_round_due() {
+        if desk.is_round_due() && !desk.syncs_apart {
             self.rounds.notify_all();
         }
     }
@@ -138,9 +138,13 @@ impl<D: SyncAhead + Drop> Shared<D> {
         let Some(mut pending) = desk.begin_sync() else {
             return desk;
         };
+        // The collector has the lock to itself now.
+        if desk.is_round_due() {
+            self.rounds.notify_all();
+        }
         drop(desk);
         D::sync(&mut pending);
-        let mut desk = self.desk.lock(rt);
+        let mut desk = self.enter(rt);
         desk.end_sync(pending);
         if !desk.is_led {
             self.recall(&mut desk);
@@ -165,6 +169,7 @@ impl<D: SyncAhead + Drop> Desk<D> {
         };
         let pending = room.begin_sync();
         self.is_syncing = pending.is_some();
+        self.syncs_apart = self.syncs_apart || pending.is_some();
         pending
     }
 

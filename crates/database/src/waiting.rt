@@ -29,6 +29,7 @@ impl<D: SyncAhead + Drop> Shared<D> {
             Ok(false) => {
                 let mut desk = desk;
                 desk.leave();
+                self.urge(&desk);
                 Ok(None)
             }
             Err(error) => {
@@ -75,7 +76,7 @@ impl<D: SyncAhead + Drop> Shared<D> {
         let waits = matches!(error, CommitError::Refused(Fault::Conflict(_)));
         if waits {
             desk.group.excuse();
-            self.count_missing(&desk);
+            self.urge(&desk);
         }
         let drawn = desk.last_drawn();
         for _ in rt.forever() {

@@ -1,12 +1,12 @@
 ghost use Rattle.std.specs.Prelude.{◌≡◌, ◌⊎◌, IfErr};
 ghost use Rattle.base.specs.declared.fault.Fault.TheVariants.{OutOfMemory, NoThread};
 
-use crate::desk::Shared;
+use crate::desk::{Desk, Shared};
 use crate::turns;
 use crate::turns::Turn;
 use base::fault::Fault;
 use std::alloc::Global;
-use std::sync::{Arc, Wait};
+use std::sync::{Arc, MutexGuard, Wait};
 use std::thread;
 use std::thread::Threads;
 use sync_ahead::SyncAhead;
@@ -65,40 +65,60 @@ where
 // One turn after another, until the database is closed. The lock is free between two turns.
 fn work<R: Wait + Drop, D: SyncAhead + Drop>(rt: &R, shared: &Arc<Shared<D>, Global>, duty: Duty) {
     for _ in rt.forever() {
-        let mut desk = shared.desk.lock(rt);
+        let desk = shared.enter(rt);
         if desk.closing {
             break;
         }
-        let turn = match duty {
-            Duty::Commit => {
-                let (taken, turn) = shared.take_over(rt, desk);
-                desk = taken;
-                turn
-            }
-            Duty::Collect => turns::collect(&mut desk),
-        };
-        shared.tell(rt, &mut desk, turn);
-        shared.answered.notify_all();
-        match (turn, duty) {
-            (Turn::Unfinished, _) | (Turn::Finished, Duty::Commit) => {}
-            // The record that drops swept gaps is due.
-            (Turn::Finished, Duty::Collect) => shared.commits.notify_all(),
-            (Turn::Busy, Duty::Commit) => {
-                desk.is_wanted = true;
-                drop(shared.commits.wait(rt, desk));
-            }
-            // Somebody waits, and nobody else will try again.
-            (Turn::LacksMemory, Duty::Commit) if !desk.is_led && !desk.group.is_empty() => {
-                drop(desk);
-                thread::yield_now();
-            }
-            (Turn::Idle | Turn::LacksMemory | Turn::Stopped, Duty::Commit) => {
-                drop(shared.commits.wait(rt, desk));
-            }
-            (Turn::Busy | Turn::Idle | Turn::LacksMemory | Turn::Stopped, Duty::Collect) => {
-                drop(shared.rounds.wait(rt, desk));
-            }
+        match duty {
+            Duty::Commit => commit(rt, shared, desk),
+            Duty::Collect => collect(rt, shared, desk),
         }
     }
     shared.end_working(rt);
+}
+
+// A turn of the committer, and whoever is answered is woken once the lock is free. It sleeps where there is nothing to do.
+fn commit<'a, R: Wait, D: SyncAhead + Drop>(
+    rt: &R,
+    shared: &'a Shared<D>,
+    desk: MutexGuard<'a, Desk<D>>,
+) {
+    let (mut desk, turn) = shared.take_over(rt, desk);
+    shared.tell(rt, &mut desk, turn);
+    // The end may have been told while the lock was free.
+    if desk.closing {
+        return shared.exit(desk);
+    }
+    match turn {
+        Turn::Unfinished | Turn::Finished => shared.exit(desk),
+        Turn::Busy => {
+            desk.is_wanted = true;
+            drop(shared.commits.wait(rt, desk));
+        }
+        Turn::Idle => drop(shared.commits.wait(rt, desk)),
+        // Somebody waits, and nobody else will try again.
+        Turn::LacksMemory if !desk.is_led && !desk.group.is_empty() => {
+            shared.exit(desk);
+            thread::yield_now();
+        }
+        Turn::LacksMemory | Turn::Stopped => {
+            shared.answered.notify_all();
+            drop(shared.commits.wait(rt, desk));
+        }
+    }
+}
+
+// A turn of the collector, which sleeps where no round is due.
+fn collect<'a, R: Wait, D: SyncAhead + Drop>(
+    rt: &R,
+    shared: &'a Shared<D>,
+    desk: MutexGuard<'a, Desk<D>>,
+) {
+    let mut desk = desk;
+    match turns::collect(&mut desk) {
+        Turn::Unfinished => {}
+        // The record that drops swept gaps is due.
+        Turn::Finished => shared.commits.notify_all(),
+        _ => drop(shared.rounds.wait(rt, desk)),
+    }
 }
