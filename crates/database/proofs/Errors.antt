@@ -23,7 +23,8 @@ use Rattle.room.specs.declared.room.Room.{Room}
 use Rattle.database.specs.declared.error.CommitError.{CommitError}
 use Rattle.database.specs.declared.error.CommitError.TheVariants.{Refused, Open}
 use Rattle.database.specs.Replies.{committed_of}
-use Rattle.database.specs.Runs.{Leads, HasRun, IsRunFrom}
+use Rattle.room.specs.Room.{Leads}
+use Rattle.database.specs.Runs.{HasRun, IsRunFrom}
 use Rattle.database.specs.Obeys.{Finishes, AnswersStep}
 use Rattle.database.specs.Committing.{IsAcknowledged, IsLast, HasEnded, StopsAfter, StopsAtEnd, GivesUp, IsAnswered, TellsError, TellsRefusal}
 use Rattle.database.proofs.Runs.{leads-one, ends-run, answers-step}

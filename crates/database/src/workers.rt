@@ -85,6 +85,10 @@ fn commit<'a, R: Wait, D: SyncAhead + Drop>(
 ) {
     let (mut desk, turn) = shared.take_over(rt, desk);
     shared.tell(rt, &mut desk, turn);
+    // The end may have been told while the lock was free.
+    if desk.closing {
+        return shared.exit(desk);
+    }
     match turn {
         Turn::Unfinished | Turn::Finished => shared.exit(desk),
         Turn::Busy => {
