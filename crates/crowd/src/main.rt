@@ -1,7 +1,10 @@
 //! Commits of threads at once over one store in a file, each of which waits for its sync, and how many there are a second:
-//! `crowd NAME SLOTS THREADS COMMITS` makes or opens the store in the file of this name, and each of so many threads makes so many
-//! commits. Without words it says that.
+//! `crowd NAME SLOTS THREADS COMMITS [ROWS [read]]` makes or opens the store in the file of this name, and each of so many threads makes
+//! so many commits, of one row or of so many. With `read` one more thread reads meanwhile, a row a transaction, and the time that this
+//! takes is printed. Without words it says that.
 #![tactic(auto)]
+
+mod reading;
 
 use anyhow::{Error, anyhow, bail};
 use base::fault::Fault;
@@ -9,27 +12,48 @@ use base::geometry::Geometry;
 use base::key::Key;
 use base::row::Row;
 use database::Database;
+use reading::{Reads, read_while};
 use std::alloc::Global;
 use std::env;
 use std::fs::File;
 use std::rt::{Clock, Files};
 use std::sync::Wait;
-use std::thread::{Threads, map_indices};
+use std::sync::atomic::{AtomicU64, Ordering};
+use std::thread::{Threads, join, map_indices};
 use std::time::{Duration, Instant};
 use store_file::{Device, Refusal, open_database};
 
-// Each thread updates so many keys of its own, one after the other.
+const WORDS: &str = "crowd NAME SLOTS THREADS COMMITS [ROWS [read]]";
+
+// Each thread updates so many keys of its own at least, one after the other.
 const KEYS: u64 = 8;
 
 // So many keys a transaction writes at most.
 const TOGETHER: u64 = 32;
 
-// How many slots a store has, how many threads commit at once, and how many commits each makes.
+// How many slots a store has, how many threads commit at once, how many commits each makes, of how many rows, and whether one more thread
+// reads.
 #[derive(Clone, Copy)]
 struct Crowd {
     slots: u64,
     threads: usize,
     commits: u64,
+    rows: u64,
+    reads: bool,
+}
+
+impl Crowd {
+    // How many keys each thread updates.
+    fn keys(&self) -> u64 {
+        KEYS.max(self.rows)
+    }
+}
+
+// How long the commits took, and the reads beside them.
+#[derive(Clone, Copy)]
+struct Took {
+    commits: Duration,
+    reads: Reads,
 }
 
 fn main(rt: HostRuntime) -> Result<(), Error> {
@@ -37,32 +61,65 @@ fn main(rt: HostRuntime) -> Result<(), Error> {
     let words: Vec<String> = env::args(&rt)?.skip(1).collect(alloc)?;
     let words: Vec<&str> = words.iter().map(|word| word.as_str()).collect(alloc)?;
     match words.as_slice() {
-        [] => println!(rt; "crowd NAME SLOTS THREADS COMMITS")?,
+        [] => println!(rt; "{WORDS}")?,
         [name, crowd @ ..] => measure(&rt, alloc, name, &crowd_of(crowd)?)?,
     }
     Ok(())
 }
 
 fn crowd_of(words: &[&str]) -> Result<Crowd, Error> {
-    let [slots, threads, commits] = words else {
-        bail!("the words are NAME SLOTS THREADS COMMITS");
+    let [slots, threads, commits, more @ ..] = words else {
+        bail!("the words are {WORDS}");
     };
     Ok(Crowd {
         slots: slots.parse::<u64>()?,
         threads: threads.parse::<usize>()?,
         commits: commits.parse::<u64>()?,
+        rows: rows_of(more)?,
+        reads: more.len() == 2,
     })
 }
 
-// Prints how many commits there were, and how many a second.
+fn rows_of(words: &[&str]) -> Result<u64, Error> {
+    let rows = match words {
+        [] => 1,
+        [rows] => rows.parse::<u64>()?,
+        [rows, read] if *read == "read" => rows.parse::<u64>()?,
+        _ => bail!("the words are {WORDS}"),
+    };
+    if rows == 0 || TOGETHER < rows {
+        bail!("a transaction has 1 to {TOGETHER} rows");
+    }
+    Ok(rows)
+}
+
+// Prints how many commits and rows there were, how many a second, and what the reads took.
 fn measure<
     H: Print + Files<File = File> + Clock + Threads + Wait + Copy + Drop + Send + Sync + 'static,
 >(rt: &H, alloc: Global, name: &str, crowd: &Crowd) -> Result<(), Error> {
     let took = time_commits(rt, alloc, name, crowd)?;
     let commits = crowd.commits.saturating_mul(crowd.threads as u64);
-    let rate = commits as u128 * 1_000_000_000 / took.as_nanos().max(1);
+    print_rate(rt, "commits", commits, took.commits)?;
+    if crowd.rows != 1 {
+        print_rate(rt, "rows", commits.saturating_mul(crowd.rows), took.commits)?;
+    }
+    if crowd.reads {
+        let reads = took.reads;
+        println!(rt;
+            "{} reads, {} ns each, {} ns the longest, {} more than a millisecond",
+            reads.count,
+            reads.mean(),
+            reads.longest,
+            reads.slow
+        )?;
+    }
+    Ok(())
+}
+
+fn print_rate<H: Print>(rt: &H, what: &str, count: u64, took: Duration) -> Result<(), Error> {
+    let rate = count as u128 * 1_000_000_000 / took.as_nanos().max(1);
     println!(rt;
-        "{commits} commits in {}.{:06} seconds, {rate} a second",
+        "{count} {what} in {}.{:06} seconds, {rate} a second",
         took.as_secs(),
         took.subsec_micros()
     )?;
@@ -70,23 +127,57 @@ fn measure<
 }
 
 // Opens the store in the file of this name, which is made where it is missing. Its slots are used, and then each thread commits, each
-// time a transaction that updates one key. How long these commits took.
+// time a transaction that updates some keys. How long these commits took.
 fn time_commits<
     H: Files<File = File> + Clock + Threads + Wait + Copy + Drop + Send + Sync + 'static,
->(rt: &H, alloc: Global, name: &str, crowd: &Crowd) -> Result<Duration, Error> {
+>(rt: &H, alloc: Global, name: &str, crowd: &Crowd) -> Result<Took, Error> {
     let geometry = Geometry::new(crowd.slots, Geometry::LEAST_PLACES, Geometry::MOST_WINDOW)?;
     let database = match open_database(rt, alloc, name, geometry) {
         Ok(database) => database,
         Err(refusal) => return Err(error_of(refusal)),
     };
     use_slots(&database, crowd)?;
-    let start = Instant::now(rt)?;
-    commit_by_threads(rt, alloc, &database, crowd)?;
-    let took = start.elapsed(rt)?;
+    let took = time_threads(rt, alloc, &database, crowd)?;
     match database.close() {
         Ok(_) => Ok(took),
         Err(refused) => Err(Error::from(refused.fault)),
     }
+}
+
+fn time_threads<H: Clock + Threads + Wait + Drop + Send + Sync>(
+    rt: &H,
+    alloc: Global,
+    database: &Database<Device, H>,
+    crowd: &Crowd,
+) -> Result<Took, Error> {
+    let committing = AtomicU64::new(1);
+    let (commits, reads) = join(
+        rt,
+        || {
+            let took = time_committers(rt, alloc, database, crowd);
+            committing.store(0, Ordering::SeqCst);
+            took
+        },
+        || match crowd.reads {
+            true => read_while(rt, database, &committing),
+            false => Ok(Reads::none()),
+        },
+    );
+    Ok(Took {
+        commits: commits?,
+        reads: reads?,
+    })
+}
+
+fn time_committers<H: Clock + Threads + Wait + Drop + Send + Sync>(
+    rt: &H,
+    alloc: Global,
+    database: &Database<Device, H>,
+    crowd: &Crowd,
+) -> Result<Duration, Error> {
+    let start = Instant::now(rt)?;
+    commit_by_threads(rt, alloc, database, crowd)?;
+    Ok(start.elapsed(rt)?)
 }
 
 fn error_of(refusal: Refusal) -> Error {
@@ -100,7 +191,10 @@ fn error_of(refusal: Refusal) -> Error {
 
 // Updates keys as often as there are slots, so that the commits that are timed take slots that were used before.
 fn use_slots<R: Wait + Drop>(database: &Database<Device, R>, crowd: &Crowd) -> Result<(), Fault> {
-    let keys = KEYS.saturating_mul(crowd.threads as u64).max(TOGETHER);
+    let keys = crowd
+        .keys()
+        .saturating_mul(crowd.threads as u64)
+        .max(TOGETHER);
     for number in 0..crowd.slots / TOGETHER {
         let mut transaction = database.begin()?;
         for at in 0..TOGETHER {
@@ -112,7 +206,7 @@ fn use_slots<R: Wait + Drop>(database: &Database<Device, R>, crowd: &Crowd) -> R
     Ok(())
 }
 
-fn key_of(key: u64) -> Key {
+pub fn key_of(key: u64) -> Key {
     Key { table: 1, key }
 }
 
@@ -122,12 +216,11 @@ fn commit_by_threads<R: Threads + Wait + Drop + Send + Sync>(
     database: &Database<Device, R>,
     crowd: &Crowd,
 ) -> Result<(), Fault> {
-    let commits = crowd.commits;
     let ended = map_indices(
         rt,
         alloc,
         crowd.threads,
-        &|thread| { commit_in_turn(database, (thread as u64).saturating_mul(KEYS), commits) },
+        &|thread| commit_in_turn(database, crowd, thread as u64),
     );
     for one in &ended.map_err(|_| Fault::OutOfMemory)? {
         (*one)?;
@@ -135,16 +228,19 @@ fn commit_by_threads<R: Threads + Wait + Drop + Send + Sync>(
     Ok(())
 }
 
-// Makes so many commits, each of which updates the next of the keys from this one on.
+// Makes the commits of this thread, each of which updates the next of its keys.
 fn commit_in_turn<R: Wait + Drop>(
     database: &Database<Device, R>,
-    first: u64,
-    commits: u64,
+    crowd: &Crowd,
+    thread: u64,
 ) -> Result<(), Fault> {
-    for number in 0..commits {
+    for number in 0..crowd.commits {
         let mut transaction = database.begin()?;
-        let key = key_of(first.saturating_add(number % KEYS));
-        transaction.put(key, Row::new(&number.to_le_bytes())?)?;
+        for at in 0..crowd.rows {
+            let key = number.saturating_mul(crowd.rows).saturating_add(at) % crowd.keys().max(1);
+            let key = key_of(thread.saturating_mul(crowd.keys()).saturating_add(key));
+            transaction.put(key, Row::new(&number.to_le_bytes())?)?;
+        }
         transaction.commit()?;
     }
     Ok(())
