@@ -8,7 +8,7 @@ use Rattle.std.proofs.lemmas.List.{get_or-set_other, get_or_past}
 use Rattle.std.proofs.lemmas.Grind.{get_or-set_at}
 use Rattle.slab.specs.Slab.{Slab, get, slab_len, Updates, with_value}
 use Rattle.base.specs.Lists.{replaced}
-use Rattle.txn.specs.Tables.{entry_at, found, listed, IsTable, IsAbove}
+use Rattle.txn.specs.Tables.{entry_at, found, listed, IsTable, IsAbove, AreTaken}
 
 -- what is listed under a number is what its place finds
 pub entry_at-listed : {T : Type 0} (slab : Slab T) (places : List (Option ℕ)) (n : ℕ) → entry_at (listed slab places) n ≡ found slab (entry_at places n)
@@ -251,3 +251,37 @@ above-empty slab places limit table empty m past = by (entry_at places m) refl
     by : (o : Option ℕ) → entry_at places m ≡ o → entry_at places m ≡ None
     by None at = at
     by (Some key) at = absurd (cc (table.there m key at, none-counted slab.slots key empty))
+
+-- ---- below which number each is taken
+
+-- a number with a place has a value
+pub listed-taken : {T : Type 0} (slab : Slab T) (places : List (Option ℕ)) (first : ℕ) → IsTable slab places → AreTaken first places → (k : ℕ) → 2 ≤ k → k < first → is_none (entry_at (listed slab places) k) ≡ false
+listed-taken slab places first table taken k lo lt = ap (λ (o : Option _). is_none o) (entry_at-listed slab places k) ∙ by (entry_at places k) refl
+  where
+    by : (o : Option ℕ) → entry_at places k ≡ o → is_none (found slab o) ≡ false
+    by None at = absurd (cc (ap (λ (o : Option ℕ). is_none o) (sym at), taken k lo lt))
+    by (Some key) at = some-there (get slab key) (table.there k key at)
+
+-- and one with a value a place
+has-place : {T : Type 0} (slab : Slab T) (places : List (Option ℕ)) (k : ℕ) → is_none (entry_at (listed slab places) k) ≡ false → is_none (entry_at places k) ≡ false
+has-place slab places k taken = by (entry_at places k) refl
+  where
+    by : (o : Option ℕ) → entry_at places k ≡ o → is_none o ≡ false
+    by None at = absurd (cc (ap (λ (o : Option ℕ). is_none (found slab o)) at, ap (λ (o : Option _). is_none o) (entry_at-listed slab places k), taken))
+    by (Some key) at = refl
+
+-- once the lowest free number is taken
+pub taken-put_in : {T : Type 0} (slab : Slab T) (places : List (Option ℕ)) (n key : ℕ) → length places ≡ 62 → 2 ≤ n → n < 64 → ((k : ℕ) → 2 ≤ k → k < n → is_none (entry_at (listed slab places) k) ≡ false) → AreTaken (n + 1) (slice_set places (n - 2) (Some key))
+taken-put_in slab places n key size lo hi before k low lt = ap (λ (o : Option ℕ). is_none o) (entry_at-set places n (Some key) size lo hi k) ∙ by (nat_eq k n) refl
+  where
+    by : (b : Bool) → nat_eq k n ≡ b → is_none (cond b (Some key) (entry_at places k)) ≡ false
+    by true is = refl
+    by false is = let below : k < n = grind (arith, nat_tests) in has-place slab places k (before k low below)
+
+-- once one is free
+pub taken-taken_out : (places : List (Option ℕ)) (n first lower : ℕ) → length places ≡ 62 → 2 ≤ n → n < 64 → AreTaken first places → lower ≤ first → lower ≤ n → AreTaken lower (slice_set places (n - 2) None)
+taken-taken_out places n first lower size lo hi taken le below k low lt = ap (λ (o : Option ℕ). is_none o) (entry_at-set places n None size lo hi k) ∙ by (nat_eq k n) refl
+  where
+    by : (b : Bool) → nat_eq k n ≡ b → is_none (cond b None (entry_at places k)) ≡ false
+    by true is = absurd (let same : k ≡ n = grind (arith, nat_tests) in omega (arith, same, below, lt))
+    by false is = taken k low (omega (arith, lt, le))

@@ -21,6 +21,8 @@ pub struct Transactions {
     places: [Option<usize>; 62],
     // No session has a number from here on.
     limit: u8,
+    // Each number below this one has a session.
+    first: u8,
     // Sets whose transactions ended, for those that begin. There is room for them from the first begin on.
     ended: Vec<WriteSet>,
     alloc: Global,
@@ -33,11 +35,11 @@ impl Model for Transactions {
     ghost Value = { List (Option Transaction) };
 
     ghost use Rattle.std.specs.Prelude.{◌≤◌};
-    ghost use Rattle.txn.specs.Tables.{listed, IsTable, IsAbove};
+    ghost use Rattle.txn.specs.Tables.{listed, IsTable, IsAbove, AreTaken};
 
     ghost view = { λ t. listed t.slab t.places };
 
-    ghost invariant = { λ t. IsTable t.slab t.places × IsAbove t.limit t.places × (t.limit ≤ 64) };
+    ghost invariant = { λ t. IsTable t.slab t.places × IsAbove t.limit t.places × (t.limit ≤ 64) × AreTaken t.first t.places × (2 ≤ t.first) };
 }
 
 // The lowest number that a session may have.
@@ -113,6 +115,7 @@ impl Transactions {
             slab: Slab::new(alloc),
             places: [None; 62],
             limit: FIRST,
+            first: FIRST,
             ended: Vec::new(alloc),
             alloc,
         }
@@ -123,7 +126,7 @@ impl Transactions {
         ensures some { IfSome result (λ n. IsLowestFree self.now n) }
         ensures none { IfNone result (IsFull self.now) }
     {
-        for number in FIRST..FIRST + MOST {
+        for number in FIRST + 1..FIRST + MOST {
             if self.places[(number - FIRST) as usize].is_none() {
                 return Some(number);
             }
@@ -167,6 +170,7 @@ impl Transactions {
             Ok(key) => {
                 self.places[(number - FIRST) as usize] = Some(key);
                 self.limit = self.limit.max(number + 1);
+                self.first = number + 1;
                 Ok(number)
             }
             Err(_) => Err(Fault::OutOfMemory),
@@ -196,6 +200,7 @@ impl Transactions {
             keep_of(&mut self.ended, ended);
             self.places[(number - FIRST) as usize] = None;
             self.limit = lowered(&self.slab, self.limit);
+            self.first = self.first.min(number);
         }
     }
 
