@@ -1,29 +1,27 @@
--- What a list of operations makes of a device, by what it stores, flushes and counts.
+-- What a list of operations makes of a device, by what it stores, flushes and counts; and of lists that store several words in
+-- order, or flush several lines.
 use Rattle.std.proofs.Common.{◌≡◌, ◌≢◌, ◌⊎◌, inl, inr, ℕ, zero, suc, ◌+◌, ◌-◌, ◌*◌, ◌/◌, ◌<◌, ◌≤◌, List, [], ◌∷◌, ◌++◌, All, length, map, take, get_or, refl, sym, ◌∙◌, ap, subst, arith}
 use Rattle.std.specs.List.{Contains, range_with_len}
 use Rattle.std.proofs.Math.Seq.{take-append-add}
 use Rattle.std.proofs.lemmas.Bool.{cases_eq, cases_lt}
-use Rattle.std.proofs.lemmas.List.Elements.{All-head, All-tail, All-take, All-weaker}
+use Rattle.std.proofs.lemmas.List.Elements.{All-head, All-tail, All-take, All-weaker, All-nil, All-cons, All-append}
 use Rattle.std.proofs.lemmas.List.{append_assoc, length-append, length-take-le, take-append-le}
-use Rattle.pmem.specs.Device.{Device, IsOrderly, stored, flushed, fenced, failed}
-use Rattle.pmem.specs.Words.{Survives, value_of, IsReady, IsSettledAt, Each, Keeps, Makes, OldOr, OnlyShrinks, Spares, HasOldWords, IsWithin, HasOneFailure, operations_of}
+use Rattle.pmem.specs.Device.{Device, IsOrderly, stored, flushed, fenced, failed, MayLeave}
+use Rattle.pmem.specs.Words.{Survives, value_of, IsReady, IsSettledAt, Each, Keeps, Makes, OldOr, OnlyShrinks, Spares, HasOldWords, IsWithin, HasOneFailure, operations_of, LeavesOnly}
 use Rattle.pmem.specs.Trace.{Operation, store_op, flush_op, fence_op, failure, applied, after, Along, Runs, StopsWithin}
 use Rattle.pmem.proofs.Changes.{shrinks_refl, shrinks_trans, stored-shrinks, flushed-shrinks, fenced-shrinks, failed-shrinks, fenced-settled_at}
-use Rattle.pmem.proofs.Counts.{makes_none, makes-stored, makes-flushed, makes-fenced}
-use Rattle.pmem.proofs.Images.{leaves_weaken}
+use Rattle.pmem.proofs.Images.{leaves_weaken, leaves-stored, leaves-flushed, leaves-fenced, leaves-failed}
 use Rattle.pmem.proofs.OperationEffects.{value-stored_same, value-stored_other, value-flushed, value-fenced, ready-flushed}
 use Rattle.pmem.proofs.Runs.{keeps_none, keeps-stored, keeps-flushed, keeps-fenced, keeps-failed}
-use Rattle.pmem.proofs.Traces.{after-append, along-first, along-last, words-after, words-run}
+use Rattle.pmem.proofs.Traces.{after-append, along-first, along-last, words-after, words-run, runs-more}
+use Rattle.std.proofs.lemmas.List.FromFn.{map-range_with_len_more, take-map-range_with_len, length-map-range_with_len, get_or-map-range_with_len}
+use Rattle.pmem.specs.Persisting.{store_operations, flush_operations, persist_operations, set_operations}
 
 -- ---- a list in two
 
-pub along-front : (P : Device → Type 0) (xs ys : List Operation) (device : Device) → Along P (xs ++ ys) device → Along P xs device
-along-front P [] ys device along = along-first P ys device along
-along-front P (x ∷ xs) ys device along = (along.0, along-front P xs ys (applied x device) along.1)
-
-along-back : (P : Device → Type 0) (xs ys : List Operation) (device : Device) → Along P (xs ++ ys) device → Along P ys (after xs device)
-along-back P [] ys device along = along
-along-back P (x ∷ xs) ys device along = along-back P xs ys (applied x device) along.1
+along-parts : (P : Device → Type 0) (xs ys : List Operation) (device : Device) → Along P (xs ++ ys) device → Along P xs device × Along P ys (after xs device)
+along-parts P [] ys device along = (along-first P ys device along, along)
+along-parts P (x ∷ xs) ys device along = let parts = along-parts P xs ys (applied x device) along.1 in ((along.0, parts.0), parts.1)
 
 pub record IsInTwo (xs ys : List Operation) (old new : Device) : Type 0 where
   pub between : Device
@@ -33,8 +31,8 @@ pub record IsInTwo (xs ys : List Operation) (old new : Device) : Type 0 where
 pub runs-in_two : (xs ys : List Operation) {old new : Device} → Runs (xs ++ ys) old new → IsInTwo xs ys old new
 runs-in_two xs ys {old} run = record {
   between = after xs old;
-  first = record { made = refl; orderly = along-front IsOrderly xs ys old run.orderly };
-  then = record { made = run.made ∙ after-append xs ys old; orderly = along-back IsOrderly xs ys old run.orderly };
+  first = record { made = refl; orderly = (along-parts IsOrderly xs ys old run.orderly).0 };
+  then = record { made = run.made ∙ after-append xs ys old; orderly = (along-parts IsOrderly xs ys old run.orderly).1 };
 }
 
 -- the operations before the one that failed
@@ -67,6 +65,14 @@ stops-in_two xs ys {old} {new} (k, lt, run) = by (cases_lt k (length xs))
 
 pub orderly-run : {ops : List Operation} {old new : Device} → Runs ops old new → IsOrderly new
 orderly-run {ops} {old} run = subst IsOrderly (sym run.made) (along-last IsOrderly ops old run.orderly)
+
+-- ---- one operation
+
+pub leaves-applied : (P : List ℕ → Type 0) (op : Operation) {old new : Device} → IsOrderly old → IsOrderly new → new ≡ applied op old → ((image : List ℕ) → MayLeave old image → P image) → ((image : List ℕ) → MayLeave new image → P image) → LeavesOnly old new P
+leaves-applied P (store_op word value) orderly orderly' made here there = leaves-stored P word value orderly orderly' made here there
+leaves-applied P (flush_op actor line) orderly orderly' made here there = leaves-flushed P actor line orderly orderly' made here there
+leaves-applied P (fence_op actor) orderly orderly' made here there = leaves-fenced P actor orderly orderly' made here there
+leaves-applied P failure orderly orderly' made here there = leaves-failed P orderly orderly' made here
 
 -- ---- what is stored
 
@@ -232,6 +238,9 @@ pub count_of-map : (one : Operation → ℕ) (f : ℕ → Operation) (each : ℕ
 count_of-map one f each is from zero = omega arith
 count_of-map one f each is from (suc n) = omega (arith, is from, count_of-map one f each is (from + 1) n)
 
+pub makes_none : (device : Device) → Makes 0 0 0 0 device device
+makes_none device = record { stores_made = omega arith; flushes_made = omega arith; fences_made = omega arith; failures_made = omega arith }
+
 pub makes_trans : {a b c d a' b' c' d' : ℕ} {old mid new : Device} → Makes a b c d old mid → Makes a' b' c' d' mid new → Makes (a + a') (b + b') (c + c') (d + d') old new
 makes_trans m n = record {
   stores_made = omega (arith, m.stores_made, n.stores_made);
@@ -246,15 +255,15 @@ module _ (Q : ℕ → ℕ → Type 0) where
   makes-on (op ∷ ops) device all = makes_trans (one op (All-head (StoresOnly Q) op ops all)) (makes-on ops (applied op device) (All-tail (StoresOnly Q) op ops all))
     where
       one : (op : Operation) → StoresOnly Q op → Makes (one_store op) (one_flush op) (one_fence op) 0 device (applied op device)
-      one (store_op word x) this = makes-stored 0 0 0 0 (makes_none device) word x refl
-      one (flush_op actor line) this = makes-flushed 0 0 0 0 (makes_none device) actor line refl
-      one (fence_op actor) this = makes-fenced 0 0 0 0 (makes_none device) actor refl
+      one (store_op word x) this = record { stores_made = refl; flushes_made = omega arith; fences_made = omega arith; failures_made = omega arith }
+      one (flush_op actor line) this = record { stores_made = omega arith; flushes_made = refl; fences_made = omega arith; failures_made = omega arith }
+      one (fence_op actor) this = record { stores_made = omega arith; flushes_made = omega arith; fences_made = refl; failures_made = omega arith }
       one failure this = absurd this
 
   pub makes-run : {ops : List Operation} {old new : Device} → StoreOnly Q ops → Runs ops old new → Makes (count_of one_store ops) (count_of one_flush ops) (count_of one_fence ops) 0 old new
   makes-run {ops} {old} all run = subst (λ (d : Device). Makes (count_of one_store ops) (count_of one_flush ops) (count_of one_fence ops) 0 old d) (sym run.made) (makes-on ops old all)
 
-  all-count : (ops : List Operation) → StoreOnly Q ops → count_of one_store ops + count_of one_flush ops + count_of one_fence ops ≡ length ops
+  pub all-count : (ops : List Operation) → StoreOnly Q ops → count_of one_store ops + count_of one_flush ops + count_of one_fence ops ≡ length ops
   all-count [] all = refl
   all-count (op ∷ ops) all = omega (arith, one op (All-head (StoresOnly Q) op ops all), all-count ops (All-tail (StoresOnly Q) op ops all))
     where
@@ -280,3 +289,122 @@ module _ (Q : ℕ → ℕ → Type 0) where
         let s = has_stopped stop in
         let made = makes-run (front s) s.run in
         omega (arith, ap operations_of s.fails, made.stores_made, made.flushes_made, made.fences_made, s.few, all-count (take s.count ops) (front s), all-count ops all, length-take-le s.count ops (omega (arith, s.few)))
+
+-- ---- a loop that makes one operation a turn
+
+module _ (op : ℕ → Operation) where
+  abbrev pub turns : ℕ → List Operation
+  turns n = map op (range_with_len 0 n)
+
+  pub loop-more : (k : ℕ) {old mid new : Device} → IsOrderly new → new ≡ applied (op k) mid → Runs (turns k) old mid → Runs (turns (k + 1)) old new
+  loop-more k {old} {mid} {new} orderly is run = subst (λ (ops : List Operation). Runs ops old new) (sym (map-range_with_len_more op 0 k k (omega arith))) (runs-more (turns k) (op k) old mid new orderly is run)
+
+  -- the operations up to one that fails
+  pub loop-stops : (k n : ℕ) {old mid new : Device} → k < n → IsOrderly new → new ≡ applied failure mid → Runs (turns k) old mid → StopsWithin (turns n) old new
+  loop-stops k n {old} {mid} {new} lt orderly is run = (
+    k,
+    omega (arith, lt, length-map-range_with_len op 0 n),
+    subst (λ (ops : List Operation). Runs (ops ++ failure ∷ []) old new) (sym (take-map-range_with_len op 0 n k (omega (arith, lt)))) (runs-more (turns k) failure old mid new orderly is run),
+  )
+
+  all-from : (P : Operation → Type 0) (from n : ℕ) → ((k : ℕ) → from ≤ k → k < from + n → P (op k)) → All P (map op (range_with_len from n))
+  all-from P from zero each = All-nil P
+  all-from P from (suc n) each = All-cons P (op from) (map op (range_with_len (from + 1) n)) (each from (omega arith) (omega arith)) (all-from P (from + 1) n (λ k le lt. each k (omega (arith, le)) (omega (arith, lt))))
+
+  pub all-first : (P : Operation → Type 0) (n : ℕ) → ((k : ℕ) → k < n → P (op k)) → All P (turns n)
+  all-first P n each = all-from P 0 n (λ k le lt. each k (omega (arith, lt)))
+
+  pub among-first : (n k : ℕ) (this : Operation) → k < n → op k ≡ this → Contains (turns n) this
+  among-first n k this lt is =
+      (k, omega (arith, lt, length-map-range_with_len op 0 n), get_or-map-range_with_len op 0 n k k this lt (omega arith) ∙ is)
+
+pub stores_only : (Q : ℕ → ℕ → Type 0) (first : ℕ) (value : ℕ → ℕ) (n : ℕ) → ((k : ℕ) → k < n → Q (first + k) (value k)) → StoreOnly Q (store_operations first value n)
+stores_only Q first value n each = all-first (λ k. store_op (first + k) (value k)) (StoresOnly Q) n each
+
+pub flushes_only : (Q : ℕ → ℕ → Type 0) (actor line n : ℕ) → StoreOnly Q (flush_operations actor line n)
+flushes_only Q actor line n = all-first (λ k. flush_op actor (line + k)) (StoresOnly Q) n (λ k lt. tt)
+
+-- what is stored in one of them alone
+own : (first : ℕ) (value : ℕ → ℕ) (n k : ℕ) → StoreOnly (IsThereAlone (first + k) (value k)) (store_operations first value n)
+own first value n k = stores_only (IsThereAlone (first + k) (value k)) first value n (λ i less same. let is : i ≡ k = omega (arith, same) in ap value is)
+
+fence_only : (Q : ℕ → ℕ → Type 0) (actor : ℕ) → StoreOnly Q (fence_op actor ∷ [])
+fence_only Q actor = All-cons (StoresOnly Q) (fence_op actor) [] tt (All-nil (StoresOnly Q))
+
+-- each word has what was stored in it
+pub stores-value : (first : ℕ) (value : ℕ → ℕ) (n : ℕ) (device : Device) (k : ℕ) → k < n → value_of (after (store_operations first value n) device) (first + k) ≡ value k
+stores-value first value n device k lt =
+    let there = among-first (λ i. store_op (first + i) (value i)) n k (store_op (first + k) (value k)) lt refl in
+    value-on (first + k) (value k) (store_operations first value n) device (own first value n k) there.0 there.1 there.2
+
+-- ---- words that come to persist
+
+module _ (actor first : ℕ) (value : ℕ → ℕ) (n line lines : ℕ) where
+  abbrev stores : List Operation
+  stores = store_operations first value n
+
+  abbrev flushes : List Operation
+  flushes = flush_operations actor line lines
+
+  pub persist-only : (Q : ℕ → ℕ → Type 0) → ((k : ℕ) → k < n → Q (first + k) (value k)) → StoreOnly Q (persist_operations actor first value n line lines)
+  persist-only Q each =
+      All-append (StoresOnly Q) (stores ++ flushes) (fence_op actor ∷ []) (All-append (StoresOnly Q) stores flushes (stores_only Q first value n each) (flushes_only Q actor line lines)) (fence_only Q actor)
+
+  pub persist-made : {old new : Device} → Runs (persist_operations actor first value n line lines) old new → Makes n lines 1 0 old new
+  persist-made {old} {new} run =
+      let made = makes-run (λ word x. Unit {0}) (persist-only (λ word x. Unit {0}) (λ k lt. tt)) run in
+      record {
+        stores_made = omega (
+          arith,
+          made.stores_made,
+          count_of-append one_store (stores ++ flushes) (fence_op actor ∷ []),
+          count_of-append one_store stores flushes,
+          count_of-map one_store (λ k. store_op (first + k) (value k)) 1 (λ k. refl) 0 n,
+          count_of-map one_store (λ k. flush_op actor (line + k)) 0 (λ k. refl) 0 lines,
+        );
+        flushes_made = omega (
+          arith,
+          made.flushes_made,
+          count_of-append one_flush (stores ++ flushes) (fence_op actor ∷ []),
+          count_of-append one_flush stores flushes,
+          count_of-map one_flush (λ k. store_op (first + k) (value k)) 0 (λ k. refl) 0 n,
+          count_of-map one_flush (λ k. flush_op actor (line + k)) 1 (λ k. refl) 0 lines,
+        );
+        fences_made = omega (
+          arith,
+          made.fences_made,
+          count_of-append one_fence (stores ++ flushes) (fence_op actor ∷ []),
+          count_of-append one_fence stores flushes,
+          count_of-map one_fence (λ k. store_op (first + k) (value k)) 0 (λ k. refl) 0 n,
+          count_of-map one_fence (λ k. flush_op actor (line + k)) 0 (λ k. refl) 0 lines,
+        );
+        failures_made = made.failures_made;
+      }
+
+  -- each of them is settled where its line is among those that are flushed
+  pub persist-settles : {old new : Device} → Runs (persist_operations actor first value n line lines) old new → (k : ℕ) → k < n → first + k < old.words → line ≤ (first + k) / 8 → (first + k) / 8 < line + lines → IsSettledAt new (first + k) (value k)
+  persist-settles run k lt within low high =
+      settled-run stores flushes actor (first + k) (value k) within
+      (own first value n k)
+      (among-first (λ i. store_op (first + i) (value i)) n k (store_op (first + k) (value k)) lt refl)
+      (flushes_only (IsElsewhere (first + k)) actor line lines)
+      (among-first (λ i. flush_op actor (line + i)) lines ((first + k) / 8 - line) (flush_op actor ((first + k) / 8)) (omega (arith, low, high)) (let at : line + ((first + k) / 8 - line) ≡ (first + k) / 8 = omega (arith, low) in ap (flush_op actor) at))
+      run
+
+-- ---- a word that is set
+
+module _ (actor word value : ℕ) where
+  pub set-persists : set_operations actor word value ≡ persist_operations actor word (λ k. value) 1 (word / 8) 1
+  set-persists = let same : word + 0 ≡ word = omega arith in let line : word / 8 + 0 ≡ word / 8 = omega arith in λ i. store_op (sym same i) value ∷ flush_op actor (sym line i) ∷ fence_op actor ∷ []
+
+  pub set-only : (Q : ℕ → ℕ → Type 0) → Q word value → StoreOnly Q (set_operations actor word value)
+  set-only Q this = All-cons (StoresOnly Q) (store_op word value) (flush_op actor (word / 8) ∷ fence_op actor ∷ []) this (All-cons (StoresOnly Q) (flush_op actor (word / 8)) (fence_op actor ∷ []) tt (fence_only Q actor))
+
+  pub set-made : {old new : Device} → Runs (set_operations actor word value) old new → Makes 1 1 1 0 old new
+  set-made run = makes-run (λ w x. Unit {0}) (set-only (λ w x. Unit {0}) tt) run
+
+  pub set-settles : {old new : Device} → Runs (set_operations actor word value) old new → word < old.words → IsSettledAt new word value
+  set-settles {old} {new} run within =
+      let same : word + 0 ≡ word = omega arith in
+      subst (λ (w : ℕ). IsSettledAt new w value) same
+      (persist-settles actor word (λ k. value) 1 (word / 8) 1 (subst (λ (ops : List Operation). Runs ops old new) set-persists run) 0 (omega arith) (omega (arith, within)) (omega arith) (omega arith))

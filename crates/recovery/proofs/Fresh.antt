@@ -15,9 +15,8 @@ use Rattle.pmem.specs.Trace.{Operation, Runs, StopsWithin}
 use Rattle.pmem.specs.Words.{Survives, value_of, image_of, LeavesOnly, Keeps, HasOneFailure, IsSettledAt, Makes, Spares, OldOr, IsStore}
 use Rattle.pmem.proofs.Changes.{settled_at-shrinks}
 use Rattle.pmem.proofs.Images.{leaves_trans, leaves_weaken}
-use Rattle.pmem.proofs.Lists.{StoresOnly, StoreOnly, IsElsewhere, IsInTwo, runs-in_two, stops-in_two, keeps-run, keeps-stopped, shrinks-run, spares-run, spares-stopped, store-weaker, makes_trans, one_failure-stopped}
+use Rattle.pmem.proofs.Lists.{StoresOnly, StoreOnly, IsElsewhere, IsInTwo, runs-in_two, stops-in_two, keeps-run, keeps-stopped, shrinks-run, spares-run, spares-stopped, store-weaker, makes_trans, one_failure-stopped, persist-only, persist-made, persist-settles, set-only, set-made, set-settles}
 use Rattle.pmem.proofs.OperationEffects.{only-settled}
-use Rattle.pmem.proofs.Stores.{persist-only, persist-made, persist-settles, set-only, set-made, set-settles}
 use Rattle.pmem.proofs.Traces.{words-run}
 use Rattle.log_area.specs.Rulings.{gate_word}
 use Rattle.log_area.specs.Writings.{geometry_operations, record_operations}

@@ -5,7 +5,6 @@ pub mod Opens
 pub mod Visits
 pub mod Readings
 pub mod Hits
-pub mod Kept
 pub mod Beginning
 pub mod Lives
 pub mod Updates

@@ -42,7 +42,7 @@ use Rattle.recovery.specs.Opened.{HasSlotsOf, Refuses, IsExamined, Examined, Has
 use Rattle.recovery.specs.declared.rows.LiveSlot.{LiveSlot}
 use Rattle.base.proofs.WellFormed.{WellFormed, well_formed-parts}
 use Rattle.base.proofs.Options.{or-none, some_if-none}
-use Rattle.recovery.proofs.Kept.{AreKept, are_kept, kept_stopped, gaps-only, gap-counts}
+use Rattle.recovery.proofs.SweptSlots.{AreKept, are_kept, kept_stopped, gaps-only, gap-counts}
 use Rattle.recovery.proofs.Opens.{stands-opening, record_after}
 use Rattle.recovery.proofs.Ruled.{images-sweeping, ruled-swept}
 use Rattle.recovery.proofs.Beginning.{fault-log, fault-slots, fault-limit, no-damage, no-fault}
@@ -279,9 +279,9 @@ module _ (old : Device) (rest : IsAtRest old) (layout : Layout) (r : Record) (ga
         let made = makes-run (λ word x. Unit {0}) today-only run in
         let counts = gap-counts layout r old rules in
         has-opened (orderly-run parts.first) (are_kept layout r rules rest parts.first) parts.then (record {
-          stores_made = omega (arith, made.stores_made, today-count one_store, counts.stores);
-          flushes_made = omega (arith, made.flushes_made, today-count one_flush, counts.flushes);
-          fences_made = omega (arith, made.fences_made, today-count one_fence, counts.fences);
+          stores_made = omega (arith, made.stores_made, today-count one_store, counts.0);
+          flushes_made = omega (arith, made.flushes_made, today-count one_flush, counts.1);
+          fences_made = omega (arith, made.fences_made, today-count one_fence, counts.2);
           failures_made = made.failures_made;
         })
 
@@ -303,7 +303,7 @@ module _ (old : Device) (rest : IsAtRest old) (layout : Layout) (r : Record) (ga
         let counts = gap-counts layout r old rules in
         record {
           failed = let one = one_failure-stopped (λ word x. Unit {0}) today-only stop in omega (arith, one);
-          few = omega (arith, few-stopped (λ word x. Unit {0}) today-only stop, today-count one_store, today-count one_flush, today-count one_fence, counts.stores, counts.flushes, counts.fences);
+          few = omega (arith, few-stopped (λ word x. Unit {0}) today-only stop, today-count one_store, today-count one_flush, today-count one_fence, counts.0, counts.1, counts.2);
         }
 
 -- a refusal leaves the device as it was

@@ -1,5 +1,5 @@
--- What a sweep makes of a device.
-use Rattle.std.proofs.Common.{◌≡◌, ◌≢◌, ◌⊎◌, inl, inr, ℕ, zero, suc, ◌+◌, ◌-◌, ◌*◌, ◌/◌, ◌%◌, ◌<◌, ◌≤◌, Bool, true, false, cond, ◌&&◌, ◌||◌, List, [], ◌∷◌, ◌++◌, flat_map, get_or, refl, sym, ◌∙◌, ap, subst, arith, true≢false, mul_comm}
+-- What a sweep makes of a device, and an opening of one whose gaps are swept where a record can't hold them.
+use Rattle.std.proofs.Common.{◌≡◌, ◌≢◌, ◌⊎◌, inl, inr, ℕ, zero, suc, ◌+◌, ◌-◌, ◌*◌, ◌/◌, ◌%◌, ◌<◌, ◌≤◌, Bool, true, false, cond, ◌&&◌, ◌||◌, List, [], ◌∷◌, ◌++◌, flat_map, get_or, refl, sym, ◌∙◌, ap, subst, arith, true≢false, mul_comm, length, nat_lt}
 use Rattle.std.specs.List.{Contains, range_with_len}
 use Rattle.std.proofs.Math.Nat.{div-add-mod, div-lt_iff_lt-mul, mul-le-mul_left}
 use Rattle.std.proofs.lemmas.Bool.{and_parts, and_from, leb-true, lt-ltb, ltb-true, or_left, or_right}
@@ -10,18 +10,25 @@ use Rattle.base.specs.Actors.{committer}
 use Rattle.base.specs.Search.{count_below}
 use Rattle.base.specs.Layout.{Layout, slot_start, slot_words, total_words, version_lines}
 use Rattle.base.specs.Records.{Record, is_in, opened_gaps}
-use Rattle.base.specs.Images.{layout_of, IsRuledBy}
+use Rattle.base.specs.Images.{layout_of, IsRuledBy, Image, needs_sweep}
 use Rattle.base.proofs.Layouts.{line-words, lines-words}
-use Rattle.machine.specs.Openings.{is_mark, swept, lies_in_gap, words_swept, lines_swept}
+use Rattle.machine.specs.Openings.{is_mark, swept, lies_in_gap, words_swept, lines_swept, Counts, opened_slots, record_counts}
 use Rattle.machine.proofs.Sweeps.{mark-of, swept-at, swept-size}
 use Rattle.pmem.specs.Device.{Device}
 use Rattle.pmem.specs.Trace.{Operation, store_op, flush_op, fence_op, Runs, StopsWithin}
 use Rattle.pmem.specs.Words.{value_of, image_of, IsSettled, IsSettledAt, IsAtRest, Keeps, OldOr, OnlyShrinks, Spares}
 use Rattle.pmem.proofs.Lists.{StoresOnly, StoreOnly, IsElsewhere, IsThereAlone, keeps-run, keeps-stopped, shrinks-run, spares-run, store-weaker, settled-run, count_of, count_of-append, one_store, one_flush, one_fence}
 use Rattle.pmem.proofs.Traces.{runs-then, stops-first, stops-then, words-run}
-use Rattle.log_area.proofs.Heads.{image_word, image_size}
+use Rattle.log_area.proofs.Heads.{image_word, image_size, laid_size}
 use Rattle.version_slot.specs.Operations.{zero_operations, sweep_operations}
 use Rattle.recovery.specs.Sweeping.{lies, is_hit, IsSwept, slot_operations, sweep_below, whole_sweep}
+use Rattle.std.specs.Prelude.{Option, Some, None}
+use Rattle.base.specs.declared.gap.Gap.{Gap}
+use Rattle.pmem.proofs.Runs.{keeps_none}
+use Rattle.pmem.proofs.Spares.{spares_fewer, spares_none}
+use Rattle.log_area.proofs.AtRest.{laid}
+use Rattle.recovery.specs.Gaps.{few_gaps}
+use Rattle.recovery.specs.Opened.{gap_operations}
 
 -- ---- slots in order
 
@@ -279,47 +286,39 @@ module _ (a : Layout) (r : Record) (start : Device) where
     abbrev is_slot_hit : ℕ → Bool
     is_slot_hit slot = lies_in_gap (image_of start) 0 slot || lies_in_gap (image_of start) 1 slot
 
-    record AreCounted (n : ℕ) : Type 0 where
-      stores : count_of one_store (sweep_below a r value n) ≡ count_below n (lies_in_gap (image_of start) 0) + count_below n (lies_in_gap (image_of start) 1)
-      flushes : count_of one_flush (sweep_below a r value n) ≡ count_below n is_slot_hit
-      fences : count_of one_fence (sweep_below a r value n) ≡ 0
+    -- how many stores, flushes and fences
+    abbrev HasCounts : List Operation → ℕ → ℕ → ℕ → Type 0
+    HasCounts xs stores flushes fences = (count_of one_store xs ≡ stores) × (count_of one_flush xs ≡ flushes) × (count_of one_fence xs ≡ fences)
 
-    counted : (n : ℕ) → n ≤ a.slots → AreCounted n
-    counted zero le = record { stores = refl; flushes = refl; fences = refl }
+    counted : (n : ℕ) → n ≤ a.slots → HasCounts (sweep_below a r value n) (count_below n (lies_in_gap (image_of start) 0) + count_below n (lies_in_gap (image_of start) 1)) (count_below n is_slot_hit) 0
+    counted zero le = (refl, refl, refl)
     counted (suc n) le =
         let lt : n < a.slots = omega (arith, le) in
         let before = counted n (omega (arith, le)) in
-        let slot = by (begun n) (ended n) in
-        record {
-          stores = omega (arith, more one_store, before.stores, slot.0, ap {B = ℕ} (λ (b : Bool). cond b 1 0) (first-is n lt), ap {B = ℕ} (λ (b : Bool). cond b 1 0) (second-is n lt));
-          flushes = omega (arith, more one_flush, before.flushes, slot.1, ap {B = ℕ} (λ (b : Bool). cond b 1 0) (hit-is n lt));
-          fences = omega (arith, more one_fence, before.fences, slot.2);
-        }
+        let slot = by (begun n) (ended n) in (
+          omega (arith, more one_store, before.0, slot.0, ap {B = ℕ} (λ (b : Bool). cond b 1 0) (first-is n lt), ap {B = ℕ} (λ (b : Bool). cond b 1 0) (second-is n lt)),
+          omega (arith, more one_flush, before.1, slot.1, ap {B = ℕ} (λ (b : Bool). cond b 1 0) (hit-is n lt)),
+          omega (arith, more one_fence, before.2, slot.2),
+        )
       where
         more : (one : Operation → ℕ) → count_of one (sweep_below a r value (suc n)) ≡ count_of one (sweep_below a r value n) + count_of one (ops n)
         more one = let next : suc n ≡ n + 1 = omega arith in ap (λ (m : ℕ). count_of one (sweep_below a r value m)) next ∙ ap (count_of one) (below-next ops n) ∙ count_of-append one (sweep_below a r value n) (ops n)
 
-        by : (b e : Bool) → (count_of one_store (ops_by n b e) ≡ cond b 1 0 + cond e 1 0) × (count_of one_flush (ops_by n b e) ≡ cond (b || e) 1 0) × (count_of one_fence (ops_by n b e) ≡ 0)
+        by : (b e : Bool) → HasCounts (ops_by n b e) (cond b 1 0 + cond e 1 0) (cond (b || e) 1 0) 0
         by true true = (refl, refl, refl)
         by true false = (refl, refl, refl)
         by false true = (refl, refl, refl)
         by false false = (refl, refl, refl)
 
-    pub record HasCounts : Type 0 where
-      pub stores : count_of one_store (whole_sweep a r value) ≡ words_swept (image_of start)
-      pub flushes : count_of one_flush (whole_sweep a r value) ≡ lines_swept (image_of start)
-      pub fences : count_of one_fence (whole_sweep a r value) ≡ 1
-
-    pub whole-counts : HasCounts
+    whole-counts : HasCounts (whole_sweep a r value) (words_swept (image_of start)) (lines_swept (image_of start)) 1
     whole-counts =
         let n : ℕ = a.slots in
         let all = counted n (omega arith) in
-        let same : (layout_of (image_of start)).slots ≡ n = ap (λ (l : Layout). l.slots) rules.laid_out in
-        record {
-          stores = count_of-append one_store (sweep_below a r value n) (fence_op committer ∷ []) ∙ omega (arith, all.stores) ∙ ap (λ (m : ℕ). count_below m (lies_in_gap (image_of start) 0) + count_below m (lies_in_gap (image_of start) 1)) (sym same);
-          flushes = count_of-append one_flush (sweep_below a r value n) (fence_op committer ∷ []) ∙ omega (arith, all.flushes) ∙ ap (λ (m : ℕ). count_below m is_slot_hit) (sym same);
-          fences = count_of-append one_fence (sweep_below a r value n) (fence_op committer ∷ []) ∙ omega (arith, all.fences);
-        }
+        let same : (layout_of (image_of start)).slots ≡ n = ap (λ (l : Layout). l.slots) rules.laid_out in (
+          count_of-append one_store (sweep_below a r value n) (fence_op committer ∷ []) ∙ omega (arith, all.0) ∙ ap (λ (m : ℕ). count_below m (lies_in_gap (image_of start) 0) + count_below m (lies_in_gap (image_of start) 1)) (sym same),
+          count_of-append one_flush (sweep_below a r value n) (fence_op committer ∷ []) ∙ omega (arith, all.1) ∙ ap (λ (m : ℕ). count_below m is_slot_hit) (sym same),
+          count_of-append one_fence (sweep_below a r value n) (fence_op committer ∷ []) ∙ omega (arith, all.2),
+        )
 
     -- ---- a whole sweep
 
@@ -368,3 +367,81 @@ module _ (a : Layout) (r : Record) (start : Device) where
     module _ {new : Device} (stop : StopsWithin (whole_sweep a r value) start new) where
       pub stopped-kept : Keeps start new (OldOr start (IsSwept a r start))
       stopped-kept = keeps-stopped (OldOr start (IsSwept a r start)) (λ word x there. inl there) (store-weaker only-swept (whole_sweep a r value) whole-only) stop
+
+-- ---- when there are too many
+
+few-by : (r : Record) (gaps : Option (List Gap)) (b : Bool) → gaps ≡ cond b None (Some (opened_gaps r)) → (gaps ≡ None → b ≡ true) × ((few : List Gap) → gaps ≡ Some few → b ≡ false)
+few-by r gaps true is = ((λ none. refl), λ few some. absurd (cc (sym is ∙ some)))
+few-by r gaps false is = ((λ none. absurd (cc (sym is ∙ none))), λ few some. refl)
+
+module _ (image : Image) (layout : Layout) (r : Record) (gaps : Option (List Gap)) where
+  needs-is : IsRuledBy layout r image → needs_sweep image ≡ nat_lt 8 (length (opened_gaps r))
+  needs-is rules = ap (λ (x : Record). nat_lt 8 (length (opened_gaps x))) rules.by_record
+
+  pub many-gaps : IsRuledBy layout r image → gaps ≡ few_gaps r → gaps ≡ None → needs_sweep image ≡ true
+  many-gaps rules is none = needs-is rules ∙ (few-by r gaps (nat_lt 8 (length (opened_gaps r))) is).0 none
+
+  pub few-enough : (few : List Gap) → IsRuledBy layout r image → gaps ≡ few_gaps r → gaps ≡ Some few → needs_sweep image ≡ false
+  few-enough few rules is some = needs-is rules ∙ (few-by r gaps (nat_lt 8 (length (opened_gaps r))) is).1 few some
+
+pub ruled-size : (device : Device) (layout : Layout) (r : Record) → IsRuledBy layout r (image_of device) → device.words ≡ total_words layout
+ruled-size device layout r rules = sym (image_size device) ∙ laid_size layout (image_of device) (laid layout r (image_of device) rules)
+
+-- ---- what is made of a device
+
+pub record AreKept (layout : Layout) (r : Record) (old new : Device) : Type 0 where
+  pub kept : Keeps old new (OldOr old (IsSwept layout r old))
+  pub rest : IsAtRest new
+  pub image : image_of new ≡ opened_slots (image_of old)
+  pub others : Spares (λ word. (needs_sweep (image_of old) && is_hit layout r old word) ≡ false) old new
+
+module _ (layout : Layout) (r : Record) {old new : Device} (rules : IsRuledBy layout r (image_of old)) where
+  pub are_kept : IsAtRest old → Runs (gap_operations layout r old) old new → AreKept layout r old new
+  are_kept rest run = by (needs_sweep (image_of old)) refl run
+    where
+      by : (b : Bool) → needs_sweep (image_of old) ≡ b → Runs (cond b (whole_sweep layout r (value_of old)) []) old new → AreKept layout r old new
+      by true many run =
+          let size = ruled-size old layout r rules in
+          record {
+            kept = swept-kept layout r old rules size run;
+            rest = swept-rests layout r old rules size run rest;
+            image = swept-image layout r old rules size run ∙ ap (λ (b : Bool). cond b (swept (image_of old)) (image_of old)) (sym many);
+            others = spares_fewer (λ word alone. sym (ap (λ (b : Bool). b && is_hit layout r old word) many) ∙ alone) (swept-spares layout r old rules size run);
+          }
+      by false few run = subst (AreKept layout r old) (sym run.made) (record {
+        kept = keeps_none old (OldOr old (IsSwept layout r old)) run.orderly (λ word x there. inl there);
+        rest = rest;
+        image = ap (λ (b : Bool). cond b (swept (image_of old)) (image_of old)) (sym few);
+        others = spares_none (λ word. (needs_sweep (image_of old) && is_hit layout r old word) ≡ false) old run.orderly;
+      })
+
+  -- also where the sweep stops
+  pub kept_stopped : StopsWithin (gap_operations layout r old) old new → Keeps old new (OldOr old (IsSwept layout r old))
+  kept_stopped stop = by (needs_sweep (image_of old)) stop
+    where
+      by : (b : Bool) → StopsWithin (cond b (whole_sweep layout r (value_of old)) []) old new → Keeps old new (OldOr old (IsSwept layout r old))
+      by true stop = stopped-kept layout r old rules (ruled-size old layout r rules) stop
+      by false stop = absurd (omega (arith, stop.1))
+
+-- ---- how many operations
+
+pub gaps-only : (layout : Layout) (r : Record) (old : Device) → StoreOnly (λ word x. Unit {0}) (gap_operations layout r old)
+gaps-only layout r old = by (needs_sweep (image_of old))
+  where
+    by : (b : Bool) → StoreOnly (λ word x. Unit {0}) (cond b (whole_sweep layout r (value_of old)) [])
+    by true = store-weaker (λ word x this. tt) (whole_sweep layout r (value_of old)) (whole-only layout r old)
+    by false = All-nil (StoresOnly (λ word x. Unit {0}))
+
+abbrev counts_at : Image → Bool → Counts
+counts_at image b = cond b (record { stores = 32 + words_swept image; flushes = 5 + lines_swept image; fences = 3 }) (record { stores = 32; flushes = 5; fences = 2 })
+
+-- with those of a record they are those of an opening
+abbrev AreCounts : List Operation → Counts → Type 0
+AreCounts ops counts = (32 + count_of one_store ops ≡ counts.stores) × (5 + count_of one_flush ops ≡ counts.flushes) × (2 + count_of one_fence ops ≡ counts.fences)
+
+pub gap-counts : (layout : Layout) (r : Record) (old : Device) → IsRuledBy layout r (image_of old) → AreCounts (gap_operations layout r old) (record_counts (image_of old))
+gap-counts layout r old rules = by (needs_sweep (image_of old))
+  where
+    by : (b : Bool) → AreCounts (cond b (whole_sweep layout r (value_of old)) []) (counts_at (image_of old) b)
+    by true = let counts = whole-counts layout r old rules (ruled-size old layout r rules) in (ap (λ (n : ℕ). 32 + n) counts.0, ap (λ (n : ℕ). 5 + n) counts.1, ap (λ (n : ℕ). 2 + n) counts.2)
+    by false = (refl, refl, refl)

@@ -22,10 +22,8 @@ use Rattle.pmem.specs.Device.{Device}
 use Rattle.pmem.specs.Persisting.{set_operations}
 use Rattle.pmem.specs.Trace.{Operation, Runs, StopsWithin}
 use Rattle.pmem.specs.Words.{value_of, IsAtRest, IsSettled, IsSettledAt, IsStore, IsWithin, LeavesOnly, image_of, Keeps, Makes, OldOr, Spares}
-use Rattle.pmem.proofs.Counts.{makes_none}
 use Rattle.pmem.proofs.Images.{leaves_trans, leaves_weaken}
-use Rattle.pmem.proofs.Lists.{StoresOnly, StoreOnly, keeps-run, keeps-stopped, spares-run, store-weaker, makes_trans, count_of, one_store, one_flush, one_fence, few-stopped, one_failure-stopped}
-use Rattle.pmem.proofs.Stores.{set-only, set-made, set-settles}
+use Rattle.pmem.proofs.Lists.{StoresOnly, StoreOnly, keeps-run, keeps-stopped, spares-run, store-weaker, makes_none, makes_trans, count_of, one_store, one_flush, one_fence, few-stopped, one_failure-stopped, set-only, set-made, set-settles}
 use Rattle.pmem.proofs.Traces.{words-run}
 use Rattle.pmem.proofs.Spares.{spares_fewer, spares_trans}
 use Rattle.pmem.proofs.OperationEffects.{only-settled}

@@ -1,6 +1,6 @@
 use Rattle.std.proofs.Common.{◌+◌, get_or, arith}
 use Rattle.pmem.specs.Trace.{store_op}
-use Rattle.pmem.proofs.Stores.{loop-more, loop-stops}
+use Rattle.pmem.proofs.Lists.{loop-more, loop-stops}
 use Rattle.pmem.proofs.Traces.{runs_none, words-run, words-stopped}
 use Rattle.pmem.proofs.storing.store_all.Goals as goal
 

@@ -3,7 +3,7 @@ use Rattle.base.proofs.Results.{on_err}
 use Rattle.base.specs.Actors.{committer}
 use Rattle.pmem.specs.Persisting.{flush_operations}
 use Rattle.pmem.specs.Trace.{flush_op, Runs}
-use Rattle.pmem.proofs.Stores.{loop-more, loop-stops}
+use Rattle.pmem.proofs.Lists.{loop-more, loop-stops}
 use Rattle.pmem.proofs.Traces.{runs_none, words-run}
 use Rattle.recovery.proofs.clearing.flush_lines.Goals as goal
 

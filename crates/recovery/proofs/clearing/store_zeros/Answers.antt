@@ -2,7 +2,7 @@ use Rattle.std.proofs.Common.{◌≡◌, ℕ, ◌+◌, subst, arith}
 use Rattle.base.proofs.Results.{on_err}
 use Rattle.pmem.specs.Persisting.{store_operations}
 use Rattle.pmem.specs.Trace.{store_op, Runs}
-use Rattle.pmem.proofs.Stores.{loop-more, loop-stops}
+use Rattle.pmem.proofs.Lists.{loop-more, loop-stops}
 use Rattle.pmem.proofs.Traces.{runs_none, words-run}
 use Rattle.recovery.proofs.clearing.store_zeros.Goals as goal
 

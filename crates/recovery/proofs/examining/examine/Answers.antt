@@ -3,7 +3,7 @@ use Rattle.base.specs.Layout.{Layout}
 use Rattle.base.specs.Records.{Record}
 use Rattle.pmem.specs.Words.{image_of}
 use Rattle.log_area.proofs.AtRest.{fits_image}
-use Rattle.recovery.proofs.Kept.{ruled-size}
+use Rattle.recovery.proofs.SweptSlots.{ruled-size}
 use Rattle.recovery.proofs.Lives.{refuses-log, may-rule, formed-parts, under, window-small, refuses-slots, refuses-limit, refuses-memory, examined}
 use Rattle.recovery.proofs.WhatIsRead.{tells-later}
 use Rattle.recovery.specs.Opened.{Examined}

@@ -1,6 +1,6 @@
 use Rattle.std.proofs.Common.{length, ◌∙◌, ap}
 use Rattle.pmem.specs.Words.{image_of}
-use Rattle.recovery.proofs.Kept.{ruled-size}
+use Rattle.recovery.proofs.SweptSlots.{ruled-size}
 use Rattle.recovery.proofs.Lives.{under}
 use Rattle.recovery.proofs.WhatIsRead.{refusal-log, refusal-slots, refusal-memory, is-read}
 use Rattle.recovery.proofs.Readings.{readings-size}

@@ -1,13 +1,12 @@
 use Rattle.std.proofs.Common.{◌∙◌, subst}
-use Rattle.base.specs.Records.{Record}
+use Rattle.base.specs.Records.{Record, opened_gaps}
 use Rattle.pmem.specs.Trace.{Runs, StopsWithin}
 use Rattle.pmem.specs.Words.{image_of}
 use Rattle.pmem.proofs.Traces.{runs-then, stops-first, stops-then, words-run}
 use Rattle.log_area.specs.Writings.{record_operations}
 use Rattle.machine.specs.Openings.{gaps_kept, opening_record}
-use Rattle.base.specs.Records.{opened_gaps}
 use Rattle.recovery.specs.Opened.{gap_operations}
-use Rattle.recovery.proofs.Kept.{ruled-size}
+use Rattle.recovery.proofs.SweptSlots.{ruled-size}
 use Rattle.recovery.proofs.Lives.{is, some-dirty, limit, gate-limit, target-is}
 use Rattle.recovery.proofs.examining.Examined.open_today.Goals as goal
 
