@@ -126,7 +126,7 @@ impl Transactions {
         ensures some { IfSome result (λ n. IsLowestFree self.now n) }
         ensures none { IfNone result (IsFull self.now) }
     {
-        for number in FIRST + 1..FIRST + MOST {
+        for number in self.first..FIRST + MOST {
             if self.places[(number - FIRST) as usize].is_none() {
                 return Some(number);
             }
