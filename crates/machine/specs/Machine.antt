@@ -1,5 +1,5 @@
 -- The plain machine: what each step may answer, and the state after it.
-use Rattle.std.specs.Prelude.{ℕ, ◌+◌, ◌-◌, ◌*◌, ◌^◌, ◌≡◌, ◌⊎◌, max, Bool, true, false, ◌&&◌, ◌||◌, not, nat_eq, nat_lt, nat_le, if◌then◌else◌, List, [], ◌∷◌, ◌++◌, length, map, take, drop, fold, filter, find, sum_by, count_by, slice_get, IsTrue, Option, Some, None, is_some, is_none, unwrap_or, Contains}
+use Rattle.std.specs.Prelude.{ℕ, ◌+◌, ◌-◌, ◌*◌, ◌^◌, ◌≡◌, ◌⊎◌, Bool, true, false, ◌&&◌, ◌||◌, not, nat_eq, nat_lt, nat_le, if◌then◌else◌, List, [], ◌∷◌, ◌++◌, length, map, take, drop, filter, find, sum_by, slice_get, IsTrue, Option, Some, None, is_some, is_none, unwrap_or, Contains}
 use Rattle.std.specs.List.{list_any, range_with_len, flat_map}
 use Rattle.std.specs.Option.{option_map, option_map_or, option_and_then}
 use Rattle.base.specs.declared.key.Key.{Key}
@@ -189,11 +189,6 @@ is_passed q = choosing.is_passed (reach q)
 -- the long commits that its record names: drawn and not stamped, up to there
 abbrev pub passed_over : State → List ℕ
 passed_over q = choosing.passed_over (reach q) q.drawn
-
--- whether a record is due although there is nothing to cover: fewer timestamps than half a window are reserved, or
--- swept gaps stand, which the next record drops
-abbrev pub has_other_reason_to_write : State → Bool
-has_other_reason_to_write q = choosing.has_other_reason_to_write q.layout q.ruling q.next q.swept
 
 -- nothing to cover, and no other reason for a record
 abbrev pub is_idle : State → Bool

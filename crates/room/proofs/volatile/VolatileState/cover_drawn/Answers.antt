@@ -2,13 +2,13 @@ use Rattle.std.proofs.Common.{◌≡◌, ◌^◌, ◌<◌, true, sym, ◌∙◌,
 use Rattle.std.proofs.lemmas.Bool.{iff_false}
 use Rattle.std.specs.Prelude.{nat_eq}
 use Rattle.std.specs.List.{list_any}
+use Rattle.base.specs.Choosing.{closing_record}
 use Rattle.base.specs.Records.{are_rising}
 use Rattle.base.proofs.Results.{reported}
 use Rattle.pmem.specs.Trace.{applied}
 use Rattle.log_area.specs.Writings.{begun}
 use Rattle.dirty_table.specs.Touches.{has, lines_touched, Table}
 use Rattle.txn.specs.InFlight.{InFlight}
-use Rattle.group_commit.specs.Choosing.{closing_record}
 use Rattle.group_commit.specs.Cycles.{line_from, operation_in, ticked_in}
 use Rattle.session_steps.specs.declared.numbers.Numbers.{Numbers}
 use Rattle.room.specs.Closing.{ClosePhaseFailed}
