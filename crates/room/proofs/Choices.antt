@@ -1,5 +1,5 @@
 -- The ticks that make no operation: nothing is due, or a batch is chosen, or the tick is refused.
-use Rattle.std.proofs.Common.{◌≡◌, inl, inr, ℕ, ◌+◌, ◌^◌, ◌<◌, ◌≤◌, ◌&&◌, Bool, true, false, cond, List, [], length, map, refl, sym, ◌∙◌, ap, subst, arith, nat_eq, nat_le}
+use Rattle.std.proofs.Common.{◌≡◌, inl, inr, ℕ, ◌+◌, ◌^◌, ◌<◌, ◌≤◌, ◌&&◌, Bool, true, false, cond, List, length, map, refl, sym, ◌∙◌, ap, subst, arith, nat_eq, nat_le}
 use Rattle.std.specs.Prelude.{Option, Some, None}
 use Rattle.std.specs.List.{list_any}
 use Rattle.std.proofs.lemmas.Bool.{le-leb, lt-leb}
@@ -22,7 +22,7 @@ use Rattle.dirty_table.specs.Touches.{has}
 use Rattle.group_commit.specs.declared.stage.CycleStage.TheVariants.{FlushLines}
 use Rattle.group_commit.specs.Cycles.{Cycling, IsBeginFault}
 use Rattle.group_commit.proofs.Counting.{ticks-are_counted}
-use Rattle.state_invariant.specs.Kept.{Origin, Keeps}
+use Rattle.state_invariant.specs.Kept.{Origin}
 use Rattle.state_invariant.proofs.Choosing.{keeps-chosen}
 use Rattle.device_invariant.specs.Log.{HoldsHand as LogHoldsHand}
 use Rattle.device_invariant.specs.Upholds.{Upholds}

@@ -158,7 +158,7 @@ stamped-nowhere t (e ∷ ds) le = by (nat_le t e.timestamp) refl (stamped-nowher
 
 -- ---- where a search ends
 
-pub later_at : (t : ℕ) (ds : List DrawnCommit) → are_later t ds ≡ true → (j : ℕ) (d : DrawnCommit) → j < length ds → t < (get_or ds j d).timestamp
+later_at : (t : ℕ) (ds : List DrawnCommit) → are_later t ds ≡ true → (j : ℕ) (d : DrawnCommit) → j < length ds → t < (get_or ds j d).timestamp
 later_at t [] all j d lt = absurd (omega (arith, lt))
 later_at t (e ∷ ds) all zero d lt = ltb-true t e.timestamp (and_parts (nat_lt t e.timestamp) (are_later t ds) all).0
 later_at t (e ∷ ds) all (suc j) d lt = later_at t ds (and_parts (nat_lt t e.timestamp) (are_later t ds) all).1 j d (omega (arith, lt))
