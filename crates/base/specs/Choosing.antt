@@ -69,9 +69,9 @@ target_of layout ruling next swept drawn = record {
   longs = passed_over (reach (most_longs layout.version) ruling.persisted drawn) drawn;
 }
 
--- the record that a close writes last, with nothing in hand: it persists all that is drawn, and reserves nothing
-abbrev pub closing_record : Record → ℕ → Bool → Record
-closing_record ruling next swept = record { gate = ruling.gate + 1; persisted = next - 1; dirty = next; gaps = standing_gaps swept ruling; longs = [] }
+-- the record that a close writes last, under this number: it persists all that is drawn, and reserves nothing
+abbrev pub closing_record : ℕ → Record → ℕ → Bool → Record
+closing_record gate ruling next swept = record { gate = gate; persisted = next - 1; dirty = next; gaps = standing_gaps swept ruling; longs = [] }
 
 -- what readers learn of a batch: its commits, under the record that covers it
 abbrev pub batch_of : Record → Record → List Commit → Batch

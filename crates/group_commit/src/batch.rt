@@ -3,7 +3,7 @@ ghost use Rattle.std.specs.List.{list_any};
 ghost use Rattle.base.specs.Records.{is_committed};
 ghost use Rattle.dirty_table.specs.Touches.{has};
 ghost use Rattle.base.specs.Layout.{most_longs};
-ghost use Rattle.base.specs.Choosing.{reach, is_chosen, chosen, passed_over, standing_gaps, target_of, closing_record, batch_of, is_idle};
+ghost use Rattle.base.specs.Choosing.{reach, is_chosen, chosen, standing_gaps, target_of, closing_record, batch_of, is_idle};
 ghost use Rattle.txn.specs.DrawnCommits.{are_numbered, plain_drawn};
 
 use base::batch::{Batch, Commit};
@@ -87,7 +87,7 @@ pub(crate) fn record_of(
 /// The record that a close writes last: it persists all that is drawn, names no long commit, and reserves no timestamp.
 pub(crate) fn closing_record(ruling: Record, next: Ts, swept: bool) -> Record
     requires { ruling.gate < 2 ^ 62 }
-    ensures { result ≡ closing_record ruling next swept }
+    ensures { result ≡ closing_record (ruling.gate + 1) ruling next swept }
 {
     let gaps = standing_gaps(ruling, swept);
     let persisted = next.saturating_sub(1);

@@ -101,7 +101,7 @@ impl Cycle {
     ) -> Cycle
         requires numbered { ruling.gate < 2 ^ 62 }
         ensures sessions { (n : ℕ) → has result.sessions n ≡ list_any (λ d. nat_eq d.session n) drawn.now.commits }
-        ensures writing { result.writing ≡ begun geometry (closing_record ruling next swept) }
+        ensures writing { result.writing ≡ begun geometry (closing_record (ruling.gate + 1) ruling next swept) }
         ensures stage { result.stage ≡ FlushLines 0 0 }
     {
         let target = closing_record(ruling, next, swept);

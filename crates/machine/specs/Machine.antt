@@ -500,7 +500,7 @@ closing_gate q = q.ruling.gate + (if is_some q.hand then 2 else 1)
 -- that of a close: all that was drawn is covered, no timestamp stays reserved, and swept gaps are dropped
 abbrev pub closed : State → Cover
 closed q = record {
-  ruled_by = record { gate = closing_gate q; persisted = q.next - 1; dirty = q.next; gaps = standing_gaps q; longs = [] };
+  ruled_by = choosing.closing_record (closing_gate q) q.ruling q.next q.swept;
   commits = q.history ++ uncovered q;
 }
 

@@ -14,7 +14,7 @@ use Rattle.base.specs.declared.fault.Fault.TheVariants.{Device as DeviceFault}
 use Rattle.base.specs.Actors.{committer}
 use Rattle.base.specs.Choosing.{closing_record as record_of_close}
 use Rattle.base.specs.Images.{Image}
-use Rattle.base.specs.Layout.{Layout, total_words}
+use Rattle.base.specs.Layout.{total_words}
 use Rattle.machine.specs.Machine.{State, Hand, is_stamped, drawn_of, closing_gate, StandsClosing, StandsClosed}
 use Rattle.base.specs.Records.{Record, are_rising}
 use Rattle.pmem.specs.Device.{Device, IsOrderly, MayLeave, flushed, fenced, failed}
@@ -111,7 +111,7 @@ module _ (c : VolatileState) (device : Device) (q : State) (sessions : List Bool
 
 -- the record that the cycle writes
 abbrev pub last_record : VolatileState → Record
-last_record c = record_of_close c.sessions.numbers.record c.sessions.numbers.next c.sessions.collector.swept
+last_record c = record_of_close (c.sessions.numbers.record.gate + 1) c.sessions.numbers.record c.sessions.numbers.next c.sessions.collector.swept
 
 module _ (c : VolatileState) (before now : Device) (rests : c.cycle ≡ None) (stamped : list_all is_stamped (map plain_drawn c.sessions.drawn.commits) ≡ true) (numbered : c.sessions.numbers.record.gate + 1 < 2 ^ 62)
     (q : State) (shown : Shows c before q) (works : q.failed ≡ false) (persisted : HasPersisted q before) (spares : Spares (IsOutside (begun c.sessions.numbers.geometry (last_record c))) before now) where
