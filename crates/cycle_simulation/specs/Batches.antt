@@ -1,9 +1,9 @@
--- Which lines the commits of a batch touch, and how far its record reaches.
-use Rattle.std.specs.Prelude.{◌≡◌, ℕ, ◌+◌, max, Bool, nat_eq, nat_le, if◌then◌else◌, List, [], ◌∷◌, map, IsTrue, Some}
+-- Which lines the commits of a batch touch.
+use Rattle.std.specs.Prelude.{◌≡◌, ℕ, Bool, nat_eq, List, map, IsTrue, Some}
 use Rattle.std.specs.List.{list_any}
 use Rattle.base.specs.Commits.{Commit}
 use Rattle.base.specs.Records.{are_rising}
-use Rattle.machine.specs.Machine.{State, Drawn, drawn_at, is_stamped}
+use Rattle.machine.specs.Machine.{State, Drawn, drawn_at}
 use Rattle.state_invariant.specs.Kept.{commit_at}
 use Rattle.device_invariant.specs.Log.{lines_in, line_number}
 
@@ -19,10 +19,3 @@ line_numbers q commits = map (line_number q.layout) (lines_in q commits)
 -- the line is one of these
 abbrev pub is_line_of : ℕ → List ℕ → Bool
 is_line_of line lines = list_any (λ l. nat_eq l line) lines
-
--- one pass over drawn commits by rising timestamp: so far this is reached, and so many aren't stamped
-abbrev pub reach_from : ℕ → ℕ → ℕ → List Drawn → ℕ
-reach_from most reached unstamped [] = reached
-reach_from most reached unstamped (d ∷ drawn) =
-    if is_stamped d then reach_from most (if nat_le unstamped most then max reached d.commit.timestamp else reached) unstamped drawn
-    else reach_from most reached (unstamped + 1) drawn

@@ -12,10 +12,9 @@ use Rattle.base.specs.declared.step.Reply.TheVariants.{Idle, Ticked, Covered, Re
 use Rattle.base.specs.Commits.{Commit}
 use Rattle.base.specs.Images.{Image}
 use Rattle.machine.specs.Laws.{is_no_tick}
-use Rattle.base.specs.Layout.{most_longs}
 use Rattle.base.specs.Records.{are_rising}
 use Rattle.base.specs.Actors.{committer}
-use Rattle.machine.specs.Machine.{State, Hand, Stepped, refusal, reach, drawn_of, is_idle, taken_in_hand, batch_of, lines_of, state_covered, closing_gate, next_state, StandsWithin, StandsClosing, StandsClosed}
+use Rattle.machine.specs.Machine.{State, Hand, Stepped, refusal, drawn_of, is_idle, taken_in_hand, batch_of, lines_of, state_covered, closing_gate, next_state, StandsWithin, StandsClosing, StandsClosed}
 use Rattle.pmem.specs.Device.{Device, IsOrderly, MayLeave, flushed, fenced, failed}
 use Rattle.pmem.specs.Words.{LeavesOnly, Spares}
 use Rattle.pmem.specs.Trace.{applied}
@@ -29,16 +28,14 @@ use Rattle.device_invariant.specs.Log.{Line, lines_in, line_number, writing_at}
 use Rattle.device_invariant.specs.Laws.{one_tick_on}
 use Rattle.device_invariant.specs.Upholds.{Upholds}
 use Rattle.cycle_simulation.specs.Leads.{Ticks, FailsTick}
-use Rattle.cycle_simulation.specs.Batches.{reach_from, AreDrawn, line_numbers, is_line_of}
+use Rattle.cycle_simulation.specs.Batches.{AreDrawn, line_numbers, is_line_of}
 use Rattle.cycle_simulation.specs.Closing.{closing_record, IsClosing, AreFlushed, HasPersisted, IsClosingOn, ClosesAs}
 
 -- ---- the batch
 
--- The batch that is chosen keeps what a batch in hand is to keep, and one pass over what is drawn finds how far its record
--- reaches
-pub record BatchesAreChosen : Type 0 where
-  pub keeps : (o : Origin) (q : State) → Keeps o q → KeepsHand q (taken_in_hand q)
-  pub reaches : (o : Origin) (q : State) → Keeps o q → reach q ≡ reach_from (most_longs q.layout.version) q.ruling.persisted 0 q.drawn
+-- the batch that is chosen keeps what a batch in hand is to keep
+abbrev pub BatchesAreChosen : Type 0
+BatchesAreChosen = (o : Origin) (q : State) → Keeps o q → KeepsHand q (taken_in_hand q)
 
 -- commits that are drawn touch as many lines as the machine counts
 pub record LinesAreCounted : Type 0 where

@@ -1,6 +1,6 @@
 ghost use Rattle.cycle_simulation.specs.Laws.{BatchesAreChosen, LinesAreCounted, LinesRise, LinesStay, IdleTicks, ChoosingTicks, RefusedTicks, LineTicks, FenceTicks, OperationTicks, CoveringTicks, FailingTicks, ClosingFlushes, ClosingWrites, ClosesOn};
 
-/// The batch that is chosen keeps what a batch in hand is to keep, and one pass finds how far its record reaches.
+/// The batch that is chosen keeps what a batch in hand is to keep.
 pub fn batches_are_chosen()
     ensures { BatchesAreChosen }
 {}

@@ -1,13 +1,18 @@
 -- What the commits of a batch wrote.
-use Rattle.std.proofs.Common.{◌≡◌, ℕ, ◌≤◌, Bool, true, false, cond, List, [], ◌∷◌, length, take, map, find, Some, refl, ◌∙◌, ap, arith}
+use Rattle.std.proofs.Common.{◌≡◌, ℕ, ◌≤◌, Bool, true, false, cond, not, ◌||◌, List, [], ◌∷◌, length, take, map, filter, find, Some, refl, ◌∙◌, ap, arith}
 use Rattle.std.specs.Prelude.{Option, IsTrue, nat_le}
+use Rattle.std.specs.List.{list_any}
 use Rattle.std.proofs.lemmas.Bool.{leb-true}
 use Rattle.std.proofs.lemmas.List.{take_all}
 use Rattle.std.proofs.lemmas.Simd.{map-map}
 use Rattle.base.specs.declared.key.Key.{Key}
 use Rattle.base.specs.Keys.{is_rising}
+use Rattle.base.specs.Choosing.{Drawn, is_chosen, chosen}
 use Rattle.base.specs.Commits.{Writes}
+use Rattle.base.specs.Lists.{is_nil}
+use Rattle.txn.specs.declared.drawn.DrawnCommit.{DrawnCommit}
 use Rattle.txn.specs.declared.write.Write.{Write}
+use Rattle.txn.specs.DrawnCommits.{plain_drawn}
 use Rattle.txn.specs.WriteSets.{IsRising, plain_write, plain_writes}
 
 -- rows that are pushed one after the other are by rising key, as the writes are
@@ -15,6 +20,16 @@ pub rising-plain : (writes : List Write) (n : ℕ) (rows : Writes) → rows ≡ 
 rising-plain writes n rows is whole rising =
     ap (λ (ws : Writes). is_rising (map (λ (w : Key × Option (List ℕ)). w.0) ws)) (is ∙ ap plain_writes (take_all n writes whole))
     ∙ ap is_rising (map-map (λ (w : Key × Option (List ℕ)). w.0) plain_write writes) ∙ rising
+
+-- no commit is chosen where none passes
+pub none-chosen : (reach : ℕ) (ds : List DrawnCommit) → is_nil (chosen reach (map plain_drawn ds)) ≡ not (list_any (λ d. is_chosen reach (plain_drawn d)) ds)
+none-chosen reach [] = refl
+none-chosen reach (d ∷ ds) = by (is_chosen reach (plain_drawn d)) (none-chosen reach ds)
+  where
+    by : (b : Bool) → is_nil (chosen reach (map plain_drawn ds)) ≡ not (list_any (λ d. is_chosen reach (plain_drawn d)) ds)
+        → is_nil (map (λ (e : Drawn). e.commit) (cond b (plain_drawn d ∷ filter (is_chosen reach) (map plain_drawn ds)) (filter (is_chosen reach) (map plain_drawn ds)))) ≡ not (b || list_any (λ d. is_chosen reach (plain_drawn d)) ds)
+    by true rest = refl
+    by false rest = rest
 
 -- a line that is found isn't below
 pub found-from : (from line : ℕ) (lines : List ℕ) → find (nat_le from) lines ≡ Some line → from ≤ line

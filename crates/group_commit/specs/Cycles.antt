@@ -1,9 +1,12 @@
--- What each tick of a cycle does, where the batch touches these lines.
-use Rattle.std.specs.Prelude.{ℕ, ◌+◌, Bool, true, nat_le, List, find, Option, Some, None}
+-- Why no cycle begins, and what each tick of one does, where the batch touches these lines.
+use Rattle.std.specs.Prelude.{◌≡◌, ◌⊎◌, ℕ, ◌+◌, ◌^◌, ◌<◌, ◌≤◌, Bool, true, nat_le, List, find, Option, Some, None}
+use Rattle.base.specs.declared.fault.Fault.{Fault}
+use Rattle.base.specs.declared.fault.Fault.TheVariants.{OutOfMemory, TimestampsOut}
 use Rattle.base.specs.declared.step.Stage.{Stage}
 use Rattle.base.specs.declared.step.Stage.TheVariants.{LineFlushed, LinesFenced}
 use Rattle.base.specs.Actors.{committer}
 use Rattle.base.specs.Batches.{Batch}
+use Rattle.base.specs.Records.{Record}
 use Rattle.pmem.specs.Trace.{Operation, flush_op, fence_op}
 use Rattle.log_area.specs.Stages.{reached_by}
 use Rattle.log_area.specs.Writings.{Progress, advanced, operation_of}
@@ -16,6 +19,10 @@ pub record Cycling : Type 0 where
   pub sessions : List Bool
   pub writing : Progress
   pub stage : CycleStage
+
+-- why none begins: no record number is left; or one is, and memory is wanting
+abbrev pub IsBeginFault : Record → Fault → Type 0
+IsBeginFault ruling fault = ((2 ^ 62 ≤ ruling.gate + 1) × (fault ≡ TimestampsOut)) ⊎ ((ruling.gate + 1 < 2 ^ 62) × (fault ≡ OutOfMemory))
 
 -- no more lines were flushed than there are numbers below the next one
 abbrev pub is_counted : CycleStage → Bool

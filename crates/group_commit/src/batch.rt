@@ -2,8 +2,9 @@ ghost use Rattle.std.specs.Prelude.{◌≡◌, ◌+◌, ◌-◌, ◌*◌, ◌^�
 ghost use Rattle.std.specs.List.{list_any};
 ghost use Rattle.base.specs.Records.{is_committed};
 ghost use Rattle.dirty_table.specs.Touches.{has};
-ghost use Rattle.txn.specs.DrawnCommits.{are_numbered};
-ghost use Rattle.group_commit.specs.Choosing.{commit_of, reach_of, longs_of, is_chosen, chosen, standing_gaps, record_of, closing_record, batch_of, is_idle};
+ghost use Rattle.base.specs.Layout.{most_longs};
+ghost use Rattle.base.specs.Choosing.{reach, is_chosen, chosen, standing_gaps, target_of, closing_record, batch_of, is_idle};
+ghost use Rattle.txn.specs.DrawnCommits.{are_numbered, plain_drawn};
 
 use base::batch::{Batch, Commit};
 use base::gap::Gaps;
@@ -25,7 +26,7 @@ pub fn is_idle(
     drawn: &DrawnCommits,
 ) -> bool
     requires { next ≤ 2 ^ 62 }
-    ensures { result ≡ is_idle geometry ruling next swept drawn.now.commits }
+    ensures { result ≡ is_idle geometry ruling next swept (map plain_drawn drawn.now.commits) }
 {
     let reserved = ruling.dirty().saturating_sub(next);
     let window_is_short = reserved < (geometry.window() + 1) / 2;
@@ -36,21 +37,21 @@ pub fn is_idle(
 
 // Up to which timestamp the next record reaches.
 fn reach_of(geometry: Geometry, ruling: Record, drawn: &DrawnCommits) -> Ts
-    ensures { result ≡ reach_of geometry ruling drawn.now.commits }
+    ensures { result ≡ reach (most_longs geometry.version) ruling.persisted (map plain_drawn drawn.now.commits) }
 {
     drawn.reach(ruling.persisted(), geometry.most_longs())
 }
 
 // Whether a record that reaches up to there covers the commit.
 fn is_chosen(reach: Ts, commit: &DrawnCommit) -> bool
-    ensures { result ≡ is_chosen reach commit.now }
+    ensures { result ≡ is_chosen reach (plain_drawn commit.now) }
 {
     commit.is_stamped() && commit.timestamp <= reach
 }
 
 // Whether it covers one of these.
 fn has_chosen(reach: Ts, drawn: &[DrawnCommit]) -> bool
-    ensures { result ≡ list_any (is_chosen reach) drawn.now }
+    ensures { result ≡ list_any (λ d. is_chosen reach (plain_drawn d)) drawn.now }
 {
     drawn.iter().any(|commit| is_chosen(reach, commit))
 }
@@ -73,8 +74,8 @@ pub(crate) fn record_of(
 ) -> Record
     requires numbered { ruling.gate < 2 ^ 62 }
     requires countable { next ≤ 2 ^ 62 }
-    requires few { length (longs_of geometry ruling drawn.now.commits) ≤ 12 }
-    ensures { result ≡ record_of geometry ruling next swept drawn.now.commits }
+    requires few { length (target_of geometry ruling next swept (map plain_drawn drawn.now.commits)).longs ≤ 12 }
+    ensures { result ≡ target_of geometry ruling next swept (map plain_drawn drawn.now.commits) }
 {
     let reach = reach_of(geometry, ruling, drawn);
     let dirty = next + geometry.window();
@@ -86,7 +87,7 @@ pub(crate) fn record_of(
 /// The record that a close writes last: it persists all that is drawn, names no long commit, and reserves no timestamp.
 pub(crate) fn closing_record(ruling: Record, next: Ts, swept: bool) -> Record
     requires { ruling.gate < 2 ^ 62 }
-    ensures { result ≡ closing_record ruling next swept }
+    ensures { result ≡ closing_record (ruling.gate + 1) ruling next swept }
 {
     let gaps = standing_gaps(ruling, swept);
     let persisted = next.saturating_sub(1);
@@ -108,7 +109,7 @@ pub(crate) fn batch_of(
     target: Record,
     drawn: &[DrawnCommit],
 ) -> Result<Batch, AllocError>
-    ensures { IfOk result (λ batch. batch ≡ batch_of ruling target drawn.now) }
+    ensures { IfOk result (λ batch. batch ≡ batch_of ruling target (chosen target.persisted (map plain_drawn drawn.now))) }
 {
     let commits = commits_of(alloc, target.persisted(), drawn)?;
     Ok(Batch::new(
@@ -122,7 +123,7 @@ pub(crate) fn batch_of(
 
 // What each of the chosen ones wrote.
 fn commits_of(alloc: Global, reach: Ts, drawn: &[DrawnCommit]) -> Result<Vec<Commit>, AllocError>
-    ensures { IfOk result (λ commits. commits.items ≡ map commit_of (chosen reach drawn.now)) }
+    ensures { IfOk result (λ commits. commits.items ≡ chosen reach (map plain_drawn drawn.now)) }
 {
     let mut commits = Vec::with_capacity(alloc, drawn.len())?;
     for commit in drawn {
@@ -135,7 +136,7 @@ fn commits_of(alloc: Global, reach: Ts, drawn: &[DrawnCommit]) -> Result<Vec<Com
 
 // The commit of a transaction that writes this.
 fn commit_of(alloc: Global, drawn: &DrawnCommit) -> Result<Commit, AllocError>
-    ensures { IfOk result (λ commit. commit ≡ commit_of drawn.now) }
+    ensures { IfOk result (λ commit. commit ≡ (plain_drawn drawn.now).commit) }
 {
     let mut rows = Vec::with_capacity(alloc, drawn.writes.len())?;
     for write in drawn.writes.as_slice() {

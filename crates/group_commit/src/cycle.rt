@@ -43,8 +43,9 @@ pub struct Covered {
 }
 
 impl Cycle {
-    ghost use Rattle.std.specs.Prelude.{◌≡◌, ◌≢◌, ◌↔◌, ◌+◌, ◌*◌, ◌^◌, ◌<◌, ◌≤◌, ◌&&◌, ℕ, nat_eq, length, Some, None, IsTrue, IfOk, IfErr, OnOk, OnErr};
+    ghost use Rattle.std.specs.Prelude.{◌≡◌, ◌≢◌, ◌↔◌, ◌+◌, ◌*◌, ◌^◌, ◌<◌, ◌≤◌, ◌&&◌, ℕ, nat_eq, length, map, Some, None, IsTrue, IfOk, IfErr, OnOk, OnErr};
     ghost use Rattle.std.specs.List.{list_any};
+    ghost use Rattle.base.specs.Choosing.{chosen, target_of, closing_record, batch_of};
     ghost use Rattle.base.specs.Layout.{total_words};
     ghost use Rattle.base.specs.Records.{are_rising, is_committed};
     ghost use Rattle.log_area.specs.declared.stage.WritingStage.TheVariants.{Done};
@@ -52,9 +53,9 @@ impl Cycle {
     ghost use Rattle.pmem.specs.Device.{failed};
     ghost use Rattle.pmem.specs.Trace.{applied};
     ghost use Rattle.dirty_table.specs.Touches.{has, lines_touched};
+    ghost use Rattle.txn.specs.DrawnCommits.{plain_drawn};
     ghost use Rattle.group_commit.specs.declared.stage.CycleStage.TheVariants.{FlushLines, WriteRecord};
-    ghost use Rattle.group_commit.specs.Choosing.{longs_of, record_of, closing_record, batch_of, IsBeginFault};
-    ghost use Rattle.group_commit.specs.Cycles.{line_from, operation_in, reached_in, ticked_in};
+    ghost use Rattle.group_commit.specs.Cycles.{IsBeginFault, line_from, operation_in, reached_in, ticked_in};
 
     /// Takes the drawn commits that the next record may cover, and the memory of their batch: no tick takes any. Fails with
     /// `TimestampsOut` where no record number is left, and else with `OutOfMemory`.
@@ -68,10 +69,10 @@ impl Cycle {
     ) -> Result<Cycle, Fault>
         requires numbered { ruling.gate < 2 ^ 62 }
         requires countable { next ≤ 2 ^ 62 }
-        requires few { length (longs_of geometry ruling drawn.now.commits) ≤ 12 }
-        ensures batch { IfOk result (λ cycle. cycle.batch ≡ batch_of ruling (record_of geometry ruling next swept drawn.now.commits) drawn.now.commits) }
+        requires few { length (target_of geometry ruling next swept (map plain_drawn drawn.now.commits)).longs ≤ 12 }
+        ensures batch { IfOk result (λ cycle. cycle.batch ≡ batch_of ruling cycle.writing.target (chosen cycle.writing.target.persisted (map plain_drawn drawn.now.commits))) }
         ensures sessions { IfOk result (λ cycle. (n : ℕ) → has cycle.sessions n ≡ list_any (λ d. nat_eq d.session n && is_committed cycle.writing.target d.timestamp) drawn.now.commits) }
-        ensures writing { IfOk result (λ cycle. cycle.writing ≡ begun geometry (record_of geometry ruling next swept drawn.now.commits)) }
+        ensures writing { IfOk result (λ cycle. cycle.writing ≡ begun geometry (target_of geometry ruling next swept (map plain_drawn drawn.now.commits))) }
         ensures stage { IfOk result (λ cycle. cycle.stage ≡ FlushLines 0 0) }
         ensures numbered { OnOk result (ruling.gate + 1 < 2 ^ 62) }
         ensures fault { IfErr result (IsBeginFault ruling) }
@@ -100,7 +101,7 @@ impl Cycle {
     ) -> Cycle
         requires numbered { ruling.gate < 2 ^ 62 }
         ensures sessions { (n : ℕ) → has result.sessions n ≡ list_any (λ d. nat_eq d.session n) drawn.now.commits }
-        ensures writing { result.writing ≡ begun geometry (closing_record ruling next swept) }
+        ensures writing { result.writing ≡ begun geometry (closing_record (ruling.gate + 1) ruling next swept) }
         ensures stage { result.stage ≡ FlushLines 0 0 }
     {
         let target = closing_record(ruling, next, swept);

@@ -1,5 +1,5 @@
 -- The plain machine: what each step may answer, and the state after it.
-use Rattle.std.specs.Prelude.{ℕ, ◌+◌, ◌-◌, ◌*◌, ◌^◌, ◌≡◌, ◌⊎◌, max, Bool, true, false, ◌&&◌, ◌||◌, not, nat_eq, nat_lt, nat_le, if◌then◌else◌, List, [], ◌∷◌, ◌++◌, length, map, take, drop, fold, filter, find, sum_by, count_by, slice_get, IsTrue, Option, Some, None, is_some, is_none, unwrap_or, Contains}
+use Rattle.std.specs.Prelude.{ℕ, ◌+◌, ◌-◌, ◌*◌, ◌^◌, ◌≡◌, ◌⊎◌, Bool, true, false, ◌&&◌, ◌||◌, not, nat_eq, nat_lt, nat_le, if◌then◌else◌, List, [], ◌∷◌, ◌++◌, length, map, take, drop, filter, find, sum_by, slice_get, IsTrue, Option, Some, None, is_some, is_none, unwrap_or, Contains}
 use Rattle.std.specs.List.{list_any, range_with_len, flat_map}
 use Rattle.std.specs.Option.{option_map, option_map_or, option_and_then}
 use Rattle.base.specs.declared.key.Key.{Key}
@@ -20,6 +20,8 @@ use Rattle.base.specs.Layout.{row_limit, slot_words, version_lines, most_longs}
 use Rattle.base.specs.Search.{first_below, first_of, some_if}
 use Rattle.base.specs.Lists.{is_nil, replaced}
 use Rattle.base.specs.Records.{Record}
+use Rattle.base.specs.Choosing as choosing
+pub use Rattle.base.specs.Choosing.{is_stamped}
 use Rattle.base.specs.Images.{Image, layout_of, ruling}
 use Rattle.base.specs.Stands.{has_timestamp, Stands}
 use Rattle.base.specs.Replies.{note_of}
@@ -54,10 +56,6 @@ pub data Standing : Type 0 where
   IsDrawn : Standing
   IsStamped : Standing
   IsCovered : Standing
-
--- all its keys are stamped
-abbrev pub is_stamped : Drawn → Bool
-is_stamped d = nat_eq d.stamped (length d.commit.writes)
 
 -- the drawn commit with this timestamp
 abbrev pub drawn_at : State → ℕ → Option Drawn
@@ -166,41 +164,35 @@ conflict_of q n = find (λ key. list_any (writes_key key) (unseen_by q n)) (map 
 
 -- how many drawn commits below a timestamp aren't stamped
 abbrev pub unstamped_below : State → ℕ → ℕ
-unstamped_below q t = count_by (λ d. nat_lt d.commit.timestamp t && not (is_stamped d)) q.drawn
+unstamped_below q = choosing.unstamped_below q.drawn
 
 -- a commit may be covered when it is stamped, and no more commits below it than a record may name aren't
 abbrev pub may_be_covered : State → Drawn → Bool
-may_be_covered q d = is_stamped d && nat_le (unstamped_below q d.commit.timestamp) (most_longs q.layout.version)
+may_be_covered q = choosing.may_be_covered (most_longs q.layout.version) q.drawn
 
 -- The timestamp up to which stamped commits are covered: the greatest of those that may be, or the one persisted now
 abbrev pub reach : State → ℕ
-reach q = fold max q.ruling.persisted (map (λ d. d.commit.timestamp) (filter (may_be_covered q) q.drawn))
+reach q = choosing.reach (most_longs q.layout.version) q.ruling.persisted q.drawn
 
 -- it is stamped, and not above there
 abbrev pub is_chosen : State → Drawn → Bool
-is_chosen q d = is_stamped d && nat_le d.commit.timestamp (reach q)
+is_chosen q = choosing.is_chosen (reach q)
 
 -- the batch that is chosen now: the stamped commits up to there
 abbrev pub chosen : State → List Commit
-chosen q = map (λ d. d.commit) (filter (is_chosen q) q.drawn)
+chosen q = choosing.chosen (reach q) q.drawn
 
 -- it is not stamped, and not above there
 abbrev pub is_passed : State → Drawn → Bool
-is_passed q d = not (is_stamped d) && nat_le d.commit.timestamp (reach q)
+is_passed q = choosing.is_passed (reach q)
 
 -- the long commits that its record names: drawn and not stamped, up to there
 abbrev pub passed_over : State → List ℕ
-passed_over q = map (λ d. d.commit.timestamp) (filter (is_passed q) q.drawn)
-
--- whether a record is due although there is nothing to cover: fewer timestamps than half a window are reserved, or
--- swept gaps stand, which the next record drops
-abbrev pub has_other_reason_to_write : State → Bool
-has_other_reason_to_write q =
-    nat_lt (2 * (q.ruling.dirty - q.next)) q.layout.window || q.swept && not (is_nil q.ruling.gaps)
+passed_over q = choosing.passed_over (reach q) q.drawn
 
 -- nothing to cover, and no other reason for a record
 abbrev pub is_idle : State → Bool
-is_idle q = is_nil (chosen q) && not (has_other_reason_to_write q)
+is_idle q = choosing.is_idle q.layout q.ruling q.next q.swept q.drawn
 
 -- the lines that one write of a batch touches: the new version's, and that of the version that it ends
 abbrev pub lines_of_write : State → Key × Option (List ℕ) → ℕ
@@ -223,17 +215,11 @@ next_stage q hand = slice_get (stages (lines_of q hand.commits)) hand.ticks
 
 -- the gaps that the next record names: none once they are swept
 abbrev pub standing_gaps : State → List Gap
-standing_gaps q = if q.swept then [] else q.ruling.gaps
+standing_gaps q = choosing.standing_gaps q.swept q.ruling
 
 -- the record that covers the batch that is chosen now
 abbrev pub target_of : State → Record
-target_of q = record {
-  gate = q.ruling.gate + 1;
-  persisted = reach q;
-  dirty = q.next + q.layout.window;
-  gaps = standing_gaps q;
-  longs = passed_over q;
-}
+target_of q = choosing.target_of q.layout q.ruling q.next q.swept q.drawn
 
 -- the batch that is chosen now, after its first tick
 abbrev pub taken_in_hand : State → Hand
@@ -241,7 +227,7 @@ taken_in_hand q = record { commits = chosen q; target = target_of q; ticks = 1 }
 
 -- what readers learn of it
 abbrev pub batch_of : State → Hand → Batch
-batch_of q hand = record { from = q.ruling.gate; stamp = hand.target.gate; persisted = hand.target.persisted; longs = hand.target.longs; commits = hand.commits }
+batch_of q hand = choosing.batch_of q.ruling hand.target hand.commits
 
 -- the state once it is covered
 abbrev pub state_covered : State → Hand → State
@@ -514,7 +500,7 @@ closing_gate q = q.ruling.gate + (if is_some q.hand then 2 else 1)
 -- that of a close: all that was drawn is covered, no timestamp stays reserved, and swept gaps are dropped
 abbrev pub closed : State → Cover
 closed q = record {
-  ruled_by = record { gate = closing_gate q; persisted = q.next - 1; dirty = q.next; gaps = standing_gaps q; longs = [] };
+  ruled_by = choosing.closing_record (closing_gate q) q.ruling q.next q.swept;
   commits = q.history ++ uncovered q;
 }
 

@@ -6,17 +6,13 @@ use Rattle.base.specs.Lists.{replaced}
 use Rattle.base.specs.Commits.{Writes, Commit}
 use Rattle.base.specs.Layout.{Layout}
 use Rattle.base.specs.Records.{Record}
+pub use Rattle.base.specs.Choosing.{Drawn}
 
 -- an open transaction: with the number of commits that it sees and its writes; or with its timestamp; or at its end, having written nothing
 pub data Session : Type 0 where
   Active : ℕ → Writes → Session
   Drew : ℕ → Session
   WroteNothing : Session
-
--- a commit that is drawn and not covered, and how many of its keys are stamped
-pub record Drawn : Type 0 where
-  pub commit : Commit
-  pub stamped : ℕ
 
 -- a batch on its way to being covered, the record that covers it, and the ticks made for it
 pub record Hand : Type 0 where

@@ -26,6 +26,7 @@ use Rattle.log_area.specs.declared.stage.WritingStage.TheVariants.{StoreBody, Fl
 use Rattle.log_area.specs.Stages.{reached_by, operations_before}
 use Rattle.log_area.specs.Writings.{operation_of}
 use Rattle.txn.specs.declared.drawn.DrawnCommit.{DrawnCommit}
+use Rattle.txn.proofs.Passed.{filter-map}
 use Rattle.dirty_table.specs.Touches.{has, lines_touched}
 use Rattle.group_commit.specs.declared.stage.CycleStage.{CycleStage}
 use Rattle.group_commit.specs.declared.stage.CycleStage.TheVariants.{FlushLines, WriteRecord}
@@ -46,7 +47,6 @@ use Rattle.session_steps.specs.declared.sessions.Sessions.{Sessions}
 use Rattle.session_steps.specs.Shows.{plain_drawn, line_numbers, Agrees}
 use Rattle.session_steps.specs.Steps.{is_by_actor, RunsBy}
 use Rattle.session_steps.specs.Covering.{IsOf, MayCoverSome, ShowsCovered}
-use Rattle.session_steps.proofs.Filters.{filter-map}
 use Rattle.session_steps.proofs.BatchLines.{member, table-lines}
 use Rattle.session_steps.proofs.AnyHand.{shows-hand, shows-failed}
 use Rattle.session_steps.proofs.Effects.{all-made, last-failed}

@@ -1,5 +1,5 @@
 -- The ticks that make no operation: nothing is due, or a batch is chosen, or the tick is refused.
-use Rattle.std.proofs.Common.{◌≡◌, inl, inr, ℕ, ◌+◌, ◌^◌, ◌<◌, ◌≤◌, ◌&&◌, Bool, true, false, cond, List, [], length, map, refl, sym, ◌∙◌, ap, subst, arith, nat_eq, nat_le}
+use Rattle.std.proofs.Common.{◌≡◌, inl, inr, ℕ, ◌+◌, ◌^◌, ◌<◌, ◌≤◌, ◌&&◌, Bool, true, false, cond, List, length, map, refl, sym, ◌∙◌, ap, subst, arith, nat_eq, nat_le}
 use Rattle.std.specs.Prelude.{Option, Some, None}
 use Rattle.std.specs.List.{list_any}
 use Rattle.std.proofs.lemmas.Bool.{le-leb, lt-leb}
@@ -9,9 +9,9 @@ use Rattle.base.specs.declared.step.Step.TheVariants.{Commit as CommitTick}
 use Rattle.base.specs.declared.step.Stage.TheVariants.{Chosen}
 use Rattle.base.specs.declared.step.Reply.{Reply}
 use Rattle.base.specs.declared.step.Reply.TheVariants.{Idle, Ticked, Refused}
-use Rattle.base.specs.Batches.{Batch}
+use Rattle.base.specs.Choosing as choosing
 use Rattle.base.specs.Records.{Record, is_committed}
-use Rattle.machine.specs.Machine.{State, Hand, is_idle, refusal, taken_in_hand, chosen, passed_over, target_of, batch_of}
+use Rattle.machine.specs.Machine.{State, Hand, is_idle, refusal, taken_in_hand, chosen, target_of, batch_of}
 use Rattle.base.proofs.WellFormed.{well_formed-parts}
 use Rattle.pmem.specs.Device.{Device, IsOrderly}
 use Rattle.log_area.specs.declared.stage.WritingStage.TheVariants.{StoreBody, Done}
@@ -20,11 +20,9 @@ use Rattle.log_area.specs.Writings.{Progress, begun}
 use Rattle.txn.specs.declared.drawn.DrawnCommit.{DrawnCommit}
 use Rattle.dirty_table.specs.Touches.{has}
 use Rattle.group_commit.specs.declared.stage.CycleStage.TheVariants.{FlushLines}
-use Rattle.group_commit.specs.Choosing.{reach_of, longs_of, commit_of, IsBeginFault}
-use Rattle.group_commit.specs.Choosing as group
-use Rattle.group_commit.specs.Cycles.{Cycling}
+use Rattle.group_commit.specs.Cycles.{Cycling, IsBeginFault}
 use Rattle.group_commit.proofs.Counting.{ticks-are_counted}
-use Rattle.state_invariant.specs.Kept.{Origin, Keeps}
+use Rattle.state_invariant.specs.Kept.{Origin}
 use Rattle.state_invariant.proofs.Choosing.{keeps-chosen}
 use Rattle.device_invariant.specs.Log.{HoldsHand as LogHoldsHand}
 use Rattle.device_invariant.specs.Upholds.{Upholds}
@@ -36,7 +34,6 @@ use Rattle.session_steps.proofs.AnyHand.{shows-hand}
 use Rattle.session_steps.proofs.Effects.{nothing-done}
 use Rattle.room.specs.Committing.{HoldsHand, HoldsCycle, ShowsIn}
 use Rattle.room.specs.Steps.{StepsToIn}
-use Rattle.room.proofs.Chosen.{reach-same, commits-same, longs-same, idle-same}
 
 -- without a cycle nothing is in hand
 pub rests-of : (q : State) (drawn : List DrawnCommit) → HoldsCycle q drawn q.hand None → q.hand ≡ None
@@ -45,6 +42,13 @@ rests-of q drawn holds = by q.hand holds
     by : (hand : Option Hand) → HoldsCycle q drawn hand None → hand ≡ None
     by None holds = refl
     by (Some hand) holds = absurd holds
+
+-- whether no record is due, and the one that is next
+abbrev pub has_rest : Sessions → Bool
+has_rest s = choosing.is_idle s.numbers.geometry s.numbers.record s.numbers.next s.collector.swept (map plain_drawn s.drawn.commits)
+
+abbrev pub next_record : Sessions → Record
+next_record s = choosing.target_of s.numbers.geometry s.numbers.record s.numbers.next s.collector.swept (map plain_drawn s.drawn.commits)
 
 -- the numbers are in range
 pub next-below : (s : Sessions) (cycle : Option Cycling) (device : Device) (q : State) → ShowsIn s cycle device q → s.numbers.next ≤ 2 ^ 62
@@ -57,12 +61,10 @@ gate-below s device q shows =
     omega (arith, is, holds.stands.fits.in_range)
 
 -- the next record names no more long commits than it has words for
-pub few-passed : (s : Sessions) (device : Device) (q : State) → ShowsIn s None device q → length (longs_of s.numbers.geometry s.numbers.record s.drawn.commits) ≤ 12
+pub few-passed : (s : Sessions) (device : Device) (q : State) → ShowsIn s None device q → length (next_record s).longs ≤ 12
 few-passed s device q shows =
-    let keeps : Keeps shows.shown.hidden.origin q = shows.shown.upholds.keeps in
-    let formed = well_formed-parts q.layout.version (target_of q) (keeps-chosen shows.shown.hidden.origin q keeps).formed in
-    let passed : passed_over q ≡ longs_of q.layout q.ruling s.drawn.commits = longs-same shows.shown.hidden.origin q s.drawn.commits keeps (ap (λ (p : State). p.drawn) shows.shown.plain) in
-    let same : length (passed_over q) ≡ length (longs_of s.numbers.geometry s.numbers.record s.drawn.commits) = ap (λ (ts : List ℕ). length ts) (passed ∙ ap (λ (p : State). longs_of p.layout p.ruling s.drawn.commits) shows.shown.plain) in
+    let formed = well_formed-parts q.layout.version (target_of q) (keeps-chosen shows.shown.hidden.origin q shows.shown.upholds.keeps).formed in
+    let same = ap (λ (p : State). length (target_of p).longs) shows.shown.plain in
     omega (arith, same, formed.fewer, few-longs (nat_eq q.layout.version 1))
   where
     few-longs : (b : Bool) → cond b 0 12 ≤ 12
@@ -93,35 +95,12 @@ module _ (s : Sessions) (device : Device) (orderly : IsOrderly device) (q : Stat
   ruling : q.ruling ≡ s.numbers.record
   ruling = ap (λ (p : State). p.ruling) shows.shown.plain
 
-  next : q.next ≡ s.numbers.next
-  next = ap (λ (p : State). p.next) shows.shown.plain
-
-  swept : q.swept ≡ s.collector.swept
-  swept = ap (λ (p : State). p.swept) shows.shown.plain
-
-  drawn : q.drawn ≡ map plain_drawn ds
-  drawn = ap (λ (p : State). p.drawn) shows.shown.plain
-
-  due-same : is_idle q ≡ group.is_idle s.numbers.geometry s.numbers.record s.numbers.next s.collector.swept ds
-  due-same = idle-same o q ds upholds.keeps drawn s.collector.swept swept ∙ λ i. group.is_idle (layout i) (ruling i) (next i) s.collector.swept ds
-
-  abbrev record_is : Record
-  record_is = group.record_of s.numbers.geometry s.numbers.record s.numbers.next s.collector.swept ds
-
-  target-same : target_of q ≡ record_is
-  target-same =
-      (λ i. record {
-        gate = q.ruling.gate + 1;
-        persisted = reach-same o q ds upholds.keeps drawn i;
-        dirty = q.next + q.layout.window;
-        gaps = cond (swept i) [] q.ruling.gaps;
-        longs = longs-same o q ds upholds.keeps drawn i;
-      })
-      ∙ λ i. group.record_of (layout i) (ruling i) (next i) s.collector.swept ds
+  due-same : is_idle q ≡ has_rest s
+  due-same = ap is_idle shows.shown.plain
 
   -- ---- nothing is due
 
-  pub idles : group.is_idle s.numbers.geometry s.numbers.record s.numbers.next s.collector.swept ds ≡ true → (q' : State) × StepsToIn s None device device CommitTick Idle q q'
+  pub idles : has_rest s ≡ true → (q' : State) × StepsToIn s None device device CommitTick Idle q q'
   idles idle =
       let due : is_idle q ≡ true = due-same ∙ idle in
       let none : refusal q CommitTick ≡ None = rw (works, rests, due) refl in
@@ -129,7 +108,7 @@ module _ (s : Sessions) (device : Device) (orderly : IsOrderly device) (q : Stat
 
   -- ---- a batch is due
 
-  module _ (busy : group.is_idle s.numbers.geometry s.numbers.record s.numbers.next s.collector.swept ds ≡ false) where
+  module _ (busy : has_rest s ≡ false) where
     due : is_idle q ≡ false
     due = due-same ∙ busy
 
@@ -158,8 +137,8 @@ module _ (s : Sessions) (device : Device) (orderly : IsOrderly device) (q : Stat
           (λ told. let same : fault ≡ DeviceFault = cc told in absurd (cc (same, wanting.1))),
     )
 
-    module _ (cycle : Cycling) (numbered : s.numbers.record.gate + 1 < 2 ^ 62) (batch : cycle.batch ≡ group.batch_of s.numbers.record record_is ds)
-        (sessions : (n : ℕ) → has cycle.sessions n ≡ list_any (λ (d : DrawnCommit). nat_eq d.session n && is_committed cycle.writing.target d.timestamp) ds) (writing : cycle.writing ≡ begun s.numbers.geometry record_is) (stage : cycle.stage ≡ FlushLines 0 0) where
+    module _ (cycle : Cycling) (numbered : s.numbers.record.gate + 1 < 2 ^ 62) (batch : cycle.batch ≡ choosing.batch_of s.numbers.record cycle.writing.target (choosing.chosen cycle.writing.target.persisted (map plain_drawn ds)))
+        (sessions : (n : ℕ) → has cycle.sessions n ≡ list_any (λ (d : DrawnCommit). nat_eq d.session n && is_committed cycle.writing.target d.timestamp) ds) (writing : cycle.writing ≡ begun s.numbers.geometry (next_record s)) (stage : cycle.stage ≡ FlushLines 0 0) where
       abbrev taken : State
       taken = record q { hand = Some (taken_in_hand q) }
 
@@ -167,18 +146,17 @@ module _ (s : Sessions) (device : Device) (orderly : IsOrderly device) (q : Stat
       writing-stage = ap (λ (p : Progress). p.stage) writing
 
       target-is : cycle.writing.target ≡ target_of q
-      target-is = ap (λ (p : Progress). p.target) writing ∙ sym target-same
+      target-is = ap (λ (p : Progress). p.target) writing ∙ sym (ap target_of shows.shown.plain)
 
-      commits-are : chosen q ≡ map commit_of (group.chosen record_is.persisted ds)
-      commits-are = commits-same o q ds upholds.keeps drawn ∙ λ i. map commit_of (group.chosen (reach_of (layout i) (ruling i) ds) ds)
-
-      batch-same : batch_of q (taken_in_hand q) ≡ group.batch_of s.numbers.record record_is ds
-      batch-same = λ i. let b : Batch = record { from = (ruling i).gate; stamp = (target-same i).gate; persisted = (target-same i).persisted; longs = (target-same i).longs; commits = commits-are i } in b
+      batch-is : cycle.batch ≡ batch_of q (taken_in_hand q)
+      batch-is =
+          batch ∙ (λ i. choosing.batch_of s.numbers.record (writing i).target (choosing.chosen (writing i).target.persisted (map plain_drawn ds)))
+          ∙ sym (ap (λ (p : State). batch_of p (taken_in_hand p)) shows.shown.plain)
 
       holds : HoldsHand taken ds (taken_in_hand q) cycle
       holds = record {
         sessions = λ n. sessions n ∙ ap (λ (r : Record). list_any (λ (d : DrawnCommit). nat_eq d.session n && is_committed r d.timestamp) ds) target-is;
-        batch = batch ∙ sym batch-same;
+        batch = batch-is;
         layout = ap (λ (p : Progress). p.layout) writing ∙ sym layout;
         target = target-is;
         unfinished = λ done. let both : StoreBody 1 ≡ Done = sym writing-stage ∙ done in absurd (cc both);

@@ -12,8 +12,9 @@ use Rattle.std.specs.Option.{option_map}
 use Rattle.base.specs.declared.fault.Fault.{Fault}
 use Rattle.base.specs.declared.fault.Fault.TheVariants.{Device as DeviceFault}
 use Rattle.base.specs.Actors.{committer}
+use Rattle.base.specs.Choosing.{closing_record as record_of_close}
 use Rattle.base.specs.Images.{Image}
-use Rattle.base.specs.Layout.{Layout, total_words}
+use Rattle.base.specs.Layout.{total_words}
 use Rattle.machine.specs.Machine.{State, Hand, is_stamped, drawn_of, closing_gate, StandsClosing, StandsClosed}
 use Rattle.base.specs.Records.{Record, are_rising}
 use Rattle.pmem.specs.Device.{Device, IsOrderly, MayLeave, flushed, fenced, failed}
@@ -29,14 +30,10 @@ use Rattle.log_area.proofs.Whole.{IsWritten, written-none, written-more, written
 use Rattle.log_area.proofs.Stages.{staged-next}
 use Rattle.dirty_table.specs.Touches.{has, lines_touched}
 use Rattle.txn.specs.declared.drawn.DrawnCommit.{DrawnCommit}
-use Rattle.txn.specs.DrawnCommits.{is_stamped as is_stamped_whole}
-use Rattle.txn.proofs.Plain.{length-plain_writes}
-use Rattle.state_invariant.proofs.Lists.{all-map}
 use Rattle.device_invariant.specs.Log.{Line, lines_in, line_number}
 use Rattle.device_invariant.specs.Upholds.{Upholds}
 use Rattle.group_commit.specs.declared.stage.CycleStage.{CycleStage}
 use Rattle.group_commit.specs.declared.stage.CycleStage.TheVariants.{FlushLines, WriteRecord}
-use Rattle.group_commit.specs.Choosing.{closing_record as record_of_close}
 use Rattle.group_commit.specs.Cycles.{Cycling, line_from, flush_or_fence, operation_at, operation_in, next_at, ticked_at, ticked_in}
 use Rattle.group_commit.specs.Laws.{IsCut}
 use Rattle.group_commit.proofs.Counting.{find-cut, cut-next, cut-whole}
@@ -69,13 +66,11 @@ no-hand : (q : State) (drawn : List DrawnCommit) (h : Option Hand) → HoldsCycl
 no-hand q drawn None holds = refl
 no-hand q drawn (Some hand) holds = absurd holds
 
-is-closing : (c : VolatileState) (device : Device) (q : State) (shown : Shows c device q) → q.failed ≡ false → c.cycle ≡ None → list_all is_stamped_whole c.sessions.drawn.commits ≡ true → IsClosing shown.shown.hidden.origin q device
+is-closing : (c : VolatileState) (device : Device) (q : State) (shown : Shows c device q) → q.failed ≡ false → c.cycle ≡ None → list_all is_stamped (map plain_drawn c.sessions.drawn.commits) ≡ true → IsClosing shown.shown.hidden.origin q device
 is-closing c device q shown works rests stamped = record {
   works = works;
   rests = no-hand q c.sessions.drawn.commits q.hand (subst (HoldsCycle q c.sessions.drawn.commits q.hand) rests shown.cycle_is);
-  stamped =
-      ap (list_all is_stamped) (ap (λ (p : State). p.drawn) shown.shown.plain)
-      ∙ all-map is_stamped plain_drawn c.sessions.drawn.commits ((λ i. list_all (λ (d : DrawnCommit). nat_eq d.stamped (length-plain_writes d.writes i)) c.sessions.drawn.commits) ∙ stamped);
+  stamped = ap (λ (p : State). list_all is_stamped p.drawn) shown.shown.plain ∙ stamped;
   upholds = shown.shown.upholds;
 }
 
@@ -116,9 +111,9 @@ module _ (c : VolatileState) (device : Device) (q : State) (sessions : List Bool
 
 -- the record that the cycle writes
 abbrev pub last_record : VolatileState → Record
-last_record c = record_of_close c.sessions.numbers.record c.sessions.numbers.next c.sessions.collector.swept
+last_record c = record_of_close (c.sessions.numbers.record.gate + 1) c.sessions.numbers.record c.sessions.numbers.next c.sessions.collector.swept
 
-module _ (c : VolatileState) (before now : Device) (rests : c.cycle ≡ None) (stamped : list_all is_stamped_whole c.sessions.drawn.commits ≡ true) (numbered : c.sessions.numbers.record.gate + 1 < 2 ^ 62)
+module _ (c : VolatileState) (before now : Device) (rests : c.cycle ≡ None) (stamped : list_all is_stamped (map plain_drawn c.sessions.drawn.commits) ≡ true) (numbered : c.sessions.numbers.record.gate + 1 < 2 ^ 62)
     (q : State) (shown : Shows c before q) (works : q.failed ≡ false) (persisted : HasPersisted q before) (spares : Spares (IsOutside (begun c.sessions.numbers.geometry (last_record c))) before now) where
   closing : IsClosing shown.shown.hidden.origin q before
   closing = is-closing c before q shown works rests stamped
@@ -189,7 +184,7 @@ begins c device cycle orderly drew writing stage = record {
   );
 }
 
-module _ (c : VolatileState) (before now : Device) (cycle : Cycling) (so_far : IsCovering c before now cycle) (rests : c.cycle ≡ None) (stamped : list_all is_stamped_whole c.sessions.drawn.commits ≡ true) (numbered : c.sessions.numbers.record.gate + 1 < 2 ^ 62) where
+module _ (c : VolatileState) (before now : Device) (cycle : Cycling) (so_far : IsCovering c before now cycle) (rests : c.cycle ≡ None) (stamped : list_all is_stamped (map plain_drawn c.sessions.drawn.commits) ≡ true) (numbered : c.sessions.numbers.record.gate + 1 < 2 ^ 62) where
   abbrev lines : List ℕ
   lines = lines_touched (has cycle.sessions) c.sessions.dirty.touches
 

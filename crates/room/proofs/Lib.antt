@@ -1,5 +1,4 @@
 pub mod Staying
-pub mod Chosen
 pub mod Choices
 pub mod Rooms
 pub mod Begun

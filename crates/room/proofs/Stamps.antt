@@ -22,9 +22,7 @@ use Rattle.pmem.specs.Device.{Device}
 use Rattle.pmem.proofs.Images.{leaves_weaken}
 use Rattle.txn.specs.declared.drawn.DrawnCommit.{DrawnCommit}
 use Rattle.txn.specs.declared.transaction.Transaction.TheVariants.{Drawn}
-use Rattle.txn.specs.DrawnCommits.{is_stamped as is_stamped_whole}
 use Rattle.txn.specs.Transactions.{transaction_at}
-use Rattle.txn.proofs.Plain.{length-plain_writes}
 use Rattle.state_invariant.proofs.Choosing.{any-by_timestamp}
 use Rattle.state_invariant.proofs.Lists.{find-any, find-map}
 use Rattle.cycle_simulation.specs.Closing.{ClosesAs}
@@ -103,13 +101,13 @@ fewer-in t (x ∷ ds) d all at is = by (is_stamped x) refl at (fewer-in t ds d b
 -- the first commit that isn't stamped whole, as the sessions and as the plain state have it
 pub record IsNext (old : Sessions) (n : ℕ) : Type 0 where
   pub commit : DrawnCommit
-  pub first : find (λ d. not (is_stamped_whole d)) old.drawn.commits ≡ Some commit
+  pub first : find (λ d. not (is_stamped (plain_drawn d))) old.drawn.commits ≡ Some commit
   pub session : commit.session ≡ n
 
 next-of : (old : Sessions) (n : ℕ) → unstamped_session old.drawn.commits ≡ Some n → IsNext old n
-next-of old n is = by (find (λ d. not (is_stamped_whole d)) old.drawn.commits) refl is
+next-of old n is = by (find (λ d. not (is_stamped (plain_drawn d))) old.drawn.commits) refl is
   where
-    by : (o : Option DrawnCommit) → find (λ d. not (is_stamped_whole d)) old.drawn.commits ≡ o → option_map (λ (d : DrawnCommit). d.session) o ≡ Some n → IsNext old n
+    by : (o : Option DrawnCommit) → find (λ d. not (is_stamped (plain_drawn d))) old.drawn.commits ≡ o → option_map (λ (d : DrawnCommit). d.session) o ≡ Some n → IsNext old n
     by None at is = absurd (cc is)
     by (Some d) at is = record { commit = d; first = at; session = cc is }
 
@@ -122,13 +120,12 @@ module _ (old : Sessions) (before : Device) (q : State) (n : ℕ) (shown : Sessi
 
   plain-first : find (λ e. not (is_stamped e)) q.drawn ≡ Some (plain_drawn d)
   plain-first =
-      ap (find (λ e. not (is_stamped e))) drawn-is ∙ find-map (λ e. not (is_stamped e)) plain_drawn old.drawn.commits
-      ∙ (λ i. option_map plain_drawn (find (λ e. not (nat_eq e.stamped (length-plain_writes e.writes i))) old.drawn.commits)) ∙ ap (option_map plain_drawn) next.first
+      ap (find (λ e. not (is_stamped e))) drawn-is ∙ find-map (λ e. not (is_stamped e)) plain_drawn old.drawn.commits ∙ ap (option_map plain_drawn) next.first
 
   -- it is the session's
   session-is : q.sessions n ≡ Some (Drew d.timestamp)
   session-is =
-      let holds = found-all (HoldsDrawn old q) (λ e. not (is_stamped_whole e)) old.drawn.commits d shown.agrees.drawn next.first in
+      let holds = found-all (HoldsDrawn old q) (λ e. not (is_stamped (plain_drawn e))) old.drawn.commits d shown.agrees.drawn next.first in
       ap (λ (p : State). p.sessions n) shown.plain ∙ found old shown.hidden n (Some (Drawn d.timestamp)) (ap (λ (m : ℕ). transaction_at old.transactions m) (sym next.session) ∙ holds.session)
 
   -- it is found by its timestamp
@@ -265,11 +262,11 @@ module _ (old : VolatileState) (new : Sessions) (before now : Device) (n : ℕ) 
 
 -- ---- none is left
 
-pub none-left : (ds : List DrawnCommit) → unstamped_session ds ≡ None → list_all is_stamped_whole ds ≡ true
+pub none-left : (ds : List DrawnCommit) → unstamped_session ds ≡ None → list_all is_stamped (map plain_drawn ds) ≡ true
 none-left [] none = refl
-none-left (d ∷ ds) none = by (is_stamped_whole d) none (none-left ds)
+none-left (d ∷ ds) none = by (is_stamped (plain_drawn d)) none (none-left ds)
   where
-    by : (b : Bool) → option_map (λ (d : DrawnCommit). d.session) (cond (not b) (Some d) (find (λ d. not (is_stamped_whole d)) ds)) ≡ None → (unstamped_session ds ≡ None → list_all is_stamped_whole ds ≡ true)
-        → (b && list_all is_stamped_whole ds) ≡ true
+    by : (b : Bool) → option_map (λ (d : DrawnCommit). d.session) (cond (not b) (Some d) (find (λ d. not (is_stamped (plain_drawn d))) ds)) ≡ None → (unstamped_session ds ≡ None → list_all is_stamped (map plain_drawn ds) ≡ true)
+        → (b && list_all is_stamped (map plain_drawn ds)) ≡ true
     by true none rest = rest none
     by false none rest = absurd (cc none)

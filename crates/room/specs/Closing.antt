@@ -4,7 +4,7 @@ use Rattle.std.specs.Option.{option_map}
 use Rattle.base.specs.declared.fault.Fault.{Fault}
 use Rattle.base.specs.declared.fault.Fault.TheVariants.{Device as DeviceFault}
 use Rattle.base.specs.Images.{Image}
-use Rattle.machine.specs.Machine.{State, closing_fault, StandsClosing, StandsClosed}
+use Rattle.machine.specs.Machine.{State, is_stamped, closing_fault, StandsClosing, StandsClosed}
 use Rattle.pmem.specs.Device.{Device, MayLeave}
 use Rattle.pmem.specs.Words.{LeavesOnly, HasNoFailure}
 use Rattle.log_area.specs.declared.stage.WritingStage.{WritingStage}
@@ -15,7 +15,7 @@ use Rattle.group_commit.specs.declared.stage.CycleStage.{CycleStage}
 use Rattle.group_commit.specs.declared.stage.CycleStage.TheVariants.{FlushLines, WriteRecord}
 use Rattle.group_commit.specs.Cycles.{Cycling}
 use Rattle.txn.specs.declared.drawn.DrawnCommit.{DrawnCommit}
-use Rattle.txn.specs.DrawnCommits.{is_stamped}
+use Rattle.txn.specs.DrawnCommits.{plain_drawn}
 use Rattle.cycle_simulation.specs.Closing.{ClosesAs}
 use Rattle.room.specs.declared.volatile.VolatileState.{VolatileState}
 use Rattle.room.specs.Committing.{Shows}
@@ -67,4 +67,4 @@ ticks_left dirty (Some cycle) = left_at (length (lines_touched (has cycle.sessio
 
 -- the session of the first of the commits that isn't stamped whole
 abbrev pub unstamped_session : List DrawnCommit → Option ℕ
-unstamped_session commits = option_map (λ d. d.session) (find (λ d. not (is_stamped d)) commits)
+unstamped_session commits = option_map (λ d. d.session) (find (λ d. not (is_stamped (plain_drawn d))) commits)

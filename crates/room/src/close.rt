@@ -51,13 +51,13 @@ impl<D: Pmem + Drop> Room<D> {
 }
 
 impl VolatileState {
-    ghost use Rattle.std.specs.Prelude.{◌≡◌, ◌+◌, ◌^◌, ◌<◌, false, None, IfErr, OnOk, IsTrue};
+    ghost use Rattle.std.specs.Prelude.{◌≡◌, ◌+◌, ◌^◌, ◌<◌, false, map, None, IfErr, OnOk, IsTrue};
     ghost use Rattle.std.specs.List.{list_all};
     ghost use Rattle.base.specs.Images.{Image};
-    ghost use Rattle.machine.specs.Machine.{State, StandsClosing, StandsClosed, closing_fault};
+    ghost use Rattle.machine.specs.Machine.{State, is_stamped, StandsClosing, StandsClosed, closing_fault};
     ghost use Rattle.pmem.specs.Device.{MayLeave};
     ghost use Rattle.pmem.specs.Words.{LeavesOnly, HasNoFailure};
-    ghost use Rattle.txn.specs.DrawnCommits.{is_stamped};
+    ghost use Rattle.txn.specs.DrawnCommits.{plain_drawn};
     ghost use Rattle.room.specs.Committing.{Shows};
     ghost use Rattle.room.specs.Steps.{ShowsSome};
     ghost use Rattle.room.specs.Closing.{IsClosingRefusal, ClosePhaseDone, ClosePhaseFailed, CloseCovered, unstamped_session};
@@ -105,7 +105,7 @@ impl VolatileState {
         requires rests { self.old.cycle ≡ None }
         ensures ok { OnOk result (ClosePhaseDone self.old self.new (D.state device.old) (D.state device.new)) }
         ensures rests { OnOk result (self.new.cycle ≡ None) }
-        ensures stamped { OnOk result (IsTrue (list_all is_stamped self.new.sessions.drawn.commits)) }
+        ensures stamped { OnOk result (IsTrue (list_all is_stamped (map plain_drawn self.new.sessions.drawn.commits))) }
         ensures err { IfErr result (ClosePhaseFailed self.old (D.state device.old) (D.state device.new)) }
     {
         while let Some(session) = self.unstamped() {
@@ -133,7 +133,7 @@ impl VolatileState {
     fn cover_drawn<D: Pmem>(&self, alloc: Global, device: &mut D) -> Result<(), Fault>
         requires shown { ∥ ShowsSome self.now (D.state device.old) ∥₁ }
         requires rests { self.now.cycle ≡ None }
-        requires stamped { IsTrue (list_all is_stamped self.now.sessions.drawn.commits) }
+        requires stamped { IsTrue (list_all is_stamped (map plain_drawn self.now.sessions.drawn.commits)) }
         requires numbered { self.now.sessions.numbers.record.gate + 1 < 2 ^ 62 }
         ensures ok { OnOk result (CloseCovered self.now (D.state device.old) (D.state device.new)) }
         ensures err { IfErr result (ClosePhaseFailed self.now (D.state device.old) (D.state device.new)) }

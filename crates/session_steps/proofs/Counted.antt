@@ -6,7 +6,7 @@ use Rattle.std.proofs.lemmas.Bool.{and_parts}
 use Rattle.std.proofs.lemmas.List.{length-map, take_all}
 use Rattle.std.proofs.lemmas.Option.{slice_get-get_or}
 use Rattle.base.specs.declared.key.Key.{Key}
-use Rattle.base.specs.Commits.{Commit, after, last_writer, Lists}
+use Rattle.base.specs.Commits.{Commit, after, last_writer}
 use Rattle.base.specs.Keys.{key_eq, key_lt, is_rising, lookup_key}
 use Rattle.base.specs.Search.{count_below}
 use Rattle.base.proofs.Keys.{key_eq-swap, key_lt-trans, key_lt-apart}

@@ -23,6 +23,7 @@ use Rattle.txn.specs.declared.transaction.Transaction.TheVariants.{Active, Drawn
 use Rattle.txn.specs.InFlight.{InFlight}
 use Rattle.txn.specs.Transactions.{transaction_at}
 use Rattle.txn.specs.WriteSets.{plain_writes}
+use Rattle.txn.proofs.Passed.{filter-map}
 use Rattle.dirty_table.specs.Touches.{has, is_touched, Forgets, Table}
 use Rattle.index.specs.declared.entry.Entry.{Entry}
 use Rattle.index.specs.Entries.{entry_at, live_of}
@@ -40,7 +41,7 @@ use Rattle.session_laws.specs.Sees.{Sees, last_on}
 use Rattle.session_steps.specs.Shows.{Hidden, plain_of, plain_session, plain_drawn, HasItsSlot, HoldsSession, HasDrawn, HoldsEntry, HoldsDrawn, HoldsLines, HasLines, has_drawn_by, line_numbers, Agrees}
 use Rattle.session_steps.specs.Covering.{covered_by_commits, committed_by, left_by, CoversCommits, IsOf, MayCover, hidden_covered, HasCovered, ShowsCovered}
 use Rattle.session_steps.proofs.HeldSlots.{numbers-by-tests}
-use Rattle.session_steps.proofs.Filters.{filter-map, filter-at, any-split}
+use Rattle.session_steps.proofs.Filters.{filter-at, any-split}
 use Rattle.session_steps.proofs.CoveredIndex.{has_key, written-plain, written-commits, Within, IsOwn, within-commits, live-commits, none-commits, stays-commits, newest-after}
 
 -- ---- the order of drawn commits

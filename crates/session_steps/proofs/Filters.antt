@@ -1,15 +1,7 @@
 -- The elements of a list that pass a test.
-use Rattle.std.proofs.Common.{◌≡◌, ℕ, zero, suc, ◌<◌, Bool, true, false, ◌&&◌, ◌||◌, not, cond, List, [], ◌∷◌, length, map, filter, refl, sym, ◌∙◌, ap, arith}
+use Rattle.std.proofs.Common.{◌≡◌, ℕ, zero, suc, ◌<◌, Bool, true, false, ◌&&◌, ◌||◌, not, cond, List, [], ◌∷◌, length, filter, refl, sym, ◌∙◌, ap, arith}
 use Rattle.std.specs.Prelude.{slice_index_or}
 use Rattle.std.specs.List.{list_any}
-
-pub filter-map : {X Y : Type 0} (f : X → Y) (p : Y → Bool) (xs : List X) → filter p (map f xs) ≡ map f (filter (λ x. p (f x)) xs)
-filter-map f p [] = refl
-filter-map f p (x ∷ xs) = by (p (f x)) (filter-map f p xs)
-  where
-    by : (b : Bool) → filter p (map f xs) ≡ map f (filter (λ x. p (f x)) xs) → cond b (f x ∷ filter p (map f xs)) (filter p (map f xs)) ≡ map f (cond b (x ∷ filter (λ x. p (f x)) xs) (filter (λ x. p (f x)) xs))
-    by true rest = ap (λ ys. f x ∷ ys) rest
-    by false rest = rest
 
 pub filter-whole : {X : Type 0} (xs : List X) → filter (λ x. true) xs ≡ xs
 filter-whole [] = refl

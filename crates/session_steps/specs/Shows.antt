@@ -10,6 +10,7 @@ use Rattle.txn.specs.declared.drawn.DrawnCommit.{DrawnCommit}
 use Rattle.txn.specs.declared.transaction.Transaction.{Transaction}
 use Rattle.txn.specs.declared.transaction.Transaction.TheVariants.{Active, Drawn, ReadOnly}
 use Rattle.txn.specs.declared.write.Write.{Write}
+pub use Rattle.txn.specs.DrawnCommits.{plain_drawn}
 use Rattle.txn.specs.Transactions.{transaction_at}
 use Rattle.txn.specs.WriteSets.{plain_writes}
 use Rattle.dirty_table.specs.declared.touches.Touch.{Touch}
@@ -42,10 +43,6 @@ abbrev pub plain_session : ℕ → Transaction → Session
 plain_session seen (Active snapshot writes) = Reads seen (plain_writes writes)
 plain_session seen (Drawn t) = Drew t
 plain_session seen ReadOnly = WroteNothing
-
--- the drawn commit of the plain state
-abbrev pub plain_drawn : DrawnCommit → PlainDrawn
-plain_drawn d = record { commit = record { timestamp = d.timestamp; writes = plain_writes d.writes }; stamped = d.stamped }
 
 -- the plain state that the sessions show, where this is hidden
 abbrev pub plain_of : Sessions → Hidden → State

@@ -12,7 +12,7 @@ use Rattle.txn.specs.declared.drawn.DrawnCommit.{DrawnCommit}
 use Rattle.txn.specs.DrawnCommits.{are_below, are_in_order, drawn_at, place_of, with_stamp}
 
 -- their timestamps are above this one
-abbrev are_later : ℕ → List DrawnCommit → Bool
+abbrev pub are_later : ℕ → List DrawnCommit → Bool
 are_later t ds = list_all (λ d. nat_lt t d.timestamp) ds
 
 later_than : (t u : ℕ) (ds : List DrawnCommit) → t ≤ u → are_later u ds ≡ true → are_later t ds ≡ true
@@ -22,14 +22,14 @@ later_than t u (d ∷ ds) le all =
     let above = ltb-true u d.timestamp both.0 in
     and_from (nat_lt t d.timestamp) (are_later t ds) (lt-ltb t d.timestamp (omega (arith, le, above))) (later_than t u ds le both.1)
 
-later : (d : DrawnCommit) (ds : List DrawnCommit) → are_in_order (d ∷ ds) ≡ true → are_later d.timestamp ds ≡ true
+pub later : (d : DrawnCommit) (ds : List DrawnCommit) → are_in_order (d ∷ ds) ≡ true → are_later d.timestamp ds ≡ true
 later d [] o = refl
 later d (e ∷ ds) o =
     let both = and_parts (nat_lt d.timestamp e.timestamp) (are_in_order (e ∷ ds)) o in
     let above = ltb-true d.timestamp e.timestamp both.0 in
     and_from (nat_lt d.timestamp e.timestamp) (are_later d.timestamp ds) both.0 (later_than d.timestamp e.timestamp ds (omega (arith, above)) (later e ds both.1))
 
-rest : (d : DrawnCommit) (ds : List DrawnCommit) → are_in_order (d ∷ ds) ≡ true → are_in_order ds ≡ true
+pub rest : (d : DrawnCommit) (ds : List DrawnCommit) → are_in_order (d ∷ ds) ≡ true → are_in_order ds ≡ true
 rest d ds o = rising-rest d.timestamp (map (λ d. d.timestamp) ds) o
 
 with_first : (d : DrawnCommit) (ds : List DrawnCommit) → are_later d.timestamp ds ≡ true → are_in_order ds ≡ true → are_in_order (d ∷ ds) ≡ true

@@ -1,5 +1,23 @@
 -- How many elements pass a test.
-use Rattle.std.proofs.Common.{◌≡◌, ℕ, zero, suc, ◌<◌, ◌≤◌, Bool, true, false, cond, List, [], ◌∷◌, length, take, get_or, filter, sym, ◌∙◌, ap, arith}
+use Rattle.std.proofs.Common.{◌≡◌, ℕ, zero, suc, ◌<◌, ◌≤◌, Bool, true, false, cond, List, [], ◌∷◌, length, map, take, get_or, filter, refl, sym, ◌∙◌, ap, arith}
+use Rattle.std.proofs.lemmas.List.{length-map}
+use Rattle.base.specs.Choosing.{Drawn, is_passed, passed_over}
+use Rattle.txn.specs.declared.drawn.DrawnCommit.{DrawnCommit}
+use Rattle.txn.specs.DrawnCommits.{plain_drawn}
+
+pub filter-map : {X Y : Type 0} (f : X → Y) (p : Y → Bool) (xs : List X) → filter p (map f xs) ≡ map f (filter (λ x. p (f x)) xs)
+filter-map f p [] = refl
+filter-map f p (x ∷ xs) = by (p (f x)) (filter-map f p xs)
+  where
+    by : (b : Bool) → filter p (map f xs) ≡ map f (filter (λ x. p (f x)) xs) → cond b (f x ∷ filter p (map f xs)) (filter p (map f xs)) ≡ map f (cond b (x ∷ filter (λ x. p (f x)) xs) (filter (λ x. p (f x)) xs))
+    by true rest = ap (λ ys. f x ∷ ys) rest
+    by false rest = rest
+
+-- how many commits a record passes over
+pub length-passed : (reach : ℕ) (ds : List DrawnCommit) → length (passed_over reach (map plain_drawn ds)) ≡ length (filter (λ (d : DrawnCommit). is_passed reach (plain_drawn d)) ds)
+length-passed reach ds =
+    length-map (filter (is_passed reach) (map plain_drawn ds)) (λ (d : Drawn). d.commit.timestamp) ∙ ap (λ (es : List Drawn). length es) (filter-map plain_drawn (is_passed reach) ds)
+    ∙ length-map (filter (λ (d : DrawnCommit). is_passed reach (plain_drawn d)) ds) plain_drawn
 
 -- fewer of the elements before one that passes the test do than of all
 pub fewer-before : {X : Type 0} (p : X → Bool) (xs : List X) (i : ℕ) (x : X) → i < length xs → x ≡ get_or xs i x → p x ≡ true → length (filter p (take i xs)) < length (filter p xs)
@@ -21,3 +39,7 @@ few-filtered p (x ∷ xs) = by (p x) (few-filtered p xs)
     by : (b : Bool) → length (filter p xs) ≤ length xs → length (cond b (x ∷ filter p xs) (filter p xs)) ≤ length (x ∷ xs)
     by true le = omega (arith, le)
     by false le = omega (arith, le)
+
+-- nor does a record pass over more commits
+pub few-passed : (reach : ℕ) (ds : List DrawnCommit) → length (passed_over reach (map plain_drawn ds)) ≤ length ds
+few-passed reach ds = omega (arith, length-passed reach ds, few-filtered (λ (d : DrawnCommit). is_passed reach (plain_drawn d)) ds)

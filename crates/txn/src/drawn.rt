@@ -22,11 +22,12 @@ pub struct DrawnCommit {
 }
 
 impl DrawnCommit {
-    ghost use Rattle.txn.specs.DrawnCommits.{is_stamped};
+    ghost use Rattle.base.specs.Choosing.{is_stamped};
+    ghost use Rattle.txn.specs.DrawnCommits.{plain_drawn};
 
     /// Whether all its writes are stamped.
     pub fn is_stamped(&self) -> bool
-        ensures { result ≡ is_stamped self.now }
+        ensures { result ≡ is_stamped (plain_drawn self.now) }
     {
         self.stamped == self.writes.len()
     }
@@ -62,7 +63,8 @@ impl Model for DrawnCommits {
 impl DrawnCommits {
     ghost use Rattle.std.specs.Prelude.{◌≤◌, ◌<◌, ◌++◌, [], ◌∷◌, filter, length, option_copied, IfErr, IsTrue, OnOk, OnErr};
     ghost use Rattle.base.specs.declared.fault.Fault.TheVariants.{OutOfMemory};
-    ghost use Rattle.txn.specs.DrawnCommits.{are_below, are_numbered, drawn_at, is_uncovered, reach, passed_over};
+    ghost use Rattle.base.specs.Choosing.{reach, passed_over};
+    ghost use Rattle.txn.specs.DrawnCommits.{are_below, are_numbered, drawn_at, is_uncovered, plain_drawn};
 
     /// None is drawn.
     pub fn new(alloc: Global) -> DrawnCommits
@@ -142,7 +144,7 @@ impl DrawnCommits {
     /// Up to which timestamp a record reaches that may pass over so many commits that aren't stamped: that of the last
     /// commit that it may cover, and at least this one.
     pub fn reach(&self, persisted: Ts, most: usize) -> Ts
-        ensures { result ≡ reach most persisted self.now.commits }
+        ensures { result ≡ reach most persisted (map plain_drawn self.now.commits) }
     {
         let mut reached = persisted;
         let mut unstamped = 0;
@@ -158,8 +160,8 @@ impl DrawnCommits {
 
     /// The timestamps of the commits that a record which reaches up to this one passes over: those that aren't stamped.
     pub fn passed_over(&self, reach: Ts) -> Longs
-        requires { length (passed_over reach self.now.commits) ≤ 12 }
-        ensures { result ≡ passed_over reach self.now.commits }
+        requires { length (passed_over reach (map plain_drawn self.now.commits)) ≤ 12 }
+        ensures { result ≡ passed_over reach (map plain_drawn self.now.commits) }
     {
         let mut longs = Longs::none();
         for commit in self.commits.as_slice() {

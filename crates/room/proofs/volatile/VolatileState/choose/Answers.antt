@@ -1,4 +1,4 @@
-use Rattle.std.proofs.Common.{subst, sym, ◌∙◌, ap, length, arith}
+use Rattle.std.proofs.Common.{◌≡◌, subst, sym, ◌∙◌, ap, length, map, arith}
 use Rattle.std.specs.Prelude.{Option, ◌&&◌, nat_eq}
 use Rattle.std.specs.List.{list_any}
 use Rattle.std.proofs.Math.Bridge.{le_prop}
@@ -6,15 +6,15 @@ use Rattle.std.proofs.Math.Logic.{∥∥₁_elim}
 use Rattle.base.specs.declared.step.Step.TheVariants.{Commit as CommitTick}
 use Rattle.base.specs.declared.step.Reply.TheVariants.{Idle, Refused}
 use Rattle.machine.specs.Machine.{State}
+use Rattle.base.specs.Choosing.{chosen, is_idle, batch_of, target_of}
 use Rattle.base.specs.Records.{is_committed}
-use Rattle.group_commit.specs.Choosing.{longs_of, is_idle, batch_of, record_of, IsBeginFault}
-use Rattle.group_commit.specs.Cycles.{Cycling}
+use Rattle.group_commit.specs.Cycles.{Cycling, IsBeginFault}
 use Rattle.log_area.specs.Writings.{begun}
 use Rattle.txn.specs.declared.drawn.DrawnCommit.{DrawnCommit}
-use Rattle.txn.specs.InFlight.{InFlight}
+use Rattle.txn.specs.DrawnCommits.{plain_drawn}
 use Rattle.session_steps.specs.declared.numbers.Numbers.{Numbers}
 use Rattle.room.specs.Steps.{StepsToIn}
-use Rattle.room.proofs.Choices.{next-below, gate-below, few-passed, idles, takes, refuses}
+use Rattle.room.proofs.Choices.{next_record, next-below, gate-below, few-passed, idles, takes, refuses}
 use Rattle.room.proofs.volatile.VolatileState.choose.Goals as goal
 
 pub is_idle-requires : goal.is_idle-requires
@@ -25,7 +25,7 @@ returns-then-is_idle c = record {
   step = λ device orderly q shows works.
       subst (λ (o : Option Cycling). (q' : State) × StepsToIn c.args.self.now.sessions o device device CommitTick Idle q q') (sym c.requires.rests)
       (idles c.args.self.now.sessions device orderly q shows works
-      (sym (λ i. let n = c.numbers-numbers.ensures i in is_idle n.geometry n.record n.next (c.has_swept-swept.ensures i) (c.drawn-drawn.ensures i).commits) ∙ sym c.is_idle.ensures ∙ c.if-is_idle.true));
+      (sym (λ i. let n = c.numbers-numbers.ensures i in is_idle n.geometry n.record n.next (c.has_swept-swept.ensures i) (map plain_drawn (c.drawn-drawn.ensures i).commits)) ∙ sym c.is_idle.ensures ∙ c.if-is_idle.true));
 }
 
 pub begin-requires-clause-numbered : goal.begin-requires-clause-numbered
@@ -36,20 +36,20 @@ begin-requires-clause-countable c = ∥∥₁_elim c.requires.shown le_prop (λ 
 
 pub begin-requires-clause-few : goal.begin-requires-clause-few
 begin-requires-clause-few c = ∥∥₁_elim c.requires.shown le_prop (λ some.
-    let numbers = ap (λ (n : Numbers). length (longs_of n.geometry n.record c.drawn-drawn.result.now.commits)) c.numbers-numbers.ensures in
-    let drawn = ap (λ (d : InFlight). length (longs_of c.args.self.now.sessions.numbers.geometry c.args.self.now.sessions.numbers.record d.commits)) c.drawn-drawn.ensures in
+    let same : length (target_of c.numbers-numbers.result.geometry c.numbers-numbers.result.record c.numbers-numbers.result.next c.has_swept-swept.result (map plain_drawn c.drawn-drawn.result.now.commits)).longs ≡ length (next_record c.args.self.now.sessions).longs =
+    λ i. let n = c.numbers-numbers.ensures i in length (target_of n.geometry n.record n.next (c.has_swept-swept.ensures i) (map plain_drawn (c.drawn-drawn.ensures i).commits)).longs in
     let few = few-passed _ _ _ some.1.1 in
-    omega (arith, numbers, drawn, few))
+    omega (arith, same, few))
 
 pub returns-in-Ok : goal.returns-in-Ok
 returns-in-Ok c = record {
   step = λ device orderly q shows works.
       takes c.args.self.now.sessions device orderly q shows works
-      (sym (λ i. let n = c.numbers-numbers.ensures i in is_idle n.geometry n.record n.next (c.has_swept-swept.ensures i) (c.drawn-drawn.ensures i).commits) ∙ sym c.is_idle.ensures ∙ c.if-is_idle.false) c.in-Ok.cycle
+      (sym (λ i. let n = c.numbers-numbers.ensures i in is_idle n.geometry n.record n.next (c.has_swept-swept.ensures i) (map plain_drawn (c.drawn-drawn.ensures i).commits)) ∙ sym c.is_idle.ensures ∙ c.if-is_idle.false) c.in-Ok.cycle
       (let is = ap (λ (n : Numbers). n.record.gate) c.numbers-numbers.ensures in let below = c.in-Ok.ensures.numbered in omega (arith, is, below))
-      (c.in-Ok.ensures.batch ∙ λ i. let n = c.numbers-numbers.ensures i in batch_of n.record (record_of n.geometry n.record n.next (c.has_swept-swept.ensures i) (c.drawn-drawn.ensures i).commits) (c.drawn-drawn.ensures i).commits)
+      (c.in-Ok.ensures.batch ∙ λ i. batch_of (c.numbers-numbers.ensures i).record c.in-Ok.cycle.writing.target (chosen c.in-Ok.cycle.writing.target.persisted (map plain_drawn (c.drawn-drawn.ensures i).commits)))
       (λ n. c.in-Ok.ensures.sessions n ∙ λ i. list_any (λ (d : DrawnCommit). nat_eq d.session n && is_committed c.in-Ok.cycle.writing.target d.timestamp) (c.drawn-drawn.ensures i).commits)
-      (c.in-Ok.ensures.writing ∙ λ i. let n = c.numbers-numbers.ensures i in begun n.geometry (record_of n.geometry n.record n.next (c.has_swept-swept.ensures i) (c.drawn-drawn.ensures i).commits)) c.in-Ok.ensures.stage;
+      (c.in-Ok.ensures.writing ∙ λ i. let n = c.numbers-numbers.ensures i in begun n.geometry (target_of n.geometry n.record n.next (c.has_swept-swept.ensures i) (map plain_drawn (c.drawn-drawn.ensures i).commits))) c.in-Ok.ensures.stage;
 }
 
 pub returns-in-Err : goal.returns-in-Err
@@ -57,6 +57,6 @@ returns-in-Err c = record {
   step = λ device orderly q shows works.
       subst (λ (o : Option Cycling). (q' : State) × StepsToIn c.args.self.now.sessions o device device CommitTick (Refused c.in-Err.fault) q q') (sym c.requires.rests)
       (refuses c.args.self.now.sessions device orderly q shows works
-      (sym (λ i. let n = c.numbers-numbers.ensures i in is_idle n.geometry n.record n.next (c.has_swept-swept.ensures i) (c.drawn-drawn.ensures i).commits) ∙ sym c.is_idle.ensures ∙ c.if-is_idle.false) c.in-Err.fault
+      (sym (λ i. let n = c.numbers-numbers.ensures i in is_idle n.geometry n.record n.next (c.has_swept-swept.ensures i) (map plain_drawn (c.drawn-drawn.ensures i).commits)) ∙ sym c.is_idle.ensures ∙ c.if-is_idle.false) c.in-Err.fault
       (subst (λ (n : Numbers). IsBeginFault n.record c.in-Err.fault) c.numbers-numbers.ensures c.in-Err.ensures.fault));
 }

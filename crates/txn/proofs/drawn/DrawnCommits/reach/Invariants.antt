@@ -1,5 +1,5 @@
 use Rattle.std.specs.Prelude.{◌≡◌, ◌≤◌, take}
-use Rattle.txn.specs.DrawnCommits.{Walk, walk_over}
+use Rattle.txn.proofs.Passes.{Walk, walk_over}
 use Rattle.txn.proofs.drawn.DrawnCommits.reach.Given as goal
 
 abbrev pub invariant-loop-commit : goal.invariant-loop-commit
