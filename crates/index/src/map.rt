@@ -110,6 +110,18 @@ impl Index {
         self.entries[place].1
     }
 
+    /// What is known of the key's versions, if it has an entry.
+    #[inline(always)]
+    pub fn find(&self, key: Key, near: Option<usize>) -> Option<Entry>
+        ensures some { IfSome result (λ entry. (entry ≡ entry_at self.now key) × (has_room self.now key ≡ true)) }
+        ensures none { IfNone result (has_room self.now key ≡ false) }
+    {
+        match self.seek(key, near) {
+            Some(place) => Some(self.entry_in(place, key)),
+            None => None,
+        }
+    }
+
     /// What is known of the key's versions.
     #[inline(always)]
     pub fn entry(&self, key: Key, near: Option<usize>) -> Entry
@@ -155,6 +167,17 @@ impl Index {
         self.entries[place] = (key, entry);
     }
 
+    // In the entry at the place of the key, the version that a drawn commit wrote, and its timestamp.
+    fn draw_in(&mut self, place: usize, key: Key, slot: Option<SlotNo>, ts: Ts)
+        requires { IsAt self.old place key }
+        ensures sets { Sets self.old self.new key (record (entry_at self.old key) { drawn = slot; last = Some ts }) }
+        ensures room { KeepsRoom self.old self.new }
+    {
+        let entry = &mut self.entries[place].1;
+        entry.drawn = slot;
+        entry.last = Some(ts);
+    }
+
     // Gives a key without an entry this one.
     fn add(&mut self, key: Key, entry: Entry) -> Result<(), Fault>
         requires { has_room self.old key ≡ false }
@@ -186,32 +209,48 @@ impl Index {
         ensures err { OnErr result (self.new ≡ self.old) }
     {
         match self.seek(key, near) {
-            Some(place) => {
-                if widen(&mut self.hints, self.entries.as_slice()).is_err() {
-                    return Err(Fault::OutOfMemory);
-                }
-                note(self.hints.as_mut_slice(), key, place);
-                Ok(())
-            }
+            Some(_) => match self.widen() {
+                Ok(()) => Ok(()),
+                Err(fault) => Err(fault),
+            },
             None => self.add(key, Entry::blank()),
         }
     }
 
-    /// A commit that writes the key was drawn with this timestamp. Its version is in the slot; a deletion has none.
-    pub fn draw(&mut self, key: Key, near: Option<usize>, slot: Option<SlotNo>, ts: Ts)
+    /// Makes room for all hints of where entries are. All entries stay.
+    #[inline(always)]
+    pub fn widen(&mut self) -> Result<(), Fault>
+        ensures entries { self.new ≡ self.old }
+        ensures fault { IfErr result (λ fault. fault ≡ OutOfMemory) }
+    {
+        match widen(&mut self.hints, self.entries.as_slice()) {
+            Ok(()) => Ok(()),
+            Err(_) => Err(Fault::OutOfMemory),
+        }
+    }
+
+    /// A commit that writes the key was drawn with this timestamp. Its version is in the slot; a deletion has none. The slot of
+    /// the key's covered row, which it ends.
+    #[inline(always)]
+    pub fn draw(
+        &mut self,
+        key: Key,
+        near: Option<usize>,
+        slot: Option<SlotNo>,
+        ts: Ts,
+    ) -> Option<SlotNo>
         requires { IsTrue (has_room self.old key) }
+        ensures live { result ≡ live_of (entry_at self.old key) }
         ensures entries { Sets self.old self.new key (record (entry_at self.old key) { drawn = slot; last = Some ts }) }
         ensures room { KeepsRoom self.old self.new }
     {
         let Some(place) = self.seek(key, near) else {
             unreachable!()
         };
-        let drawn = Entry {
-            drawn: slot,
-            last: Some(ts),
-            ..self.entry_in(place, key)
-        };
-        self.set_in(place, key, drawn);
+        note(self.hints.as_mut_slice(), key, place);
+        let live = self.entry_in(place, key).live();
+        self.draw_in(place, key, slot, ts);
+        live
     }
 
     /// The commit that was drawn for the key is covered. Its version is in the slot; a deletion has none, and ends the newest.

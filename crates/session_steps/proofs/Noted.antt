@@ -61,6 +61,11 @@ note-next writes i t write old mid new lt is rising before sets key =
 
 -- ---- the slots that a draw touches
 
+-- a draw leaves which covered row it ends
+pub live-drawn : (o : Option Write) (t : ℕ) (entry : Entry) → live_of (drawn_entry o t entry) ≡ live_of entry
+live-drawn None t entry = refl
+live-drawn (Some write) t entry = refl
+
 pub fits-of : (q : State) (v : Version) (o : Option ℕ) → IsSlotOf q v o → fits_slot q.layout.slots o ≡ true
 fits-of q v None is = refl
 fits-of q v (Some slot) is = let lt = is.0 in grind (arith, nat_tests)

@@ -36,7 +36,10 @@ pub fn active_in(transactions: &Transactions, session: u8) -> Result<Active<'_>,
 {
     match transactions.get(session) {
         None => Err(Fault::NoSession),
-        Some(Transaction::Active { snapshot, writes }) => Ok(Active { snapshot, writes }),
+        Some(Transaction::Active { snapshot, writes }) => Ok(Active {
+            snapshot: snapshot.get(),
+            writes,
+        }),
         Some(Transaction::Drawn(_)) => Err(Fault::WrongState),
         Some(Transaction::ReadOnly) => Err(Fault::WrongState),
     }

@@ -5,19 +5,28 @@
 ghost use Rattle.std.specs.Prelude.{◌≡◌, ◌<◌, ℕ, true, All, IfErr, OnOk};
 ghost use Rattle.base.specs.declared.fault.Fault.TheVariants.{OutOfMemory};
 ghost use Rattle.base.specs.declared.key.Key.{Key as KeyValue};
-ghost use Rattle.index.specs.Entries.{entry_at, has_room, KeepsRoom};
-ghost use Rattle.txn.specs.WriteSets.{write_of};
-ghost use Rattle.session_steps.specs.Drawing.{conflict_in, drawn_entry};
+ghost use Rattle.index.specs.Entries.{entry_at, has_room};
+ghost use Rattle.session_laws.specs.Sees.{is_unseen};
+ghost use Rattle.session_steps.specs.Drawing.{conflict_in};
 
 use crate::active::active_in;
 use crate::sessions::Sessions;
-use crate::touching::touch_lines;
+use crate::touching::draw_writes;
 use base::Ts;
 use base::fault::Fault;
 use base::key::Key;
-use index::Index;
+use index::{Entry, Index};
 use snapshot::Snapshot;
 use txn::{DrawnCommit, Transaction, WriteSet};
+
+/// What the index says of the keys that a transaction has written.
+#[derive(Clone, Copy)]
+pub struct Asked {
+    /// The least that was last drawn by a commit which the snapshot doesn't cover.
+    pub conflict: Option<Key>,
+    /// Whether each has an entry, where none is in conflict.
+    pub all_there: bool,
+}
 
 impl Sessions {
     ghost use Rattle.std.specs.Prelude.{◌≢◌, ◌+◌, ◌*◌, ◌^◌, nat_eq, nat_le, false, List, [], Some, None};
@@ -43,7 +52,8 @@ impl Sessions {
             self.transactions.set(session, Transaction::ReadOnly);
             return Ok(None);
         }
-        if let Some(key) = conflict(&self.index, active.snapshot, active.writes) {
+        let asked = ask(&self.index, active.snapshot, active.writes);
+        if let Some(key) = asked.conflict {
             return Err(Fault::Conflict(key));
         }
         if self.numbers.is_window_full() {
@@ -52,14 +62,16 @@ impl Sessions {
         if self.numbers.is_near_limit() {
             return Err(Fault::TimestampsOut);
         }
-        self.draw_next(session)
+        self.draw_next(session, asked.all_there)
     }
 
     // Draws the next timestamp, against which nothing stands but want of memory. The growths come before any change: room for the
     // keys in the index, and for the commit among those that are drawn. There is room for the lines since the writes were put.
-    fn draw_next(&mut self, session: u8) -> Result<Option<Ts>, Fault>
+    #[inline(always)]
+    fn draw_next(&mut self, session: u8, all_there: bool) -> Result<Option<Ts>, Fault>
         requires shown { ∥ HoldsSome self.old ∥₁ }
         requires active { (snapshot : Seen) (writes : List Write) → transaction_at self.old.transactions session ≡ Some (IsActiveWith snapshot writes) → (writes ≢ []) × (conflict_in self.old.index snapshot writes ≡ None) }
+        requires there { (snapshot : Seen) (writes : List Write) → transaction_at self.old.transactions session ≡ Some (IsActiveWith snapshot writes) → all_there ≡ true → All (λ write. has_room self.old.index write.key ≡ true) writes }
         requires window { nat_eq self.old.numbers.next self.old.numbers.record.dirty ≡ false }
         requires early { nat_le (2 ^ 62) (self.old.numbers.next + 2 * self.old.numbers.geometry.window) ≡ false }
         ensures step { Takes self.old self.new (Draw session) (drawn result) }
@@ -68,7 +80,7 @@ impl Sessions {
             Ok(active) => active.writes,
             Err(fault) => return Err(fault),
         };
-        match reserve_keys(&mut self.index, writes) {
+        match reserve_keys(&mut self.index, writes, all_there) {
             Ok(()) => {}
             Err(fault) => return Err(fault),
         }
@@ -76,15 +88,16 @@ impl Sessions {
             Ok(()) => {}
             Err(fault) => return Err(fault),
         }
-        touch_lines(
-            &mut self.dirty,
-            session,
-            self.numbers.geometry,
-            &self.index,
-            writes,
-        );
+        let geometry = self.numbers.geometry;
         let timestamp = self.numbers.draw();
-        note_draws(&mut self.index, writes, timestamp);
+        draw_writes(
+            &mut self.dirty,
+            &mut self.index,
+            session,
+            geometry,
+            writes,
+            timestamp,
+        );
         let writes = self.transactions.draw(session, timestamp);
         self.drawn.push(DrawnCommit {
             session,
@@ -96,22 +109,77 @@ impl Sessions {
     }
 }
 
+// Asks the index of each key, once where each has an entry.
+#[inline(always)]
+fn ask(index: &Index, snapshot: &Snapshot, writes: &WriteSet) -> Asked
+    ensures conflict { result.conflict ≡ conflict_in index.now snapshot.now writes.now }
+    ensures room { result.all_there ≡ true → All (λ write. has_room index.now write.key ≡ true) writes.now }
+{
+    for write in writes.as_slice() {
+        let Some(entry) = index.find(write.key, write.place) else {
+            return Asked {
+                conflict: conflict(index, snapshot, writes),
+                all_there: false,
+            };
+        };
+        if is_last_unseen(snapshot, entry) {
+            return Asked {
+                conflict: Some(write.key),
+                all_there: false,
+            };
+        }
+    }
+    Asked {
+        conflict: None,
+        all_there: true,
+    }
+}
+
 // The least of the keys that was last drawn by a commit which the snapshot doesn't cover.
+#[inline(never)]
 fn conflict(index: &Index, snapshot: &Snapshot, writes: &WriteSet) -> Option<Key>
     ensures { result ≡ conflict_in index.now snapshot.now writes.now }
 {
     for write in writes.as_slice() {
-        if let Some(timestamp) = index.entry(write.key, write.place).last {
-            if !snapshot.covers(timestamp) {
-                return Some(write.key);
-            }
+        if is_last_unseen(snapshot, index.entry(write.key, write.place)) {
+            return Some(write.key);
         }
     }
     None
 }
 
+// Whether a commit that the snapshot doesn't cover was the last to draw the entry's key.
+#[inline(always)]
+fn is_last_unseen(snapshot: &Snapshot, entry: Entry) -> bool
+    ensures { result ≡ is_unseen snapshot.now entry.last }
+{
+    match entry.last {
+        Some(timestamp) => !snapshot.covers(timestamp),
+        None => false,
+    }
+}
+
+// Makes room in the index for each key that is written, where not all have an entry, and for the hints. All entries stay.
+#[inline(always)]
+fn reserve_keys(index: &mut Index, writes: &WriteSet, all_there: bool) -> Result<(), Fault>
+    requires there { all_there ≡ true → All (λ write. has_room index.old write.key ≡ true) writes.now }
+    ensures entries { (key : KeyValue) → entry_at index.new key ≡ entry_at index.old key }
+    ensures kept { (key : KeyValue) → has_room index.old key ≡ true → has_room index.new key ≡ true }
+    ensures room { OnOk result (All (λ write. has_room index.new write.key ≡ true) writes.now) }
+    ensures fault { IfErr result (λ fault. fault ≡ OutOfMemory) }
+{
+    if !all_there {
+        return reserve_each(index, writes);
+    }
+    match index.widen() {
+        Ok(()) => Ok(()),
+        Err(fault) => Err(fault),
+    }
+}
+
 // Makes room in the index for each key that is written. All entries stay.
-fn reserve_keys(index: &mut Index, writes: &WriteSet) -> Result<(), Fault>
+#[inline(never)]
+fn reserve_each(index: &mut Index, writes: &WriteSet) -> Result<(), Fault>
     ensures entries { (key : KeyValue) → entry_at index.new key ≡ entry_at index.old key }
     ensures kept { (key : KeyValue) → has_room index.old key ≡ true → has_room index.new key ≡ true }
     ensures room { OnOk result (All (λ write. has_room index.new write.key ≡ true) writes.now) }
@@ -124,15 +192,4 @@ fn reserve_keys(index: &mut Index, writes: &WriteSet) -> Result<(), Fault>
         }
     }
     Ok(())
-}
-
-// Notes in the index that each of the keys was drawn with this timestamp.
-fn note_draws(index: &mut Index, writes: &WriteSet, timestamp: Ts)
-    requires { All (λ write. has_room index.old write.key ≡ true) writes.now }
-    ensures entries { (key : KeyValue) → entry_at index.new key ≡ drawn_entry (write_of key writes.now) timestamp (entry_at index.old key) }
-    ensures rooms { KeepsRoom index.old index.new }
-{
-    for write in writes.as_slice() {
-        index.draw(write.key, write.place, write.slot, timestamp);
-    }
 }

@@ -18,6 +18,7 @@ pub struct Numbers {
 
 impl Numbers {
     /// What the record covers.
+    #[inline(always)]
     pub fn snapshot(&self) -> Snapshot
         requires { IsTrue (is_gap_list self.now.record.gaps) }
         ensures { result ≡ seen_by self.now.record }

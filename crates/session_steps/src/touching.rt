@@ -1,35 +1,44 @@
 //! Lines are noted at the draw and not at the put, since only then is it certain which version a write ends. The room for them
 //! was promised by the puts and deletions, as a draw has no way back once it has its timestamp.
 
-ghost use Rattle.std.specs.Prelude.{◌+◌, ◌*◌, ◌<◌, ◌≤◌, [], length, IsTrue};
+ghost use Rattle.std.specs.Prelude.{◌≡◌, ◌+◌, ◌*◌, ◌<◌, ◌≤◌, true, [], length, All, IsTrue};
 ghost use Rattle.std.specs.List.{flat_map};
 ghost use Rattle.std.specs.Option.{option_map_or};
+ghost use Rattle.base.specs.declared.key.Key.{Key as KeyValue};
 ghost use Rattle.dirty_table.specs.Touches.{promised_to};
-ghost use Rattle.session_steps.specs.Drawing.{fits_touched, own_lines, ended_lines, touched_lines, TouchesLines};
+ghost use Rattle.index.specs.Entries.{entry_at, has_room, KeepsRoom};
+ghost use Rattle.txn.specs.WriteSets.{write_of};
+ghost use Rattle.session_steps.specs.Drawing.{fits_touched, own_lines, ended_lines, touched_lines, drawn_entry, TouchesLines};
 ghost use Rattle.session_steps.specs.Giving.{fits_slot};
 
-use base::SlotNo;
 use base::geometry::Geometry;
+use base::{SlotNo, Ts};
 use dirty_table::DirtyTable;
 use index::Index;
 use txn::WriteSet;
 
-/// The session touches the lines of its writes, for which it has room: all of each version that they make, and the first of each
-/// that they end.
-pub fn touch_lines(
+/// Notes in the index that each of the keys was drawn with this timestamp. The session touches the lines of its writes, for which
+/// it has room: all of each version that they make, and the first of each that they end.
+#[inline(always)]
+pub fn draw_writes(
     dirty: &mut DirtyTable,
+    index: &mut Index,
     session: u8,
     geometry: Geometry,
-    index: &Index,
     writes: &WriteSet,
+    timestamp: Ts,
 )
-    requires fits { IsTrue (fits_touched geometry index.now writes.now) }
+    requires keys { All (λ write. has_room index.old write.key ≡ true) writes.now }
+    requires fits { IsTrue (fits_touched geometry index.old writes.now) }
     requires room { 3 * length writes.now ≤ promised_to dirty.old session }
-    ensures { TouchesLines session (flat_map (touched_lines geometry index.now) writes.now) dirty.old dirty.new }
+    ensures lines { TouchesLines session (flat_map (touched_lines geometry index.old) writes.now) dirty.old dirty.new }
+    ensures entries { (key : KeyValue) → entry_at index.new key ≡ drawn_entry (write_of key writes.now) timestamp (entry_at index.old key) }
+    ensures rooms { KeepsRoom index.old index.new }
 {
     for write in writes.as_slice() {
+        let ended = index.draw(write.key, write.place, write.slot, timestamp);
         touch_own(dirty, session, geometry, write.slot);
-        touch_ended(dirty, session, geometry, index.live(write.key, write.place));
+        touch_ended(dirty, session, geometry, ended);
     }
 }
 

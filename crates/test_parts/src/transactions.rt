@@ -28,7 +28,7 @@ fn a_session_takes_the_lowest_number_that_is_free(rt: HostRuntime) -> Result<(),
     );
     match transactions.get(first) {
         Some(Transaction::Active { snapshot, writes }) => {
-            assert_eq!(rt; snapshot.persisted(), 7);
+            assert_eq!(rt; snapshot.get().persisted(), 7);
             assert_eq!(rt; writes.len(), 1);
         }
         _ => assert!(rt; false),

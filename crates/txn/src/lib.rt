@@ -2,12 +2,14 @@
 #![tactic(auto)]
 
 pub mod drawn;
+pub mod held;
 pub mod transaction;
 pub mod transactions;
 pub mod write;
 pub mod write_set;
 
 pub use drawn::{DrawnCommit, DrawnCommits};
+pub use held::HeldSnapshot;
 pub use transaction::Transaction;
 pub use transactions::Transactions;
 pub use write::Write;

@@ -1,7 +1,7 @@
+use crate::held::HeldSnapshot;
 use crate::write::Write;
 use crate::write_set::WriteSet;
 use base::Ts;
-use snapshot::Snapshot;
 use std::mem;
 
 /// An open transaction.
@@ -9,7 +9,7 @@ use std::mem;
 pub enum Transaction {
     /// It reads its snapshot, and may write.
     Active {
-        snapshot: Snapshot,
+        snapshot: HeldSnapshot,
         writes: WriteSet,
     },
     /// It has drawn this timestamp.
@@ -37,14 +37,15 @@ impl Transaction {
         }
     }
 
-    // An Active one draws this timestamp. Its writes are moved out.
-    pub(crate) fn draw(&mut self, timestamp: Ts) -> WriteSet
+    // An Active one draws this timestamp. What it read and its writes are moved out.
+    #[inline(always)]
+    pub(crate) fn draw(&mut self, timestamp: Ts) -> (HeldSnapshot, WriteSet)
         requires { (snapshot : Seen) × (writes : List Write) × (self.old ≡ Active snapshot writes) }
-        ensures writes { (snapshot : Seen) × (self.old ≡ Active snapshot result) }
+        ensures parts { self.old ≡ Active result.0 result.1 }
         ensures drawn { self.new ≡ Drawn timestamp }
     {
         match mem::replace(self, Transaction::Drawn(timestamp)) {
-            Transaction::Active { writes, .. } => writes,
+            Transaction::Active { snapshot, writes } => (snapshot, writes),
             _ => unreachable!(),
         }
     }

@@ -3,6 +3,7 @@ ghost use Rattle.slab.specs.Slab.{slab_len};
 ghost use Rattle.base.specs.declared.fault.Fault.TheVariants.{OutOfMemory};
 ghost use Rattle.txn.specs.Tables.{entry_at};
 
+use crate::held::HeldSnapshot;
 use crate::transaction::Transaction;
 use crate::write::Write;
 use crate::write_set::WriteSet;
@@ -25,6 +26,8 @@ pub struct Transactions {
     first: u8,
     // Sets whose transactions ended, for those that begin. There is room for them from the first begin on.
     ended: Vec<WriteSet>,
+    // And their snapshots, in the same way.
+    held: Vec<HeldSnapshot>,
     alloc: Global,
 }
 
@@ -90,9 +93,42 @@ fn keep(ended: &mut Vec<WriteSet>, writes: WriteSet) {
     }
 }
 
-// Keeps the set of a transaction that ended, if it has one.
-fn keep_of(ended: &mut Vec<WriteSet>, transaction: Option<Transaction>) {
-    if let Some(Transaction::Active { writes, .. }) = transaction {
+// Holds the snapshot where one was held that is given up, or in new memory.
+#[inline(always)]
+fn hold(
+    held: &mut Vec<HeldSnapshot>,
+    alloc: Global,
+    snapshot: Snapshot,
+) -> Result<HeldSnapshot, Fault>
+    ensures held { IfOk result (λ holds. holds ≡ snapshot) }
+    ensures fault { IfErr result (λ fault. fault ≡ OutOfMemory) }
+{
+    if let Some(mut holds) = held.pop() {
+        holds.set(snapshot);
+        return Ok(holds);
+    }
+    if held.reserve(MOST as usize).is_err() {
+        return Err(Fault::OutOfMemory);
+    }
+    HeldSnapshot::new(alloc, snapshot)
+}
+
+// Gives up a snapshot, whose memory is kept where there is room.
+fn give_up(held: &mut Vec<HeldSnapshot>, snapshot: HeldSnapshot) {
+    if held.len() < held.capacity() {
+        held.push_reserved(snapshot);
+    }
+}
+
+// Keeps the set of a transaction that ended, and its snapshot, if it has them.
+#[inline(always)]
+fn keep_of(
+    ended: &mut Vec<WriteSet>,
+    held: &mut Vec<HeldSnapshot>,
+    transaction: Option<Transaction>,
+) {
+    if let Some(Transaction::Active { snapshot, writes }) = transaction {
+        give_up(held, snapshot);
         keep(ended, writes);
     }
 }
@@ -117,6 +153,7 @@ impl Transactions {
             limit: FIRST,
             first: FIRST,
             ended: Vec::new(alloc),
+            held: Vec::new(alloc),
             alloc,
         }
     }
@@ -166,6 +203,10 @@ impl Transactions {
             Ok(writes) => writes,
             Err(fault) => return Err(fault),
         };
+        let snapshot = match hold(&mut self.held, self.alloc, snapshot) {
+            Ok(snapshot) => snapshot,
+            Err(fault) => return Err(fault),
+        };
         match self.slab.insert(Transaction::Active { snapshot, writes }) {
             Ok(key) => {
                 self.places[(number - FIRST) as usize] = Some(key);
@@ -185,7 +226,7 @@ impl Transactions {
         if let Some(place) = place_of(&self.places, number) {
             if let Some(found) = self.slab.get_mut(place) {
                 let before = mem::replace(found, transaction);
-                keep_of(&mut self.ended, Some(before));
+                keep_of(&mut self.ended, &mut self.held, Some(before));
             }
         }
     }
@@ -197,7 +238,7 @@ impl Transactions {
     {
         if let Some(place) = place_of(&self.places, number) {
             let ended = self.slab.try_remove(place);
-            keep_of(&mut self.ended, ended);
+            keep_of(&mut self.ended, &mut self.held, ended);
             self.places[(number - FIRST) as usize] = None;
             self.limit = lowered(&self.slab, self.limit);
             self.first = self.first.min(number);
@@ -223,7 +264,9 @@ impl Transactions {
         let Some(found) = self.slab.get_mut(place) else {
             unreachable!()
         };
-        found.draw(timestamp)
+        let (snapshot, writes) = found.draw(timestamp);
+        give_up(&mut self.held, snapshot);
+        writes
     }
 
     /// Writes in place, for an Active transaction with room for it.

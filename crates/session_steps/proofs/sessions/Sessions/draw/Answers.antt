@@ -1,10 +1,12 @@
 use Rattle.std.proofs.Math.Bridge.{le_prop}
 use Rattle.std.proofs.Math.Logic.{∥∥₁_elim}
 use Rattle.session_steps.proofs.Limits.{next-below}
-use Rattle.std.proofs.Common.{true, false, refl, sym, ◌∙◌}
-use Rattle.std.specs.Prelude.{Some, None}
+use Rattle.std.proofs.Common.{◌≡◌, true, false, List, refl, sym, subst, ◌∙◌}
+use Rattle.std.specs.Prelude.{Some, None, All}
 use Rattle.base.specs.declared.fault.Fault.TheVariants.{Conflict, WindowFull, TimestampsOut}
 use Rattle.base.specs.declared.step.SessionStep.TheVariants.{Draw}
+use Rattle.index.specs.Entries.{has_room}
+use Rattle.txn.specs.declared.write.Write.{Write}
 use Rattle.session_steps.specs.Drawing.{conflict_in}
 use Rattle.session_steps.proofs.Draws.{draw-asks, draws-nothing}
 use Rattle.session_steps.proofs.OneTransaction.{inactive, refuses}
@@ -23,21 +25,21 @@ pub returns-in-Some : goal.returns-in-Some
 returns-in-Some c = record {
   step = λ h holds.
       refuses c.args.self.now (Draw c.args.session) (Conflict c.in-Some.key) h holds
-      (draw-asks c.args.self.now h c.args.session _ _ (Some c.in-Some.key) _ _ (some-is _ _ c.is_empty.ensures c.if-is_empty.false) c.in-Ok.ensures.ok holds c.in-Some.ensures refl refl);
+      (draw-asks c.args.self.now h c.args.session _ _ (Some c.in-Some.key) _ _ (some-is _ _ c.is_empty.ensures c.if-is_empty.false) c.in-Ok.ensures.ok holds (sym c.in-Some.is ∙ c.ask-asked.ensures.conflict) refl refl);
 }
 
 pub returns-then-is_window_full : goal.returns-then-is_window_full
 returns-then-is_window_full c = record {
   step = λ h holds.
       refuses c.args.self.now (Draw c.args.session) WindowFull h holds
-      (draw-asks c.args.self.now h c.args.session _ _ None true _ (some-is _ _ c.is_empty.ensures c.if-is_empty.false) c.in-Ok.ensures.ok holds c.in_default.ensures (sym c.is_window_full.ensures ∙ c.if-is_window_full.true) refl);
+      (draw-asks c.args.self.now h c.args.session _ _ None true _ (some-is _ _ c.is_empty.ensures c.if-is_empty.false) c.in-Ok.ensures.ok holds (sym c.in_default.is ∙ c.ask-asked.ensures.conflict) (sym c.is_window_full.ensures ∙ c.if-is_window_full.true) refl);
 }
 
 pub returns-then-is_near_limit : goal.returns-then-is_near_limit
 returns-then-is_near_limit c = record {
   step = λ h holds.
       refuses c.args.self.now (Draw c.args.session) TimestampsOut h holds
-      (draw-asks c.args.self.now h c.args.session _ _ None false true (some-is _ _ c.is_empty.ensures c.if-is_empty.false) c.in-Ok.ensures.ok holds c.in_default.ensures (sym c.is_window_full.ensures ∙ c.if-is_window_full.false) (sym c.is_near_limit.ensures ∙ c.if-is_near_limit.true));
+      (draw-asks c.args.self.now h c.args.session _ _ None false true (some-is _ _ c.is_empty.ensures c.if-is_empty.false) c.in-Ok.ensures.ok holds (sym c.in_default.is ∙ c.ask-asked.ensures.conflict) (sym c.is_window_full.ensures ∙ c.if-is_window_full.false) (sym c.is_near_limit.ensures ∙ c.if-is_near_limit.true));
 }
 
 pub is_near_limit-requires : goal.is_near_limit-requires
@@ -46,4 +48,8 @@ is_near_limit-requires c = ∥∥₁_elim c.requires.shown le_prop (λ shown. ne
 pub draw_next-requires-clause-active : goal.draw_next-requires-clause-active
 draw_next-requires-clause-active c snapshot writes at =
     let same = one-active _ _ _ _ _ c.in-Ok.ensures.ok at in
-    (λ none. some-is _ _ c.is_empty.ensures c.if-is_empty.false (same.1 ∙ none), (λ i. conflict_in c.args.self.now.index (sym same.0 i) (sym same.1 i)) ∙ sym c.in_default.ensures)
+    (λ none. some-is _ _ c.is_empty.ensures c.if-is_empty.false (same.1 ∙ none), (λ i. conflict_in c.args.self.now.index (sym same.0 i) (sym same.1 i)) ∙ sym (sym c.in_default.is ∙ c.ask-asked.ensures.conflict))
+
+pub draw_next-requires-clause-there : goal.draw_next-requires-clause-there
+draw_next-requires-clause-there c snapshot writes at there =
+    subst (λ (ws : List Write). All (λ w. has_room c.args.self.now.index w.key ≡ true) ws) (one-active _ _ _ _ _ c.in-Ok.ensures.ok at).1 (c.ask-asked.ensures.room there)

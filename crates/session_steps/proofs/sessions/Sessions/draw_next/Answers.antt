@@ -16,11 +16,14 @@ use Rattle.session_steps.proofs.OneTransaction.{inactive}
 use Rattle.session_steps.proofs.CodeTests.{one-active}
 use Rattle.session_steps.proofs.sessions.Sessions.draw_next.Goals as goal
 
-pub touch_lines-requires-clause-fits : goal.touch_lines-requires-clause-fits
-touch_lines-requires-clause-fits c = ∥∥₁_elim c.requires.shown (Bool-set _ _) (λ shown. fits-lines c.args.self.now shown.0 c.args.session _ _ c.reserve_keys.new.index shown.1 c.in-Ok.ensures.ok c.reserve_keys.ensures.entries)
+pub reserve_keys-requires : goal.reserve_keys-requires
+reserve_keys-requires c = record { there = c.requires.there _ _ c.in-Ok.ensures.ok }
 
-pub touch_lines-requires-clause-room : goal.touch_lines-requires-clause-room
-touch_lines-requires-clause-room c = ∥∥₁_elim c.requires.shown le_prop (λ shown. subst (λ (t : Option Transaction). HasLines (promised_to c.args.self.now.dirty c.args.session) t) c.in-Ok.ensures.ok (shown.1.agrees.room c.args.session))
+pub draw_writes-requires-clause-fits : goal.draw_writes-requires-clause-fits
+draw_writes-requires-clause-fits c = ∥∥₁_elim c.requires.shown (Bool-set _ _) (λ shown. fits-lines c.args.self.now shown.0 c.args.session _ _ c.reserve_keys.new.index shown.1 c.in-Ok.ensures.ok c.reserve_keys.ensures.entries)
+
+pub draw_writes-requires-clause-room : goal.draw_writes-requires-clause-room
+draw_writes-requires-clause-room c = ∥∥₁_elim c.requires.shown le_prop (λ shown. subst (λ (t : Option Transaction). HasLines (promised_to c.args.self.now.dirty c.args.session) t) c.in-Ok.ensures.ok (shown.1.agrees.room c.args.session))
 
 pub push-requires-clause-last : goal.push-requires-clause-last
 push-requires-clause-last c =
@@ -56,9 +59,9 @@ returns c =
     let moved = one-active _ _ _ _ _ c.draw-writes.ensures.writes.1 c.in-Ok.ensures.ok in
     record {
       step = λ h holds.
-          draws c.args.self.now h c.args.session c.draw-timestamp.result c.in-Ok.active.snapshot.now c.in-Ok.active.writes.now c.draw-timestamp.new.self c.draw-writes.new.self c.push.new.self c.reserve_keys.new.index c.note_draws.new.index c.touch_lines.new.dirty
+          draws c.args.self.now h c.args.session c.draw-timestamp.result c.in-Ok.active.snapshot.now c.in-Ok.active.writes.now c.draw-timestamp.new.self c.draw-writes.new.self c.push.new.self c.reserve_keys.new.index c.draw_writes.new.index c.draw_writes.new.dirty
           holds c.in-Ok.ensures.ok active.0 active.1 c.requires.window c.requires.early c.draw-timestamp.ensures.timestamp c.draw-timestamp.ensures.numbers c.draw-writes.ensures.drawn
           (c.push.ensures ∙ ap (λ (ds : List DrawnCommit). ds ++ record { session = c.args.session; timestamp = c.draw-timestamp.result; writes = c.draw-writes.result; stamped = 0 } ∷ []) c.reserve.ensures.commits
           ∙ ap (λ (ws : List Write). c.args.self.now.drawn.commits ++ record { session = c.args.session; timestamp = c.draw-timestamp.result; writes = ws; stamped = 0 } ∷ []) moved.1)
-          c.reserve_keys.ensures.entries c.reserve_keys.ensures.kept c.in-Ok-reserve_keys.ensures.room c.note_draws.ensures.entries c.note_draws.ensures.rooms c.touch_lines.ensures;
+          c.reserve_keys.ensures.entries c.reserve_keys.ensures.kept c.in-Ok-reserve_keys.ensures.room c.draw_writes.ensures.entries c.draw_writes.ensures.rooms c.draw_writes.ensures.lines;
     }

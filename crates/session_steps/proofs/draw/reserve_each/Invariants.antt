@@ -2,7 +2,7 @@ use Rattle.std.proofs.Common.{◌≡◌, true, take}
 use Rattle.std.specs.Prelude.{All}
 use Rattle.base.specs.declared.key.Key.{Key}
 use Rattle.index.specs.Entries.{entry_at, has_room}
-use Rattle.session_steps.proofs.draw.reserve_keys.Given as goal
+use Rattle.session_steps.proofs.draw.reserve_each.Given as goal
 
 abbrev pub invariant-loop-write : goal.invariant-loop-write
 invariant-loop-write l = record {

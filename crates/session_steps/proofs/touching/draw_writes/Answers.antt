@@ -1,0 +1,28 @@
+use Rattle.std.proofs.Common.{◌∙◌, ◌++◌, [], sym, ap, subst, arith, take, ℕ, List}
+use Rattle.std.specs.Prelude.{Option}
+use Rattle.std.specs.Option.{option_map_or}
+use Rattle.index.specs.declared.entry.Entry.{Entry}
+use Rattle.index.specs.Entries.{entry_at, live_of}
+use Rattle.txn.specs.declared.write.Write.{Write}
+use Rattle.txn.specs.WriteSets.{IsRising, write_of}
+use Rattle.session_steps.specs.Drawing.{own_lines, ended_lines, touched_lines}
+use Rattle.session_steps.proofs.Noted.{note-next, live-drawn}
+use Rattle.session_steps.proofs.TouchedLines.{touches-more}
+use Rattle.session_steps.proofs.touching.draw_writes.Goals as goal
+
+pub loop-write-preserved : goal.loop-write-preserved
+loop-write-preserved c =
+    let key = c.write-item.result.key in
+    let live = c.draw-ended.ensures.live ∙ ap (λ (e : Entry). live_of e) (c.loop-write.invariant.entries key)
+    ∙ live-drawn (write_of key (take c.loop-write.write-index c.as_slice-write-items.result.now)) c.args.timestamp (entry_at c.args.index.now key) in
+    record {
+      lines =
+          touches-more (touched_lines c.args.geometry c.args.index.now) c.args.session c.loop-write.write-index c.as_slice-write-items.result.now c.write-item.result (option_map_or (own_lines c.args.geometry) c.write-item.result.slot [])
+          (option_map_or (ended_lines c.args.geometry) c.draw-ended.result []) c.args.dirty.now c.loop-write.dirty c.touch_own.new.dirty c.touch_ended.new.dirty c.loop-write-test.true c.write-item.is
+          (ap (λ (o : Option ℕ). option_map_or (own_lines c.args.geometry) c.write-item.result.slot [] ++ option_map_or (ended_lines c.args.geometry) o []) (sym live)) c.loop-write.invariant.lines c.touch_own.ensures.lines c.touch_ended.ensures.lines;
+      room = omega (arith, c.loop-write.invariant.room, c.touch_own.ensures.left, c.touch_ended.ensures.left);
+      entries =
+          note-next c.as_slice-write-items.result.now c.loop-write.write-index c.args.timestamp c.write-item.result c.args.index.now c.loop-write.index c.draw-ended.new.self c.loop-write-test.true c.write-item.is
+          (subst (λ (ws : List Write). IsRising ws) (sym c.as_slice-write-items.ensures.slice) c.as_slice-write-items.ensures.rising) c.loop-write.invariant.entries c.draw-ended.ensures.entries;
+      rooms = λ k. c.draw-ended.ensures.room k ∙ c.loop-write.invariant.rooms k;
+    }
