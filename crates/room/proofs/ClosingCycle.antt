@@ -13,7 +13,7 @@ use Rattle.base.specs.declared.fault.Fault.{Fault}
 use Rattle.base.specs.declared.fault.Fault.TheVariants.{Device as DeviceFault}
 use Rattle.base.specs.Actors.{committer}
 use Rattle.base.specs.Images.{Image}
-use Rattle.base.specs.Layout.{Layout, total_words}
+use Rattle.base.specs.Layout.{total_words}
 use Rattle.machine.specs.Machine.{State, Hand, is_stamped, drawn_of, closing_gate, StandsClosing, StandsClosed}
 use Rattle.base.specs.Records.{Record, are_rising}
 use Rattle.pmem.specs.Device.{Device, IsOrderly, MayLeave, flushed, fenced, failed}
