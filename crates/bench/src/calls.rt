@@ -3,9 +3,8 @@ use crate::kinds::{begin, draw, end, get, poll, put, stamp, visit};
 use crate::slow::is_covered;
 use anyhow::Error;
 use base::fault::Fault;
-use base::step::Reply;
 use pmem::Pmem;
-use room::Room;
+use room::{Room, Tick};
 use std::rt::Clock;
 use std::time::Instant;
 
@@ -147,10 +146,8 @@ fn ask_each<H: Clock, D: Pmem + Drop>(
 // Ticks the committer until it has covered a batch, or has nothing to do. How often.
 fn tick<D: Pmem + Drop>(room: &mut Room<D>) -> Result<u64, Fault> {
     for ticks in 1..u64::MAX {
-        match room.tick() {
-            Reply::Ticked(_) => {}
-            Reply::Refused(fault) => return Err(fault),
-            _ => return Ok(ticks),
+        if !matches!(room.advance()?, Tick::Reached(_)) {
+            return Ok(ticks);
         }
     }
     Ok(u64::MAX)

@@ -185,6 +185,16 @@ pub fn run_load<H: Clock, D: Pmem + Drop>(
     })
 }
 
+/// Makes the round that sweeps, and then so many rounds more, of a room whose slots are free.
+pub fn visit_free<D: Pmem + Drop>(room: &mut Room<D>, rounds: u64) -> Result<(), Fault> {
+    let slots = room.geometry().slots();
+    collect(room, slots)?;
+    for _ in 0..rounds {
+        collect(room, slots)?;
+    }
+    Ok(())
+}
+
 /// Makes all updates, those of a batch in one transaction.
 pub fn run_together<H: Clock, D: Pmem + Drop>(
     rt: &H,

@@ -2,22 +2,14 @@ use base::Ts;
 use base::fault::Fault;
 use base::key::Key;
 use base::row::Row;
-use base::step::{Reply, Stage};
+use base::step::Stage;
 use pmem::Pmem;
-use room::{CommitStatus, Room};
+use room::{CommitStatus, Room, Tick};
 
 // Each kind of call has a function of its own, which isn't inlined: its instructions are counted by its name.
 
 // How many words a record's body stores.
 const WORDS: u64 = 31;
-
-// Whether the step was refused.
-fn told(reply: &Reply) -> Result<(), Fault> {
-    match reply {
-        Reply::Refused(fault) => Err(*fault),
-        _ => Ok(()),
-    }
-}
 
 /// Begins a session. Its number.
 #[inline(never)]
@@ -68,7 +60,8 @@ pub fn get<D: Pmem + Drop>(room: &Room<D>, session: u8, key: Key) -> Result<bool
 /// Lets the collector make a visit.
 #[inline(never)]
 pub fn visit<D: Pmem + Drop>(room: &mut Room<D>) -> Result<(), Fault> {
-    told(&room.visit())
+    room.collect()?;
+    Ok(())
 }
 
 /// A round of the collector: a visit of each slot, and of the closing place.
@@ -82,27 +75,20 @@ pub fn collect<D: Pmem + Drop>(room: &mut Room<D>, slots: u64) -> Result<(), Fau
 // A tick that stores a word of the record's body.
 #[inline(never)]
 fn store_word<D: Pmem + Drop>(room: &mut Room<D>) -> Result<(), Fault> {
-    told(&room.tick())
+    room.advance()?;
+    Ok(())
 }
 
 // A tick that flushes a line of the batch. Whether it was one: the tick after the last fences them.
 #[inline(never)]
 fn flush_line<D: Pmem + Drop>(room: &mut Room<D>) -> Result<bool, Fault> {
-    match &room.tick() {
-        Reply::Ticked(Stage::LineFlushed(_)) => Ok(true),
-        Reply::Refused(fault) => Err(*fault),
-        _ => Ok(false),
-    }
+    Ok(matches!(room.advance()?, Tick::Reached(Stage::LineFlushed(_))))
 }
 
 // Another tick. Whether a batch is in hand after it.
 #[inline(never)]
 fn tick<D: Pmem + Drop>(room: &mut Room<D>) -> Result<bool, Fault> {
-    match &room.tick() {
-        Reply::Ticked(_) => Ok(true),
-        Reply::Refused(fault) => Err(*fault),
-        _ => Ok(false),
-    }
+    Ok(matches!(room.advance()?, Tick::Reached(_)))
 }
 
 // Flushes the lines of the batch in hand, and fences them. How many ticks that takes.

@@ -3,8 +3,9 @@
 //! `engine SLOTS KEYS COMMITS BATCH READS` runs the engine alone, `plain` with the same words the engine over a device that keeps
 //! no history, `together` with them too, with the updates of a batch in one transaction, `file NAME` with them the engine over a
 //! device whose image is kept in that file, and `readers N` the reads of N readers, each in a thread of its own. `open SLOTS` times the
-//! opening of an image that is full, `openings SLOTS TIMES` opens it so often, `steps SLOTS` each kind of call by itself, and
-//! `reads SLOTS` reads of keys that have rows, of keys that have none, and of old versions.
+//! opening of an image that is full, `openings SLOTS TIMES` opens it so often, `visits SLOTS ROUNDS` makes so many rounds of the
+//! collector over slots that are free, `steps SLOTS` times each kind of call by itself, and `reads SLOTS` reads of keys that have
+//! rows, of keys that have none, and of old versions.
 #![tactic(auto)]
 
 ghost use Rattle.std.specs.Prelude.{◌≤◌, IfOk};
@@ -21,7 +22,9 @@ mod slow;
 use anyhow::{Error, bail, ensure};
 use base::geometry::Geometry;
 use calls::{TOGETHER, time_reads, time_steps};
-use engine::{Load, Made, image_of_keys, load_file, load_keys, load_plain, run_load, run_together};
+use engine::{
+    Load, Made, image_of_keys, load_file, load_keys, load_plain, run_load, run_together, visit_free,
+};
 use opening::{open_often, time_opening};
 use pmem::Pmem;
 use pmem_model::SimPmem;
@@ -104,6 +107,9 @@ fn measure_calls<H: Print + Clock + Threads + Wait + Sync>(
             let slots = slots.parse::<u64>()?;
             let words = image_of_keys(rt, alloc, &load_in(slots, slots))?;
             open_often(rt, alloc, words.as_slice(), times.parse::<u64>()?)
+        }
+        ["visits", slots, rounds] => {
+            make_visits(rt, alloc, slots.parse::<u64>()?, rounds.parse::<u64>()?)
         }
         ["steps", slots] => measure_steps(rt, alloc, slots.parse::<u64>()?),
         ["reads", slots] => measure_reads(rt, alloc, slots.parse::<u64>()?),
@@ -267,6 +273,18 @@ fn measure_reads<H: Print + Clock + Threads + Sync>(
     print_each(rt, "present", READS_OF_A_KIND, took.present)?;
     print_each(rt, "absent", READS_OF_A_KIND, took.absent)?;
     print_each(rt, "old", READS_OF_A_KIND, took.old)
+}
+
+// Over slots that are free.
+fn make_visits<H: Threads + Sync>(
+    rt: &H,
+    alloc: Global,
+    slots: u64,
+    rounds: u64,
+) -> Result<(), Error> {
+    let mut room = load_plain(rt, alloc, &load_in(slots, 0))?;
+    visit_free(&mut room, rounds)?;
+    Ok(())
 }
 
 // So many slots, and so many keys that have rows.

@@ -33,6 +33,7 @@ impl Index {
 
     /// The version of the key that the snapshot sees. From the newest covered one on links are followed, each to an earlier
     /// version of the key, as long as what the walk is at began after the snapshot.
+    #[inline(always)]
     pub fn walk<D: Pmem>(
         &self,
         device: &D,
@@ -63,6 +64,7 @@ pub(crate) enum Next {
 }
 
 // What a slot's words say to a walk that comes from a version that began later than the bound.
+#[inline(always)]
 fn next_at(held: &Slot, snapshot: &Snapshot, key: Key, bound: Ts) -> Next
     ensures { result ≡ next_at snapshot.now key bound held.now }
 {
@@ -87,6 +89,7 @@ fn next_at(held: &Slot, snapshot: &Snapshot, key: Key, bound: Ts) -> Next
 }
 
 // The same, of a slot of the device.
+#[inline(always)]
 fn look<D: Pmem>(
     device: &D,
     geometry: Geometry,
@@ -110,6 +113,7 @@ fn look<D: Pmem>(
 }
 
 // The version of the key that the snapshot sees, by links from this slot on.
+#[inline(always)]
 pub(crate) fn follow<D: Pmem>(
     device: &D,
     geometry: Geometry,

@@ -276,6 +276,7 @@ fn unopened<S: Storage>(images: JournaledImages<S>) -> Unopened<S> {
 }
 
 // Is it a word of the superblock, or the first of a place for a record?
+#[inline(always)]
 fn is_gate(places: usize, word: usize) -> bool
     ensures { result ≡ is_gate places word }
 {
@@ -286,11 +287,16 @@ fn is_gate(places: usize, word: usize) -> bool
     word < 8 || word % 32 == 8 && (word - 8) / 32 < places
 }
 
-// Was a gate stored, once this word was stored too?
-fn is_stored(before: bool, places: usize, word: usize) -> bool
-    ensures { result ≡ (is_gate places word || before) }
+// Notes in both marks that a gate was stored, if this word is one. Most words are none, and change no mark.
+#[inline(always)]
+fn note_gate(stored: &mut bool, unwritten: &mut bool, places: usize, word: usize)
+    ensures stored { stored.new ≡ (is_gate places word || stored.old) }
+    ensures unwritten { unwritten.new ≡ (is_gate places word || unwritten.old) }
 {
-    is_gate(places, word) || before
+    if is_gate(places, word) {
+        *stored = true;
+        *unwritten = true;
+    }
 }
 
 // Is it the superblock's line, or the first of a place for a record?
@@ -333,8 +339,12 @@ impl<I: Images> Pmem for JournaledPmem<I> {
         match self.changed.add(word / 8) {
             Ok(()) => {
                 self.words[word] = value;
-                self.is_gate_stored = is_stored(self.is_gate_stored, self.places, word);
-                self.is_gate_unwritten = is_stored(self.is_gate_unwritten, self.places, word);
+                note_gate(
+                    &mut self.is_gate_stored,
+                    &mut self.is_gate_unwritten,
+                    self.places,
+                    word,
+                );
                 self.trace.note(Operation::Store { word, value });
                 Ok(())
             }

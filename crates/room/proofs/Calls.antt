@@ -1,6 +1,6 @@
 -- A call of a session, as what the room makes of it.
 use Rattle.std.proofs.Common.{◌≡◌, Bool, true, false, refl, sym, ◌∙◌, ap, subst, arith}
-use Rattle.std.specs.Prelude.{⊤, Option, Result, Ok, Err}
+use Rattle.std.specs.Prelude.{⊤, Option, Some, None, Result, Ok, Err}
 use Rattle.std.proofs.Math.Logic.{∥∥₁_map, ∥∥₁_elim}
 use Rattle.base.specs.declared.fault.Fault.{Fault}
 use Rattle.base.specs.declared.fault.Fault.TheVariants.{Device as DeviceFault}
@@ -11,6 +11,7 @@ use Rattle.base.specs.declared.step.SessionStep.{SessionStep}
 use Rattle.base.specs.declared.step.SessionReply.{SessionReply}
 use Rattle.base.specs.declared.step.SessionReply.TheVariants.{Began, Row, Rows, Done, Drawn, More, Stamped, Waiting, Committed, Refused}
 use Rattle.base.specs.Steps.{as_step, as_reply}
+use Rattle.base.specs.Batches.{Batch}
 use Rattle.base.specs.Replies.{is_failure}
 use Rattle.machine.specs.Machine.{State}
 use Rattle.machine.proofs.Failures.{failed-after}
@@ -18,11 +19,17 @@ use Rattle.pmem.specs.Device.{Device}
 use Rattle.pmem.specs.declared.device.Pmem.{Ghosts}
 use Rattle.group_commit.specs.Cycles.{Cycling}
 use Rattle.session_steps.specs.declared.sessions.Sessions.{Sessions}
+use Rattle.collector.specs.declared.visit.Visit.{Visit}
+use Rattle.collector.specs.declared.visit.Visit.TheVariants.{Slot, SweepEnd}
 use Rattle.session_steps.specs.Replies.{done, stamped}
+use Rattle.session_steps.specs.Collecting.{as_reply as visited}
 use Rattle.session_steps.specs.Steps.{HoldsSome, HoldsSomeOn, Steps as SessionSteps}
 use Rattle.session_steps.proofs.Stepping.{shown-held, shown-held-on}
 use Rattle.room.specs.declared.volatile.VolatileState.{VolatileState}
 use Rattle.room.specs.declared.room.Room.{Room}
+use Rattle.room.specs.declared.ticks.Tick.{Tick}
+use Rattle.room.specs.declared.ticks.Tick.TheVariants as came
+use Rattle.room.specs.Ticks.{as_reply as ticked}
 use Rattle.room.specs.Committing.{ShowsIn}
 use Rattle.room.specs.Steps.{ShowsAs, ShowsSome, ShowsSomeIn, StepsToIn, reports_failure}
 use Rattle.room.specs.Room.{Leads}
@@ -51,6 +58,18 @@ pub stamped-failure : (r : Result Bool Fault) → reports_failure r ≡ is_failu
 stamped-failure (Ok true) = refl
 stamped-failure (Ok false) = refl
 stamped-failure (Err fault) = refl
+
+pub tick-failure : (r : Result Tick Fault) (last : Option Batch) → reports_failure r ≡ is_failure (ticked r last)
+tick-failure (Ok came.Idle) last = refl
+tick-failure (Ok (came.Reached stage)) last = refl
+tick-failure (Ok came.Covered) (Some batch) = refl
+tick-failure (Ok came.Covered) None = refl
+tick-failure (Err fault) last = refl
+
+pub visit-failure : (r : Result Visit Fault) → reports_failure r ≡ is_failure (visited r)
+visit-failure (Ok (Slot slot)) = refl
+visit-failure (Ok SweepEnd) = refl
+visit-failure (Err fault) = refl
 
 the-device : (fault : Fault) → is_failure (reply.Refused fault) ≡ true → fault ≡ DeviceFault
 the-device DeviceFault is = refl

@@ -205,7 +205,7 @@ sessions-shown c device some = ∥∥₁_map some (λ shown. (shown.0, shown.1.s
 module _ (old : VolatileState) (new : Sessions) (before now : Device) (n : ℕ) (r : SessionReply) (rests : old.cycle ≡ None) (some : ∥ ShowsSome old before ∥₁) (is : unstamped_session old.sessions.drawn.commits ≡ Some n)
     (steps : Steps old.sessions new before now (Stamp n) r) where
   abbrev after : VolatileState
-  after = record { sessions = new; cycle = old.cycle }
+  after = record { sessions = new; cycle = old.cycle; covered = old.covered }
 
   next : IsNext old.sessions n
   next = next-of old.sessions n is

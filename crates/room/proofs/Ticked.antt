@@ -3,9 +3,10 @@ use Rattle.std.proofs.Common.{◌≡◌, ◌≢◌, true, false, ◌&&◌, not, 
 use Rattle.std.proofs.Math.Bridge.{le_prop}
 use Rattle.std.proofs.Math.Logic.{∥∥₁_elim}
 use Rattle.std.proofs.Math.Nat.{ℕ_set}
-use Rattle.std.specs.Prelude.{Option, Some, None, is_none, is_some, IsTrue}
+use Rattle.std.specs.Prelude.{Option, Some, None, Result, Ok, Err, is_none, is_some, IsTrue}
 use Rattle.base.specs.declared.fault.Fault.{Fault}
 use Rattle.base.specs.declared.fault.Fault.TheVariants.{Device as DeviceFault, OutOfMemory}
+use Rattle.base.specs.Batches.{Batch}
 use Rattle.base.specs.declared.step.Stage.{Stage}
 use Rattle.base.specs.declared.step.Step.TheVariants.{Commit as CommitTick}
 use Rattle.base.specs.declared.step.Reply.{Reply}
@@ -22,6 +23,9 @@ use Rattle.session_steps.specs.declared.sessions.Sessions.{Sessions}
 use Rattle.room.specs.declared.volatile.VolatileState.{VolatileState}
 use Rattle.room.specs.Committing.{HoldsCycle, Shows}
 use Rattle.room.specs.Steps.{Steps, ShowsSome, ShowsSomeIn}
+use Rattle.room.specs.declared.ticks.Tick.{Tick}
+use Rattle.room.specs.declared.ticks.Tick.TheVariants as came
+use Rattle.room.specs.Ticks.{as_reply}
 use Rattle.room.specs.Closing.{ClosePhaseDone, ClosePhaseFailed}
 use Rattle.room.proofs.CloseParts.{device-fault}
 
@@ -69,6 +73,16 @@ with-hand s o cycle device is some = subst (λ (hand : Option Cycling). ∥ Show
 
 pub one-hand : (o : Option Cycling) (a b : Cycling) → o ≡ Some a → o ≡ Some b → a ≡ b
 one-hand o a b first second = cc (first, second)
+
+-- ---- its reply
+
+-- it is no refusal where nothing was refused
+pub unrefused-reply : (r : Result Tick Fault) (last : Option Batch) → ((fault : Fault) → r ≢ Err fault) → (fault : Fault) → as_reply r last ≢ Refused fault
+unrefused-reply (Ok came.Idle) last un fault is = cc is
+unrefused-reply (Ok (came.Reached stage)) last un fault is = cc is
+unrefused-reply (Ok came.Covered) (Some batch) un fault is = cc is
+unrefused-reply (Ok came.Covered) None un fault is = cc is
+unrefused-reply (Err other) last un fault is = un other refl
 
 -- ---- a part
 

@@ -1,9 +1,10 @@
 -- Which plain states a room shows.
-use Rattle.std.specs.Prelude.{◌≡◌, ℕ, ◌+◌, ◌≤◌, ◌<◌, true, false, slice_index, List, Contains}
+use Rattle.std.specs.Prelude.{◌≡◌, ℕ, ◌+◌, ◌≤◌, ◌<◌, true, false, slice_index, List, Option, Contains}
 use Rattle.base.specs.declared.fault.Fault.TheVariants.{Device as DeviceFault}
 use Rattle.base.specs.declared.step.Step.{Step}
 use Rattle.base.specs.declared.step.Reply.{Reply}
 use Rattle.base.specs.declared.step.Reply.TheVariants.{Refused}
+use Rattle.base.specs.Batches.{Batch}
 use Rattle.base.specs.Layout.{slot_start}
 use Rattle.base.specs.Records.{is_in}
 use Rattle.base.specs.Images.{Image}
@@ -20,6 +21,10 @@ use Rattle.room.specs.declared.status.Status.{Status}
 -- the room's device
 abbrev pub device_of : {D : Type 0} → {G : Ghosts D} → (D → Device) → Room D G → Device
 device_of state room = state room.device
+
+-- the batch that a tick covered last, unless it was handed out
+abbrev pub covered_by : {D : Type 0} → {G : Ghosts D} → Room D G → Option Batch
+covered_by room = room.volatile.covered
 
 -- the volatile state shows the state on the room's device, and the mark says whether the device failed
 pub record Agrees {D : Type 0} {G : Ghosts D} (state : D → Device) (room : Room D G) (q : State) : Type 0 where

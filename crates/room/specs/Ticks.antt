@@ -1,13 +1,16 @@
 -- What a tick that chooses a batch asks, and what it makes of a room's volatile state.
-use Rattle.std.specs.Prelude.{Bool, true, false, None, Result, Ok, Err}
+use Rattle.std.specs.Prelude.{Bool, true, false, Option, Some, None, Result, Ok, Err}
 use Rattle.base.specs.declared.fault.Fault.{Fault}
 use Rattle.base.specs.declared.step.Step.TheVariants.{Commit as CommitTick}
 use Rattle.base.specs.declared.step.Reply.{Reply}
-use Rattle.base.specs.declared.step.Reply.TheVariants.{Idle, Ticked, Refused}
+use Rattle.base.specs.declared.step.Reply.TheVariants.{Idle, Ticked, Covered, Done, Refused}
 use Rattle.base.specs.declared.step.Stage.TheVariants.{Chosen}
+use Rattle.base.specs.Batches.{Batch}
 use Rattle.pmem.specs.Device.{Device, IsOrderly}
 use Rattle.session_steps.specs.declared.sessions.Sessions.{Sessions}
 use Rattle.room.specs.declared.volatile.VolatileState.{VolatileState}
+use Rattle.room.specs.declared.ticks.Tick.{Tick}
+use Rattle.room.specs.declared.ticks.Tick.TheVariants as came
 use Rattle.room.specs.Steps.{ShowsSomeIn, StepsIn}
 
 -- with nothing in hand, some state that hasn't failed is shown on some device
@@ -23,3 +26,11 @@ abbrev pub chosen_reply : Result Bool Fault → Reply
 chosen_reply (Ok true) = Ticked Chosen
 chosen_reply (Ok false) = Idle
 chosen_reply (Err fault) = Refused fault
+
+-- the reply of a tick that came to this, where this batch was covered last
+abbrev pub as_reply : Result Tick Fault → Option Batch → Reply
+as_reply (Ok came.Idle) last = Idle
+as_reply (Ok (came.Reached stage)) last = Ticked stage
+as_reply (Ok came.Covered) (Some batch) = Covered batch
+as_reply (Ok came.Covered) None = Done
+as_reply (Err fault) last = Refused fault

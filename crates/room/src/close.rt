@@ -6,7 +6,6 @@ use crate::room::Room;
 use crate::volatile::VolatileState;
 use base::NUMBER_LIMIT;
 use base::fault::Fault;
-use base::step::Reply;
 use group_commit::Cycle;
 use pmem::Pmem;
 use std::alloc::Global;
@@ -92,7 +91,7 @@ impl VolatileState {
         ensures err { IfErr result (ClosePhaseFailed self.old (D.state device.old) (D.state device.new)) }
     {
         while self.cycle.is_some() {
-            if let Reply::Refused(fault) = self.advance(device) {
+            if let Err(fault) = self.advance(device) {
                 return Err(fault);
             }
         }

@@ -11,12 +11,15 @@ mod room;
 mod sessions;
 mod status;
 mod tick;
+mod ticks;
 mod usage;
 mod volatile;
 mod workers;
 
+pub use collector::Visit;
 pub use law::steps_run;
 pub use room::Room;
 pub use session_steps::CommitStatus;
 pub use status::Status;
+pub use ticks::Tick;
 pub use usage::Usage;

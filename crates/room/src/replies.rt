@@ -1,8 +1,9 @@
-//! What each call of a session returns, as the reply of its step. A reply has the size of the largest there is, so it is made here,
-//! where it is returned, and not below.
+//! What each call of a session, or a visit of the collector, returns, as the reply of its step. A reply has the size of the largest
+//! there is, so it is made here, where it is returned, and not below.
 
 ghost use Rattle.std.specs.Prelude.{◌≡◌};
 ghost use Rattle.base.specs.Steps.{as_reply};
+ghost use Rattle.session_steps.specs.Collecting.{as_reply as visited_reply};
 ghost use Rattle.session_steps.specs.Replies.{began, read, scanned, done, drawn, stamped, polled};
 
 use base::Ts;
@@ -10,6 +11,7 @@ use base::fault::Fault;
 use base::row::Row;
 use base::rows::Rows;
 use base::step::Reply;
+use collector::Visit;
 use session_steps::CommitStatus;
 
 // The number of a session that began.
@@ -89,6 +91,18 @@ pub(crate) fn polled(returned: Result<CommitStatus, Fault>) -> Reply
         Ok(CommitStatus::Waiting) => Reply::Waiting,
         Ok(CommitStatus::Committed(timestamp)) => Reply::Committed(timestamp),
         Ok(CommitStatus::ReadOnly) => Reply::Done,
+        Err(fault) => Reply::Refused(fault),
+    }
+}
+
+// The slot that was visited, or that a sweep ended.
+#[inline(always)]
+pub(crate) fn visited(returned: Result<Visit, Fault>) -> Reply
+    ensures { result ≡ visited_reply returned }
+{
+    match returned {
+        Ok(Visit::Slot(slot)) => Reply::Visited(slot),
+        Ok(Visit::SweepEnd) => Reply::SweepEnd,
         Err(fault) => Reply::Refused(fault),
     }
 }

@@ -141,7 +141,7 @@ impl<D: Pmem + Drop> Room<D> {
 
 // Whether a call reports a failing device.
 #[inline(always)]
-fn reports_failure<T>(returned: &Result<T, Fault>) -> bool
+pub(crate) fn reports_failure<T>(returned: &Result<T, Fault>) -> bool
     ensures { result ≡ reports_failure returned.now }
 {
     matches!(returned, Err(Fault::Device))

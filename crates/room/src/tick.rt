@@ -1,8 +1,8 @@
 //! A tick makes one operation at most, so that sessions may step between any two. The choice takes all the memory that the cycle
 //! needs and makes no operation; each later tick fails only with the device.
 
+use crate::ticks::Tick;
 use crate::volatile::VolatileState;
-use base::batch::Batch;
 use base::fault::Fault;
 use base::step::{Reply, Stage};
 use group_commit::{Cycle, is_idle};
@@ -10,31 +10,48 @@ use pmem::Pmem;
 use std::alloc::Global;
 
 impl VolatileState {
-    ghost use Rattle.std.specs.Prelude.{◌≡◌, ◌≢◌, ◌<◌, None, Some, IsSome};
+    ghost use Rattle.std.specs.Prelude.{◌≡◌, ◌≢◌, ◌<◌, None, Some, IsSome, Err};
     ghost use Rattle.base.specs.declared.step.Step.TheVariants.{Commit};
     ghost use Rattle.log_area.specs.declared.stage.WritingStage.TheVariants.{Done};
     ghost use Rattle.group_commit.specs.Cycles.{Cycling};
     ghost use Rattle.base.specs.declared.fault.Fault.{Fault};
-    ghost use Rattle.base.specs.declared.step.Reply.TheVariants.{Refused};
     ghost use Rattle.room.specs.Steps.{ShowsSome, Steps};
     ghost use Rattle.session_steps.specs.Covering.{MayCoverSome, ShowsCovered};
-    ghost use Rattle.room.specs.Ticks.{ShowsResting, TicksQuietly, chosen_reply};
+    ghost use Rattle.room.specs.Ticks.{ShowsResting, TicksQuietly, chosen_reply, as_reply};
     ghost use Rattle.room.specs.Closing.{ticks_left};
 
     // One tick: the choice of a batch, or the next operation of the one in hand.
     #[inline(always)]
-    pub(crate) fn tick<D: Pmem>(&mut self, alloc: Global, device: &mut D) -> Reply
+    pub(crate) fn tick<D: Pmem>(&mut self, alloc: Global, device: &mut D) -> Result<Tick, Fault>
         requires shown { ∥ ShowsSome self.old (D.state device.old) ∥₁ }
-        ensures step { Steps self.old self.new (D.state device.old) (D.state device.new) Commit result }
+        ensures step { Steps self.old self.new (D.state device.old) (D.state device.new) Commit (as_reply result self.new.covered) }
     {
         if self.cycle.is_some() {
             self.advance(device)
         } else {
             match self.choose(alloc) {
-                Ok(true) => Reply::Ticked(Stage::Chosen),
-                Ok(false) => Reply::Idle,
-                Err(fault) => Reply::Refused(fault),
+                Ok(true) => Ok(Tick::Reached(Stage::Chosen)),
+                Ok(false) => Ok(Tick::Idle),
+                Err(fault) => Err(fault),
             }
+        }
+    }
+
+    // The reply of a tick that came to this. A batch that it covered is handed out.
+    #[inline(always)]
+    pub(crate) fn reply_of(&mut self, returned: Result<Tick, Fault>) -> Reply
+        ensures reply { result ≡ as_reply returned self.old.covered }
+        ensures sessions { self.new.sessions ≡ self.old.sessions }
+        ensures cycle { self.new.cycle ≡ self.old.cycle }
+    {
+        match returned {
+            Ok(Tick::Idle) => Reply::Idle,
+            Ok(Tick::Reached(stage)) => Reply::Ticked(stage),
+            Ok(Tick::Covered) => match self.covered.take() {
+                Some(batch) => Reply::Covered(batch),
+                None => Reply::Done,
+            },
+            Err(fault) => Reply::Refused(fault),
         }
     }
 
@@ -69,28 +86,31 @@ impl VolatileState {
 
     // Makes the next operation of the cycle in hand, where it lies: it is moved only once it is done.
     #[inline(always)]
-    pub(crate) fn advance<D: Pmem>(&mut self, device: &mut D) -> Reply
+    pub(crate) fn advance<D: Pmem>(&mut self, device: &mut D) -> Result<Tick, Fault>
         requires hand { IsSome self.old.cycle }
         requires shown { ∥ ShowsSome self.old (D.state device.old) ∥₁ }
-        ensures step { Steps self.old self.new (D.state device.old) (D.state device.new) Commit result }
-        ensures closer { ((fault : Fault) → result ≢ Refused fault) → ticks_left self.new.sessions.dirty.touches self.new.cycle < ticks_left self.old.sessions.dirty.touches self.old.cycle }
+        ensures step { Steps self.old self.new (D.state device.old) (D.state device.new) Commit (as_reply result self.new.covered) }
+        ensures closer { ((fault : Fault) → result ≢ Err fault) → ticks_left self.new.sessions.dirty.touches self.new.cycle < ticks_left self.old.sessions.dirty.touches self.old.cycle }
     {
         let Some(cycle) = &mut self.cycle else {
             unreachable!()
         };
         match cycle.tick(device, self.sessions.dirty()) {
-            Ok(Some(stage)) => Reply::Ticked(stage),
-            Ok(None) => Reply::Covered(self.cover()),
-            Err(reason) => Reply::Refused(reason),
+            Ok(Some(stage)) => Ok(Tick::Reached(stage)),
+            Ok(None) => {
+                self.cover();
+                Ok(Tick::Covered)
+            }
+            Err(reason) => Err(reason),
         }
     }
 
-    // The batch in hand is covered: its record rules.
+    // The batch in hand is covered: its record rules. It is kept until it is handed out, or the next one is covered.
     #[inline(never)]
-    fn cover(&mut self) -> Batch
+    fn cover(&mut self)
         requires hand { IsSome self.old.cycle }
         requires may { (cycle : Cycling) → self.old.cycle ≡ Some cycle → ∥ MayCoverSome self.old.sessions cycle.writing.target ∥₁ }
-        ensures batch { (cycle : Cycling) → self.old.cycle ≡ Some cycle → result ≡ cycle.batch }
+        ensures batch { (cycle : Cycling) → self.old.cycle ≡ Some cycle → self.new.covered ≡ Some cycle.batch }
         ensures cycle { self.new.cycle ≡ None }
         ensures shows { (cycle : Cycling) → self.old.cycle ≡ Some cycle → ShowsCovered self.old.sessions self.new.sessions cycle.writing.target }
     {
@@ -99,6 +119,6 @@ impl VolatileState {
         };
         let covered = cycle.finish();
         self.sessions.cover(covered.record);
-        covered.batch
+        self.covered = Some(covered.batch);
     }
 }

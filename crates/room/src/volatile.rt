@@ -1,22 +1,23 @@
 //! What a room keeps in ordinary memory, apart from its device. A stop loses all of it, so nothing here may be what an acknowledged
 //! commit rests on.
 
+use base::batch::Batch;
 use base::fault::Fault;
 use base::key::Key;
 use base::row::Row;
-use base::step::Reply;
 use collector::Visit;
 use group_commit::Cycle;
 use pmem::Pmem;
 use session_steps::{Numbers, Sessions};
 use std::alloc::Global;
 
-// What an opened device's room keeps in ordinary memory: the sessions of a life, with all that they share, and the batch that
-// is on its way to being covered.
+// What an opened device's room keeps in ordinary memory: the sessions of a life, with all that they share, the batch that is on
+// its way to being covered, and the one that was covered last, until it is handed out.
 #[derive(Drop)]
 pub(crate) struct VolatileState {
     pub(crate) sessions: Sessions,
     pub(crate) cycle: Option<Cycle>,
+    pub(crate) covered: Option<Batch>,
 }
 
 impl VolatileState {
@@ -26,6 +27,7 @@ impl VolatileState {
     ghost use Rattle.base.specs.declared.step.Step.TheVariants.{Collect};
     ghost use Rattle.machine.specs.Machine.{State};
     ghost use Rattle.session_steps.specs.Shows.{ShowsAny};
+    ghost use Rattle.session_steps.specs.Collecting.{as_reply};
     ghost use Rattle.room.specs.Committing.{Shows};
     ghost use Rattle.room.specs.Steps.{ShowsSome, Steps};
 
@@ -37,6 +39,7 @@ impl VolatileState {
         VolatileState {
             sessions,
             cycle: None,
+            covered: None,
         }
     }
 
@@ -59,15 +62,11 @@ impl VolatileState {
     // One visit of the collector. The batch in hand stays as it is, also where a sweep ends: the gaps that were swept
     // are left out of the record that is chosen next.
     #[inline(always)]
-    pub(crate) fn collect<D: Pmem>(&mut self, device: &mut D) -> Reply
+    pub(crate) fn collect<D: Pmem>(&mut self, device: &mut D) -> Result<Visit, Fault>
         requires shown { ∥ ShowsSome self.old (D.state device.old) ∥₁ }
-        ensures step { Steps self.old self.new (D.state device.old) (D.state device.new) Collect result }
+        ensures step { Steps self.old self.new (D.state device.old) (D.state device.new) Collect (as_reply result) }
     {
-        match self.sessions.collect(device) {
-            Ok(Visit::Slot(slot)) => Reply::Visited(slot),
-            Ok(Visit::SweepEnd) => Reply::SweepEnd,
-            Err(fault) => Reply::Refused(fault),
-        }
+        self.sessions.collect(device)
     }
 
     // The covered rows by rising key, on the device on which the volatile state shows a plain state, a failed one too.

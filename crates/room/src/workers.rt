@@ -1,26 +1,63 @@
-//! A tick and a visit are what most steps of a life are, and they answer little: they go past the step that is asked, which is
-//! large to move.
+//! A tick and a visit are what most steps of a life are, and they answer little. A reply has room for the largest there is: the calls
+//! that return what a tick or a visit came to don't move one.
 
+use crate::replies::visited;
 use crate::room::Room;
+use crate::sessions::reports_failure;
+use crate::ticks::Tick;
+use base::batch::Batch;
 use base::fault::Fault;
 use base::step::Reply;
+use collector::Visit;
 use pmem::Pmem;
 
 impl<D: Pmem + Drop> Room<D> {
+    ghost use Rattle.std.specs.Prelude.{◌≡◌, option_copied};
     ghost use Rattle.base.specs.declared.step.Step.TheVariants.{Commit, Collect};
-    ghost use Rattle.room.specs.Room.{Leads};
+    ghost use Rattle.session_steps.specs.Collecting.{as_reply as visited};
+    ghost use Rattle.room.specs.Ticks.{as_reply as ticked};
+    ghost use Rattle.room.specs.Room.{Leads, covered_by};
 
-    /// A tick of the committer: `step` of `Step::Commit`, without moving a step.
+    /// A tick of the committer. The batch that it covers can be asked for.
+    #[inline(always)]
+    pub fn advance(&mut self) -> Result<Tick, Fault>
+        ensures step { Leads D.state self.old self.new Commit (ticked result (covered_by self.new)) }
+    {
+        if self.failed {
+            return Err(Fault::Failed);
+        }
+        let returned = self.volatile.tick(self.alloc, &mut self.device);
+        self.failed = reports_failure(&returned);
+        returned
+    }
+
+    /// The batch that a tick covered last, unless it was handed out.
+    pub fn covered(&self) -> Option<&Batch>
+        ensures { option_copied result ≡ covered_by self.now }
+    {
+        self.volatile.covered.as_ref()
+    }
+
+    /// A visit of the collector.
+    #[inline(always)]
+    pub fn collect(&mut self) -> Result<Visit, Fault>
+        ensures step { Leads D.state self.old self.new Collect (visited result) }
+    {
+        if self.failed {
+            return Err(Fault::Failed);
+        }
+        let returned = self.volatile.collect(&mut self.device);
+        self.failed = reports_failure(&returned);
+        returned
+    }
+
+    /// A tick of the committer: `step` of `Step::Commit`, without moving a step. It hands out the batch that it covers.
     #[inline(always)]
     pub fn tick(&mut self) -> Reply
         ensures step { Leads D.state self.old self.new Commit result }
     {
-        if self.failed {
-            return Reply::Refused(Fault::Failed);
-        }
-        let reply = self.volatile.tick(self.alloc, &mut self.device);
-        self.failed = reply.is_failure();
-        reply
+        let returned = self.advance();
+        self.volatile.reply_of(returned)
     }
 
     /// A visit of the collector: `step` of `Step::Collect`, without moving a step.
@@ -28,11 +65,6 @@ impl<D: Pmem + Drop> Room<D> {
     pub fn visit(&mut self) -> Reply
         ensures step { Leads D.state self.old self.new Collect result }
     {
-        if self.failed {
-            return Reply::Refused(Fault::Failed);
-        }
-        let reply = self.volatile.collect(&mut self.device);
-        self.failed = reply.is_failure();
-        reply
+        visited(self.collect())
     }
 }

@@ -28,6 +28,7 @@ fn last_word(bytes: &[u8]) -> u64
 }
 
 // The bytes of the row words of a slot of two lines, the lowest of each word first. In a slot of one line the first 32 count.
+#[inline(always)]
 pub fn row_bytes(words: &[u64; 16]) -> [u8; 96]
     ensures size { length result ≡ 96 }
     ensures bytes { (i : ℕ) → i < 96 → slice_index result i ≡ slot_byte (slice_index words.now) i }
@@ -40,6 +41,7 @@ pub fn row_bytes(words: &[u64; 16]) -> [u8; 96]
 }
 
 // Whether the bytes from one on are 0, of the row words of a slot that has so many words in all.
+#[inline(always)]
 pub fn is_padded(words: &[u64; 16], length: usize, count: usize) -> bool
     requires few { (4 ≤ count) × (count ≤ 16) }
     requires row { length ≤ 8 * (count - 4) }

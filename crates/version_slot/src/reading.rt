@@ -10,6 +10,7 @@ use base::key::Key;
 use pmem::Pmem;
 
 /// What the last values of a slot's words hold.
+#[inline(always)]
 pub fn read<D: Pmem>(device: &D, geometry: Geometry, slot: u64) -> Option<Slot>
     requires slot { slot < geometry.slots }
     requires device { (D.state device.now).words ≡ total_words geometry }
@@ -30,6 +31,7 @@ pub fn read_key<D: Pmem>(device: &D, geometry: Geometry, slot: u64) -> Option<Ke
 }
 
 // The last values of a slot's words from one on. A slot of one line has eight.
+#[inline(always)]
 fn words_from<D: Pmem>(device: &D, geometry: Geometry, slot: u64, first: usize) -> [u64; 16]
     requires slot { slot < geometry.slots }
     requires device { (D.state device.now).words ≡ total_words geometry }

@@ -31,6 +31,7 @@ impl Slot {
 
     /// What these words hold, of which a slot of one line has the first eight. They hold nothing where the row's length,
     /// an unused bit, a byte past the row's end or the previous slot isn't as it should be.
+    #[inline(always)]
     pub fn from_words(words: &[u64; 16], geometry: Geometry) -> Option<Slot>
         ensures some { IfSome result (IsSlot geometry (slice_index words.now)) }
         ensures none { IfNone result ((slot : Slot) → ¬ IsSlot geometry (slice_index words.now) slot) }
@@ -57,6 +58,7 @@ impl Slot {
 }
 
 // Whether these words from the third on hold a version.
+#[inline(always)]
 fn is_well_formed(words: &[u64; 16], geometry: Geometry) -> bool
     ensures { IsTrue result ↔ IsWellFormed geometry (slice_index words.now) }
 {

@@ -1,17 +1,18 @@
 use Rattle.std.proofs.Common.{◌≡◌, ◌<◌, true, refl, sym, ◌∙◌, ap, subst}
-use Rattle.std.specs.Prelude.{Option, Some}
+use Rattle.std.specs.Prelude.{Option, Some, Ok}
 use Rattle.std.proofs.Math.Bridge.{le_prop}
 use Rattle.std.proofs.Math.Nat.{ℕ_set}
 use Rattle.std.proofs.Math.Logic.{∥∥₁_elim, ∥∥₁_map}
 use Rattle.base.specs.Batches.{Batch}
 use Rattle.base.specs.Records.{are_rising}
-use Rattle.base.specs.declared.step.Reply.TheVariants.{Covered}
 use Rattle.pmem.specs.Trace.{applied}
 use Rattle.dirty_table.specs.Touches.{has, lines_touched, Table}
 use Rattle.group_commit.specs.Cycles.{line_from, operation_in, reached_in, ticked_in}
 use Rattle.group_commit.specs.Cycles.{Cycling}
 use Rattle.room.specs.Committing.{ShowsIn}
 use Rattle.room.specs.Closing.{ticks_left}
+use Rattle.room.specs.Ticks.{as_reply}
+use Rattle.room.specs.declared.ticks.Tick.TheVariants.{Covered}
 use Rattle.room.proofs.Ticked.{with-hand, one-hand}
 use Rattle.room.proofs.Advancing.{unfinished, sized, line-fits, goes-on, comes-closer, may-cover, covers, fails-on}
 use Rattle.room.proofs.volatile.VolatileState.advance.Goals as goal
@@ -54,7 +55,7 @@ returns-in-Ok-None-clause-step g c = λ q shows works.
     (λ done from is. subst (λ (t : Table). are_rising (lines_touched (has c.in-Some.cycle.sessions) t.touches) ≡ true) c.dirty.ensures (c.tick.ensures.rising done from is))
     (g.D.Pmem.state c.tick.new.device) (g.met.D.Pmem.orderly _) works (c.in-Ok-None.ensures.operation ∙ λ i. applied (operation_in (lines_touched (has c.in-Some.cycle.sessions) (c.dirty.ensures i).touches) c.in-Some.cycle) (g.D.Pmem.state c.args.device.now))
     (sym c.in-Ok-None.field-0-is ∙ c.in-Ok-None.ensures.reached ∙ λ i. reached_in (lines_touched (has c.in-Some.cycle.sessions) (c.dirty.ensures i).touches) c.in-Some.cycle) c.tick.new.self (c.in-Ok-None.ensures.ok ∙ λ i. ticked_in (lines_touched (has c.in-Some.cycle.sessions) (c.dirty.ensures i).touches) c.in-Some.cycle) c.tick.new.self.batch c.tick.new.self.writing.target refl refl
-    c.cover.new.self.sessions c.cover.new.self.cycle (Covered c.cover.result) (c.cover.ensures.shows c.tick.new.self refl) c.cover.ensures.cycle (ap (λ (b : Batch). Covered b) (c.cover.ensures.batch c.tick.new.self refl))
+    c.cover.new.self.sessions c.cover.new.self.cycle (as_reply (Ok Covered) c.cover.new.self.covered) (c.cover.ensures.shows c.tick.new.self refl) c.cover.ensures.cycle (ap (λ (b : Option Batch). as_reply (Ok Covered) b) (c.cover.ensures.batch c.tick.new.self refl))
 
 pub returns-in-Err-clause-step : goal.returns-in-Err-clause-step
 returns-in-Err-clause-step g c = λ q shows works.

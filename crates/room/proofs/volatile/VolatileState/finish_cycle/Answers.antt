@@ -1,7 +1,8 @@
-use Rattle.std.proofs.Common.{sym, ◌∙◌}
+use Rattle.std.proofs.Common.{sym, ◌∙◌, ap}
 use Rattle.room.specs.Closing.{ClosePhaseDone}
+use Rattle.room.specs.Ticks.{as_reply}
 use Rattle.room.proofs.CloseParts.{part_refl, part_trans, failed_after, shown_after}
-use Rattle.room.proofs.Ticked.{rests, tick-done, tick-failed}
+use Rattle.room.proofs.Ticked.{rests, tick-done, tick-failed, unrefused-reply}
 use Rattle.room.proofs.volatile.VolatileState.finish_cycle.Goals as goal
 
 pub loop-self-init : goal.loop-self-init
@@ -11,47 +12,26 @@ pub advance-requires-clause-shown : goal.advance-requires-clause-shown
 advance-requires-clause-shown g c =
     shown_after c.args.self.now c.loop-self.self c.loop-self.self (g.D.Pmem.state c.args.device.now) (g.D.Pmem.state c.loop-self.device) (g.D.Pmem.state c.loop-self.device) c.loop-self.invariant c.requires.shown
 
-pub returns-in-Refused-clause-err : goal.returns-in-Refused-clause-err
-returns-in-Refused-clause-err g c =
+pub returns-in-Err-clause-err : goal.returns-in-Err-clause-err
+returns-in-Err-clause-err g c =
     let state = g.D.Pmem.state in
     let done : ClosePhaseDone c.args.self.now c.loop-self.self (state c.args.device.now) (state c.loop-self.device) = c.loop-self.invariant in
-    failed_after c.args.self.now c.loop-self.self c.advance.new.self (state c.args.device.now) (state c.loop-self.device) (state c.advance.new.device) done c.in-Refused.fault
-    (tick-failed c.loop-self.self c.advance.new.self (state c.loop-self.device) (state c.advance.new.device) c.advance.result (sym c.is_some.ensures ∙ c.loop-self-test.true)
+    failed_after c.args.self.now c.loop-self.self c.advance.new.self (state c.args.device.now) (state c.loop-self.device) (state c.advance.new.device) done c.in-Err.fault
+    (tick-failed c.loop-self.self c.advance.new.self (state c.loop-self.device) (state c.advance.new.device) (as_reply c.advance.result c.advance.new.self.covered) (sym c.is_some.ensures ∙ c.loop-self-test.true)
     (shown_after c.args.self.now c.loop-self.self c.loop-self.self (state c.args.device.now) (state c.loop-self.device) (state c.loop-self.device) done c.requires.shown)
-    c.advance.ensures.step c.in-Refused.fault c.in-Refused.is)
-
-pub loop-self-smaller-in_default : goal.loop-self-smaller-in_default
-loop-self-smaller-in_default g c = c.advance.ensures.closer c.in_default.not-Refused
-
-pub loop-self-preserved-in_default : goal.loop-self-preserved-in_default
-loop-self-preserved-in_default g c =
-    let state = g.D.Pmem.state in
-    let done : ClosePhaseDone c.args.self.now c.loop-self.self (state c.args.device.now) (state c.loop-self.device) = c.loop-self.invariant in
-    part_trans c.args.self.now c.loop-self.self c.advance.new.self (state c.args.device.now) (state c.loop-self.device) (state c.advance.new.device) done
-    (tick-done c.loop-self.self c.advance.new.self (state c.loop-self.device) (state c.advance.new.device) c.advance.result (sym c.is_some.ensures ∙ c.loop-self-test.true)
-    (shown_after c.args.self.now c.loop-self.self c.loop-self.self (state c.args.device.now) (state c.loop-self.device) (state c.loop-self.device) done c.requires.shown)
-    c.advance.ensures.step c.in_default.not-Refused)
+    c.advance.ensures.step c.in-Err.fault (ap (λ r. as_reply r c.advance.new.self.covered) c.in-Err.is))
 
 pub loop-self-smaller : goal.loop-self-smaller
-loop-self-smaller g c = c.advance.ensures.closer c.in_default.not-Refused
+loop-self-smaller g c = c.advance.ensures.closer c.in_default.not-Err
 
 pub loop-self-preserved : goal.loop-self-preserved
 loop-self-preserved g c =
     let state = g.D.Pmem.state in
     let done : ClosePhaseDone c.args.self.now c.loop-self.self (state c.args.device.now) (state c.loop-self.device) = c.loop-self.invariant in
     part_trans c.args.self.now c.loop-self.self c.advance.new.self (state c.args.device.now) (state c.loop-self.device) (state c.advance.new.device) done
-    (tick-done c.loop-self.self c.advance.new.self (state c.loop-self.device) (state c.advance.new.device) c.advance.result (sym c.is_some.ensures ∙ c.loop-self-test.true)
+    (tick-done c.loop-self.self c.advance.new.self (state c.loop-self.device) (state c.advance.new.device) (as_reply c.advance.result c.advance.new.self.covered) (sym c.is_some.ensures ∙ c.loop-self-test.true)
     (shown_after c.args.self.now c.loop-self.self c.loop-self.self (state c.args.device.now) (state c.loop-self.device) (state c.loop-self.device) done c.requires.shown)
-    c.advance.ensures.step c.in_default.not-Refused)
-
-pub loop-self-preserved-in_default-2 : goal.loop-self-preserved-in_default-2
-loop-self-preserved-in_default-2 g c =
-    let state = g.D.Pmem.state in
-    let done : ClosePhaseDone c.args.self.now c.loop-self.self (state c.args.device.now) (state c.loop-self.device) = c.loop-self.invariant in
-    part_trans c.args.self.now c.loop-self.self c.advance.new.self (state c.args.device.now) (state c.loop-self.device) (state c.advance.new.device) done
-    (tick-done c.loop-self.self c.advance.new.self (state c.loop-self.device) (state c.advance.new.device) c.advance.result (sym c.is_some.ensures ∙ c.loop-self-test.true)
-    (shown_after c.args.self.now c.loop-self.self c.loop-self.self (state c.args.device.now) (state c.loop-self.device) (state c.loop-self.device) done c.requires.shown)
-    c.advance.ensures.step c.in_default.not-Refused)
+    c.advance.ensures.step (unrefused-reply c.advance.result c.advance.new.self.covered c.in_default.not-Err))
 
 pub returns-clause-rests : goal.returns-clause-rests
 returns-clause-rests g c = rests c.loop-self.self.cycle (sym c.is_some.ensures ∙ c.loop-self-test.false)

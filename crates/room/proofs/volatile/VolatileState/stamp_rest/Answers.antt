@@ -33,7 +33,7 @@ loop-session-smaller g c =
 pub loop-session-preserved : goal.loop-session-preserved
 loop-session-preserved g c =
     let state = g.D.Pmem.state in
-    let done : ClosePhaseDone c.loop-session.self (record { sessions = c.stamp.new.self; cycle = c.loop-session.self.cycle }) (state c.loop-session.device) (state c.stamp.new.device) =
+    let done : ClosePhaseDone c.loop-session.self (record { sessions = c.stamp.new.self; cycle = c.loop-session.self.cycle; covered = c.loop-session.self.covered }) (state c.loop-session.device) (state c.stamp.new.device) =
     stamp-done c.loop-session.self c.stamp.new.self (state c.loop-session.device) (state c.stamp.new.device) c.in-Some.session (stamped c.stamp.result) c.loop-session.invariant.1
     (shown_after c.args.self.now c.loop-session.self c.loop-session.self (state c.args.device.now) (state c.loop-session.device) (state c.loop-session.device) c.loop-session.invariant.0 c.requires.shown)
     (sym c.unstamped.ensures ∙ c.in-Some.is) (on-device c.loop-session.self.sessions c.stamp.new.self (state c.loop-session.device) (state c.stamp.new.device) _ _ c.stamp.ensures.step) (λ fault told. c.in_default-stamp.not-Err fault (stamped-told c.stamp.result fault told)) in
