@@ -16,6 +16,7 @@ use reading::{Reads, read_while};
 use std::alloc::Global;
 use std::env;
 use std::fs::File;
+use std::ops::Range;
 use std::rt::{Clock, Files};
 use std::sync::Wait;
 use std::sync::atomic::{AtomicU64, Ordering};
@@ -136,7 +137,7 @@ fn time_commits<
         Ok(database) => database,
         Err(refusal) => return Err(error_of(refusal)),
     };
-    use_slots(&database, crowd)?;
+    use_slots(alloc, &database, crowd)?;
     let took = time_threads(rt, alloc, &database, crowd)?;
     match database.close() {
         Ok(_) => Ok(took),
@@ -190,24 +191,44 @@ fn error_of(refusal: Refusal) -> Error {
 }
 
 // Updates keys as often as there are slots, so that the commits that are timed take slots that were used before.
-fn use_slots<R: Wait + Drop>(database: &Database<Device, R>, crowd: &Crowd) -> Result<(), Fault> {
+fn use_slots<R: Wait + Drop>(
+    alloc: Global,
+    database: &Database<Device, R>,
+    crowd: &Crowd,
+) -> Result<(), Fault> {
     let keys = crowd
         .keys()
         .saturating_mul(crowd.threads as u64)
         .max(TOGETHER);
+    let mut writes = Vec::new(alloc);
     for number in 0..crowd.slots / TOGETHER {
-        let mut transaction = database.begin()?;
-        for at in 0..TOGETHER {
-            let key = number.saturating_mul(TOGETHER).saturating_add(at) % keys.max(1);
-            transaction.put(key_of(key), Row::new(&number.to_le_bytes())?)?;
-        }
-        transaction.commit()?;
+        let first = number.saturating_mul(TOGETHER);
+        update(&mut writes, first..first.saturating_add(TOGETHER), keys, 0)?;
+        database.write(writes.as_slice())?;
     }
     Ok(())
 }
 
 pub fn key_of(key: u64) -> Key {
     Key { table: 1, key }
+}
+
+// Updates as many keys as there are updates, of so many in turn behind a first one.
+fn update(
+    writes: &mut Vec<(Key, Option<Row>)>,
+    updates: Range<u64>,
+    keys: u64,
+    first: u64,
+) -> Result<(), Fault> {
+    writes.clear();
+    for update in updates {
+        let key = key_of(first.saturating_add(update % keys.max(1)));
+        let row = Row::new(&update.to_le_bytes())?;
+        if writes.push((key, Some(row))).is_err() {
+            return Err(Fault::OutOfMemory);
+        }
+    }
+    Ok(())
 }
 
 fn commit_by_threads<R: Threads + Wait + Drop + Send + Sync>(
@@ -220,7 +241,7 @@ fn commit_by_threads<R: Threads + Wait + Drop + Send + Sync>(
         rt,
         alloc,
         crowd.threads,
-        &|thread| commit_in_turn(database, crowd, thread as u64),
+        &|thread| commit_in_turn(alloc, database, crowd, thread as u64),
     );
     for one in &ended.map_err(|_| Fault::OutOfMemory)? {
         (*one)?;
@@ -230,18 +251,18 @@ fn commit_by_threads<R: Threads + Wait + Drop + Send + Sync>(
 
 // Makes the commits of this thread, each of which updates the next of its keys.
 fn commit_in_turn<R: Wait + Drop>(
+    alloc: Global,
     database: &Database<Device, R>,
     crowd: &Crowd,
     thread: u64,
 ) -> Result<(), Fault> {
+    let keys = crowd.keys();
+    let mut writes = Vec::new(alloc);
     for number in 0..crowd.commits {
-        let mut transaction = database.begin()?;
-        for at in 0..crowd.rows {
-            let key = number.saturating_mul(crowd.rows).saturating_add(at) % crowd.keys().max(1);
-            let key = key_of(thread.saturating_mul(crowd.keys()).saturating_add(key));
-            transaction.put(key, Row::new(&number.to_le_bytes())?)?;
-        }
-        transaction.commit()?;
+        let next = number.saturating_mul(crowd.rows);
+        let updates = next..next.saturating_add(crowd.rows);
+        update(&mut writes, updates, keys, thread.saturating_mul(keys))?;
+        database.write(writes.as_slice())?;
     }
     Ok(())
 }

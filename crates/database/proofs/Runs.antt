@@ -70,8 +70,8 @@ leads-run state old new steps replies runs q shows =
     let a = runs q shows in (a.0, record { run = a.1.run; shows = a.1.shows; images = a.1.images })
 
 -- of no step
-leads_none : {D : Type 0} {G : Ghosts D} (state : D → Device) (room : Room D G) → IsOrderly (state room.device) → LeadsAlong state room room [] []
-leads_none state room orderly q shows = ([], record { run = tt; shows = shows; images = leaves_refl (state room.device) (StandsAlong q []) orderly shows.stands })
+pub leads-none : {D : Type 0} {G : Ghosts D} (state : D → Device) (room : Room D G) → IsOrderly (state room.device) → LeadsAlong state room room [] []
+leads-none state room orderly q shows = ([], record { run = tt; shows = shows; images = leaves_refl (state room.device) (StandsAlong q []) orderly shows.stands })
 
 -- of one step
 pub leads-one : {D : Type 0} {G : Ghosts D} (state : D → Device) (old new : Room D G) (step : Step) (reply : Reply) → Leads state old new step reply → LeadsAlong state old new (step ∷ []) (reply ∷ [])
@@ -83,7 +83,7 @@ leads-one state old new step reply leads q shows =
 
 -- no step was made yet
 pub run-opened : {D : Type 0} {G : Ghosts D} (state : D → Device) (room : Room D G) → IsOrderly (state room.device) → IsFresh state room → ∥ HasRun state room ∥₁
-run-opened state room orderly fresh = ∣ (fresh.0, record { first = room; is_opened = fresh.1; steps = []; replies = []; leads = leads_none state room orderly }) ∣₁
+run-opened state room orderly fresh = ∣ (fresh.0, record { first = room; is_opened = fresh.1; steps = []; replies = []; leads = leads-none state room orderly }) ∣₁
 
 led_from : {D : Type 0} {G : Ghosts D} (state : D → Device) (old new : Room D G) (steps : List Step) (replies : List Reply) (opened : Device)
     → IsRunFrom state opened old → LeadsAlong state old new steps replies → IsRunFrom state opened new

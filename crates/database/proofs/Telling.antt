@@ -1,21 +1,22 @@
 -- What a put and a commit make of a run from an opening.
-use Rattle.std.proofs.Common.{inl, inr, ℕ, Bool, true, false, List, [], ◌∷◌, ◌++◌, refl, ap, ◌≡◌}
-use Rattle.std.specs.Prelude.{⊤, Some, None, Result, Ok, Err, IfOk, IfErr, replicate}
+use Rattle.std.proofs.Common.{inl, inr, ℕ, Bool, true, false, List, [], ◌∷◌, ◌++◌, refl, sym, ◌∙◌, ap, subst, ◌≡◌}
+use Rattle.std.specs.Prelude.{⊤, Option, Some, None, Result, Ok, Err, IfOk, IfErr, replicate}
+use Rattle.std.proofs.lemmas.List.{append-nil, append_assoc}
 use Rattle.base.specs.declared.fault.Fault.{Fault}
 use Rattle.base.specs.declared.fault.Fault.TheVariants.{WindowFull}
 use Rattle.base.specs.declared.key.Key.{Key}
 use Rattle.base.specs.declared.step.Step.{Step}
-use Rattle.base.specs.declared.step.Step.TheVariants.{Put, Draw, Stamp, Poll, End, Collect}
+use Rattle.base.specs.declared.step.Step.TheVariants.{Begin, Put, Delete, Draw, Stamp, Poll, Abort, End, Collect}
 use Rattle.base.specs.declared.step.Reply.{Reply}
 use Rattle.pmem.specs.Device.{Device}
 use Rattle.pmem.specs.declared.device.Pmem.{Ghosts}
 use Rattle.room.specs.declared.room.Room.{Room}
 use Rattle.database.specs.declared.error.CommitError.{CommitError}
 use Rattle.database.specs.declared.error.CommitError.TheVariants.{Refused, Open}
-use Rattle.database.specs.Replies.{done_of, drawn_of, stamped_of, committed_of}
+use Rattle.database.specs.Replies.{began_of, done_of, drawn_of, stamped_of, committed_of}
 use Rattle.database.specs.Runs.{HasRun, LeadsAlong, EndsSomeRun}
-use Rattle.database.specs.Obeys.{Obeys, Repeats, PutsCollecting, StampsAll, Prepares, Finishes}
-use Rattle.database.specs.Committing.{AnswersPut, DrawsAndStamps, DrawsAndEnds, PollsAndEnds, IsPrepared, IsAcknowledged, TellsUnprepared}
+use Rattle.database.specs.Obeys.{Obeys, Repeats, PutsCollecting, MakesWrite, StampsAll, Prepares, Finishes}
+use Rattle.database.specs.Committing.{IsPut, AnswersPut, IsWrite, AreWrites, LeadsByWrites, BeginsWith, DrawsAndStamps, DrawsAndEnds, PollsAndEnds, IsPrepared, IsAcknowledged, TellsUnprepared}
 use Rattle.database.proofs.Runs.{leads-one, leads-run, leads-join, ends-run}
 
 -- one step, others like each other, and a last one
@@ -35,13 +36,99 @@ leads_two state old mid new step read result last tells told one end =
 
 -- ---- a put
 
+-- the room makes it
+put-along : {D : Type 0} {G : Ghosts D} (state : D → Device) (old new : Room D G) (session : ℕ) (key : Key) (row : List ℕ) (result : Result ⊤ Fault)
+    → PutsCollecting state old new session key row result → (steps : List Step) × (replies : List Reply) × LeadsAlong state old new steps replies × IsPut session key row result steps replies
+put-along state old new session key row result (inl one) =
+    (Put session key row ∷ [], one.0 ∷ [], leads-one state old new (Put session key row) one.0 one.1, inl (one.0, refl, refl, one.2))
+put-along state old new session key row result (inr (refused, collected, first, visits, last)) = (
+  Put session key row ∷ (replicate visits.0 Collect ++ Put session key row ∷ []),
+  first.0 ∷ (visits.1 ++ last.0 ∷ []),
+  leads_through state old refused collected new (Put session key row) done_of _ Collect (Put session key row) done_of result first visits last,
+  inr (record { count = visits.0; first = first.0; visits = visits.1; last = last.0; steps_are = refl; replies_are = refl; found_none = first.2; tells = last.2 }),
+)
+
 pub answers-put : {D : Type 0} {G : Ghosts D} (state : D → Device) (old new : Room D G) (session : ℕ) (key : Key) (row : List ℕ) (result : Result ⊤ Fault)
     → ∥ HasRun state old ∥₁ → PutsCollecting state old new session key row result → AnswersPut session key row result
-answers-put state old new session key row result run (inl one) =
-    ends-run state old new (Put session key row ∷ []) (one.0 ∷ []) _ run (leads-one state old new (Put session key row) one.0 one.1) (inl (one.0, refl, refl, one.2))
-answers-put state old new session key row result run (inr (refused, collected, first, visits, last)) =
-    ends-run state old new _ _ _ run (leads_through state old refused collected new (Put session key row) done_of _ Collect (Put session key row) done_of result first visits last)
-    (inr (record { count = visits.0; first = first.0; visits = visits.1; last = last.0; steps_are = refl; replies_are = refl; found_none = first.2; tells = last.2 }))
+answers-put state old new session key row result run puts =
+    let a = put-along state old new session key row result puts in ends-run state old new a.0 a.1 (IsPut session key row result) run a.2 a.3
+
+-- ---- many writes
+
+write-along : {D : Type 0} {G : Ghosts D} (state : D → Device) (old new : Room D G) (session : ℕ) (key : Key) (row : Option (List ℕ)) (result : Result ⊤ Fault)
+    → MakesWrite state old new session key row result → (steps : List Step) × (replies : List Reply) × LeadsAlong state old new steps replies × IsWrite session key row result steps replies
+write-along state old new session key (Some row) result puts = put-along state old new session key row result puts
+write-along state old new session key None result one =
+    (Delete session key ∷ [], one.0 ∷ [], leads-one state old new (Delete session key) one.0 one.1, (one.0, refl, refl, one.2))
+
+-- writes that were all made, and others after them
+are-writes-join : (session : ℕ) (done others : List (Key × Option (List ℕ))) (result : Result ⊤ Fault) (steps more : List Step) (replies later : List Reply)
+    → AreWrites session done (Ok tt) steps replies → AreWrites session others result more later → AreWrites session (done ++ others) result (steps ++ more) (replies ++ later)
+are-writes-join session [] others result steps more replies later (is, none, nothing) two =
+    subst (λ (s : List Step). AreWrites session others result (s ++ more) (replies ++ later)) (sym none)
+    (subst (λ (r : List Reply). AreWrites session others result more (r ++ later)) (sym nothing) two)
+are-writes-join session (write ∷ done) others result steps more replies later (inl (fault, is, made)) two = absurd (cc is)
+are-writes-join session (write ∷ done) others result steps more replies later (inr (first, rest, told, after, s, r, made, one)) two =
+    inr (
+      first,
+      rest ++ more,
+      told,
+      after ++ later,
+      ap (λ (l : List Step). l ++ more) s ∙ append_assoc first rest more,
+      ap (λ (l : List Reply). l ++ later) r ∙ append_assoc told after later,
+      made,
+      are-writes-join session done others result rest more after later one two,
+    )
+
+-- one more, which is made
+pub writes-more : {D : Type 0} {G : Ghosts D} (state : D → Device) (old mid new : Room D G) (session : ℕ) (done : List (Key × Option (List ℕ))) (write : Key × Option (List ℕ))
+    → LeadsByWrites state old mid session done (Ok tt) → MakesWrite state mid new session write.0 write.1 (Ok tt) → LeadsByWrites state old new session (done ++ write ∷ []) (Ok tt)
+writes-more state old mid new session done write (steps, replies, leads, made) one =
+    let a = write-along state mid new session write.0 write.1 (Ok tt) one in (
+      steps ++ a.0,
+      replies ++ a.1,
+      leads-join state old mid new steps replies a.0 a.1 leads a.2,
+      are-writes-join session done (write ∷ []) (Ok tt) steps a.0 replies a.1 made
+          (inr (a.0, [], a.1, [], sym (append-nil a.0), sym (append-nil a.1), a.3, (refl, refl, refl))),
+    )
+
+-- one more, which is refused, and so none of the others is made
+pub writes-refused : {D : Type 0} {G : Ghosts D} (state : D → Device) (old mid new : Room D G) (session : ℕ) (done others : List (Key × Option (List ℕ))) (write : Key × Option (List ℕ)) (fault : Fault)
+    → LeadsByWrites state old mid session done (Ok tt) → MakesWrite state mid new session write.0 write.1 (Err fault) → LeadsByWrites state old new session (done ++ write ∷ others) (Err fault)
+writes-refused state old mid new session done others write fault (steps, replies, leads, made) one =
+    let a = write-along state mid new session write.0 write.1 (Err fault) one in (
+      steps ++ a.0,
+      replies ++ a.1,
+      leads-join state old mid new steps replies a.0 a.1 leads a.2,
+      are-writes-join session done (write ∷ others) (Err fault) steps a.0 replies a.1 made (inl (fault, refl, a.3)),
+    )
+
+-- ---- writes in a transaction of their own
+
+pub begun-with : {D : Type 0} {G : Ghosts D} (state : D → Device) (old mid new : Room D G) (session : ℕ) (writes : List (Key × Option (List ℕ)))
+    → Obeys state old mid Begin began_of (Ok session) → LeadsByWrites state mid new session writes (Ok tt) → BeginsWith state old new writes (Ok session)
+begun-with state old mid new session writes one (steps, replies, leads, made) = (
+  Begin ∷ steps,
+  one.0 ∷ replies,
+  leads-join state old mid new (Begin ∷ []) (one.0 ∷ []) steps replies (leads-one state old mid Begin one.0 one.1) leads,
+  (one.0, steps, replies, refl, refl, one.2, made),
+)
+
+pub begun-refused : {D : Type 0} {G : Ghosts D} (state : D → Device) (old new : Room D G) (writes : List (Key × Option (List ℕ))) (fault : Fault)
+    → Obeys state old new Begin began_of (Err fault) → BeginsWith state old new writes (Err fault)
+begun-refused state old new writes fault one = (Begin ∷ [], one.0 ∷ [], leads-one state old new Begin one.0 one.1, inl (one.0, refl, refl, one.2))
+
+-- one of the writes was refused
+pub begun-given-up : {D A : Type 0} {G : Ghosts D} (state : D → Device) (old mid tried new : Room D G) (session : ℕ) (writes : List (Key × Option (List ℕ))) (fault : Fault) (read : Reply → Result A Fault) (result : Result A Fault)
+    → Obeys state old mid Begin began_of (Ok session) → LeadsByWrites state mid tried session writes (Err fault) → Obeys state tried new (Abort session) read result
+    → BeginsWith state old new writes (Err fault)
+begun-given-up state old mid tried new session writes fault read result one (steps, replies, leads, made) last = (
+  Begin ∷ (steps ++ Abort session ∷ []),
+  one.0 ∷ (replies ++ last.0 ∷ []),
+  leads-join state old mid new (Begin ∷ []) (one.0 ∷ []) (steps ++ Abort session ∷ []) (replies ++ last.0 ∷ []) (leads-one state old mid Begin one.0 one.1)
+      (leads-join state mid tried new steps replies (Abort session ∷ []) (last.0 ∷ []) leads (leads-one state tried new (Abort session) last.0 last.1)),
+  inr (session, one.0, last.0, steps, replies, refl, refl, one.2, made),
+)
 
 -- ---- a commit
 

@@ -4,13 +4,16 @@ use Rattle.base.specs.declared.fault.Fault.{Fault}
 use Rattle.base.specs.declared.fault.Fault.TheVariants.{SlotsOut, Conflict, WindowFull, OutOfMemory, TimestampsOut, Failed, Device as DeviceFault}
 use Rattle.base.specs.declared.key.Key.{Key}
 use Rattle.base.specs.declared.step.Step.{Step}
-use Rattle.base.specs.declared.step.Step.TheVariants.{Put, Draw, Stamp, Poll, Abort, End, Commit as CommitTick, Collect}
+use Rattle.base.specs.declared.step.Step.TheVariants.{Begin, Put, Delete, Draw, Stamp, Poll, Abort, End, Commit as CommitTick, Collect}
 use Rattle.base.specs.declared.step.Reply.{Reply}
 use Rattle.base.specs.declared.step.Reply.TheVariants.{Refused as RefusedWith}
 use Rattle.database.specs.declared.error.CommitError.{CommitError}
 use Rattle.database.specs.declared.error.CommitError.TheVariants.{Refused, Open}
-use Rattle.database.specs.Replies.{done_of, drawn_of, stamped_of, committed_of}
-use Rattle.database.specs.Runs.{EndsSomeRun}
+use Rattle.database.specs.Replies.{began_of, done_of, drawn_of, stamped_of, committed_of}
+use Rattle.pmem.specs.Device.{Device}
+use Rattle.pmem.specs.declared.device.Pmem.{Ghosts}
+use Rattle.room.specs.declared.room.Room.{Room}
+use Rattle.database.specs.Runs.{LeadsAlong, EndsSomeRun}
 use Rattle.database.specs.Obeys.{IsStep, AnswersStep, all_stamped}
 
 -- ---- a put
@@ -26,10 +29,38 @@ pub record PutsAgain (session : ℕ) (key : Key) (row : List ℕ) (result : Resu
   pub found_none : Err SlotsOut ≡ done_of first
   pub tells : result ≡ done_of last
 
--- that, or a put alone, ends a run from an opening
+-- that, or a put alone
+abbrev pub IsPut : ℕ → Key → List ℕ → Result ⊤ Fault → List Step → List Reply → Type 0
+IsPut session key row result steps replies = IsStep (Put session key row) done_of result steps replies ⊎ PutsAgain session key row result steps replies
+
+-- such a put ends a run from an opening
 abbrev pub AnswersPut : ℕ → Key → List ℕ → Result ⊤ Fault → Type 0
-AnswersPut session key row result =
-    EndsSomeRun (λ steps replies. IsStep (Put session key row) done_of result steps replies ⊎ PutsAgain session key row result steps replies)
+AnswersPut session key row result = EndsSomeRun (IsPut session key row result)
+
+-- ---- many writes
+
+-- the row was put so, or what was under the key was deleted
+abbrev pub IsWrite : ℕ → Key → Option (List ℕ) → Result ⊤ Fault → List Step → List Reply → Type 0
+IsWrite session key (Some row) result steps replies = IsPut session key row result steps replies
+IsWrite session key None result steps replies = IsStep (Delete session key) done_of result steps replies
+
+-- These are the session's writes in their order, each of which was made, and nothing else; or those up to the first that was refused,
+-- whose fault is returned
+abbrev pub AreWrites : ℕ → List (Key × Option (List ℕ)) → Result ⊤ Fault → List Step → List Reply → Type 0
+AreWrites session [] result steps replies = (result ≡ Ok tt) × (steps ≡ []) × (replies ≡ [])
+AreWrites session (write ∷ others) result steps replies =
+    ((fault : Fault) × (result ≡ Err fault) × IsWrite session write.0 write.1 (Err fault) steps replies)
+    ⊎ ((first more : List Step) × (told later : List Reply) × (steps ≡ first ++ more) × (replies ≡ told ++ later)
+    × IsWrite session write.0 write.1 (Ok tt) first told × AreWrites session others result more later)
+
+-- such writes end a run from an opening
+abbrev pub AnswersWrites : ℕ → List (Key × Option (List ℕ)) → Result ⊤ Fault → Type 0
+AnswersWrites session writes result = EndsSomeRun (AreWrites session writes result)
+
+-- the room makes them
+abbrev pub LeadsByWrites : {D : Type 0} → {G : Ghosts D} → (D → Device) → Room D G → Room D G → ℕ → List (Key × Option (List ℕ)) → Result ⊤ Fault → Type 0
+LeadsByWrites state old new session writes result =
+    (steps : List Step) × (replies : List Reply) × LeadsAlong state old new steps replies × AreWrites session writes result steps replies
 
 -- ---- a commit
 
@@ -129,3 +160,35 @@ TellsError session error = (TellsUnprepared session error × IsGivenBack session
 -- A conflict is told only where the session's draw was refused so
 abbrev pub TellsRefusal : ℕ → CommitError → Type 0
 TellsRefusal session error = (key : Key) → error ≡ Refused (Conflict key) → IsPrepared session (Err error)
+
+-- ---- writes in a transaction of their own
+
+-- The session was begun, and these are its writes, all of which were made; or the begin was refused so, or one of the writes was, and then the
+-- session's abort was asked for
+abbrev pub IsBegunWith : List (Key × Option (List ℕ)) → Result ℕ Fault → List Step → List Reply → Type 0
+IsBegunWith writes (Ok session) steps replies =
+    (begun : Reply) × (more : List Step) × (later : List Reply) × (steps ≡ Begin ∷ more) × (replies ≡ begun ∷ later) × (Ok session ≡ began_of begun)
+    × AreWrites session writes (Ok tt) more later
+IsBegunWith writes (Err fault) steps replies =
+    IsStep Begin began_of (Err fault) steps replies
+    ⊎ ((session : ℕ) × (begun last : Reply) × (more : List Step) × (later : List Reply) × (steps ≡ Begin ∷ (more ++ Abort session ∷ []))
+    × (replies ≡ begun ∷ (later ++ last ∷ [])) × (Ok session ≡ began_of begun) × AreWrites session writes (Err fault) more later)
+
+-- so ends a run from an opening
+abbrev pub AnswersBegunWith : List (Key × Option (List ℕ)) → Result ℕ Fault → Type 0
+AnswersBegunWith writes result = EndsSomeRun (IsBegunWith writes result)
+
+-- the room makes that
+abbrev pub BeginsWith : {D : Type 0} → {G : Ghosts D} → (D → Device) → Room D G → Room D G → List (Key × Option (List ℕ)) → Result ℕ Fault → Type 0
+BeginsWith state old new writes result =
+    (steps : List Step) × (replies : List Reply) × LeadsAlong state old new steps replies × IsBegunWith writes result steps replies
+
+-- A session was begun with these writes, and its commit returns so
+abbrev pub TellsWritten : List (Key × Option (List ℕ)) → Option ℕ → Type 0
+TellsWritten writes timestamp = (session : ℕ) × AnswersBegunWith writes (Ok session) × TellsCommit session timestamp
+
+-- none was begun with them, for this reason; or one was, and its commit returns so
+abbrev pub TellsUnwritten : List (Key × Option (List ℕ)) → CommitError → Type 0
+TellsUnwritten writes error =
+    ((fault : Fault) × (error ≡ Refused fault) × AnswersBegunWith writes (Err fault))
+    ⊎ ((session : ℕ) × AnswersBegunWith writes (Ok session) × TellsError session error)

@@ -3,7 +3,7 @@ use Rattle.std.specs.Prelude.{◌≡◌, ◌⊎◌, ℕ, Bool, true, false, List
 use Rattle.base.specs.declared.fault.Fault.{Fault}
 use Rattle.base.specs.declared.fault.Fault.TheVariants.{SlotsOut}
 use Rattle.base.specs.declared.step.Step.{Step}
-use Rattle.base.specs.declared.step.Step.TheVariants.{Put, Draw, Stamp, Poll, End, Collect}
+use Rattle.base.specs.declared.step.Step.TheVariants.{Put, Delete, Draw, Stamp, Poll, End, Collect}
 use Rattle.base.specs.declared.step.Reply.{Reply}
 use Rattle.base.specs.declared.key.Key.{Key}
 use Rattle.machine.specs.Machine.{State}
@@ -41,6 +41,11 @@ abbrev pub PutsCollecting : {D : Type 0} → {G : Ghosts D} → (D → Device) �
 PutsCollecting {D} {G} state old new session key row result =
     Obeys state old new (Put session key row) done_of result
     ⊎ ((refused collected : Room D G) × Obeys state old refused (Put session key row) done_of (Err SlotsOut) × Repeats state refused collected Collect × Obeys state collected new (Put session key row) done_of result)
+
+-- the row is put so, or what is under the key is deleted
+abbrev pub MakesWrite : {D : Type 0} → {G : Ghosts D} → (D → Device) → Room D G → Room D G → ℕ → Key → Option (List ℕ) → Result ⊤ Fault → Type 0
+MakesWrite state old new session key (Some row) result = PutsCollecting state old new session key row result
+MakesWrite state old new session key None result = Obeys state old new (Delete session key) done_of result
 
 -- ---- a commit
 

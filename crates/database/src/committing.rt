@@ -1,9 +1,10 @@
 ghost use Rattle.std.specs.Prelude.{IfErr, IfOk, IfSome};
-ghost use Rattle.database.specs.Obeys.{PutsCollecting, StampsAll, Prepares, IsRefusedWhole, Finishes, Covers};
+ghost use Rattle.database.specs.Obeys.{PutsCollecting, MakesWrite, StampsAll, Prepares, IsRefusedWhole, Finishes, Covers};
+ghost use Rattle.database.specs.Committing.{LeadsByWrites, BeginsWith};
 
 use crate::error::CommitError;
 use crate::opened::OpenedRoom;
-use crate::steps::{collect, draw, end, poll, put, stamp};
+use crate::steps::{abort, begin, collect, delete, draw, end, poll, put, stamp};
 use base::Ts;
 use base::fault::Fault;
 use base::key::Key;
@@ -30,6 +31,57 @@ pub fn put_collecting<D: Pmem + Drop>(
             }
             _ => Err(fault),
         },
+    }
+}
+
+// Writes the row under the key, or deletes what is there.
+fn write<D: Pmem + Drop>(
+    room: &mut OpenedRoom<D>,
+    session: u8,
+    write: (Key, Option<Row>),
+) -> Result<(), Fault>
+    ensures { MakesWrite D.state room.old.room room.new.room session write.0 write.1 result }
+{
+    let (key, row) = write;
+    match row {
+        Some(row) => put_collecting(room, session, key, row),
+        None => delete(room, session, key),
+    }
+}
+
+/// Makes these writes in their order, up to the first that is refused.
+pub fn write_all<D: Pmem + Drop>(
+    room: &mut OpenedRoom<D>,
+    session: u8,
+    writes: &[(Key, Option<Row>)],
+) -> Result<(), Fault>
+    ensures { LeadsByWrites D.state room.old.room room.new.room session writes.now result }
+{
+    for one in writes {
+        match write(room, session, *one) {
+            Ok(()) => {}
+            Err(fault) => return Err(fault),
+        }
+    }
+    Ok(())
+}
+
+/// Begins a transaction and makes these writes in it. The number of its session. Where one is refused it is given up.
+pub fn begin_with<D: Pmem + Drop>(
+    room: &mut OpenedRoom<D>,
+    writes: &[(Key, Option<Row>)],
+) -> Result<u8, Fault>
+    ensures { BeginsWith D.state room.old.room room.new.room writes.now result }
+{
+    match begin(room) {
+        Ok(session) => match write_all(room, session, writes) {
+            Ok(()) => Ok(session),
+            Err(fault) => {
+                let _ = abort(room, session);
+                Err(fault)
+            }
+        },
+        Err(fault) => Err(fault),
     }
 }
 

@@ -1,10 +1,14 @@
 use crate::closing::close_room;
 use crate::desk::Shared;
+use crate::error::CommitError;
 use crate::opened::OpenedRoom;
 use crate::transaction::Transaction;
 use crate::workers::start_workers;
+use base::Ts;
 use base::fault::Fault;
 use base::geometry::Geometry;
+use base::key::Key;
+use base::row::Row;
 use pmem::Pmem;
 use room::{Room, Status, Usage};
 use std::alloc::Global;
@@ -81,6 +85,7 @@ impl<D: SyncAhead + Drop, R: Wait + Drop> Database<D, R> {
     ghost use Rattle.base.specs.declared.step.Step.TheVariants.{Begin};
     ghost use Rattle.database.specs.Replies.{began_of};
     ghost use Rattle.database.specs.Obeys.{AnswersStep};
+    ghost use Rattle.database.specs.Committing.{TellsWritten, TellsUnwritten};
     ghost use Rattle.room.specs.Room.{ShowsStatus};
     ghost use Rattle.room.specs.Usage.{ShowsUsage};
     ghost use Rattle.database.specs.Closing.{HasLived, IsClosed, IsClosingRefused};
@@ -95,6 +100,16 @@ impl<D: SyncAhead + Drop, R: Wait + Drop> Database<D, R> {
             Ok(session) => Ok(Transaction::new(&self.rt, &self.shared, session)),
             Err(fault) => Err(fault),
         }
+    }
+
+    /// Makes these writes in a transaction of their own, as `Transaction::write` does, and commits it, as `Transaction::commit` does. It
+    /// takes the lock once before it waits. `Refused` says that nothing of them is kept, also where the transaction wasn't begun or one
+    /// of the writes was refused.
+    pub fn write(&self, writes: &[(Key, Option<Row>)]) -> Result<Option<Ts>, CommitError>
+        ensures ok { IfOk result (TellsWritten writes.now) }
+        ensures err { IfErr result (TellsUnwritten writes.now) }
+    {
+        self.shared.write(&self.rt, writes)
     }
 
     /// The numbers of the ruling record, its gaps and long commits, and the next timestamp.

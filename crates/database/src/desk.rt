@@ -2,13 +2,15 @@ ghost use Rattle.std.specs.Option.{ForSome};
 ghost use Rattle.database.specs.Committing.{HasEnded};
 
 use crate::answers::Answers;
-use crate::committing::finish;
+use crate::committing::{begin_with, finish};
 use crate::error::CommitError;
 use crate::group::{Group, SESSIONS};
 use crate::opened::OpenedRoom;
 use crate::steps;
 use base::Ts;
 use base::fault::Fault;
+use base::key::Key;
+use base::row::Row;
 use pmem::Pmem;
 use std::hint::spin_loop;
 use std::sync::{Condvar, Mutex, MutexGuard, Wait};
@@ -61,7 +63,7 @@ impl<D: Pmem + Drop> Desk<D> {
     ghost use Rattle.base.specs.declared.step.Step.TheVariants.{Begin, Abort};
     ghost use Rattle.database.specs.Replies.{began_of, done_of};
     ghost use Rattle.database.specs.Obeys.{AnswersStep};
-    ghost use Rattle.database.specs.Committing.{IsAnswered, StopsAfter};
+    ghost use Rattle.database.specs.Committing.{AnswersBegunWith, IsAnswered, StopsAfter};
 
     /// Opens a transaction. The number of its session.
     pub fn begin(&mut self) -> Result<u8, Fault>
@@ -72,6 +74,21 @@ impl<D: Pmem + Drop> Desk<D> {
             unreachable!()
         };
         let begun = steps::begin(room);
+        if begun.is_ok() {
+            self.open = self.open.saturating_add(1);
+        }
+        begun
+    }
+
+    /// Opens a transaction and makes these writes in it. The number of its session. Where one is refused it isn't open.
+    pub fn begin_with(&mut self, writes: &[(Key, Option<Row>)]) -> Result<u8, Fault>
+        requires there { IsTrue (is_some self.old.room) }
+        ensures made { AnswersBegunWith writes.now result }
+    {
+        let Some(room) = &mut self.room else {
+            unreachable!()
+        };
+        let begun = begin_with(room, writes);
         if begun.is_ok() {
             self.open = self.open.saturating_add(1);
         }

@@ -2,7 +2,7 @@ ghost use Rattle.base.specs.declared.step.Step.TheVariants.{Abort};
 ghost use Rattle.database.specs.Replies.{done_of};
 ghost use Rattle.database.specs.Obeys.{AnswersStep};
 
-use crate::committing::put_collecting;
+use crate::committing::{put_collecting, write_all};
 use crate::desk::Shared;
 use crate::error::CommitError;
 use crate::steps;
@@ -53,7 +53,7 @@ impl<'a, D: SyncAhead + Drop, R: Wait> Transaction<'a, D, R> {
     ghost use Rattle.base.specs.declared.step.Step.TheVariants.{Get, Scan, Delete, Abort};
     ghost use Rattle.database.specs.Replies.{row_of, rows_of, done_of};
     ghost use Rattle.database.specs.Obeys.{AnswersStep};
-    ghost use Rattle.database.specs.Committing.{AnswersPut, TellsCommit, TellsError};
+    ghost use Rattle.database.specs.Committing.{AnswersPut, AnswersWrites, TellsCommit, TellsError};
 
     pub(crate) fn new(
         rt: &'a R,
@@ -118,6 +118,18 @@ impl<'a, D: SyncAhead + Drop, R: Wait> Transaction<'a, D, R> {
         steps::delete(room, self.session, key)
     }
 
+    /// Makes these writes in their order, as `put` and, where there is no row, `delete` do, up to the first that is refused. No step of
+    /// another thread comes in between, so many writes take the lock once.
+    pub fn write(&mut self, writes: &[(Key, Option<Row>)]) -> Result<(), Fault>
+        ensures { AnswersWrites self.old.session writes.now result }
+    {
+        let mut desk = self.shared.desk(self.rt);
+        let Some(room) = &mut desk.room else {
+            unreachable!()
+        };
+        write_all(room, self.session, writes)
+    }
+
     /// Gives the transaction up, as a drop does, and tells of a device that has failed.
     pub fn abort(mut self) -> Result<(), Fault>
         ensures { AnswersStep (Abort self.entry.session) done_of result }
@@ -135,6 +147,7 @@ impl<'a, D: SyncAhead + Drop, R: Wait> Transaction<'a, D, R> {
         ensures err { IfErr result (TellsError self.entry.session) }
     {
         self.is_over = true;
-        self.shared.commit(self.rt, self.session)
+        self.shared
+            .commit(self.rt, self.shared.desk(self.rt), self.session)
     }
 }

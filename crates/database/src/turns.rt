@@ -1,6 +1,6 @@
 use crate::desk::{Desk, Shared};
 use base::fault::Fault;
-use base::step::Reply;
+use base::step::{Reply, Stage};
 use pmem::Pmem;
 use std::sync::{MutexGuard, Wait};
 use sync_ahead::SyncAhead;
@@ -20,6 +20,8 @@ const MOST_VISITS: u64 = 1_024;
 pub enum Turn {
     /// There is more to do.
     Unfinished,
+    /// So there is, and the next tick makes a record durable.
+    Flushed,
     /// A batch is covered, or a round has ended.
     Finished,
     /// There was nothing to do.
@@ -48,6 +50,7 @@ fn tick<D: Pmem + Drop>(desk: &mut Desk<D>) -> Turn {
             desk.covered = desk.covered.saturating_add(batch.commits().len() as u64);
             Turn::Finished
         }
+        Reply::Ticked(Stage::GateFlushed) => Turn::Flushed,
         _ => Turn::Unfinished,
     }
 }
@@ -100,7 +103,10 @@ impl<D: Pmem + Drop> Shared<D> {
     /// Answers those who wait for their commit, and wakes those whom the turn concerns besides: whoever waits for another's, and the
     /// collector where a round is due, unless it is woken beside a sync. Whoever waits for its own sleeps on.
     pub fn tell<R: Wait>(&self, rt: &R, desk: &mut Desk<D>, turn: Turn) {
-        if matches!(turn, Turn::Unfinished | Turn::Idle | Turn::Busy) {
+        if matches!(
+            turn,
+            Turn::Unfinished | Turn::Flushed | Turn::Idle | Turn::Busy
+        ) {
             return;
         }
         desk.answer_all(&mut self.enter_answers(rt));
@@ -124,11 +130,11 @@ impl<D: SyncAhead + Drop> Shared<D> {
             return (desk, Turn::Busy);
         }
         for _ in 0..TICKS {
-            let turn = tick(&mut desk);
-            if !matches!(turn, Turn::Unfinished) {
-                return (desk, turn);
+            match tick(&mut desk) {
+                Turn::Unfinished => {}
+                Turn::Flushed => desk = self.sync_ahead(rt, desk),
+                turn => return (desk, turn),
             }
-            desk = self.sync_ahead(rt, desk);
         }
         self.moved.notify_all();
         (desk, Turn::Unfinished)

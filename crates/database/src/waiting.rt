@@ -8,20 +8,43 @@ use crate::error::CommitError;
 use crate::turns::Turn;
 use base::Ts;
 use base::fault::Fault;
+use base::key::Key;
+use base::row::Row;
 use std::sync::{MutexGuard, Wait};
 use std::thread;
 use sync_ahead::SyncAhead;
 
 impl<D: SyncAhead + Drop> Shared<D> {
     ghost use Rattle.std.specs.Prelude.{Ok, IfOk, IfErr};
-    ghost use Rattle.database.specs.Committing.{IsPrepared, IsGivenBack, TellsCommit, TellsUnprepared, TellsError};
+    ghost use Rattle.database.specs.Committing.{IsPrepared, IsGivenBack, TellsCommit, TellsUnprepared, TellsError, TellsWritten, TellsUnwritten};
+
+    /// Makes these writes in a transaction of their own and commits it. Up to its last stamp that is one turn of the lock.
+    pub fn write<R: Wait>(
+        &self,
+        rt: &R,
+        writes: &[(Key, Option<Row>)],
+    ) -> Result<Option<Ts>, CommitError>
+        ensures ok { IfOk result (TellsWritten writes.now) }
+        ensures err { IfErr result (TellsUnwritten writes.now) }
+    {
+        let mut desk = self.desk(rt);
+        match desk.begin_with(writes) {
+            Ok(session) => self.commit(rt, desk, session),
+            Err(fault) => Err(CommitError::Refused(fault)),
+        }
+    }
 
     /// Commits the transaction of this session, and ends it.
-    pub fn commit<R: Wait>(&self, rt: &R, session: u8) -> Result<Option<Ts>, CommitError>
+    pub fn commit<'a, R: Wait>(
+        &'a self,
+        rt: &R,
+        desk: MutexGuard<'a, Desk<D>>,
+        session: u8,
+    ) -> Result<Option<Ts>, CommitError>
         ensures ok { IfOk result (TellsCommit session) }
         ensures err { IfErr result (TellsError session) }
     {
-        let (desk, prepared) = self.prepare(rt, session);
+        let (desk, prepared) = self.prepare(rt, desk, session);
         match prepared {
             Ok(true) => match self.wait(rt, desk, session) {
                 Ok(timestamp) => Ok(Some(timestamp)),
@@ -41,16 +64,17 @@ impl<D: SyncAhead + Drop> Shared<D> {
         }
     }
 
-    // Takes the lock, draws and stamps, once the committer has reserved timestamps. Whether something was written.
-    fn prepare<R: Wait>(
-        &self,
+    // Draws and stamps, once the committer has reserved timestamps. Whether something was written.
+    fn prepare<'a, R: Wait>(
+        &'a self,
         rt: &R,
+        desk: MutexGuard<'a, Desk<D>>,
         session: u8,
-    ) -> (MutexGuard<'_, Desk<D>>, Result<bool, CommitError>)
+    ) -> (MutexGuard<'a, Desk<D>>, Result<bool, CommitError>)
         ensures ok { IfOk result.1 (λ wrote. IsPrepared session (Ok wrote)) }
         ensures err { IfErr result.1 (TellsUnprepared session) }
     {
-        let mut desk = self.desk(rt);
+        let mut desk = desk;
         for _ in rt.forever() {
             if let Some(fault) = desk.ended {
                 return (desk, Err(CommitError::Refused(fault)));

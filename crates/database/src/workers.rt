@@ -90,7 +90,7 @@ fn commit<'a, R: Wait, D: SyncAhead + Drop>(
         return shared.exit(desk);
     }
     match turn {
-        Turn::Unfinished | Turn::Finished => shared.exit(desk),
+        Turn::Unfinished | Turn::Flushed | Turn::Finished => shared.exit(desk),
         Turn::Busy => {
             desk.is_wanted = true;
             drop(shared.commits.wait(rt, desk));

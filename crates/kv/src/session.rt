@@ -147,9 +147,7 @@ impl<'a, R: Wait + Drop> Session<'a, R> {
             write(transaction, key, row)?;
             return Ok(Answer::Written);
         }
-        let mut transaction = self.database.begin()?;
-        write(&mut transaction, key, row)?;
-        commit(transaction)
+        answer_of(self.database.write(&[(key, row)]))
     }
 
     fn get(&mut self, key: Key) -> Result<Answer, Failed> {
@@ -237,7 +235,12 @@ fn write<R: Wait + Drop>(
 
 /// Commits what was written, and answers once that persists.
 pub fn commit<R: Wait + Drop>(transaction: Transaction<'_, Device, R>) -> Result<Answer, Failed> {
-    match transaction.commit() {
+    answer_of(transaction.commit())
+}
+
+// What is said of a commit.
+fn answer_of(committed: Result<Option<Ts>, CommitError>) -> Result<Answer, Failed> {
+    match committed {
         Ok(Some(timestamp)) => Ok(Answer::Committed(timestamp)),
         Ok(None) => Ok(Answer::Done),
         Err(CommitError::Open(_)) => Err(Failed::Stopped(Stop::InCommit)),

@@ -12,7 +12,7 @@ use Rattle.database.specs.Replies.{row_of, rows_of}
 use Rattle.database.specs.Obeys.{AnswersStep}
 use Rattle.database.specs.declared.error.CommitError.{CommitError}
 use Rattle.database.specs.declared.error.CommitError.TheVariants.{Refused}
-use Rattle.database.specs.Committing.{AnswersPut, IsPrepared, TellsError}
+use Rattle.database.specs.Committing.{AnswersPut, AnswersWrites, IsPrepared, TellsError}
 use Rattle.store.specs.declared.error.StoreError.{StoreError}
 use Rattle.store.specs.Errors.{error_of, commit_error}
 
@@ -53,6 +53,11 @@ put_error limit fault = error_of fault
 abbrev pub Puts : ℕ → Key → List ℕ → ℕ → Result ⊤ StoreError → Type 0
 Puts session key row limit (Ok done) = AnswersPut session key row (Ok done)
 Puts session key row limit (Err error) = (fault : Fault) × (error ≡ put_error limit fault) × AnswersPut session key row (Err fault)
+
+-- these writes were made so by this session, or one of them was refused
+abbrev pub MakesWrites : ℕ → List (Key × Option (List ℕ)) → ℕ → Result ⊤ StoreError → Type 0
+MakesWrites session writes limit (Ok done) = AnswersWrites session writes (Ok done)
+MakesWrites session writes limit (Err error) = (fault : Fault) × (error ≡ put_error limit fault) × AnswersWrites session writes (Err fault)
 
 -- ---- a number
 

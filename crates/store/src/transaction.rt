@@ -35,7 +35,7 @@ impl<R: Wait + Drop> Transaction<'_, R> {
     ghost use Rattle.base.specs.declared.step.Step.TheVariants.{Delete, Abort};
     ghost use Rattle.database.specs.Replies.{done_of};
     ghost use Rattle.database.specs.Committing.{TellsCommit};
-    ghost use Rattle.store.specs.Answers.{Answers, Puts, IsCommitRefusal};
+    ghost use Rattle.store.specs.Answers.{Answers, Puts, MakesWrites, IsCommitRefusal};
 
     /// Writes the row under the key. `RowTooLong`, `TooManyKeys` and `Full` refuse it. It waits as a read does, and where no slot
     /// is free looks for those that nobody needs first.
@@ -60,6 +60,17 @@ impl<R: Wait + Drop> Transaction<'_, R> {
         ensures { Answers (Delete self.old.snapshot.reads.session key) done_of result }
     {
         Ok(self.snapshot.reads.delete(key)?)
+    }
+
+    /// Makes these writes in their order, as `put` and, where there is no row, `delete` do, up to the first that is refused. They wait
+    /// once, and no step of another thread comes in between.
+    pub fn write(&mut self, writes: &[(Key, Option<Row>)]) -> Result<(), StoreError>
+        ensures { MakesWrites self.old.snapshot.reads.session writes.now self.old.row_limit result }
+    {
+        match self.snapshot.reads.write(writes) {
+            Ok(()) => Ok(()),
+            Err(fault) => Err(put_error(self.row_limit, fault)),
+        }
     }
 
     /// Commits, and returns once that is durable: its timestamp, or `None` where nothing was written. It waits for a sync of the

@@ -101,14 +101,14 @@ pub fn get<R: Wait + Drop>(database: &Database<Device, R>, key: Key) -> Result<O
     row
 }
 
-// Two keys, one of which is deleted then; a transaction that is dropped; one that writes nothing.
+// Two keys, one of which is deleted then and the other written twice; a transaction that is dropped; one that writes nothing.
 fn make_commits<R: Wait + Drop + Abort>(
     rt: &R,
     database: &Database<Device, R>,
 ) -> Result<(), Fault> {
     let mut transaction = database.begin()?;
     transaction.put(KEY, row(1)?)?;
-    transaction.put(OTHER, row(2)?)?;
+    transaction.write(&[(OTHER, Some(row(2)?))])?;
     let rows = transaction.scan(1, 0, 9)?;
     let committed = transaction.commit()?;
     assert!(rt; rows.as_slice() == [(KEY, row(1)?), (OTHER, row(2)?)].as_slice());
@@ -117,9 +117,8 @@ fn make_commits<R: Wait + Drop + Abort>(
     let mut dropped = database.begin()?;
     dropped.put(KEY, row(9)?)?;
     drop(dropped);
-    let mut deleting = database.begin()?;
-    deleting.delete(OTHER)?;
-    let committed = deleting.commit()?;
+    let writes = [(KEY, Some(row(9)?)), (OTHER, None), (KEY, Some(row(8)?))];
+    let committed = database.write(&writes)?;
     let nothing = database.begin()?.commit()?;
     assert!(rt; committed == Some(2) && nothing.is_none());
     Ok(())
@@ -135,7 +134,7 @@ fn a_reopened_database_has_what_was_committed(rt: HostRuntime) -> Result<(), Fau
     let kept = get(&database, KEY)?;
     let deleted = get(&database, OTHER)?;
     let status = database.status();
-    assert!(rt; kept == Some(row(1)?) && deleted.is_none());
+    assert!(rt; kept == Some(row(8)?) && deleted.is_none());
     assert!(rt; status.gaps.as_slice().is_empty());
     device_in(database.close())?;
     Ok(())

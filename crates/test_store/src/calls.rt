@@ -8,8 +8,7 @@ pub fn make_each<R: Print + Wait + Drop>(rt: &R, store: &Store<R>) -> Result<(),
     t.put_number(key(1, 5), 7)?;
     t.put(key(1, 6), Row::of_text("milk")?)?;
     t.put(key(1, 9), Row::of_text("")?)?;
-    t.put(key(2, 0), Row::of_u64(1))?;
-    t.delete(key(2, 0))?;
+    t.write(&[(key(2, 0), Some(Row::of_u64(1))), (key(2, 0), None)])?;
     let own = t.number(key(1, 5))?;
     let before = store.read()?.number(key(1, 5))?;
     println!(rt;

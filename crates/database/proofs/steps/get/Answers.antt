@@ -1,5 +1,4 @@
 use Rattle.base.specs.Steps.{as_reply}
-use Rattle.base.specs.declared.step.Step.TheVariants.{Get}
 use Rattle.session_steps.specs.Replies.{read}
 use Rattle.database.proofs.Readings.{reads-row}
 use Rattle.database.proofs.steps.get.Goals as goal

@@ -1,5 +1,4 @@
 use Rattle.base.specs.Steps.{as_reply}
-use Rattle.base.specs.declared.step.Step.TheVariants.{Scan}
 use Rattle.session_steps.specs.Replies.{scanned}
 use Rattle.database.proofs.Readings.{reads-rows}
 use Rattle.database.proofs.steps.scan.Goals as goal
