@@ -127,10 +127,11 @@ abbrev pub StopsBefore : CommitError → Type 0
 StopsBefore (Refused fault) = HasEnded fault ⊎ (fault ≡ OutOfMemory)
 StopsBefore (Open fault) = ⊥
 
--- Why what isn't covered won't be in this life: the committer has ended, or finds no memory. Without a record number more it won't be in a later one
+-- Why what isn't covered won't be in this life: the committer has ended, or finds no memory. Without a record number more it won't be in a later one,
+-- so it is told as refused there, and nowhere else
 abbrev pub StopsAfter : CommitError → Type 0
 StopsAfter (Refused fault) = (fault ≡ TimestampsOut) × HasEnded fault
-StopsAfter (Open fault) = HasEnded fault ⊎ (fault ≡ OutOfMemory)
+StopsAfter (Open fault) = ((fault ≢ TimestampsOut) × HasEnded fault) ⊎ (fault ≡ OutOfMemory)
 
 -- the session's poll was refused so, or it told the timestamp and the end was refused so
 abbrev pub StopsAtEnd : ℕ → CommitError → Type 0
