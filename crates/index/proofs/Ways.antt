@@ -63,11 +63,11 @@ module _ (s : Seen) (image : Image) (key : Key) where
     covers-end = ap (covers s) h.end
 
     on-key : (b : Bool) → (key_eq held.version.key key && nat_lt held.begin bound) ≡ b
-        → Looks s image key bound slot (cond b (cond (covers s held.begin) (cond (covers s held.end) Over (Next.Seen held.version.row)) (cond (is_counted s held.begin) (Earlier held.begin held.version.previous) Over)) Over)
+        → Looks s image key bound slot held.version.row (cond b (cond (covers s held.begin) (cond (covers s held.end) Over Next.Seen) (cond (is_counted s held.begin) (Earlier held.begin held.version.previous) Over)) Over)
     on-key false fails = λ target seen leads. true≢false (sym (passes-test target seen leads) ∙ fails)
     on-key true passed = on-begin (covers s held.begin) refl
       where
-        on-end : covers s held.begin ≡ true → (b : Bool) → covers s held.end ≡ b → Looks s image key bound slot (cond b Over (Next.Seen held.version.row))
+        on-end : covers s held.begin ≡ true → (b : Bool) → covers s held.end ≡ b → Looks s image key bound slot held.version.row (cond b Over Next.Seen)
         on-end begun true over = λ target seen leads. true≢false (sym over ∙ (sym covers-end ∙ ends target bound slot seen leads (covers-begin ∙ begun)))
         on-end begun false lasts = record {
           within = h.within;
@@ -77,7 +77,7 @@ module _ (s : Seen) (image : Image) (key : Key) where
           is = h.row;
         }
 
-        on-counted : covers s held.begin ≡ false → (b : Bool) → is_counted s held.begin ≡ b → Looks s image key bound slot (cond b (Earlier held.begin held.version.previous) Over)
+        on-counted : covers s held.begin ≡ false → (b : Bool) → is_counted s held.begin ≡ b → Looks s image key bound slot held.version.row (cond b (Earlier held.begin held.version.previous) Over)
         on-counted unbegun true counted = λ target seen leads.
             let rest = (goes target bound slot seen leads (covers-begin ∙ unbegun)).1 in
             (rest.0, previous-is held.version.previous rest.0 (sym h.link ∙ rest.1), subst (λ (n : ℕ). Leads s image key target n rest.0) h.begin rest.2)
@@ -85,11 +85,11 @@ module _ (s : Seen) (image : Image) (key : Key) where
             true≢false (sym (goes target bound slot seen leads (covers-begin ∙ unbegun)).0 ∙ (ap (is_counted s) h.begin ∙ uncounted))
 
         on-begin : (b : Bool) → covers s held.begin ≡ b
-            → Looks s image key bound slot (cond b (cond (covers s held.end) Over (Next.Seen held.version.row)) (cond (is_counted s held.begin) (Earlier held.begin held.version.previous) Over))
+            → Looks s image key bound slot held.version.row (cond b (cond (covers s held.end) Over Next.Seen) (cond (is_counted s held.begin) (Earlier held.begin held.version.previous) Over))
         on-begin true begun = on-end begun (covers s held.end) refl
         on-begin false unbegun = on-counted unbegun (is_counted s held.begin) refl
 
-    pub looks-next : Looks s image key bound slot (next_at s key bound held)
+    pub looks-next : Looks s image key bound slot held.version.row (next_at s key bound held)
     looks-next = on-key (key_eq held.version.key key && nat_lt held.begin bound) refl
 
 -- ---- walks
@@ -99,13 +99,13 @@ abbrev pub Comes : Seen → Image → Key → ℕ → ℕ → Option ℕ → Typ
 Comes s image key target bound at = (slot : ℕ) × (at ≡ Some slot) × Leads s image key target bound slot
 
 module _ (s : Seen) (image : Image) (key : Key) where
-  pub on : (bound slot begin : ℕ) (at previous : Option ℕ) → at ≡ Some slot → Looks s image key bound slot (Earlier begin previous) → (target : ℕ) → IsSeenAt s image key target → Comes s image key target bound at
+  pub on : (bound slot begin : ℕ) (at previous : Option ℕ) (row : List ℕ) → at ≡ Some slot → Looks s image key bound slot row (Earlier begin previous) → (target : ℕ) → IsSeenAt s image key target → Comes s image key target bound at
       → Comes s image key target begin previous
-  on bound slot begin at previous is looks target seen comes =
+  on bound slot begin at previous row is looks target seen comes =
       looks target seen (subst (λ (n : ℕ). Leads s image key target bound n) (same_Some comes.0 slot (sym comes.1 ∙ is)) comes.2)
 
-  pub over : (bound slot : ℕ) (at : Option ℕ) → at ≡ Some slot → Looks s image key bound slot Over → (target : ℕ) → IsSeenAt s image key target → Comes s image key target bound at → ⊥
-  over bound slot at is looks target seen comes = looks target seen (subst (λ (n : ℕ). Leads s image key target bound n) (same_Some comes.0 slot (sym comes.1 ∙ is)) comes.2)
+  pub over : (bound slot : ℕ) (at : Option ℕ) (row : List ℕ) → at ≡ Some slot → Looks s image key bound slot row Over → (target : ℕ) → IsSeenAt s image key target → Comes s image key target bound at → ⊥
+  over bound slot at row is looks target seen comes = looks target seen (subst (λ (n : ℕ). Leads s image key target bound n) (same_Some comes.0 slot (sym comes.1 ∙ is)) comes.2)
 
   pub nowhere : (bound : ℕ) (at : Option ℕ) → at ≡ None → (target : ℕ) → Comes s image key target bound at → ⊥
   nowhere bound at is target comes = absurd (cc (sym comes.1 ∙ is))

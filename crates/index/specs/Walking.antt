@@ -20,13 +20,13 @@ AreLinked s image index = (key : Key) → IsLinked s image key (entry_at index k
 abbrev pub next_at : Seen → Key → ℕ → Slot → Next
 next_at s key bound held =
     if key_eq held.version.key key && nat_lt held.begin bound
-    then (if covers s held.begin then (if covers s held.end then Over else SeesRow held.version.row)
+    then (if covers s held.begin then (if covers s held.end then Over else SeesRow)
     else (if is_counted s held.begin then Earlier held.begin held.version.previous else Over))
     else Over
 
--- what it says of the way
-abbrev pub Looks : Seen → Image → Key → ℕ → ℕ → Next → Type 0
-Looks s image key bound slot (SeesRow row) = HasSeen (covers s) image slot key row
-Looks s image key bound slot (Earlier begin previous) =
+-- what it says of the way, and of this row where the snapshot sees the version
+abbrev pub Looks : Seen → Image → Key → ℕ → ℕ → List ℕ → Next → Type 0
+Looks s image key bound slot row SeesRow = HasSeen (covers s) image slot key row
+Looks s image key bound slot row (Earlier begin previous) =
     (target : ℕ) → IsSeenAt s image key target → Leads s image key target bound slot → (next : ℕ) × (previous ≡ Some next) × Leads s image key target begin next
-Looks s image key bound slot Over = (target : ℕ) → IsSeenAt s image key target → Leads s image key target bound slot → ⊥
+Looks s image key bound slot row Over = (target : ℕ) → IsSeenAt s image key target → Leads s image key target bound slot → ⊥

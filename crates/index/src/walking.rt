@@ -50,13 +50,37 @@ impl Index {
     {
         follow(device, geometry, snapshot, self.hinted(key).newest, key)
     }
+
+    /// The slot of the version that `walk` finds. Its row goes into the place for one, since a row is large to hand on.
+    #[inline(always)]
+    pub fn walk_into<D: Pmem>(
+        &self,
+        device: &D,
+        geometry: Geometry,
+        key: Key,
+        snapshot: &Snapshot,
+        row: &mut Row,
+    ) -> Option<SlotNo>
+        requires device { (D.state device.now).words ≡ total_words geometry }
+        ensures tables { (counts : ℕ → Bool) (tables : Tables) → CountsAs counts snapshot.now geometry (image_of (D.state device.now)) → IsLinked snapshot.now (image_of (D.state device.now)) key (entry_at self.now key).newest
+            → ShowsTables counts geometry (image_of (D.state device.now)) tables → option_map (λ slot. row.new) result ≡ tables key }
+    {
+        reach(
+            device,
+            geometry,
+            snapshot,
+            self.hinted(key).newest,
+            key,
+            row,
+        )
+    }
 }
 
 // What a walk finds in a slot that it comes to.
 #[derive(Clone, Copy, Debug)]
 pub(crate) enum Next {
     // The version that the snapshot sees.
-    Seen(Row),
+    Seen,
     // The version began after the snapshot, and links to that slot.
     Earlier { begin: Ts, previous: Option<SlotNo> },
     // Nothing that leads on.
@@ -73,7 +97,7 @@ fn next_at(held: &Slot, snapshot: &Snapshot, key: Key, bound: Ts) -> Next
             if snapshot.covers(held.end) {
                 Next::Over
             } else {
-                Next::Seen(held.version.row)
+                Next::Seen
             }
         } else if 0 < held.begin && !snapshot.gaps().holds(held.begin) {
             Next::Earlier {
@@ -88,7 +112,7 @@ fn next_at(held: &Slot, snapshot: &Snapshot, key: Key, bound: Ts) -> Next
     }
 }
 
-// The same, of a slot of the device.
+// The same, of a slot of the device. The row that its words hold goes into the place for one: a row is large to hand on.
 #[inline(always)]
 fn look<D: Pmem>(
     device: &D,
@@ -97,19 +121,31 @@ fn look<D: Pmem>(
     key: Key,
     slot: SlotNo,
     bound: Ts,
+    row: &mut Row,
 ) -> Next
     requires device { (D.state device.now).words ≡ total_words geometry }
-    ensures within { (row : List ℕ) → result ≡ Next.Seen row → slot < geometry.slots }
+    ensures within { result ≡ Next.Seen → slot < geometry.slots }
     ensures falls { (begin : ℕ) (previous : Option ℕ) → result ≡ Earlier begin previous → begin < bound }
-    ensures looks { layout_of (image_of (D.state device.now)) ≡ geometry → Looks snapshot.now (image_of (D.state device.now)) key bound slot result }
+    ensures looks { layout_of (image_of (D.state device.now)) ≡ geometry → Looks snapshot.now (image_of (D.state device.now)) key bound slot row.new result }
 {
     if slot >= geometry.slots() {
         return Next::Over;
     }
     match read(device, geometry, slot) {
-        Some(held) => next_at(&held, snapshot, key, bound),
+        Some(held) => {
+            put_row(row, &held);
+            next_at(&held, snapshot, key, bound)
+        }
         None => Next::Over,
     }
+}
+
+// Puts the row of the version into its place.
+#[inline(always)]
+fn put_row(row: &mut Row, held: &Slot)
+    ensures { row.new ≡ held.now.version.row }
+{
+    *row = held.version.row;
 }
 
 // The version of the key that the snapshot sees, by links from this slot on.
@@ -128,11 +164,35 @@ pub(crate) fn follow<D: Pmem>(
     ensures tables { (counts : ℕ → Bool) (tables : Tables) → CountsAs counts snapshot.now geometry (image_of (D.state device.now)) → IsLinked snapshot.now (image_of (D.state device.now)) key newest
         → ShowsTables counts geometry (image_of (D.state device.now)) tables → option_map (λ found. found.row) result ≡ tables key }
 {
+    let mut row = Row::new(&[]).unwrap();
+    match reach(device, geometry, snapshot, newest, key, &mut row) {
+        Some(slot) => Some(Found { slot, row }),
+        None => None,
+    }
+}
+
+// The slot of the version that `follow` finds. Its row goes into the place for one.
+#[inline(always)]
+fn reach<D: Pmem>(
+    device: &D,
+    geometry: Geometry,
+    snapshot: &Snapshot,
+    newest: Option<SlotNo>,
+    key: Key,
+    row: &mut Row,
+) -> Option<SlotNo>
+    requires device { (D.state device.now).words ≡ total_words geometry }
+    ensures slot { IfSome result (λ slot. slot < geometry.slots) }
+    ensures some { IfSome result (λ slot. (counts : ℕ → Bool) → CountsAs counts snapshot.now geometry (image_of (D.state device.now)) → HasSeen counts (image_of (D.state device.now)) slot key row.new) }
+    ensures none { IfNone result ((counts : ℕ → Bool) → CountsAs counts snapshot.now geometry (image_of (D.state device.now)) → IsLinked snapshot.now (image_of (D.state device.now)) key newest → (slot : ℕ) (row : List ℕ) → ¬ HasSeen counts (image_of (D.state device.now)) slot key row) }
+    ensures tables { (counts : ℕ → Bool) (tables : Tables) → CountsAs counts snapshot.now geometry (image_of (D.state device.now)) → IsLinked snapshot.now (image_of (D.state device.now)) key newest
+        → ShowsTables counts geometry (image_of (D.state device.now)) tables → option_map (λ slot. row.new) result ≡ tables key }
+{
     let mut at = newest;
     let mut bound = u64::MAX;
     while let Some(slot) = at {
-        match look(device, geometry, snapshot, key, slot, bound) {
-            Next::Seen(row) => return Some(Found { slot, row }),
+        match look(device, geometry, snapshot, key, slot, bound, row) {
+            Next::Seen => return Some(slot),
             Next::Over => return None,
             Next::Earlier { begin, previous } => {
                 bound = begin;

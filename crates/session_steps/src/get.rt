@@ -25,8 +25,13 @@ impl Sessions {
             Some(write) => Ok(write.row),
             None => {
                 let geometry = self.numbers.geometry;
-                match self.index.walk(device, geometry, key, active.snapshot) {
-                    Some(found) => Ok(Some(found.row)),
+                let mut row = Row::new(&[]).unwrap();
+                let snapshot = active.snapshot;
+                match self
+                    .index
+                    .walk_into(device, geometry, key, snapshot, &mut row)
+                {
+                    Some(_) => Ok(Some(row)),
                     None => Ok(None),
                 }
             }

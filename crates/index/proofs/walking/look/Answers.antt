@@ -13,8 +13,8 @@ returns-then-slot-slots-clause-looks g c = λ laid target seen leads.
 pub returns-in-Some-clause-looks : goal.returns-in-Some-clause-looks
 returns-in-Some-clause-looks g c = λ laid.
     let lt : c.args.slot < c.args.geometry.slots = omega (arith, c.if-slot-slots.false, c.slots.ensures.value) in
-    rw c.next_at.ensures (looks-next c.args.snapshot.now (image_of (g.D.Pmem.state c.args.device.now)) c.args.key c.args.bound c.args.slot c.in-Some.held
-    (holds-as (g.D.Pmem.state c.args.device.now) c.args.geometry c.args.slot c.requires.device lt laid c.in-Some.held c.in-Some.ensures.some))
+    rw c.next_at.ensures (rw c.put_row.ensures (looks-next c.args.snapshot.now (image_of (g.D.Pmem.state c.args.device.now)) c.args.key c.args.bound c.args.slot c.in-Some.held
+    (holds-as (g.D.Pmem.state c.args.device.now) c.args.geometry c.args.slot c.requires.device lt laid c.in-Some.held c.in-Some.ensures.some)))
 
 pub returns-in-None-clause-looks : goal.returns-in-None-clause-looks
 returns-in-None-clause-looks g c = λ laid target seen leads.

@@ -7,8 +7,8 @@ use Rattle.session_steps.proofs.Reading.{gets-own, gets-seen, words-are}
 use Rattle.session_steps.proofs.Stepping.{held-on}
 use Rattle.session_steps.proofs.sessions.Sessions.get.Goals as goal
 
-pub walk-requires : goal.walk-requires
-walk-requires g c = record { device = ∥∥₁_elim c.requires.shown (ℕ_set _ _) (λ shown. words-are _ _ (g.D.Pmem.state c.args.device.now) (g.met.D.Pmem.orderly _) shown.1.upholds) }
+pub walk_into-requires : goal.walk_into-requires
+walk_into-requires g c = record { device = ∥∥₁_elim c.requires.shown (ℕ_set _ _) (λ shown. words-are _ _ (g.D.Pmem.state c.args.device.now) (g.met.D.Pmem.orderly _) shown.1.upholds) }
 
 pub returns-in-Err : goal.returns-in-Err
 returns-in-Err g c = record { step = λ h holds. inactive c.args.self.now (Get c.args.session c.args.key) c.args.session c.in-Err.fault h refl refl c.in-Err.ensures.fault (held-on c.args.self.now h _ holds) }
@@ -16,8 +16,8 @@ returns-in-Err g c = record { step = λ h holds. inactive c.args.self.now (Get c
 pub returns-in-Some : goal.returns-in-Some
 returns-in-Some g c = record { step = λ h holds. gets-own c.args.self.now c.args.session c.args.key _ _ _ c.in-Some.write h c.in-Ok.ensures.ok (sym c.in-Some.ensures) refl (held-on c.args.self.now h _ holds) }
 
-pub returns-in-Some-walk : goal.returns-in-Some-walk
-returns-in-Some-walk g c = record { step = λ h holds. gets-seen c.args.self.now (g.D.Pmem.state c.args.device.now) c.args.session c.args.key _ _ _ h (g.met.D.Pmem.orderly _) c.in-Ok.ensures.ok (sym c.in-None.ensures) c.in-Some-walk.ensures.tables holds }
+pub returns-in-Some-walk_into : goal.returns-in-Some-walk_into
+returns-in-Some-walk_into g c = record { step = λ h holds. gets-seen c.args.self.now (g.D.Pmem.state c.args.device.now) c.args.session c.args.key _ _ _ h (g.met.D.Pmem.orderly _) c.in-Ok.ensures.ok (sym c.in-None.ensures) c.in-Some-walk_into.ensures.tables holds }
 
-pub returns-in-None-walk : goal.returns-in-None-walk
-returns-in-None-walk g c = record { step = λ h holds. gets-seen c.args.self.now (g.D.Pmem.state c.args.device.now) c.args.session c.args.key _ _ _ h (g.met.D.Pmem.orderly _) c.in-Ok.ensures.ok (sym c.in-None.ensures) c.in-None-walk.ensures.tables holds }
+pub returns-in-None-walk_into : goal.returns-in-None-walk_into
+returns-in-None-walk_into g c = record { step = λ h holds. gets-seen c.args.self.now (g.D.Pmem.state c.args.device.now) c.args.session c.args.key _ _ _ h (g.met.D.Pmem.orderly _) c.in-Ok.ensures.ok (sym c.in-None.ensures) c.in-None-walk_into.ensures.tables holds }

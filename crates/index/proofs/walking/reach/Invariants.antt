@@ -3,7 +3,7 @@ use Rattle.base.specs.Images.{layout_of}
 use Rattle.pmem.specs.Words.{image_of}
 use Rattle.snapshot.specs.Walks.{IsSeenAt}
 use Rattle.index.proofs.Ways.{Comes}
-use Rattle.index.proofs.walking.follow.Given as goal
+use Rattle.index.proofs.walking.reach.Given as goal
 
 abbrev pub invariant-loop-at : goal.invariant-loop-at
 invariant-loop-at g l =
