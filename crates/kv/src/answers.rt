@@ -4,7 +4,15 @@ use crate::rows::Shown;
 use crate::session::Answer;
 use base::key::Key;
 use base::row::Row;
+use std::alloc::Global;
 use std::io;
+use std::io::Write;
+
+// So many answers of one short line are held at most.
+const MOST_HELD: usize = 16;
+
+// As many bytes as they may have.
+const ROOM: usize = 512;
 
 /// Which ends of the program are terminals.
 #[derive(Clone, Copy)]
@@ -40,29 +48,71 @@ impl Manner {
     }
 }
 
-/// Prints answers.
+/// Prints answers. A few short ones are held, so that they are printed together.
 #[derive(Drop)]
 pub struct Printer<'a, R> {
-    pub rt: &'a R,
+    rt: &'a R,
     pub manner: Manner,
+    // The lines that are held, and how many they are.
+    held: Vec<u8>,
+    count: usize,
 }
 
-impl<R: Print> Printer<'_, R> {
-    pub fn prompt(&self, is_open: bool) -> io::Result<()> {
-        match (self.manner.is_prompted, is_open) {
-            (false, _) => Ok(()),
-            (true, false) => print!(self.rt; "kv> "),
-            (true, true) => print!(self.rt; "kv*> "),
+impl<'a, R: Print> Printer<'a, R> {
+    pub fn new(alloc: Global, rt: &'a R, manner: Manner) -> io::Result<Printer<'a, R>> {
+        Ok(Printer {
+            rt,
+            manner,
+            held: Vec::with_capacity(alloc, ROOM)?,
+            count: 0,
+        })
+    }
+
+    /// Prints what is held.
+    pub fn flush(&mut self) -> io::Result<()> {
+        if self.count == 0 {
+            return Ok(());
+        }
+        let printed = self.rt.write_all(self.held.as_slice());
+        self.held.clear();
+        self.count = 0;
+        printed
+    }
+
+    pub fn prompt(&mut self, is_open: bool) -> io::Result<()> {
+        if !self.manner.is_prompted {
+            return Ok(());
+        }
+        self.flush()?;
+        match is_open {
+            false => print!(self.rt; "kv> "),
+            true => print!(self.rt; "kv*> "),
         }
     }
 
-    pub fn print(&self, answer: &Answer) -> io::Result<()> {
+    /// Prints an answer, or holds it.
+    pub fn print(&mut self, answer: &Answer) -> io::Result<()> {
         match answer {
-            Answer::Begun => println!(self.rt; "begun"),
-            Answer::Written => println!(self.rt; "written"),
-            Answer::Aborted => println!(self.rt; "aborted"),
-            Answer::Committed(timestamp) => println!(self.rt; "committed {timestamp}"),
-            Answer::Done => println!(self.rt; "done"),
+            Answer::Begun => writeln!(self.held, "begun")?,
+            Answer::Written => writeln!(self.held, "written")?,
+            Answer::Aborted => writeln!(self.held, "aborted")?,
+            Answer::Committed(timestamp) => writeln!(self.held, "committed {timestamp}")?,
+            Answer::Done => writeln!(self.held, "done")?,
+            _ => {
+                self.flush()?;
+                return self.print_now(answer);
+            }
+        }
+        self.count = self.count.saturating_add(1);
+        if self.count < MOST_HELD {
+            Ok(())
+        } else {
+            self.flush()
+        }
+    }
+
+    fn print_now(&self, answer: &Answer) -> io::Result<()> {
+        match answer {
             Answer::Row(Some(row)) => println!(self.rt; "row {}", self.shown(row)),
             Answer::Row(None) => println!(self.rt; "none"),
             Answer::Rows(rows) => self.print_rows(rows.as_slice()),
@@ -70,6 +120,7 @@ impl<R: Print> Printer<'_, R> {
             Answer::Tables(rows) => self.print_tables(rows.as_slice()),
             Answer::Dump(rows) => self.print_dump(rows.as_slice()),
             Answer::Status(statistics) => println!(self.rt; "{statistics}"),
+            _ => Ok(()),
         }
     }
 
@@ -145,7 +196,8 @@ impl<R: Print> Printer<'_, R> {
     }
 
     /// Explains a command, or lists them.
-    pub fn help(&self, word: Option<Word>) -> io::Result<()> {
+    pub fn help(&mut self, word: Option<Word>) -> io::Result<()> {
+        self.flush()?;
         match word {
             Some(word) => self.explain_word(word),
             None => self.list(),

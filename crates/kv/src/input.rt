@@ -38,6 +38,11 @@ impl<R: BufRead + Drop> Lines<R> {
         self.number
     }
 
+    /// Whether a whole line was read ahead, so that the next one isn't waited for.
+    pub fn has_line(&self) -> bool {
+        self.input.buffer().contains(&LINE_FEED)
+    }
+
     /// Reads the next line, without its line feed. `None` at the end.
     pub fn next_line(&mut self) -> io::Result<Option<Line<'_>>> {
         self.number = self.number.saturating_add(1);

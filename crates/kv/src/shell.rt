@@ -9,6 +9,7 @@ use crate::session::{Failed, Session};
 use crate::words::parse_line;
 use database::Database;
 use std::alloc::Global;
+use std::io;
 use std::io::BufRead;
 use std::rt::Clock;
 use std::sync::Wait;
@@ -21,15 +22,13 @@ pub fn answer_lines<'a, R: Input + Print + Eprint + Clock + Wait + Drop>(
     database: &'a Database<Device, R>,
     manner: Manner,
 ) -> Result<bool, Stop> {
-    let mut shell = Shell::new(rt, alloc, database, manner);
+    let mut shell = Shell::new(rt, alloc, database, manner).map_err(Stop::Output)?;
     let mut lines = Lines::new(alloc, rt.reader()).map_err(Stop::Input)?;
     println!(rt; "ready").map_err(Stop::Output)?;
-    for _ in 0..u64::MAX {
-        shell.prompt()?;
-        if !shell.answer_line(&mut lines)? {
-            break;
-        }
-    }
+    let answered = shell.answer_each(&mut lines);
+    let told = shell.flush();
+    answered?;
+    told?;
     Ok(shell.leave())
 }
 
@@ -41,9 +40,12 @@ pub fn answer_command<'a, R: Input + Print + Eprint + Clock + Wait + Drop>(
     manner: Manner,
     command: &Command,
 ) -> Result<bool, Stop> {
-    let mut shell = Shell::new(rt, alloc, database, manner);
+    let mut shell = Shell::new(rt, alloc, database, manner).map_err(Stop::Output)?;
     let mut lines = Lines::new(alloc, rt.reader()).map_err(Stop::Input)?;
-    shell.obey(&mut lines, command)?;
+    let obeyed = shell.obey(&mut lines, command);
+    let told = shell.flush();
+    obeyed?;
+    told?;
     Ok(shell.was_refused)
 }
 
@@ -65,21 +67,40 @@ impl<'a, R: Print + Eprint + Clock + Wait + Drop> Shell<'a, R> {
         alloc: Global,
         database: &'a Database<Device, R>,
         manner: Manner,
-    ) -> Shell<'a, R> {
-        Shell {
+    ) -> io::Result<Shell<'a, R>> {
+        Ok(Shell {
             alloc,
             rt,
             database,
             session: Session::new(alloc, database),
-            printer: Printer { rt, manner },
+            printer: Printer::new(alloc, rt, manner)?,
             is_timed: false,
             was_refused: false,
-        }
+        })
     }
 
-    fn prompt(&self) -> Result<(), Stop> {
+    // Prints the answers that are held.
+    fn flush(&mut self) -> Result<(), Stop> {
+        self.printer.flush().map_err(Stop::Output)
+    }
+
+    fn prompt(&mut self) -> Result<(), Stop> {
         let is_open = self.session.is_open();
         self.printer.prompt(is_open).map_err(Stop::Output)
+    }
+
+    // Answers each line. Where it waits for one, no answer is held.
+    fn answer_each<I: BufRead + Drop>(&mut self, lines: &mut Lines<I>) -> Result<(), Stop> {
+        for _ in 0..u64::MAX {
+            if !lines.has_line() {
+                self.flush()?;
+            }
+            self.prompt()?;
+            if !self.answer_line(lines)? {
+                break;
+            }
+        }
+        Ok(())
     }
 
     // Answers the next line. Whether there may be another one.
@@ -96,7 +117,7 @@ impl<'a, R: Print + Eprint + Clock + Wait + Drop> Shell<'a, R> {
                 Ok(true)
             }
             Err(refusal) => {
-                self.refuse(lines.number(), begins, &refusal);
+                self.refuse(lines.number(), begins, &refusal)?;
                 Ok(true)
             }
         }
@@ -114,11 +135,10 @@ impl<'a, R: Print + Eprint + Clock + Wait + Drop> Shell<'a, R> {
             Err(Failed::Stopped(stop)) => return Err(stop),
             Err(Failed::Refused(refusal)) => {
                 let begins = matches!(command, Command::Ask(Request::Begin));
-                self.refuse(lines.number(), begins, &refusal);
+                self.refuse(lines.number(), begins, &refusal)?;
             }
         }
-        self.tell_time(start);
-        Ok(())
+        self.tell_time(start)
     }
 
     fn answer<I: BufRead + Drop>(
@@ -142,6 +162,7 @@ impl<'a, R: Print + Eprint + Clock + Wait + Drop> Shell<'a, R> {
     }
 
     fn set_timing(&mut self, is_timed: bool) -> Result<(), Failed> {
+        self.flush()?;
         self.is_timed = is_timed;
         let word = if is_timed { "on" } else { "off" };
         println!(self.rt; "timing {word}").map_err(Stop::Output)?;
@@ -153,6 +174,7 @@ impl<'a, R: Print + Eprint + Clock + Wait + Drop> Shell<'a, R> {
         if self.session.is_open() {
             return Err(Failed::Refused(Refusal::Open));
         }
+        self.flush()?;
         let progress = Progress::new(self.rt, self.printer.manner.is_watched);
         let mut loader = Loader::new(self.alloc, self.database, progress);
         let loaded = loader.load(lines);
@@ -161,9 +183,11 @@ impl<'a, R: Print + Eprint + Clock + Wait + Drop> Shell<'a, R> {
         loaded
     }
 
-    // Says why a line is refused, and breaks off the transaction that it belongs to. A person may spell it again.
-    fn refuse(&mut self, line: u64, begins: bool, refusal: &Refusal) {
+    // Says why a line is refused, after the answers before it, and breaks off the transaction that it belongs to. A person may spell it
+    // again.
+    fn refuse(&mut self, line: u64, begins: bool, refusal: &Refusal) -> Result<(), Stop> {
         self.was_refused = true;
+        self.flush()?;
         let is_prompted = self.printer.manner.is_prompted;
         let _ = match (is_prompted, line) {
             (true, _) => eprintln!(self.rt; "refused: {refusal}"),
@@ -173,6 +197,7 @@ impl<'a, R: Print + Eprint + Clock + Wait + Drop> Shell<'a, R> {
         if !(is_prompted && is_spelling(refusal)) {
             self.session.break_off(line, begins && !is_prompted);
         }
+        Ok(())
     }
 
     // Says of a transaction that is open at the end that it is aborted. Whether a line was refused, or one is.
@@ -195,18 +220,20 @@ impl<'a, R: Print + Eprint + Clock + Wait + Drop> Shell<'a, R> {
         }
     }
 
-    fn tell_time(&self, start: Option<Instant>) {
+    fn tell_time(&mut self, start: Option<Instant>) -> Result<(), Stop> {
         let Some(start) = start else {
-            return;
+            return Ok(());
         };
         if !self.is_timed {
-            return;
+            return Ok(());
         }
+        self.flush()?;
         if let Ok(elapsed) = start.elapsed(self.rt) {
             let seconds = elapsed.as_secs();
             let micros = elapsed.subsec_micros();
             let _ = eprintln!(self.rt; "took {seconds}.{micros:06} s");
         }
+        Ok(())
     }
 }
 

@@ -53,7 +53,7 @@ pub fn obey_words<
     };
     let manner = Manner::of(terminals, options.command.is_none(), options.is_text);
     if let Some(Command::Help(word)) = &options.command {
-        return explain(rt, manner, *word);
+        return explain(rt, alloc, manner, *word);
     }
     match serve(rt, alloc, &options, manner) {
         Ok(false) => DONE,
@@ -84,12 +84,21 @@ fn refuse_words(rt: &(impl Print + Eprint), error: &clap::Error) -> u8 {
 }
 
 // Explains a command, or lists them. The status.
-fn explain(rt: &(impl Print + Eprint), manner: Manner, word: Option<Word>) -> u8 {
-    let printer = Printer { rt, manner };
-    match printer.help(word) {
+fn explain(rt: &(impl Print + Eprint), alloc: Global, manner: Manner, word: Option<Word>) -> u8 {
+    match print_help(rt, alloc, manner, word) {
         Ok(()) => DONE,
         Err(error) => tell_failed(rt, &error),
     }
+}
+
+fn print_help(
+    rt: &impl Print,
+    alloc: Global,
+    manner: Manner,
+    word: Option<Word>,
+) -> io::Result<()> {
+    let mut printer = Printer::new(alloc, rt, manner)?;
+    printer.help(word)
 }
 
 // Says why the store couldn't be used to the end. The status.
