@@ -49,7 +49,7 @@ pub struct Desk<D: Pmem> {
     pub is_told: bool,
     /// The committer's worker is to be woken once nobody takes its turns.
     pub is_wanted: bool,
-    /// How many commits were covered since the collector's last round.
+    /// How many rows were written or deleted by what was covered since the collector's last round.
     pub covered: u64,
     /// How many ticks in a row were refused for want of memory.
     pub refusals: u64,
@@ -190,7 +190,7 @@ impl<D: Pmem + Drop> Desk<D> {
         }
     }
 
-    /// Whether a round of the collector is due: a commit for each fourth slot, and one at least, was covered since the last one.
+    /// Whether a round of the collector is due: a row for each fourth slot, and one at least, was covered since the last one.
     pub fn is_round_due(&self) -> bool {
         match &self.room {
             Some(room) => (room.geometry().slots() / 4).max(1) <= self.covered,

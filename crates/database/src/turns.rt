@@ -1,4 +1,5 @@
 use crate::desk::{Desk, Shared};
+use base::batch::Batch;
 use base::fault::Fault;
 use base::step::{Reply, Stage};
 use pmem::Pmem;
@@ -47,12 +48,21 @@ fn tick<D: Pmem + Drop>(desk: &mut Desk<D>) -> Turn {
     match reply {
         Reply::Idle => Turn::Idle,
         Reply::Covered(batch) => {
-            desk.covered = desk.covered.saturating_add(batch.commits().len() as u64);
+            desk.covered = desk.covered.saturating_add(rows_of(&batch));
             Turn::Finished
         }
         Reply::Ticked(Stage::GateFlushed) => Turn::Flushed,
         _ => Turn::Unfinished,
     }
+}
+
+// How many rows the commits of a batch have written or deleted.
+fn rows_of(batch: &Batch) -> u64 {
+    let mut rows = 0_u64;
+    for commit in batch.commits() {
+        rows = rows.saturating_add(commit.writes().len() as u64);
+    }
+    rows
 }
 
 /// Visits of the collector, up to the end of a round.
