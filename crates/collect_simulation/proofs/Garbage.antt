@@ -11,8 +11,8 @@ use Rattle.pmem.specs.Words.{value_of}
 use Rattle.snapshot.specs.Snapshots.{Seen, covers, seen_by}
 use Rattle.state_invariant.specs.Kept.{Origin, IsInUse}
 use Rattle.state_invariant.specs.Shown.{word_of, IsOutOfSwept, counts_at}
-use Rattle.state_invariant.proofs.Garbage.{garbage-is, is-garbage, garbage-ended, ended-garbage, range-all, all-each}
-use Rattle.state_invariant.proofs.Agreeing.{out-counted, end-out}
+use Rattle.state_invariant.proofs.collector.Garbage.{garbage-is, is-garbage, garbage-ended, ended-garbage, range-all, all-each}
+use Rattle.state_invariant.proofs.reads.SweptGaps.{out-counted, end-out}
 use Rattle.device_invariant.specs.Upholds.{Upholds}
 use Rattle.session_laws.specs.Sees.{Sees}
 use Rattle.session_laws.proofs.Present.{present-sees}

@@ -17,13 +17,13 @@ use Rattle.pmem.proofs.OperationEffects.{only-settled, value-flushed, value-fenc
 use Rattle.pmem.proofs.Traces.{along-append, along-last, along-first, after-append}
 use Rattle.state_invariant.specs.Kept.{Origin}
 use Rattle.state_invariant.specs.Shown.{word_of, IsNever}
-use Rattle.state_invariant.proofs.Collecting.{keeps-visited, visit-frees, stays}
+use Rattle.state_invariant.proofs.collector.Kept.{keeps-visited, visit-frees, stays}
 use Rattle.device_invariant.specs.Sweeps.{IsOutOfGaps, IsSlotOutOfGaps}
 use Rattle.device_invariant.specs.Log.{HoldsHand}
 use Rattle.device_invariant.specs.Upholds.{Upholds}
 use Rattle.device_invariant.proofs.Words.{within-slot, word-within, words-apart_within}
-use Rattle.device_invariant.proofs.Filling.{zero-facts}
-use Rattle.device_invariant.proofs.Zeroing.{zeroing-keeps}
+use Rattle.device_invariant.proofs.puts.Slots.{zero-facts}
+use Rattle.device_invariant.proofs.collector.Zeroing.{zeroing-keeps}
 use Rattle.device_invariant.proofs.Laws.{flushes-keep, fences-keep, failing-keeps}
 use Rattle.step_simulation.specs.Moves.{Leads}
 use Rattle.step_simulation.proofs.Leading.{along-map, leads-run, leads-stopped}

@@ -6,15 +6,15 @@ use Rattle.pmem.specs.Device.{Device}
 use Rattle.pmem.specs.Words.{value_of}
 use Rattle.state_invariant.specs.Kept.{Origin}
 use Rattle.state_invariant.specs.Shown.{word_of, IsNever}
-use Rattle.state_invariant.proofs.Garbage.{garbage-undrawn, garbage-replaced}
-use Rattle.state_invariant.proofs.Collecting.{moved, OnlyFrees, stays as same_holder, frees, keeps-moved, shows-moved}
-use Rattle.state_invariant.proofs.LinkedSteps.{links-moved}
+use Rattle.state_invariant.proofs.collector.Garbage.{garbage-undrawn, garbage-replaced}
+use Rattle.state_invariant.proofs.collector.Kept.{moved, OnlyFrees, stays as same_holder, frees, keeps-moved, shows-moved}
+use Rattle.state_invariant.proofs.steps.Links.{links-moved}
 use Rattle.device_invariant.specs.Slots.{SlotHolds}
 use Rattle.device_invariant.specs.Sweeps.{IsSweeping}
 use Rattle.device_invariant.specs.Log.{HoldsHand}
 use Rattle.device_invariant.specs.Upholds.{HoldsState, Upholds}
 use Rattle.device_invariant.specs.Laws.{ChangesHolder, stays, freed}
-use Rattle.device_invariant.proofs.Holders.{holds-then, uncovered-hand}
+use Rattle.device_invariant.proofs.moves.Holders.{holds-then, uncovered-hand}
 
 module _ (o : Origin) (q : State) (device : Device) (held : ℕ → Option Version) (swept : Bool) (place : ℕ) (still : q.swept ≡ true → swept ≡ true) (only : (slot : ℕ) → OnlyFrees q held slot) (u : Upholds o q device) where
   -- first the holders change

@@ -14,8 +14,8 @@ use Rattle.base.specs.Search.{some_if}
 use Rattle.machine.specs.Machine.{State, Stepped, refused, answered, memory_refused, device_failed, refusal}
 use Rattle.machine.specs.Collecting.{is_at_slot, visited, collected}
 use Rattle.machine.specs.Rounds.{visits, round_of}
-use Rattle.machine.proofs.Visiting.{visit-changes}
-use Rattle.machine.proofs.Rounds.{rounds-repeat, visits-add, visits-split, layout-visits}
+use Rattle.machine.proofs.collector.Visits.{visit-changes}
+use Rattle.machine.proofs.collector.Rounds.{rounds-repeat, visits-add, visits-split, layout-visits}
 use Rattle.pmem.specs.Device.{Device}
 use Rattle.pmem.specs.declared.device.Pmem.{Ghosts}
 use Rattle.room.specs.Room.{Shows}

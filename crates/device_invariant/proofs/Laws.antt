@@ -12,25 +12,25 @@ use Rattle.base.specs.Actors.{committer}
 use Rattle.pmem.proofs.Changes.{flushed-shrinks, fenced-shrinks, failed-shrinks, stored-value}
 use Rattle.state_invariant.specs.Kept.{Origin, Keeps, KeepsHand}
 use Rattle.state_invariant.specs.Shown.{word_of, is_drawn_on, SlotsShow, SlotShows, ShowsAs, class_of_version}
-use Rattle.state_invariant.proofs.Covering.{keeps-covered}
-use Rattle.state_invariant.proofs.ShownCovering.{shows-covered}
-use Rattle.state_invariant.proofs.ShownSteps.{shows-hand, shows-failed}
-use Rattle.state_invariant.proofs.LinkedCovers.{links-covered}
-use Rattle.state_invariant.proofs.LinkedSteps.{links-failed, links-hand}
-use Rattle.state_invariant.proofs.Stepping.{keeps-with_hand, keeps-failed}
+use Rattle.state_invariant.proofs.covers.Kept.{keeps-covered}
+use Rattle.state_invariant.proofs.covers.Shown.{shows-covered}
+use Rattle.state_invariant.proofs.steps.Shown.{shows-hand, shows-failed}
+use Rattle.state_invariant.proofs.covers.Links.{links-covered}
+use Rattle.state_invariant.proofs.steps.Links.{links-failed, links-hand}
+use Rattle.state_invariant.proofs.steps.Kept.{keeps-with_hand, keeps-failed}
 use Rattle.device_invariant.specs.Slots.{NeverCounts, SlotHolds}
 use Rattle.device_invariant.specs.Sweeps.{IsSweeping}
 use Rattle.device_invariant.specs.Upholds.{HoldsState, Upholds}
 use Rattle.device_invariant.specs.Laws.{FlushesKeep, FencesKeep, FailuresKeep, FailingKeeps, ChoosingKeeps, LineKeeps, LinesKeep, OperationKeeps, CoveringKeeps, GapsDrop, ClearingKeeps, FillingKeeps, RefillingKeeps, one_tick_on}
 use Rattle.pmem.proofs.Changes.{each-weaken}
 use Rattle.device_invariant.proofs.Words.{within-slot}
-use Rattle.device_invariant.proofs.Shrinking.{ShrinksSlots}
-use Rattle.device_invariant.proofs.Ticking.{holds-flushed, holds-fenced, holds-fails, holds-failed, holds-chosen, holds-line, holds-lines}
-use Rattle.device_invariant.proofs.Recording.{holds-operation, holds-covered, operation-shrinks}
-use Rattle.device_invariant.proofs.Showing.{shows-shrink, shows-same}
-use Rattle.device_invariant.proofs.Filling.{holds-cleared, holds-filled, zero-facts}
-use Rattle.device_invariant.proofs.Storing.{others-stored}
-use Rattle.device_invariant.proofs.Linking.{links-shrink, links-but_one}
+use Rattle.device_invariant.proofs.moves.Shrinking.{ShrinksSlots}
+use Rattle.device_invariant.proofs.covers.Ticks.{holds-flushed, holds-fenced, holds-fails, holds-failed, holds-chosen, holds-line, holds-lines}
+use Rattle.device_invariant.proofs.covers.Record.{holds-operation, holds-covered, operation-shrinks}
+use Rattle.device_invariant.proofs.moves.Shown.{shows-shrink, shows-same}
+use Rattle.device_invariant.proofs.puts.Slots.{holds-cleared, holds-filled, zero-facts}
+use Rattle.device_invariant.proofs.moves.Stores.{others-stored}
+use Rattle.device_invariant.proofs.moves.Links.{links-shrink, links-but_one}
 
 -- ---- operations that store nothing
 

@@ -9,7 +9,7 @@ use Rattle.base.specs.declared.step.Reply.{Reply}
 use Rattle.base.specs.Commits.{Writes}
 use Rattle.base.specs.Records.{Record}
 use Rattle.machine.specs.Machine.{State, Hand, Stepped, refused, answered, memory_refused, device_failed, Run, final, next_state, state_drawn, state_ticked, state_ticked_on, next_stage, is_idle, taken_in_hand, writes_of, Cover, present, of_hand, covers_at, closing_gate, closed}
-use Rattle.machine.proofs.Visiting.{visit-changes}
+use Rattle.machine.proofs.collector.Visits.{visit-changes}
 use Rattle.file_laws.specs.Found.{IsNumbered, covers_within, MayRule}
 
 -- ---- what a step does to what may rule

@@ -15,7 +15,7 @@ use Rattle.base.specs.Stands.{has_timestamp}
 use Rattle.base.proofs.Layouts.{in-limits}
 use Rattle.base.proofs.Spelling.{get_or-range}
 use Rattle.machine.specs.Machine.{State, Cover, drawn_of, StandsAsOne, StandsUnder}
-use Rattle.machine.proofs.Opened.{whole-of, size-of}
+use Rattle.machine.proofs.openings.States.{whole-of, size-of}
 use Rattle.pmem.specs.Device.{Device, Entry, survivors_at, is_kept_by, IsAmong, LeftAt}
 use Rattle.file_laws.specs.Found.{IsFound, StandsFor}
 

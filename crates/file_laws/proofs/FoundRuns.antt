@@ -14,7 +14,7 @@ use Rattle.base.specs.Stands.{Stands}
 use Rattle.base.specs.Fresh.{fresh_image}
 use Rattle.machine.specs.Machine.{State, Run, final, Cover, present, covers_at, covers_closing, closed, drawn_of, StandsAsOne, StandsUnder, StandsAt, StandsWithin, StandsAlong, StandsClosing, StandsClosed}
 use Rattle.machine.specs.Openings.{OpensAs, StandsOpening, opened}
-use Rattle.machine.proofs.GapLists.{one_gap_list}
+use Rattle.machine.proofs.openings.GapLists.{one_gap_list}
 use Rattle.pmem.specs.Device.{Device, LeftAt, MayLeave, IsOrderly}
 use Rattle.pmem.specs.Words.{Continues, LeavesOnly, image_of}
 use Rattle.pmem.specs.declared.device.Pmem.{Ghosts}

@@ -14,7 +14,7 @@ use Rattle.base.proofs.Keys.{key_eq-true, key_eq-same}
 use Rattle.base.proofs.Search.{cases_below, first_below-none}
 use Rattle.recovery.specs.Slots.{is_free}
 use Rattle.recovery.specs.Read.{IsRead, rows_below}
-use Rattle.recovery.proofs.LiveRows.{rows-none, rows-live, rows-free}
+use Rattle.recovery.proofs.reads.LiveRows.{rows-none, rows-live, rows-free}
 use Rattle.image_check.specs.Checked.{Reports, last_at}
 
 -- a slot below the number has the row at the key

@@ -15,15 +15,15 @@ use Rattle.machine.specs.Openings.{OpensAs, StandsOpening}
 use Rattle.base.specs.Stands.{Stands}
 use Rattle.machine.specs.Laws.{StayOut}
 use Rattle.machine.specs.Lives.{World, IsWorld, Report, Opening, Opens, Fails, Life as PlainLife, LifeAs, Lives, numbers_of as state_numbers, FailsAs}
-use Rattle.machine.proofs.LivesLaws.{lives-stand}
-use Rattle.machine.proofs.Returns.{lives-lived}
-use Rattle.machine.proofs.Adding.{lives-add, lives-acknowledge}
+use Rattle.machine.proofs.lives.Laws.{lives-stand}
+use Rattle.machine.proofs.lives.Lost.{lives-lived}
+use Rattle.machine.proofs.lives.Replies.{lives-add, lives-acknowledge}
 use Rattle.pmem.specs.Device.{Device, MayLeave, IsOrderly}
 use Rattle.pmem.specs.Words.{LeavesOnly, IsAtRest, image_of}
 use Rattle.pmem.proofs.AtRest.{left_at_rest}
 use Rattle.recovery.specs.Opened.{IsRefusal}
 use Rattle.recovery.specs.Read.{TellsLogFault}
-use Rattle.recovery.proofs.Beginning.{fault-log}
+use Rattle.recovery.proofs.openings.Faults.{fault-log}
 use Rattle.image_check.specs.Checked.{ListsTables}
 use Rattle.lives.specs.declared.life.Life.{Life}
 use Rattle.lives.specs.declared.life.LifeReport.{LifeReport}

@@ -13,7 +13,7 @@ use Rattle.pmem.proofs.Images.{left_now}
 use Rattle.pmem_model.specs.Sim.{device_of}
 use Rattle.pmem_model.specs.Orderly.{orderly_of}
 use Rattle.pmem_model.specs.declared.sim.SimPmem.{SimPmem}
-use Rattle.recovery.proofs.Beginning.{log-first}
+use Rattle.recovery.proofs.openings.Faults.{log-first}
 use Rattle.room.specs.Closing.{IsClosingRefusal}
 use Rattle.lives.specs.declared.life.Numbers.{Numbers as ToldNumbers}
 use Rattle.lives.specs.Plain.{numbers_of, closed_of}

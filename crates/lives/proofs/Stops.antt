@@ -22,7 +22,7 @@ use Rattle.pmem_model.specs.declared.choice.Choice.{Choice}
 use Rattle.pmem_model.specs.Chosen.{IsChosen}
 use Rattle.pmem_model.specs.Sim.{IsWithinLimit}
 use Rattle.recovery.specs.Opened.{IsRefusal, MakesOpening}
-use Rattle.recovery.proofs.Beginning.{log-first}
+use Rattle.recovery.proofs.openings.Faults.{log-first}
 use Rattle.room.specs.Closing.{IsClosingRefusal}
 use Rattle.room.specs.Committing.{Shows}
 use Rattle.room.specs.Steps.{StepsTo}

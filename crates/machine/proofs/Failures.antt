@@ -15,7 +15,7 @@ use Rattle.base.specs.Search.{some_if}
 use Rattle.machine.specs.Machine.{State, Hand, Stepped, refused, answered, memory_refused, device_failed, refusal, conflicts, begins, free_session, is_absent, is_misplaced, is_too_long, overfills, lacks_slot, draws, chooses, is_idle, writes_of, next_stage, taken_in_hand, next_state, state_drawn, state_ticked, state_ticked_on}
 use Rattle.base.specs.Replies.{is_failure}
 use Rattle.machine.proofs.Runs.{IsAnswer, Answers-answer}
-use Rattle.machine.proofs.Visiting.{visit-changes}
+use Rattle.machine.proofs.collector.Visits.{visit-changes}
 
 -- ---- no refusal of a step that is not made reports one
 

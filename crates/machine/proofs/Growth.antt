@@ -16,7 +16,7 @@ use Rattle.machine.specs.Machine.{State, Session, Active, Drew, WroteNothing, Ha
 use Rattle.machine.specs.Laws.{drawn_by, drawn_in, RiseBetween}
 use Rattle.machine.specs.Collecting.{is_at_slot, visited}
 use Rattle.machine.proofs.Runs.{Answers-answer}
-use Rattle.machine.proofs.Visiting.{visit-changes}
+use Rattle.machine.proofs.collector.Visits.{visit-changes}
 
 -- Refusals
 

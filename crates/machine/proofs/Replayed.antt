@@ -10,7 +10,7 @@ use Rattle.base.specs.declared.step.Reply.TheVariants.{Rows, Refused}
 use Rattle.base.specs.Commits.{in_range}
 use Rattle.machine.specs.Machine.{State, seen_by, refusal, next_state, Answers, Stepped, refused, answered, memory_refused, device_failed, Run, final}
 use Rattle.machine.specs.Replay.{answer, scanned, reply_on, state_on, reply_of, state_of, replies, states, end}
-use Rattle.machine.proofs.Scanned.{scan-lists, one-listing}
+use Rattle.machine.proofs.reads.Scans.{scan-lists, one-listing}
 
 accepted : (q : State) (step : Step) → refusal q step ≡ None → Stepped q step (answer q step) (next_state q step)
 accepted q Begin e = answered e refl refl

@@ -34,8 +34,8 @@ use Rattle.room.specs.Committing.{ShowsIn}
 use Rattle.room.specs.Steps.{ShowsAs, ShowsSome, ShowsSomeIn, StepsToIn, reports_failure}
 use Rattle.room.specs.Room.{Leads}
 use Rattle.room.proofs.Rooms.{step-on, shows-some}
-use Rattle.room.proofs.Staying.{session-steps}
-use Rattle.room.proofs.Stamps.{sessions-shown}
+use Rattle.room.proofs.covers.BatchStays.{session-steps}
+use Rattle.room.proofs.closes.Stamps.{sessions-shown}
 
 -- ---- what holds before it
 

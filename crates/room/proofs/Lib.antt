@@ -1,14 +1,7 @@
-pub mod Staying
-pub mod Choices
+pub mod covers
 pub mod Rooms
-pub mod Begun
-pub mod LiveIndex
+pub mod openings
 pub mod Runs
-pub mod CloseParts
-pub mod Ticked
-pub mod Stamps
-pub mod ClosingCycle
-pub mod Closes
-pub mod Advancing
+pub mod closes
 pub mod Untouched
 pub mod Calls

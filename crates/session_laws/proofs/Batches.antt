@@ -15,8 +15,8 @@ use Rattle.base.proofs.Lists.{rising-rest, filter-all}
 use Rattle.state_invariant.specs.Kept.{Origin, Keeps, KeepsHand, commit_at, commits_of_life, covered_since, version_by}
 use Rattle.state_invariant.proofs.Lists.{find-filter, find-dropped, rising-above, rising-filter}
 use Rattle.state_invariant.proofs.Commits.{commit_at-none, commit_at-drawn, timestamp-all, writer_from, writer-append, writer-none}
-use Rattle.state_invariant.proofs.Choosing.{bounds, found-later, above-each, all-by_found}
-use Rattle.state_invariant.proofs.Covering.{no_gap-above, batch-drawn, since-now}
+use Rattle.state_invariant.proofs.covers.Chosen.{bounds, found-later, above-each, all-by_found}
+use Rattle.state_invariant.proofs.covers.Kept.{no_gap-above, batch-drawn, since-now}
 use Rattle.session_laws.specs.Sees.{last_on}
 use Rattle.session_laws.specs.Laws.{is_covered_by, CoversByRecord, BatchesCover}
 use Rattle.session_laws.proofs.Conflicts.{last_on-append, option_or-assoc}

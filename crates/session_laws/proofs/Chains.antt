@@ -17,10 +17,10 @@ use Rattle.state_invariant.specs.Shown.{word_of, Spells, counts_at, Newest, Repl
 use Rattle.state_invariant.specs.Links.{last_row, by_commit, Links, HoldsNewest}
 use Rattle.state_invariant.proofs.Commits.{committed-bounds, uncommitted-above}
 use Rattle.state_invariant.proofs.Records.{above-gaps}
-use Rattle.state_invariant.proofs.Opening.{passes-last_writer}
+use Rattle.state_invariant.proofs.openings.Kept.{passes-last_writer}
 use Rattle.state_invariant.proofs.Log.{IsReplaced, stays-or_replaced, place-within, written-place, at-fact, one-place, writer-place}
 use Rattle.state_invariant.proofs.LastRows.{row-place, row-there}
-use Rattle.state_invariant.proofs.Reading.{above-origin, counts-placed, drawn-facts, slot-seen-at, can-be-read}
+use Rattle.state_invariant.proofs.reads.Tables.{above-origin, counts-placed, drawn-facts, slot-seen-at, can-be-read}
 use Rattle.snapshot.specs.Snapshots.{Seen, covers}
 use Rattle.snapshot.specs.Walks.{IsOfKey, IsSeenAt, IsLinked, is_counted, Leads, arrives, passes}
 use Rattle.session_laws.specs.Sees.{SeesBegins, CoversFreed}

@@ -17,10 +17,10 @@ use Rattle.state_invariant.specs.Shown.{word_of, counts_at, ReadsAs, SlotsShow}
 use Rattle.state_invariant.specs.Links.{Links}
 use Rattle.state_invariant.proofs.Commits.{committed-bounds, uncommitted-gap}
 use Rattle.state_invariant.proofs.Records.{above-gaps}
-use Rattle.state_invariant.proofs.Agreeing.{live-agrees}
+use Rattle.state_invariant.proofs.reads.SweptGaps.{live-agrees}
 use Rattle.device_invariant.specs.Upholds.{Upholds}
 use Rattle.device_invariant.proofs.Words.{word-within}
-use Rattle.device_invariant.proofs.Reading.{devices-read, ruled-image, shows-image, links-image}
+use Rattle.device_invariant.proofs.reads.Images.{devices-read, ruled-image, shows-image, links-image}
 use Rattle.snapshot.specs.Snapshots.{Seen, covers}
 use Rattle.session_laws.specs.Sees.{Sees, IsBegin, SeesBegins, ReadsBy}
 use Rattle.session_laws.specs.Laws.{Reads}

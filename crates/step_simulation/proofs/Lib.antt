@@ -1,11 +1,8 @@
 pub mod Runs
 pub mod Standing
-mod Drawing
+mod draws
 pub mod StepsWithoutStores
 pub mod Leading
-mod Stamped
-pub mod Stamping
-mod Filling
-pub mod Putting
+pub mod stamps
+pub mod puts
 pub mod Counting
-pub mod Operating

@@ -15,18 +15,18 @@ use Rattle.state_invariant.specs.Kept.{Origin, Keeps}
 use Rattle.state_invariant.specs.Links.{Links}
 use Rattle.state_invariant.specs.Shown.{SlotsShow}
 use Rattle.state_invariant.specs.Laws.{stores, fills}
-use Rattle.state_invariant.proofs.Writing.{own-at}
-use Rattle.state_invariant.proofs.Stepping.{keeps-step}
-use Rattle.state_invariant.proofs.ShownSteps.{shows-step}
-use Rattle.state_invariant.proofs.LinkedSteps.{links-step}
+use Rattle.state_invariant.proofs.sessions.Steps.{own-at}
+use Rattle.state_invariant.proofs.steps.Kept.{keeps-step}
+use Rattle.state_invariant.proofs.steps.Shown.{shows-step}
+use Rattle.state_invariant.proofs.steps.Links.{links-step}
 use Rattle.state_invariant.proofs.Lookups.{held-by}
 use Rattle.device_invariant.specs.Upholds.{Upholds}
 use Rattle.device_invariant.specs.Laws.{ChangesHolder, stays, given_back}
-use Rattle.device_invariant.proofs.Holders.{holders-keep}
+use Rattle.device_invariant.proofs.moves.Holders.{holders-keep}
 use Rattle.step_simulation.specs.Moves.{is_quiet}
 use Rattle.step_simulation.specs.Laws.{RefusalsLead, QuietStepsLead}
 use Rattle.step_simulation.proofs.Standing.{upheld-within}
-use Rattle.step_simulation.proofs.Drawing.{holds-drawn}
+use Rattle.step_simulation.proofs.draws.Leads.{holds-drawn}
 
 pub refusals-lead : RefusalsLead
 refusals-lead o q device orderly u = record { upholds = u; images = leaves_refl device _ orderly (upheld-within o q q device u) }

@@ -1,4 +1,4 @@
-use Rattle.state_invariant.proofs.Choosing.{keeps-chosen}
+use Rattle.state_invariant.proofs.covers.Chosen.{keeps-chosen}
 use Rattle.cycle_simulation.proofs.law.batches_are_chosen.Goals as goal
 
 pub returns : goal.returns

@@ -1,4 +1,4 @@
-use Rattle.cycle_simulation.proofs.Ticks.{choosing-ticks}
+use Rattle.cycle_simulation.proofs.covers.Ticks.{choosing-ticks}
 use Rattle.cycle_simulation.proofs.law.choosing_ticks.Goals as goal
 
 pub returns : goal.returns

@@ -1,4 +1,4 @@
-use Rattle.cycle_simulation.proofs.Lasts.{closing-writes}
+use Rattle.cycle_simulation.proofs.closes.LastPart.{closing-writes}
 use Rattle.cycle_simulation.proofs.law.closing_writes.Goals as goal
 
 pub returns : goal.returns

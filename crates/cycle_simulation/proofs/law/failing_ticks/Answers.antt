@@ -1,4 +1,4 @@
-use Rattle.cycle_simulation.proofs.Ticks.{failing-ticks}
+use Rattle.cycle_simulation.proofs.covers.Ticks.{failing-ticks}
 use Rattle.cycle_simulation.proofs.law.failing_ticks.Goals as goal
 
 pub returns : goal.returns

@@ -1,4 +1,4 @@
-use Rattle.cycle_simulation.proofs.Ticks.{fence-ticks}
+use Rattle.cycle_simulation.proofs.covers.Ticks.{fence-ticks}
 use Rattle.cycle_simulation.proofs.law.fence_ticks.Goals as goal
 
 pub returns : goal.returns

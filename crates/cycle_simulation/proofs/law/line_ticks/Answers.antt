@@ -1,4 +1,4 @@
-use Rattle.cycle_simulation.proofs.Ticks.{line-ticks}
+use Rattle.cycle_simulation.proofs.covers.Ticks.{line-ticks}
 use Rattle.cycle_simulation.proofs.law.line_ticks.Goals as goal
 
 pub returns : goal.returns

@@ -1,4 +1,4 @@
-use Rattle.cycle_simulation.proofs.Staying.{lines-stay}
+use Rattle.cycle_simulation.proofs.covers.LinesStay.{lines-stay}
 use Rattle.cycle_simulation.proofs.law.lines_stay.Goals as goal
 
 pub returns : goal.returns

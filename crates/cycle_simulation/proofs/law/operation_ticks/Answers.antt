@@ -1,4 +1,4 @@
-use Rattle.cycle_simulation.proofs.Ticks.{operation-ticks}
+use Rattle.cycle_simulation.proofs.covers.Ticks.{operation-ticks}
 use Rattle.cycle_simulation.proofs.law.operation_ticks.Goals as goal
 
 pub returns : goal.returns

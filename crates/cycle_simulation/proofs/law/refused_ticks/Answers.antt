@@ -1,4 +1,4 @@
-use Rattle.cycle_simulation.proofs.Ticks.{refused-ticks}
+use Rattle.cycle_simulation.proofs.covers.Ticks.{refused-ticks}
 use Rattle.cycle_simulation.proofs.law.refused_ticks.Goals as goal
 
 pub returns : goal.returns

@@ -1,4 +1,4 @@
-use Rattle.recovery.proofs.WhatIsRead.{memory-read}
+use Rattle.recovery.proofs.reads.Images.{memory-read}
 use Rattle.image_check.proofs.Shown.{reports}
 use Rattle.image_check.proofs.checking.check.Goals as goal
 

@@ -1,5 +1,5 @@
-use Rattle.machine.proofs.Cycles.{cycle-whole}
-use Rattle.machine.proofs.Staying.{others-keep}
+use Rattle.machine.proofs.covers.Cycles.{cycle-whole}
+use Rattle.machine.proofs.covers.BatchStays.{others-keep}
 use Rattle.machine.proofs.law.cycles_are_whole.Goals as goal
 
 pub returns-clause-whole : goal.returns-clause-whole

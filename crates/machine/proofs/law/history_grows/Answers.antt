@@ -1,5 +1,5 @@
 use Rattle.machine.proofs.Growth.{extends-run, acknowledged-stays}
-use Rattle.machine.proofs.Coverings.{covered-kept}
+use Rattle.machine.proofs.covers.Ticks.{covered-kept}
 use Rattle.machine.proofs.law.history_grows.Goals as goal
 
 pub returns : goal.returns

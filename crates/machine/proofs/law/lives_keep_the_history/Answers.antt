@@ -1,6 +1,6 @@
-use Rattle.machine.proofs.LivesLaws.{lives-stand, lives-lose, close-told}
-use Rattle.machine.proofs.Returns.{lives-lived}
-use Rattle.machine.proofs.Adding.{lives-add, lives-acknowledge}
+use Rattle.machine.proofs.lives.Laws.{lives-stand, lives-lose, close-told}
+use Rattle.machine.proofs.lives.Lost.{lives-lived}
+use Rattle.machine.proofs.lives.Replies.{lives-add, lives-acknowledge}
 use Rattle.machine.proofs.law.lives_keep_the_history.Goals as goal
 
 pub returns : goal.returns

@@ -1,4 +1,4 @@
-use Rattle.machine.proofs.Returns.{lives-lived}
+use Rattle.machine.proofs.lives.Lost.{lives-lived}
 use Rattle.machine.proofs.law.lost_commits_never_return.Goals as goal
 
 pub returns : goal.returns

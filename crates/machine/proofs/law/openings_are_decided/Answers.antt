@@ -2,8 +2,8 @@ use Rattle.std.proofs.Common.{List, ap, ◌∙◌, sym}
 use Rattle.base.specs.declared.gap.Gap.{Gap}
 use Rattle.base.specs.Images.{ruling}
 use Rattle.machine.specs.Openings.{opened}
-use Rattle.machine.proofs.GapLists.{opened-gaps, one_gap_list}
-use Rattle.machine.proofs.Updated.{updated-open}
+use Rattle.machine.proofs.openings.GapLists.{opened-gaps, one_gap_list}
+use Rattle.machine.proofs.openings.Updates.{updated-open}
 use Rattle.machine.proofs.law.openings_are_decided.Goals as goal
 
 pub returns : goal.returns

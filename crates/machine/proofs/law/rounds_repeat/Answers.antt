@@ -1,4 +1,4 @@
-use Rattle.machine.proofs.Rounds.{visits-follow, rounds-repeat}
+use Rattle.machine.proofs.collector.Rounds.{visits-follow, rounds-repeat}
 use Rattle.machine.proofs.law.rounds_repeat.Goals as goal
 
 pub returns-clause-follow : goal.returns-clause-follow

@@ -1,4 +1,4 @@
-use Rattle.machine.proofs.Snapshots.{sees-opened, sees-kept, sees-the-same}
+use Rattle.machine.proofs.reads.Snapshots.{sees-opened, sees-kept, sees-the-same}
 use Rattle.machine.proofs.law.snapshots_stay.Goals as goal
 
 pub returns : goal.returns

@@ -1,5 +1,5 @@
 use Rattle.machine.proofs.Growth.{run-rise}
-use Rattle.machine.proofs.Returns.{lives-lived}
+use Rattle.machine.proofs.lives.Lost.{lives-lived}
 use Rattle.machine.proofs.law.timestamps_are_drawn_once.Goals as goal
 
 pub returns : goal.returns

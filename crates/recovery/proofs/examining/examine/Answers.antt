@@ -3,15 +3,15 @@ use Rattle.base.specs.Layout.{Layout}
 use Rattle.base.specs.Records.{Record}
 use Rattle.pmem.specs.Words.{image_of}
 use Rattle.log_area.proofs.AtRest.{fits_image}
-use Rattle.recovery.proofs.SweptSlots.{ruled-size}
-use Rattle.recovery.proofs.Lives.{refuses-log, may-rule, formed-parts, under, window-small, refuses-slots, refuses-limit, refuses-memory, examined}
-use Rattle.recovery.proofs.WhatIsRead.{tells-later}
+use Rattle.recovery.proofs.sweeps.Slots.{ruled-size}
+use Rattle.recovery.proofs.openings.Devices.{refuses-log, may-rule, formed-parts, under, window-small, refuses-slots, refuses-limit, refuses-memory, examined}
+use Rattle.recovery.proofs.reads.Images.{tells-later}
 use Rattle.recovery.specs.Opened.{Examined}
 use Rattle.recovery.specs.Sweeping.{AreHits}
-use Rattle.recovery.proofs.Readings.{readings-size}
+use Rattle.recovery.proofs.reads.Slots.{readings-size}
 use Rattle.recovery.specs.declared.holding.Held.{Held}
 use Rattle.recovery.specs.Held.{HavePlaces}
-use Rattle.recovery.proofs.Hits.{are-hits}
+use Rattle.recovery.proofs.sweeps.Hits.{are-hits}
 use Rattle.recovery.proofs.examining.examine.Goals as goal
 
 pub returns-in-Err-clause-fault : goal.returns-in-Err-clause-fault

@@ -4,7 +4,7 @@ use Rattle.base.specs.Images.{Image}
 use Rattle.base.specs.Fresh.{StandsEmpty}
 use Rattle.base.proofs.Fresh.{fresh-stands}
 use Rattle.pmem.proofs.Traces.{words-run}
-use Rattle.recovery.proofs.Fresh.{image-fresh, format-images, format-images_stopped, format-settled, format-made, format-failure}
+use Rattle.recovery.proofs.formats.Stages.{image-fresh, format-images, format-images_stopped, format-settled, format-made, format-failure}
 use Rattle.recovery.proofs.formatting.format.Goals as goal
 
 pub returns-in-Ok-clause-made : goal.returns-in-Ok-clause-made

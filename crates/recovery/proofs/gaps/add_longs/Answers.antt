@@ -1,7 +1,7 @@
 use Rattle.std.proofs.Common.{refl, ◌≡◌, ◌∙◌, ◌+◌, ◌<◌, ℕ, List, length, get_or, ap, subst, sym, arith}
 use Rattle.base.specs.declared.gap.Gap.{Gap}
 use Rattle.base.proofs.Results.{on_err}
-use Rattle.recovery.proofs.Pieces.{Added, long-added, long-full, long-passed, all-added}
+use Rattle.recovery.proofs.openings.Gaps.{Added, long-added, long-full, long-passed, all-added}
 use Rattle.recovery.proofs.gaps.add_longs.Goals as goal
 use Rattle.recovery.proofs.gaps.add_longs.Goals.{then-last-long+then-long-below+in_ok-add, else-last-long, else-last-long-via-then-last-long+else-long-below, else-last-long-via-else-last-long}
 

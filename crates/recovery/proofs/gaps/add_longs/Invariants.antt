@@ -1,4 +1,4 @@
-use Rattle.recovery.proofs.Pieces.{Added}
+use Rattle.recovery.proofs.openings.Gaps.{Added}
 use Rattle.recovery.proofs.gaps.add_longs.Given as goal
 
 abbrev pub invariant-loop-long : goal.invariant-loop-long

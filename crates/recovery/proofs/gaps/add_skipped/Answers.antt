@@ -1,6 +1,6 @@
 use Rattle.std.proofs.Common.{refl, ◌+◌, ◌-◌, ap, arith, ℕ}
 use Rattle.base.proofs.Results.{on_err}
-use Rattle.recovery.proofs.Pieces.{skip-added, skip-full, none-skipped}
+use Rattle.recovery.proofs.openings.Gaps.{skip-added, skip-full, none-skipped}
 use Rattle.recovery.proofs.gaps.add_skipped.Goals as goal
 
 pub returns-in_err-add-clause-err : goal.returns-in_err-add-clause-err

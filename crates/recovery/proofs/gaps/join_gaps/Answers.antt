@@ -3,7 +3,7 @@ use Rattle.base.specs.declared.gap.Gap.{Gap}
 use Rattle.base.specs.Records.{no_gap, with_gap}
 use Rattle.base.proofs.Results.{on_err}
 use Rattle.recovery.specs.Gaps.{HasUpTo, HasLongsBetween}
-use Rattle.recovery.proofs.Pieces.{Joined, none-joined, own-above, own-between, own-goes, own-joined, own-full, all-above, all-between}
+use Rattle.recovery.proofs.openings.Gaps.{Joined, none-joined, own-above, own-between, own-goes, own-joined, own-full, all-above, all-between}
 use Rattle.recovery.proofs.gaps.join_gaps.Goals as goal
 
 pub loop-gap-init : goal.loop-gap-init

@@ -1,4 +1,4 @@
-use Rattle.recovery.proofs.Pieces.{Joined}
+use Rattle.recovery.proofs.openings.Gaps.{Joined}
 use Rattle.recovery.proofs.gaps.join_gaps.Given as goal
 
 abbrev pub invariant-loop-gap : goal.invariant-loop-gap

@@ -1,6 +1,6 @@
 use Rattle.std.proofs.Common.{◌∙◌, sym, ap, ℕ, List, nat_eq}
 use Rattle.std.specs.List.{list_any}
-use Rattle.recovery.proofs.Pieces.{own-lies-in, long-lies, skipped-lies}
+use Rattle.recovery.proofs.openings.Gaps.{own-lies-in, long-lies, skipped-lies}
 use Rattle.recovery.proofs.gaps.lies_in_gap.Goals as goal
 use Rattle.recovery.proofs.gaps.lies_in_gap.Goals.{then-is_in_own_gap, else-is_in_own_gap}
 

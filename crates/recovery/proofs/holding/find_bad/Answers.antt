@@ -4,8 +4,8 @@ use Rattle.std.specs.BTreeSet.{contains}
 use Rattle.std.specs.BTreeMap.{is_at}
 use Rattle.base.specs.declared.key.Key.{Key}
 use Rattle.recovery.specs.Slots.{bad_below, key_cmp}
-use Rattle.recovery.proofs.Visits.{keys-none, bad-none, bad-more, slots-visit}
-use Rattle.recovery.proofs.Readings.{found-at}
+use Rattle.recovery.proofs.reads.Visits.{keys-none, bad-none, bad-more, slots-visit}
+use Rattle.recovery.proofs.reads.Slots.{found-at}
 use Rattle.recovery.proofs.holding.find_bad.Goals as goal
 
 pub loop-slot-init : goal.loop-slot-init

@@ -1,8 +1,8 @@
 use Rattle.std.proofs.Common.{◌<◌, ◌++◌, ◌∷◌, [], not, sym, ◌∙◌, ap, length, arith}
-use Rattle.recovery.proofs.Visits.{free-none, free-more}
-use Rattle.recovery.proofs.Held.{free-found}
-use Rattle.recovery.proofs.Readings.{found-at}
-use Rattle.recovery.proofs.LiveRows.{good-at}
+use Rattle.recovery.proofs.reads.Visits.{free-none, free-more}
+use Rattle.recovery.proofs.reads.HeldSlots.{free-found}
+use Rattle.recovery.proofs.reads.Slots.{found-at}
+use Rattle.recovery.proofs.reads.LiveRows.{good-at}
 use Rattle.recovery.proofs.holding.free_slots.Goals as goal
 
 pub loop-slot-init : goal.loop-slot-init

@@ -3,8 +3,8 @@ use Rattle.std.specs.BTreeMap.{IsFromIterResult}
 use Rattle.recovery.specs.declared.rows.LiveSlot.{LiveSlot}
 use Rattle.recovery.specs.Held.{placed}
 use Rattle.recovery.specs.Slots.{bad_below, key_cmp}
-use Rattle.recovery.proofs.Visits.{slots-memory}
-use Rattle.recovery.proofs.Held.{none-bad, are-held}
+use Rattle.recovery.proofs.reads.Visits.{slots-memory}
+use Rattle.recovery.proofs.reads.HeldSlots.{none-bad, are-held}
 use Rattle.recovery.proofs.holding.held_slots.Goals as goal
 use Rattle.recovery.proofs.holding.held_slots.Goals.{then-len+in-Ok-find_bad, else-len+else-not-are_fit}
 

@@ -4,7 +4,7 @@ use Rattle.std.proofs.lemmas.List.{take_all}
 use Rattle.base.specs.declared.key.Key.{Key}
 use Rattle.recovery.specs.Held.{placed}
 use Rattle.recovery.specs.Slots.{key_cmp}
-use Rattle.recovery.proofs.Held.{placed-step}
+use Rattle.recovery.proofs.reads.HeldSlots.{placed-step}
 use Rattle.recovery.proofs.holding.places_of.Goals as goal
 
 pub loop-place-preserved : goal.loop-place-preserved

@@ -5,7 +5,7 @@ use Rattle.std.proofs.lemmas.Bool.{not-true, not-false}
 use Rattle.base.specs.declared.key.Key.{Key}
 use Rattle.base.specs.declared.fault.Fault.TheVariants.{Damaged}
 use Rattle.recovery.specs.Slots.{key_cmp}
-use Rattle.recovery.proofs.Visits.{found-free, found-live, found-bad, keys-free, keys-live, second-seen}
+use Rattle.recovery.proofs.reads.Visits.{found-free, found-live, found-bad, keys-free, keys-live, second-seen}
 use Rattle.recovery.proofs.holding.visit.Goals as goal
 
 pub returns-in-Free-clause-keys : goal.returns-in-Free-clause-keys

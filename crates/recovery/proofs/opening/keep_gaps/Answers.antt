@@ -3,8 +3,8 @@ use Rattle.pmem.specs.Trace.{Runs, StopsWithin}
 use Rattle.pmem.specs.Words.{value_of, image_of}
 use Rattle.pmem.proofs.Traces.{runs_none}
 use Rattle.recovery.specs.Sweeping.{whole_sweep}
-use Rattle.recovery.proofs.SweptSlots.{few-enough, many-gaps}
-use Rattle.recovery.proofs.Hits.{where-many}
+use Rattle.recovery.proofs.sweeps.Slots.{few-enough, many-gaps}
+use Rattle.recovery.proofs.sweeps.Hits.{where-many}
 use Rattle.recovery.proofs.opening.keep_gaps.Goals as goal
 
 pub sweep-requires-clause-hits : goal.sweep-requires-clause-hits

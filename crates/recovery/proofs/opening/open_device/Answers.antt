@@ -11,8 +11,8 @@ use Rattle.recovery.specs.Read.{TellsLogFault}
 use Rattle.recovery.specs.declared.rows.LiveSlot.{LiveSlot}
 use Rattle.recovery.specs.declared.opening.OpenedImage.{OpenedImage}
 use Rattle.recovery.specs.Opened.{Examined, IsCutShort, IsRefusal}
-use Rattle.recovery.proofs.Lives.{images-refused, version-refused, refusal-examined, refusal-device}
-use Rattle.recovery.proofs.WhatIsRead.{tells-examined}
+use Rattle.recovery.proofs.openings.Devices.{images-refused, version-refused, refusal-examined, refusal-device}
+use Rattle.recovery.proofs.reads.Images.{tells-examined}
 use Rattle.recovery.proofs.opening.open_device.Goals as goal
 
 pub returns-in-Err-clause-fault : goal.returns-in-Err-clause-fault

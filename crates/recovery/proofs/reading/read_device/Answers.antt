@@ -1,9 +1,9 @@
 use Rattle.std.proofs.Common.{length, ◌∙◌, ap}
 use Rattle.pmem.specs.Words.{image_of}
-use Rattle.recovery.proofs.SweptSlots.{ruled-size}
-use Rattle.recovery.proofs.Lives.{under}
-use Rattle.recovery.proofs.WhatIsRead.{refusal-log, refusal-slots, refusal-memory, is-read}
-use Rattle.recovery.proofs.Readings.{readings-size}
+use Rattle.recovery.proofs.sweeps.Slots.{ruled-size}
+use Rattle.recovery.proofs.openings.Devices.{under}
+use Rattle.recovery.proofs.reads.Images.{refusal-log, refusal-slots, refusal-memory, is-read}
+use Rattle.recovery.proofs.reads.Slots.{readings-size}
 use Rattle.recovery.proofs.reading.read_device.Goals as goal
 
 pub returns-in-Err-clause-fault : goal.returns-in-Err-clause-fault

@@ -1,7 +1,7 @@
 use Rattle.std.proofs.Common.{◌∙◌, map, sym, ap}
 use Rattle.std.proofs.lemmas.List.{take_all}
 use Rattle.pmem.specs.Words.{image_of}
-use Rattle.recovery.proofs.Held.{row-in, slot-within, is-read, row-read, rows-of}
+use Rattle.recovery.proofs.reads.HeldSlots.{row-in, slot-within, is-read, row-read, rows-of}
 use Rattle.recovery.proofs.rows.live_rows.Goals as goal
 
 pub read-requires-clause-slot : goal.read-requires-clause-slot

@@ -1,7 +1,7 @@
 use Rattle.std.proofs.Common.{◌≡◌, map}
 use Rattle.std.specs.Prelude.{take}
 use Rattle.pmem.specs.Words.{image_of}
-use Rattle.recovery.proofs.Held.{row-in}
+use Rattle.recovery.proofs.reads.HeldSlots.{row-in}
 use Rattle.recovery.proofs.rows.live_rows.Given as goal
 
 abbrev pub invariant-loop-found : goal.invariant-loop-found

@@ -1,9 +1,9 @@
 use Rattle.std.proofs.Common.{◌<◌, ◌+◌, Vec, Global, List, [], ◌∷◌, ◌++◌, refl, sym, ◌∙◌, ap, subst, length, arith}
 use Rattle.recovery.specs.declared.rows.LiveSlot.{LiveSlot}
 use Rattle.recovery.specs.Held.{HasEach}
-use Rattle.recovery.proofs.LiveRows.{live-none, live-live, live-free, good-at}
-use Rattle.recovery.proofs.Readings.{found-at, begin-at, live-here, free-here, live-is}
-use Rattle.recovery.proofs.Held.{each-none, each-more, each-skip}
+use Rattle.recovery.proofs.reads.LiveRows.{live-none, live-live, live-free, good-at}
+use Rattle.recovery.proofs.reads.Slots.{found-at, begin-at, live-here, free-here, live-is}
+use Rattle.recovery.proofs.reads.HeldSlots.{each-none, each-more, each-skip}
 use Rattle.recovery.proofs.rows.live_slots.Goals as goal
 use Rattle.recovery.proofs.rows.live_slots.Goals.{in-Live+in_ok-push, in_default}
 

@@ -1,6 +1,6 @@
 use Rattle.std.proofs.Common.{inl, inr, sym, ◌∙◌, arith}
-use Rattle.recovery.proofs.Visits.{look-ahead, look-free, look-live, look-bad}
-use Rattle.recovery.proofs.Readings.{reading-is}
+use Rattle.recovery.proofs.reads.Visits.{look-ahead, look-free, look-live, look-bad}
+use Rattle.recovery.proofs.reads.Slots.{reading-is}
 use Rattle.recovery.proofs.slots.look.Goals as goal
 use Rattle.recovery.proofs.slots.look.Goals.{then-begin-dirty-via-then-begin-dirty, then-begin-dirty-via-else-begin-dirty+then-end-dirty}
 

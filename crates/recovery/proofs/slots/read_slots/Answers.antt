@@ -7,7 +7,7 @@ use Rattle.rayon.specs.Numbers.{nat_range}
 use Rattle.rayon.proofs.ListFacts.{IfOk-then}
 use Rattle.rayon.proofs.ToStd.{nat_range-All}
 use Rattle.recovery.specs.Slots.{IsUnder, reading_in}
-use Rattle.recovery.proofs.Readings.{readings-are}
+use Rattle.recovery.proofs.reads.Slots.{readings-are}
 use Rattle.recovery.proofs.slots.read_slots.Goals as goal
 
 pub collect-requires-clause-ready : goal.collect-requires-clause-ready

@@ -5,9 +5,9 @@ use Rattle.pmem.specs.Trace.{fence_op, Runs}
 use Rattle.pmem.specs.Words.{value_of, image_of}
 use Rattle.pmem.proofs.Traces.{runs_none, runs-more, stops-one, stops-then, words-run}
 use Rattle.recovery.specs.Sweeping.{sweep_below}
-use Rattle.recovery.proofs.SweptSlots.{ruled-size, hit-is, swept-hit, swept-unhit, stops-hit}
-use Rattle.recovery.proofs.Lives.{may-rule}
-use Rattle.recovery.proofs.Hits.{hits-size, hit-at}
+use Rattle.recovery.proofs.sweeps.Slots.{ruled-size, hit-is, swept-hit, swept-unhit, stops-hit}
+use Rattle.recovery.proofs.openings.Devices.{may-rule}
+use Rattle.recovery.proofs.sweeps.Hits.{hits-size, hit-at}
 use Rattle.recovery.proofs.sweeping.sweep.Goals as goal
 use Rattle.recovery.proofs.sweeping.sweep.Goals.{then-hits-slot+in_ok-sweep_slot, else-hits-slot}
 

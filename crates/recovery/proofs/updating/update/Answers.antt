@@ -7,7 +7,7 @@ use Rattle.pmem.specs.Persisting.{set_operations}
 use Rattle.pmem.specs.Trace.{Operation, Runs, StopsWithin}
 use Rattle.pmem.specs.Words.{image_of}
 use Rattle.pmem.proofs.Traces.{runs_none}
-use Rattle.recovery.proofs.Updates.{opened-size}
+use Rattle.recovery.proofs.openings.Updates.{opened-size}
 use Rattle.recovery.proofs.updating.update.Goals as goal
 
 -- what is done where the image has this layout

@@ -2,8 +2,8 @@ use Rattle.std.proofs.Common.{◌≡◌, ◌<◌, ◌^◌, ℕ, List, map, Bool,
 use Rattle.base.specs.declared.fault.Fault.TheVariants.{OutOfMemory}
 use Rattle.pmem.specs.Words.{image_of}
 use Rattle.recovery.specs.Slots.{free_below}
-use Rattle.recovery.proofs.Lives.{is, images-refused, refusal-examined, refusal-device}
-use Rattle.recovery.proofs.WhatIsRead.{tells-examined}
+use Rattle.recovery.proofs.openings.Devices.{is, images-refused, refusal-examined, refusal-device}
+use Rattle.recovery.proofs.reads.Images.{tells-examined}
 use Rattle.session_steps.specs.declared.sessions.Sessions.{Sessions}
 use Rattle.session_steps.specs.Opening.{HasFound, ShowsOpened}
 use Rattle.std.specs.BTreeMap.{BTreeMap}
@@ -11,8 +11,8 @@ use Rattle.base.specs.declared.key.Key.{Key}
 use Rattle.index.specs.declared.entry.Entry.{Entry}
 use Rattle.index.specs.Entries.{ArePlaced}
 use Rattle.room.specs.Opening.{entry_of}
-use Rattle.room.proofs.LiveIndex.{are-placed, listed-found}
-use Rattle.room.proofs.Begun.{free-counted, examined-few, examined-free-now, examined-found}
+use Rattle.room.proofs.openings.LiveIndex.{are-placed, listed-found}
+use Rattle.room.proofs.openings.Shown.{free-counted, examined-few, examined-free-now, examined-found}
 use Rattle.room.proofs.opening.begin.Goals as goal
 
 pub returns-in-Err-clause-fault : goal.returns-in-Err-clause-fault

@@ -3,7 +3,7 @@ use Rattle.std.proofs.lemmas.Option.{slice_get-get_or}
 use Rattle.txn.specs.declared.write.Write.{Write}
 use Rattle.session_steps.specs.Giving.{GivesBack}
 use Rattle.session_steps.specs.Giving.{fits_writes}
-use Rattle.session_steps.proofs.GivenBack.{gives-next_none, gives-next_slot, fits-at, fits-own}
+use Rattle.session_steps.proofs.slots.Freed.{gives-next_none, gives-next_slot, fits-at, fits-own}
 use Rattle.session_steps.proofs.giving.give_back.Goals.{in-Some, in_default}
 use Rattle.session_steps.proofs.giving.give_back.Goals as goal
 

@@ -1,4 +1,4 @@
-use Rattle.session_steps.proofs.BatchLines.{table-lines}
+use Rattle.session_steps.proofs.covers.Lines.{table-lines}
 use Rattle.session_steps.proofs.law.table_has_the_lines_of_a_batch.Goals as goal
 
 pub returns : goal.returns

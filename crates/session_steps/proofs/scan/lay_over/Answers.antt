@@ -8,7 +8,7 @@ use Rattle.base.specs.Commits.{overlaid}
 use Rattle.txn.specs.declared.write.Write.{Write}
 use Rattle.txn.specs.WriteSets.{plain_writes}
 use Rattle.index.specs.Reading.{HasRows, ranged}
-use Rattle.session_steps.proofs.Scanning.{laid, put-over, passed-over}
+use Rattle.session_steps.proofs.reads.Scans.{laid, put-over, passed-over}
 use Rattle.session_steps.proofs.scan.lay_over.Goals as goal
 use Rattle.session_steps.proofs.scan.lay_over.Goals.{then-contains+in-Ok, else-contains}
 

@@ -1,6 +1,6 @@
 use Rattle.base.specs.Commits.{Tables}
 use Rattle.index.specs.Reading.{HasRows, ranged}
-use Rattle.session_steps.proofs.Scanning.{laid}
+use Rattle.session_steps.proofs.reads.Scans.{laid}
 use Rattle.session_steps.proofs.scan.lay_over.Given as goal
 
 abbrev pub invariant-loop-write : goal.invariant-loop-write

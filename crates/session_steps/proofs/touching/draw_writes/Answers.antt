@@ -6,7 +6,7 @@ use Rattle.index.specs.Entries.{entry_at, live_of}
 use Rattle.txn.specs.declared.write.Write.{Write}
 use Rattle.txn.specs.WriteSets.{IsRising, write_of}
 use Rattle.session_steps.specs.Drawing.{own_lines, ended_lines, touched_lines}
-use Rattle.session_steps.proofs.Noted.{note-next, live-drawn}
+use Rattle.session_steps.proofs.draws.Notes.{note-next, live-drawn}
 use Rattle.session_steps.proofs.TouchedLines.{touches-more}
 use Rattle.session_steps.proofs.touching.draw_writes.Goals as goal
 

@@ -1,5 +1,5 @@
-use Rattle.state_invariant.proofs.Covering.{keeps-covered}
-use Rattle.state_invariant.proofs.ShownCovering.{shows-covered}
+use Rattle.state_invariant.proofs.covers.Kept.{keeps-covered}
+use Rattle.state_invariant.proofs.covers.Shown.{shows-covered}
 use Rattle.state_invariant.proofs.law.covering_keeps_the_state.Goals as goal
 
 pub returns : goal.returns

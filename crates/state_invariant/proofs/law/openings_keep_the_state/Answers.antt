@@ -1,4 +1,4 @@
-use Rattle.state_invariant.proofs.Opening.{keeps-opened, shows-opened}
+use Rattle.state_invariant.proofs.openings.Kept.{keeps-opened, shows-opened}
 use Rattle.state_invariant.proofs.law.openings_keep_the_state.Goals as goal
 
 pub returns : goal.returns

@@ -1,4 +1,4 @@
-use Rattle.state_invariant.proofs.Storing.{put-shows, put-stopped}
+use Rattle.state_invariant.proofs.puts.Shown.{put-shows, put-stopped}
 use Rattle.state_invariant.proofs.law.puts_show_their_version.Goals as goal
 
 pub returns : goal.returns

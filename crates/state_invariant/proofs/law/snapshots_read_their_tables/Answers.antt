@@ -1,4 +1,4 @@
-use Rattle.state_invariant.proofs.Reading.{reads}
+use Rattle.state_invariant.proofs.reads.Tables.{reads}
 use Rattle.state_invariant.proofs.law.snapshots_read_their_tables.Goals as goal
 
 pub returns : goal.returns

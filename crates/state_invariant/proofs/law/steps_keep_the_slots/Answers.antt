@@ -1,4 +1,4 @@
-use Rattle.state_invariant.proofs.ShownSteps.{shows-step}
+use Rattle.state_invariant.proofs.steps.Shown.{shows-step}
 use Rattle.state_invariant.proofs.law.steps_keep_the_slots.Goals as goal
 
 pub returns : goal.returns

@@ -1,6 +1,6 @@
-use Rattle.state_invariant.proofs.Linking.{links-opened, links-stores}
-use Rattle.state_invariant.proofs.LinkedSteps.{links-step, links-hand_covered}
-use Rattle.state_invariant.proofs.LinkedPuts.{put-links}
+use Rattle.state_invariant.proofs.steps.LinksStay.{links-opened, links-stores}
+use Rattle.state_invariant.proofs.steps.Links.{links-step, links-hand_covered}
+use Rattle.state_invariant.proofs.puts.Links.{put-links}
 use Rattle.state_invariant.proofs.law.versions_stay_linked.Goals as goal
 
 pub returns : goal.returns

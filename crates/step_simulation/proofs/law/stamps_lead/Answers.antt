@@ -1,4 +1,4 @@
-use Rattle.step_simulation.proofs.Stamping.{stamps-lead}
+use Rattle.step_simulation.proofs.stamps.Leads.{stamps-lead}
 use Rattle.step_simulation.proofs.law.stamps_lead.Goals as goal
 
 pub returns : goal.returns

@@ -1,4 +1,4 @@
-use Rattle.step_simulation.proofs.Operating.{stamps-operate}
+use Rattle.step_simulation.proofs.stamps.Lines.{stamps-operate}
 use Rattle.step_simulation.proofs.law.stamps_operate.Goals as goal
 
 pub returns : goal.returns

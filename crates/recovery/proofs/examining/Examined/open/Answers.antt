@@ -7,7 +7,7 @@ use Rattle.base.specs.Records.{opened_gaps}
 use Rattle.base.specs.Stands.{Stands}
 use Rattle.base.specs.declared.fault.Fault.{Fault}
 use Rattle.machine.specs.Openings.{StandsOpening, gaps_kept, opening_record, updated}
-use Rattle.machine.proofs.Updated.{updated-open}
+use Rattle.machine.proofs.openings.Updates.{updated-open}
 use Rattle.pmem.specs.Device.{Device}
 use Rattle.pmem.specs.Trace.{Runs, StopsWithin}
 use Rattle.pmem.specs.Words.{LeavesOnly, image_of, IsAtRest}
@@ -15,9 +15,9 @@ use Rattle.recovery.specs.declared.examining.Examined.{Examined as Found}
 use Rattle.recovery.specs.declared.opening.OpenedImage.{OpenedImage}
 use Rattle.recovery.specs.Opened.{Examined, IsExamined, HasOpened, IsCutShort, today_operations, update_operations}
 use Rattle.recovery.specs.Sweeping.{AreHits}
-use Rattle.recovery.proofs.Lives.{is, today-images, today-images_stopped, today-opened, today-cut}
-use Rattle.recovery.proofs.Updates.{IsUpdate, is_update, update-cut, update-images_stopped, update-first_stopped, examined-updated, cut-after, images-after, version-after, has-opened-updated}
-use Rattle.recovery.proofs.Hits.{hits-now}
+use Rattle.recovery.proofs.openings.Devices.{is, today-images, today-images_stopped, today-opened, today-cut}
+use Rattle.recovery.proofs.openings.Updates.{IsUpdate, is_update, update-cut, update-images_stopped, update-first_stopped, examined-updated, cut-after, images-after, version-after, has-opened-updated}
+use Rattle.recovery.proofs.sweeps.Hits.{hits-now}
 use Rattle.recovery.proofs.examining.Examined.open.Goals as goal
 
 module _ (old mid : Device) (self : Found) (rest : IsAtRest old) (ex : Examined (image_of old) self.geometry self.ruling self.gaps self.free.items self.live.items) where

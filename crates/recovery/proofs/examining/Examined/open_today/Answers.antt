@@ -6,8 +6,8 @@ use Rattle.pmem.proofs.Traces.{runs-then, stops-first, stops-then, words-run}
 use Rattle.log_area.specs.Writings.{record_operations}
 use Rattle.machine.specs.Openings.{gaps_kept, opening_record}
 use Rattle.recovery.specs.Opened.{gap_operations}
-use Rattle.recovery.proofs.SweptSlots.{ruled-size}
-use Rattle.recovery.proofs.Lives.{is, some-dirty, limit, gate-limit, target-is}
+use Rattle.recovery.proofs.sweeps.Slots.{ruled-size}
+use Rattle.recovery.proofs.openings.Devices.{is, some-dirty, limit, gate-limit, target-is}
 use Rattle.recovery.proofs.examining.Examined.open_today.Goals as goal
 
 -- ---- the gaps

@@ -1,6 +1,6 @@
 use Rattle.std.proofs.Common.{◌+◌, ◌*◌, ◌≤◌, refl, sym, subst}
 use Rattle.base.specs.Layout.{Layout}
-use Rattle.room.proofs.Begun.{no-failure, begun-shows-some, opened-shows}
+use Rattle.room.proofs.openings.Shown.{no-failure, begun-shows-some, opened-shows}
 use Rattle.room.proofs.room.Room.open.Goals as goal
 
 pub invariant_of-result : goal.invariant_of-result

@@ -13,8 +13,8 @@ use Rattle.room.specs.Committing.{ShowsIn}
 use Rattle.room.specs.Closing.{ticks_left}
 use Rattle.room.specs.Ticks.{as_reply}
 use Rattle.room.specs.declared.ticks.Tick.TheVariants.{Covered}
-use Rattle.room.proofs.Ticked.{with-hand, one-hand}
-use Rattle.room.proofs.Advancing.{unfinished, sized, line-fits, goes-on, comes-closer, may-cover, covers, fails-on}
+use Rattle.room.proofs.closes.Ticks.{with-hand, one-hand}
+use Rattle.room.proofs.covers.Ticks.{unfinished, sized, line-fits, goes-on, comes-closer, may-cover, covers, fails-on}
 use Rattle.room.proofs.volatile.VolatileState.advance.Goals as goal
 
 pub tick-requires-clause-unfinished : goal.tick-requires-clause-unfinished

@@ -14,7 +14,7 @@ use Rattle.txn.specs.declared.drawn.DrawnCommit.{DrawnCommit}
 use Rattle.txn.specs.DrawnCommits.{plain_drawn}
 use Rattle.session_steps.specs.declared.numbers.Numbers.{Numbers}
 use Rattle.room.specs.Steps.{StepsToIn}
-use Rattle.room.proofs.Choices.{next_record, next-below, gate-below, few-passed, idles, takes, refuses}
+use Rattle.room.proofs.covers.Choices.{next_record, next-below, gate-below, few-passed, idles, takes, refuses}
 use Rattle.room.proofs.volatile.VolatileState.choose.Goals as goal
 
 pub is_idle-requires : goal.is_idle-requires

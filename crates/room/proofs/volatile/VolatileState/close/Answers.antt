@@ -5,8 +5,8 @@ use Rattle.machine.specs.Machine.{State}
 use Rattle.base.proofs.Results.{reported}
 use Rattle.room.specs.Committing.{Shows}
 use Rattle.room.specs.Closing.{ClosePhaseDone, IsClosingRefusal}
-use Rattle.room.proofs.CloseParts.{part_trans, failed_after, last_after, shown_after}
-use Rattle.room.proofs.Closes.{some-below, unmoved, may-close, refused-part, numbered-last, images-last, refused-last, on_ok-from}
+use Rattle.room.proofs.closes.Parts.{part_trans, failed_after, last_after, shown_after}
+use Rattle.room.proofs.closes.Whole.{some-below, unmoved, may-close, refused-part, numbered-last, images-last, refused-last, on_ok-from}
 use Rattle.room.proofs.volatile.VolatileState.close.Goals as goal
 
 pub closing_gate-requires : goal.closing_gate-requires

@@ -1,6 +1,6 @@
 use Rattle.std.proofs.Common.{refl}
 use Rattle.std.proofs.Math.Logic.{∥∥₁_map}
-use Rattle.room.proofs.Staying.{visits-named}
+use Rattle.room.proofs.covers.BatchStays.{visits-named}
 use Rattle.room.proofs.volatile.VolatileState.collect.Goals as goal
 
 pub collect-requires : goal.collect-requires

@@ -2,7 +2,7 @@ use Rattle.std.proofs.Common.{◌∙◌, sym, ap, subst}
 use Rattle.base.specs.Records.{Record}
 use Rattle.group_commit.specs.Cycles.{Cycling}
 use Rattle.session_steps.specs.Covering.{MayCoverSome, ShowsCovered}
-use Rattle.room.proofs.Ticked.{one-hand}
+use Rattle.room.proofs.closes.Ticks.{one-hand}
 use Rattle.room.proofs.volatile.VolatileState.cover.Goals as goal
 
 pub cover-requires : goal.cover-requires

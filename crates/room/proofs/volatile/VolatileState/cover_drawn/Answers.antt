@@ -12,8 +12,8 @@ use Rattle.txn.specs.InFlight.{InFlight}
 use Rattle.group_commit.specs.Cycles.{line_from, operation_in, ticked_in}
 use Rattle.session_steps.specs.declared.numbers.Numbers.{Numbers}
 use Rattle.room.specs.Closing.{ClosePhaseFailed}
-use Rattle.room.proofs.Closes.{some-below}
-use Rattle.room.proofs.ClosingCycle.{begins, sized, line-fits, ticks, comes-closer, fails-then, ends}
+use Rattle.room.proofs.closes.Whole.{some-below}
+use Rattle.room.proofs.closes.Cycle.{begins, sized, line-fits, ticks, comes-closer, fails-then, ends}
 use Rattle.room.proofs.volatile.VolatileState.cover_drawn.Goals as goal
 
 pub closing-cycle-requires : goal.closing-cycle-requires

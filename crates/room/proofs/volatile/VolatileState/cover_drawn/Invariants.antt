@@ -1,6 +1,6 @@
 use Rattle.std.specs.Prelude.{Some}
 use Rattle.room.specs.Closing.{ticks_left}
-use Rattle.room.proofs.ClosingCycle.{IsCovering}
+use Rattle.room.proofs.closes.Cycle.{IsCovering}
 use Rattle.room.proofs.volatile.VolatileState.cover_drawn.Given as goal
 
 abbrev pub invariant-loop-cycle : goal.invariant-loop-cycle

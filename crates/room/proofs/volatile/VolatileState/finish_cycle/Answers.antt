@@ -1,8 +1,8 @@
 use Rattle.std.proofs.Common.{sym, ◌∙◌, ap}
 use Rattle.room.specs.Closing.{ClosePhaseDone}
 use Rattle.room.specs.Ticks.{as_reply}
-use Rattle.room.proofs.CloseParts.{part_refl, part_trans, failed_after, shown_after}
-use Rattle.room.proofs.Ticked.{rests, tick-done, tick-failed, unrefused-reply}
+use Rattle.room.proofs.closes.Parts.{part_refl, part_trans, failed_after, shown_after}
+use Rattle.room.proofs.closes.Ticks.{rests, tick-done, tick-failed, unrefused-reply}
 use Rattle.room.proofs.volatile.VolatileState.finish_cycle.Goals as goal
 
 pub loop-self-init : goal.loop-self-init

@@ -2,8 +2,8 @@ use Rattle.std.proofs.Common.{sym, ◌∙◌, ap}
 use Rattle.session_steps.specs.Replies.{stamped}
 use Rattle.session_steps.proofs.Stepping.{on-device, shown-held-on}
 use Rattle.room.specs.Closing.{ClosePhaseDone}
-use Rattle.room.proofs.CloseParts.{part_refl, part_trans, failed_after, shown_after}
-use Rattle.room.proofs.Stamps.{sessions-shown, stamp-done, stamp-failed, stamp-fewer, stamped-told, none-left}
+use Rattle.room.proofs.closes.Parts.{part_refl, part_trans, failed_after, shown_after}
+use Rattle.room.proofs.closes.Stamps.{sessions-shown, stamp-done, stamp-failed, stamp-fewer, stamped-told, none-left}
 use Rattle.room.proofs.volatile.VolatileState.stamp_rest.Goals as goal
 
 pub loop-session-init : goal.loop-session-init

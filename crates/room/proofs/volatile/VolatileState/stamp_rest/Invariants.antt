@@ -1,7 +1,7 @@
 use Rattle.std.specs.Prelude.{◌≡◌, None, map}
 use Rattle.session_steps.specs.Shows.{plain_drawn}
 use Rattle.room.specs.Closing.{ClosePhaseDone}
-use Rattle.room.proofs.Stamps.{left_in}
+use Rattle.room.proofs.closes.Stamps.{left_in}
 use Rattle.room.proofs.volatile.VolatileState.stamp_rest.Given as goal
 
 abbrev pub invariant-loop-session : goal.invariant-loop-session

@@ -8,7 +8,7 @@ use Rattle.machine.specs.Machine.{State}
 use Rattle.room.specs.Committing.{ShowsIn}
 use Rattle.room.specs.Steps.{ShowsSomeIn, StepsToIn}
 use Rattle.room.specs.Ticks.{chosen_reply}
-use Rattle.room.proofs.Ticked.{rests}
+use Rattle.room.proofs.closes.Ticks.{rests}
 use Rattle.room.proofs.volatile.VolatileState.tick.Goals as goal
 
 pub choose-requires-clause-rests : goal.choose-requires-clause-rests

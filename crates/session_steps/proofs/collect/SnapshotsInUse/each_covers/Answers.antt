@@ -1,6 +1,6 @@
 use Rattle.std.proofs.Common.{◌∙◌, sym, ap, arith}
 use Rattle.session_steps.specs.Collecting.{is_covered_in}
-use Rattle.session_steps.proofs.Readers.{each-covers, one-uncovers, past-limit}
+use Rattle.session_steps.proofs.collector.Readers.{each-covers, one-uncovers, past-limit}
 use Rattle.session_steps.proofs.collect.SnapshotsInUse.each_covers.Goals as goal
 
 pub returns-then-not-covers : goal.returns-then-not-covers

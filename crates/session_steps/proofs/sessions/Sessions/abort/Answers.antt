@@ -2,8 +2,8 @@ use Rattle.std.proofs.Math.Bool.{Bool-set}
 use Rattle.std.proofs.Math.Logic.{∥∥₁_elim}
 use Rattle.std.proofs.Common.{refl}
 use Rattle.base.specs.declared.step.SessionStep.TheVariants.{Abort}
-use Rattle.session_steps.proofs.Freeing.{aborts, fits-held}
-use Rattle.session_steps.proofs.OneTransaction.{inactive}
+use Rattle.session_steps.proofs.slots.Freeing.{aborts, fits-held}
+use Rattle.session_steps.proofs.transactions.Steps.{inactive}
 use Rattle.session_steps.proofs.sessions.Sessions.abort.Goals as goal
 
 pub give_back-requires : goal.give_back-requires

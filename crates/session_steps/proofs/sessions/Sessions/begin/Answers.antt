@@ -1,7 +1,7 @@
 use Rattle.std.proofs.Math.Bool.{Bool-set}
 use Rattle.std.proofs.Math.Logic.{∥∥₁_elim}
 use Rattle.session_steps.proofs.Limits.{gaps-listed}
-use Rattle.session_steps.proofs.OneTransaction.{begins, begins-not}
+use Rattle.session_steps.proofs.transactions.Steps.{begins, begins-not}
 use Rattle.session_steps.proofs.sessions.Sessions.begin.Goals as goal
 
 pub returns-in-Ok : goal.returns-in-Ok

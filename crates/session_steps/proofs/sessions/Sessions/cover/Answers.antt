@@ -10,7 +10,7 @@ use Rattle.session_steps.specs.Shows.{has_drawn_by, plain_of, HoldsDrawn}
 use Rattle.txn.specs.declared.transaction.Transaction.{Transaction}
 use Rattle.session_steps.specs.Covering.{CoversCommits, HasCovered, committed_by, left_by}
 use Rattle.gap_list.proofs.Tidy.{well_formed-tidy}
-use Rattle.session_steps.proofs.CoveredBatch.{has-covered, shows-covered}
+use Rattle.session_steps.proofs.covers.Batch.{has-covered, shows-covered}
 use Rattle.session_steps.proofs.sessions.Sessions.cover.Goals as goal
 
 pub cover_commits-requires : goal.cover_commits-requires

@@ -9,9 +9,9 @@ use Rattle.base.specs.declared.fault.Fault.TheVariants.{WriteSetFull}
 use Rattle.base.specs.declared.step.SessionStep.TheVariants.{Delete}
 use Rattle.base.specs.declared.step.SessionReply.TheVariants.{Done}
 use Rattle.txn.specs.declared.transaction.Transaction.TheVariants.{Active}
-use Rattle.session_steps.proofs.Freeing.{deletes, delete-asks, fits-own_of}
-use Rattle.session_steps.proofs.LineRoom.{goes-from, holds-promised, room-promised, wants-memory}
-use Rattle.session_steps.proofs.OneTransaction.{inactive, refuses}
+use Rattle.session_steps.proofs.slots.Freeing.{deletes, delete-asks, fits-own_of}
+use Rattle.session_steps.proofs.puts.LineRoom.{goes-from, holds-promised, room-promised, wants-memory}
+use Rattle.session_steps.proofs.transactions.Steps.{inactive, refuses}
 use Rattle.session_steps.proofs.sessions.Sessions.delete.Goals as goal
 
 pub returns-in-Err : goal.returns-in-Err

@@ -8,8 +8,8 @@ use Rattle.base.specs.declared.step.SessionStep.TheVariants.{Draw}
 use Rattle.index.specs.Entries.{has_room}
 use Rattle.txn.specs.declared.write.Write.{Write}
 use Rattle.session_steps.specs.Drawing.{conflict_in}
-use Rattle.session_steps.proofs.Draws.{draw-asks, draws-nothing}
-use Rattle.session_steps.proofs.OneTransaction.{inactive, refuses}
+use Rattle.session_steps.proofs.draws.Steps.{draw-asks, draws-nothing}
+use Rattle.session_steps.proofs.transactions.Steps.{inactive, refuses}
 use Rattle.session_steps.proofs.CodeTests.{nothing-is, some-is, one-active}
 use Rattle.session_steps.proofs.sessions.Sessions.draw.Goals as goal
 

@@ -10,9 +10,9 @@ use Rattle.txn.specs.declared.transaction.Transaction.{Transaction}
 use Rattle.txn.specs.declared.write.Write.{Write}
 use Rattle.base.specs.declared.step.SessionStep.TheVariants.{Draw}
 use Rattle.session_steps.specs.Shows.{HasLines}
-use Rattle.session_steps.proofs.Draws.{all-early, draws, draws-not}
-use Rattle.session_steps.proofs.Noted.{fits-lines}
-use Rattle.session_steps.proofs.OneTransaction.{inactive}
+use Rattle.session_steps.proofs.draws.Steps.{all-early, draws, draws-not}
+use Rattle.session_steps.proofs.draws.Notes.{fits-lines}
+use Rattle.session_steps.proofs.transactions.Steps.{inactive}
 use Rattle.session_steps.proofs.CodeTests.{one-active}
 use Rattle.session_steps.proofs.sessions.Sessions.draw_next.Goals as goal
 

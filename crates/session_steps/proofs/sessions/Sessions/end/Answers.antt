@@ -1,4 +1,4 @@
-use Rattle.session_steps.proofs.OneTransaction.{ends, ends-not}
+use Rattle.session_steps.proofs.transactions.Steps.{ends, ends-not}
 use Rattle.session_steps.proofs.sessions.Sessions.end.Goals as goal
 
 pub returns-in-Ok : goal.returns-in-Ok

@@ -8,8 +8,8 @@ use Rattle.txn.specs.declared.write.Write.{Write}
 use Rattle.txn.specs.Transactions.{Sets}
 use Rattle.txn.specs.WriteSets.{HasRoomFor, with_write_at}
 use Rattle.version_slot.specs.Words.{link_number}
-use Rattle.session_steps.proofs.Puts.{own-within, link-fits, puts-own, puts-own-stopped}
-use Rattle.session_steps.proofs.Reading.{words-are}
+use Rattle.session_steps.proofs.puts.Steps.{own-within, link-fits, puts-own, puts-own-stopped}
+use Rattle.session_steps.proofs.reads.Rows.{words-are}
 use Rattle.session_steps.proofs.Stepping.{held-on}
 use Rattle.session_steps.proofs.sessions.Sessions.fill_own.Goals as goal
 

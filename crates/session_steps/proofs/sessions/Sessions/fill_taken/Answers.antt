@@ -15,8 +15,8 @@ use Rattle.pmem.specs.Trace.{Runs, StopsWithin}
 use Rattle.version_slot.specs.Operations.{clear_operations}
 use Rattle.version_slot.specs.Words.{link_number}
 use Rattle.session_steps.specs.Giving.{HasLinesWith}
-use Rattle.session_steps.proofs.Puts.{free-within, link-fits, puts-taken, puts-untaken, puts-returned, taken-within}
-use Rattle.session_steps.proofs.Reading.{words-are}
+use Rattle.session_steps.proofs.puts.Steps.{free-within, link-fits, puts-taken, puts-untaken, puts-returned, taken-within}
+use Rattle.session_steps.proofs.reads.Rows.{words-are}
 use Rattle.session_steps.proofs.Stepping.{held-on}
 use Rattle.session_steps.proofs.sessions.Sessions.fill_taken.Goals as goal
 

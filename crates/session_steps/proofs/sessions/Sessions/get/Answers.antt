@@ -2,8 +2,8 @@ use Rattle.std.proofs.Math.Nat.{ℕ_set}
 use Rattle.std.proofs.Math.Logic.{∥∥₁_elim}
 use Rattle.std.proofs.Common.{refl, sym}
 use Rattle.base.specs.declared.step.SessionStep.TheVariants.{Get}
-use Rattle.session_steps.proofs.OneTransaction.{inactive}
-use Rattle.session_steps.proofs.Reading.{gets-own, gets-seen, words-are}
+use Rattle.session_steps.proofs.transactions.Steps.{inactive}
+use Rattle.session_steps.proofs.reads.Rows.{gets-own, gets-seen, words-are}
 use Rattle.session_steps.proofs.Stepping.{held-on}
 use Rattle.session_steps.proofs.sessions.Sessions.get.Goals as goal
 

@@ -1,5 +1,5 @@
 use Rattle.std.proofs.Common.{refl}
-use Rattle.session_steps.proofs.OpenedStates.{shows-opened}
+use Rattle.session_steps.proofs.openings.States.{shows-opened}
 use Rattle.session_steps.proofs.sessions.Sessions.open.Goals as goal
 
 pub returns : goal.returns

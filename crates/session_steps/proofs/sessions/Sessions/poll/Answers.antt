@@ -1,6 +1,6 @@
 use Rattle.std.proofs.Common.{refl, sym, ◌∙◌, ap, rules, tests}
 use Rattle.std.specs.Prelude.{Some, None}
-use Rattle.session_steps.proofs.OneTransaction.{polls-not, polls-waiting, polls-committed}
+use Rattle.session_steps.proofs.transactions.Steps.{polls-not, polls-waiting, polls-committed}
 use Rattle.session_steps.proofs.sessions.Sessions.poll.Goals as goal
 
 pub returns-in-None : goal.returns-in-None

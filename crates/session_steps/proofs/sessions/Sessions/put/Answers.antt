@@ -1,8 +1,8 @@
 use Rattle.std.proofs.Common.{refl, sym, ◌∙◌, ap, length, arith}
 use Rattle.base.specs.declared.fault.Fault.TheVariants.{TooLong, WriteSetFull}
 use Rattle.base.specs.declared.step.SessionStep.TheVariants.{Put}
-use Rattle.session_steps.proofs.Puts.{full-refusal, long-refusal}
-use Rattle.session_steps.proofs.OneTransaction.{inactive-refusal}
+use Rattle.session_steps.proofs.puts.Steps.{full-refusal, long-refusal}
+use Rattle.session_steps.proofs.transactions.Steps.{inactive-refusal}
 use Rattle.session_steps.proofs.Stepping.{held-on, refused-on}
 use Rattle.session_steps.proofs.sessions.Sessions.put.Goals as goal
 

@@ -2,8 +2,8 @@ use Rattle.std.proofs.Math.Logic.{∥∥₁_map}
 use Rattle.std.proofs.Common.{true, false, refl, sym, ◌∙◌}
 use Rattle.base.specs.declared.fault.Fault.TheVariants.{SlotsOut}
 use Rattle.base.specs.declared.step.SessionStep.TheVariants.{Put}
-use Rattle.session_steps.proofs.LineRoom.{goes-from-on, holds-promised-on, room-promised, wants-memory-on}
-use Rattle.session_steps.proofs.Puts.{new-asks}
+use Rattle.session_steps.proofs.puts.LineRoom.{goes-from-on, holds-promised-on, room-promised, wants-memory-on}
+use Rattle.session_steps.proofs.puts.Steps.{new-asks}
 use Rattle.session_steps.proofs.Stepping.{held-on, refused-on}
 use Rattle.session_steps.proofs.sessions.Sessions.put_taken.Goals as goal
 

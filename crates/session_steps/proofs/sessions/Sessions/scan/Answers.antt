@@ -5,9 +5,9 @@ use Rattle.base.specs.declared.key.Key.{Key}
 use Rattle.base.specs.declared.step.SessionStep.TheVariants.{Scan}
 use Rattle.base.specs.declared.step.SessionReply.TheVariants.{Rows}
 use Rattle.session_steps.specs.Steps.{Goes}
-use Rattle.session_steps.proofs.OneTransaction.{inactive}
-use Rattle.session_steps.proofs.Reading.{words-are}
-use Rattle.session_steps.proofs.Scanning.{scans-nothing, scans-seen}
+use Rattle.session_steps.proofs.transactions.Steps.{inactive}
+use Rattle.session_steps.proofs.reads.Rows.{words-are}
+use Rattle.session_steps.proofs.reads.Scans.{scans-nothing, scans-seen}
 use Rattle.session_steps.proofs.Stepping.{held-on}
 use Rattle.session_steps.proofs.sessions.Sessions.scan.Goals as goal
 

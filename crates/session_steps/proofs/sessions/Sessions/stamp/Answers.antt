@@ -12,9 +12,9 @@ use Rattle.state_invariant.specs.Kept.{version_by}
 use Rattle.device_invariant.specs.Slots.{newest_of}
 use Rattle.session_steps.specs.Giving.{fits_slot}
 use Rattle.session_steps.specs.Shows.{plain_of}
-use Rattle.session_steps.proofs.Noted.{fits-of}
-use Rattle.session_steps.proofs.Reading.{words-are}
-use Rattle.session_steps.proofs.Stamped.{own-slot, ended-slot, stamps-refusal, stamps-last, stamps-more, stamps-stopped}
+use Rattle.session_steps.proofs.draws.Notes.{fits-of}
+use Rattle.session_steps.proofs.reads.Rows.{words-are}
+use Rattle.session_steps.proofs.stamps.Steps.{own-slot, ended-slot, stamps-refusal, stamps-last, stamps-more, stamps-stopped}
 use Rattle.session_steps.proofs.Stepping.{held-on, refused-on}
 use Rattle.session_steps.proofs.sessions.Sessions.stamp.Goals as goal
 

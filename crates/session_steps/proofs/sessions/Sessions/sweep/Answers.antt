@@ -9,8 +9,8 @@ use Rattle.pmem.specs.Trace.{Operation, Runs, StopsWithin}
 use Rattle.snapshot.specs.Snapshots.{seen_by}
 use Rattle.slot_alloc.specs.Free.{is_free}
 use Rattle.session_steps.specs.Collecting.{all_cover}
-use Rattle.session_steps.proofs.CoveredRows.{gaps-shown, words-shown}
-use Rattle.session_steps.proofs.Visiting.{collects-at, collects-end, collects-stopped, collects-shown, same-operations, shown-any, words-kept, counted-shown}
+use Rattle.session_steps.proofs.reads.Tables.{gaps-shown, words-shown}
+use Rattle.session_steps.proofs.collector.Visits.{collects-at, collects-end, collects-stopped, collects-shown, same-operations, shown-any, words-kept, counted-shown}
 use Rattle.session_steps.proofs.sessions.Sessions.sweep.Goals as goal
 
 pub of-gaps-requires : goal.of-gaps-requires

@@ -2,7 +2,7 @@ use Rattle.std.proofs.Math.Bool.{Bool-set}
 use Rattle.std.proofs.Math.Nat.{ℕ_set}
 use Rattle.std.proofs.lemmas.Result.{IfOk-weaker}
 use Rattle.std.proofs.Math.Logic.{∥∥₁_elim}
-use Rattle.session_steps.proofs.CoveredRows.{gaps-shown, words-shown, tables-read}
+use Rattle.session_steps.proofs.reads.Tables.{gaps-shown, words-shown, tables-read}
 use Rattle.session_steps.proofs.sessions.Sessions.tables.Goals as goal
 
 pub snapshot-snapshot-requires : goal.snapshot-snapshot-requires

@@ -4,8 +4,8 @@ use Rattle.std.proofs.Math.Logic.{∥∥₁_elim}
 use Rattle.snapshot.specs.Snapshots.{seen_by}
 use Rattle.slot_alloc.specs.Free.{is_free}
 use Rattle.session_steps.specs.Collecting.{all_cover}
-use Rattle.session_steps.proofs.CoveredRows.{words-shown}
-use Rattle.session_steps.proofs.Visiting.{collects-at, collects-end, collects-shown, counted-shown, shown-any, swept-runs}
+use Rattle.session_steps.proofs.reads.Tables.{words-shown}
+use Rattle.session_steps.proofs.collector.Visits.{collects-at, collects-end, collects-shown, counted-shown, shown-any, swept-runs}
 use Rattle.session_steps.proofs.sessions.Sessions.visit.Goals as goal
 
 pub visit-requires-clause-slots : goal.visit-requires-clause-slots

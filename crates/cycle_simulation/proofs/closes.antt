@@ -1,0 +1,4 @@
+-- Lemmas on closes.
+pub mod Covers
+pub mod LastPart
+pub mod States

@@ -1,0 +1,148 @@
+-- Slots are given back by sessions, taken by them and freed, while the device does nothing.
+use Rattle.std.proofs.Common.{◌≡◌, ◌≢◌, inl, inr, ℕ, suc, zero, ◌+◌, ◌-◌, ◌<◌, ◌≤◌, Bool, false, cond, ◌&&◌, List, [], ◌∷◌, ◌++◌, take, refl, sym, ◌∙◌, ap, subst, arith}
+use Rattle.std.specs.Prelude.{Option, Some, None}
+use Rattle.std.specs.List.{flat_map, range_with_len, list_any}
+use Rattle.std.proofs.lemmas.Bool.{ne_eqb, false_from_ne_true}
+use Rattle.base.specs.declared.key.Key.{Key}
+use Rattle.base.specs.Commits.{Commit, writes_key, last_writer}
+use Rattle.base.specs.Stands.{has_timestamp}
+use Rattle.base.specs.Layout.{version_lines}
+use Rattle.machine.specs.Machine.{State, Session, Drawn, Hand, Version, BySession, ByCommit, drawn_at}
+use Rattle.pmem.specs.Device.{Device}
+use Rattle.pmem.specs.Words.{IsSettledAt}
+use Rattle.state_invariant.specs.Kept.{Origin, Keeps, version_by}
+use Rattle.state_invariant.specs.Shown.{word_of}
+use Rattle.state_invariant.proofs.covers.Kept.{batch-drawn}
+use Rattle.device_invariant.specs.Slots.{SlotHolds}
+use Rattle.device_invariant.specs.Log.{Line, line_at, lines_at, is_own, is_ended, AreReady, HoldsHand}
+use Rattle.device_invariant.specs.Upholds.{HoldsState}
+use Rattle.device_invariant.specs.Laws.{ChangesHolder, stays, given_back, taken, freed, HoldersKeep}
+use Rattle.pmem.proofs.Changes.{each-settled, each-weaken}
+
+module _ (q : State) (sessions : ℕ → Option Session) (held : ℕ → Option Version) (device : Device) where
+  abbrev then : State
+  then = record q { sessions = sessions; held = held }
+
+  -- ---- a slot
+
+  same-slot : (slot : ℕ) → held slot ≡ q.held slot → SlotHolds q device slot → SlotHolds then device slot
+  same-slot slot same h = record {
+    begin_before = h.begin_before;
+    end_before = h.end_before;
+    free = λ at. h.free (sym same ∙ at);
+    own = λ n key at. h.own n key (sym same ∙ at);
+    drawn = λ t key d at found. h.drawn t key d (sym same ∙ at) found;
+    unstamped = λ t key d at found not_yet up. h.unstamped t key d (sym same ∙ at) found not_yet up;
+    newest = λ key at. let live = h.newest key (sym same ∙ at) in record { begin = live.begin; counted = live.counted; end = live.end; settled = live.settled };
+    replaced = λ t key at none other. h.replaced t key (sym same ∙ at) none other;
+  }
+
+  -- that nobody or a session holds, with a begin that is 0
+  undrawn-slot : (slot : ℕ) → ((t : ℕ) (key : Key) → held slot ≡ Some (version_by key (ByCommit t)) → ⊥) → IsSettledAt device (word_of q.layout slot 0) 0 → SlotHolds q device slot → SlotHolds then device slot
+  undrawn-slot slot not_commit cleared h = record {
+    begin_before = h.begin_before;
+    end_before = h.end_before;
+    free = λ at. inl (each-weaken (λ x is. inl is) (each-settled cleared));
+    own = λ n key at. cleared;
+    drawn = λ t key d at found. absurd (not_commit t key at);
+    unstamped = λ t key d at found not_yet up. absurd (not_commit t key at);
+    newest = λ key at. absurd (not_commit (last_writer q.history key) key at);
+    replaced = λ t key at none other. absurd (not_commit t key at);
+  }
+
+  not-none : (slot t : ℕ) (key : Key) → held slot ≡ None → held slot ≡ Some (version_by key (ByCommit t)) → ⊥
+  not-none slot t key a b = let both : ◌≡◌ {A = Option Version} None (Some (version_by key (ByCommit t))) = sym a ∙ b in cc both
+
+  not-session : (slot t n : ℕ) (key other : Key) → held slot ≡ Some (version_by other (BySession n)) → held slot ≡ Some (version_by key (ByCommit t)) → ⊥
+  not-session slot t n key other a b =
+      let both : Some (version_by other (BySession n)) ≡ Some (version_by key (ByCommit t)) = sym a ∙ b in
+      let one : version_by other (BySession n) ≡ version_by key (ByCommit t) = cc both in
+      let writers : BySession n ≡ ByCommit t = ap (λ (v : Version). v.writer) one in
+      cc writers
+
+  -- whose version was replaced
+  freed-slot : (slot t : ℕ) (key : Key) → q.held slot ≡ Some (version_by key (ByCommit t)) → drawn_at q t ≡ None → t ≢ last_writer q.history key → held slot ≡ None → SlotHolds q device slot → SlotHolds then device slot
+  freed-slot slot t key at undrawn apart none h = record {
+    begin_before = h.begin_before;
+    end_before = h.end_before;
+    free = λ free. inr (h.replaced t key at undrawn apart);
+    own = λ n k held_by. absurd (not-some (version_by k (BySession n)) held_by);
+    drawn = λ u k d held_by found. absurd (not-none slot u k none held_by);
+    unstamped = λ u k d held_by found not_yet up. absurd (not-none slot u k none held_by);
+    newest = λ k held_by. absurd (not-none slot (last_writer q.history k) k none held_by);
+    replaced = λ u k held_by gone other. absurd (not-none slot u k none held_by);
+  }
+    where
+      not-some : (v : Version) → held slot ≡ Some v → ⊥
+      not-some v held_by = let both : ◌≡◌ {A = Option Version} None (Some v) = sym none ∙ held_by in cc both
+
+  slot-then : (slot : ℕ) → ChangesHolder q held device slot → SlotHolds q device slot → SlotHolds then device slot
+  slot-then slot (stays same) h = same-slot slot same h
+  slot-then slot (given_back n key own none) h = undrawn-slot slot (λ t k at. not-none slot t k none at) (h.own n key own) h
+  slot-then slot (taken n key free own cleared) h = undrawn-slot slot (λ t k at. not-session slot t n k key own at) cleared h
+  slot-then slot (freed t key at undrawn apart none) h = freed-slot slot t key at undrawn apart none h
+
+  -- ---- the lines
+
+  -- the commits are drawn still
+  abbrev AreUncovered : List Commit → Type 0
+  AreUncovered commits = (t : ℕ) → drawn_at q t ≡ None → has_timestamp commits t ≡ false
+
+  own-same : (commits : List Commit) (slot : ℕ) → AreUncovered commits → ChangesHolder q held device slot → is_own commits (held slot) ≡ is_own commits (q.held slot)
+  own-same commits slot uncovered (stays same) = ap (is_own commits) same
+  own-same commits slot uncovered (given_back n key own none) = ap (is_own commits) none ∙ sym (ap (is_own commits) own)
+  own-same commits slot uncovered (taken n key free own cleared) = ap (is_own commits) own ∙ sym (ap (is_own commits) free)
+  own-same commits slot uncovered (freed t key at undrawn apart none) = ap (is_own commits) none ∙ sym (ap (is_own commits) at ∙ uncovered t undrawn)
+
+  ended-same : (commits : List Commit) (slot : ℕ) → ChangesHolder q held device slot → is_ended q commits (held slot) ≡ is_ended q commits (q.held slot)
+  ended-same commits slot (stays same) = ap (is_ended q commits) same
+  ended-same commits slot (given_back n key own none) = ap (is_ended q commits) none ∙ sym (ap (is_ended q commits) own)
+  ended-same commits slot (taken n key free own cleared) = ap (is_ended q commits) own ∙ sym (ap (is_ended q commits) free)
+  ended-same commits slot (freed t key at undrawn apart none) =
+      ap (is_ended q commits) none ∙ sym (ap (is_ended q commits) at ∙ ap (λ (b : Bool). b && list_any (writes_key key) commits) (ne_eqb (last_writer q.history key) t (λ same. apart (sym same))))
+
+  module _ (changes : (slot : ℕ) → slot < q.layout.slots → ChangesHolder q held device slot) where
+    lines-same : (commits : List Commit) → AreUncovered commits → (from n : ℕ) → from + n ≤ q.layout.slots → flat_map (lines_at then commits) (range_with_len from n) ≡ flat_map (lines_at q commits) (range_with_len from n)
+    lines-same commits uncovered from zero le = refl
+    lines-same commits uncovered from (suc n) le =
+        let c = changes from (omega (arith, le)) in
+        ap (λ (b : Bool). cond b (flat_map (λ part. line_at from part ∷ []) (range_with_len 0 (version_lines q.layout))) (cond (is_ended q commits (held from)) (line_at from 0 ∷ []) []) ++ flat_map (lines_at then commits) (range_with_len (from + 1) n)) (own-same commits from uncovered c)
+        ∙ ap (λ (b : Bool). cond (is_own commits (q.held from)) (flat_map (λ part. line_at from part ∷ []) (range_with_len 0 (version_lines q.layout))) (cond b (line_at from 0 ∷ []) []) ++ flat_map (lines_at then commits) (range_with_len (from + 1) n)) (ended-same commits from c)
+        ∙ ap (λ (ls : List Line). lines_at q commits from ++ ls) (lines-same commits uncovered (from + 1) n (omega (arith, le)))
+
+    hand-then : (hand : Option Hand) → ((h : Hand) → hand ≡ Some h → AreUncovered h.commits) → HoldsHand q device hand → HoldsHand then device hand
+    hand-then None uncovered holds = holds
+    hand-then (Some hand) uncovered (inl f) = inl record {
+      chosen = f.chosen;
+      within = f.within;
+      follows = f.follows;
+      ready = subst (λ (ls : List Line). AreReady q.layout device (take (hand.ticks - 1) ls)) (sym (lines-same hand.commits (uncovered hand refl) 0 q.layout.slots (omega arith))) f.ready;
+    }
+    hand-then (Some hand) uncovered (inr r) = inr record {
+      stage = r.stage;
+      staged = r.staged;
+      under_way = r.under_way;
+      ticks = r.ticks;
+      replaces = r.replaces;
+      settled = record {
+        own = λ slot lt is. r.settled.own slot lt (sym (own-same hand.commits slot (uncovered hand refl) (changes slot lt)) ∙ is);
+        ended = λ slot lt is. r.settled.ended slot lt (sym (ended-same hand.commits slot (changes slot lt)) ∙ is);
+      };
+    }
+
+    pub holds-then : ((h : Hand) → q.hand ≡ Some h → AreUncovered h.commits) → HoldsState q device → HoldsState then device
+    holds-then uncovered h = record {
+      slots = record { each = λ slot lt. slot-then slot (changes slot lt) (h.slots.each slot lt) };
+      log = hand-then q.hand uncovered h.log;
+      sweeping = record { over = h.sweeping.over; under_way = h.sweeping.under_way };
+    }
+
+-- a batch in hand is drawn still
+pub uncovered-hand : (o : Origin) (q : State) → Keeps o q → (hand : Hand) → q.hand ≡ Some hand → (t : ℕ) → drawn_at q t ≡ None → has_timestamp hand.commits t ≡ false
+uncovered-hand o q kept hand in_hand t undrawn = false_from_ne_true (has_timestamp hand.commits t) (λ has.
+    let drawn = batch-drawn o q hand kept (kept.numbers.hand hand in_hand) t has in
+    let both : ◌≡◌ {A = Option Drawn} None (Some drawn.0) = sym undrawn ∙ drawn.1 in
+    cc both)
+
+pub holders-keep : HoldersKeep
+holders-keep o q sessions held device changes keeps shows links u = record { keeps = keeps; shows = shows; links = links; holds = holds-then q sessions held device changes (uncovered-hand o q u.keeps) u.holds }

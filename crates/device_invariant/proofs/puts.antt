@@ -1,0 +1,2 @@
+-- Lemmas on puts.
+pub mod Slots

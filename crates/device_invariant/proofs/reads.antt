@@ -1,0 +1,2 @@
+-- Lemmas on what is read.
+pub mod Images

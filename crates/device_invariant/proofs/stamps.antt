@@ -1,0 +1,3 @@
+-- Lemmas on stamps.
+pub mod Stamped
+pub mod Slots

@@ -1,0 +1,3 @@
+-- Lemmas on what is read.
+pub mod Scans
+pub mod Snapshots

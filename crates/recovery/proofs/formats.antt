@@ -1,0 +1,2 @@
+-- Lemmas on formats.
+pub mod Stages

@@ -1,0 +1,6 @@
+-- Lemmas on openings.
+pub mod Gaps
+pub mod Images
+pub mod Faults
+pub mod Devices
+pub mod Updates

@@ -1,0 +1,136 @@
+-- A tick for the batch in hand, as a part of a close.
+use Rattle.std.proofs.Common.{◌≡◌, ◌≢◌, true, false, ◌&&◌, not, refl, sym, ◌∙◌, ap, subst, true≢false}
+use Rattle.std.proofs.Math.Bridge.{le_prop}
+use Rattle.std.proofs.Math.Logic.{∥∥₁_elim}
+use Rattle.std.proofs.Math.Nat.{ℕ_set}
+use Rattle.std.specs.Prelude.{Option, Some, None, Result, Ok, Err, is_none, is_some, IsTrue}
+use Rattle.base.specs.declared.fault.Fault.{Fault}
+use Rattle.base.specs.declared.fault.Fault.TheVariants.{Device as DeviceFault, OutOfMemory}
+use Rattle.base.specs.Batches.{Batch}
+use Rattle.base.specs.declared.step.Stage.{Stage}
+use Rattle.base.specs.declared.step.Step.TheVariants.{Commit as CommitTick}
+use Rattle.base.specs.declared.step.Reply.{Reply}
+use Rattle.base.specs.declared.step.Reply.TheVariants.{Refused}
+use Rattle.machine.specs.Machine.{State, Hand, Stepped, refused, answered, memory_refused, device_failed, refusal, is_idle, ticked, ticked_on, state_ticked, state_ticked_on, next_stage, StandsClosing}
+use Rattle.pmem.specs.Device.{Device}
+use Rattle.pmem.specs.Words.{LeavesOnly}
+use Rattle.pmem.proofs.Images.{leaves_weaken}
+use Rattle.group_commit.specs.Cycles.{Cycling}
+use Rattle.cycle_simulation.proofs.closes.States.{closes-on}
+use Rattle.cycle_simulation.proofs.covers.Ticks.{refusal-in_hand}
+use Rattle.session_steps.proofs.Effects.{none-failed}
+use Rattle.session_steps.specs.declared.sessions.Sessions.{Sessions}
+use Rattle.room.specs.declared.volatile.VolatileState.{VolatileState}
+use Rattle.room.specs.Committing.{HoldsCycle, Shows}
+use Rattle.room.specs.Steps.{Steps, ShowsSome, ShowsSomeIn}
+use Rattle.room.specs.declared.ticks.Tick.{Tick}
+use Rattle.room.specs.declared.ticks.Tick.TheVariants as came
+use Rattle.room.specs.Ticks.{as_reply}
+use Rattle.room.specs.Closing.{ClosePhaseDone, ClosePhaseFailed}
+use Rattle.room.proofs.closes.Parts.{device-fault}
+
+-- ---- what a tick of a cycle comes to
+
+module _ (q q' : State) (hand : Hand) (reply : Reply) (in_hand : q.hand ≡ Some hand) (up : q.failed ≡ false) (stepped : Stepped q CommitTick reply q') where
+  unrefused : (fault : Fault) → refusal q CommitTick ≡ Some fault → ⊥
+  unrefused fault is = let none = refusal-in_hand q hand up in_hand in cc
+
+  takes-none : IsTrue (is_none q.hand && not (is_idle q)) → ⊥
+  takes-none takes = true≢false (sym takes ∙ ap (λ (h : Option Hand). is_none h && not (is_idle q)) in_hand)
+
+  -- it fails with the device alone
+  fails : (fault : Fault) → reply ≡ Refused fault → fault ≡ DeviceFault
+  fails fault is = by stepped
+    where
+      answers : (o : Option Stage) → ticked_on q hand o ≡ Refused fault → ⊥
+      answers (Some stage) told = cc told
+      answers None told = cc told
+
+      by : Stepped q CommitTick reply q' → fault ≡ DeviceFault
+      by (refused other why told same) = absurd (unrefused other why)
+      by (answered none told same) = absurd (answers (next_stage q hand) (sym (told ∙ ap (ticked q) in_hand) ∙ is))
+      by (memory_refused none takes told same) = absurd (takes-none takes)
+      by (device_failed none operating told same) = let e : Refused fault ≡ Refused DeviceFault = sym is ∙ told in cc e
+
+  -- and otherwise the state works on
+  works-on : ((fault : Fault) → reply ≢ Refused fault) → q'.failed ≡ false
+  works-on un = by stepped
+    where
+      after : (o : Option Stage) → (state_ticked_on q hand o).failed ≡ false
+      after (Some stage) = up
+      after None = up
+
+      by : Stepped q CommitTick reply q' → q'.failed ≡ false
+      by (refused other why told same) = absurd (un other told)
+      by (answered none told same) = ap (λ (p : State). p.failed) (same ∙ ap (state_ticked q) in_hand) ∙ after (next_stage q hand)
+      by (memory_refused none takes told same) = absurd (un OutOfMemory told)
+      by (device_failed none operating told same) = absurd (un DeviceFault told)
+
+-- ---- the cycle in hand
+
+pub with-hand : (s : Sessions) (o : Option Cycling) (cycle : Cycling) (device : Device) → o ≡ Some cycle → ∥ ShowsSomeIn s o device ∥₁ → ∥ ShowsSomeIn s (Some cycle) device ∥₁
+with-hand s o cycle device is some = subst (λ (hand : Option Cycling). ∥ ShowsSomeIn s hand device ∥₁) is some
+
+pub one-hand : (o : Option Cycling) (a b : Cycling) → o ≡ Some a → o ≡ Some b → a ≡ b
+one-hand o a b first second = cc (first, second)
+
+-- ---- its reply
+
+-- it is no refusal where nothing was refused
+pub unrefused-reply : (r : Result Tick Fault) (last : Option Batch) → ((fault : Fault) → r ≢ Err fault) → (fault : Fault) → as_reply r last ≢ Refused fault
+unrefused-reply (Ok came.Idle) last un fault is = cc is
+unrefused-reply (Ok (came.Reached stage)) last un fault is = cc is
+unrefused-reply (Ok came.Covered) (Some batch) un fault is = cc is
+unrefused-reply (Ok came.Covered) None un fault is = cc is
+unrefused-reply (Err other) last un fault is = un other refl
+
+-- ---- a part
+
+pub rests : (o : Option Cycling) → is_some o ≡ false → o ≡ None
+rests None is = refl
+rests (Some cycle) is = absurd (cc is)
+
+module _ (old new : VolatileState) (before now : Device) (reply : Reply) (busy : is_some old.cycle ≡ true) (some : ∥ ShowsSome old before ∥₁) (steps : Steps old new before now CommitTick reply) where
+  hand-of : (q : State) → Shows old before q → (hand : Hand) × (q.hand ≡ Some hand)
+  hand-of q shown = by q.hand old.cycle refl busy shown.cycle_is
+    where
+      by : (h : Option Hand) (o : Option Cycling) → q.hand ≡ h → is_some o ≡ true → HoldsCycle q old.sessions.drawn.commits h o → (hand : Hand) × (q.hand ≡ Some hand)
+      by None None is there holds = absurd (cc there)
+      by None (Some cycle) is there holds = absurd holds
+      by (Some hand) o is there holds = (hand, is)
+
+  images-of : (q : State) → Shows old before q → q.failed ≡ false → LeavesOnly before now (StandsClosing q)
+  images-of q shown works =
+      let to = steps q shown works in
+      let hand = hand-of q shown in
+      leaves_weaken (λ image s. closes-on.ticking q to.0 hand.0 reply image hand.1 works to.1.stepped s) to.1.effect.images
+
+  pub tick-done : ((fault : Fault) → reply ≢ Refused fault) → ClosePhaseDone old new before now
+  tick-done un = record {
+    no_failure = ∥∥₁_elim some (ℕ_set _ _) (λ shown. none-failed (steps shown.0 shown.1 shown.2).1.effect (un DeviceFault));
+    goes_on = λ q shown works.
+        let to = steps q shown works in
+        let hand = hand-of q shown in
+        let works' = works-on q to.0 hand.0 reply hand.1 works to.1.stepped un in (
+          to.0,
+          record {
+            shows = to.1.shows;
+            works = works';
+            closes = closes-on.tick shown.shown.hidden.origin q to.0 hand.0 reply shown.shown.upholds.keeps hand.1 works to.1.stepped works';
+            images = images-of q shown works;
+          },
+        );
+  }
+
+  pub tick-failed : (fault : Fault) → reply ≡ Refused fault → ClosePhaseFailed old before now fault
+  tick-failed fault is = record {
+    fault_is = told;
+    failure = ∥∥₁_elim some le_prop (λ shown. (steps shown.0 shown.1 shown.2).1.effect.failure.cause (is ∙ ap (λ (f : Fault). Refused f) told));
+    images = images-of;
+  }
+    where
+      told : fault ≡ DeviceFault
+      told = device-fault fault some (λ shown.
+          let to = steps shown.0 shown.1 shown.2 in
+          let hand = hand-of shown.0 shown.1 in
+          fails shown.0 to.0 hand.0 reply hand.1 shown.2 to.1.stepped fault is)

@@ -1,0 +1,3 @@
+-- Lemmas on openings.
+pub mod Shown
+pub mod LiveIndex

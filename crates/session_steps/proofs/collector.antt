@@ -1,0 +1,5 @@
+-- Lemmas on visits of the collector, and on its sweeps.
+pub mod Slots
+pub mod Readers
+pub mod Agrees
+pub mod Visits

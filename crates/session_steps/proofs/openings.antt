@@ -1,0 +1,2 @@
+-- Lemmas on openings.
+pub mod States

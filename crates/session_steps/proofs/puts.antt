@@ -1,0 +1,3 @@
+-- Lemmas on puts.
+pub mod LineRoom
+pub mod Steps

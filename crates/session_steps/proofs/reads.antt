@@ -1,0 +1,4 @@
+-- Lemmas on what is read.
+pub mod Rows
+pub mod Scans
+pub mod Tables

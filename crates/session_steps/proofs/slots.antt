@@ -1,0 +1,5 @@
+-- Lemmas on the slots that sessions hold.
+pub mod Held
+pub mod Owned
+pub mod Freed
+pub mod Freeing

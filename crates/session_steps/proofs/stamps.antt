@@ -1,0 +1,2 @@
+-- Lemmas on stamps.
+pub mod Steps

@@ -1,0 +1,65 @@
+-- What agrees where one transaction is set, and its session takes slots and gives them back.
+use Rattle.std.proofs.Common.{◌≡◌, ℕ, ◌<◌, Bool, true, false, cond, List, length, refl, sym, ◌∙◌, subst, nat_eq, arith}
+use Rattle.std.specs.Prelude.{Option, Some, None, is_none, slice_get, All}
+use Rattle.std.proofs.lemmas.Bool.Decides.{nat_tests}
+use Rattle.machine.specs.Machine.{State, Version, BySession, ByCommit}
+use Rattle.txn.specs.declared.drawn.DrawnCommit.{DrawnCommit}
+use Rattle.txn.specs.declared.transaction.Transaction.{Transaction}
+use Rattle.txn.specs.declared.transaction.Transaction.TheVariants.{Active, Drawn, ReadOnly}
+use Rattle.txn.specs.Transactions.{transaction_at, Sets}
+use Rattle.index.specs.Entries.{entry_at, live_of}
+use Rattle.state_invariant.specs.Kept.{Origin}
+use Rattle.device_invariant.specs.Slots.{newest_of}
+use Rattle.dirty_table.specs.Touches.{promised_to}
+use Rattle.session_steps.specs.declared.sessions.Sessions.{Sessions}
+use Rattle.session_laws.specs.Sees.{Sees}
+use Rattle.session_steps.specs.Shows.{Hidden, plain_of, HoldsSession, HoldsDrawn, HasLines, Agrees}
+use Rattle.session_steps.proofs.transactions.Sets.{each-set}
+use Rattle.session_steps.proofs.slots.Held.{SameBut, Moves, slot-kept, version-kept, version-before, writes-kept, table-kept}
+
+-- what holds of a session that isn't the one
+pub session-kept : (o : Origin) (n m : ℕ) (q q' : State) (seen : ℕ) (t : Option Transaction) → SameBut n q q' → ((snapshot : _) → Sees o q snapshot seen → Sees o q' snapshot seen) → nat_eq m n ≡ false
+    → HoldsSession o q m seen t → HoldsSession o q' m seen t
+session-kept o n m q q' seen None same sees apart holds = tt
+session-kept o n m q q' seen (Some (Active snapshot writes)) same sees apart holds = (sees snapshot holds.0, writes-kept n q q' (BySession m) writes same apart holds.1)
+session-kept o n m q q' seen (Some (Drawn t)) same sees apart holds = tt
+session-kept o n m q q' seen (Some ReadOnly) same sees apart holds = tt
+
+-- what agrees but for the sessions and the free slots
+pub agrees-changed : (s : Sessions) (h : Hidden) (ts : List (Option Transaction)) (slots : List Bool) (seen : ℕ → ℕ) (held : ℕ → Option Version) (n : ℕ) (x : Option Transaction)
+    → Agrees s h.origin h.seen (plain_of s h) → Sets s.transactions ts n x → Moves n h.held held
+    → ((m : ℕ) → nat_eq m n ≡ false → seen m ≡ h.seen m)
+    → HoldsSession h.origin (plain_of (record s { transactions = ts; slots = slots }) (record h { seen = seen; held = held })) n (seen n) x → HasLines (promised_to s.dirty n) x
+    → All (λ (d : DrawnCommit). transaction_at s.transactions n ≡ Some (Drawn d.timestamp) → ⊥) s.drawn.commits
+    → ((slot : ℕ) → slot < s.numbers.geometry.slots → slice_get slots slot ≡ Some (is_none (held slot))) → length slots ≡ s.numbers.geometry.slots
+    → Agrees (record s { transactions = ts; slots = slots }) h.origin seen (plain_of (record s { transactions = ts; slots = slots }) (record h { seen = seen; held = held }))
+agrees-changed s h ts slots seen held n x agrees sets moves same-seen here has-room apart free counted = record {
+  sessions = each-set (λ m t. HoldsSession h.origin q' m (seen m) t) s.transactions ts n x sets here
+      (λ m ne. subst (λ (k : ℕ). HoldsSession h.origin q' m k (transaction_at s.transactions m)) (sym (same-seen m ne)) (session-kept h.origin n m q q' (h.seen m) (transaction_at s.transactions m) same (λ snapshot sees. record { covered = sees.covered; early = sees.early; gaps = sees.gaps }) ne (agrees.sessions m)));
+  drawn = λ k d lt. drawn _ (agrees.drawn k d lt) (apart k d lt);
+  free = free;
+  counted = counted;
+  index = λ key. let e = agrees.index key in record { live = slot-kept n q q' (newest_of q key) (live_of (entry_at s.index key)) same refl e.live; last = e.last; newest = λ t slot last lt at. e.newest t slot last lt (version-before n q q' key slot t same at); only = λ slot at. version-kept n q q' key slot same (e.only slot at); drawn = e.drawn };
+  lines = table-kept n q q' s.drawn.commits s.dirty.touches same agrees.lines;
+  room = each-set (λ m t. HasLines (promised_to s.dirty m) t) s.transactions ts n x sets has-room (λ m apart. agrees.room m);
+}
+  where
+    q : State
+    q = plain_of s h
+
+    q' : State
+    q' = plain_of (record s { transactions = ts; slots = slots }) (record h { seen = seen; held = held })
+
+    same : SameBut n q q'
+    same = record { layout = refl; history = refl; held = moves }
+
+    drawn : (d : DrawnCommit) → HoldsDrawn s q d → (transaction_at s.transactions n ≡ Some (Drawn d.timestamp) → ⊥) → HoldsDrawn (record s { transactions = ts; slots = slots }) q' d
+    drawn d holds apart = record {
+      session = sets d.session ∙ by (nat_eq d.session n) refl;
+      writes = writes-kept n q q' (ByCommit d.timestamp) d.writes same refl holds.writes;
+      room = holds.room;
+    }
+      where
+        by : (b : Bool) → nat_eq d.session n ≡ b → cond b x (transaction_at s.transactions d.session) ≡ Some (Drawn d.timestamp)
+        by true is = let e : d.session ≡ n = grind (arith, nat_tests) in absurd (apart (subst (λ (k : ℕ). transaction_at s.transactions k ≡ Some (Drawn d.timestamp)) e holds.session))
+        by false is = holds.session

@@ -1,0 +1,3 @@
+-- Lemmas on draws.
+pub mod Kept
+pub mod Links

@@ -1,0 +1,3 @@
+-- Lemmas on puts.
+pub mod Shown
+pub mod Links

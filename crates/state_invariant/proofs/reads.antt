@@ -1,0 +1,3 @@
+-- Lemmas on what is read.
+pub mod Tables
+pub mod SweptGaps

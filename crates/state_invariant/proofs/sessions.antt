@@ -1,0 +1,3 @@
+-- Lemmas on steps that change one session alone.
+pub mod Changes
+pub mod Steps

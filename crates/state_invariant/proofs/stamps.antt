@@ -1,0 +1,4 @@
+-- Lemmas on stamps.
+pub mod Kept
+pub mod Stamped
+pub mod Shown

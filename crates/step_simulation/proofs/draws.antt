@@ -1,0 +1,2 @@
+-- Lemmas on draws.
+pub mod Leads

@@ -1,0 +1,3 @@
+-- Lemmas on puts.
+mod Words
+pub mod Leads

@@ -1,0 +1,4 @@
+-- Lemmas on stamps.
+mod Writes
+pub mod Leads
+pub mod Lines
