@@ -8,7 +8,7 @@ import shutil
 import subprocess
 
 from journal import shorten
-from store import Lost, Transactions, acknowledged, after, rows_in
+from store import Lost, Transactions, acknowledged, after, may_be_found, rows_in
 
 CALLS = ("pwrite64", "fdatasync", "fsync", "ftruncate")
 FIRST = {1: "a1", 2: "a2"}
@@ -37,7 +37,7 @@ def disturbed(kv, base, file, text, models, call, at, how):
     run = subprocess.run(["strace", "-f", "-o", os.devnull, "-e", f"trace={call}", "-e", f"inject={call}:{how}:when={at}", kv, file],
                          input=text, capture_output=True, text=True, timeout=120, check=False)
     done, rows = acknowledged(run.stdout), rows_in(kv, file)
-    if rows not in models[done:done + 2]:
+    if rows not in may_be_found(models, done):
         raise Lost(f"{call} {at} {how}: {done} acknowledged, found {rows}, {run.stdout}")
     return run
 

@@ -2,14 +2,14 @@
 
 strace gives the order of the writes, the new lengths, the syncs and the answers. An image is made so: all that was done before the last
 sync began that had returned is there; of what was written since, each word of 8 bytes is there or not, by a coin, and so is each new length.
-What was answered by then must be found in it, and at most the commit in hand besides.
+What was answered by then must be found in it, and besides at most the commits whose answers were held, and the one in hand.
 """
 import os
 import re
 import subprocess
 
 from journal import is_append, shorten
-from store import Lost, Transactions, acknowledged, after, rows_in
+from store import Lost, Transactions, acknowledged, after, may_be_found, rows_in
 
 KEYS = 12
 CALLS = "trace=openat,fcntl,ftruncate,pwrite64,fdatasync,fsync,write"
@@ -137,7 +137,7 @@ def traced(kv, file, text):
 
 
 def fail_power(kv, folder, rng, images, transactions, first, spoil):
-    """Power failures within one run over a file that holds this first. How many had open changes, and how many the commit in hand."""
+    """Power failures within one run over a file that holds this first. How many had open changes, and how many a commit that wasn't answered yet."""
     file, left = os.path.join(folder, "power.img"), os.path.join(folder, "left.img")
     with open(file, "wb") as out:
         out.write(first)
@@ -158,7 +158,7 @@ def fail_power(kv, folder, rng, images, transactions, first, spoil):
         with open(left, "wb") as out:
             out.write(image)
         rows = rows_in(kv, left)
-        if rows not in models[done:done + 2]:
+        if rows not in may_be_found(models, done):
             raise Lost(f"image {number}, before event {stop}, {done} acknowledged: found {sorted(rows.items())}")
         ahead += rows != models[done]
     return torn, ahead, sum(event[0] == "write" for event in events), sum(event[0] == "sync" for event in events)
@@ -178,5 +178,5 @@ def run(kv, folder, rng, images, transactions=60, spoil=None):
     small = fail_power(kv, folder, rng, images - images // 2, transactions, small_store(kv, folder), spoil)
     torn, ahead, writes, syncs = map(sum, zip(new, small))
     return (f"{images} power failures within two runs of {transactions} transactions, from a file that isn't there and with a journal that is often "
-            f"full, {writes} writes and {syncs} syncs: {torn} with changes not yet synced; none acknowledged was lost; {ahead} had the commit in "
-            f"hand, as a whole")
+            f"full, {writes} writes and {syncs} syncs: {torn} with changes not yet synced; none acknowledged was lost; {ahead} had commits "
+            f"whose answers were still to be printed, each as a whole")

@@ -3,6 +3,11 @@ import re
 import subprocess
 
 
+# So many commits may be kept besides those that were answered: kv holds up to 16 answers while further lines are waiting, and one commit is in
+# hand.
+MOST_UNANSWERED = 17
+
+
 class Lost(Exception):
     """What was acknowledged isn't found, or something else is."""
 
@@ -42,6 +47,11 @@ def acknowledged(output):
     """How many commits a run of kv has answered."""
     lines = output.split("\n")[:-1]
     return sum(1 for line in lines if re.fullmatch(r"committed \d+", line))
+
+
+def may_be_found(models, done):
+    """What may be found after so many commits were answered, where these are the rows after none, one and so on."""
+    return models[done:done + 1 + MOST_UNANSWERED]
 
 
 def rows_in(kv, file):
