@@ -98,7 +98,8 @@ impl<'a, D: SyncAhead + Drop, R: Wait> Transaction<'a, D, R> {
 
     /// Writes the row under the key. Where no slot is free, those that nobody needs are collected first.
     pub fn put(&mut self, key: Key, row: Row) -> Result<(), Fault>
-        ensures { AnswersPut self.old.session key row result }
+        ensures made { AnswersPut self.old.session key row result }
+        ensures same { self.new ≡ self.old }
     {
         let mut desk = self.shared.desk(self.rt);
         let Some(room) = &mut desk.room else {
@@ -109,7 +110,8 @@ impl<'a, D: SyncAhead + Drop, R: Wait> Transaction<'a, D, R> {
 
     /// Deletes the row under the key, if there is one.
     pub fn delete(&mut self, key: Key) -> Result<(), Fault>
-        ensures { AnswersStep (Delete self.old.session key) done_of result }
+        ensures made { AnswersStep (Delete self.old.session key) done_of result }
+        ensures same { self.new ≡ self.old }
     {
         let mut desk = self.shared.desk(self.rt);
         let Some(room) = &mut desk.room else {
@@ -121,7 +123,8 @@ impl<'a, D: SyncAhead + Drop, R: Wait> Transaction<'a, D, R> {
     /// Makes these writes in their order, as `put` and, where there is no row, `delete` do, up to the first that is refused. No step of
     /// another thread comes in between, so many writes take the lock once.
     pub fn write(&mut self, writes: &[(Key, Option<Row>)]) -> Result<(), Fault>
-        ensures { AnswersWrites self.old.session writes.now result }
+        ensures made { AnswersWrites self.old.session writes.now result }
+        ensures same { self.new ≡ self.old }
     {
         let mut desk = self.shared.desk(self.rt);
         let Some(room) = &mut desk.room else {

@@ -40,7 +40,8 @@ impl<R: Wait + Drop> Transaction<'_, R> {
     /// Writes the row under the key. `RowTooLong`, `TooManyKeys` and `Full` refuse it. It waits as a read does, and where no slot
     /// is free looks for those that nobody needs first.
     pub fn put(&mut self, key: Key, row: Row) -> Result<(), StoreError>
-        ensures { Puts self.old.snapshot.reads.session key row self.old.row_limit result }
+        ensures made { Puts self.old.snapshot.reads.session key row self.old.row_limit result }
+        ensures same { self.new ≡ self.old }
     {
         match self.snapshot.reads.put(key, row) {
             Ok(()) => Ok(()),
@@ -50,14 +51,16 @@ impl<R: Wait + Drop> Transaction<'_, R> {
 
     /// Writes the number under the key, in 8 bytes.
     pub fn put_number(&mut self, key: Key, number: u64) -> Result<(), StoreError>
-        ensures { Puts self.old.snapshot.reads.session key (to_le_bytes w64 number) self.old.row_limit result }
+        ensures made { Puts self.old.snapshot.reads.session key (to_le_bytes w64 number) self.old.row_limit result }
+        ensures same { self.new ≡ self.old }
     {
         self.put(key, Row::of_u64(number))
     }
 
     /// Deletes the row under the key, if there is one. `TooManyKeys` refuses it.
     pub fn delete(&mut self, key: Key) -> Result<(), StoreError>
-        ensures { Answers (Delete self.old.snapshot.reads.session key) done_of result }
+        ensures made { Answers (Delete self.old.snapshot.reads.session key) done_of result }
+        ensures same { self.new ≡ self.old }
     {
         Ok(self.snapshot.reads.delete(key)?)
     }
@@ -65,7 +68,8 @@ impl<R: Wait + Drop> Transaction<'_, R> {
     /// Makes these writes in their order, as `put` and, where there is no row, `delete` do, up to the first that is refused. They wait
     /// once, and no step of another thread comes in between.
     pub fn write(&mut self, writes: &[(Key, Option<Row>)]) -> Result<(), StoreError>
-        ensures { MakesWrites self.old.snapshot.reads.session writes.now self.old.row_limit result }
+        ensures made { MakesWrites self.old.snapshot.reads.session writes.now self.old.row_limit result }
+        ensures same { self.new ≡ self.old }
     {
         match self.snapshot.reads.write(writes) {
             Ok(()) => Ok(()),
