@@ -88,7 +88,8 @@ def failing_output(kv, folder):
             rows, done = rows_in(kv, file), acknowledged(ended.output)
             want(rows in may_be_found(MODELS, done), f"write {at}: {done} acknowledged, found {rows}", ended)
             count += 1
-    want(count >= 15, f"{count} writes failed only")
+    # Its writes are what it says when it is ready, the answers together, and what it says at its end.
+    want(count >= 9, f"{count} writes failed only")
     return f"{count} runs whose output failed: each ended with 1, and with what was acknowledged"
 
 

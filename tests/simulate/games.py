@@ -207,11 +207,11 @@ class Followed:
 
 def play_file(rng, programs):
     """Lives of kv over a file of any version, traced: after a power failure before any system call, each word that no sync followed is
-    old or new. What is left must open with what was acknowledged, or one transaction more, and what kv leaves of it be sound; and kv
+    old or new. What is left must open with what was acknowledged, or a few transactions more, whose answers were held, and what kv leaves of it be sound; and kv
     lives on over one of them."""
     sys.path.insert(0, DURABILITY)
     import power
-    from store import Transactions, acknowledged, after
+    from store import Transactions, acknowledged, after, may_be_found
 
     version = rng.choice([1, 2, 3])
     path, trace, counts = programs.path("file"), programs.path("trace"), collections.Counter()
@@ -233,7 +233,7 @@ def play_file(rng, programs):
             stop = rng.randint(0, len(events))
             left, done, _ = power.image_before(first, events, stop, rng)
             rows = rows_left(rng, programs, left, f"kv over version {version}, before call {stop}, {done} acknowledged")
-            if rows not in models[done:done + 2]:
+            if rows not in may_be_found(models, done):
                 raise Found(f"kv over version {version}, before call {stop}, {done} acknowledged: {sorted(rows.items())}")
             counts.update(stops=1, images=1)
         pathlib.Path(path).write_bytes(left)
