@@ -2,14 +2,15 @@
 
 strace gives the order of the writes, the new lengths, the syncs and the answers. An image is made so: all that was done before the last
 sync began that had returned is there; of what was written since, each word of 8 bytes is there or not, by a coin, and so is each new length.
-What was answered by then must be found in it, and besides at most the commits whose answers were held, and the one in hand.
+What was answered by then must be found in it, and besides at most the one in hand and, where the sender doesn't wait for each answer, the
+commits whose answers were held.
 """
 import os
 import re
 import subprocess
 
 from journal import is_append, shorten
-from store import Lost, Transactions, acknowledged, after, may_be_found, rows_in
+from store import IN_HAND, MOST_UNANSWERED, Lost, Transactions, acknowledged, after, may_be_found, rows_in, send_and_wait
 
 KEYS = 12
 CALLS = "trace=openat,fcntl,ftruncate,pwrite64,fdatasync,fsync,write"
@@ -128,28 +129,36 @@ def without_syncs(_first, events):
             yield event
 
 
-def traced(kv, file, text):
-    """The events of a run of kv."""
+def traced(kv, file, sent, waits):
+    """The events of a run of kv, whose sender waits for the answer of each of these transactions or for none."""
     trace = file + ".trace"
-    subprocess.run(["strace", "-f", "-xx", "-s", "50000000", "-e", CALLS, "-o", trace, kv, file],
-                   input=text, text=True, stdout=subprocess.DEVNULL, stderr=subprocess.DEVNULL, check=True)
+    with subprocess.Popen(["strace", "-f", "-xx", "-s", "50000000", "-e", CALLS, "-o", trace, kv, file],
+                          stdin=subprocess.PIPE, stdout=subprocess.PIPE, stderr=subprocess.DEVNULL, text=True) as run:
+        if waits:
+            send_and_wait(run, sent)
+            run.communicate()
+        else:
+            run.communicate("".join("\n".join(lines) + "\n" for _, lines in sent))
+    if run.returncode != 0:
+        raise Lost(f"kv ended with {run.returncode}")
     return events_of(trace, file)
 
 
-def fail_power(kv, folder, rng, images, transactions, first, spoil):
+def fail_power(kv, folder, rng, images, transactions, first, spoil, waits=False):
     """Power failures within one run over a file that holds this first. How many had open changes, and how many a commit that wasn't answered yet."""
     file, left = os.path.join(folder, "power.img"), os.path.join(folder, "left.img")
     with open(file, "wb") as out:
         out.write(first)
     source = Transactions(rng, KEYS, 3)
     sent = [source.next() for _ in range(transactions)]
-    events = traced(kv, file, "".join("\n".join(lines) + "\n" for _, lines in sent))
+    events = traced(kv, file, sent, waits)
     if spoil:
         events = list(spoil(first, events))
     models = [{}]
     for writes, _ in sent:
         models.append(after(models[-1], writes))
     start = next(at for at, event in enumerate(events) if event[0] == "write")
+    unanswered = IN_HAND if waits else MOST_UNANSWERED
     torn = ahead = 0
     for number in range(images):
         stop = rng.randint(start, len(events))
@@ -158,7 +167,7 @@ def fail_power(kv, folder, rng, images, transactions, first, spoil):
         with open(left, "wb") as out:
             out.write(image)
         rows = rows_in(kv, left)
-        if rows not in may_be_found(models, done):
+        if rows not in may_be_found(models, done, unanswered):
             raise Lost(f"image {number}, before event {stop}, {done} acknowledged: found {sorted(rows.items())}")
         ahead += rows != models[done]
     return torn, ahead, sum(event[0] == "write" for event in events), sum(event[0] == "sync" for event in events)
@@ -174,9 +183,10 @@ def small_store(kv, folder):
 
 
 def run(kv, folder, rng, images, transactions=60, spoil=None):
-    new = fail_power(kv, folder, rng, images // 2, transactions, b"", spoil)
-    small = fail_power(kv, folder, rng, images - images // 2, transactions, small_store(kv, folder), spoil)
-    torn, ahead, writes, syncs = map(sum, zip(new, small))
-    return (f"{images} power failures within two runs of {transactions} transactions, from a file that isn't there and with a journal that is often "
-            f"full, {writes} writes and {syncs} syncs: {torn} with changes not yet synced; none acknowledged was lost; {ahead} had commits "
+    new = fail_power(kv, folder, rng, images // 4, transactions, b"", spoil)
+    waiting = fail_power(kv, folder, rng, images // 4, transactions, b"", spoil, waits=True)
+    small = fail_power(kv, folder, rng, images - 2 * (images // 4), transactions, small_store(kv, folder), spoil, waits=rng.random() < 0.5)
+    torn, ahead, writes, syncs = map(sum, zip(new, waiting, small))
+    return (f"{images} power failures within three runs of {transactions} transactions, two from a file that isn't there, in one of them by a sender "
+            f"that waits for each answer, and one with a journal that is often full, {writes} writes and {syncs} syncs: {torn} with changes not yet synced; none acknowledged was lost; {ahead} had commits "
             f"whose answers were still to be printed, each as a whole")

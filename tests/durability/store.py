@@ -3,9 +3,10 @@ import re
 import subprocess
 
 
-# So many commits may be kept besides those that were answered: kv holds up to 16 answers while further lines are waiting, and one commit is in
-# hand.
-MOST_UNANSWERED = 17
+# So many commits may be kept besides those that were answered. Where the sender waits for each answer, only the one in hand; else kv
+# holds up to 16 answers more, while further lines are waiting.
+IN_HAND = 1
+MOST_UNANSWERED = 16 + IN_HAND
 
 
 class Lost(Exception):
@@ -49,9 +50,27 @@ def acknowledged(output):
     return sum(1 for line in lines if re.fullmatch(r"committed \d+", line))
 
 
-def may_be_found(models, done):
-    """What may be found after so many commits were answered, where these are the rows after none, one and so on."""
-    return models[done:done + 1 + MOST_UNANSWERED]
+def send_and_wait(child, sent):
+    """Sends each of the transactions to kv once the one before is answered, as long as it answers: what it printed."""
+    output = ""
+    try:
+        for _, lines in sent:
+            child.stdin.write("\n".join(lines) + "\n")
+            child.stdin.flush()
+            line = " "
+            while line and not acknowledged(line):
+                line = child.stdout.readline()
+                output += line
+            if not line:
+                break
+    except (BrokenPipeError, ValueError):
+        pass
+    return output
+
+
+def may_be_found(models, done, unanswered=MOST_UNANSWERED):
+    """What may be found after so many commits were answered and at most so many weren't, where these are the rows after none, one and so on."""
+    return models[done:done + 1 + unanswered]
 
 
 def rows_in(kv, file):

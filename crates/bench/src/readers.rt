@@ -7,6 +7,7 @@ use base::key::Key;
 use base::longs::Longs;
 use base::row::Row;
 use board::{Board, History, Naming, Reader};
+use smallvec::SmallVec;
 use std::alloc::{AllocError, Global};
 use std::marker::Brand;
 use std::sync::Wait;
@@ -144,7 +145,7 @@ fn update(alloc: Global, timestamp: u64, row: Row) -> Result<Vec<Commit>, AllocE
         table: 1,
         key: timestamp % KEYS,
     };
-    let writes = Vec::from_array(alloc, [(key, Some(row))])?;
+    let writes = SmallVec::from_slice(alloc, &[(key, Some(row))])?;
     Ok(Vec::from_array(alloc, [Commit::new(timestamp, writes)])?)
 }
 

@@ -13,6 +13,7 @@ use base::longs::Longs;
 use base::{NUMBER_LIMIT, Ts};
 use dirty_table::SessionSet;
 use log_area::Record;
+use smallvec::SmallVec;
 use std::alloc::{AllocError, Global};
 use txn::{DrawnCommit, DrawnCommits};
 
@@ -138,7 +139,7 @@ fn commits_of(alloc: Global, reach: Ts, drawn: &[DrawnCommit]) -> Result<Vec<Com
 fn commit_of(alloc: Global, drawn: &DrawnCommit) -> Result<Commit, AllocError>
     ensures { IfOk result (λ commit. commit ≡ (plain_drawn drawn.now).commit) }
 {
-    let mut rows = Vec::with_capacity(alloc, drawn.writes.len())?;
+    let mut rows = SmallVec::with_capacity(alloc, drawn.writes.len())?;
     for write in drawn.writes.as_slice() {
         rows.push((write.key, write.row))?;
     }

@@ -9,6 +9,7 @@ use base::key::Key;
 use base::longs::Longs;
 use base::row::Row;
 use board::{Board, History, Naming, Reader};
+use smallvec::SmallVec;
 use std::alloc::{AllocError, Global};
 use std::marker::Brand;
 use std::sync::Wait;
@@ -110,7 +111,7 @@ fn next_batch<J: Naming, H: Wait>(
 }
 
 fn commits(alloc: Global, timestamp: u64, row: Row) -> Result<Vec<Commit>, AllocError> {
-    let writes = Vec::from_array(alloc, [(KEY, Some(row))])?;
+    let writes = SmallVec::from_slice(alloc, &[(KEY, Some(row))])?;
     Ok(Vec::from_array(alloc, [Commit::new(timestamp, writes)])?)
 }
 

@@ -8,6 +8,7 @@ use base::key::Key;
 use base::longs::Longs;
 use base::row::Row;
 use board::{Board, History, Naming, Reader, Token};
+use smallvec::SmallVec;
 use std::alloc::{AllocError, Global};
 use std::marker::Brand;
 use std::sync::atomic::{AtomicBool, Ordering};
@@ -23,7 +24,7 @@ const KEY: Key = Key { table: 1, key: 7 };
 fn commits(alloc: Global, timestamps: &[Ts], row: Row) -> Result<Vec<Commit>, AllocError> {
     let mut commits = Vec::new(alloc);
     for timestamp in timestamps {
-        let writes = Vec::from_array(alloc, [(KEY, Some(row))])?;
+        let writes = SmallVec::from_slice(alloc, &[(KEY, Some(row))])?;
         commits.push(Commit::new(*timestamp, writes))?;
     }
     Ok(commits)
