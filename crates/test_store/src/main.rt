@@ -9,6 +9,7 @@ mod ranges;
 mod refusals;
 
 use anyhow::Error;
+use std::fs;
 use store::{Geometry, Store};
 
 fn main(rt: HostRuntime) -> Result<(), Error> {
@@ -19,6 +20,9 @@ fn main(rt: HostRuntime) -> Result<(), Error> {
     conflicts::meet_each(&rt, &store)?;
     refusals::meet_each(&rt, &store)?;
     store.close()?;
+    // 64 slots and two places take 8 * (1 + 4 * 2 + 64) words.
+    let left = fs::read(&rt, "calls.img")?;
+    println!(rt; "closed, of {} bytes", left.len())?;
     let store = Store::open(rt, rt.alloc(), "calls.img", geometry)?;
     calls::find_all(&rt, &store)?;
     store.close()?;
