@@ -1,14 +1,16 @@
 -- Touches by rising line: those from a line on.
-use Rattle.std.proofs.Common.{◌≡◌, ◌⊎◌, ℕ, zero, suc, ◌+◌, ◌-◌, ◌<◌, ◌≤◌, Bool, true, false, cond, ◌&&◌, ◌||◌, not, nat_eq, nat_le, nat_lt, List, [], ◌∷◌, ◌++◌, length, drop, Option, Some, None, refl, sym, ◌∙◌, ap, subst, arith, get_or}
-use Rattle.std.specs.List.{list_any, find, position_or_len, slice_get, All}
+use Rattle.std.proofs.Common.{◌≡◌, ℕ, zero, suc, ◌+◌, ◌-◌, ◌<◌, ◌≤◌, Bool, true, false, cond, ◌&&◌, ◌||◌, not, nat_eq, nat_le, nat_lt, List, [], ◌∷◌, ◌++◌, length, drop, Option, Some, None, refl, sym, ◌∙◌, ap, subst, arith, get_or}
+use Rattle.std.specs.List.{find, position_or_len, slice_get, All}
 use Rattle.std.specs.List.Sorted.{IsNonDecreasingBy, IsPartitionPoint}
-use Rattle.std.proofs.lemmas.Bool.{and_parts, and_from, leb-true, leb-false, ltb-true, ltb-false, lt-ltb, le-leb, eqb-true}
+use Rattle.std.proofs.lemmas.Bool.{and_parts, and_from, leb-true, le-leb, eqb-true}
 use Rattle.std.proofs.lemmas.Bool.Decides.{nat_tests}
 use Rattle.std.proofs.lemmas.List.Elements.{All-head, All-tail}
-use Rattle.std.proofs.lemmas.List.Sums.{position_or_len_is}
-use Rattle.std.proofs.lemmas.Option.{get_or_from_slice_get}
+use Rattle.std.proofs.lemmas.List.Sums.{position_or_len_is, fails_before_first, passes_at_first}
+use Rattle.std.proofs.lemmas.Option.{get_or_from_slice_get, slice_get-get_or, slice_get_past}
+use Rattle.std.proofs.lemmas.List.Folds.{find_at}
+use Rattle.dirty_table.proofs.Tables.{is_next}
 use Rattle.dirty_table.specs.declared.touches.Touch.{Touch}
-use Rattle.dirty_table.specs.Touches.{is_touched, are_from, are_in_order, put_in, with_touch}
+use Rattle.dirty_table.specs.Touches.{is_touched, at_place, are_from, are_in_order, put_in, with_touch}
 
 -- the first line isn't below the number that they are from, and each isn't below those before it
 no_lower : (low : ℕ) (touches : List Touch) → are_from low touches ≡ true → (i j : ℕ) (d : Touch) → i ≤ j → j < length touches → (low ≤ (get_or touches i d).line) × ((get_or touches i d).line ≤ (get_or touches j d).line)
@@ -42,6 +44,48 @@ halved line touches place le point =
     above : (l : ℕ) → nat_lt l line ≡ false → nat_le line l ≡ true
     above l is = grind (arith, nat_tests)
 
+-- ---- a place that was hinted at
+
+abbrev pub is_from : ℕ → Touch → Bool
+is_from line touch = nat_le line touch.line
+
+pub placed : (line : ℕ) (touches : List Touch) (at : ℕ) → are_in_order touches ≡ true → at ≤ length touches → (0 < at → (at_place touches (at - 1)).line < line) → (at < length touches → line ≤ (at_place touches at).line)
+    → at ≡ position_or_len (λ touch. nat_le line touch.line) touches
+placed line touches at o le behind ahead =
+    sym (position_or_len_is (is_from line) touches at (record { line = 0; session = 0 }) le
+    (λ k lt.
+    let first : (at_place touches k).line ≤ (at_place touches (at - 1)).line = rising touches o k (at - 1) (record { line = 0; session = 0 }) (omega (arith, lt)) (omega (arith, lt, le)) in
+    let last : (at_place touches (at - 1)).line < line = behind (omega (arith, lt)) in
+    below (at_place touches k).line (omega (arith, first, last)))
+    (λ lt. le-leb line (at_place touches at).line (ahead lt)))
+  where
+    below : (l : ℕ) → l < line → nat_le line l ≡ false
+    below l lt = grind (arith, nat_tests)
+
+-- none before the place is wanted
+pub unwanted-before : (which : ℕ → Bool) (line place : ℕ) (touches : List Touch) → place ≡ position_or_len (is_from line) touches → (k : ℕ) (d : Touch) → k < place → is_next which line (get_or touches k d) ≡ false
+unwanted-before which line place touches is k d lt =
+    ap (λ (b : Bool). b && which (get_or touches k d).session) (fails_before_first (is_from line) touches k d (omega (arith, lt, is)))
+
+-- the first from the place on that is of one of the sessions
+pub found-at : (which : ℕ → Bool) (line place at : ℕ) (touches : List Touch) → are_in_order touches ≡ true → place ≡ position_or_len (is_from line) touches → place ≤ at → at < length touches
+    → ((k : ℕ) (d : Touch) → k < at → is_next which line (get_or touches k d) ≡ false) → which (at_place touches at).session ≡ true → Some (at_place touches at) ≡ find (is_next which line) touches
+found-at which line place at touches o is le lt before of =
+    let d : Touch = record { line = 0; session = 0 } in
+    let within : position_or_len (is_from line) touches < length touches = omega (arith, is, le, lt) in
+    let first : nat_le line (get_or touches (position_or_len (is_from line) touches) d).line ≡ true = passes_at_first (is_from line) touches d within in
+    let least = leb-true line (get_or touches (position_or_len (is_from line) touches) d).line first in
+    let rises : (get_or touches (position_or_len (is_from line) touches) d).line ≤ (get_or touches at d).line = rising touches o (position_or_len (is_from line) touches) at d (omega (arith, is, le)) lt in
+    let wanted : is_next which line (get_or touches at d) ≡ true = and_from (nat_le line (get_or touches at d).line) (which (get_or touches at d).session) (le-leb line (get_or touches at d).line (omega (arith, least, rises))) of in
+    let position : position_or_len (is_next which line) touches ≡ at = position_or_len_is (is_next which line) touches at d (omega (arith, lt)) (λ k earlier. before k d earlier) (λ _. wanted) in
+    sym (find_at (is_next which line) touches ∙ ap (λ (k : ℕ). slice_get touches k) position ∙ slice_get-get_or touches at d lt)
+
+pub found-nowhere : (which : ℕ → Bool) (line at : ℕ) (touches : List Touch) → length touches ≤ at → ((k : ℕ) (d : Touch) → k < at → is_next which line (get_or touches k d) ≡ false) → None ≡ find (is_next which line) touches
+found-nowhere which line at touches past before =
+    let d : Touch = record { line = 0; session = 0 } in
+    let position : position_or_len (is_next which line) touches ≡ length touches = position_or_len_is (is_next which line) touches (length touches) d (omega arith) (λ k earlier. before k d (omega (arith, earlier, past))) (λ lt. absurd (omega (arith, lt))) in
+    sym (find_at (is_next which line) touches ∙ ap (λ (k : ℕ). slice_get touches k) position ∙ slice_get_past touches (length touches) (omega arith))
+
 -- ---- what is left out
 
 past : (k : ℕ) (touch : Touch) (touches : List Touch) → drop (1 + k) (touch ∷ touches) ≡ drop k touches
@@ -61,19 +105,6 @@ rest-from line low (touch ∷ touches) o = by (nat_le line touch.line) refl (res
     by : (b : Bool) → nat_le line touch.line ≡ b → are_from line (drop (position_or_len (from line) touches) touches) ≡ true → are_from line (drop (cond (not b) (1 + position_or_len (from line) touches) 0) (touch ∷ touches)) ≡ true
     by true is rest = and_from (nat_le line touch.line) (are_from touch.line touches) is parts.1
     by false is rest = ap (λ (ts : List Touch). are_from line ts) (past (position_or_len (from line) touches) touch touches) ∙ rest
-
--- a search that takes none below the line needs these alone
-pub found-rest : (line : ℕ) (test : Touch → Bool) (touches : List Touch) → find (λ touch. nat_le line touch.line && test touch) touches ≡ find (λ touch. nat_le line touch.line && test touch) (drop (position_or_len (from line) touches) touches)
-found-rest line test [] = refl
-found-rest line test (touch ∷ touches) = by (nat_le line touch.line) refl (found-rest line test touches)
-  where
-    wanted : Touch → Bool
-    wanted touch = nat_le line touch.line && test touch
-
-    by : (b : Bool) → nat_le line touch.line ≡ b → find wanted touches ≡ find wanted (drop (position_or_len (from line) touches) touches)
-        → cond (b && test touch) (Some touch) (find wanted touches) ≡ find wanted (drop (cond (not b) (1 + position_or_len (from line) touches) 0) (touch ∷ touches))
-    by true is rest = ap (λ (b : Bool). cond (b && test touch) (Some touch) (find wanted touches)) (sym is)
-    by false is rest = rest ∙ sym (ap (λ (ts : List Touch). find wanted ts) (past (position_or_len (from line) touches) touch touches))
 
 -- the line is touched where one of these touches it
 pub touched-rest : (session line : ℕ) (touches : List Touch) → is_touched touches session line ≡ is_touched (drop (position_or_len (from line) touches) touches) session line

@@ -11,6 +11,10 @@ has sessions n = slice_index_or sessions n false
 abbrev pub is_touched : List Touch → ℕ → ℕ → Bool
 is_touched touches session line = list_any (λ touch. nat_eq touch.session session && nat_eq touch.line line) touches
 
+-- the one at this place
+abbrev pub at_place : List Touch → ℕ → Touch
+at_place touches at = slice_index_or touches at (record { line = 0; session = 0 })
+
 -- the lines that one of the sessions touches, in the table's order, each once where equal lines stand side by side
 abbrev pub lines_touched : (ℕ → Bool) → List Touch → List ℕ
 lines_touched which touches = dedup nat_eq (map (λ touch. touch.line) (filter (λ touch. which touch.session) touches))

@@ -90,13 +90,14 @@ impl DirtyTable {
     }
 
     /// The lowest line, from this one on, that one of the sessions touches: of their lines, which are listed by rising line
-    /// and each once, the first that isn't below.
+    /// and each once, the first that isn't below. The hint is for speed alone, and may be any number: a walk over all lines
+    /// begins it with 0, and passes it on.
     #[inline(always)]
-    pub fn next(&self, sessions: &SessionSet, from: u64) -> Option<u64>
+    pub fn next(&self, sessions: &SessionSet, from: u64, hint: &mut usize) -> Option<u64>
         ensures line { result ≡ find (nat_le from) (lines_touched (has sessions.now) self.now.touches) }
         ensures rising { IsTrue (are_rising (lines_touched (has sessions.now) self.now.touches)) }
     {
-        let touch = first(self.touches.as_slice(), sessions, from)?;
+        let touch = first(self.touches.as_slice(), sessions, from, hint)?;
         Some(touch.line)
     }
 }

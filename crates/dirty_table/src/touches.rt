@@ -1,6 +1,6 @@
-ghost use Rattle.std.specs.Prelude.{◌≡◌, ◌+◌, ◌<◌, ◌≤◌, nat_le, vec_len, vec_capacity, ◌&&◌, find, drop, IsTrue, All};
+ghost use Rattle.std.specs.Prelude.{◌≡◌, ◌+◌, ◌-◌, ◌<◌, ◌≤◌, length, nat_le, vec_len, vec_capacity, ◌&&◌, find, drop, IsTrue, All};
 ghost use Rattle.std.specs.List.{position_or_len};
-ghost use Rattle.dirty_table.specs.Touches.{has, is_touched, are_from, are_in_order, with_touch};
+ghost use Rattle.dirty_table.specs.Touches.{has, is_touched, at_place, are_from, are_in_order, with_touch};
 
 use crate::sessions::SessionSet;
 
@@ -99,14 +99,66 @@ fn put_in(touches: &mut Vec<Touch>, touch: Touch)
     let _ = touches.insert(place, touch);
 }
 
-/// The first, from this line on, of one of the sessions.
+// Whether the one before this place is below the line, if there is one.
 #[inline(always)]
-pub(crate) fn first(touches: &[Touch], sessions: &SessionSet, from: u64) -> Option<Touch>
+fn is_behind(touches: &[Touch], line: u64, at: usize) -> bool
+    requires { at ≤ length touches.now }
+    ensures { IsTrue result → 0 < at → (at_place touches.now (at - 1)).line < line }
+{
+    at == 0 || touches[at - 1].line < line
+}
+
+// Whether the one at this place isn't below the line, if there is one.
+#[inline(always)]
+fn is_ahead(touches: &[Touch], line: u64, at: usize) -> bool
+    ensures { IsTrue result → at < length touches.now → line ≤ (at_place touches.now at).line }
+{
+    touches.len() <= at || line <= touches[at].line
+}
+
+// Whether so many come before the first whose line isn't below.
+#[inline(always)]
+fn is_place(touches: &[Touch], line: u64, at: usize) -> bool
+    requires { IsTrue (are_in_order touches.now) }
+    ensures { IsTrue result → at ≡ position_or_len (λ touch. nat_le line touch.line) touches.now }
+{
+    if at <= touches.len() && is_behind(touches, line, at) {
+        is_ahead(touches, line, at)
+    } else {
+        false
+    }
+}
+
+// The same as `place`, without a search where the hint is right.
+#[inline(always)]
+fn place_by(touches: &[Touch], line: u64, hint: usize) -> usize
+    requires { IsTrue (are_in_order touches.now) }
+    ensures { result ≡ position_or_len (λ touch. nat_le line touch.line) touches.now }
+{
+    if is_place(touches, line, hint) {
+        hint
+    } else {
+        place(touches, line)
+    }
+}
+
+/// The first, from this line on, of one of the sessions. Where a walk by rising line passes the same hint each time, only its
+/// first search is one: the hint is the place behind the last that was found.
+#[inline(always)]
+pub(crate) fn first(
+    touches: &[Touch],
+    sessions: &SessionSet,
+    from: u64,
+    hint: &mut usize,
+) -> Option<Touch>
     requires { IsTrue (are_in_order touches.now) }
     ensures { result ≡ find (λ touch. nat_le from touch.line && has sessions.now touch.session) touches.now }
 {
-    from_line(touches, from)
-        .iter()
-        .find(|touch| from <= touch.line && sessions.contains(touch.session))
-        .copied()
+    for at in place_by(touches, from, *hint)..touches.len() {
+        if sessions.contains(touches[at].session) {
+            *hint = at + 1;
+            return Some(touches[at]);
+        }
+    }
+    None
 }

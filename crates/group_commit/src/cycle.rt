@@ -22,6 +22,8 @@ pub struct Cycle {
     sessions: SessionSet,
     writing: Writing,
     stage: CycleStage,
+    // A hint for the table: where the walk over the lines has come to.
+    hint: usize,
 }
 
 impl Model for Cycle {
@@ -127,6 +129,7 @@ impl Cycle {
                 flushed: 0,
                 from: 0,
             },
+            hint: 0,
         }
     }
 
@@ -160,23 +163,25 @@ impl Cycle {
         ensures rising { (flushed from : ℕ) → self.old.stage ≡ FlushLines flushed from → IsTrue (are_rising (lines_touched (has self.old.sessions) table.now.touches)) }
     {
         match self.stage {
-            CycleStage::FlushLines { flushed, from } => match table.next(&self.sessions, from) {
-                Some(line) => {
-                    let words = device.words();
-                    prove!((line as usize) < words);
-                    device.flush(Actor::COMMITTER, line as usize)?;
-                    self.stage = CycleStage::FlushLines {
-                        flushed: flushed + 1,
-                        from: line + 1,
-                    };
-                    Ok(Some(Stage::LineFlushed(flushed)))
+            CycleStage::FlushLines { flushed, from } => {
+                match table.next(&self.sessions, from, &mut self.hint) {
+                    Some(line) => {
+                        let words = device.words();
+                        prove!((line as usize) < words);
+                        device.flush(Actor::COMMITTER, line as usize)?;
+                        self.stage = CycleStage::FlushLines {
+                            flushed: flushed + 1,
+                            from: line + 1,
+                        };
+                        Ok(Some(Stage::LineFlushed(flushed)))
+                    }
+                    None => {
+                        device.fence(Actor::COMMITTER)?;
+                        self.stage = CycleStage::WriteRecord;
+                        Ok(Some(Stage::LinesFenced))
+                    }
                 }
-                None => {
-                    device.fence(Actor::COMMITTER)?;
-                    self.stage = CycleStage::WriteRecord;
-                    Ok(Some(Stage::LinesFenced))
-                }
-            },
+            }
             CycleStage::WriteRecord => self.writing.tick(device),
         }
     }

@@ -1,4 +1,4 @@
-use Rattle.std.proofs.Common.{◌≡◌, ◌∙◌, ◌≤◌, Bool, true, false, cond, List, ℕ, drop, length, nat_le, ap, sym, subst, arith, is_ok}
+use Rattle.std.proofs.Common.{◌≡◌, ◌∙◌, ◌≤◌, Bool, true, false, cond, List, ℕ, drop, length, nat_le, ap, sym, subst, is_ok}
 use Rattle.std.specs.List.{insert, position_or_len}
 use Rattle.dirty_table.specs.declared.touches.Touch.{Touch}
 use Rattle.dirty_table.specs.Touches.{is_touched, are_from, are_in_order}

@@ -22,8 +22,8 @@ overflow_add-self g c =
 pub overflow_add-self-in-Some : goal.overflow_add-self-in-Some
 overflow_add-self-in-Some g c = omega (arith, c.if-prove.false)
 
-pub invariant_of-self : goal.invariant_of-self
-invariant_of-self g c =
+pub invariant_of-self-in-Some : goal.invariant_of-self-in-Some
+invariant_of-self-in-Some g c =
     let counted : c.in-FlushLines.flushed ≤ c.in-FlushLines.from = leb-true c.in-FlushLines.flushed c.in-FlushLines.from (subst (λ (s : CycleStage). IsTrue (is_counted s)) c.in-FlushLines.is c.self.invariant) in
     let above = found-from c.in-FlushLines.from c.in-Some.line _ (sym c.next.ensures.line ∙ c.in-Some.is) in
     le-leb (c.in-FlushLines.flushed + 1) (c.in-Some.line + 1) (omega (arith, counted, above))
