@@ -40,24 +40,24 @@ over-append (line ∷ a) b word v = over-append a b word _
 -- ---- the journal of a file that is as another one but for what is appended
 
 -- a place behind the entries of the journal
-record IsBehind (words room position : ℕ) (file begun behind : List ℕ) : Type 0 where
-  size : length file ≡ words + room + 8
-  written : journal_in words room file ≡ begun ++ behind
-  begun_size : length begun ≡ position
-  all_size : position + length behind ≡ room
+pub record IsBehind (words room position : ℕ) (file begun behind : List ℕ) : Type 0 where
+  pub size : length file ≡ words + room + 8
+  pub written : journal_in words room file ≡ begun ++ behind
+  pub begun_size : length begun ≡ position
+  pub all_size : position + length behind ≡ room
 
 -- the words from that place on
-abbrev rest_of : ℕ → ℕ → ℕ → List ℕ → List ℕ
+abbrev pub rest_of : ℕ → ℕ → ℕ → List ℕ → List ℕ
 rest_of words room position found = drop position (journal_in words room found)
 
-rest_at : (words room position at : ℕ) (found : List ℕ) → position + at < room → get_or (rest_of words room position found) at 0 ≡ get_or found (words + position + at) 0
+pub rest_at : (words room position at : ℕ) (found : List ℕ) → position + at < room → get_or (rest_of words room position found) at 0 ≡ get_or found (words + position + at) 0
 rest_at words room position at found lt =
     get_or-drop position (journal_in words room found) at 0 ∙ journal_word words room found (position + at) lt ∙ along found (words + (position + at)) (words + position + at) (omega arith)
 
-rest_size : (words room position : ℕ) (found : List ℕ) → length found ≡ words + room + 8 → length (rest_of words room position found) ≡ room - position
+pub rest_size : (words room position : ℕ) (found : List ℕ) → length found ≡ words + room + 8 → length (rest_of words room position found) ≡ room - position
 rest_size words room position found size = omega (arith, length-drop position (journal_in words room found), journal_size words room found size)
 
-behind_at : (words room position at : ℕ) (file begun behind : List ℕ) → IsBehind words room position file begun behind → position + at < room → get_or behind at 0 ≡ get_or file (words + position + at) 0
+pub behind_at : (words room position at : ℕ) (file begun behind : List ℕ) → IsBehind words room position file begun behind → position + at < room → get_or behind at 0 ≡ get_or file (words + position + at) 0
 behind_at words room position at file begun behind is lt =
     sym (get_or-append-add begun behind at 0)
     ∙ along (begun ++ behind) (length begun + at) (position + at) (omega (arith, is.begun_size))
@@ -65,7 +65,7 @@ behind_at words room position at file begun behind is lt =
     ∙ journal_word words room file (position + at) lt
     ∙ along file (words + (position + at)) (words + position + at) (omega arith)
 
-split : (words room position : ℕ) (file found begun behind : List ℕ) → IsBehind words room position file begun behind → length found ≡ words + room + 8
+pub split : (words room position : ℕ) (file found begun behind : List ℕ) → IsBehind words room position file begun behind → length found ≡ words + room + 8
     → ((word : ℕ) → words ≤ word → word < words + position → get_or found word 0 ≡ get_or file word 0) → journal_in words room found ≡ begun ++ rest_of words room position found
 split words room position file found begun behind is size same =
     sym (take-append-drop position (journal_in words room found)) ∙ ap (λ (l : List ℕ). l ++ rest_of words room position found) taken
@@ -109,7 +109,7 @@ mixture old new words room position file found begun behind news is holds puts h
 
 -- ---- at rest
 
-rests-behind : (may_hold : ℕ → ℕ → Type 0) (words room : ℕ) (pass : Bool) (position : ℕ) (durable : List ℕ) (r : Rests may_hold words room pass position durable)
+pub rests-behind : (may_hold : ℕ → ℕ → Type 0) (words room : ℕ) (pass : Bool) (position : ℕ) (durable : List ℕ) (r : Rests may_hold words room pass position durable)
     → IsBehind words room position r.known.file (journal pass (map payloads_of_lines r.entries)) r.behind
 rests-behind may_hold words room pass position durable r = record {
   size = r.known.size;
@@ -119,7 +119,7 @@ rests-behind may_hold words room pass position durable r = record {
 }
 
 -- what the durable words are, by the file
-durable_is : (may_hold : ℕ → ℕ → Type 0) (words room : ℕ) (pass : Bool) (position : ℕ) (durable : List ℕ) (r : Rests may_hold words room pass position durable) (word : ℕ) → word < words
+pub durable_is : (may_hold : ℕ → ℕ → Type 0) (words room : ℕ) (pass : Bool) (position : ℕ) (durable : List ℕ) (r : Rests may_hold words room pass position durable) (word : ℕ) → word < words
     → get_or durable word 0 ≡ put_over (all_lines r.entries) word (get_or r.known.file word 0)
 durable_is may_hold words room pass position durable r word lt =
     r.known.opens.each word lt
@@ -184,24 +184,24 @@ append-either old new words room pass position durable next changed some are fit
 -- ---- once it is appended
 
 -- a file with these words from there on
-abbrev pasted : List ℕ → ℕ → List ℕ → List ℕ
+abbrev pub pasted : List ℕ → ℕ → List ℕ → List ℕ
 pasted file start news = take start file ++ (news ++ drop (start + length news) file)
 
-pasted_size : (file : List ℕ) (start : ℕ) (news : List ℕ) → start + length news ≤ length file → length (pasted file start news) ≡ length file
+pub pasted_size : (file : List ℕ) (start : ℕ) (news : List ℕ) → start + length news ≤ length file → length (pasted file start news) ≡ length file
 pasted_size file start news fits =
     omega (arith, length-append (take start file) (news ++ drop (start + length news) file), length-append news (drop (start + length news) file), length-take start file, length-drop (start + length news) file, fits)
 
-pasted_before : (file : List ℕ) (start : ℕ) (news : List ℕ) → start + length news ≤ length file → (word : ℕ) → word < start → get_or (pasted file start news) word 0 ≡ get_or file word 0
+pub pasted_before : (file : List ℕ) (start : ℕ) (news : List ℕ) → start + length news ≤ length file → (word : ℕ) → word < start → get_or (pasted file start news) word 0 ≡ get_or file word 0
 pasted_before file start news fits word lt = get_or_append_left (take start file) (news ++ drop (start + length news) file) 0 word (omega (arith, length-take start file, fits, lt)) ∙ get_or-take start file word 0 lt
 
 pasted_from : (file : List ℕ) (start : ℕ) (news : List ℕ) → start + length news ≤ length file → (at : ℕ) → get_or (pasted file start news) (start + at) 0 ≡ get_or (news ++ drop (start + length news) file) at 0
 pasted_from file start news fits at =
     along (pasted file start news) (start + at) (length (take start file) + at) (omega (arith, length-take start file, fits)) ∙ get_or-append-add (take start file) (news ++ drop (start + length news) file) at 0
 
-pasted_within : (file : List ℕ) (start : ℕ) (news : List ℕ) → start + length news ≤ length file → (at : ℕ) → at < length news → get_or (pasted file start news) (start + at) 0 ≡ get_or news at 0
+pub pasted_within : (file : List ℕ) (start : ℕ) (news : List ℕ) → start + length news ≤ length file → (at : ℕ) → at < length news → get_or (pasted file start news) (start + at) 0 ≡ get_or news at 0
 pasted_within file start news fits at lt = pasted_from file start news fits at ∙ get_or_append_left news (drop (start + length news) file) 0 at lt
 
-pasted_after : (file : List ℕ) (start : ℕ) (news : List ℕ) → start + length news ≤ length file → (word : ℕ) → start + length news ≤ word → get_or (pasted file start news) word 0 ≡ get_or file word 0
+pub pasted_after : (file : List ℕ) (start : ℕ) (news : List ℕ) → start + length news ≤ length file → (word : ℕ) → start + length news ≤ word → get_or (pasted file start news) word 0 ≡ get_or file word 0
 pasted_after file start news fits word le =
     let at : ℕ = word - (start + length news) in
     along (pasted file start news) word (start + (length news + at)) (omega (arith, le))

@@ -13,3 +13,4 @@ pub mod Appended
 pub mod Placed
 pub mod Settled
 pub mod Within
+pub mod Turned

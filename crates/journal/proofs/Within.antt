@@ -1,5 +1,5 @@
 -- Of a storage of which less may be found no less is known.
-use Rattle.std.proofs.Common.{Result, Ok, Err, ◌≡◌, ◌⊎◌, inl, inr, ℕ, Bool, List, length}
+use Rattle.std.proofs.Common.{Result, Ok, Err, inl, inr, ℕ, Bool, List, length}
 use Rattle.std.specs.Prelude.{OnOk}
 use Rattle.std.proofs.Math.Logic.{∥∥₁_map}
 use Rattle.journal.specs.Files.{MayBe, IsStoodFor}

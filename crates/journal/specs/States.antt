@@ -3,6 +3,7 @@ use Rattle.std.specs.Prelude.{◌≡◌, ℕ, ◌+◌, ◌<◌, Bool, true, List
 use Rattle.journal.specs.declared.line.Line.{Line}
 use Rattle.journal.specs.Entries.{NoneOf}
 use Rattle.journal.specs.Several.{journal}
+use Rattle.journal.specs.Passes.{AllOf}
 use Rattle.journal.specs.LinePayloads.{payloads_of_lines}
 use Rattle.journal.specs.Kept.{HoldsOnly}
 use Rattle.journal.specs.Opened.{all_lines, journal_of, AreLines}
@@ -31,6 +32,12 @@ pub record IsOff (may_hold : ℕ → ℕ → Type 0) (words room : ℕ) (durable
 pub record IsClear (may_hold : ℕ → ℕ → Type 0) (words room : ℕ) (durable : List ℕ) : Type 0 where
   pub size : length durable ≡ words
   pub holds : HoldsOnly may_hold (words + room + 8) (durable ++ (replicate room 0 ++ tail_of 0 words room true))
+
+-- the image is in place, and each word of the journal is of this pass
+pub record IsFull (may_hold : ℕ → ℕ → Type 0) (words room : ℕ) (pass : Bool) (durable : List ℕ) : Type 0 where
+  pub here : IsInPlace may_hold words room pass durable
+  pub on : is_on words room here.known.file ≡ true
+  pub all : AllOf pass (journal_in words room here.known.file)
 
 -- whole entries of this pass, so many words of them, and behind them no word of the pass
 pub record Rests (may_hold : ℕ → ℕ → Type 0) (words room : ℕ) (pass : Bool) (position : ℕ) (durable : List ℕ) : Type 0 where

@@ -1,4 +1,4 @@
-ghost use Rattle.std.specs.Prelude.{◌≡◌, ℕ, ◌+◌, ◌*◌, ◌/◌, ◌%◌, ◌<◌, ◌≤◌, ◌^◌, List, [], ◌∷◌, ◌++◌, true, length, IfOk, OnOk, OnErr};
+ghost use Rattle.std.specs.Prelude.{◌≡◌, ℕ, ◌+◌, ◌*◌, ◌/◌, ◌%◌, ◌<◌, ◌≤◌, ◌^◌, List, [], ◌∷◌, ◌++◌, length, IfOk, OnOk, OnErr};
 ghost use Rattle.journal.specs.Files.{FoundEither};
 ghost use Rattle.journal.specs.States.{Rests};
 ghost use Rattle.journal.specs.Changes.{AreChanged, AreFound, DiffersIn};
@@ -7,16 +7,17 @@ use crate::eight::eight_at;
 use crate::entry::entry_words;
 use crate::file_image::put_each;
 use crate::line::{Line, line_payloads};
-use crate::rewriting::rewrite;
+use crate::position::Position;
+use crate::rewriting::begin_pass;
 use crate::storage::Storage;
 use std::alloc::Global;
 use std::io;
 use std::io::ErrorKind;
 
 /// Writes these words in place of those that are durable, from which they differ in the lines of these numbers alone, as an entry
-/// behind the first `position` words of the journal, and answers where that entry ends. It is one write: a sync makes them
-/// durable. Where it has no room the image in place and the journal are written anew before. At each instant, and where a write
-/// fails, the file stands for the durable words or for these, and once it is synced for these.
+/// at this position of the journal, and returns the position behind it. It is one write: a sync makes them durable. Where it has no
+/// room the image is put in place before, and it begins the next pass. At each instant, and where a write fails, the file stands for
+/// the durable words or for these, and once it is synced for these.
 pub(crate) fn begin_words<S: Storage>(
     alloc: Global,
     storage: &mut S,
@@ -24,14 +25,14 @@ pub(crate) fn begin_words<S: Storage>(
     words: &[u64],
     numbers: &[usize],
     room: usize,
-    position: usize,
-) -> io::Result<usize>
+    position: Position,
+) -> io::Result<Position>
     requires differs { DiffersIn numbers.now words.now durable.old.items }
     requires whole { length durable.old.items % 8 ≡ 0 }
     requires fits { length durable.old.items + room + 8 < 2 ^ 58 }
-    requires known { ∥ Rests (S.may_hold storage.old) (length durable.old.items) room true position durable.old.items ∥₁ }
+    requires known { ∥ Rests (S.may_hold storage.old) (length durable.old.items) room position.pass position.words durable.old.items ∥₁ }
     ensures either { FoundEither (S.may_hold storage.new) (length durable.old.items) room durable.old.items words.now }
-    ensures rests { IfOk result (λ next. ∥ Rests (S.shows storage.new) (length durable.old.items) room true next words.now ∥₁) }
+    ensures rests { IfOk result (λ next. ∥ Rests (S.shows storage.new) (length durable.old.items) room next.pass next.words words.now ∥₁) }
     ensures durable { OnOk result (durable.new.items ≡ words.now) }
     ensures err { OnErr result (durable.new.items ≡ durable.old.items) }
 {
@@ -101,15 +102,15 @@ fn write_changed<S: Storage>(
     words: &[u64],
     changed: &[Line],
     room: usize,
-    position: usize,
-) -> io::Result<usize>
+    position: Position,
+) -> io::Result<Position>
     requires same { length words.now ≡ length durable.now }
     requires whole { length durable.now % 8 ≡ 0 }
     requires fits { length durable.now + room + 8 < 2 ^ 58 }
     requires changed { AreChanged changed.now durable.now words.now }
-    requires known { ∥ Rests (S.may_hold storage.old) (length durable.now) room true position durable.now ∥₁ }
+    requires known { ∥ Rests (S.may_hold storage.old) (length durable.now) room position.pass position.words durable.now ∥₁ }
     ensures either { FoundEither (S.may_hold storage.new) (length durable.now) room durable.now words.now }
-    ensures rests { IfOk result (λ next. ∥ Rests (S.shows storage.new) (length durable.now) room true next words.now ∥₁) }
+    ensures rests { IfOk result (λ next. ∥ Rests (S.shows storage.new) (length durable.now) room next.pass next.words words.now ∥₁) }
 {
     if changed.is_empty() {
         return Ok(position);
@@ -118,11 +119,15 @@ fn write_changed<S: Storage>(
     if size > room {
         return Err(io::Error::from(ErrorKind::StorageFull));
     }
-    if position <= room - size {
+    if position.words <= room - size {
         return append(alloc, storage, durable, words, changed, room, position);
     }
-    rewrite(alloc, storage, durable, room, true)?;
-    append(alloc, storage, durable, words, changed, room, 0)
+    begin_pass(alloc, storage, durable, room, position)?;
+    let begun = Position {
+        pass: !position.pass,
+        words: 0,
+    };
+    append(alloc, storage, durable, words, changed, room, begun)
 }
 
 // Appends an entry of these lines.
@@ -133,19 +138,22 @@ fn append<S: Storage>(
     words: &[u64],
     changed: &[Line],
     room: usize,
-    position: usize,
-) -> io::Result<usize>
+    position: Position,
+) -> io::Result<Position>
     requires same { length words.now ≡ length durable.now }
     requires whole { length durable.now % 8 ≡ 0 }
     requires fits { length durable.now + room + 8 < 2 ^ 58 }
-    requires within { position + (1 + 9 * length changed.now) ≤ room }
+    requires within { position.words + (1 + 9 * length changed.now) ≤ room }
     requires changed { AreChanged changed.now durable.now words.now }
-    requires known { ∥ Rests (S.may_hold storage.old) (length durable.now) room true position durable.now ∥₁ }
+    requires known { ∥ Rests (S.may_hold storage.old) (length durable.now) room position.pass position.words durable.now ∥₁ }
     ensures either { FoundEither (S.may_hold storage.new) (length durable.now) room durable.now words.now }
-    ensures rests { IfOk result (λ next. ∥ Rests (S.shows storage.new) (length durable.now) room true next words.now ∥₁) }
+    ensures rests { IfOk result (λ next. ∥ Rests (S.shows storage.new) (length durable.now) room next.pass next.words words.now ∥₁) }
 {
     let payloads = line_payloads(alloc, changed)?;
-    let entry = entry_words(alloc, payloads.as_slice(), true)?;
-    storage.write(durable.len() + position, entry.as_slice())?;
-    Ok(position + entry.len())
+    let entry = entry_words(alloc, payloads.as_slice(), position.pass)?;
+    storage.write(durable.len() + position.words, entry.as_slice())?;
+    Ok(Position {
+        pass: position.pass,
+        words: position.words + entry.len(),
+    })
 }

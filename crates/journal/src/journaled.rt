@@ -7,6 +7,7 @@ ghost use Rattle.journal.specs.States.{IsOff, Rests};
 use crate::appending::begin_words;
 use crate::file_image::image_in;
 use crate::images::Images;
+use crate::position::Position;
 use crate::rewriting::{rewrite, settle};
 use crate::storage::Storage;
 use std::alloc::Global;
@@ -14,7 +15,7 @@ use std::io;
 use std::io::ErrorKind;
 
 /// Images that are kept in a file: one in place, and behind it a journal, to which each further one appends the lines that
-/// changed. So a keep is one write, and one wait until it persists; where the journal is full, four more.
+/// changed. So a keep is one write, and one wait until it persists; where the journal is full, two waits more.
 #[derive(Drop)]
 pub struct JournaledImages<S: Storage> {
     alloc: Global,
@@ -23,9 +24,9 @@ pub struct JournaledImages<S: Storage> {
     // The image that was written last.
     written: Vec<u64>,
 
-    // So many words the journal has, and so many of them are entries.
+    // So many words the journal has, and so far it is written.
     room: usize,
-    position: usize,
+    position: Position,
 
     // It isn't synced.
     is_begun: bool,
@@ -35,8 +36,8 @@ pub struct JournaledImages<S: Storage> {
     failure: Option<io::Error>,
     ghost whole: { length written.items % 8 ≡ 0 },
     ghost fits: { length written.items + room + 8 < 2 ^ 58 },
-    ghost rests: { failed ≡ false → is_begun ≡ false → ∥ Rests (S.may_hold storage) (length written.items) room true position written.items ∥₁ },
-    ghost begun: { failed ≡ false → is_begun ≡ true → ∥ Rests (S.shows storage) (length written.items) room true position written.items ∥₁ },
+    ghost rests: { failed ≡ false → is_begun ≡ false → ∥ Rests (S.may_hold storage) (length written.items) room position.pass position.words written.items ∥₁ },
+    ghost begun: { failed ≡ false → is_begun ≡ true → ∥ Rests (S.shows storage) (length written.items) room position.pass position.words written.items ∥₁ },
 }
 
 /// Why a file isn't opened, and the file.
@@ -75,7 +76,10 @@ impl<S: Storage> JournaledImages<S> {
                 storage,
                 written: durable,
                 room,
-                position: 0,
+                position: Position {
+                    pass: true,
+                    words: 0,
+                },
                 is_begun: false,
                 failed: false,
                 failure: None,
@@ -116,7 +120,12 @@ impl<S: Storage> JournaledImages<S> {
             return Err(io::Error::from(ErrorKind::InvalidData));
         }
         let mut storage = self.storage;
-        settle(&mut storage, self.written.as_slice(), self.room, true)?;
+        settle(
+            &mut storage,
+            self.written.as_slice(),
+            self.room,
+            self.position.pass,
+        )?;
         Ok(storage)
     }
 

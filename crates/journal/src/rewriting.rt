@@ -1,7 +1,9 @@
-ghost use Rattle.std.specs.Prelude.{◌≡◌, ◌⊎◌, ℕ, ◌+◌, ◌<◌, ◌^◌, true, length, OnOk};
+ghost use Rattle.std.specs.Prelude.{◌≡◌, ◌⊎◌, ℕ, ◌+◌, ◌≤◌, ◌<◌, ◌^◌, true, not, length, OnOk};
 ghost use Rattle.journal.specs.Files.{tail_of, FoundOpens};
-ghost use Rattle.journal.specs.States.{Knows, IsInPlace, IsOff, IsClear, Rests};
+ghost use Rattle.journal.specs.States.{Knows, IsInPlace, IsOff, IsClear, IsFull, Rests};
 
+use crate::entry::bit_of;
+use crate::position::Position;
 use crate::storage::{Storage, put};
 use std::alloc::Global;
 use std::io;
@@ -94,6 +96,56 @@ fn turn_on<S: Storage>(storage: &mut S, image: &[u64], room: usize) -> io::Resul
 {
     let words = image.len();
     put(storage, words + room, &tail(MAGIC, words, room, true))
+}
+
+/// Begins the next pass over the journal of a file at rest: its image is in place then, and nothing in the journal. At each instant,
+/// and where a write fails, the file stands for this image. Two waits: for the image in place, with the rest of the journal filled,
+/// and for the tail, which names the other pass.
+pub(crate) fn begin_pass<S: Storage>(
+    alloc: Global,
+    storage: &mut S,
+    image: &[u64],
+    room: usize,
+    position: Position,
+) -> io::Result<()>
+    requires fits { length image.now + room + 8 < 2 ^ 58 }
+    requires within { position.words ≤ room }
+    requires known { ∥ Rests (S.may_hold storage.old) (length image.now) room position.pass position.words image.now ∥₁ }
+    ensures opens { FoundOpens (S.may_hold storage.new) (length image.now) room image.now }
+    ensures rests { OnOk result (∥ Rests (S.may_hold storage.new) (length image.now) room (not position.pass) 0 image.now ∥₁) }
+{
+    fill(alloc, storage, image, room, position)?;
+    turn(storage, image, room, position.pass)
+}
+
+// Puts the image in place, and fills the rest of the journal: each word of it is an entry of this pass without payloads.
+fn fill<S: Storage>(
+    alloc: Global,
+    storage: &mut S,
+    image: &[u64],
+    room: usize,
+    position: Position,
+) -> io::Result<()>
+    requires fits { length image.now + room + 8 < 2 ^ 58 }
+    requires within { position.words ≤ room }
+    requires known { ∥ Rests (S.may_hold storage.old) (length image.now) room position.pass position.words image.now ∥₁ }
+    ensures opens { FoundOpens (S.may_hold storage.new) (length image.now) room image.now }
+    ensures done { OnOk result (∥ IsFull (S.may_hold storage.new) (length image.now) room position.pass image.now ∥₁) }
+{
+    let rest = Vec::from_elem(alloc, bit_of(position.pass), room - position.words)?;
+    storage.write(image.len() + position.words, rest.as_slice())?;
+    put(storage, 0, image)
+}
+
+// From now on the other pass counts, of which the journal has no word.
+fn turn<S: Storage>(storage: &mut S, image: &[u64], room: usize, pass: bool) -> io::Result<()>
+    requires fits { length image.now + room < 2 ^ 63 }
+    requires known { ∥ IsFull (S.may_hold storage.old) (length image.now) room pass image.now ∥₁ }
+    ensures opens { FoundOpens (S.may_hold storage.new) (length image.now) room image.now }
+    ensures done { OnOk result (∥ Rests (S.may_hold storage.new) (length image.now) room (not pass) 0 image.now ∥₁) }
+{
+    let words = image.len();
+    put(storage, words + room, &tail(MAGIC, words, room, !pass))
 }
 
 // The tail's words.

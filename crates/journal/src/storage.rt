@@ -44,10 +44,11 @@ pub trait Storage {
 }
 
 /// Writes these words, and waits until they persist. Meanwhile, and where it fails, each of them may be found as it was or as it
-/// was to be; once it succeeded, as it was to be.
+/// was to be; once it succeeded, as it was to be, and each other word as it was written last.
 pub(crate) fn put<S: Storage>(storage: &mut S, start: usize, words: &[u64]) -> io::Result<()>
     ensures puts { (word x : ℕ) → S.may_hold storage.new word x → S.may_hold storage.old word x ⊎ IsInRun start words.now word x }
     ensures kept { OnOk result ((word x : ℕ) → start ≤ word → word < start + length words.now → S.may_hold storage.new word x → x ≡ slice_index words.now (word - start)) }
+    ensures shown { OnOk result ((word x : ℕ) → S.may_hold storage.new word x → S.shows storage.old word x ⊎ IsInRun start words.now word x) }
 {
     storage.write(start, words)?;
     storage.sync()

@@ -16,6 +16,9 @@ const MOST_BYTES: u64 = 17_860_992;
 // A journal of 1 MiB has room for two thousand commits of a row each, and only then the image is written in place.
 const LEAST_ROOM: usize = 131_072;
 
+// One of 4 MiB is long enough for any image: with more, an opening would take longer, and no commit less.
+const AMPLE_ROOM: usize = 524_288;
+
 /// What a file holds: an image of so many words, which has so many places for records, and a journal of so much room behind
 /// it, which may be missing.
 #[derive(Clone, Copy, Debug)]
@@ -36,15 +39,28 @@ impl Shape {
         }
     }
 
+    // The same, with a journal as older programs made it.
+    fn older(geometry: Geometry) -> Shape {
+        let shape = Shape::new(geometry);
+        Shape {
+            words: shape.words,
+            room: least_room(shape.words).max(LEAST_ROOM),
+            places: shape.places,
+        }
+    }
+
     /// How many words the file has, with its journal and its tail.
     pub(crate) fn whole(&self) -> usize {
         self.words.saturating_add(self.room).saturating_add(8)
     }
 }
 
-// How much room a journal is made with: at least for an entry of all lines.
+// How much room a journal is made with: for three entries of all lines, so that the image is written in place once for so many words
+// of entries, if an ample one has as much; and at least for one.
 fn room_behind(words: usize) -> usize {
-    least_room(words).max(LEAST_ROOM)
+    let least = least_room(words);
+    let several = least.saturating_mul(3).min(AMPLE_ROOM);
+    least.max(several).max(LEAST_ROOM)
 }
 
 fn least_room(words: usize) -> usize {
@@ -132,20 +148,29 @@ impl Found {
 
     // How long it should be by its superblock, and by what is left of a journal behind it.
     fn own_length(&self) -> Option<u64> {
-        let shape = Shape::new(own_geometry(self.words.as_slice())?);
-        let whole = bytes_of(shape.whole());
-        if self.length == whole || has_journal(self.words.as_slice(), shape) {
-            return Some(whole);
+        let geometry = own_geometry(self.words.as_slice())?;
+        let shape = Shape::new(geometry);
+        for one in [shape, Shape::older(geometry)] {
+            if self.ends_with_journal(one) {
+                return Some(bytes_of(one.whole()));
+            }
+        }
+        if begins_entry(self.words.as_slice(), shape.words) {
+            return Some(bytes_of(shape.whole()));
         }
         Some(bytes_of(shape.words))
     }
-}
 
-// Whether a journal is behind the image, or the first of what is left of one: to cut it off might lose what was kept.
-fn has_journal(file: &[u64], shape: Shape) -> bool {
-    match file.get(..shape.whole()) {
-        Some(file) if extent_of(file).is_some() => true,
-        _ => begins_entry(file, shape.words),
+    // Whether it is as long as a file of this shape, or a journal of one is behind its image: to cut it off might lose what was kept.
+    fn ends_with_journal(&self, shape: Shape) -> bool {
+        let whole = shape.whole();
+        if self.length == bytes_of(whole) {
+            return true;
+        }
+        match self.words.get(..whole) {
+            Some(file) => extent_of(file).is_some(),
+            None => false,
+        }
     }
 }
 
@@ -191,13 +216,26 @@ fn journaled_shape(
     }
 }
 
-// The shape of a file that was being made longer: behind its image there is nothing yet, but for words of the first tail.
+// The shape of a file that was being made longer, by a program of now or an older one.
 fn growing_shape(
     alloc: Global,
     file: &[u64],
     geometry: Geometry,
 ) -> Result<Option<Shape>, OpenError> {
-    let shape = Shape::new(own_geometry(file).unwrap_or(geometry));
+    let own = own_geometry(file).unwrap_or(geometry);
+    match grown_shape(alloc, file, geometry, Shape::new(own))? {
+        Some(shape) => Ok(Some(shape)),
+        None => grown_shape(alloc, file, geometry, Shape::older(own)),
+    }
+}
+
+// This shape, if the file was being made as long: behind its image there is nothing yet, but for words of the first tail.
+fn grown_shape(
+    alloc: Global,
+    file: &[u64],
+    geometry: Geometry,
+    shape: Shape,
+) -> Result<Option<Shape>, OpenError> {
     let (Some(image), Some(behind)) = (file.get(..shape.words), file.get(shape.words..)) else {
         return Ok(None);
     };

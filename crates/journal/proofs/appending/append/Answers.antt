@@ -1,4 +1,4 @@
-use Rattle.std.proofs.Common.{◌≡◌, ℕ, ◌+◌, ◌<◌, ◌^◌, true, List, length, get_or, sym, ◌∙◌, ap, subst, arith}
+use Rattle.std.proofs.Common.{◌≡◌, ℕ, ◌+◌, ◌<◌, ◌^◌, List, length, get_or, sym, ◌∙◌, ap, subst, arith}
 use Rattle.std.proofs.Math.Logic.{∥∥₁_map}
 use Rattle.journal.specs.Entries.{entry}
 use Rattle.journal.specs.States.{Rests}
@@ -11,7 +11,7 @@ use Rattle.journal.proofs.appending.append.Goals as goal
 pub returns-in_err-payloads-clause-either : goal.returns-in_err-payloads-clause-either
 returns-in_err-payloads-clause-either g c =
     let durable = c.args.durable.now in
-    rests-either (g.S.Storage.may_hold c.args.storage.now) (length durable) c.args.room true c.args.position durable c.args.words.now c.requires.known
+    rests-either (g.S.Storage.may_hold c.args.storage.now) (length durable) c.args.room c.args.position.pass c.args.position.words durable c.args.words.now c.requires.known
 
 pub entry_words-requires : goal.entry_words-requires
 entry_words-requires g c =
@@ -23,7 +23,7 @@ entry_words-requires g c =
 pub returns-in_err-entry-clause-either : goal.returns-in_err-entry-clause-either
 returns-in_err-entry-clause-either g c =
     let durable = c.args.durable.now in
-    rests-either (g.S.Storage.may_hold c.args.storage.now) (length durable) c.args.room true c.args.position durable c.args.words.now c.requires.known
+    rests-either (g.S.Storage.may_hold c.args.storage.now) (length durable) c.args.room c.args.position.pass c.args.position.words durable c.args.words.now c.requires.known
 
 pub returns-in_err-write-clause-either : goal.returns-in_err-write-clause-either
 returns-in_err-write-clause-either g c =
@@ -32,10 +32,10 @@ returns-in_err-write-clause-either g c =
     let changed = c.requires.changed in
     let old = g.S.Storage.may_hold c.args.storage.now in
     let new = g.S.Storage.may_hold c.write.new.self in
-    let P : List ℕ → Type 0 = λ l. Puts old new (length durable + c.args.position) l in
-    let is = c.as_slice-2.ensures.value ∙ c.in_ok-entry.ensures ∙ ap (λ (l : List ℕ). entry true l) (c.as_slice.ensures.value ∙ c.in_ok-payloads.ensures) in
-    append-either old new (length durable) c.args.room true c.args.position durable c.args.words.now lines c.requires.known changed.lines_are
-    (omega (arith, entry_size true lines changed.lines_are, c.requires.within)) c.requires.same (λ word lt. changed.makes word (omega (arith, lt, c.requires.same)))
+    let P : List ℕ → Type 0 = λ l. Puts old new (length durable + c.args.position.words) l in
+    let is = c.as_slice-2.ensures.value ∙ c.in_ok-entry.ensures ∙ ap (λ (l : List ℕ). entry c.args.position.pass l) (c.as_slice.ensures.value ∙ c.in_ok-payloads.ensures) in
+    append-either old new (length durable) c.args.room c.args.position.pass c.args.position.words durable c.args.words.now lines c.requires.known changed.lines_are
+    (omega (arith, entry_size c.args.position.pass lines changed.lines_are, c.requires.within)) c.requires.same (λ word lt. changed.makes word (omega (arith, lt, c.requires.same)))
     (subst P is c.write.ensures.found)
 
 pub returns-clause-either : goal.returns-clause-either
@@ -45,10 +45,10 @@ returns-clause-either g c =
     let changed = c.requires.changed in
     let old = g.S.Storage.may_hold c.args.storage.now in
     let new = g.S.Storage.may_hold c.write.new.self in
-    let P : List ℕ → Type 0 = λ l. Puts old new (length durable + c.args.position) l in
-    let is = c.as_slice-2.ensures.value ∙ c.in_ok-entry.ensures ∙ ap (λ (l : List ℕ). entry true l) (c.as_slice.ensures.value ∙ c.in_ok-payloads.ensures) in
-    append-either old new (length durable) c.args.room true c.args.position durable c.args.words.now lines c.requires.known changed.lines_are
-    (omega (arith, entry_size true lines changed.lines_are, c.requires.within)) c.requires.same (λ word lt. changed.makes word (omega (arith, lt, c.requires.same)))
+    let P : List ℕ → Type 0 = λ l. Puts old new (length durable + c.args.position.words) l in
+    let is = c.as_slice-2.ensures.value ∙ c.in_ok-entry.ensures ∙ ap (λ (l : List ℕ). entry c.args.position.pass l) (c.as_slice.ensures.value ∙ c.in_ok-payloads.ensures) in
+    append-either old new (length durable) c.args.room c.args.position.pass c.args.position.words durable c.args.words.now lines c.requires.known changed.lines_are
+    (omega (arith, entry_size c.args.position.pass lines changed.lines_are, c.requires.within)) c.requires.same (λ word lt. changed.makes word (omega (arith, lt, c.requires.same)))
     (subst P is c.write.ensures.found)
 
 pub returns-clause-rests : goal.returns-clause-rests
@@ -60,16 +60,16 @@ returns-clause-rests g c =
     let held = g.S.Storage.may_hold c.args.storage.now in
     let old = g.S.Storage.shows c.args.storage.now in
     let new = g.S.Storage.shows c.write.new.self in
-    let start : ℕ = length durable + c.args.position in
+    let start : ℕ = length durable + c.args.position.words in
     let P : List ℕ → Type 0 = λ l. Puts old new start l in
     let K : List ℕ → Type 0 = λ l. Keeps new start l in
-    let R : List ℕ → Type 0 = λ l. ∥ Rests new (length durable) c.args.room true (c.args.position + length l) words ∥₁ in
-    let made = c.in_ok-entry.ensures ∙ ap (λ (l : List ℕ). entry true l) (c.as_slice.ensures.value ∙ c.in_ok-payloads.ensures) in
+    let R : List ℕ → Type 0 = λ l. ∥ Rests new (length durable) c.args.room c.args.position.pass (c.args.position.words + length l) words ∥₁ in
+    let made = c.in_ok-entry.ensures ∙ ap (λ (l : List ℕ). entry c.args.position.pass l) (c.as_slice.ensures.value ∙ c.in_ok-payloads.ensures) in
     let is = c.as_slice-2.ensures.value ∙ made in
     let count : c.len.result ≡ length c.in_ok-entry.entry.items = omega (arith, c.len.ensures, c.in_ok-entry.entry.ok.0) in
-    let N : ℕ → Type 0 = λ n. ∥ Rests new (length durable) c.args.room true (c.args.position + n) words ∥₁ in
-    let known = rests_within held old (length durable) c.args.room true c.args.position durable (g.met.S.Storage.shown_is_found c.args.storage.now) c.requires.known in
+    let N : ℕ → Type 0 = λ n. ∥ Rests new (length durable) c.args.room c.args.position.pass (c.args.position.words + n) words ∥₁ in
+    let known = rests_within held old (length durable) c.args.room c.args.position.pass c.args.position.words durable (g.met.S.Storage.shown_is_found c.args.storage.now) c.requires.known in
     subst N (sym count) (subst R (sym made) (∥∥₁_map known (λ r.
-    append-kept old new (length durable) c.args.room true c.args.position durable words lines r changed.lines_are
-    (omega (arith, entry_size true lines changed.lines_are, c.requires.within)) c.requires.same (λ word lt. changed.makes word (omega (arith, lt, c.requires.same)))
+    append-kept old new (length durable) c.args.room c.args.position.pass c.args.position.words durable words lines r changed.lines_are
+    (omega (arith, entry_size c.args.position.pass lines changed.lines_are, c.requires.within)) c.requires.same (λ word lt. changed.makes word (omega (arith, lt, c.requires.same)))
     (subst P is c.write.ensures.others) (subst K is c.in_ok-write.ensures.written))))

@@ -1,4 +1,4 @@
-use Rattle.std.proofs.Common.{◌≡◌, ◌∙◌, ℕ, ◌<◌, true, List, length, sym, subst, arith}
+use Rattle.std.proofs.Common.{◌≡◌, ◌∙◌, ℕ, ◌<◌, List, length, sym, subst, arith}
 use Rattle.std.proofs.lemmas.List.{ext_get_or}
 use Rattle.journal.specs.declared.line.Line.{Line}
 use Rattle.journal.specs.Changes.{AreChanged}
@@ -8,7 +8,7 @@ use Rattle.journal.proofs.appending.begin_words.Goals as goal
 pub returns-in_err-changed-clause-either : goal.returns-in_err-changed-clause-either
 returns-in_err-changed-clause-either g c =
     let durable = c.args.durable.now.items in
-    rests-either (g.S.Storage.may_hold c.args.storage.now) (length durable) c.args.room true c.args.position durable c.args.words.now c.requires.known
+    rests-either (g.S.Storage.may_hold c.args.storage.now) (length durable) c.args.room c.args.position.pass c.args.position.words durable c.args.words.now c.requires.known
 
 pub returns-clause-durable : goal.returns-clause-durable
 returns-clause-durable g c =

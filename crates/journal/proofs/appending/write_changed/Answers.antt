@@ -1,12 +1,13 @@
-use Rattle.std.proofs.Common.{◌≡◌, ◌∙◌, true, ℕ, List, [], ◌∷◌, length, refl, sym, subst, arith}
-use Rattle.std.proofs.Math.Logic.{∥∥₁_map}
+use Rattle.std.proofs.Common.{◌≡◌, ◌∙◌, ℕ, ◌-◌, List, [], ◌∷◌, length, refl, sym, subst, arith}
+use Rattle.std.proofs.Math.Logic.{∥∥₁_elim}
+use Rattle.std.proofs.Math.Nat.{ℕ_set}
 use Rattle.std.proofs.lemmas.Bool.{eqb-true}
 use Rattle.journal.specs.declared.line.Line.{Line}
 use Rattle.journal.specs.Changes.{AreChanged}
 use Rattle.journal.specs.States.{Rests}
 use Rattle.journal.proofs.Changes.{unchanged}
 use Rattle.journal.proofs.Within.{rests_within}
-use Rattle.journal.proofs.Appended.{rests-either, opens-either}
+use Rattle.journal.proofs.Appended.{rests-behind, rests-either, opens-either}
 use Rattle.journal.proofs.appending.write_changed.Goals as goal
 
 none : (lines : List Line) → length lines ≡ 0 → lines ≡ []
@@ -16,7 +17,7 @@ none (line ∷ lines) is = absurd (omega (arith, is))
 pub returns-then-is_empty-clause-either : goal.returns-then-is_empty-clause-either
 returns-then-is_empty-clause-either g c =
     let durable = c.args.durable.now in
-    rests-either (g.S.Storage.may_hold c.args.storage.now) (length durable) c.args.room true c.args.position durable c.args.words.now c.requires.known
+    rests-either (g.S.Storage.may_hold c.args.storage.now) (length durable) c.args.room c.args.position.pass c.args.position.words durable c.args.words.now c.requires.known
 
 pub returns-then-is_empty-clause-rests : goal.returns-then-is_empty-clause-rests
 returns-then-is_empty-clause-rests g c =
@@ -26,19 +27,28 @@ returns-then-is_empty-clause-rests g c =
     let P : List Line → Type 0 = λ l. AreChanged l durable words in
     let held = g.S.Storage.may_hold c.args.storage.now in
     let shown = g.S.Storage.shows c.args.storage.now in
-    let R : List ℕ → Type 0 = λ l. ∥ Rests shown (length durable) c.args.room true c.args.position l ∥₁ in
+    let R : List ℕ → Type 0 = λ l. ∥ Rests shown (length durable) c.args.room c.args.position.pass c.args.position.words l ∥₁ in
     subst R (sym (unchanged durable words (subst P (none c.args.changed.now empty) c.requires.changed) c.requires.same))
-    (rests_within held shown (length durable) c.args.room true c.args.position durable (g.met.S.Storage.shown_is_found c.args.storage.now) c.requires.known)
+    (rests_within held shown (length durable) c.args.room c.args.position.pass c.args.position.words durable (g.met.S.Storage.shown_is_found c.args.storage.now) c.requires.known)
 
 pub returns-then-size-room-clause-either : goal.returns-then-size-room-clause-either
 returns-then-size-room-clause-either g c =
     let durable = c.args.durable.now in
-    rests-either (g.S.Storage.may_hold c.args.storage.now) (length durable) c.args.room true c.args.position durable c.args.words.now c.requires.known
+    rests-either (g.S.Storage.may_hold c.args.storage.now) (length durable) c.args.room c.args.position.pass c.args.position.words durable c.args.words.now c.requires.known
 
-pub rewrite-requires-clause-known : goal.rewrite-requires-clause-known
-rewrite-requires-clause-known g c = ∥∥₁_map c.requires.known (λ r. r.known)
-
-pub returns-in_err-rewrite-clause-either : goal.returns-in_err-rewrite-clause-either
-returns-in_err-rewrite-clause-either g c =
+pub begin_pass-requires-clause-within : goal.begin_pass-requires-clause-within
+begin_pass-requires-clause-within g c =
     let durable = c.args.durable.now in
-    opens-either (g.S.Storage.may_hold c.rewrite.new.storage) (length durable) c.args.room durable c.args.words.now c.rewrite.ensures.opens
+    let room = c.args.room in
+    let position = c.args.position in
+    let held = g.S.Storage.may_hold c.args.storage.now in
+    let over : position.words - room ≡ 0 = ∥∥₁_elim c.requires.known (ℕ_set _ _) (λ r. omega (arith, (rests-behind held (length durable) room position.pass position.words durable r).all_size)) in
+    omega (arith, over)
+
+pub begin_pass-requires-clause-known : goal.begin_pass-requires-clause-known
+begin_pass-requires-clause-known g c = c.requires.known
+
+pub returns-in_err-begin_pass-clause-either : goal.returns-in_err-begin_pass-clause-either
+returns-in_err-begin_pass-clause-either g c =
+    let durable = c.args.durable.now in
+    opens-either (g.S.Storage.may_hold c.begin_pass.new.storage) (length durable) c.args.room durable c.args.words.now c.begin_pass.ensures.opens

@@ -1,8 +1,5 @@
-use Rattle.std.proofs.Common.{◌≡◌, ◌∙◌, inl, refl, true, ℕ, List, length, sym, subst}
+use Rattle.std.proofs.Common.{ℕ, List, sym, subst}
 use Rattle.journal.specs.Changes.{DiffersIn}
-use Rattle.journal.specs.Files.{MayBe}
-use Rattle.journal.specs.States.{Rests}
-use Rattle.journal.proofs.Within.{may_be_within}
 use Rattle.journal.proofs.journaled.JournaledImagesImages.begin.Goals as goal
 
 pub begin_words-requires-clause-differs : goal.begin_words-requires-clause-differs

@@ -1,4 +1,4 @@
-use Rattle.std.proofs.Common.{◌∙◌, true, length, refl}
+use Rattle.std.proofs.Common.{◌∙◌, length, refl}
 use Rattle.journal.proofs.Appended.{may-kept}
 use Rattle.journal.proofs.Within.{both_ok}
 use Rattle.journal.proofs.journaled.JournaledImagesImages.finish.Goals as goal
@@ -7,4 +7,4 @@ pub returns-clause-kept : goal.returns-clause-kept
 returns-clause-kept g c =
     let self = c.complete.new.self in
     both_ok c.complete.result (λ works done image may.
-    may-kept (g.S.Storage.may_hold self.storage) (length self.written.items) self.room true self.position self.written.items image (self.rests works done) refl may ∙ c.complete.ensures.written) c.complete.ensures.works c.complete.ensures.done
+    may-kept (g.S.Storage.may_hold self.storage) (length self.written.items) self.room self.position.pass self.position.words self.written.items image (self.rests works done) refl may ∙ c.complete.ensures.written) c.complete.ensures.works c.complete.ensures.done

@@ -1,16 +1,16 @@
-use Rattle.std.proofs.Common.{true, length}
+use Rattle.std.proofs.Common.{length}
 use Rattle.journal.proofs.Within.{may_be_within, rests_within}
 use Rattle.journal.proofs.journaled.JournaledImagesImages.take_back.Goals as goal
 
 pub invariant_of-self-clause-rests : goal.invariant_of-self-clause-rests
 invariant_of-self-clause-rests g c works done =
     let self = c.args.self.now in
-    rests_within (g.S.Storage.may_hold self.storage) (g.S.Storage.may_hold c.take_back.new.self) (length self.written.items) self.room true self.position self.written.items c.take_back.ensures.found (self.rests works done)
+    rests_within (g.S.Storage.may_hold self.storage) (g.S.Storage.may_hold c.take_back.new.self) (length self.written.items) self.room self.position.pass self.position.words self.written.items c.take_back.ensures.found (self.rests works done)
 
 pub invariant_of-self-clause-begun : goal.invariant_of-self-clause-begun
 invariant_of-self-clause-begun g c works begun =
     let self = c.args.self.now in
-    rests_within (g.S.Storage.shows self.storage) (g.S.Storage.shows c.take_back.new.self) (length self.written.items) self.room true self.position self.written.items c.take_back.ensures.shown (self.begun works begun)
+    rests_within (g.S.Storage.shows self.storage) (g.S.Storage.shows c.take_back.new.self) (length self.written.items) self.room self.position.pass self.position.words self.written.items c.take_back.ensures.shown (self.begun works begun)
 
 pub returns-clause-found : goal.returns-clause-found
 returns-clause-found g c image may =

@@ -1,0 +1,64 @@
+use Rattle.std.proofs.Common.{◌≡◌, ◌∙◌, inl, inr, ◌+◌, ◌-◌, List, ℕ, length, replicate, ap, subst}
+use Rattle.std.proofs.Math.Logic.{∥∥₁_map}
+use Rattle.journal.proofs.Files.{Puts, Keeps, known-opens, merely-opens}
+use Rattle.journal.proofs.Within.{both_ok}
+use Rattle.journal.proofs.Turned.{fillings, fill-opens, fill-kept}
+use Rattle.journal.proofs.rewriting.fill.Goals as goal
+
+pub returns-in_err-rest-clause-opens : goal.returns-in_err-rest-clause-opens
+returns-in_err-rest-clause-opens g c =
+    let image = c.args.image.now in
+    let old = g.S.Storage.may_hold c.args.storage.now in
+    merely-opens old (length image) c.args.room image c.requires.known (λ known. known-opens old (length image) c.args.room c.args.position.pass image known.known)
+
+pub returns-in_err-write-clause-opens : goal.returns-in_err-write-clause-opens
+returns-in_err-write-clause-opens g c =
+    let image = c.args.image.now in
+    let words = length image in
+    let room = c.args.room in
+    let position = c.args.position in
+    let old = g.S.Storage.may_hold c.args.storage.now in
+    let new = g.S.Storage.may_hold c.write.new.self in
+    let P : List ℕ → Type 0 = λ l. Puts old new (words + position.words) l in
+    let is : c.as_slice.result.now ≡ fillings position.pass (room - position.words) =
+    c.as_slice.ensures.value ∙ c.in_ok-rest.ensures.items_if_clones_equal (λ y e. e) ∙ ap (λ (v : ℕ). replicate (room - position.words) v) c.bit_of.ensures in
+    merely-opens new words room image c.requires.known (λ known.
+    fill-opens old new words room position.pass position.words image c.requires.within known (λ word x h. inl (subst P is c.write.ensures.found word x h)))
+
+pub returns-clause-opens : goal.returns-clause-opens
+returns-clause-opens g c =
+    let image = c.args.image.now in
+    let words = length image in
+    let room = c.args.room in
+    let position = c.args.position in
+    let old = g.S.Storage.may_hold c.args.storage.now in
+    let mid = g.S.Storage.may_hold c.write.new.self in
+    let new = g.S.Storage.may_hold c.put.new.storage in
+    let P : List ℕ → Type 0 = λ l. Puts old mid (words + position.words) l in
+    let is : c.as_slice.result.now ≡ fillings position.pass (room - position.words) =
+    c.as_slice.ensures.value ∙ c.in_ok-rest.ensures.items_if_clones_equal (λ y e. e) ∙ ap (λ (v : ℕ). replicate (room - position.words) v) c.bit_of.ensures in
+    let first = subst P is c.write.ensures.found in
+    merely-opens new words room image c.requires.known (λ known.
+    fill-opens old new words room position.pass position.words image c.requires.within known (λ word x h. elim (c.put.ensures.puts word x h) [
+      | inl held ↦ inl (first word x held)
+      | inr put ↦ inr put
+    ]))
+
+pub returns-clause-done : goal.returns-clause-done
+returns-clause-done g c =
+    let image = c.args.image.now in
+    let words = length image in
+    let room = c.args.room in
+    let position = c.args.position in
+    let old = g.S.Storage.may_hold c.args.storage.now in
+    let shown = g.S.Storage.shows c.args.storage.now in
+    let mid = g.S.Storage.shows c.write.new.self in
+    let new = g.S.Storage.may_hold c.put.new.storage in
+    let P : List ℕ → Type 0 = λ l. Puts shown mid (words + position.words) l in
+    let K : List ℕ → Type 0 = λ l. Keeps mid (words + position.words) l in
+    let is : c.as_slice.result.now ≡ fillings position.pass (room - position.words) =
+    c.as_slice.ensures.value ∙ c.in_ok-rest.ensures.items_if_clones_equal (λ y e. e) ∙ ap (λ (v : ℕ). replicate (room - position.words) v) c.bit_of.ensures in
+    let puts = subst P is c.write.ensures.others in
+    let keeps = subst K is c.in_ok-write.ensures.written in
+    both_ok c.put.result (λ kept before. ∥∥₁_map c.requires.known (λ known.
+    fill-kept old shown mid new words room position.pass position.words image c.requires.within (g.met.S.Storage.shown_is_found c.args.storage.now) known puts keeps before kept)) c.put.ensures.kept c.put.ensures.shown

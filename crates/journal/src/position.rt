@@ -1,0 +1,6 @@
+/// How far a journal is written: so many words of it are whole entries of this pass.
+#[derive(Clone, Copy, Debug)]
+pub(crate) struct Position {
+    pub(crate) pass: bool,
+    pub(crate) words: usize,
+}
