@@ -17,9 +17,14 @@ pub struct Writing {
     geometry: Geometry,
     target: Record,
     stage: WritingStage,
+    // The first word of its place.
+    start: usize,
 }
 
 impl Model for Writing {
+    ghost use Rattle.std.specs.Prelude.{◌≡◌, ◌+◌, ◌^◌, ◌<◌, ◌≤◌};
+    ghost use Rattle.base.specs.Layout.{total_words};
+    ghost use Rattle.log_area.specs.Rulings.{gate_word};
     ghost use Rattle.log_area.specs.Stages.{IsStage};
     ghost use Rattle.log_area.specs.Writings.{Progress};
 
@@ -27,9 +32,9 @@ impl Model for Writing {
 
     ghost view = { λ w. record { layout = w.geometry; target = w.target; stage = w.stage } };
 
-    ghost invariant = { λ w. IsStage w.stage };
+    ghost invariant = { λ w. IsStage w.stage × (w.start ≡ gate_word w.geometry w.target) × (w.start + 32 ≤ total_words w.geometry) × (w.start < 2 ^ 32) };
 
-    ghost inverse = { λ p. record { geometry = p.layout; target = p.target; stage = p.stage } };
+    ghost inverse = { λ p. record { geometry = p.layout; target = p.target; stage = p.stage; start = gate_word p.layout p.target } };
 }
 
 impl Writing {
@@ -48,6 +53,7 @@ impl Writing {
             geometry,
             target,
             stage: WritingStage::StoreBody(1),
+            start: geometry.place_start(target.gate() % geometry.places()),
         }
     }
 
@@ -88,10 +94,10 @@ impl Writing {
         ensures operation { OnOk result (D.state device.new ≡ applied (operation_of self.old) (D.state device.old)) }
         ensures failure { OnErr result (D.state device.new ≡ failed (D.state device.old)) }
     {
+        let stage = self.stage;
         self.operate(device)?;
-        let reached = self.stage.reached();
-        self.stage = self.stage.next();
-        Ok(reached)
+        self.stage = stage.next();
+        Ok(stage.reached())
     }
 
     #[inline(always)]
@@ -123,7 +129,6 @@ impl Writing {
         ensures within { result + 32 ≤ total_words self.now.layout }
         ensures low { result < 2 ^ 32 }
     {
-        let geometry = self.geometry;
-        geometry.place_start(self.target.gate() % geometry.places())
+        self.start
     }
 }
