@@ -68,6 +68,7 @@ impl Index {
 
     /// At which place the key's entry is, if it has one. It stays there. The calls that take a place try it first, and search
     /// where the key's entry isn't there.
+    #[inline(always)]
     pub fn place(&self, key: Key) -> Option<usize>
         ensures some { IfSome result (λ place. IsAt self.now place key) }
         ensures none { IfNone result (has_room self.now key ≡ false) }
@@ -159,6 +160,7 @@ impl Index {
     }
 
     // Sets the entry at the place of the key.
+    #[inline(always)]
     fn set_in(&mut self, place: usize, key: Key, entry: Entry)
         requires { IsAt self.old place key }
         ensures sets { Sets self.old self.new key entry }
@@ -168,6 +170,7 @@ impl Index {
     }
 
     // In the entry at the place of the key, the version that a drawn commit wrote, and its timestamp.
+    #[inline(always)]
     fn draw_in(&mut self, place: usize, key: Key, slot: Option<SlotNo>, ts: Ts)
         requires { IsAt self.old place key }
         ensures sets { Sets self.old self.new key (record (entry_at self.old key) { drawn = slot; last = Some ts }) }
@@ -254,6 +257,7 @@ impl Index {
     }
 
     /// The commit that was drawn for the key is covered. Its version is in the slot; a deletion has none, and ends the newest.
+    #[inline(always)]
     pub fn cover(&mut self, key: Key, near: Option<usize>, slot: Option<SlotNo>)
         requires { IsTrue (has_room self.old key) }
         ensures entries { Sets self.old self.new key (covered slot (entry_at self.old key)) }

@@ -1,13 +1,9 @@
 ghost use Rattle.std.specs.Prelude.{◌≡◌, ◌<◌, ◌≤◌, Some, IfOk, IfErr};
-ghost use Rattle.std.specs.Bool.{OnFalse};
 ghost use Rattle.txn.specs.Transactions.{transaction_at};
-ghost use Rattle.txn.specs.WriteSets.{HasRoomFor};
 ghost use Rattle.txn.specs.declared.transaction.Transaction.TheVariants.{Active as IsActiveWith};
-ghost use Rattle.session_steps.specs.Giving.{is_full_of};
 ghost use Rattle.session_steps.specs.Steps.{IsBarred, is_active};
 
 use base::fault::Fault;
-use base::key::Key;
 use snapshot::Snapshot;
 use txn::{Transaction, Transactions, WriteSet};
 
@@ -16,15 +12,6 @@ use txn::{Transaction, Transactions, WriteSet};
 pub struct Active<'a> {
     pub snapshot: &'a Snapshot,
     pub writes: &'a WriteSet,
-}
-
-/// Whether the writes are as many as they may be, and none is of the key.
-#[inline(always)]
-pub fn is_full_for(writes: &WriteSet, key: Key) -> bool
-    ensures full { result ≡ is_full_of key writes.now }
-    ensures room { OnFalse result (HasRoomFor key writes.now) }
-{
-    writes.is_full() && writes.find(key).is_none()
 }
 
 /// The session of this number, where it is Active.

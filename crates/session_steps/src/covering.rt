@@ -23,27 +23,18 @@ fn cover_writes(index: &mut Index, writes: &WriteSet)
     }
 }
 
-// Covers the versions of those of the commits that the record commits.
-fn cover_commits(index: &mut Index, commits: &[DrawnCommit], ruling: Record)
-    requires { All (λ d. HasRoom index.old d.writes) commits.now }
-    ensures { CoversCommits (committed_by ruling commits.now) index.old index.new }
-{
-    for commit in commits {
-        if ruling.commits(commit.timestamp) {
-            cover_writes(index, &commit.writes);
-        }
-    }
-}
-
-// The numbers of the sessions that drew those of the commits that the record commits.
-fn sessions_of(commits: &[DrawnCommit], ruling: Record) -> SessionSet
-    requires { IsTrue (are_numbered commits.now) }
-    ensures { (n : ℕ) → has result n ≡ has_drawn_by (committed_by ruling commits.now) n }
+// Covers the versions of those of the commits that the record commits. The numbers of the sessions that drew them.
+fn cover_commits(index: &mut Index, commits: &[DrawnCommit], ruling: Record) -> SessionSet
+    requires room { All (λ d. HasRoom index.old d.writes) commits.now }
+    requires numbered { IsTrue (are_numbered commits.now) }
+    ensures index { CoversCommits (committed_by ruling commits.now) index.old index.new }
+    ensures sessions { (n : ℕ) → has result n ≡ has_drawn_by (committed_by ruling commits.now) n }
 {
     let mut sessions = SessionSet::none();
     for commit in commits {
         if ruling.commits(commit.timestamp) {
             sessions.insert(commit.session);
+            cover_writes(index, &commit.writes);
         }
     }
     sessions
@@ -60,8 +51,7 @@ impl Sessions {
         ensures shows { ShowsCovered self.old self.new ruling }
     {
         let commits = self.drawn.as_slice();
-        let sessions = sessions_of(commits, ruling);
-        cover_commits(&mut self.index, commits, ruling);
+        let sessions = cover_commits(&mut self.index, commits, ruling);
         self.dirty.forget(&sessions);
         self.numbers.record = ruling;
         self.drawn

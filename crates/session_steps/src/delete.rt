@@ -1,8 +1,8 @@
 //! A deletion has no slot, only a stamp in the end of the version that it ends. The slot of an own write that it follows has 0
 //! in its begin, so nobody reads it, and it is free without an operation.
 
-use crate::active::{active_in, is_full_for};
-use crate::giving::{give, lines_with, own_slot};
+use crate::active::active_in;
+use crate::giving::{give, own_key};
 use crate::sessions::Sessions;
 use base::fault::Fault;
 use base::key::Key;
@@ -23,14 +23,15 @@ impl Sessions {
             Ok(active) => active,
             Err(fault) => return Err(fault),
         };
-        if is_full_for(active.writes, key) {
+        let own = own_key(active.writes, key);
+        if own.is_full {
             return Err(Fault::WriteSetFull);
         }
-        match self.dirty.promise(session, lines_with(active.writes, key)) {
+        match self.dirty.promise(session, own.lines) {
             Ok(()) => {}
             Err(fault) => return Err(fault),
         }
-        give(&mut self.slots, own_slot(active.writes, key));
+        give(&mut self.slots, own.slot);
         let deletion = Write {
             key,
             row: None,

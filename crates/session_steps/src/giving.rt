@@ -1,5 +1,7 @@
 ghost use Rattle.std.specs.Prelude.{◌≡◌, ◌*◌, IsTrue, length};
-ghost use Rattle.session_steps.specs.Giving.{fits_slot, fits_writes, given, own_of, count_with, GivesBack};
+ghost use Rattle.std.specs.Bool.{OnFalse};
+ghost use Rattle.txn.specs.WriteSets.{HasRoomFor};
+ghost use Rattle.session_steps.specs.Giving.{fits_slot, fits_writes, given, own_of, count_with, is_full_of, GivesBack};
 
 use base::SlotNo;
 use base::key::Key;
@@ -28,27 +30,37 @@ pub fn give(slots: &mut SlotAlloc, slot: Option<SlotNo>)
     }
 }
 
-/// The slot of the transaction's version of the key.
-#[inline(always)]
-pub fn own_slot(writes: &WriteSet, key: Key) -> Option<SlotNo>
-    ensures { result ≡ own_of key writes.now }
-{
-    match writes.find(key) {
-        Some(write) => write.slot,
-        None => None,
-    }
+/// What the writes of a transaction say of a key that it is to write.
+#[derive(Clone, Copy)]
+pub struct OwnKey {
+    /// The slot of its version of the key.
+    pub slot: Option<SlotNo>,
+    /// How many lines it may touch that writes the key too: for each write two of the version that it makes, and one of that
+    /// which it ends.
+    pub lines: u16,
+    /// Whether the writes are as many as they may be, and none is of the key.
+    pub is_full: bool,
 }
 
-/// How many lines a transaction may touch that writes the key too: for each write two of the version that it makes, and one of
-/// that which it ends.
+/// The key among the writes of a transaction, found once.
 #[inline(always)]
-pub fn lines_with(writes: &WriteSet, key: Key) -> u16
-    ensures { result ≡ 3 * count_with key writes.now }
+pub fn own_key(writes: &WriteSet, key: Key) -> OwnKey
+    ensures slot { result.slot ≡ own_of key writes.now }
+    ensures lines { result.lines ≡ 3 * count_with key writes.now }
+    ensures full { result.is_full ≡ is_full_of key writes.now }
+    ensures room { OnFalse result.is_full (HasRoomFor key writes.now) }
 {
     let len = writes.len() as u16;
-    if writes.find(key).is_none() {
-        3 * (len + 1)
-    } else {
-        3 * len
+    match writes.find(key) {
+        Some(write) => OwnKey {
+            slot: write.slot,
+            lines: 3 * len,
+            is_full: false,
+        },
+        None => OwnKey {
+            slot: None,
+            lines: 3 * (len + 1),
+            is_full: writes.is_full(),
+        },
     }
 }

@@ -5,8 +5,8 @@
 
 ghost use Rattle.std.specs.Prelude.{◌≡◌, None, Some};
 
-use crate::active::{active_in, is_full_for};
-use crate::giving::{lines_with, own_slot};
+use crate::active::active_in;
+use crate::giving::own_key;
 use crate::sessions::Sessions;
 use base::SlotNo;
 use base::actor::Actor;
@@ -51,15 +51,13 @@ impl Sessions {
         if row.as_bytes().len() > self.numbers.geometry.row_limit() {
             return Err(Fault::TooLong);
         }
-        if is_full_for(active.writes, key) {
+        let own = own_key(active.writes, key);
+        if own.is_full {
             return Err(Fault::WriteSetFull);
         }
-        match own_slot(active.writes, key) {
+        match own.slot {
             Some(slot) => self.fill_own(device, session, slot, key, row),
-            None => {
-                let lines = lines_with(active.writes, key);
-                self.put_taken(device, session, key, row, lines)
-            }
+            None => self.put_taken(device, session, key, row, own.lines),
         }
     }
 

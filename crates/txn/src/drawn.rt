@@ -26,6 +26,7 @@ impl DrawnCommit {
     ghost use Rattle.txn.specs.DrawnCommits.{plain_drawn};
 
     /// Whether all its writes are stamped.
+    #[inline(always)]
     pub fn is_stamped(&self) -> bool
         ensures { result ≡ is_stamped (plain_drawn self.now) }
     {
@@ -33,6 +34,7 @@ impl DrawnCommit {
     }
 
     // One more of its writes is stamped, if it has the timestamp and one is left.
+    #[inline(always)]
     fn stamp(&mut self, timestamp: Ts)
         ensures { self.new ≡ with_stamp timestamp self.old }
     {
@@ -102,6 +104,7 @@ impl DrawnCommits {
     }
 
     /// Makes room for one more, and changes nothing else.
+    #[inline(always)]
     pub fn reserve(&mut self) -> Result<(), Fault>
         ensures commits { self.new.commits ≡ self.old.commits }
         ensures ok { OnOk result (0 < self.new.spare) }
@@ -115,6 +118,7 @@ impl DrawnCommits {
     }
 
     /// Adds the commit that was drawn last, where there is room for it.
+    #[inline(always)]
     pub fn push(&mut self, commit: DrawnCommit)
         requires room { 0 < self.old.spare }
         requires last { IsTrue (are_below commit.timestamp self.old.commits) }
@@ -125,6 +129,7 @@ impl DrawnCommits {
     }
 
     /// One more write of the commit of this timestamp is stamped, if one is left.
+    #[inline(always)]
     pub fn stamp(&mut self, timestamp: Ts)
         ensures { self.new.commits ≡ map (with_stamp timestamp) self.old.commits }
     {
@@ -220,6 +225,7 @@ fn place(commits: &[DrawnCommit], timestamp: Ts) -> usize
 }
 
 // One more write of the commit of this timestamp is stamped, if there is one.
+#[inline(always)]
 fn stamp_in(commits: &mut [DrawnCommit], timestamp: Ts)
     requires { IsTrue (are_in_order commits.old) }
     ensures { commits.new ≡ map (with_stamp timestamp) commits.old }

@@ -87,6 +87,7 @@ fn empty_set(ended: &mut Vec<WriteSet>, alloc: Global) -> Result<WriteSet, Fault
 }
 
 // Keeps a set whose transaction ended, where there is room.
+#[inline(always)]
 fn keep(ended: &mut Vec<WriteSet>, writes: WriteSet) {
     if ended.len() < ended.capacity() {
         ended.push_reserved(writes);
@@ -114,6 +115,7 @@ fn hold(
 }
 
 // Gives up a snapshot, whose memory is kept where there is room.
+#[inline(always)]
 fn give_up(held: &mut Vec<HeldSnapshot>, snapshot: HeldSnapshot) {
     if held.len() < held.capacity() {
         held.push_reserved(snapshot);
@@ -253,6 +255,7 @@ impl Transactions {
     }
 
     /// An Active transaction draws this timestamp. Its writes are moved out.
+    #[inline(always)]
     pub fn draw(&mut self, number: u8, timestamp: Ts) -> WriteSet
         requires { (snapshot : Seen) × (writes : List Write) × (transaction_at self.old number ≡ Some (Active snapshot writes)) }
         ensures writes { (snapshot : Seen) × (transaction_at self.old number ≡ Some (Active snapshot result)) }

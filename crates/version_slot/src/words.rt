@@ -88,11 +88,13 @@ impl Version {
     ghost use Rattle.std.specs.Prelude.{◌≡◌, ◌≤◌, ◌<◌, ◌^◌, ℕ, length, slice_index};
     ghost use Rattle.version_slot.specs.Words.{filled_word, link_number};
 
-    // The words of a slot of two lines that is filled with it, with 0 for the first. A slot of one line has the first eight.
-    pub fn words(&self) -> [u64; 16]
-        requires { link_number self.now.previous < 2 ^ 32 }
+    // The words of a slot of so many that is filled with it, with 0 for the first, and in the places behind them.
+    #[inline(always)]
+    pub(crate) fn words(&self, count: usize) -> [u64; 16]
+        requires count { (4 ≤ count) × (count ≤ 16) }
+        requires link { link_number self.now.previous < 2 ^ 32 }
         ensures size { length result ≡ 16 }
-        ensures words { (w : ℕ) → 1 ≤ w → w < 16 → slice_index result w ≡ filled_word self.now w }
+        ensures words { (w : ℕ) → 1 ≤ w → w < count → slice_index result w ≡ filled_word self.now w }
         ensures table { self.now.key.table < 2 ^ 16 }
         ensures bytes { (i : ℕ) → slice_index self.now.row i < 2 ^ 8 }
     {
@@ -101,7 +103,7 @@ impl Version {
         let Key { table, key } = self.key;
         words[2] = key;
         words[3] = header(table, bytes.len(), link_of(self.previous));
-        for k in 0..12 {
+        for k in 0..count - 4 {
             words[4 + k] = word_at(bytes, 8 * k);
         }
         words

@@ -1,7 +1,7 @@
-ghost use Rattle.std.specs.Prelude.{◌≡◌, ◌<◌, ◌≤◌, length, IfErr, OnErr, OnOk, Some};
+ghost use Rattle.std.specs.Prelude.{◌≡◌, ◌<◌, ◌≤◌, [], ◌∷◌, length, IfErr, OnErr, OnOk, Some};
 ghost use Rattle.base.specs.Layout.{row_limit, total_words};
 ghost use Rattle.pmem.specs.Words.{value_of};
-ghost use Rattle.pmem.specs.Trace.{Runs, StopsWithin};
+ghost use Rattle.pmem.specs.Trace.{store_op, Runs, StopsWithin};
 ghost use Rattle.version_slot.specs.Operations.{begin_operations, end_operations, fill_operations};
 ghost use Rattle.version_slot.specs.Words.{IsVersion, link_number, slot_at};
 
@@ -12,6 +12,7 @@ use pmem::{Pmem, store_all};
 
 /// Stores 0 in a slot's end and then a version in the words after it, to the slot's last: 7 stores, or 15 where a slot has
 /// two lines. The begin stays.
+#[inline(always)]
 pub fn fill<D: Pmem>(
     device: &mut D,
     geometry: Geometry,
@@ -28,12 +29,13 @@ pub fn fill<D: Pmem>(
     ensures run { OnOk result (Runs (fill_operations geometry slot version.now) (D.state device.old) (D.state device.new)) }
     ensures stopped { OnErr result (StopsWithin (fill_operations geometry slot version.now) (D.state device.old) (D.state device.new)) }
 {
-    let words = version.words();
     let count = geometry.slot_words() as usize;
+    let words = version.words(count);
     store_all(device, geometry.slot_start(slot) + 1, &words[1..count])
 }
 
 /// Stores the timestamp of the commit that wrote the slot's version.
+#[inline(always)]
 pub fn stamp_begin<D: Pmem>(
     device: &mut D,
     geometry: Geometry,
@@ -47,10 +49,11 @@ pub fn stamp_begin<D: Pmem>(
     ensures run { OnOk result (Runs (begin_operations geometry (Some slot) timestamp) (D.state device.old) (D.state device.new)) }
     ensures stopped { OnErr result (StopsWithin (begin_operations geometry (Some slot) timestamp) (D.state device.old) (D.state device.new)) }
 {
-    store_all(device, geometry.slot_start(slot), &[timestamp])
+    store_one(device, geometry.slot_start(slot), timestamp)
 }
 
 /// Stores the timestamp of the commit that replaced the slot's version.
+#[inline(always)]
 pub fn stamp_end<D: Pmem>(
     device: &mut D,
     geometry: Geometry,
@@ -64,5 +67,20 @@ pub fn stamp_end<D: Pmem>(
     ensures run { OnOk result (Runs (end_operations geometry (Some slot) timestamp) (D.state device.old) (D.state device.new)) }
     ensures stopped { OnErr result (StopsWithin (end_operations geometry (Some slot) timestamp) (D.state device.old) (D.state device.new)) }
 {
-    store_all(device, geometry.slot_start(slot) + 1, &[timestamp])
+    store_one(device, geometry.slot_start(slot) + 1, timestamp)
+}
+
+// Stores one word.
+#[inline(always)]
+fn store_one<D: Pmem>(device: &mut D, word: usize, value: u64) -> Result<(), Fault>
+    requires { word < (D.state device.old).words }
+    ensures fault { IfErr result (λ fault. fault ≡ Fault.Device) }
+    ensures size { (D.state device.new).words ≡ (D.state device.old).words }
+    ensures run { OnOk result (Runs (store_op word value ∷ []) (D.state device.old) (D.state device.new)) }
+    ensures stopped { OnErr result (StopsWithin (store_op word value ∷ []) (D.state device.old) (D.state device.new)) }
+{
+    match device.store(word, value) {
+        Ok(()) => Ok(()),
+        Err(fault) => Err(fault),
+    }
 }

@@ -13,8 +13,8 @@ use Rattle.gap_list.proofs.Tidy.{well_formed-tidy}
 use Rattle.session_steps.proofs.covers.Batch.{has-covered, shows-covered}
 use Rattle.session_steps.proofs.sessions.Sessions.cover.Goals as goal
 
-pub cover_commits-requires : goal.cover_commits-requires
-cover_commits-requires c = λ k d lt k' d' lt'.
+pub cover_commits-sessions-requires-clause-room : goal.cover_commits-sessions-requires-clause-room
+cover_commits-sessions-requires-clause-room c = λ k d lt k' d' lt'.
     ∥∥₁_elim c.requires (Bool-set _ _) (λ some.
     (subst (λ (ds : List DrawnCommit). All (HoldsDrawn c.args.self.now (plain_of c.args.self.now some.0)) ds) (sym c.as_slice-commits.ensures.commits) some.2.agrees.drawn k d lt).room k' d' lt')
 
@@ -25,10 +25,10 @@ snapshot-requires c = ∥∥₁_elim c.requires (Bool-set _ _) (λ some.
 
 pub returns-clause-covers : goal.returns-clause-covers
 returns-clause-covers c = λ h hand may.
-    subst (λ (ts : List (Option Transaction)). HasCovered c.args.self.now (record c.args.self.now { numbers = record { geometry = c.args.self.now.numbers.geometry; «record» = c.args.ruling; next = c.args.self.now.numbers.next }; index = c.cover_commits.new.index; dirty = c.forget.new.self; drawn = c.cover.new.self; transactions = ts }) h hand) (sym c.cover.ensures.transactions)
-    (has-covered c.args.self.now c.args.ruling h hand may c.cover_commits.new.index c.forget.new.self c.sessions_of-sessions.result c.cover.new.self
-    (subst (λ (ds : List DrawnCommit). CoversCommits (committed_by c.args.ruling ds) c.args.self.now.index c.cover_commits.new.index) c.as_slice-commits.ensures.commits c.cover_commits.ensures) c.forget.ensures.touches c.forget.ensures.promised
-    (subst (λ (ds : List DrawnCommit). (n : ℕ) → has c.sessions_of-sessions.result n ≡ has_drawn_by (committed_by c.args.ruling ds) n) c.as_slice-commits.ensures.commits c.sessions_of-sessions.ensures) left)
+    subst (λ (ts : List (Option Transaction)). HasCovered c.args.self.now (record c.args.self.now { numbers = record { geometry = c.args.self.now.numbers.geometry; «record» = c.args.ruling; next = c.args.self.now.numbers.next }; index = c.cover_commits-sessions.new.index; dirty = c.forget.new.self; drawn = c.cover.new.self; transactions = ts }) h hand) (sym c.cover.ensures.transactions)
+    (has-covered c.args.self.now c.args.ruling h hand may c.cover_commits-sessions.new.index c.forget.new.self c.cover_commits-sessions.result c.cover.new.self
+    (subst (λ (ds : List DrawnCommit). CoversCommits (committed_by c.args.ruling ds) c.args.self.now.index c.cover_commits-sessions.new.index) c.as_slice-commits.ensures.commits c.cover_commits-sessions.ensures.index) c.forget.ensures.touches c.forget.ensures.promised
+    (subst (λ (ds : List DrawnCommit). (n : ℕ) → has c.cover_commits-sessions.result n ≡ has_drawn_by (committed_by c.args.ruling ds) n) c.as_slice-commits.ensures.commits c.cover_commits-sessions.ensures.sessions) left)
   where
     left : c.cover.new.self.commits ≡ left_by c.args.ruling c.args.self.now.drawn.commits
     left = search rules

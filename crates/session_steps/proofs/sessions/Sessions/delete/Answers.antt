@@ -17,28 +17,28 @@ use Rattle.session_steps.proofs.sessions.Sessions.delete.Goals as goal
 pub returns-in-Err : goal.returns-in-Err
 returns-in-Err c = record { step = λ h holds. inactive c.args.self.now (Delete c.args.session c.args.key) c.args.session c.in-Err.fault h refl refl c.in-Err.ensures.fault holds }
 
-pub returns-then-is_full_for : goal.returns-then-is_full_for
-returns-then-is_full_for c = record { step = λ h holds. refuses c.args.self.now (Delete c.args.session c.args.key) WriteSetFull h holds (delete-asks c.args.self.now h c.args.session c.args.key _ _ true holds c.in-Ok.ensures.ok (sym c.is_full_for.ensures.full ∙ c.if-is_full_for.true)) }
+pub returns-then-own : goal.returns-then-own
+returns-then-own c = record { step = λ h holds. refuses c.args.self.now (Delete c.args.session c.args.key) WriteSetFull h holds (delete-asks c.args.self.now h c.args.session c.args.key _ _ true holds c.in-Ok.ensures.ok (sym c.own_key-own.ensures.full ∙ c.if-own.true)) }
 
 pub give-requires : goal.give-requires
-give-requires c = ap (fits_slot (length c.args.self.now.slots)) c.own_slot.ensures ∙ ∥∥₁_elim c.requires.shown (Bool-set _ _) (λ shown. fits-own_of c.args.self.now c.args.session c.args.key _ _ shown.0 c.in-Ok.ensures.ok shown.1)
+give-requires c = ap (fits_slot (length c.args.self.now.slots)) c.own_key-own.ensures.slot ∙ ∥∥₁_elim c.requires.shown (Bool-set _ _) (λ shown. fits-own_of c.args.self.now c.args.session c.args.key _ _ shown.0 c.in-Ok.ensures.ok shown.1)
 
 pub write-requires : goal.write-requires
-write-requires c = (_, _, c.in-Ok.ensures.ok, subst (λ (b : Bool). OnFalse b (HasRoomFor c.args.key c.in-Ok.active.writes.now)) c.if-is_full_for.false c.is_full_for.ensures.room)
+write-requires c = (_, _, c.in-Ok.ensures.ok, subst (λ (b : Bool). OnFalse b (HasRoomFor c.args.key c.in-Ok.active.writes.now)) c.if-own.false c.own_key-own.ensures.room)
 
 pub returns-in-Err-promise : goal.returns-in-Err-promise
 returns-in-Err-promise c = record {
   step = λ h holds.
       wants-memory c.args.self.now h c.promise.new.self (Delete c.args.session c.args.key) c.in-Err-promise.fault holds
-      (delete-asks c.args.self.now h c.args.session c.args.key _ _ false holds c.in-Ok.ensures.ok (sym c.is_full_for.ensures.full ∙ c.if-is_full_for.false)) refl c.in-Err-promise.ensures.err c.in-Err-promise.ensures.fault;
+      (delete-asks c.args.self.now h c.args.session c.args.key _ _ false holds c.in-Ok.ensures.ok (sym c.own_key-own.ensures.full ∙ c.if-own.false)) refl c.in-Err-promise.ensures.err c.in-Err-promise.ensures.fault;
 }
 
 pub returns : goal.returns
 returns c = record {
   step = λ h holds.
       goes-from c.args.self.now _ h c.promise.new.self (Delete c.args.session c.args.key) Done
-      (deletes (record c.args.self.now { dirty = c.promise.new.self }) c.write.new.self c.give.new.slots c.args.session c.args.key c.place.result _ _ h c.in-Ok.ensures.ok (sym c.is_full_for.ensures.full ∙ c.if-is_full_for.false)
-      (room-promised c.args.key (Some (Active c.in-Ok.active.snapshot.now c.in-Ok.active.writes.now)) c.args.session _ c.args.self.now.dirty c.promise.new.self c.in-Ok-promise.ensures.ok (omega (arith, c.lines_with.ensures)))
-      (c.give.ensures ∙ ap (λ (o : Option ℕ). given o c.args.self.now.slots) c.own_slot.ensures) (c.write.ensures _ _ c.in-Ok.ensures.ok)
+      (deletes (record c.args.self.now { dirty = c.promise.new.self }) c.write.new.self c.give.new.slots c.args.session c.args.key c.place.result _ _ h c.in-Ok.ensures.ok (sym c.own_key-own.ensures.full ∙ c.if-own.false)
+      (room-promised c.args.key (Some (Active c.in-Ok.active.snapshot.now c.in-Ok.active.writes.now)) c.args.session _ c.args.self.now.dirty c.promise.new.self c.in-Ok-promise.ensures.ok (omega (arith, c.own_key-own.ensures.lines)))
+      (c.give.ensures ∙ ap (λ (o : Option ℕ). given o c.args.self.now.slots) c.own_key-own.ensures.slot) (c.write.ensures _ _ c.in-Ok.ensures.ok)
       (holds-promised c.args.self.now h c.args.session _ c.promise.new.self c.in-Ok-promise.ensures.ok holds));
 }

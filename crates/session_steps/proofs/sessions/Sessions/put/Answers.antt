@@ -20,9 +20,9 @@ returns-then-as_bytes-row_limit g c = record {
       (long-refusal c.args.self.now h c.args.session c.args.key c.args.row _ _ (held-on c.args.self.now h _ holds) c.in-Ok.ensures.ok (omega (arith, c.if-as_bytes-row_limit.true, c.row_limit.ensures.value, ap length c.as_bytes.ensures.value)));
 }
 
-pub returns-then-is_full_for : goal.returns-then-is_full_for
-returns-then-is_full_for g c = record {
+pub returns-then-own : goal.returns-then-own
+returns-then-own g c = record {
   step = λ h holds.
       refused-on c.args.self.now (g.D.Pmem.state c.args.device.now) (Put c.args.session c.args.key c.args.row) WriteSetFull h (g.met.D.Pmem.orderly _) holds
-      (full-refusal c.args.self.now h c.args.session c.args.key c.args.row _ _ (held-on c.args.self.now h _ holds) c.in-Ok.ensures.ok (omega (arith, c.if-as_bytes-row_limit.false, c.row_limit.ensures.value, ap length c.as_bytes.ensures.value)) (sym c.is_full_for.ensures.full ∙ c.if-is_full_for.true));
+      (full-refusal c.args.self.now h c.args.session c.args.key c.args.row _ _ (held-on c.args.self.now h _ holds) c.in-Ok.ensures.ok (omega (arith, c.if-as_bytes-row_limit.false, c.row_limit.ensures.value, ap length c.as_bytes.ensures.value)) (sym c.own_key-own.ensures.full ∙ c.if-own.true));
 }

@@ -1,8 +1,0 @@
-use Rattle.std.specs.Prelude.{take, ◌≡◌, ℕ}
-use Rattle.dirty_table.specs.Touches.{has}
-use Rattle.session_steps.specs.Shows.{has_drawn_by}
-use Rattle.session_steps.specs.Covering.{committed_by}
-use Rattle.session_steps.proofs.covering.sessions_of.Given as goal
-
-abbrev pub invariant-loop-commit : goal.invariant-loop-commit
-invariant-loop-commit l = (n : ℕ) → has l.sessions n ≡ has_drawn_by (committed_by l.ruling (take l.commit-index l.commits)) n
