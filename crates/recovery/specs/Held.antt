@@ -1,5 +1,5 @@
 -- What the slots of an image hold, of which none is bad.
-use Rattle.std.specs.Prelude.{◌≡◌, ℕ, suc, ◌<◌, List, [], ◌∷◌, slice_get, Some, None}
+use Rattle.std.specs.Prelude.{◌≡◌, ◌↔◌, ℕ, suc, ◌<◌, false, List, [], ◌∷◌, length, slice_get, Some, None, All, IsTrue}
 use Rattle.base.specs.declared.key.Key.{Key}
 use Rattle.base.specs.Keys.{lookup_key}
 use Rattle.base.specs.Images.{Image}
@@ -7,7 +7,8 @@ use Rattle.recovery.specs.declared.slots.SlotReading.{SlotReading}
 use Rattle.recovery.specs.declared.slots.SlotContent.TheVariants.{Live}
 use Rattle.recovery.specs.declared.rows.LiveSlot.{LiveSlot}
 use Rattle.recovery.specs.declared.holding.Held.{Held}
-use Rattle.recovery.specs.Slots.{bad_below, free_below}
+use Rattle.recovery.specs.declared.holding.Told.{Told}
+use Rattle.recovery.specs.Slots.{AreReadings, bad_below, free_below, is_unfit}
 use Rattle.recovery.specs.Live.{live_below}
 
 -- the keys of live slots with their places in the list, from a number on
@@ -31,3 +32,8 @@ pub record AreHeld (image : Image) (slots : ℕ) (held : Held) : Type 0 where
   pub free_are : held.free.items ≡ free_below image slots
   pub live_are : held.live.items ≡ live_below image slots
   pub placed_so : HavePlaces held.live.items held.places.entries
+
+-- which slots are free, where none is bad, and whether each holds by itself what it should
+pub record IsTold (readings : List SlotReading) (told : Told) : Type 0 where
+  pub free : (image : Image) → AreReadings image readings → told.free.items ≡ free_below image (length readings)
+  pub are_fit : IsTrue told.are_fit ↔ All (λ reading. is_unfit reading.found ≡ false) readings

@@ -6,15 +6,17 @@ ghost use Rattle.std.specs.BTreeMap.{IsFromIterResult};
 ghost use Rattle.std.specs.BTreeSet.{contains};
 ghost use Rattle.base.specs.Images.{Image};
 ghost use Rattle.recovery.specs.Slots.{AreReadings, HasKeys, IsVisitFault, IsSlotsFault, found_in, readings_below, free_below, bad_below, is_bad, is_unfit, key_cmp};
-ghost use Rattle.recovery.specs.Held.{AreHeld, placed};
+ghost use Rattle.recovery.specs.Held.{AreHeld, IsTold, placed};
 
 use crate::rows::{LiveSlot, live_slots};
 use crate::slots::{SlotContent, SlotReading};
 use base::fault::Fault;
 use base::geometry::Geometry;
 use base::key::Key;
+use rayon::join;
 use std::alloc::{AllocError, Global};
 use std::collections::{BTreeMap, BTreeSet};
+use std::thread::Threads;
 
 /// What the slots of an image hold, of which none is bad.
 #[derive(Drop)]
@@ -29,51 +31,98 @@ pub struct Held {
 
 // What was read of the slots tells. The lowest bad slot is reported. A slot is bad by itself, or where a lower one has its key:
 // then there are fewer keys than live slots.
-pub fn held_slots(
+pub fn held_slots<R: Threads + Sync>(
+    rt: &R,
     alloc: Global,
     geometry: Geometry,
     readings: &[SlotReading],
 ) -> Result<Held, Fault>
-    requires { length readings.now ≡ geometry.slots }
+    requires size { length readings.now ≡ geometry.slots }
     ensures held { IfOk result (λ held. (image : Image) → readings.now ≡ readings_below image geometry.slots → AreHeld image geometry.slots held) }
     ensures fault { IfErr result (λ fault. (image : Image) → readings.now ≡ readings_below image geometry.slots → IsSlotsFault geometry image fault) }
 {
     let Ok(live) = live_slots(alloc, readings) else {
         return Err(Fault::OutOfMemory);
     };
-    let Ok(places) = places_of(alloc, live.as_slice()) else {
+    let Ok(made) = side_by_side(rt, alloc, live.as_slice(), readings) else {
         return Err(Fault::OutOfMemory);
     };
-    if places.len() != live.len() || !are_fit(readings) {
+    if made.0.len() != live.len() || !made.1.are_fit() {
         match find_bad(alloc, geometry, readings) {
             Ok(()) => {}
             Err(fault) => return Err(fault),
         }
     }
-    match free_slots(alloc, readings) {
-        Ok(free) => Ok(Held { free, live, places }),
-        Err(_) => Err(Fault::OutOfMemory),
+    let (places, told) = made;
+    Ok(Held {
+        free: told.free,
+        live,
+        places,
+    })
+}
+
+// Fewer live slots are not worth a thread.
+const FEW: usize = 1024;
+
+// What the readings tell without regard to keys.
+#[derive(Drop)]
+struct Told {
+    // Whether each slot is free.
+    free: Vec<bool>,
+    // Whether each slot holds by itself what it should.
+    are_fit: bool,
+}
+
+impl Told {
+    fn are_fit(&self) -> bool
+        ensures { IsTrue result ↔ IsTrue self.now.are_fit }
+    {
+        self.are_fit
     }
+}
+
+// The places of the keys, and what the readings tell without regard to keys: where there are many, in two threads.
+fn side_by_side<R: Threads + Sync>(
+    rt: &R,
+    alloc: Global,
+    live: &[LiveSlot],
+    readings: &[SlotReading],
+) -> Result<(BTreeMap<Key, usize, Global>, Told), AllocError>
+    ensures places { IfOk result (λ made. IsFromIterResult key_cmp (placed 0 live.now) made.0) }
+    ensures told { IfOk result (λ made. IsTold readings.now made.1) }
+{
+    if live.len() < FEW {
+        let places = places_of(alloc, live)?;
+        return Ok((places, told_by(alloc, readings)?));
+    }
+    let keyed = move || -> Result<BTreeMap<Key, usize, Global>, AllocError>
+        ensures { IfOk result (λ places. IsFromIterResult key_cmp (placed 0 live.entry.now) places) }
+    { places_of(alloc, live) };
+    let listed = move || -> Result<Told, AllocError>
+        ensures { IfOk result (IsTold readings.entry.now) }
+    { told_by(alloc, readings) };
+    let (places, told) = join(rt, keyed, listed);
+    Ok((places?, told?))
+}
+
+fn told_by(alloc: Global, readings: &[SlotReading]) -> Result<Told, AllocError>
+    ensures { IfOk result (IsTold readings.now) }
+{
+    let free = free_slots(alloc, readings)?;
+    Ok(Told {
+        free,
+        are_fit: are_fit(readings),
+    })
 }
 
 // The place of each live slot by its key. Of two slots with one key the later one has its place there.
 fn places_of(alloc: Global, live: &[LiveSlot]) -> Result<BTreeMap<Key, usize, Global>, AllocError>
     ensures { IfOk result (λ places. IsFromIterResult key_cmp (placed 0 live.now) places) }
 {
-    let mut pairs = Vec::with_capacity(alloc, live.len())?;
-    for place in 0..live.len() {
-        pairs.push((live[place].key, place))?;
-    }
-    collected(alloc, pairs)
-}
-
-fn collected(
-    alloc: Global,
-    pairs: Vec<(Key, usize)>,
-) -> Result<BTreeMap<Key, usize, Global>, AllocError>
-    ensures { IfOk result (λ places. IsFromIterResult key_cmp pairs.items places) }
-{
-    pairs.into_iter().collect(alloc)
+    live.iter()
+        .enumerate()
+        .map(|(place, found)| (found.key, place))
+        .collect(alloc)
 }
 
 // Whether each slot holds by itself what it should.

@@ -55,7 +55,7 @@ fn read_device<R: Threads + Sync, D: Pmem + Sync>(
         Ok(readings) => readings,
         Err(_) => return Err(Fault::OutOfMemory),
     };
-    let held = match held_slots(alloc, found.geometry, readings.as_slice()) {
+    let held = match held_slots(rt, alloc, found.geometry, readings.as_slice()) {
         Ok(held) => held,
         Err(fault) => return Err(fault),
     };

@@ -30,7 +30,7 @@ pub fn live_slots(alloc: Global, readings: &[SlotReading]) -> Result<Vec<LiveSlo
     ensures live { IfOk result (λ live. (image : Image) → AreReadings image readings.now → live.items ≡ live_below image (length readings.now)) }
     ensures each { IfOk result (λ live. HasEach readings.now (length readings.now) live.items) }
 {
-    let mut live = Vec::new(alloc);
+    let mut live = Vec::with_capacity(alloc, readings.len())?;
     for slot in 0..readings.len() {
         let reading = &readings[slot];
         if let SlotContent::Live(key) = &reading.found {

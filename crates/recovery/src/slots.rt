@@ -1,18 +1,19 @@
 //! Reading the slots is most of an opening's work, and none of them depends on another, so threads share them. An opening
 //! reads no row, and of a free slot no more than begin and end.
 
-ghost use Rattle.std.specs.Prelude.{◌≡◌, ◌&&◌, ◌<◌, not, IfOk};
+ghost use Rattle.std.specs.Prelude.{◌≡◌, ◌+◌, ◌&&◌, ◌<◌, ◌≤◌, ℕ, not, get_or, length, IfOk};
 ghost use Rattle.base.specs.Layout.{total_words};
 ghost use Rattle.base.specs.Records.{is_committed};
 ghost use Rattle.pmem.specs.Words.{image_of};
 ghost use Rattle.recovery.specs.Slots.{IsUnder, reading_in, readings_below};
+ghost use Rattle.recovery.specs.declared.slots.SlotReading.{SlotReading as SlotReadingValue};
 
 use base::Ts;
 use base::geometry::Geometry;
 use base::key::Key;
 use log_area::Record;
 use pmem::Pmem;
-use rayon::prelude::*;
+use rayon::slice::par_chunks_mut_for_each;
 use std::alloc::{AllocError, Global};
 use std::thread::Threads;
 
@@ -95,7 +96,10 @@ fn look<D: Pmem>(device: &D, geometry: Geometry, ruling: Record, slot: u64) -> S
     }
 }
 
-// What one reading of each slot gives, in their order, by several threads.
+// How many slots a thread reads before it looks for more, and fewer are not worth a second thread.
+const CHUNK: usize = 2048;
+
+// What one reading of each slot gives, in their order, by several threads. Each writes what it reads where that stays.
 pub fn read_slots<R: Threads + Sync, D: Pmem + Sync>(
     rt: &R,
     alloc: Global,
@@ -107,13 +111,58 @@ pub fn read_slots<R: Threads + Sync, D: Pmem + Sync>(
     requires under { IsUnder geometry ruling (image_of (D.state device.now)) }
     ensures { IfOk result (λ readings. readings.items ≡ readings_below (image_of (D.state device.now)) geometry.slots) }
 {
-    (0..geometry.slots())
-        .into_par_iter()
-        .map(
-            |slot: u64| -> SlotReading
-                requires { (slot < geometry.slots) × ((D.state device.now).words ≡ total_words geometry) × IsUnder geometry ruling (image_of (D.state device.now)) }
-                ensures { result ≡ reading_in (image_of (D.state device.entry.now)) slot }
-            { look(device, geometry, ruling, slot) },
-        )
-        .collect(rt, alloc)
+    let mut readings = vec![in alloc; UNREAD; geometry.slots() as usize]?;
+    read_into(rt, device, geometry, ruling, readings.as_mut_slice());
+    Ok(readings)
+}
+
+fn read_into<R: Threads + Sync, D: Pmem + Sync>(
+    rt: &R,
+    device: &D,
+    geometry: Geometry,
+    ruling: Record,
+    readings: &mut [SlotReading],
+)
+    requires size { (D.state device.now).words ≡ total_words geometry }
+    requires under { IsUnder geometry ruling (image_of (D.state device.now)) }
+    requires all { length readings.old ≡ geometry.slots }
+    ensures len { length readings.new ≡ length readings.old }
+    ensures each { (k : ℕ) (d : SlotReadingValue) → k < length readings.old → get_or readings.new k d ≡ reading_in (image_of (D.state device.now)) k }
+{
+    par_chunks_mut_for_each(
+        rt,
+        readings,
+        CHUNK,
+        |first: usize, chunk: &mut [SlotReading]|
+            requires { (first + length chunk.now ≤ geometry.slots) × ((D.state device.now).words ≡ total_words geometry) × IsUnder geometry ruling (image_of (D.state device.now)) }
+            ensures { (k : ℕ) (d : SlotReadingValue) → k < length chunk.old → get_or chunk.new k d ≡ reading_in (image_of (D.state device.entry.now)) (first + k) }
+        {
+            read_chunk(device, geometry, ruling, first, chunk);
+        },
+    );
+}
+
+// What stands for a reading that is still to be made.
+const UNREAD: SlotReading = SlotReading {
+    begin: 0,
+    end: 0,
+    found: SlotContent::Bad,
+};
+
+// Reads as many slots as there are readings, from one on.
+fn read_chunk<D: Pmem>(
+    device: &D,
+    geometry: Geometry,
+    ruling: Record,
+    first: usize,
+    readings: &mut [SlotReading],
+)
+    requires size { (D.state device.now).words ≡ total_words geometry }
+    requires under { IsUnder geometry ruling (image_of (D.state device.now)) }
+    requires within { first + length readings.old ≤ geometry.slots }
+    ensures { (k : ℕ) (d : SlotReadingValue) → k < length readings.old → get_or readings.new k d ≡ reading_in (image_of (D.state device.now)) (first + k) }
+{
+    for place in 0..readings.len() {
+        readings[place] = look(device, geometry, ruling, (first + place) as u64);
+    }
 }

@@ -3,13 +3,13 @@ use Rattle.std.proofs.Common.{Vec, Global, ◌≡◌, ◌≢◌, ◌⊎◌, inl,
 use Rattle.std.specs.Prelude.{Some, None, is_some, slice_get, All}
 use Rattle.std.specs.Bool.{Decides}
 use Rattle.std.specs.Cmp.{IsTotalOrder}
-use Rattle.std.specs.List.{IsDistinct, AllByRecursion, AllPairs}
+use Rattle.std.specs.List.{IsDistinct, AllByRecursion, AllPairs, enumerate_from}
 use Rattle.std.specs.Ordering.{eq_by_cmp}
 use Rattle.std.specs.Map.{keys_of}
 use Rattle.std.specs.BTreeMap.{BTreeMap, IsFromIterResult}
 use Rattle.std.proofs.lemmas.Bool.{or_parts}
 use Rattle.std.proofs.lemmas.Cmp.{nat_cmp_total, on_total, then_total, eq_by_cmp_equiv}
-use Rattle.std.proofs.lemmas.List.{take_more, length-take-le}
+use Rattle.std.proofs.lemmas.List.{take_more}
 use Rattle.std.proofs.lemmas.List.Quantifiers.{all_pairs_push}
 use Rattle.std.proofs.lemmas.Option.{same_Some, slice_get-get_or, get_or_from_slice_get}
 use Rattle.std.proofs.lemmas.Map.Keys.{IsDistinct-head, IsDistinct-tail}
@@ -76,19 +76,9 @@ keys-size (x ∷ live) = ap suc (keys-size live)
 
 -- ---- pairs of keys and places
 
-placed-more : (n : ℕ) (live : List LiveSlot) (s : LiveSlot) → placed n (live ++ s ∷ []) ≡ placed n live ++ (s.key, n + length live) ∷ []
-placed-more n [] s = let same : n ≡ n + 0 = omega arith in λ i. (s.key, same i) ∷ []
-placed-more n (t ∷ live) s =
-    let same : suc n + length live ≡ n + suc (length live) = omega arith in
-    ap (λ (xs : List (Key × ℕ)). (t.key, n) ∷ xs) (placed-more (suc n) live s ∙ ap (λ (k : ℕ). placed (suc n) live ++ (s.key, k) ∷ []) same)
-
-placed-next : (live : List LiveSlot) (i : ℕ) (d : LiveSlot) → i < length live → placed 0 (take (i + 1) live) ≡ placed 0 (take i live) ++ ((get_or live i d).key, i) ∷ []
-placed-next live i d lt =
-    let last : 0 + length (take i live) ≡ i = omega (arith, length-take-le i live (omega (arith, lt))) in
-    ap (placed 0) (take_more live i d lt) ∙ placed-more 0 (take i live) (get_or live i d) ∙ ap (λ (k : ℕ). placed 0 (take i live) ++ ((get_or live i d).key, k) ∷ []) last
-
-pub placed-step : (live : List LiveSlot) (i : ℕ) (d : LiveSlot) → i < length live → (pairs : List (Key × ℕ)) → pairs ≡ placed 0 (take i live) → pairs ++ ((get_or live i d).key, i) ∷ [] ≡ placed 0 (take (i + 1) live)
-placed-step live i d lt pairs before = ap (λ (xs : List (Key × ℕ)). xs ++ ((get_or live i d).key, i) ∷ []) before ∙ sym (placed-next live i d lt)
+pub placed-of : (n : ℕ) (live : List LiveSlot) → map (λ (p : ℕ × LiveSlot). (p.1.key, p.0)) (enumerate_from n live) ≡ placed n live
+placed-of n [] = refl
+placed-of n (s ∷ live) = ap (λ (pairs : List (Key × ℕ)). (s.key, n) ∷ pairs) (ap (λ (k : ℕ). map (λ (p : ℕ × LiveSlot). (p.1.key, p.0)) (enumerate_from k live)) (add-one n) ∙ placed-of (suc n) live)
 
 placed-keys : (n : ℕ) (live : List LiveSlot) → keys_of (placed n live) ≡ map (λ (s : LiveSlot). s.key) live
 placed-keys n [] = refl

@@ -34,8 +34,8 @@ returns-in-Err-read_slots-clause-fault g c = refuses-memory c.in-Ok.found.geomet
 pub returns-in-Err-read_slots-clause-log : goal.returns-in-Err-read_slots-clause-log
 returns-in-Err-read_slots-clause-log g c = tells-later c.in-Ok.found.geometry c.in-Ok.found.record (image_of (g.D.Pmem.state c.args.device.now)) c.in-Ok.ensures.ok _
 
-pub held_slots-requires : goal.held_slots-requires
-held_slots-requires g c =
+pub held_slots-requires-clause-size : goal.held_slots-requires-clause-size
+held_slots-requires-clause-size g c κs within =
     ap length (c.as_slice.ensures.value ∙ c.in-Ok-read_slots.ensures) ∙ readings-size (image_of (g.D.Pmem.state c.args.device.now)) c.in-Ok.found.geometry.slots
 
 pub returns-in-Err-held_slots-clause-fault : goal.returns-in-Err-held_slots-clause-fault

@@ -15,8 +15,8 @@ read_slots-requires-clause-size g c κs within = ruled-size (g.D.Pmem.state c.ar
 pub read_slots-requires-clause-under : goal.read_slots-requires-clause-under
 read_slots-requires-clause-under g c κs within = under c.in-Ok.found.geometry c.in-Ok.found.record (image_of (g.D.Pmem.state c.args.device.now)) c.in-Ok.ensures.ok
 
-pub held_slots-requires : goal.held_slots-requires
-held_slots-requires g c =
+pub held_slots-requires-clause-size : goal.held_slots-requires-clause-size
+held_slots-requires-clause-size g c κs within =
     ap length (c.as_slice.ensures.value ∙ c.in-Ok-read_slots.ensures) ∙ readings-size (image_of (g.D.Pmem.state c.args.device.now)) c.in-Ok.found.geometry.slots
 
 pub returns-in-Err-held_slots-clause-fault : goal.returns-in-Err-held_slots-clause-fault

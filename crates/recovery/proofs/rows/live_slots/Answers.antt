@@ -12,8 +12,8 @@ Live = Vec LiveSlot Global
 
 pub loop-slot-init : goal.loop-slot-init
 loop-slot-init c = record {
-  live = λ image are. c.new-live.ensures.items ∙ sym (live-none image);
-  each = each-none c.args.readings.now c.new-live.result.items;
+  live = λ image are. c.in_ok-live.ensures.items ∙ sym (live-none image);
+  each = each-none c.args.readings.now c.in_ok-live.live.items;
 }
 
 pub loop-slot-preserved : goal.loop-slot-preserved
