@@ -22,7 +22,7 @@ use Rattle.lives.specs.Parts.{HasEnded, MayAsk, ruling_numbers}
 -- ---- what a crash leaves now
 
 pub orderly : (sim : SimPmem) → IsOrderly (device_of sim)
-orderly sim = orderly_of sim.cells.histories.log.items sim.cells.histories.last.items sim.cells.histories.clock (device_of sim).limit (device_of sim).failures sim.stores sim.flushes sim.fences sim.cells.histories.sound
+orderly sim = orderly_of (device_of sim).history sim.cells.histories.values.items sim.cells.histories.spans.items.items sim.cells.histories.log.items sim.cells.histories.clock (device_of sim).limit (device_of sim).failures sim.stores sim.flushes sim.fences sim.cells.histories.sound
 
 pub leaves-now : (old new : Device) (P : Image → Type 0) → IsOrderly new → LeavesOnly old new P → (image : Image) → MayLeave new image → P image
 leaves-now old new P tidy leaves image may = leaves.each image (record { moment = new.clock; from = leaves.continues.later; to = omega arith; left = left_now tidy may })

@@ -1,13 +1,14 @@
 ghost use Rattle.std.specs.Prelude.{◌≡◌, ◌≢◌, ℕ, ◌*◌, ◌/◌, ◌<◌, true, if◌then◌else◌, nat_le, IsTrue, IfOk, length, slice_index, vec_len};
 ghost use Rattle.pmem_model.specs.Listing.{IsListing, IsTracked, is_listed, is_pending};
 ghost use Rattle.pmem.specs.Device.{persisted};
-ghost use Rattle.pmem_model.specs.Log.{history_in, room_in};
+ghost use Rattle.pmem_model.specs.Log.{room_in};
+ghost use Rattle.pmem_model.specs.Past.{history_of};
 
 use crate::Histories;
 use base::actor::Actor;
 use std::alloc::{AllocError, Global};
 
-/// For each actor a list of the lines that it flushed since its last fence. Once a list has no room left,
+/// For each actor a list of the lines that it flushed since its last fence, each as often as it was. Once a list has no room left,
 /// every line counts as pending: there are then so many that a fence may as well visit them all.
 #[derive(Drop)]
 pub struct Pending {
@@ -18,11 +19,8 @@ pub struct Pending {
     pub counts: [usize; 64],
     /// At 64 k + a, the line at place k of actor a's list.
     pub listed: Vec<usize>,
-    /// At 64 l + a, the place of line l in actor a's list, if it is there.
-    pub places: Vec<usize>,
     ghost counts_size: { length counts ≡ 64 },
     ghost listed_size: { vec_len listed ≡ 64 * room },
-    ghost places_size: { vec_len places ≡ 64 * lines },
     ghost listing: { IsListing lines room counts listed.items },
 }
 
@@ -33,13 +31,11 @@ impl Pending {
     {
         let room = lines / 8 + 1;
         let listed = vec![in alloc; 0; room.checked_mul(64).ok_or(AllocError)?]?;
-        let places = vec![in alloc; 0; lines.checked_mul(64).ok_or(AllocError)?]?;
         Ok(Pending {
             lines,
             room,
             counts: [0; 64],
             listed,
-            places,
         })
     }
 
@@ -54,22 +50,10 @@ impl Pending {
     {
         let column = actor.number as usize;
         let count = self.counts[column];
-        if count < self.room && !self.lists(actor, line) {
+        if count < self.room {
             self.listed[64 * count + column] = line;
-            self.places[64 * line + column] = count;
             self.counts[column] = count + 1;
         }
-    }
-
-    // Is the line in the actor's list?
-    fn lists(&self, actor: Actor, line: usize) -> bool
-        requires { line < self.now.lines }
-        ensures { IsTrue result → is_listed self.now.listed.items actor.number line
-            (slice_index self.now.counts actor.number) ≡ true }
-    {
-        let column = actor.number as usize;
-        let place = self.places[64 * line + column];
-        place < self.counts[column] && self.listed[64 * place + column] == line
     }
 
     /// Nothing is pending for the actor any more.
@@ -92,11 +76,11 @@ impl Pending {
 
     /// Persists, in each word, the last value that the actor flushed, at this moment. It visits the pending lines.
     pub fn persist(&self, histories: &mut Histories, actor: Actor)
-        requires lines { (line : ℕ) → line < self.now.lines → 8 * line < length histories.old.last.items }
-        requires tracked { IsTracked (history_in histories.old.log.items) self.now.room self.now.counts self.now.listed.items }
-        ensures history { (word : ℕ) → history_in histories.new.log.items word
-            ≡ persisted actor.number histories.old.clock (history_in histories.old.log.items word) }
-        ensures last { histories.new.last.items ≡ histories.old.last.items }
+        requires lines { (line : ℕ) → line < self.now.lines → 8 * line < length histories.old.values.items }
+        requires tracked { IsTracked (history_of histories.old.past) self.now.room self.now.counts self.now.listed.items }
+        ensures history { (word : ℕ) → history_of histories.new.past word
+            ≡ persisted actor.number histories.old.clock (history_of histories.old.past word) }
+        ensures values { histories.new.values.items ≡ histories.old.values.items }
         ensures clock { histories.new.clock ≡ histories.old.clock }
         ensures room { room_in histories.new.log ≡ room_in histories.old.log }
     {
@@ -109,12 +93,12 @@ impl Pending {
 
     // Persists, in each word of the listed lines, the last value that the actor flushed, at this moment.
     fn persist_listed(&self, histories: &mut Histories, actor: Actor)
-        requires { (line : ℕ) → line < self.now.lines → 8 * line < length histories.old.last.items }
-        ensures history { (word : ℕ) → history_in histories.new.log.items word
+        requires { (line : ℕ) → line < self.now.lines → 8 * line < length histories.old.values.items }
+        ensures history { (word : ℕ) → history_of histories.new.past word
             ≡ (if is_listed self.now.listed.items actor.number (word / 8) (slice_index self.now.counts actor.number)
-            then persisted actor.number histories.old.clock (history_in histories.old.log.items word)
-            else history_in histories.old.log.items word) }
-        ensures last { histories.new.last.items ≡ histories.old.last.items }
+            then persisted actor.number histories.old.clock (history_of histories.old.past word)
+            else history_of histories.old.past word) }
+        ensures values { histories.new.values.items ≡ histories.old.values.items }
         ensures clock { histories.new.clock ≡ histories.old.clock }
         ensures room { room_in histories.new.log ≡ room_in histories.old.log }
     {

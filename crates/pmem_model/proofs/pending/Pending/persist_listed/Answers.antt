@@ -2,7 +2,7 @@ use Rattle.std.proofs.Common.{◌≡◌, ◌<◌, ◌+◌, ◌*◌, ◌/◌, ℕ
 use Rattle.base.proofs.Lists.{read-same}
 use Rattle.pmem.specs.Device.{persisted}
 use Rattle.pmem_model.specs.Listing.{line_at}
-use Rattle.pmem_model.specs.Log.{history_in}
+use Rattle.pmem_model.specs.Past.{history_of}
 use Rattle.pmem_model.proofs.Listed.{visited_more}
 use Rattle.pmem_model.proofs.pending.Pending.persist_listed.Goals as goal
 
@@ -17,7 +17,7 @@ pub persist_line-requires : goal.persist_line-requires
 persist_line-requires c =
     let p = c.args.self.now in
     let inside : c.index.result.now < p.lines = omega (arith, line_read c, p.listing.in_lines c.args.actor.number c.loop-place.place c.args.actor.in_range c.loop-place-test.true) in
-    omega (arith, c.requires c.index.result.now inside, ap (length {A = ℕ}) c.loop-place.invariant.last)
+    omega (arith, c.requires c.index.result.now inside, ap (length {A = ℕ}) c.loop-place.invariant.values)
 
 pub loop-place-preserved : goal.loop-place-preserved
 loop-place-preserved c =
@@ -27,9 +27,9 @@ loop-place-preserved c =
     let within : 64 * c.loop-place.place + c.args.actor.number < length p.listed.items = omega (arith, c.loop-place-test.true, p.listing.within c.args.actor.number, p.listed_size, p.listed.ok, c.args.actor.in_range) in
     let read = read-same p.listed.items (64 * c.loop-place.place + c.args.actor.number) c.index.result.now within c.index.ensures in
     record {
-      visited = visited_more p.listed.items c.args.actor.number c.args.histories.now.clock c.loop-place.place (history_in c.args.histories.now.log.items) (history_in c.loop-place.histories.log.items) (history_in c.persist_line.new.self.log.items) inv.visited
-          (λ word. done.history word ∙ (λ i. cond ((word / 8) == read i) (persisted c.args.actor.number (inv.clock i) (history_in c.loop-place.histories.log.items word)) (history_in c.loop-place.histories.log.items word)));
-      last = done.last ∙ inv.last;
+      visited = visited_more p.listed.items c.args.actor.number c.args.histories.now.clock c.loop-place.place (history_of c.args.histories.now.past) (history_of c.loop-place.histories.past) (history_of c.persist_line.new.self.past) inv.visited
+          (λ word. done.history word ∙ (λ i. cond ((word / 8) == read i) (persisted c.args.actor.number (inv.clock i) (history_of c.loop-place.histories.past word)) (history_of c.loop-place.histories.past word)));
+      values = done.values ∙ inv.values;
       clock = done.clock ∙ inv.clock;
       room = done.room ∙ inv.room;
     }

@@ -1,0 +1,33 @@
+-- A fence that visits all lines, one after the other.
+use Rattle.std.proofs.Common.{◌≡◌, inl, inr, ℕ, ◌+◌, ◌/◌, ◌<◌, ◌≤◌, Bool, cond, List, [], ◌==◌, refl, sym, ◌∙◌, ap, arith}
+use Rattle.std.proofs.lemmas.Bool.{cases_eq, cases_lt, eq-eqb, ne_eqb}
+use Rattle.pmem.specs.Device.{Entry}
+
+-- the words of the lines before this one are changed, and the others aren't
+pub record SweptTo (line : ℕ) (change : List Entry → List Entry) (old new : ℕ → List Entry) : Type 0 where
+  pub before : (word : ℕ) → word / 8 < line → new word ≡ change (old word)
+  pub after : (word : ℕ) → line ≤ word / 8 → new word ≡ old word
+
+pub swept-none : (change : List Entry → List Entry) (old : ℕ → List Entry) → SweptTo 0 change old old
+swept-none change old = record { before = λ word lt. absurd (omega arith); after = λ word le. refl }
+
+pub swept-more : (line : ℕ) (change : List Entry → List Entry) (old mid new : ℕ → List Entry) → SweptTo line change old mid
+    → ((word : ℕ) → new word ≡ cond ((word / 8) == line) (change (mid word)) (mid word)) → SweptTo (line + 1) change old new
+swept-more line change old mid new swept step = record {
+  before = λ word lt. elim (cases_eq (word / 8) line) [
+    | inl here ↦ step word ∙ ap (λ (b : Bool). cond b (change (mid word)) (mid word)) (eq-eqb (word / 8) line here) ∙ ap change (swept.after word (omega (arith, here)))
+    | inr apart ↦ step word ∙ ap (λ (b : Bool). cond b (change (mid word)) (mid word)) (ne_eqb (word / 8) line apart) ∙ swept.before word (omega (arith, lt, apart))
+  ];
+  after = λ word le.
+      step word ∙ ap (λ (b : Bool). cond b (change (mid word)) (mid word)) (ne_eqb (word / 8) line (λ e. absurd (omega (arith, le, e)))) ∙ swept.after word (omega (arith, le));
+}
+
+-- of all lines
+pub swept-all : (lines words : ℕ) (change : List Entry → List Entry) (old new : ℕ → List Entry) → lines ≡ (words + 7) / 8 → change [] ≡ [] → ((word : ℕ) → words ≤ word → old word ≡ []) → SweptTo lines change old new
+    → (word : ℕ) → new word ≡ change (old word)
+swept-all lines words change old new lined empty none swept word = elim (cases_lt (word / 8) lines) [
+  | inl lt ↦ swept.before word lt
+  | inr le ↦
+      let nothing = none word (omega (arith, le, lined)) in
+      swept.after word le ∙ nothing ∙ sym empty ∙ ap change (sym nothing)
+]
