@@ -1,5 +1,5 @@
 -- What a format does to a device, and what a crash leaves meanwhile.
-use Rattle.std.specs.Prelude.{◌≡◌, ◌≢◌, ◌⊎◌, ℕ, ◌+◌, ◌-◌, ◌/◌, false, List, ◌++◌}
+use Rattle.std.specs.Prelude.{◌≡◌, ◌≢◌, ◌⊎◌, ℕ, ◌+◌, ◌-◌, ◌/◌, ◌<◌, Bool, true, false, List, ◌++◌}
 use Rattle.base.specs.declared.fault.Fault.{Fault}
 use Rattle.base.specs.declared.fault.Fault.TheVariants.{BadGeometry, Device as DeviceFault}
 use Rattle.base.specs.Actors.{committer}
@@ -9,6 +9,7 @@ use Rattle.base.specs.Fresh.{first_record, fresh_image}
 use Rattle.pmem.specs.Device.{Device, MayLeave}
 use Rattle.pmem.specs.Persisting.{persist_operations, set_operations}
 use Rattle.pmem.specs.Trace.{Operation}
+use Rattle.pmem.specs.Words.{image_of, value_of}
 use Rattle.log_area.specs.Writings.{geometry_operations, record_operations}
 
 -- each word after the superblock comes to persist as 0
@@ -32,3 +33,8 @@ abbrev pub IsFormatRefusal : Layout → Device → Device → Fault → Type 0
 IsFormatRefusal layout old new fault =
     ((fault ≡ BadGeometry) × (old.words ≢ total_words layout) × (new ≡ old))
     ⊎ ((fault ≡ DeviceFault) × (old.words ≡ total_words layout) × (new.failures ≡ old.failures + 1))
+
+-- whether nothing was kept in it, which is an image now; else it is as it was
+abbrev pub HasFormattedNew : Layout → Device → Device → Bool → Type 0
+HasFormattedNew layout old new true = (0 < old.words) × (value_of old 0 ≡ 0) × (image_of new ≡ fresh_image layout)
+HasFormattedNew layout old new false = ((old.words ≡ 0) ⊎ (value_of old 0 ≢ 0)) × (new ≡ old)

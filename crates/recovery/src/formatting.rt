@@ -1,12 +1,12 @@
 //! Word 0 goes first and comes last, and each time that persists before anything else is stored: so whatever stops a format
 //! leaves an image that isn't formatted, or a whole one.
 
-ghost use Rattle.std.specs.Prelude.{◌≡◌, ◌+◌, ◌/◌, ◌<◌, ℕ, IfErr, OnOk, OnErr};
+ghost use Rattle.std.specs.Prelude.{◌≡◌, ◌≢◌, ◌+◌, ◌/◌, ◌<◌, ℕ, Ok, false, IfOk, IfErr, OnOk, OnErr};
 ghost use Rattle.base.specs.Layout.{total_words};
 ghost use Rattle.pmem.specs.Trace.{Runs, StopsWithin};
-ghost use Rattle.pmem.specs.Words.{LeavesOnly, IsAtRest, image_of, IsSettledAt, Makes};
+ghost use Rattle.pmem.specs.Words.{LeavesOnly, IsAtRest, image_of, IsSettledAt, Makes, value_of};
 ghost use Rattle.base.specs.Fresh.{first_record, fresh_word, fresh_image, StandsEmpty};
-ghost use Rattle.recovery.specs.Fresh.{IsFormatting, IsFormatRefusal, format_operations};
+ghost use Rattle.recovery.specs.Fresh.{IsFormatting, IsFormatRefusal, HasFormattedNew, format_operations};
 
 use crate::clearing::clear;
 use base::actor::Actor;
@@ -33,6 +33,24 @@ pub fn format<D: Pmem>(device: &mut D, geometry: Geometry) -> Result<(), Fault>
     }
     match write_fresh(device, geometry) {
         Ok(()) => Ok(()),
+        Err(fault) => Err(fault),
+    }
+}
+
+/// Formats a device in which nothing was ever kept: it has words, and the first is 0. Whether it did; any other is left as it is.
+pub fn format_new<D: Pmem>(device: &mut D, geometry: Geometry) -> Result<bool, Fault>
+    requires at_rest { IsAtRest (D.state device.old) }
+    ensures kept { value_of (D.state device.old) 0 ≢ 0 → (result ≡ Ok false) × (device.new ≡ device.old) }
+    ensures made { IfOk result (HasFormattedNew geometry (D.state device.old) (D.state device.new)) }
+    ensures refusal { IfErr result (IsFormatRefusal geometry (D.state device.old) (D.state device.new)) }
+    ensures rest { OnOk result (IsAtRest (D.state device.new)) }
+    ensures images { LeavesOnly (D.state device.old) (D.state device.new) (IsFormatting (D.state device.old) geometry) }
+{
+    if device.words() == 0 || device.load(0) != 0 {
+        return Ok(false);
+    }
+    match format(device, geometry) {
+        Ok(()) => Ok(true),
         Err(fault) => Err(fault),
     }
 }

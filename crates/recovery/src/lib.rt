@@ -15,7 +15,7 @@ mod sweeping;
 mod updating;
 
 pub use examining::{Examined, examine};
-pub use formatting::format;
+pub use formatting::{format, format_new};
 pub use opening::{Opened, OpenedImage, open, open_device};
 pub use reading::{ImageContents, read_image};
 pub use rows::LiveSlot;

@@ -10,9 +10,8 @@ use base::fault::Fault;
 use base::geometry::Geometry;
 use database::{Database, Refused};
 use log_area::read_geometry;
-use pmem::Pmem;
 use pmem_file::{FileDevice, OpenError};
-use recovery::format;
+use recovery::format_new;
 use std::alloc::Global;
 use std::fs::File;
 use std::io;
@@ -71,23 +70,12 @@ fn open_formatted<R: Files<File = File>>(
     ensures ok { IfOk result (λ device. IsAtRest (device_of device.trace)) }
     ensures err { (layout : Layout) → IfErr result (TellsLayout layout) }
 {
-    let device = match FileDevice::open(rt, alloc, name, geometry) {
+    let mut device = match FileDevice::open(rt, alloc, name, geometry) {
         Ok(device) => device,
         Err(error) => return Err(Refusal::File(error)),
     };
-    if device.words() > 0 && device.load(0) == 0 {
-        return formatted(device, geometry);
-    }
-    Ok(device)
-}
-
-fn formatted(device: Device, geometry: Geometry) -> Result<Device, Refusal>
-    ensures ok { IfOk result (λ device. IsAtRest (device_of device.trace)) }
-    ensures err { (layout : Layout) → IfErr result (TellsLayout layout) }
-{
-    let mut device = device;
-    match format(&mut device, geometry) {
-        Ok(()) => Ok(device),
+    match format_new(&mut device, geometry) {
+        Ok(_) => Ok(device),
         Err(fault) => Err(refusal_of(device, fault)),
     }
 }
