@@ -1,6 +1,7 @@
 ghost use Rattle.base.specs.declared.step.Step.TheVariants.{Abort};
 ghost use Rattle.database.specs.Replies.{done_of};
 ghost use Rattle.database.specs.Obeys.{AnswersStep};
+ghost use Rattle.database.specs.Committing.{IsGivenBack};
 
 use crate::committing::{put_collecting, write_all};
 use crate::desk::Shared;
@@ -15,25 +16,23 @@ use std::alloc::Global;
 use std::sync::{Arc, Wait};
 use sync_ahead::SyncAhead;
 
-/// Reads and writes of one snapshot. A drop aborts it.
+/// Reads and writes of one snapshot. A drop aborts it. A commit and an abort take it apart, so none is given up after its end.
 pub struct Transaction<'a, D: Pmem + Drop, R: Wait> {
     rt: &'a R,
     shared: &'a Arc<Shared<D>, Global>,
     session: u8,
-    is_over: bool,
 }
 
 impl<D: Pmem + Drop, R: Wait> Drop for Transaction<'_, D, R> {
-    fn drop(self) {
+    fn drop(self)
+        ensures aborted { IsGivenBack self.entry.session }
+    {
         let Transaction {
             rt,
             shared,
             session,
-            is_over,
         } = self;
-        if !is_over {
-            let _ = give_up(rt, shared, session);
-        }
+        let _ = give_up(rt, shared, session);
     }
 }
 
@@ -66,7 +65,6 @@ impl<'a, D: SyncAhead + Drop, R: Wait> Transaction<'a, D, R> {
             rt,
             shared,
             session,
-            is_over: false,
         }
     }
 
@@ -134,23 +132,30 @@ impl<'a, D: SyncAhead + Drop, R: Wait> Transaction<'a, D, R> {
     }
 
     /// Gives the transaction up, as a drop does, and tells of a device that has failed.
-    pub fn abort(mut self) -> Result<(), Fault>
+    pub fn abort(self) -> Result<(), Fault>
         ensures { AnswersStep (Abort self.entry.session) done_of result }
     {
-        self.is_over = true;
-        give_up(self.rt, self.shared, self.session)
+        let Transaction {
+            rt,
+            shared,
+            session,
+        } = self;
+        give_up(rt, shared, session)
     }
 
     /// Commits, and returns once that is durable: its timestamp, or `None` if nothing was written. At an error the transaction
     /// is over; `CommitError` tells whether something of it may be committed. `Conflict` is answered once the commit in the
     /// way is covered or given up, so that whoever begins again then sees it. `OutOfMemory` is answered where the committer
     /// was refused memory a hundred times in a row.
-    pub fn commit(mut self) -> Result<Option<Ts>, CommitError>
+    pub fn commit(self) -> Result<Option<Ts>, CommitError>
         ensures ok { IfOk result (TellsCommit self.entry.session) }
         ensures err { IfErr result (TellsError self.entry.session) }
     {
-        self.is_over = true;
-        self.shared
-            .commit(self.rt, self.shared.desk(self.rt), self.session)
+        let Transaction {
+            rt,
+            shared,
+            session,
+        } = self;
+        shared.commit(rt, shared.desk(rt), session)
     }
 }
