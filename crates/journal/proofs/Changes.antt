@@ -1,5 +1,5 @@
 -- Lines that put what differs.
-use Rattle.std.proofs.Common.{◌≡◌, ◌⊎◌, inl, inr, ℕ, zero, suc, ◌+◌, ◌*◌, ◌/◌, ◌%◌, ◌<◌, ◌≤◌, ◌^◌, Bool, true, false, cond, ◌||◌, List, [], ◌∷◌, ◌++◌, length, map, get_or, ◌==◌, refl, sym, ◌∙◌, ap, subst, arith}
+use Rattle.std.proofs.Common.{◌≡◌, ◌⊎◌, inl, inr, ℕ, ◌+◌, ◌*◌, ◌/◌, ◌%◌, ◌<◌, ◌≤◌, ◌^◌, Bool, true, false, cond, ◌||◌, List, [], ◌∷◌, ◌++◌, length, get_or, ◌==◌, refl, sym, ◌∙◌, ap, subst, arith}
 use Rattle.std.specs.Prelude.{All}
 use Rattle.std.proofs.lemmas.Bool.{or_cases, or_left, or_right, eqb-true, false≢true}
 use Rattle.std.proofs.lemmas.List.{length-map, ext_get_or}
@@ -7,7 +7,7 @@ use Rattle.std.proofs.lemmas.List.Elements.{All-append, All-cons}
 use Rattle.journal.specs.declared.line.Line.{Line}
 use Rattle.journal.specs.Kept.{IsPut, is_put_at}
 use Rattle.journal.specs.Entries.{marked, entry}
-use Rattle.journal.specs.LinePayloads.{low, packed, line_payloads, payloads_of_lines, IsLine}
+use Rattle.journal.specs.LinePayloads.{payloads_of_lines, IsLine}
 use Rattle.journal.specs.InPlace.{put_over}
 use Rattle.journal.specs.Opened.{AreLines}
 use Rattle.journal.specs.Changes.{AreChanged, AreFound, DiffersIn, is_listed}
@@ -119,35 +119,6 @@ unchanged durable words changed same = ext_get_or 0 words durable same (λ word 
 
 pub numbers-below : (lines : List Line) (words : List ℕ) → All (λ line. 8 * line.number + 8 ≤ length words) lines → length words < 2 ^ 58 → All (λ line. line.number < 2 ^ 55) lines
 numbers-below lines words all fits k d lt = omega (arith, all k d lt, fits)
-
-twice : ℕ → ℕ
-twice zero = 1
-twice (suc n) = 2 * twice n
-
-small_packed : (number : ℕ) (words : List ℕ) → number < 2 ^ 55 → ((at : ℕ) → at < length words → get_or words at 0 < 2 ^ 64) → packed number words + 1 ≤ twice (length words) * 2 ^ 55
-unfolding twice
-small_packed number [] small fits = omega (arith, small)
-small_packed number (word ∷ words) small fits =
-    omega (arith, small_packed number words small (λ at lt. fits (suc at) (omega (arith, lt))), fits 0 (omega arith))
-
-small_lows : (words : List ℕ) (k d : ℕ) → k < length (map low words) → get_or (map low words) k d < 2 ^ 63
-small_lows [] k d lt = absurd (omega (arith, lt))
-small_lows (word ∷ words) zero d lt = omega arith
-small_lows (word ∷ words) (suc k) d lt = small_lows words k d (omega (arith, lt))
-
-small_line : (line : Line) → IsLine line → line.number < 2 ^ 55 → All (λ payload. payload < 2 ^ 63) (line_payloads line)
-unfolding twice
-small_line line is small =
-    let eight : twice (length line.words) ≡ 256 = ap twice is.size in
-    let last : packed line.number line.words < 2 ^ 63 = omega (arith, eight, small_packed line.number line.words small (λ at lt. is.fits at (omega (arith, lt, is.size)))) in
-    All-append (λ payload. payload < 2 ^ 63) (map low line.words) (packed line.number line.words ∷ []) (small_lows line.words)
-    (All-cons (λ payload. payload < 2 ^ 63) (packed line.number line.words) [] last (λ k d lt. absurd (omega (arith, lt))))
-
-pub small_payloads : (lines : List Line) → AreLines lines → All (λ line. line.number < 2 ^ 55) lines → All (λ payload. payload < 2 ^ 63) (payloads_of_lines lines)
-small_payloads [] are small = λ k d lt. absurd (omega (arith, lt))
-small_payloads (line ∷ lines) are small =
-    All-append (λ payload. payload < 2 ^ 63) (line_payloads line) (payloads_of_lines lines) (small_line line (are 0 line (omega arith)) (small 0 line (omega arith)))
-    (small_payloads lines (λ k d lt. are (suc k) d (omega (arith, lt))) (λ k d lt. small (suc k) d (omega (arith, lt))))
 
 pub entry_size : (pass : Bool) (lines : List Line) → AreLines lines → length (entry pass (payloads_of_lines lines)) ≡ 1 + 9 * length lines
 entry_size pass lines are = omega (arith, length-map (length (payloads_of_lines lines) ∷ payloads_of_lines lines) (marked pass), size lines are)

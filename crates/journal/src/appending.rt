@@ -4,9 +4,8 @@ ghost use Rattle.journal.specs.States.{Rests};
 ghost use Rattle.journal.specs.Changes.{AreChanged, AreFound, DiffersIn};
 
 use crate::eight::eight_at;
-use crate::entry::entry_words;
 use crate::file_image::put_each;
-use crate::line::{Line, line_payloads};
+use crate::line::{Line, entry_of};
 use crate::position::Position;
 use crate::rewriting::begin_pass;
 use crate::storage::Storage;
@@ -61,7 +60,7 @@ fn changed_lines(
     requires whole { length durable.now % 8 ≡ 0 }
     ensures { IfOk result (λ lines. AreChanged lines.items durable.now words.now) }
 {
-    let mut lines = Vec::new(alloc);
+    let mut lines = Vec::with_capacity(alloc, numbers.len())?;
     for number in numbers {
         push_changed(&mut lines, durable, words, *number)?;
     }
@@ -149,8 +148,7 @@ fn append<S: Storage>(
     ensures either { FoundEither (S.may_hold storage.new) (length durable.now) room durable.now words.now }
     ensures rests { IfOk result (λ next. ∥ Rests (S.shows storage.new) (length durable.now) room next.pass next.words words.now ∥₁) }
 {
-    let payloads = line_payloads(alloc, changed)?;
-    let entry = entry_words(alloc, payloads.as_slice(), position.pass)?;
+    let entry = entry_of(alloc, changed, position.pass)?;
     storage.write(durable.len() + position.words, entry.as_slice())?;
     Ok(Position {
         pass: position.pass,

@@ -14,7 +14,7 @@ mod position;
 mod rewriting;
 mod storage;
 
-pub use entry::{entry_words, read_entry};
+pub use entry::read_entry;
 pub use file_image::{extent_of, image_in};
 pub use images::{Images, Nowhere};
 pub use journal::read_journal;
@@ -23,6 +23,6 @@ pub use law::{
     appends_are_whole, files_are_whole, images_in_place_stay, lines_return, passes_follow,
     scrubbed_entries_stay_torn, stretches_are_by_places, torn_entries_are_seen,
 };
-pub use line::{Line, line_of, line_payloads};
+pub use line::{Line, entry_of, line_of};
 pub use rewriting::rewrite;
 pub use storage::Storage;

@@ -1,6 +1,9 @@
-ghost use Rattle.std.specs.Prelude.{◌≡◌, ◌+◌, ◌*◌, ◌<◌, ◌≤◌, ◌^◌, ◌++◌, ℕ, length, slice_index, All, IfOk, OnOk};
-ghost use Rattle.journal.specs.LinePayloads.{low, packed, line_payloads, payloads_of_lines, line_of, lines_of};
+ghost use Rattle.std.specs.Prelude.{◌≡◌, ◌*◌, ◌<◌, ◌≤◌, ◌^◌, ◌++◌, length, All, IfOk, OnOk};
+ghost use Rattle.journal.specs.LinePayloads.{packed, line_payloads, payloads_of_lines, line_of};
+ghost use Rattle.journal.specs.Entries.{marks, entry};
+ghost use Rattle.journal.specs.Opened.{AreLines};
 
+use crate::entry::marked;
 use std::alloc::{AllocError, Global};
 
 /// A line of eight words.
@@ -23,28 +26,32 @@ fn packed(line: &Line) -> u64
     rest
 }
 
-// Adds the payloads of a line.
-fn push_line(payloads: &mut Vec<u64>, line: &Line) -> Result<(), AllocError>
+// Adds the words of a line, in this pass.
+fn push_marked(words: &mut Vec<u64>, line: &Line, pass: bool) -> Result<(), AllocError>
     requires { line.now.number < 2 ^ 55 }
-    ensures { OnOk result (payloads.new.items ≡ payloads.old.items ++ line_payloads line.now) }
+    ensures { OnOk result (words.new.items ≡ words.old.items ++ marks pass (line_payloads line.now)) }
 {
     for word in &line.words {
-        payloads.push(*word % (1 << 63))?;
+        words.push(marked(*word % (1 << 63), pass))?;
     }
-    payloads.push(packed(line))?;
+    words.push(marked(packed(line), pass))?;
     Ok(())
 }
 
-/// The payloads of lines.
-pub fn line_payloads(alloc: Global, lines: &[Line]) -> Result<Vec<u64>, AllocError>
-    requires { All (λ line. line.number < 2 ^ 55) lines.now }
-    ensures { IfOk result (λ payloads. payloads.items ≡ payloads_of_lines lines.now) }
+/// The words of an entry of this pass with these lines.
+pub fn entry_of(alloc: Global, lines: &[Line], pass: bool) -> Result<Vec<u64>, AllocError>
+    requires numbers { All (λ line. line.number < 2 ^ 55) lines.now }
+    requires lines_are { AreLines lines.now }
+    requires fits { 9 * length lines.now < 2 ^ 58 }
+    ensures { IfOk result (λ words. words.items ≡ entry pass (payloads_of_lines lines.now)) }
 {
-    let mut payloads = Vec::new(alloc);
+    let count = 9 * lines.len();
+    let mut words = Vec::with_capacity(alloc, count + 1)?;
+    words.push(marked(count as u64, pass))?;
     for line in lines {
-        push_line(&mut payloads, line)?;
+        push_marked(&mut words, line, pass)?;
     }
-    Ok(payloads)
+    Ok(words)
 }
 
 /// The line that nine payloads stand for.

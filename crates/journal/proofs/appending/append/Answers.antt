@@ -1,24 +1,15 @@
-use Rattle.std.proofs.Common.{◌≡◌, ℕ, ◌+◌, ◌<◌, ◌^◌, List, length, get_or, sym, ◌∙◌, ap, subst, arith}
+use Rattle.std.proofs.Common.{◌≡◌, ℕ, ◌+◌, List, length, sym, ◌∙◌, subst, arith}
 use Rattle.std.proofs.Math.Logic.{∥∥₁_map}
-use Rattle.journal.specs.Entries.{entry}
 use Rattle.journal.specs.States.{Rests}
-use Rattle.journal.proofs.Changes.{numbers-below, small_payloads, entry_size}
+use Rattle.journal.proofs.Changes.{numbers-below, entry_size}
 use Rattle.journal.proofs.Files.{Puts, Keeps}
 use Rattle.journal.proofs.Within.{rests_within}
 use Rattle.journal.proofs.Appended.{rests-either, append-either, append-kept}
 use Rattle.journal.proofs.appending.append.Goals as goal
 
-pub returns-in_err-payloads-clause-either : goal.returns-in_err-payloads-clause-either
-returns-in_err-payloads-clause-either g c =
-    let durable = c.args.durable.now in
-    rests-either (g.S.Storage.may_hold c.args.storage.now) (length durable) c.args.room c.args.position.pass c.args.position.words durable c.args.words.now c.requires.known
-
-pub entry_words-requires : goal.entry_words-requires
-entry_words-requires g c =
-    let changed = c.requires.changed in
-    let small = small_payloads c.args.changed.now changed.lines_are (numbers-below c.args.changed.now c.args.words.now changed.within (omega (arith, c.requires.same, c.requires.fits))) in
-    let P : List ℕ → Type 0 = λ l. (at : ℕ) → at < length l → get_or l at 0 < 2 ^ 63 in
-    subst P (sym (c.as_slice.ensures.value ∙ c.in_ok-payloads.ensures)) (λ at lt. small at 0 lt)
+pub entry_of-requires-clause-numbers : goal.entry_of-requires-clause-numbers
+entry_of-requires-clause-numbers g c =
+    numbers-below c.args.changed.now c.args.words.now c.requires.changed.within (omega (arith, c.requires.same, c.requires.fits))
 
 pub returns-in_err-entry-clause-either : goal.returns-in_err-entry-clause-either
 returns-in_err-entry-clause-either g c =
@@ -33,7 +24,7 @@ returns-in_err-write-clause-either g c =
     let old = g.S.Storage.may_hold c.args.storage.now in
     let new = g.S.Storage.may_hold c.write.new.self in
     let P : List ℕ → Type 0 = λ l. Puts old new (length durable + c.args.position.words) l in
-    let is = c.as_slice-2.ensures.value ∙ c.in_ok-entry.ensures ∙ ap (λ (l : List ℕ). entry c.args.position.pass l) (c.as_slice.ensures.value ∙ c.in_ok-payloads.ensures) in
+    let is = c.as_slice.ensures.value ∙ c.in_ok-entry.ensures in
     append-either old new (length durable) c.args.room c.args.position.pass c.args.position.words durable c.args.words.now lines c.requires.known changed.lines_are
     (omega (arith, entry_size c.args.position.pass lines changed.lines_are, c.requires.within)) c.requires.same (λ word lt. changed.makes word (omega (arith, lt, c.requires.same)))
     (subst P is c.write.ensures.found)
@@ -46,7 +37,7 @@ returns-clause-either g c =
     let old = g.S.Storage.may_hold c.args.storage.now in
     let new = g.S.Storage.may_hold c.write.new.self in
     let P : List ℕ → Type 0 = λ l. Puts old new (length durable + c.args.position.words) l in
-    let is = c.as_slice-2.ensures.value ∙ c.in_ok-entry.ensures ∙ ap (λ (l : List ℕ). entry c.args.position.pass l) (c.as_slice.ensures.value ∙ c.in_ok-payloads.ensures) in
+    let is = c.as_slice.ensures.value ∙ c.in_ok-entry.ensures in
     append-either old new (length durable) c.args.room c.args.position.pass c.args.position.words durable c.args.words.now lines c.requires.known changed.lines_are
     (omega (arith, entry_size c.args.position.pass lines changed.lines_are, c.requires.within)) c.requires.same (λ word lt. changed.makes word (omega (arith, lt, c.requires.same)))
     (subst P is c.write.ensures.found)
@@ -64,8 +55,8 @@ returns-clause-rests g c =
     let P : List ℕ → Type 0 = λ l. Puts old new start l in
     let K : List ℕ → Type 0 = λ l. Keeps new start l in
     let R : List ℕ → Type 0 = λ l. ∥ Rests new (length durable) c.args.room c.args.position.pass (c.args.position.words + length l) words ∥₁ in
-    let made = c.in_ok-entry.ensures ∙ ap (λ (l : List ℕ). entry c.args.position.pass l) (c.as_slice.ensures.value ∙ c.in_ok-payloads.ensures) in
-    let is = c.as_slice-2.ensures.value ∙ made in
+    let made = c.in_ok-entry.ensures in
+    let is = c.as_slice.ensures.value ∙ made in
     let count : c.len.result ≡ length c.in_ok-entry.entry.items = omega (arith, c.len.ensures, c.in_ok-entry.entry.ok.0) in
     let N : ℕ → Type 0 = λ n. ∥ Rests new (length durable) c.args.room c.args.position.pass (c.args.position.words + n) words ∥₁ in
     let known = rests_within held old (length durable) c.args.room c.args.position.pass c.args.position.words durable (g.met.S.Storage.shown_is_found c.args.storage.now) c.requires.known in

@@ -8,7 +8,7 @@ use Rattle.journal.proofs.appending.changed_lines.Goals as goal
 pub loop-number-init : goal.loop-number-init
 loop-number-init c =
     let P : List Line → Type 0 = λ l. AreFound l c.args.durable.now c.args.words.now [] in
-    subst P (sym c.new-lines.ensures.items) (found-none c.args.durable.now c.args.words.now)
+    subst P (sym c.in_ok-lines.ensures.items) (found-none c.args.durable.now c.args.words.now)
 
 pub loop-number-preserved : goal.loop-number-preserved
 loop-number-preserved c =
