@@ -27,10 +27,6 @@ impl Sessions {
         if own.is_full {
             return Err(Fault::WriteSetFull);
         }
-        match self.dirty.promise(session, own.lines) {
-            Ok(()) => {}
-            Err(fault) => return Err(fault),
-        }
         give(&mut self.slots, own.slot);
         let deletion = Write {
             key,

@@ -1,7 +1,7 @@
-ghost use Rattle.std.specs.Prelude.{◌≡◌, ◌*◌, IsTrue, length};
+ghost use Rattle.std.specs.Prelude.{◌≡◌, IsTrue, length};
 ghost use Rattle.std.specs.Bool.{OnFalse};
 ghost use Rattle.txn.specs.WriteSets.{HasRoomFor};
-ghost use Rattle.session_steps.specs.Giving.{fits_slot, fits_writes, given, own_of, count_with, is_full_of, GivesBack};
+ghost use Rattle.session_steps.specs.Giving.{fits_slot, fits_writes, given, own_of, is_full_of, GivesBack};
 
 use base::SlotNo;
 use base::key::Key;
@@ -35,9 +35,6 @@ pub fn give(slots: &mut SlotAlloc, slot: Option<SlotNo>)
 pub struct OwnKey {
     /// The slot of its version of the key.
     pub slot: Option<SlotNo>,
-    /// How many lines it may touch that writes the key too: for each write two of the version that it makes, and one of that
-    /// which it ends.
-    pub lines: u16,
     /// Whether the writes are as many as they may be, and none is of the key.
     pub is_full: bool,
 }
@@ -46,20 +43,16 @@ pub struct OwnKey {
 #[inline(always)]
 pub fn own_key(writes: &WriteSet, key: Key) -> OwnKey
     ensures slot { result.slot ≡ own_of key writes.now }
-    ensures lines { result.lines ≡ 3 * count_with key writes.now }
     ensures full { result.is_full ≡ is_full_of key writes.now }
     ensures room { OnFalse result.is_full (HasRoomFor key writes.now) }
 {
-    let len = writes.len() as u16;
     match writes.find(key) {
         Some(write) => OwnKey {
             slot: write.slot,
-            lines: 3 * len,
             is_full: false,
         },
         None => OwnKey {
             slot: None,
-            lines: 3 * (len + 1),
             is_full: writes.is_full(),
         },
     }
