@@ -1,4 +1,4 @@
+pub mod Words
+pub mod Summaries
+pub mod Sets
 pub mod Tables
-pub mod Members
-pub mod Promised
-pub mod Places

@@ -1,337 +1,236 @@
--- What a table of touched lines is after a change, and what a walk over it meets.
-use Rattle.std.proofs.Common.{◌≡◌, ℕ, suc, ◌+◌, ◌<◌, ◌≤◌, Bool, true, false, cond, ◌&&◌, ◌||◌, not, nat_eq, nat_le, List, [], ◌∷◌, length, map, Option, Some, refl, sym, ◌∙◌, ap, subst, arith}
-use Rattle.std.specs.List.{list_any, filter, find, dedup, dedup_from, insert, position_or_len}
-use Rattle.std.specs.Option.{option_map}
-use Rattle.std.proofs.lemmas.List.Sums.{prefix_len-le-length}
-use Rattle.std.proofs.lemmas.Bool.{and_parts, and_from, le-leb, leb-true, leb-false, lt-ltb, eqb-true, eq-eqb, or_left, or_right}
+-- Tables of the sessions that touch each line: what a change makes of them, and what a walk over them meets.
+use Rattle.std.proofs.Common.{◌≡◌, ◌≢◌, inl, inr, ℕ, zero, suc, ◌+◌, ◌<◌, ◌≤◌, Bool, true, false, cond, ◌&&◌, not, nat_eq, nat_le, nat_lt, List, ◌∷◌, length, get_or, set, length-set, refl, sym, ◌∙◌, ap, arith}
+use Rattle.std.specs.Prelude.{Option, Some, None, IfSome, IfNone}
+use Rattle.std.specs.List.{list_any, filter, find, range_with_len}
+use Rattle.std.proofs.lemmas.Bool.{cases_eq, cases_lt, and_parts, and_from, le-leb, lt-ltb, eqb-true, eqb-false, eq-eqb}
 use Rattle.std.proofs.lemmas.Bool.Decides.{nat_tests}
-use Rattle.std.proofs.Math.Bool.{or-false}
+use Rattle.std.proofs.lemmas.List.{get_or_past, get_or_default, get_or-set_other}
+use Rattle.std.proofs.lemmas.List.Folds.{list_any_at}
+use Rattle.std.proofs.lemmas.List.FromFn.{length-range_with_len, get_or-range_with_len}
+use Rattle.std.proofs.lemmas.Map.Views.{any-filter_same}
+use Rattle.std.proofs.lemmas.Grind.{get_or-set_at}
+use Rattle.std.specs.Int.Bits.{and_zero_r}
 use Rattle.base.specs.Records.{are_rising}
-use Rattle.dirty_table.specs.declared.touches.Touch.{Touch}
-use Rattle.dirty_table.specs.Touches.{has, is_touched, lines_touched, are_from, are_in_order, put_in, with_touch, Touches, Forgets}
+use Rattle.dirty_table.specs.declared.sessions.SessionSet.{SessionSet}
+use Rattle.dirty_table.specs.Bits.{is_in, IsLowest, IsClearFrom}
+use Rattle.dirty_table.specs.Touches.{has, meets, sessions_at, is_touched, lines_touched, Forgets, IsUntouchedFrom, IsNextTouched, IsNoted}
+use Rattle.dirty_table.proofs.Sets.{meets-apart}
 
-abbrev is_it : Touch → ℕ → ℕ → Bool
-is_it touch n line = nat_eq touch.session n && nat_eq touch.line line
+and-true : (x : Bool) → (x && true) ≡ x
+and-true true = refl
+and-true false = refl
 
-or_swap : (x y : Bool) → (x || y) ≡ (y || x)
-or_swap true true = refl
-or_swap true false = refl
-or_swap false true = refl
-or_swap false false = refl
+-- ---- one line
 
-or_shift : (x y z : Bool) → (x || (y || z)) ≡ ((x || y) || z)
-or_shift true y z = refl
-or_shift false y z = refl
+pub read-at : (table : List SessionSet) (line : ℕ) (sessions : SessionSet) → line < length table → sessions ≡ get_or table line sessions → sessions ≡ sessions_at table line
+read-at table line sessions lt is = is ∙ get_or_default table line sessions (record { bits = 0 }) lt
 
--- ---- putting in
-
-put_in-touched : (new : Touch) (touches : List Touch) (n line : ℕ) → is_touched (put_in new touches) n line ≡ (is_touched touches n line || is_it new n line)
-put_in-touched new [] n line = or-false (is_it new n line)
-put_in-touched new (touch ∷ touches) n line = by (nat_le new.line touch.line) (put_in-touched new touches n line)
+pub at-set : (table : List SessionSet) (line n k : ℕ) (sessions : SessionSet) → line < length table → is_touched (set table line sessions) n k ≡ cond (nat_eq k line) (has sessions n) (is_touched table n k)
+at-set table line n k sessions lt = by (nat_eq k line) refl
   where
-    by : (b : Bool) → is_touched (put_in new touches) n line ≡ (is_touched touches n line || is_it new n line)
-        → is_touched (cond b (new ∷ touch ∷ touches) (touch ∷ put_in new touches)) n line ≡ ((is_it touch n line || is_touched touches n line) || is_it new n line)
-    by true rest = or_swap (is_it new n line) (is_it touch n line || is_touched touches n line)
-    by false rest = ap (λ (x : Bool). is_it touch n line || x) rest ∙ or_shift (is_it touch n line) (is_touched touches n line) (is_it new n line)
+    by : (b : Bool) → nat_eq k line ≡ b → is_touched (set table line sessions) n k ≡ cond b (has sessions n) (is_touched table n k)
+    by true e = ap (λ (s : SessionSet). has s n) (get_or-set_at table line k sessions (record { bits = 0 }) (eqb-true k line e) lt)
+    by false e = ap (λ (s : SessionSet). has s n) (get_or-set_other table line k sessions (record { bits = 0 }) (eqb-false k line e))
 
-with_touch-touched : (new : Touch) (touches : List Touch) (n line : ℕ) → is_touched (with_touch new touches) n line ≡ (is_touched touches n line || is_it new n line)
-with_touch-touched new touches n line = by (is_touched touches new.session new.line) refl
-  where
-    there : (b : Bool) → is_it new n line ≡ b → is_touched touches new.session new.line ≡ true → is_touched touches n line ≡ (is_touched touches n line || b)
-    there false e is = sym (or-false (is_touched touches n line))
-    there true e is =
-        let parts = and_parts (nat_eq new.session n) (nat_eq new.line line) e in
-        let session : new.session ≡ n = eqb-true new.session n parts.0 in
-        let same : new.line ≡ line = eqb-true new.line line parts.1 in
-        let here : is_touched touches n line ≡ true = subst (λ (l : ℕ). is_touched touches n l ≡ true) same (subst (λ (s : ℕ). is_touched touches s new.line ≡ true) session is) in
-        here ∙ sym (ap (λ (x : Bool). x || true) here)
+module _ (table : List SessionSet) (line : ℕ) (gone sessions : SessionSet) (lt : line < length table) (without : (n : ℕ) → has sessions n ≡ (is_touched table n line && not (has gone n))) where
+  -- some sessions don't touch the line any more
+  forgot-line : (n k : ℕ) → is_touched (set table line sessions) n k ≡ (is_touched table n k && not (nat_eq k line && has gone n))
+  forgot-line n k = at-set table line n k sessions lt ∙ by (nat_eq k line) refl
+    where
+      by : (b : Bool) → nat_eq k line ≡ b → cond b (has sessions n) (is_touched table n k) ≡ (is_touched table n k && not (b && has gone n))
+      by true e = without n ∙ ap (λ (l : ℕ). is_touched table n l && not (has gone n)) (sym (eqb-true k line e))
+      by false e = sym (and-true (is_touched table n k))
 
-    by : (b : Bool) → is_touched touches new.session new.line ≡ b → is_touched (cond b touches (put_in new touches)) n line ≡ (is_touched touches n line || is_it new n line)
-    by true is = there (is_it new n line) refl is
-    by false is = put_in-touched new touches n line
+  still : (n k : ℕ) → is_touched (set table line sessions) n k ≡ true → is_touched table n k ≡ true
+  still n k there = (and_parts (is_touched table n k) (not (nat_eq k line && has gone n)) (sym (forgot-line n k) ∙ there)).0
 
-abbrev of : (ℕ → Bool) → Touch → Bool
-of which touch = which touch.session
+  pub noted-still : (noted : List ℕ) → IsNoted table noted → IsNoted (set table line sessions) noted
+  noted-still noted old = record {
+    each = λ n k there. old.each n k (still n k there);
+    within = λ k there. let same = length-set table line sessions in let below = old.within k there in omega (arith, same, below);
+    enough = omega (arith, old.enough, length-set table line sessions);
+    few = omega (arith, old.few, length-set table line sessions);
+  }
 
-put_in-others : (which : ℕ → Bool) (new : Touch) (touches : List Touch) → which new.session ≡ false → filter (of which) (put_in new touches) ≡ filter (of which) touches
-put_in-others which new [] other = ap (λ (b : Bool). cond b (new ∷ []) []) other
-put_in-others which new (touch ∷ touches) other = by (nat_le new.line touch.line) (put_in-others which new touches other)
-  where
-    by : (b : Bool) → filter (of which) (put_in new touches) ≡ filter (of which) touches → filter (of which) (cond b (new ∷ touch ∷ touches) (touch ∷ put_in new touches)) ≡ filter (of which) (touch ∷ touches)
-    by true rest = ap (λ (b : Bool). cond b (new ∷ filter (of which) (touch ∷ touches)) (filter (of which) (touch ∷ touches))) other
-    by false rest = ap (λ (ts : List Touch). cond (which touch.session) (touch ∷ ts) ts) rest
+-- ---- the next line that may be touched
 
-with_touch-others : (which : ℕ → Bool) (new : Touch) (touches : List Touch) → which new.session ≡ false → filter (of which) (with_touch new touches) ≡ filter (of which) touches
-with_touch-others which new touches other = by (is_touched touches new.session new.line)
-  where
-    by : (b : Bool) → filter (of which) (cond b touches (put_in new touches)) ≡ filter (of which) touches
-    by true = refl
-    by false = put_in-others which new touches other
+module _ (table : List SessionSet) (noted : List ℕ) (is : IsNoted table noted) where
+  unnoted : (n line : ℕ) → is_in noted line ≡ false → is_touched table n line ≡ false
+  unnoted n line none = by (is_touched table n line) refl
+    where
+      by : (b : Bool) → is_touched table n line ≡ b → is_touched table n line ≡ false
+      by true e = absurd (cc (sym none ∙ is.each n line e))
+      by false e = e
 
-abbrev lines_of : List Touch → List ℕ
-lines_of touches = dedup nat_eq (map (λ touch. touch.line) touches)
+  pub next-some : (from : ℕ) (r : Option ℕ) → IfSome r (IsLowest noted from) → IfSome r (IsNextTouched table from)
+  next-some from None lowest = tt
+  next-some from (Some line) lowest = record {
+    low = lowest.low;
+    within = is.within line lowest.here;
+    small = let below = is.within line lowest.here in omega (arith, below, is.few);
+    before = λ k ge lt n. unnoted n k (lowest.before k ge lt);
+  }
 
-pub touches_from : (new : Touch) (old touches : List Touch) → touches ≡ with_touch new old → Touches new.session (new.line ∷ []) old touches
-touches_from new old touches e = subst (λ (ts : List Touch). Touches new.session (new.line ∷ []) old ts) (sym e) (record {
-  touched = λ n line. with_touch-touched new old n line ∙ ap (λ (x : Bool). is_touched old n line || (nat_eq new.session n && x)) (sym (or-false (nat_eq new.line line)));
-  others = λ which other. ap lines_of (with_touch-others which new old other);
-})
+  pub next-none : (from : ℕ) (r : Option ℕ) → IfNone r (IsClearFrom noted from) → IfNone r (IsUntouchedFrom table from)
+  next-none from None clear = λ line ge n. unnoted n line (clear line ge)
+  next-none from (Some line) clear = tt
 
--- ---- order
+-- ---- all lines of some sessions are forgotten
 
-are_from-lower : (low high : ℕ) (touches : List Touch) → low ≤ high → are_from high touches ≡ true → are_from low touches ≡ true
-are_from-lower low high [] le o = refl
-are_from-lower low high (touch ∷ touches) le o =
-    let parts = and_parts _ _ o in
-    and_from _ _ (le-leb low touch.line (omega (arith, le, leb-true high touch.line parts.0))) parts.1
+-- up to the line
+pub record Forgot (sessions : SessionSet) (old now : List SessionSet) (from : ℕ) : Type 0 where
+  pub below : (n k : ℕ) → k < from → is_touched now n k ≡ (is_touched old n k && not (has sessions n))
+  pub rest : (n k : ℕ) → from ≤ k → is_touched now n k ≡ is_touched old n k
+  pub size : length now ≡ length old
 
-put_in-from : (low : ℕ) (new : Touch) (touches : List Touch) → low ≤ new.line → are_from low touches ≡ true → are_from low (put_in new touches) ≡ true
-put_in-from low new [] le o = and_from _ _ (le-leb low new.line le) refl
-put_in-from low new (touch ∷ touches) le o =
-    let parts = and_parts _ _ o in
-    by (nat_le new.line touch.line) refl parts.0 parts.1 (put_in-from touch.line new touches)
-  where
-    by : (b : Bool) → nat_le new.line touch.line ≡ b → nat_le low touch.line ≡ true → are_from touch.line touches ≡ true
-        → (touch.line ≤ new.line → are_from touch.line touches ≡ true → are_from touch.line (put_in new touches) ≡ true)
-        → are_from low (cond b (new ∷ touch ∷ touches) (touch ∷ put_in new touches)) ≡ true
-    by true is first more rest = and_from _ _ (le-leb low new.line le) (and_from _ _ is more)
-    by false is first more rest = and_from _ _ first (rest (omega (arith, leb-false new.line touch.line is)) more)
+pub forgot-none : (sessions : SessionSet) (table : List SessionSet) → Forgot sessions table table 0
+forgot-none sessions table = record { below = λ n k lt. absurd (omega (arith, lt)); rest = λ n k ge. refl; size = refl }
 
-pub with_touch-ordered : (new : Touch) (touches : List Touch) → are_in_order touches ≡ true → are_in_order (with_touch new touches) ≡ true
-with_touch-ordered new touches o = by (is_touched touches new.session new.line)
-  where
-    by : (b : Bool) → are_in_order (cond b touches (put_in new touches)) ≡ true
-    by true = o
-    by false = put_in-from 0 new touches (omega arith) o
+module _ (sessions : SessionSet) (old now : List SessionSet) (from : ℕ) (forgot : Forgot sessions old now from) where
+  neither : (n k : ℕ) → from ≤ k → is_touched now n k ≡ false → is_touched now n k ≡ (is_touched old n k && not (has sessions n))
+  neither n k ge none = none ∙ ap (λ (b : Bool). b && not (has sessions n)) (sym none ∙ forgot.rest n k ge)
 
-filter-from : (p : Touch → Bool) (low : ℕ) (touches : List Touch) → are_from low touches ≡ true → are_from low (filter p touches) ≡ true
-filter-from p low [] o = refl
-filter-from p low (touch ∷ touches) o =
-    let parts = and_parts _ _ o in
-    by (p touch) parts.0 (filter-from p touch.line touches parts.1)
-  where
-    by : (b : Bool) → nat_le low touch.line ≡ true → are_from touch.line (filter p touches) ≡ true → are_from low (cond b (touch ∷ filter p touches) (filter p touches)) ≡ true
-    by true first rest = and_from _ _ first rest
-    by false first rest = are_from-lower low touch.line (filter p touches) (leb-true low touch.line first) rest
+  pub forgot-on : (line : ℕ) (after : List SessionSet) → IsNextTouched now from line → ((n k : ℕ) → is_touched after n k ≡ (is_touched now n k && not (nat_eq k line && has sessions n))) → length after ≡ length now → Forgot sessions old after (line + 1)
+  forgot-on line after next is size = record {
+    below = λ n k lt. is n k ∙ below n k lt (nat_eq k line) refl;
+    rest = λ n k ge. is n k ∙ ap (λ (b : Bool). is_touched now n k && not (b && has sessions n)) (above k ge) ∙ and-true (is_touched now n k) ∙ forgot.rest n k (omega (arith, ge, next.low));
+    size = size ∙ forgot.size;
+  }
+    where
+      above : (k : ℕ) → line + 1 ≤ k → nat_eq k line ≡ false
+      above k ge = grind (arith, nat_tests)
 
-pub filter-ordered : (p : Touch → Bool) (touches : List Touch) → are_in_order touches ≡ true → are_in_order (filter p touches) ≡ true
-filter-ordered p touches o = filter-from p 0 touches o
+      below : (n k : ℕ) → k < line + 1 → (b : Bool) → nat_eq k line ≡ b → (is_touched now n k && not (b && has sessions n)) ≡ (is_touched old n k && not (has sessions n))
+      below n k lt true e = let same : k ≡ line = eqb-true k line e in ap (λ (b : Bool). b && not (has sessions n)) (forgot.rest n k (omega (arith, same, next.low)))
+      below n k lt false e =
+          let apart : k ≢ line = eqb-false k line e in
+          and-true (is_touched now n k) ∙ elim (cases_lt k from) [
+            | inl earlier ↦ forgot.below n k earlier
+            | inr later ↦ neither n k later (next.before k later (omega (arith, lt, apart)) n)
+          ]
 
--- the place of a new one is where it goes in
-pub put_in_place : (new : Touch) (touches : List Touch) → insert touches (position_or_len (λ touch. nat_le new.line touch.line) touches) new ≡ put_in new touches
-put_in_place new [] = refl
-put_in_place new (touch ∷ touches) = by (nat_le new.line touch.line) (put_in_place new touches)
-  where
-    place : ℕ
-    place = position_or_len (λ touch. nat_le new.line touch.line) touches
+  pub forgot-all : IsUntouchedFrom now from → Forgets sessions old now
+  forgot-all none = record {
+    touched = λ n k. elim (cases_lt k from) [ inl earlier ↦ forgot.below n k earlier | inr later ↦ neither n k later (none k later n) ];
+    size = forgot.size;
+  }
 
-    by : (b : Bool) → insert touches place new ≡ put_in new touches → insert (touch ∷ touches) (cond (not b) (1 + place) 0) new ≡ cond b (new ∷ touch ∷ touches) (touch ∷ put_in new touches)
-    by true rest = refl
-    by false rest =
-        let one : suc place ≡ 1 + place = omega arith in
-        subst (λ (k : ℕ). insert (touch ∷ touches) k new ≡ touch ∷ put_in new touches) one (ap (λ (ts : List Touch). touch ∷ ts) rest)
+-- ---- the lines of some sessions
 
--- ---- taking out
+module _ (p : ℕ → Bool) where
+  under : (from l : ℕ) → l < from → nat_le from l ≡ false
+  under from l lt = grind (arith, nat_tests)
 
-filter-touched : (p : ℕ → ℕ → Bool) (touches : List Touch) (n line : ℕ) → is_touched (filter (λ touch. p touch.session touch.line) touches) n line ≡ (is_touched touches n line && p n line)
-filter-touched p [] n line = refl
-filter-touched p (touch ∷ touches) n line = by (p touch.session touch.line) refl (is_it touch n line) refl (filter-touched p touches n line)
-  where
-    kept : List Touch
-    kept = filter (λ touch. p touch.session touch.line) touches
+  find-passing : (from line n a : ℕ) → a ≤ line → line < a + n → from ≤ line → p line ≡ true → ((k : ℕ) → from ≤ k → k < line → p k ≡ false) → find (nat_le from) (filter p (range_with_len a n)) ≡ Some line
+  find-passing from line zero a le lt low here before = absurd (omega (arith, le, lt))
+  find-passing from line (suc n) a le lt low here before = by (p a) refl (λ le' lt'. find-passing from line n (a + 1) le' lt' low here before)
+    where
+      rest : List ℕ
+      rest = filter p (range_with_len (a + 1) n)
 
-    same : is_it touch n line ≡ true → p n line ≡ p touch.session touch.line
-    same e =
-        let parts = and_parts (nat_eq touch.session n) (nat_eq touch.line line) e in
-        rw (eqb-true touch.session n parts.0, eqb-true touch.line line parts.1) refl
+      by : (b : Bool) → p a ≡ b → (a + 1 ≤ line → line < (a + 1) + n → find (nat_le from) rest ≡ Some line) → find (nat_le from) (cond b (a ∷ rest) rest) ≡ Some line
+      by true e next = elim (cases_lt a from) [
+        | inl below ↦ ap (λ (b : Bool). cond b (Some a) (find (nat_le from) rest)) (under from a below) ∙ next (omega (arith, below, low)) (omega (arith, lt))
+        | inr above ↦ ap (λ (b : Bool). cond b (Some a) (find (nat_le from) rest)) (le-leb from a above) ∙ elim (cases_lt a line) [
+          | inl earlier ↦ absurd (cc (sym e ∙ before a above earlier))
+          | inr later ↦ let same : a ≡ line = omega (arith, later, le) in ap (λ (x : ℕ). Some x) same
+        ]
+      ]
+      by false e next = elim (cases_eq a line) [
+        | inl same ↦ absurd (cc (sym here ∙ ap p (sym same) ∙ e))
+        | inr apart ↦ next (omega (arith, apart, le)) (omega (arith, lt))
+      ]
 
-    none : (x y : Bool) → y ≡ false → (x && y) ≡ (true && y)
-    none true y e = refl
-    none false y e = sym e
+  find-none : (from n a : ℕ) → ((k : ℕ) → from ≤ k → p k ≡ false) → find (nat_le from) (filter p (range_with_len a n)) ≡ None
+  find-none from zero a none = refl
+  find-none from (suc n) a none = by (p a) refl (find-none from n (a + 1) none)
+    where
+      rest : List ℕ
+      rest = filter p (range_with_len (a + 1) n)
 
-    by : (b : Bool) → p touch.session touch.line ≡ b → (e : Bool) → is_it touch n line ≡ e → is_touched kept n line ≡ (is_touched touches n line && p n line)
-        → is_touched (cond b (touch ∷ kept) kept) n line ≡ ((e || is_touched touches n line) && p n line)
-    by true stays true is rest = ap (λ (x : Bool). x || is_touched kept n line) is ∙ sym (same is ∙ stays)
-    by true stays false is rest = ap (λ (x : Bool). x || is_touched kept n line) is ∙ rest
-    by false goes true is rest = rest ∙ none (is_touched touches n line) (p n line) (same is ∙ goes)
-    by false goes false is rest = rest
+      by : (b : Bool) → p a ≡ b → find (nat_le from) rest ≡ None → find (nat_le from) (cond b (a ∷ rest) rest) ≡ None
+      by true e next = elim (cases_lt a from) [
+        | inl below ↦ ap (λ (b : Bool). cond b (Some a) (find (nat_le from) rest)) (under from a below) ∙ next
+        | inr above ↦ absurd (cc (sym e ∙ none a above))
+      ]
+      by false e next = next
 
-filter-others : (p q : Touch → Bool) (touches : List Touch) → ((touch : Touch) → q touch ≡ true → p touch ≡ true) → filter q (filter p touches) ≡ filter q touches
-filter-others p q [] keeps = refl
-filter-others p q (touch ∷ touches) keeps = by (p touch) refl (filter-others p q touches keeps)
-  where
-    apart : (b : Bool) → q touch ≡ b → p touch ≡ false → filter q (filter p touches) ≡ filter q touches → filter q (filter p touches) ≡ cond b (touch ∷ filter q touches) (filter q touches)
-    apart true is goes rest = absurd (cc (keeps touch is))
-    apart false is goes rest = rest
+  rising-after : (low n a : ℕ) → low < a → are_rising (low ∷ filter p (range_with_len a n)) ≡ true
+  rising-after low zero a lt = refl
+  rising-after low (suc n) a lt = by (p a) (rising-after a n (a + 1) (omega arith)) (rising-after low n (a + 1) (omega (arith, lt)))
+    where
+      rest : List ℕ
+      rest = filter p (range_with_len (a + 1) n)
 
-    by : (b : Bool) → p touch ≡ b → filter q (filter p touches) ≡ filter q touches → filter q (cond b (touch ∷ filter p touches) (filter p touches)) ≡ filter q (touch ∷ touches)
-    by true stays rest = ap (λ (ts : List Touch). cond (q touch) (touch ∷ ts) ts) rest
-    by false goes rest = apart (q touch) refl goes rest
+      by : (b : Bool) → are_rising (a ∷ rest) ≡ true → are_rising (low ∷ rest) ≡ true → are_rising (low ∷ cond b (a ∷ rest) rest) ≡ true
+      by true from_here past = and_from (nat_lt low a) (are_rising (a ∷ rest)) (lt-ltb low a lt) from_here
+      by false from_here past = past
 
-abbrev pub is_kept : List Bool → Touch → Bool
-is_kept sessions touch = not (has sessions touch.session)
+  rising-passing : (n a : ℕ) → are_rising (filter p (range_with_len a n)) ≡ true
+  rising-passing zero a = refl
+  rising-passing (suc n) a = by (p a) (rising-after a n (a + 1) (omega arith)) (rising-passing n (a + 1))
+    where
+      rest : List ℕ
+      rest = filter p (range_with_len (a + 1) n)
 
-pub forgets_from : (sessions : List Bool) (old new : List Touch) → new ≡ filter (is_kept sessions) old → Forgets sessions old new
-forgets_from sessions old new e = subst (λ (ts : List Touch). Forgets sessions old ts) (sym e) (record {
-  touched = λ n line. filter-touched (λ s k. not (has sessions s)) old n line;
-  others = λ which apart. ap lines_of (filter-others (is_kept sessions) (of which) old (λ touch is. ap not (apart touch.session is)));
-})
-
--- ---- the walk
-
-abbrev numbers_from : ℕ → List ℕ → Bool
-numbers_from low [] = true
-numbers_from low (x ∷ xs) = nat_le low x && numbers_from x xs
-
-lines-from : (low : ℕ) (touches : List Touch) → are_from low touches ≡ true → numbers_from low (map (λ touch. touch.line) touches) ≡ true
-lines-from low [] o = refl
-lines-from low (touch ∷ touches) o = let parts = and_parts _ _ o in and_from _ _ parts.0 (lines-from touch.line touches parts.1)
-
-above : (k x : ℕ) → nat_le k x ≡ true → nat_eq x k ≡ false → k < x
-above k x h e = grind (arith, nat_tests)
-
-same_from : (k x : ℕ) (xs : List ℕ) → nat_eq x k ≡ true → numbers_from x xs ≡ true → numbers_from k xs ≡ true
-same_from k x xs e o = subst (λ (low : ℕ). numbers_from low xs ≡ true) (eqb-true x k e) o
-
-rising_after : (j k : ℕ) (xs : List ℕ) → j < k → numbers_from k xs ≡ true → are_rising (j ∷ dedup_from nat_eq k xs) ≡ true
-rising_after j k [] lt o = and_from _ _ (lt-ltb j k lt) refl
-rising_after j k (x ∷ xs) lt o = let parts = and_parts _ _ o in by (nat_eq x k) refl parts.0 parts.1 (rising_after j k xs lt) (rising_after k x xs)
-  where
-    by : (b : Bool) → nat_eq x k ≡ b → nat_le k x ≡ true → numbers_from x xs ≡ true → (numbers_from k xs ≡ true → are_rising (j ∷ dedup_from nat_eq k xs) ≡ true)
-        → (k < x → numbers_from x xs ≡ true → are_rising (k ∷ dedup_from nat_eq x xs) ≡ true) → are_rising (j ∷ cond b (dedup_from nat_eq k xs) (k ∷ dedup_from nat_eq x xs)) ≡ true
-    by true e first more here later = here (same_from k x xs e more)
-    by false e first more here later = and_from _ _ (lt-ltb j k lt) (later (above k x first e) more)
-
-rising : (k : ℕ) (xs : List ℕ) → numbers_from k xs ≡ true → are_rising (dedup_from nat_eq k xs) ≡ true
-rising k [] o = refl
-rising k (x ∷ xs) o = let parts = and_parts _ _ o in by (nat_eq x k) refl parts.0 parts.1 (rising k xs)
-  where
-    by : (b : Bool) → nat_eq x k ≡ b → nat_le k x ≡ true → numbers_from x xs ≡ true → (numbers_from k xs ≡ true → are_rising (dedup_from nat_eq k xs) ≡ true)
-        → are_rising (cond b (dedup_from nat_eq k xs) (k ∷ dedup_from nat_eq x xs)) ≡ true
-    by true e first more here = here (same_from k x xs e more)
-    by false e first more here = rising_after k x xs (above k x first e) more
-
-rising_numbers : (low : ℕ) (xs : List ℕ) → numbers_from low xs ≡ true → are_rising (dedup nat_eq xs) ≡ true
-rising_numbers low [] o = refl
-rising_numbers low (x ∷ xs) o = rising x xs (and_parts _ _ o).1
+      by : (b : Bool) → are_rising (a ∷ rest) ≡ true → are_rising rest ≡ true → are_rising (cond b (a ∷ rest) rest) ≡ true
+      by true from_here past = from_here
+      by false from_here past = past
 
 -- the lines that sessions touch rise, and each is there once
-pub lines_touched-rising : (which : ℕ → Bool) (touches : List Touch) → are_in_order touches ≡ true → are_rising (lines_touched which touches) ≡ true
-lines_touched-rising which touches o = rising_numbers 0 (map (λ touch. touch.line) (filter (of which) touches)) (lines-from 0 (filter (of which) touches) (filter-ordered (of which) touches o))
+pub lines_touched-rising : (which : SessionSet) (table : List SessionSet) → are_rising (lines_touched which table) ≡ true
+lines_touched-rising which table = rising-passing (λ line. meets which (sessions_at table line)) (length table) 0
 
-find-dedup_from : (p : ℕ → Bool) (k : ℕ) (xs : List ℕ) → find p (dedup_from nat_eq k xs) ≡ find p (k ∷ xs)
-find-dedup_from p k [] = refl
-find-dedup_from p k (x ∷ xs) = by (nat_eq x k) refl (find-dedup_from p k xs) (find-dedup_from p x xs)
+past-table : (which : SessionSet) (table : List SessionSet) (line : ℕ) → length table ≤ line → meets which (sessions_at table line) ≡ false
+past-table which table line past = ap (λ (s : SessionSet). meets which s) (get_or_past table line (record { bits = 0 }) past) ∙ ap (λ (w : ℕ). not (nat_eq w 0)) (and_zero_r which.bits)
+
+-- a line is one of them where one of the sessions touches it
+pub lines_touched-member : (which : SessionSet) (table : List SessionSet) (line : ℕ) → list_any (λ x. nat_eq x line) (lines_touched which table) ≡ meets which (sessions_at table line)
+lines_touched-member which table line =
+    any-filter_same (λ (x : ℕ). nat_eq x line) test (test line) (λ k is. ap test (eqb-true k line is)) (range_with_len 0 (length table))
+    ∙ elim (cases_lt line (length table)) [
+      | inl lt ↦
+          let here : nat_eq (get_or (range_with_len 0 (length table)) line 0) line ≡ true = eq-eqb (get_or (range_with_len 0 (length table)) line 0) line (get_or-range_with_len 0 (length table) line 0 lt ∙ nothing-more line) in
+          ap (λ (b : Bool). test line && b) (list_any_at (λ (x : ℕ). nat_eq x line) (range_with_len 0 (length table)) line 0 (omega (arith, lt, length-range_with_len 0 (length table))) here) ∙ and-true (test line)
+      | inr ge ↦ ap (λ (b : Bool). b && list_any (λ x. nat_eq x line) (range_with_len 0 (length table))) (past-table which table line ge) ∙ sym (past-table which table line ge)
+    ]
   where
-    once : (b : Bool) (rest : Option ℕ) → cond b (Some k) rest ≡ cond b (Some k) (cond b (Some k) rest)
-    once true rest = refl
-    once false rest = refl
+    test : ℕ → Bool
+    test l = meets which (sessions_at table l)
 
-    by : (b : Bool) → nat_eq x k ≡ b → find p (dedup_from nat_eq k xs) ≡ find p (k ∷ xs) → find p (dedup_from nat_eq x xs) ≡ find p (x ∷ xs)
-        → find p (cond b (dedup_from nat_eq k xs) (k ∷ dedup_from nat_eq x xs)) ≡ find p (k ∷ x ∷ xs)
-    by true e here later = here ∙ once (p k) (find p xs) ∙ ap (λ (y : ℕ). cond (p k) (Some k) (cond (p y) (Some y) (find p xs))) (sym (eqb-true x k e))
-    by false e here later = ap (λ (o : Option ℕ). cond (p k) (Some k) o) later
+    nothing-more : (x : ℕ) → 0 + x ≡ x
+    nothing-more x = omega arith
 
-find-dedup : (p : ℕ → Bool) (xs : List ℕ) → find p (dedup nat_eq xs) ≡ find p xs
-find-dedup p [] = refl
-find-dedup p (x ∷ xs) = find-dedup_from p x xs
+-- ---- the walk over them
 
-abbrev pub is_next : (ℕ → Bool) → ℕ → Touch → Bool
-is_next which from touch = nat_le from touch.line && which touch.session
+-- none of the lines before is one of the sessions'
+pub record Walks (sessions : SessionSet) (table : List SessionSet) (from low : ℕ) : Type 0 where
+  pub above : from ≤ low
+  pub none : (k : ℕ) → from ≤ k → k < low → meets sessions (sessions_at table k) ≡ false
 
-find-lines : (which : ℕ → Bool) (from : ℕ) (touches : List Touch) → find (nat_le from) (map (λ touch. touch.line) (filter (of which) touches)) ≡ option_map (λ touch. touch.line) (find (is_next which from) touches)
-find-lines which from [] = refl
-find-lines which from (touch ∷ touches) = by (which touch.session) (find-lines which from touches)
-  where
-    kept : List Touch
-    kept = filter (of which) touches
+pub walks-first : (sessions : SessionSet) (table : List SessionSet) (from : ℕ) → Walks sessions table from from
+walks-first sessions table from = record { above = omega arith; none = λ k ge lt. absurd (omega (arith, ge, lt)) }
 
-    more : Option Touch
-    more = find (is_next which from) touches
+module _ (sessions : SessionSet) (table : List SessionSet) (from low : ℕ) (walks : Walks sessions table from low) where
+  nobody : (line : ℕ) → ((n : ℕ) → is_touched table n line ≡ false) → meets sessions (sessions_at table line) ≡ false
+  nobody line none = meets-apart sessions (sessions_at table line) (λ n here. none n)
 
-    here : (b : Bool) → find (nat_le from) (map (λ touch. touch.line) kept) ≡ option_map (λ touch. touch.line) more
-        → cond b (Some touch.line) (find (nat_le from) (map (λ touch. touch.line) kept)) ≡ option_map (λ touch. touch.line) (cond (b && true) (Some touch) more)
-    here true rest = refl
-    here false rest = rest
+  before : (line : ℕ) → IsNextTouched table low line → (k : ℕ) → from ≤ k → k < line → meets sessions (sessions_at table k) ≡ false
+  before line next k ge lt = elim (cases_lt k low) [ inl earlier ↦ walks.none k ge earlier | inr later ↦ nobody k (next.before k later lt) ]
 
-    past : (b : Bool) → find (nat_le from) (map (λ touch. touch.line) kept) ≡ option_map (λ touch. touch.line) more
-        → find (nat_le from) (map (λ touch. touch.line) kept) ≡ option_map (λ touch. touch.line) (cond (b && false) (Some touch) more)
-    past true rest = rest
-    past false rest = rest
+  pub walks-found : (line : ℕ) → IsNextTouched table low line → meets sessions (sessions_at table line) ≡ true → Some line ≡ find (nat_le from) (lines_touched sessions table)
+  walks-found line next here =
+      sym (find-passing (λ line. meets sessions (sessions_at table line)) from line (length table) 0 (omega arith) (omega (arith, next.within)) (omega (arith, walks.above, next.low)) here (before line next))
 
-    by : (w : Bool) → find (nat_le from) (map (λ touch. touch.line) kept) ≡ option_map (λ touch. touch.line) more
-        → find (nat_le from) (map (λ touch. touch.line) (cond w (touch ∷ kept) kept)) ≡ option_map (λ touch. touch.line) (cond (nat_le from touch.line && w) (Some touch) more)
-    by true rest = here (nat_le from touch.line) rest
-    by false rest = past (nat_le from touch.line) rest
+  pub walks-on : (line : ℕ) → IsNextTouched table low line → meets sessions (sessions_at table line) ≡ false → Walks sessions table from (line + 1)
+  walks-on line next apart = record {
+    above = omega (arith, walks.above, next.low);
+    none = λ k ge lt. elim (cases_eq k line) [
+      | inl same ↦ ap (λ (l : ℕ). meets sessions (sessions_at table l)) same ∙ apart
+      | inr other ↦ before line next k ge (omega (arith, lt, other))
+    ];
+  }
 
--- the first of the lines that isn't below is that of the first entry that isn't
-pub next_line : (which : ℕ → Bool) (from : ℕ) (touches : List Touch) → find (nat_le from) (lines_touched which touches) ≡ option_map (λ touch. touch.line) (find (is_next which from) touches)
-next_line which from touches = find-dedup (nat_le from) (map (λ touch. touch.line) (filter (of which) touches)) ∙ find-lines which from touches
-
-pub next_line_from : (which : ℕ → Bool) (from : ℕ) (touches items : List Touch) (found : Option Touch) → found ≡ find (is_next which from) items → items ≡ touches → option_map (λ touch. touch.line) found ≡ find (nat_le from) (lines_touched which touches)
-next_line_from which from touches items found is same =
-    ap (λ (o : Option Touch). option_map (λ touch. touch.line) o) (is ∙ ap (λ (ts : List Touch). find (is_next which from) ts) same) ∙ sym (next_line which from touches)
-
-pub place_le : (line : ℕ) (touches : List Touch) → position_or_len (λ touch. nat_le line touch.line) touches ≤ length touches
-place_le line touches = prefix_len-le-length _ touches
-
--- one that isn't there goes in at its place
-pub added : (new : Touch) (old first second items : List Touch) (place : ℕ) → first ≡ old → second ≡ old → is_touched first new.session new.line ≡ false
-    → place ≡ position_or_len (λ touch. nat_le new.line touch.line) second → items ≡ insert old place new → items ≡ with_touch new old
-added new old first second items place one two absent at is =
-    let there : is_touched old new.session new.line ≡ false = subst (λ (ts : List Touch). is_touched ts new.session new.line ≡ false) one absent in
-    is ∙ ap (λ (k : ℕ). insert old k new) (at ∙ ap (λ (ts : List Touch). position_or_len (λ (touch : Touch). nat_le new.line touch.line) ts) two)
-    ∙ put_in_place new old ∙ sym (ap (λ (b : Bool). cond b old (put_in new old)) there)
-
--- ---- which lines are met
-
-any-dedup_from : (p : ℕ → Bool) (k : ℕ) (xs : List ℕ) → list_any p (dedup_from nat_eq k xs) ≡ (p k || list_any p xs)
-any-dedup_from p k [] = refl
-any-dedup_from p k (x ∷ xs) = by (nat_eq x k) refl (any-dedup_from p k xs) (any-dedup_from p x xs)
-  where
-    once : (b rest : Bool) → (b || rest) ≡ (b || (b || rest))
-    once true rest = refl
-    once false rest = refl
-
-    by : (b : Bool) → nat_eq x k ≡ b → list_any p (dedup_from nat_eq k xs) ≡ (p k || list_any p xs) → list_any p (dedup_from nat_eq x xs) ≡ (p x || list_any p xs)
-        → list_any p (cond b (dedup_from nat_eq k xs) (k ∷ dedup_from nat_eq x xs)) ≡ (p k || (p x || list_any p xs))
-    by true e here later = here ∙ once (p k) (list_any p xs) ∙ ap (λ (y : ℕ). p k || (p y || list_any p xs)) (sym (eqb-true x k e))
-    by false e here later = ap (λ (b : Bool). p k || b) later
-
-any-dedup : (p : ℕ → Bool) (xs : List ℕ) → list_any p (dedup nat_eq xs) ≡ list_any p xs
-any-dedup p [] = refl
-any-dedup p (x ∷ xs) = any-dedup_from p x xs
-
-any-lines : (p which : ℕ → Bool) (touches : List Touch) → list_any p (map (λ touch. touch.line) (filter (of which) touches)) ≡ list_any (λ touch. which touch.session && p touch.line) touches
-any-lines p which [] = refl
-any-lines p which (touch ∷ touches) = by (which touch.session) (any-lines p which touches)
-  where
-    kept : List Touch
-    kept = filter (of which) touches
-
-    by : (w : Bool) → list_any p (map (λ touch. touch.line) kept) ≡ list_any (λ touch. which touch.session && p touch.line) touches
-        → list_any p (map (λ touch. touch.line) (cond w (touch ∷ kept) kept)) ≡ ((w && p touch.line) || list_any (λ touch. which touch.session && p touch.line) touches)
-    by true rest = ap (λ (b : Bool). p touch.line || b) rest
-    by false rest = rest
-
--- one of the lines that sessions touch passes where one of them touches a line that does
-pub lines_touched-any : (p which : ℕ → Bool) (touches : List Touch) → list_any p (lines_touched which touches) ≡ list_any (λ touch. which touch.session && p touch.line) touches
-lines_touched-any p which touches = any-dedup p (map (λ touch. touch.line) (filter (of which) touches)) ∙ any-lines p which touches
-
--- each line of one of the sessions is among them
-pub lines_touched-member : (which : ℕ → Bool) (touches : List Touch) (session line : ℕ) → which session ≡ true → is_touched touches session line ≡ true → list_any (nat_eq line) (lines_touched which touches) ≡ true
-lines_touched-member which touches session line is there = lines_touched-any (nat_eq line) which touches ∙ each touches there
-  where
-    here : (touch : Touch) → is_it touch session line ≡ true → (which touch.session && nat_eq line touch.line) ≡ true
-    here touch e =
-        let parts = and_parts (nat_eq touch.session session) (nat_eq touch.line line) e in
-        and_from _ _ (ap which (eqb-true touch.session session parts.0) ∙ is) (eq-eqb line touch.line (sym (eqb-true touch.line line parts.1)))
-
-    each : (touches : List Touch) → is_touched touches session line ≡ true → list_any (λ touch. which touch.session && nat_eq line touch.line) touches ≡ true
-    each [] there = absurd (cc there)
-    each (touch ∷ touches) there = by (is_it touch session line) refl there (each touches)
-      where
-        by : (b : Bool) → is_it touch session line ≡ b → (b || is_touched touches session line) ≡ true → (is_touched touches session line ≡ true → list_any (λ touch. which touch.session && nat_eq line touch.line) touches ≡ true)
-            → ((which touch.session && nat_eq line touch.line) || list_any (λ touch. which touch.session && nat_eq line touch.line) touches) ≡ true
-        by true e there rest = or_left _ _ (here touch e)
-        by false e there rest = or_right _ _ (rest there)
+  pub walks-past : IsUntouchedFrom table low → None ≡ find (nat_le from) (lines_touched sessions table)
+  walks-past none =
+      sym (find-none (λ line. meets sessions (sessions_at table line)) from (length table) 0 (λ k ge. elim (cases_lt k low) [ inl earlier ↦ walks.none k ge earlier | inr later ↦ nobody k (none k later) ]))

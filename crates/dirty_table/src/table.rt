@@ -1,103 +1,129 @@
+use crate::line_set::LineSet;
 use crate::sessions::SessionSet;
-use crate::touches::{Touch, add, first, is_touched};
 use base::fault::Fault;
 use std::alloc::Global;
 use std::marker::Model;
 
-/// The lines that the transaction of each session touches, by rising line: what its writes fill and end, and so what has to
-/// be flushed and fenced before a record may cover them. A session is promised room for its lines before it touches them.
+/// By line the sessions whose transactions touch it: what their writes fill and end, and so what has to be flushed and fenced
+/// before a record may cover them.
 #[derive(Drop)]
 pub struct DirtyTable {
-    touches: Vec<Touch>,
-    // How many more lines the session of each number has room for, and all of them together.
-    promised: [u16; 64],
-    room: usize,
+    sessions: Vec<SessionSet>,
+    // The lines that some session touches.
+    touched: LineSet,
 }
 
 impl Model for DirtyTable {
-    ghost use Rattle.std.specs.Prelude.{◌≡◌, ◌+◌, ◌≤◌, length, vec_len, vec_capacity, IsTrue};
-    ghost use Rattle.std.specs.List.{sum};
-    ghost use Rattle.dirty_table.specs.Touches.{are_in_order, Table};
+    ghost use Rattle.std.specs.Prelude.{List};
+    ghost use Rattle.dirty_table.specs.declared.sessions.SessionSet.{SessionSet as Sessions};
+    ghost use Rattle.dirty_table.specs.Touches.{IsNoted};
 
-    ghost Value = { Table };
+    ghost Value = { List Sessions };
 
-    ghost view = { λ t. record { touches = t.touches.items; promised = t.promised } };
+    ghost view = { λ t. t.sessions.items };
 
-    ghost invariant = { λ t. IsTrue (are_in_order t.touches.items) × (length t.promised ≡ 64) × (sum t.promised ≡ t.room) × (vec_len t.touches + t.room ≤ vec_capacity t.touches) };
+    ghost invariant = { λ t. IsNoted t.sessions.items t.touched };
 }
 
 impl DirtyTable {
-    ghost use Rattle.std.specs.Prelude.{ℕ, ◌≡◌, ◌<◌, nat_le, find, [], IsTrue, IfErr, OnOk, OnErr};
+    ghost use Rattle.std.specs.Prelude.{ℕ, ◌≡◌, ◌^◌, ◌<◌, ◌≤◌, ◌&&◌, not, false, nat_eq, nat_le, find, length, [], ◌∷◌, IsTrue, IfErr, IfOk, IfSome, IfNone};
     ghost use Rattle.base.specs.Records.{are_rising};
     ghost use Rattle.base.specs.declared.fault.Fault.TheVariants.{OutOfMemory};
-    ghost use Rattle.dirty_table.specs.Touches.{has, is_touched, lines_touched, promised_to, Forgets, Promises, TouchesPromised};
+    ghost use Rattle.dirty_table.specs.Touches.{has, is_touched, lines_touched, meets, sessions_at, Forgets, Touches, IsNextTouched, IsUntouchedFrom};
 
-    /// No session touches a line, and none has room for one.
-    pub fn new(alloc: Global) -> DirtyTable
-        ensures touches { result.touches ≡ [] }
-        ensures promised { (n : ℕ) → promised_to result n ≡ 0 }
+    /// No session touches a line, of so many.
+    pub fn new(alloc: Global, lines: usize) -> Result<DirtyTable, Fault>
+        requires { lines < 2 ^ 62 }
+        ensures lines { IfOk result (λ table. length table ≡ lines) }
+        ensures touches { IfOk result (λ table. (n line : ℕ) → is_touched table n line ≡ false) }
+        ensures fault { IfErr result (λ fault. fault ≡ OutOfMemory) }
     {
-        DirtyTable {
-            touches: Vec::new(alloc),
-            promised: [0; 64],
-            room: 0,
-        }
+        let Ok(sessions) = vec![in alloc; SessionSet::none(); lines] else {
+            return Err(Fault::OutOfMemory);
+        };
+        let Ok(touched) = LineSet::new(alloc, lines) else {
+            return Err(Fault::OutOfMemory);
+        };
+        Ok(DirtyTable { sessions, touched })
     }
 
     /// Whether the session touches the line.
     pub fn is_touched(&self, session: u8, line: u64) -> bool
-        ensures { result ≡ is_touched self.now.touches session line }
+        ensures { result ≡ is_touched self.now session line }
     {
-        is_touched(self.touches.as_slice(), session, line)
-    }
-
-    /// Makes room for so many more lines of the session, if it has less. The room of others stays theirs.
-    pub fn promise(&mut self, session: u8, lines: u16) -> Result<(), Fault>
-        requires { session < 64 }
-        ensures ok { OnOk result (Promises session lines self.old self.new) }
-        ensures fault { IfErr result (λ fault. fault ≡ OutOfMemory) }
-        ensures err { OnErr result (self.new ≡ self.old) }
-    {
-        let promised = self.promised[session as usize];
-        if promised < lines {
-            let room = self.room - promised as usize + lines as usize;
-            if self.touches.reserve(room).is_err() {
-                return Err(Fault::OutOfMemory);
-            }
-            self.promised[session as usize] = lines;
-            self.room = room;
+        match self.sessions.get(line as usize) {
+            Some(sessions) => sessions.contains(session),
+            None => false,
         }
-        Ok(())
     }
 
-    /// The session touches the line too, in room that it was promised.
+    /// The session touches the line too.
+    #[inline(always)]
     pub fn touch(&mut self, session: u8, line: u64)
-        requires { 0 < promised_to self.old session }
-        ensures { TouchesPromised session line self.old self.new }
+        requires session { session < 64 }
+        requires line { line < length self.old }
+        ensures { Touches session (line ∷ []) self.old self.new }
     {
-        self.promised[session as usize] -= 1;
-        self.room -= 1;
-        add(&mut self.touches, Touch { line, session });
+        self.sessions[line as usize].insert(session);
+        self.touched.insert(line as usize);
     }
 
-    /// These sessions touch no line any more. The room that was promised stays.
+    /// These sessions touch no line any more.
     pub fn forget(&mut self, sessions: &SessionSet)
-        ensures touches { Forgets sessions.now self.old.touches self.new.touches }
-        ensures promised { self.new.promised ≡ self.old.promised }
+        ensures { Forgets sessions.now self.old self.new }
     {
-        self.touches
-            .retain(|touch| !sessions.contains(touch.session));
+        let mut from = 0;
+        while let Some(line) = self.next_touched(from) {
+            self.forget_line(line, sessions);
+            from = line + 1;
+        }
+    }
+
+    // These sessions don't touch the line any more.
+    #[inline(always)]
+    fn forget_line(&mut self, line: usize, sessions: &SessionSet)
+        requires { line < length self.old }
+        ensures touched { (n k : ℕ) → is_touched self.new n k ≡ (is_touched self.old n k && not (nat_eq k line && has sessions.now n)) }
+        ensures size { length self.new ≡ length self.old }
+    {
+        self.sessions[line].remove_all(sessions);
+        if self.sessions[line].is_empty() {
+            self.touched.remove(line);
+        }
+    }
+
+    // The lowest line, from this one on, that may be touched.
+    #[inline(always)]
+    fn next_touched(&self, from: usize) -> Option<usize>
+        ensures some { IfSome result (IsNextTouched self.now from) }
+        ensures none { IfNone result (IsUntouchedFrom self.now from) }
+    {
+        self.touched.lowest(from)
     }
 
     /// The lowest line, from this one on, that one of the sessions touches: of their lines, which are listed by rising line
-    /// and each once, the first that isn't below. The hint is for speed alone, and may be any number: a walk over all lines
-    /// begins it with 0, and passes it on.
+    /// and each once, the first that isn't below.
     #[inline(always)]
-    pub fn next(&self, sessions: &SessionSet, from: u64, hint: &mut usize) -> Option<u64>
-        ensures line { result ≡ find (nat_le from) (lines_touched (has sessions.now) self.now.touches) }
-        ensures rising { IsTrue (are_rising (lines_touched (has sessions.now) self.now.touches)) }
+    pub fn next(&self, sessions: &SessionSet, from: u64) -> Option<u64>
+        ensures line { result ≡ find (nat_le from) (lines_touched sessions.now self.now) }
+        ensures rising { IsTrue (are_rising (lines_touched sessions.now self.now)) }
     {
-        let touch = first(self.touches.as_slice(), sessions, from, hint)?;
-        Some(touch.line)
+        let mut low = from as usize;
+        while let Some(line) = self.next_touched(low) {
+            if self.meets(line, sessions) {
+                return Some(line as u64);
+            }
+            low = line + 1;
+        }
+        None
+    }
+
+    // Whether one of the sessions touches the line.
+    #[inline(always)]
+    fn meets(&self, line: usize, sessions: &SessionSet) -> bool
+        requires { line < length self.now }
+        ensures { result ≡ meets sessions.now (sessions_at self.now line) }
+    {
+        self.sessions[line].meets(sessions)
     }
 }

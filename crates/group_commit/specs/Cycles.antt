@@ -10,13 +10,14 @@ use Rattle.base.specs.Records.{Record}
 use Rattle.pmem.specs.Trace.{Operation, flush_op, fence_op}
 use Rattle.log_area.specs.Stages.{reached_by}
 use Rattle.log_area.specs.Writings.{Progress, advanced, operation_of}
+use Rattle.dirty_table.specs.declared.sessions.SessionSet.{SessionSet}
 use Rattle.group_commit.specs.declared.stage.CycleStage.{CycleStage}
 use Rattle.group_commit.specs.declared.stage.CycleStage.TheVariants.{FlushLines, WriteRecord}
 
 -- a batch, its sessions, the writing of its record, and what comes next
 pub record Cycling : Type 0 where
   pub batch : Batch
-  pub sessions : List Bool
+  pub sessions : SessionSet
   pub writing : Progress
   pub stage : CycleStage
 

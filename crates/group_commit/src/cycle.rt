@@ -22,8 +22,6 @@ pub struct Cycle {
     sessions: SessionSet,
     writing: Writing,
     stage: CycleStage,
-    // A hint for the table: where the walk over the lines has come to.
-    hint: usize,
 }
 
 impl Model for Cycle {
@@ -129,7 +127,6 @@ impl Cycle {
                 flushed: 0,
                 from: 0,
             },
-            hint: 0,
         }
     }
 
@@ -151,37 +148,35 @@ impl Cycle {
     ) -> Result<Option<Stage>, Fault>
         requires unfinished { self.old.writing.stage ≢ Done }
         requires size { (D.state device.old).words ≡ total_words self.old.writing.layout }
-        requires lines { (line : ℕ) → line_from (lines_touched (has self.old.sessions) table.now.touches) self.old.stage ≡ Some line → 8 * line < (D.state device.old).words }
-        ensures operation { OnOk result (D.state device.new ≡ applied (operation_in (lines_touched (has self.old.sessions) table.now.touches) self.old) (D.state device.old)) }
-        ensures reached { IfOk result (λ stage. stage ≡ reached_in (lines_touched (has self.old.sessions) table.now.touches) self.old) }
-        ensures ok { OnOk result (self.new ≡ ticked_in (lines_touched (has self.old.sessions) table.now.touches) self.old) }
+        requires lines { (line : ℕ) → line_from (lines_touched self.old.sessions table.now) self.old.stage ≡ Some line → 8 * line < (D.state device.old).words }
+        ensures operation { OnOk result (D.state device.new ≡ applied (operation_in (lines_touched self.old.sessions table.now) self.old) (D.state device.old)) }
+        ensures reached { IfOk result (λ stage. stage ≡ reached_in (lines_touched self.old.sessions table.now) self.old) }
+        ensures ok { OnOk result (self.new ≡ ticked_in (lines_touched self.old.sessions table.now) self.old) }
         ensures failure { OnErr result (D.state device.new ≡ failed (D.state device.old)) }
         ensures err { OnErr result (self.new ≡ self.old) }
         ensures fault { IfErr result (λ fault. fault ≡ Fault.Device) }
 
         // The lines that it walks are in rising order.
-        ensures rising { (flushed from : ℕ) → self.old.stage ≡ FlushLines flushed from → IsTrue (are_rising (lines_touched (has self.old.sessions) table.now.touches)) }
+        ensures rising { (flushed from : ℕ) → self.old.stage ≡ FlushLines flushed from → IsTrue (are_rising (lines_touched self.old.sessions table.now)) }
     {
         match self.stage {
-            CycleStage::FlushLines { flushed, from } => {
-                match table.next(&self.sessions, from, &mut self.hint) {
-                    Some(line) => {
-                        let words = device.words();
-                        prove!((line as usize) < words);
-                        device.flush(Actor::COMMITTER, line as usize)?;
-                        self.stage = CycleStage::FlushLines {
-                            flushed: flushed + 1,
-                            from: line + 1,
-                        };
-                        Ok(Some(Stage::LineFlushed(flushed)))
-                    }
-                    None => {
-                        device.fence(Actor::COMMITTER)?;
-                        self.stage = CycleStage::WriteRecord;
-                        Ok(Some(Stage::LinesFenced))
-                    }
+            CycleStage::FlushLines { flushed, from } => match table.next(&self.sessions, from) {
+                Some(line) => {
+                    let words = device.words();
+                    prove!((line as usize) < words);
+                    device.flush(Actor::COMMITTER, line as usize)?;
+                    self.stage = CycleStage::FlushLines {
+                        flushed: flushed + 1,
+                        from: line + 1,
+                    };
+                    Ok(Some(Stage::LineFlushed(flushed)))
                 }
-            }
+                None => {
+                    device.fence(Actor::COMMITTER)?;
+                    self.stage = CycleStage::WriteRecord;
+                    Ok(Some(Stage::LinesFenced))
+                }
+            },
             CycleStage::WriteRecord => self.writing.tick(device),
         }
     }

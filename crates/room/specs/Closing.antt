@@ -9,8 +9,8 @@ use Rattle.pmem.specs.Device.{Device, MayLeave}
 use Rattle.pmem.specs.Words.{LeavesOnly, HasNoFailure}
 use Rattle.log_area.specs.declared.stage.WritingStage.{WritingStage}
 use Rattle.log_area.specs.Stages.{operations_before}
-use Rattle.dirty_table.specs.declared.touches.Touch.{Touch}
-use Rattle.dirty_table.specs.Touches.{has, lines_touched}
+use Rattle.dirty_table.specs.declared.sessions.SessionSet.{SessionSet}
+use Rattle.dirty_table.specs.Touches.{lines_touched}
 use Rattle.group_commit.specs.declared.stage.CycleStage.{CycleStage}
 use Rattle.group_commit.specs.declared.stage.CycleStage.TheVariants.{FlushLines, WriteRecord}
 use Rattle.group_commit.specs.Cycles.{Cycling}
@@ -59,9 +59,9 @@ left_at lines writing (FlushLines flushed from) = 41 + (lines - flushed)
 left_at lines writing WriteRecord = 40 - operations_before writing
 
 -- the same of a cycle, if there is one
-abbrev pub ticks_left : List Touch → Option Cycling → ℕ
+abbrev pub ticks_left : List SessionSet → Option Cycling → ℕ
 ticks_left dirty None = 0
-ticks_left dirty (Some cycle) = left_at (length (lines_touched (has cycle.sessions) dirty)) cycle.writing.stage cycle.stage
+ticks_left dirty (Some cycle) = left_at (length (lines_touched cycle.sessions dirty)) cycle.writing.stage cycle.stage
 
 -- ---- what is drawn
 

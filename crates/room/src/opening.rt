@@ -1,5 +1,5 @@
 //! An opening takes all its memory before it changes the device, so that want of memory leaves the image as it was: the index and the
-//! slots are made from what was read, and the record is written last.
+//! slots are made from what was read, the table of lines from the device's length, and the record is written last.
 
 ghost use Rattle.std.specs.Prelude.{◌≡◌, ℕ, List, map, IfOk, IfErr};
 ghost use Rattle.base.specs.Commits.{Commit};
@@ -15,6 +15,7 @@ use crate::room::Room;
 use crate::volatile::VolatileState;
 use base::fault::Fault;
 use base::key::Key;
+use dirty_table::DirtyTable;
 use index::{Entry, Index};
 use pmem::Pmem;
 use recovery::{LiveSlot, examine};
@@ -103,12 +104,24 @@ fn begin<R: Threads + Sync, D: Pmem + Sync>(
         Ok(slots) => slots,
         Err(_) => return Err(Fault::OutOfMemory),
     };
+    let dirty = match DirtyTable::new(alloc, device.words() / 8 + 1) {
+        Ok(dirty) => dirty,
+        Err(_) => return Err(Fault::OutOfMemory),
+    };
     let life = match found.open(device) {
         Ok(life) => life,
         Err(fault) => return Err(fault),
     };
     let index = Index::of(alloc, entries, life.places);
-    let sessions = Sessions::open(alloc, index, slots, life.geometry, life.ruling, life.next);
+    let sessions = Sessions::open(
+        alloc,
+        index,
+        slots,
+        dirty,
+        life.geometry,
+        life.ruling,
+        life.next,
+    );
     Ok(VolatileState::new(sessions))
 }
 

@@ -90,7 +90,7 @@ impl VolatileState {
         requires hand { IsSome self.old.cycle }
         requires shown { ∥ ShowsSome self.old (D.state device.old) ∥₁ }
         ensures step { Steps self.old self.new (D.state device.old) (D.state device.new) Commit (as_reply result self.new.covered) }
-        ensures closer { ((fault : Fault) → result ≢ Err fault) → ticks_left self.new.sessions.dirty.touches self.new.cycle < ticks_left self.old.sessions.dirty.touches self.old.cycle }
+        ensures closer { ((fault : Fault) → result ≢ Err fault) → ticks_left self.new.sessions.dirty self.new.cycle < ticks_left self.old.sessions.dirty self.old.cycle }
     {
         let Some(cycle) = &mut self.cycle else {
             unreachable!()

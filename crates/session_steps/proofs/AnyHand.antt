@@ -57,7 +57,7 @@ module _ (s : Sessions) (h : Hidden) (hand : Option Hand) (failed : Bool) (a : A
       drawn = (a.index key).drawn;
     };
     lines = record { own = a.lines.own; none = a.lines.none };
-    room = a.room;
+    sized = a.sized;
   }
 
 -- the sessions show the state with that batch in hand, or that mark, on a device that upholds it

@@ -21,5 +21,5 @@ failed-agrees s h agrees = record {
   counted = agrees.counted;
   index = λ key. let e = agrees.index key in record { live = e.live; last = e.last; newest = e.newest; only = λ slot at. let has = e.only slot at in record { within = has.within; timestamp = has.timestamp; held = has.held }; drawn = e.drawn };
   lines = record { own = agrees.lines.own; none = agrees.lines.none };
-  room = agrees.room;
+  sized = agrees.sized;
 }

@@ -1,3 +1,2 @@
 -- Lemmas on puts.
-pub mod LineRoom
 pub mod Steps

@@ -1,12 +1,11 @@
 -- What a draw asks, and what it touches.
-use Rattle.std.specs.Prelude.{◌≡◌, ℕ, ◌+◌, ◌/◌, Bool, false, ◌&&◌, nat_eq, List, [], ◌∷◌, map, ◌++◌, find, Option, Some, None}
+use Rattle.std.specs.Prelude.{ℕ, ◌+◌, ◌/◌, Bool, ◌&&◌, List, [], ◌∷◌, map, ◌++◌, find, Option, Some, None}
 use Rattle.std.specs.List.{list_all, range_with_len}
 use Rattle.std.specs.Option.{option_map_or}
 use Rattle.base.specs.declared.key.Key.{Key}
 use Rattle.base.specs.Layout.{Layout, slot_start, version_lines}
 use Rattle.snapshot.specs.Snapshots.{Seen}
 use Rattle.txn.specs.declared.write.Write.{Write}
-use Rattle.dirty_table.specs.Touches.{Table, Touches, promised_to}
 use Rattle.index.specs.declared.entry.Entry.{Entry}
 use Rattle.index.specs.Entries.{entry_at, live_of}
 use Rattle.session_laws.specs.Sees.{is_unseen}
@@ -31,11 +30,6 @@ touched_lines a entries write = option_map_or (own_lines a) write.slot [] ++ opt
 -- their slots are among the layout's
 abbrev pub fits_touched : Layout → List (Key × Entry) → List Write → Bool
 fits_touched a entries writes = list_all (λ write. fits_slot a.slots write.slot && fits_slot a.slots (live_of (entry_at entries write.key))) writes
-
--- the session touches these lines too; what others touch stays, and the room that they were promised
-pub record TouchesLines (session : ℕ) (lines : List ℕ) (old new : Table) : Type 0 where
-  pub touches : Touches session lines old.touches new.touches
-  pub others : (n : ℕ) → nat_eq n session ≡ false → promised_to new n ≡ promised_to old n
 
 -- the entry of a key that the commit of this timestamp writes, or doesn't
 abbrev pub drawn_entry : Option Write → ℕ → Entry → Entry

@@ -1,5 +1,5 @@
 -- Slots that are freed.
-use Rattle.std.specs.Prelude.{◌≡◌, ℕ, ◌+◌, ◌*◌, ◌≤◌, Bool, true, false, ◌&&◌, nat_lt, nat_le, is_none, List, length, slice_get, slice_set, if◌then◌else◌, Option, Some, None, Contains}
+use Rattle.std.specs.Prelude.{◌≡◌, ℕ, Bool, true, false, ◌&&◌, nat_lt, nat_le, is_none, List, length, slice_get, slice_set, Option, Some, None, Contains}
 use Rattle.std.specs.List.{list_all}
 use Rattle.std.specs.Option.{option_and_then}
 use Rattle.base.specs.declared.key.Key.{Key}
@@ -37,15 +37,6 @@ given (Some slot) free = slice_set free slot true
 -- the writes are as many as they may be, and none is of the key
 abbrev pub is_full_of : Key → List Write → Bool
 is_full_of key writes = is_none (write_of key writes) && nat_le 32 (length writes)
-
--- how many writes there are with one of the key
-abbrev pub count_with : Key → List Write → ℕ
-count_with key writes = if is_none (write_of key writes) then length writes + 1 else length writes
-
--- there is room for the lines of a transaction that writes the key too
-abbrev pub HasLinesWith : Key → ℕ → Option Transaction → Type 0
-HasLinesWith key room (Some (Active snapshot writes)) = 3 * count_with key writes ≤ room
-HasLinesWith key room _ = Unit {0}
 
 -- the session is Active, may write the key, and has this slot for it, if any
 pub record IsReady (transactions : List (Option Transaction)) (session : ℕ) (key : Key) (own : Option ℕ) : Type 0 where

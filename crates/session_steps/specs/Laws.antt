@@ -7,7 +7,7 @@ use Rattle.base.specs.Records.{are_rising}
 use Rattle.pmem.specs.Device.{Device}
 use Rattle.device_invariant.specs.Upholds.{Upholds}
 use Rattle.txn.specs.declared.drawn.DrawnCommit.{DrawnCommit}
-use Rattle.dirty_table.specs.declared.touches.Touch.{Touch}
+use Rattle.dirty_table.specs.declared.sessions.SessionSet.{SessionSet}
 use Rattle.dirty_table.specs.Touches.{has, lines_touched}
 use Rattle.session_steps.specs.declared.sessions.Sessions.{Sessions}
 use Rattle.session_steps.specs.Shows.{plain_drawn, line_numbers, HoldsLines, Shows}
@@ -21,5 +21,5 @@ pub record ShowsAnyHand : Type 0 where
 -- touch
 abbrev pub TableHasLines : Type 0
 TableHasLines =
-    (q : State) (drawn : List DrawnCommit) (dirty : List Touch) (sessions : List Bool) (test : ℕ → Bool) → q.drawn ≡ map plain_drawn drawn → HoldsLines q drawn dirty → IsTrue (are_rising (lines_touched (has sessions) dirty))
-    → ((n : ℕ) → has sessions n ≡ list_any (λ d. nat_eq d.session n && test d.timestamp) drawn) → lines_touched (has sessions) dirty ≡ line_numbers q (filter (λ commit. test commit.timestamp) (drawn_of q))
+    (q : State) (drawn : List DrawnCommit) (dirty : List SessionSet) (sessions : SessionSet) (test : ℕ → Bool) → q.drawn ≡ map plain_drawn drawn → HoldsLines q drawn dirty → IsTrue (are_rising (lines_touched sessions dirty))
+    → ((n : ℕ) → has sessions n ≡ list_any (λ d. nat_eq d.session n && test d.timestamp) drawn) → lines_touched sessions dirty ≡ line_numbers q (filter (λ commit. test commit.timestamp) (drawn_of q))

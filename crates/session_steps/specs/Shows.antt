@@ -4,6 +4,7 @@ use Rattle.std.specs.List.{list_any}
 use Rattle.std.specs.Option.{option_map}
 use Rattle.base.specs.declared.key.Key.{Key}
 use Rattle.base.specs.Commits.{Commit, writes_key}
+use Rattle.base.specs.Layout.{total_words}
 use Rattle.machine.specs.Machine.{State, Session, Active as Reads, Drew, WroteNothing, Drawn as PlainDrawn, Hand, Version, Writer, BySession, ByCommit, drawn_at}
 use Rattle.pmem.specs.Device.{Device}
 use Rattle.txn.specs.declared.drawn.DrawnCommit.{DrawnCommit}
@@ -13,8 +14,8 @@ use Rattle.txn.specs.declared.write.Write.{Write}
 pub use Rattle.txn.specs.DrawnCommits.{plain_drawn}
 use Rattle.txn.specs.Transactions.{transaction_at}
 use Rattle.txn.specs.WriteSets.{plain_writes}
-use Rattle.dirty_table.specs.declared.touches.Touch.{Touch}
-use Rattle.dirty_table.specs.Touches.{is_touched, promised_to}
+use Rattle.dirty_table.specs.declared.sessions.SessionSet.{SessionSet}
+use Rattle.dirty_table.specs.Touches.{is_touched}
 use Rattle.index.specs.declared.entry.Entry.{Entry}
 use Rattle.index.specs.Entries.{entry_at, has_room, live_of}
 use Rattle.state_invariant.specs.Kept.{Origin, commits_of_life, version_by}
@@ -101,14 +102,9 @@ abbrev pub line_numbers : State → List Commit → List ℕ
 line_numbers q commits = map (line_number q.layout) (lines_in q commits)
 
 -- the dirty table has for each drawn commit its lines, under its session's number, and no others
-pub record HoldsLines (q : State) (drawn : List DrawnCommit) (dirty : List Touch) : Type 0 where
+pub record HoldsLines (q : State) (drawn : List DrawnCommit) (dirty : List SessionSet) : Type 0 where
   pub own : All (λ d. (line : ℕ) → is_touched dirty d.session line ≡ list_any (λ l. nat_eq l line) (line_numbers q ((plain_drawn d).commit ∷ []))) drawn
   pub none : (n line : ℕ) → has_drawn_by drawn n ≡ false → is_touched dirty n line ≡ false
-
--- there is room for the lines of each write: two of the version that it makes, and one of that which it ends
-abbrev pub HasLines : ℕ → Option Transaction → Type 0
-HasLines room (Some (Active snapshot writes)) = 3 * length writes ≤ room
-HasLines room _ = Unit {0}
 
 -- a drawn commit is its session's, and its writes have their slots, and their keys room in the index
 pub record HoldsDrawn (s : Sessions) (q : State) (d : DrawnCommit) : Type 0 where
@@ -123,8 +119,8 @@ pub record Agrees (s : Sessions) (o : Origin) (seen : ℕ → ℕ) (q : State) :
   pub free : (slot : ℕ) → slot < q.layout.slots → slice_get s.slots slot ≡ Some (is_none (q.held slot))
   pub counted : length s.slots ≡ q.layout.slots
   pub index : (key : Key) → HoldsEntry o q key (entry_at s.index key)
-  pub lines : HoldsLines q s.drawn.commits s.dirty.touches
-  pub room : (n : ℕ) → HasLines (promised_to s.dirty n) (transaction_at s.transactions n)
+  pub lines : HoldsLines q s.drawn.commits s.dirty
+  pub sized : total_words q.layout ≤ 8 * length s.dirty
 
 -- the sessions show the state on the device
 pub record Shows (s : Sessions) (device : Device) (q : State) : Type 0 where

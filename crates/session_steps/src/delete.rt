@@ -2,7 +2,7 @@
 //! in its begin, so nobody reads it, and it is free without an operation.
 
 use crate::active::{active_in, is_full_for};
-use crate::giving::{give, lines_with, own_slot};
+use crate::giving::{give, own_slot};
 use crate::sessions::Sessions;
 use base::fault::Fault;
 use base::key::Key;
@@ -25,10 +25,6 @@ impl Sessions {
         };
         if is_full_for(active.writes, key) {
             return Err(Fault::WriteSetFull);
-        }
-        match self.dirty.promise(session, lines_with(active.writes, key)) {
-            Ok(()) => {}
-            Err(fault) => return Err(fault),
         }
         give(&mut self.slots, own_slot(active.writes, key));
         let deletion = Write {

@@ -1,5 +1,5 @@
-ghost use Rattle.std.specs.Prelude.{◌≡◌, ◌*◌, IsTrue, length};
-ghost use Rattle.session_steps.specs.Giving.{fits_slot, fits_writes, given, own_of, count_with, GivesBack};
+ghost use Rattle.std.specs.Prelude.{◌≡◌, IsTrue, length};
+ghost use Rattle.session_steps.specs.Giving.{fits_slot, fits_writes, given, own_of, GivesBack};
 
 use base::SlotNo;
 use base::key::Key;
@@ -36,19 +36,5 @@ pub fn own_slot(writes: &WriteSet, key: Key) -> Option<SlotNo>
     match writes.find(key) {
         Some(write) => write.slot,
         None => None,
-    }
-}
-
-/// How many lines a transaction may touch that writes the key too: for each write two of the version that it makes, and one of
-/// that which it ends.
-#[inline(always)]
-pub fn lines_with(writes: &WriteSet, key: Key) -> u16
-    ensures { result ≡ 3 * count_with key writes.now }
-{
-    let len = writes.len() as u16;
-    if writes.find(key).is_none() {
-        3 * (len + 1)
-    } else {
-        3 * len
     }
 }

@@ -1,4 +1,6 @@
-ghost use Rattle.std.specs.Prelude.{◌≡◌, length};
+ghost use Rattle.std.specs.Prelude.{ℕ, ◌≡◌, ◌*◌, ◌≤◌, false, length};
+ghost use Rattle.base.specs.Layout.{total_words};
+ghost use Rattle.dirty_table.specs.Touches.{is_touched};
 ghost use Rattle.pmem.specs.Words.{image_of};
 ghost use Rattle.session_steps.specs.Opening.{HasFound};
 
@@ -18,17 +20,20 @@ impl Sessions {
     ghost use Rattle.pmem.specs.Device.{Device, IsOrderly};
     ghost use Rattle.session_steps.specs.Opening.{ShowsOpened};
 
-    /// The sessions of a life that begins on an opened device, with the index of its slots and those that are free: none is open. It
-    /// takes no memory.
+    /// The sessions of a life that begins on an opened device, with the index of its slots, those that are free, and a table of its
+    /// lines that nobody touches: none is open. It takes no memory.
     pub fn open(
         alloc: Global,
         index: Index,
         slots: SlotAlloc,
+        dirty: DirtyTable,
         geometry: Geometry,
         ruling: Record,
         next: Ts,
     ) -> Sessions
         requires slots { length slots ≡ geometry.slots }
+        requires untouched { (n line : ℕ) → is_touched dirty n line ≡ false }
+        requires sized { total_words geometry ≤ 8 * length dirty }
         ensures { (device : Device) → IsOrderly device → HasFound (image_of device) slots geometry.slots index → ShowsOpened result device geometry ruling next slots }
     {
         Sessions {
@@ -40,7 +45,7 @@ impl Sessions {
             transactions: Transactions::new(alloc),
             drawn: DrawnCommits::new(alloc),
             index,
-            dirty: DirtyTable::new(alloc),
+            dirty,
             slots,
             collector: Collector::new(),
             alloc,

@@ -6,7 +6,7 @@
 ghost use Rattle.std.specs.Prelude.{◌≡◌, None, Some};
 
 use crate::active::{active_in, is_full_for};
-use crate::giving::{lines_with, own_slot};
+use crate::giving::own_slot;
 use crate::sessions::Sessions;
 use base::SlotNo;
 use base::actor::Actor;
@@ -22,13 +22,11 @@ impl Sessions {
     ghost use Rattle.base.specs.Layout.{row_limit};
     ghost use Rattle.base.specs.declared.step.SessionReply.TheVariants.{Done};
     ghost use Rattle.base.specs.declared.step.SessionStep.TheVariants.{Put};
-    ghost use Rattle.dirty_table.specs.Touches.{promised_to};
     ghost use Rattle.index.specs.Entries.{entry_at, head_of};
     ghost use Rattle.pmem.specs.Words.{value_of};
     ghost use Rattle.slot_alloc.specs.Free.{lowest_free};
-    ghost use Rattle.txn.specs.Transactions.{transaction_at};
     ghost use Rattle.version_slot.specs.Words.{IsVersion, slot_at};
-    ghost use Rattle.session_steps.specs.Giving.{IsReady, HasLinesWith};
+    ghost use Rattle.session_steps.specs.Giving.{IsReady};
     ghost use Rattle.session_steps.specs.Replies.{done};
     ghost use Rattle.session_steps.specs.Steps.{HoldsSomeOn, TakesOn};
 
@@ -56,10 +54,7 @@ impl Sessions {
         }
         match own_slot(active.writes, key) {
             Some(slot) => self.fill_own(device, session, slot, key, row),
-            None => {
-                let lines = lines_with(active.writes, key);
-                self.put_taken(device, session, key, row, lines)
-            }
+            None => self.fill_taken(device, session, key, row),
         }
     }
 
@@ -95,32 +90,6 @@ impl Sessions {
         }
     }
 
-    // Writes a row in the lowest free slot, if there is one, once there is room for so many lines.
-    #[inline(always)]
-    fn put_taken<D: Pmem>(
-        &mut self,
-        device: &mut D,
-        session: u8,
-        key: Key,
-        row: Row,
-        lines: u16,
-    ) -> Result<(), Fault>
-        requires shown { ∥ HoldsSomeOn self.old (D.state device.old) ∥₁ }
-        requires ready { IsReady self.old.transactions session key None }
-        requires within { (2 ≤ session) × (session < 64) }
-        requires row { length row ≤ row_limit self.old.numbers.geometry.version }
-        requires lines { HasLinesWith key lines (transaction_at self.old.transactions session) }
-        ensures step { TakesOn self.old self.new (D.state device.old) (D.state device.new) (Put session key row) (done result) }
-    {
-        if !self.slots.has_free() {
-            return Err(Fault::SlotsOut);
-        }
-        match self.dirty.promise(session, lines) {
-            Ok(()) => self.fill_taken(device, session, key, row),
-            Err(fault) => Err(fault),
-        }
-    }
-
     // Writes a row in the lowest free slot, which stays free where the device fails.
     #[inline(always)]
     fn fill_taken<D: Pmem>(
@@ -134,7 +103,6 @@ impl Sessions {
         requires ready { IsReady self.old.transactions session key None }
         requires within { (2 ≤ session) × (session < 64) }
         requires row { length row ≤ row_limit self.old.numbers.geometry.version }
-        requires lines { HasLinesWith key (promised_to self.old.dirty session) (transaction_at self.old.transactions session) }
         ensures step { TakesOn self.old self.new (D.state device.old) (D.state device.new) (Put session key row) (done result) }
         ensures link { done result ≡ Done → (slot : ℕ) × (lowest_free self.old.slots ≡ Some slot)
             × IsVersion self.old.numbers.geometry (slot_at self.old.numbers.geometry slot (value_of (D.state device.new)))

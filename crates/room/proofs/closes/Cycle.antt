@@ -28,6 +28,7 @@ use Rattle.log_area.specs.Writings.{Progress, begun, advanced, operation_of, IsO
 use Rattle.log_area.proofs.Ticks.{none_failed, same_words}
 use Rattle.log_area.proofs.Whole.{IsWritten, written-none, written-more, written-stops, written-whole, record-spares, record-spares_stopped, record-images as images_of_record, record-images_stopped, record-holds, fewer_left}
 use Rattle.log_area.proofs.Stages.{staged-next}
+use Rattle.dirty_table.specs.declared.sessions.SessionSet.{SessionSet}
 use Rattle.dirty_table.specs.Touches.{has, lines_touched}
 use Rattle.txn.specs.declared.drawn.DrawnCommit.{DrawnCommit}
 use Rattle.device_invariant.specs.Log.{Line, lines_in, line_number}
@@ -82,13 +83,13 @@ words-of c device some orderly = ∥∥₁_elim some (ℕ_set _ _) (λ shown.
 -- ---- the lines
 
 -- the sessions are all that drew
-abbrev pub HaveDrawn : VolatileState → List Bool → Type 0
+abbrev pub HaveDrawn : VolatileState → SessionSet → Type 0
 HaveDrawn c sessions = (n : ℕ) → has sessions n ≡ list_any (λ d. nat_eq d.session n) c.sessions.drawn.commits
 
 any-whole : (p : DrawnCommit → Bool) (ds : List DrawnCommit) → list_any p ds ≡ list_any (λ d. p d && true) ds
 any-whole p ds = sym (any-filter p (λ d. true) ds ∙ ap (list_any p) (filter-whole ds))
 
-module _ (c : VolatileState) (device : Device) (q : State) (sessions : List Bool) (shown : Shows c device q) (drew : HaveDrawn c sessions) where
+module _ (c : VolatileState) (device : Device) (q : State) (sessions : SessionSet) (shown : Shows c device q) (drew : HaveDrawn c sessions) where
   drawn-by : (n : ℕ) → has sessions n ≡ list_any (λ d. nat_eq d.session n && true) c.sessions.drawn.commits
   drawn-by n = drew n ∙ any-whole (λ d. nat_eq d.session n) c.sessions.drawn.commits
 
@@ -96,15 +97,15 @@ module _ (c : VolatileState) (device : Device) (q : State) (sessions : List Bool
   drawn-is = ap (λ (p : State). p.drawn) shown.shown.plain
 
   -- the table's lines of these sessions are those that all drawn commits touch
-  lines-are : are_rising (lines_touched (has sessions) c.sessions.dirty.touches) ≡ true → lines_touched (has sessions) c.sessions.dirty.touches ≡ line_numbers q (drawn_of q)
+  lines-are : are_rising (lines_touched sessions c.sessions.dirty) ≡ true → lines_touched sessions c.sessions.dirty ≡ line_numbers q (drawn_of q)
   lines-are rising =
-      table-lines q c.sessions.drawn.commits c.sessions.dirty.touches sessions (λ t. true) drawn-is shown.shown.agrees.lines drawn-by rising
+      table-lines q c.sessions.drawn.commits c.sessions.dirty sessions (λ t. true) drawn-is shown.shown.agrees.lines drawn-by rising
       ∙ ap (line_numbers q) (filter-whole (drawn_of q))
 
   -- and lines of the device
-  line-below : (from line : ℕ) → find (nat_le from) (lines_touched (has sessions) c.sessions.dirty.touches) ≡ Some line → line < total_words q.layout / 8
+  line-below : (from line : ℕ) → find (nat_le from) (lines_touched sessions c.sessions.dirty) ≡ Some line → line < total_words q.layout / 8
   line-below from line found =
-      let any = sym (member q c.sessions.drawn.commits c.sessions.dirty.touches sessions (λ t. true) drawn-is shown.shown.agrees.lines drawn-by line) ∙ found-any (nat_le from) line (lines_touched (has sessions) c.sessions.dirty.touches) found in
+      let any = sym (member q c.sessions.drawn.commits c.sessions.dirty sessions (λ t. true) drawn-is shown.shown.agrees.lines drawn-by line) ∙ found-any (nat_le from) line (lines_touched sessions c.sessions.dirty) found in
       ltb-true line (total_words q.layout / 8) (any-has (λ x. nat_lt x (total_words q.layout / 8)) line _ any (lines-within q _))
 
 -- ---- the record
@@ -169,7 +170,7 @@ pub record IsCovering (c : VolatileState) (before now : Device) (cycle : Cycling
   pub layout : cycle.writing.layout ≡ c.sessions.numbers.geometry
   pub no_failure : HasNoFailure before now
   pub words : now.words ≡ before.words
-  pub come : HasCome c (lines_touched (has cycle.sessions) c.sessions.dirty.touches) before now cycle.writing cycle.stage
+  pub come : HasCome c (lines_touched cycle.sessions c.sessions.dirty) before now cycle.writing cycle.stage
 
 pub begins : (c : VolatileState) (device : Device) (cycle : Cycling) → IsOrderly device → HaveDrawn c cycle.sessions → cycle.writing ≡ begun c.sessions.numbers.geometry (last_record c) → cycle.stage ≡ FlushLines 0 0 → IsCovering c device device cycle
 begins c device cycle orderly drew writing stage = record {
@@ -177,7 +178,7 @@ begins c device cycle orderly drew writing stage = record {
   layout = ap (λ (p : Progress). p.layout) writing;
   no_failure = refl;
   words = refl;
-  come = subst (HasCome c (lines_touched (has cycle.sessions) c.sessions.dirty.touches) device device cycle.writing) (sym stage) (
+  come = subst (HasCome c (lines_touched cycle.sessions c.sessions.dirty) device device cycle.writing) (sym stage) (
     record { within = omega arith; below = λ i line less at. absurd (omega (arith, less)); others = λ i line le at. omega arith },
     writing,
     λ q shown works. record { shown = shown; flushed = closing-flushes.begins q device; images = leaves_refl device (StandsClosing q) orderly (stands-closing c device q shown) },
@@ -186,7 +187,7 @@ begins c device cycle orderly drew writing stage = record {
 
 module _ (c : VolatileState) (before now : Device) (cycle : Cycling) (so_far : IsCovering c before now cycle) (rests : c.cycle ≡ None) (stamped : list_all is_stamped (map plain_drawn c.sessions.drawn.commits) ≡ true) (numbered : c.sessions.numbers.record.gate + 1 < 2 ^ 62) where
   abbrev lines : List ℕ
-  lines = lines_touched (has cycle.sessions) c.sessions.dirty.touches
+  lines = lines_touched cycle.sessions c.sessions.dirty
 
   -- ---- what a tick asks
 
@@ -286,12 +287,12 @@ module _ (c : VolatileState) (before now : Device) (cycle : Cycling) (so_far : I
           by WriteRecord at come done = subst (λ (s : CycleStage). IsCovering c before new (record cycle { writing = advanced cycle.writing; stage = s })) (sym at) (writes-on come done)
 
       -- fewer are left
-      pub comes-closer : (after : Cycling) → after ≡ ticked_in lines cycle → ticks_left c.sessions.dirty.touches (Some after) < ticks_left c.sessions.dirty.touches (Some cycle)
+      pub comes-closer : (after : Cycling) → after ≡ ticked_in lines cycle → ticks_left c.sessions.dirty (Some after) < ticks_left c.sessions.dirty (Some cycle)
       comes-closer after is =
-          subst (λ (a : Cycling). ticks_left c.sessions.dirty.touches (Some a) < ticks_left c.sessions.dirty.touches (Some cycle)) (sym is)
+          subst (λ (a : Cycling). ticks_left c.sessions.dirty (Some a) < ticks_left c.sessions.dirty (Some cycle)) (sym is)
           (by cycle.stage refl so_far.come)
         where
-          by : (stage : CycleStage) → cycle.stage ≡ stage → HasCome c lines before now cycle.writing stage → ticks_left c.sessions.dirty.touches (Some (ticked_at lines cycle stage)) < left_at (length lines) cycle.writing.stage stage
+          by : (stage : CycleStage) → cycle.stage ≡ stage → HasCome c lines before now cycle.writing stage → ticks_left c.sessions.dirty (Some (ticked_at lines cycle stage)) < left_at (length lines) cycle.writing.stage stage
           by (FlushLines count from) at come = flushes (find (nat_le from) lines) refl
             where
               flushes : (o : Option ℕ) → find (nat_le from) lines ≡ o → left_at (length lines) cycle.writing.stage (next_at count o) < 41 + (length lines - count)

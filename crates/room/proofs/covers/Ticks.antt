@@ -27,6 +27,7 @@ use Rattle.log_area.specs.Stages.{reached_by, operations_before}
 use Rattle.log_area.specs.Writings.{operation_of}
 use Rattle.txn.specs.declared.drawn.DrawnCommit.{DrawnCommit}
 use Rattle.txn.proofs.Passed.{filter-map}
+use Rattle.dirty_table.specs.declared.sessions.SessionSet.{SessionSet}
 use Rattle.dirty_table.specs.Touches.{has, lines_touched}
 use Rattle.group_commit.specs.declared.stage.CycleStage.{CycleStage}
 use Rattle.group_commit.specs.declared.stage.CycleStage.TheVariants.{FlushLines, WriteRecord}
@@ -158,7 +159,7 @@ module _ (s : Sessions) (cycle : Cycling) (before : Device) (orderly : IsOrderly
   ds = s.drawn.commits
 
   abbrev table : List ℕ
-  table = lines_touched (has cycle.sessions) s.dirty.touches
+  table = lines_touched cycle.sessions s.dirty
 
   abbrev o : Origin
   o = shows.shown.hidden.origin
@@ -208,7 +209,7 @@ module _ (s : Sessions) (cycle : Cycling) (before : Device) (orderly : IsOrderly
       by : (stage : CycleStage) → line_from table stage ≡ Some line → 8 * line < before.words
       by WriteRecord is = absurd (cc is)
       by (FlushLines done from) is =
-          let any = sym (member q ds s.dirty.touches cycle.sessions (is_committed in-hand.hand.target) drawn shows.shown.agrees.lines h.sessions line) ∙ found-any (nat_le from) line table is in
+          let any = sym (member q ds s.dirty cycle.sessions (is_committed in-hand.hand.target) drawn shows.shown.agrees.lines h.sessions line) ∙ found-any (nat_le from) line table is in
           let low : line < total_words q.layout / 8 = ltb-true line (total_words q.layout / 8) (any-has (λ x. nat_lt x (total_words q.layout / 8)) line _ any (lines-within q _)) in
           let size = words-are o q before orderly upholds in
           omega (arith, low, size)
@@ -216,7 +217,7 @@ module _ (s : Sessions) (cycle : Cycling) (before : Device) (orderly : IsOrderly
   -- ---- the lines of the table
 
   table-is : are_rising table ≡ true → table ≡ numbers
-  table-is rising = table-lines q ds s.dirty.touches cycle.sessions (is_committed in-hand.hand.target) drawn shows.shown.agrees.lines h.sessions rising ∙ ap (line_numbers q) (sym commits-are)
+  table-is rising = table-lines q ds s.dirty cycle.sessions (is_committed in-hand.hand.target) drawn shows.shown.agrees.lines h.sessions rising ∙ ap (line_numbers q) (sym commits-are)
 
   -- the tick is the same on the numbers of the batch's lines
   record IsSame : Type 0 where
@@ -307,7 +308,7 @@ module _ (s : Sessions) (cycle : Cycling) (before : Device) (orderly : IsOrderly
 
           holds-on : HoldsHand (one_tick_on q hand) ds (record hand { ticks = hand.ticks + 1 }) new
           holds-on = record {
-            sessions = λ n. ap (λ (xs : List Bool). has xs n) kept.sessions ∙ h.sessions n;
+            sessions = λ n. ap (λ (xs : SessionSet). has xs n) kept.sessions ∙ h.sessions n;
             batch = kept.batch ∙ h.batch;
             layout = kept.layout ∙ h.layout;
             target = kept.target ∙ h.target;
@@ -325,8 +326,8 @@ module _ (s : Sessions) (cycle : Cycling) (before : Device) (orderly : IsOrderly
             },
           )
 
-          new-left : left_at (length (lines_touched (has new.sessions) s.dirty.touches)) new.writing.stage new.stage ≡ left_at (length numbers) new.writing.stage new.stage
-          new-left = ap (λ (xs : List Bool). left_at (length (lines_touched (has xs) s.dirty.touches)) new.writing.stage new.stage) kept.sessions ∙ by cycle.stage refl
+          new-left : left_at (length (lines_touched new.sessions s.dirty)) new.writing.stage new.stage ≡ left_at (length numbers) new.writing.stage new.stage
+          new-left = ap (λ (xs : SessionSet). left_at (length (lines_touched xs s.dirty)) new.writing.stage new.stage) kept.sessions ∙ by cycle.stage refl
             where
               by : (at : CycleStage) → cycle.stage ≡ at → left_at (length table) new.writing.stage new.stage ≡ left_at (length numbers) new.writing.stage new.stage
               by (FlushLines done from) is = ap (λ (ls : List ℕ). left_at (length ls) new.writing.stage new.stage) (table-is (rising done from is))
@@ -335,7 +336,7 @@ module _ (s : Sessions) (cycle : Cycling) (before : Device) (orderly : IsOrderly
                   ap (left_at (length table) new.writing.stage) e ∙ sym (ap (left_at (length numbers) new.writing.stage) e)
 
           -- fewer ticks are left
-          pub comes-closer : left_at (length (lines_touched (has new.sessions) s.dirty.touches)) new.writing.stage new.stage < left_at (length table) cycle.writing.stage cycle.stage
+          pub comes-closer : left_at (length (lines_touched new.sessions s.dirty)) new.writing.stage new.stage < left_at (length table) cycle.writing.stage cycle.stage
           comes-closer =
               let low : hand.ticks + 1 < length numbers + 41 = ticks-are_counted.before numbers (hand.ticks + 1) new more open-still in
               let after : left_at (length numbers) new.writing.stage new.stage + (hand.ticks + 1) ≡ length numbers + 42 = left-is numbers (hand.ticks + 1) new more low in

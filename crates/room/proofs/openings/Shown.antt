@@ -103,7 +103,7 @@ module _ (old new : Device) (layout : Layout) (r : Record) (next : ℕ) (free : 
   layout_is : layout ≡ layout_of image
   layout_is = opened.layout_is ∙ sym up.laid_out
 
-  old-words : old.words ≡ total_words layout
+  pub old-words : old.words ≡ total_words layout
   old-words = sym (image_size old) ∙ sym up.size ∙ (size-of image (whole-of image sound).geometry).1 ∙ ap total_words (sym layout_is)
 
   new-words : new.words ≡ old.words

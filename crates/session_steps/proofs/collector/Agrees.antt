@@ -187,5 +187,5 @@ module _ (s : Sessions) (h : Hidden) (keeps : Keeps h.origin (plain_of s h)) (ag
       own = λ k d lt line. agrees.lines.own k d lt line ∙ ap (λ (ls : List ℕ). list_any (λ l. nat_eq l line) ls) (sym (lines-left (get_or s.drawn.commits k d) (drawn-there k d lt)));
       none = agrees.lines.none;
     };
-    room = agrees.room;
+    sized = agrees.sized;
   }

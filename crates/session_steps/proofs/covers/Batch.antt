@@ -24,7 +24,8 @@ use Rattle.txn.specs.InFlight.{InFlight}
 use Rattle.txn.specs.Transactions.{transaction_at}
 use Rattle.txn.specs.WriteSets.{plain_writes}
 use Rattle.txn.proofs.Passed.{filter-map}
-use Rattle.dirty_table.specs.Touches.{has, is_touched, Forgets, Table}
+use Rattle.dirty_table.specs.declared.sessions.SessionSet.{SessionSet}
+use Rattle.dirty_table.specs.Touches.{has, is_touched, Forgets}
 use Rattle.index.specs.declared.entry.Entry.{Entry}
 use Rattle.index.specs.Entries.{entry_at, live_of}
 use Rattle.state_invariant.specs.Kept.{Origin, Keeps, commits_of_life, version_by}
@@ -38,7 +39,7 @@ use Rattle.session_laws.proofs.Batches.{covers-batch}
 use Rattle.step_simulation.specs.Moves.{IsSlotOf}
 use Rattle.session_steps.specs.declared.sessions.Sessions.{Sessions}
 use Rattle.session_laws.specs.Sees.{Sees, last_on}
-use Rattle.session_steps.specs.Shows.{Hidden, plain_of, plain_session, plain_drawn, HasItsSlot, HoldsSession, HasDrawn, HoldsEntry, HoldsDrawn, HoldsLines, HasLines, has_drawn_by, line_numbers, Agrees}
+use Rattle.session_steps.specs.Shows.{Hidden, plain_of, plain_session, plain_drawn, HasItsSlot, HoldsSession, HasDrawn, HoldsEntry, HoldsDrawn, HoldsLines, has_drawn_by, line_numbers, Agrees}
 use Rattle.session_steps.specs.Covering.{covered_by_commits, committed_by, left_by, CoversCommits, IsOf, MayCover, hidden_covered, HasCovered, ShowsCovered}
 use Rattle.session_steps.proofs.slots.Held.{numbers-by-tests}
 use Rattle.session_steps.proofs.Filters.{filter-at, any-split}
@@ -104,8 +105,8 @@ any-found p test (x ∷ cs) c found is = by (test x) found (λ found. any-found 
 
 -- ---- covering
 
-module _ (s : Sessions) (ruling : Record) (h : Hidden) (hand : Hand) (may : MayCover s ruling h hand) (index : List (Key × Entry)) (dirty : Table) (sessions : List Bool) (drawn : InFlight)
-    (covers : CoversCommits (committed_by ruling s.drawn.commits) s.index index) (forgets : Forgets sessions s.dirty.touches dirty.touches) (promised : dirty.promised ≡ s.dirty.promised) (of : (n : ℕ) → has sessions n ≡ has_drawn_by (committed_by ruling s.drawn.commits) n)
+module _ (s : Sessions) (ruling : Record) (h : Hidden) (hand : Hand) (may : MayCover s ruling h hand) (index : List (Key × Entry)) (dirty : List SessionSet) (sessions : SessionSet) (drawn : InFlight)
+    (covers : CoversCommits (committed_by ruling s.drawn.commits) s.index index) (forgets : Forgets sessions s.dirty dirty) (of : (n : ℕ) → has sessions n ≡ has_drawn_by (committed_by ruling s.drawn.commits) n)
     (rest : drawn.commits ≡ left_by ruling s.drawn.commits) where
   -- the record commits it
   abbrev counts : DrawnCommit → Bool
@@ -297,27 +298,27 @@ module _ (s : Sessions) (ruling : Record) (h : Hidden) (hand : Hand) (may : MayC
             let one : other.timestamp ≡ left.timestamp = cc both in
             apart other.timestamp (filter-at counts s.drawn.commits j e low).3 one
 
-    left-lines : (line : ℕ) → is_touched dirty.touches left.session line ≡ list_any (λ l. nat_eq l line) (line_numbers q' ((plain_drawn left).commit ∷ []))
+    left-lines : (line : ℕ) → is_touched dirty left.session line ≡ list_any (λ l. nat_eq l line) (line_numbers q' ((plain_drawn left).commit ∷ []))
     left-lines line =
         forgets.touched left.session line
-        ∙ ap (λ (b : Bool). is_touched s.dirty.touches left.session line && not b) left-apart
-        ∙ and-true (is_touched s.dirty.touches left.session line)
-        ∙ All-filter (λ (e : DrawnCommit). not (counts e)) (λ (d : DrawnCommit). (line : ℕ) → is_touched s.dirty.touches d.session line ≡ list_any (λ l. nat_eq l line) (line_numbers q ((plain_drawn d).commit ∷ []))) s.drawn.commits may.agrees.lines.own k d lt line
+        ∙ ap (λ (b : Bool). is_touched s.dirty left.session line && not b) left-apart
+        ∙ and-true (is_touched s.dirty left.session line)
+        ∙ All-filter (λ (e : DrawnCommit). not (counts e)) (λ (d : DrawnCommit). (line : ℕ) → is_touched s.dirty d.session line ≡ list_any (λ l. nat_eq l line) (line_numbers q ((plain_drawn d).commit ∷ []))) s.drawn.commits may.agrees.lines.own k d lt line
         ∙ ap (list_any (λ l. nat_eq l line)) (sym numbers-same)
 
-  untouched : (n line : ℕ) → has_drawn_by others n ≡ false → is_touched dirty.touches n line ≡ false
-  untouched n line nobody_left = forgets.touched n line ∙ ap (λ (b : Bool). is_touched s.dirty.touches n line && not b) (of n) ∙ by (has_drawn_by batch n) refl
+  untouched : (n line : ℕ) → has_drawn_by others n ≡ false → is_touched dirty n line ≡ false
+  untouched n line nobody_left = forgets.touched n line ∙ ap (λ (b : Bool). is_touched s.dirty n line && not b) (of n) ∙ by (has_drawn_by batch n) refl
     where
-      by : (b : Bool) → has_drawn_by batch n ≡ b → (is_touched s.dirty.touches n line && not b) ≡ false
-      by true is = and-false (is_touched s.dirty.touches n line)
+      by : (b : Bool) → has_drawn_by batch n ≡ b → (is_touched s.dirty n line && not b) ≡ false
+      by true is = and-false (is_touched s.dirty n line)
       by false is =
           let nobody : has_drawn_by s.drawn.commits n ≡ false =
           any-split (λ (d : DrawnCommit). nat_eq d.session n) counts s.drawn.commits
           ∙ ap (λ (b : Bool). b || has_drawn_by others n) is ∙ nobody_left in
-          and-true (is_touched s.dirty.touches n line) ∙ may.agrees.lines.none n line nobody
+          and-true (is_touched s.dirty n line) ∙ may.agrees.lines.none n line nobody
 
-  holds-lines : HoldsLines q' drawn.commits dirty.touches
-  holds-lines = subst (λ (ds : List DrawnCommit). HoldsLines q' ds dirty.touches) (sym rest) record { own = left-lines; none = untouched }
+  holds-lines : HoldsLines q' drawn.commits dirty
+  holds-lines = subst (λ (ds : List DrawnCommit). HoldsLines q' ds dirty) (sym rest) record { own = left-lines; none = untouched }
 
   -- ---- all
 
@@ -331,7 +332,7 @@ module _ (s : Sessions) (ruling : Record) (h : Hidden) (hand : Hand) (may : MayC
       counted = may.agrees.counted;
       index = entry;
       lines = holds-lines;
-      room = λ n. subst (λ (k : ℕ). HasLines k (transaction_at s.transactions n)) (sym (ap (λ (ls : List ℕ). slice_index_or ls n 0) promised)) (may.agrees.room n);
+      sized = let same : length dirty ≡ length s.dirty = forgets.size in omega (arith, same, may.agrees.sized);
     };
   }
 

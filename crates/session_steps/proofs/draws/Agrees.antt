@@ -1,5 +1,5 @@
 -- What agrees after a draw.
-use Rattle.std.proofs.Common.{◌≡◌, ◌⊎◌, inl, inr, ℕ, ◌+◌, ◌/◌, ◌<◌, ◌≤◌, Bool, true, false, ◌&&◌, ◌||◌, cond, not, List, [], ◌∷◌, ◌++◌, map, take, drop, refl, sym, ◌∙◌, ap, subst, arith, nat_eq, nat_lt, append_assoc, Contains, get_or}
+use Rattle.std.proofs.Common.{◌≡◌, ◌⊎◌, inl, inr, ℕ, ◌+◌, ◌/◌, ◌<◌, ◌≤◌, Bool, true, false, ◌&&◌, ◌||◌, cond, not, List, [], ◌∷◌, ◌++◌, map, length, take, drop, refl, sym, ◌∙◌, ap, subst, arith, nat_eq, nat_lt, append_assoc, Contains, get_or}
 use Rattle.std.specs.Prelude.{Option, Some, None, is_some, is_none, find, All}
 use Rattle.std.specs.List.{list_any, list_all, flat_map, range_with_len}
 use Rattle.std.specs.Option.{option_map, option_map_or, option_or, option_and_then}
@@ -26,7 +26,8 @@ use Rattle.txn.specs.declared.write.Write.{Write}
 use Rattle.txn.specs.Transactions.{transaction_at, Sets}
 use Rattle.txn.specs.WriteSets.{write_of, plain_writes}
 use Rattle.txn.proofs.Plain.{lookup_key-plain_writes}
-use Rattle.dirty_table.specs.Touches.{is_touched, Touches, Table, promised_to}
+use Rattle.dirty_table.specs.declared.sessions.SessionSet.{SessionSet}
+use Rattle.dirty_table.specs.Touches.{is_touched, Touches}
 use Rattle.index.specs.declared.entry.Entry.{Entry}
 use Rattle.index.specs.Entries.{entry_at, has_room, live_of}
 use Rattle.state_invariant.specs.Kept.{version_by, commits_of_life, covered_since}
@@ -40,9 +41,9 @@ use Rattle.device_invariant.specs.Slots.{newest_of}
 use Rattle.device_invariant.specs.Log.{is_own, is_ended, line_at, line_number, lines_at, lines_in}
 use Rattle.step_simulation.specs.Moves.{IsSlotOf}
 use Rattle.session_steps.specs.declared.sessions.Sessions.{Sessions}
-use Rattle.session_steps.specs.Drawing.{own_lines, ended_lines, touched_lines, drawn_entry, TouchesLines}
+use Rattle.session_steps.specs.Drawing.{own_lines, ended_lines, touched_lines, drawn_entry}
 use Rattle.session_laws.specs.Sees.{Sees, last_on}
-use Rattle.session_steps.specs.Shows.{Hidden, plain_of, plain_drawn, HasItsSlot, HoldsSession, HasVersionOf, HasDrawn, HoldsEntry, HoldsDrawn, HoldsLines, HasLines, Agrees, has_drawn_by, line_numbers}
+use Rattle.session_steps.specs.Shows.{Hidden, plain_of, plain_drawn, HasItsSlot, HoldsSession, HasVersionOf, HasDrawn, HoldsEntry, HoldsDrawn, HoldsLines, Agrees, has_drawn_by, line_numbers}
 use Rattle.session_steps.specs.Steps.{Holds}
 use Rattle.session_steps.proofs.slots.Held.{numbers-by-tests}
 use Rattle.session_laws.proofs.Conflicts.{last_on-append}
@@ -134,7 +135,7 @@ module _ (s : Sessions) (h : Hidden) (n : ℕ) (snapshot : Seen) (writes : List 
   not-now u lt same = let e : u ≡ t = cc same in absurd (omega (arith, lt, e))
 
   -- ---- with all that the draw makes
-  module _ (ts : List (Option Transaction)) (spare : ℕ) (index : List (Key × Entry)) (dirty : Table) where
+  module _ (ts : List (Option Transaction)) (spare : ℕ) (index : List (Key × Entry)) (dirty : List SessionSet) where
     abbrev drawn : Sessions
     drawn = record s { numbers = record s.numbers { next = s.numbers.next + 1 }; transactions = ts; drawn = record { commits = s.drawn.commits ++ new ∷ []; spare = spare }; index = index; dirty = dirty }
 
@@ -506,22 +507,22 @@ module _ (s : Sessions) (h : Hidden) (n : ℕ) (snapshot : Seen) (writes : List 
     still-none None = refl
     still-none (Some v) = refl
 
-    lines-hold : Touches n (flat_map (touched_lines s.numbers.geometry s.index) writes) s.dirty.touches dirty.touches → HoldsLines then (s.drawn.commits ++ new ∷ []) dirty.touches
+    lines-hold : Touches n (flat_map (touched_lines s.numbers.geometry s.index) writes) s.dirty dirty → HoldsLines then (s.drawn.commits ++ new ∷ []) dirty
     lines-hold touches = record {
       own = All-append IsHeld s.drawn.commits (new ∷ []) (λ k d lt. of-old (get_or s.drawn.commits k d) (apart-sessions k d lt) (early-commits k d lt) (holds.agrees.lines.own k d lt)) (All-cons IsHeld new [] of-new (All-nil IsHeld));
       none = λ m line out. of-none m line (both m out);
     }
       where
         IsHeld : DrawnCommit → Type 0
-        IsHeld d = (line : ℕ) → is_touched dirty.touches d.session line ≡ list_any (λ l. nat_eq l line) (line_numbers then ((plain_drawn d).commit ∷ []))
+        IsHeld d = (line : ℕ) → is_touched dirty d.session line ≡ list_any (λ l. nat_eq l line) (line_numbers then ((plain_drawn d).commit ∷ []))
 
         swap : (a b : ℕ) → nat_eq a b ≡ false → nat_eq b a ≡ false
         swap a b is = grind (arith, nat_tests)
 
-        of-old : (d : DrawnCommit) → nat_eq d.session n ≡ false → d.timestamp < t → ((line : ℕ) → is_touched s.dirty.touches d.session line ≡ list_any (λ l. nat_eq l line) (line_numbers old ((plain_drawn d).commit ∷ []))) → IsHeld d
+        of-old : (d : DrawnCommit) → nat_eq d.session n ≡ false → d.timestamp < t → ((line : ℕ) → is_touched s.dirty d.session line ≡ list_any (λ l. nat_eq l line) (line_numbers old ((plain_drawn d).commit ∷ []))) → IsHeld d
         of-old d apart early was = λ line.
-            touches.touched d.session line ∙ (λ i. is_touched s.dirty.touches d.session line || (swap d.session n apart i && list_any (λ l. nat_eq l line) (flat_map (touched_lines s.numbers.geometry s.index) writes)))
-            ∙ or-false (is_touched s.dirty.touches d.session line) ∙ was line ∙ ap (λ (ls : List ℕ). list_any (λ l. nat_eq l line) ls) (sym (lines-stay d early))
+            touches.touched d.session line ∙ (λ i. is_touched s.dirty d.session line || (swap d.session n apart i && list_any (λ l. nat_eq l line) (flat_map (touched_lines s.numbers.geometry s.index) writes)))
+            ∙ or-false (is_touched s.dirty d.session line) ∙ was line ∙ ap (λ (ls : List ℕ). list_any (λ l. nat_eq l line) ls) (sym (lines-stay d early))
 
         self-same : nat_eq n n ≡ true
         self-same = grind (arith, nat_tests)
@@ -538,17 +539,17 @@ module _ (s : Sessions) (h : Hidden) (n : ℕ) (snapshot : Seen) (writes : List 
             which true is b same none = absurd (cc none)
             which false is true same none = absurd (cc none)
 
-        of-none : (m line : ℕ) → (has_drawn_by s.drawn.commits m ≡ false) × (nat_eq n m ≡ false) → is_touched dirty.touches m line ≡ false
+        of-none : (m line : ℕ) → (has_drawn_by s.drawn.commits m ≡ false) × (nat_eq n m ≡ false) → is_touched dirty m line ≡ false
         of-none m line out = touches.touched m line ∙ (λ i. holds.agrees.lines.none m line out.0 i || (out.1 i && list_any (λ l. nat_eq l line) (flat_map (touched_lines s.numbers.geometry s.index) writes)))
 
     pub agrees-drawn : Sets s.transactions ts n (Some (Drawn t)) → ((key : Key) → entry_at index key ≡ drawn_entry (write_of key writes) t (entry_at s.index key)) → ((key : Key) → has_room s.index key ≡ true → has_room index key ≡ true)
-        → All (λ (w : Write). has_room index w.key ≡ true) writes → TouchesLines n (flat_map (touched_lines s.numbers.geometry s.index) writes) s.dirty dirty → Agrees drawn h.origin h.seen then
+        → All (λ (w : Write). has_room index w.key ≡ true) writes → Touches n (flat_map (touched_lines s.numbers.geometry s.index) writes) s.dirty dirty → Agrees drawn h.origin h.seen then
     agrees-drawn sets entries rooms written touches = record {
       sessions = each-set (λ m x. HoldsSession h.origin then m (h.seen m) x) s.transactions ts n (Some (Drawn t)) sets tt (λ m apart. session-more m (h.seen m) (transaction_at s.transactions m) apart (holds.agrees.sessions m));
       drawn = All-append (HoldsDrawn drawn then) s.drawn.commits (new ∷ []) (λ k d lt. drawn-stays _ sets rooms (early-commits k d lt) (holds.agrees.drawn k d lt)) (All-cons (HoldsDrawn drawn then) new [] (drawn-new sets written) (All-nil (HoldsDrawn drawn then)));
       free = λ slot lt. holds.agrees.free slot lt ∙ ap (λ (b : Bool). Some b) (still-none (h.held slot));
       counted = holds.agrees.counted;
       index = λ key. subst (HoldsEntry h.origin then key) (sym (entries key)) (entry-more key (write_of key writes) refl (holds.agrees.index key));
-      lines = lines-hold touches.touches;
-      room = each-set (λ m x. HasLines (promised_to dirty m) x) s.transactions ts n (Some (Drawn t)) sets tt (λ m apart. subst (λ (k : ℕ). HasLines k (transaction_at s.transactions m)) (sym (touches.others m apart)) (holds.agrees.room m));
+      lines = lines-hold touches;
+      sized = let same : length dirty ≡ length s.dirty = touches.size in omega (arith, same, holds.agrees.sized);
     }

@@ -26,12 +26,13 @@ use Rattle.txn.specs.declared.write.Write.{Write}
 use Rattle.txn.specs.DrawnCommits.{are_below}
 use Rattle.txn.specs.Transactions.{transaction_at, Sets}
 use Rattle.txn.specs.WriteSets.{plain_writes, plain_write, write_of}
-use Rattle.dirty_table.specs.Touches.{Table}
+use Rattle.dirty_table.specs.declared.sessions.SessionSet.{SessionSet}
+use Rattle.dirty_table.specs.Touches.{Touches}
 use Rattle.index.specs.declared.entry.Entry.{Entry}
 use Rattle.index.specs.Entries.{entry_at, has_room, live_of, KeepsRoom}
 use Rattle.session_steps.specs.declared.numbers.Numbers.{Numbers}
 use Rattle.session_steps.specs.declared.sessions.Sessions.{Sessions}
-use Rattle.session_steps.specs.Drawing.{conflict_in, own_lines, ended_lines, touched_lines, drawn_entry, TouchesLines}
+use Rattle.session_steps.specs.Drawing.{conflict_in, own_lines, ended_lines, touched_lines, drawn_entry}
 use Rattle.session_steps.specs.Shows.{Hidden, plain_of, plain_session, plain_drawn, HoldsEntry, Agrees}
 use Rattle.session_steps.specs.Steps.{Holds, Goes}
 use Rattle.session_steps.proofs.transactions.Agrees.{agrees-changed}
@@ -84,7 +85,7 @@ draws-nothing s ts n snapshot h at sets holds = record {
   next = h;
   origin = refl;
   drawers = same-drawers s.drawn.commits;
-  agrees = agrees-changed s h ts s.slots h.seen h.held n (Some ReadOnly) holds.agrees sets (λ slot. inl refl) (λ m apart. refl) tt tt (λ k d lt there. absurd (cc (at, there))) holds.agrees.free holds.agrees.counted;
+  agrees = agrees-changed s h ts s.slots h.seen h.held n (Some ReadOnly) holds.agrees sets (λ slot. inl refl) (λ m apart. refl) tt (λ k d lt there. absurd (cc (at, there))) holds.agrees.free holds.agrees.counted;
   stepped =
       let has : (plain_of s h).sessions n ≡ Some (Reads (h.seen n) []) = ap (λ (t : Option Transaction). option_map (plain_session (h.seen n)) t) at in
       answered (nothing (plain_of s h) holds.works has) (sym (ap (λ (s' : Option Session). cond (is_nil (writes_of s')) reply.Done (reply.Drawn s.numbers.next)) has))
@@ -95,10 +96,10 @@ draws-nothing s ts n snapshot h at sets holds = record {
     nothing q works found = passes q (step.Draw n) n (Reads (h.seen n) []) works refl found refl ∙ rw found refl
 
 -- the next timestamp is drawn
-draws-plain : (s : Sessions) (h : Hidden) (n : ℕ) (snapshot : Seen) (writes : List Write) (holds : Holds s h) (at : transaction_at s.transactions n ≡ Some (Active snapshot writes)) (ts : List (Option Transaction)) (spare : ℕ) (index : List (Key × Entry)) (dirty : Table)
+draws-plain : (s : Sessions) (h : Hidden) (n : ℕ) (snapshot : Seen) (writes : List Write) (holds : Holds s h) (at : transaction_at s.transactions n ≡ Some (Active snapshot writes)) (ts : List (Option Transaction)) (spare : ℕ) (index : List (Key × Entry)) (dirty : List SessionSet)
     → writes ≢ [] → None ≡ conflict_in s.index snapshot writes → nat_eq s.numbers.next s.numbers.record.dirty ≡ false → nat_le (2 ^ 62) (s.numbers.next + 2 * s.numbers.geometry.window) ≡ false
     → Sets s.transactions ts n (Some (Drawn s.numbers.next)) → ((key : Key) → entry_at index key ≡ drawn_entry (write_of key writes) s.numbers.next (entry_at s.index key)) → ((key : Key) → has_room s.index key ≡ true → has_room index key ≡ true)
-    → All (λ (w : Write). has_room index w.key ≡ true) writes → TouchesLines n (flat_map (touched_lines s.numbers.geometry s.index) writes) s.dirty dirty
+    → All (λ (w : Write). has_room index w.key ≡ true) writes → Touches n (flat_map (touched_lines s.numbers.geometry s.index) writes) s.dirty dirty
     → Goes s (record s { numbers = record s.numbers { next = s.numbers.next + 1 }; transactions = ts; drawn = record { commits = s.drawn.commits ++ record { session = n; timestamp = s.numbers.next; writes = writes; stamped = 0 } ∷ []; spare = spare }; index = index; dirty = dirty })
     (Draw n) (DrewAs s.numbers.next) h
 draws-plain s h n snapshot [] holds at ts spare index dirty some clear room early sets entries rooms written touches = absurd (some refl)
@@ -123,13 +124,13 @@ lines-same : (s : Sessions) (index : List (Key × Entry)) (writes : List Write) 
 lines-same s index writes same = λ i. flat_map (λ write. option_map_or (own_lines s.numbers.geometry) write.slot [] ++ option_map_or (ended_lines s.numbers.geometry) (live_of (same write.key i)) []) writes
 
 -- so it is where the index has got room first
-pub draws : (s : Sessions) (h : Hidden) (n u : ℕ) (snapshot : Seen) (writes : List Write) (numbers : Numbers) (ts : List (Option Transaction)) (commits : InFlight) (grown index : List (Key × Entry)) (dirty : Table) → Holds s h
+pub draws : (s : Sessions) (h : Hidden) (n u : ℕ) (snapshot : Seen) (writes : List Write) (numbers : Numbers) (ts : List (Option Transaction)) (commits : InFlight) (grown index : List (Key × Entry)) (dirty : List SessionSet) → Holds s h
     → transaction_at s.transactions n ≡ Some (Active snapshot writes) → writes ≢ [] → conflict_in s.index snapshot writes ≡ None → nat_eq s.numbers.next s.numbers.record.dirty ≡ false → nat_le (2 ^ 62) (s.numbers.next + 2 * s.numbers.geometry.window) ≡ false
     → u ≡ s.numbers.next → numbers ≡ record s.numbers { next = s.numbers.next + 1 } → Sets s.transactions ts n (Some (Drawn u))
     → commits.commits ≡ s.drawn.commits ++ record { session = n; timestamp = u; writes = writes; stamped = 0 } ∷ []
     → ((key : Key) → entry_at grown key ≡ entry_at s.index key) → ((key : Key) → has_room s.index key ≡ true → has_room grown key ≡ true) → All (λ (w : Write). has_room grown w.key ≡ true) writes
     → ((key : Key) → entry_at index key ≡ drawn_entry (write_of key writes) u (entry_at grown key)) → KeepsRoom grown index
-    → TouchesLines n (flat_map (touched_lines s.numbers.geometry grown) writes) s.dirty dirty
+    → Touches n (flat_map (touched_lines s.numbers.geometry grown) writes) s.dirty dirty
     → Goes s (record s { numbers = numbers; transactions = ts; drawn = commits; index = index; dirty = dirty }) (Draw n) (DrewAs u) h
 draws s h n u snapshot writes numbers ts commits grown index dirty holds at some clear room early now counted sets pushed same kept written entries rooms touches =
     subst (λ (k : ℕ). Goes s (record s { numbers = numbers; transactions = ts; drawn = commits; index = index; dirty = dirty }) (Draw n) (DrewAs k) h) (sym now)
@@ -137,7 +138,7 @@ draws s h n u snapshot writes numbers ts commits grown index dirty holds at some
     (subst (λ (x : InFlight). Goes s (record s { numbers = record s.numbers { next = s.numbers.next + 1 }; transactions = ts; drawn = x; index = index; dirty = dirty }) (Draw n) (DrewAs s.numbers.next) h) drawn-is
     (draws-plain s h n snapshot writes holds at ts commits.spare index dirty some (sym clear) room early (subst (λ (k : ℕ). Sets s.transactions ts n (Some (Drawn k))) now sets)
     (λ key. entries key ∙ (λ i. drawn_entry (write_of key writes) (now i) (same key i))) (λ key has. rooms key ∙ kept key has) (λ k d lt. rooms _ ∙ written k d lt)
-    (subst (λ (ls : List ℕ). TouchesLines n ls s.dirty dirty) (lines-same s grown writes same) touches))))
+    (subst (λ (ls : List ℕ). Touches n ls s.dirty dirty) (lines-same s grown writes same) touches))))
   where
     drawn-is : ◌≡◌ {A = InFlight} (record { commits = s.drawn.commits ++ record { session = n; timestamp = s.numbers.next; writes = writes; stamped = 0 } ∷ []; spare = commits.spare }) commits
     drawn-is = λ i. record { commits = sym (pushed ∙ ap (λ (k : ℕ). s.drawn.commits ++ record { session = n; timestamp = k; writes = writes; stamped = 0 } ∷ []) now) i; spare = commits.spare }
@@ -154,7 +155,7 @@ agrees-grown s h spare index same kept agrees = record {
   counted = agrees.counted;
   index = λ key. subst (HoldsEntry h.origin (plain_of s h) key) (sym (same key)) (agrees.index key);
   lines = agrees.lines;
-  room = agrees.room;
+  sized = agrees.sized;
 }
 
 -- a session that has written something draws a timestamp

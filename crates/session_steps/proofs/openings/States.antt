@@ -1,5 +1,5 @@
 -- The sessions of an opened device show the state in which the life begins.
-use Rattle.std.proofs.Common.{◌≡◌, ◌≢◌, ◌⊎◌, inl, inr, ℕ, ◌<◌, Bool, true, false, cond, List, [], ◌∷◌, ◌++◌, map, length, take, refl, sym, ◌∙◌, ap, subst, arith, nat_eq}
+use Rattle.std.proofs.Common.{◌≡◌, ◌≢◌, ◌⊎◌, inl, inr, ℕ, ◌*◌, ◌<◌, ◌≤◌, Bool, true, false, cond, List, [], ◌∷◌, ◌++◌, map, length, take, refl, sym, ◌∙◌, ap, subst, arith, nat_eq}
 use Rattle.std.specs.Prelude.{Option, Some, None, is_none, is_some, slice_get, All}
 use Rattle.std.specs.Option.{option_map}
 use Rattle.std.specs.List.{list_any}
@@ -20,8 +20,7 @@ use Rattle.log_area.proofs.AtRest.{laid}
 use Rattle.txn.specs.declared.drawn.DrawnCommit.{DrawnCommit}
 use Rattle.txn.specs.declared.transaction.Transaction.{Transaction}
 use Rattle.txn.specs.Transactions.{transaction_at}
-use Rattle.dirty_table.specs.declared.touches.Touch.{Touch}
-use Rattle.dirty_table.specs.Touches.{is_touched, promised_to}
+use Rattle.dirty_table.specs.Touches.{is_touched}
 use Rattle.index.specs.declared.entry.Entry.{Entry}
 use Rattle.index.specs.Entries.{entry_at, live_of}
 use Rattle.state_invariant.specs.Kept.{origin_of, version_by, row_by, row_in, commit_at, commits_of_life}
@@ -35,7 +34,7 @@ use Rattle.step_simulation.specs.Moves.{IsSlotOf}
 use Rattle.collector.specs.declared.rounds.Collector.{Collector}
 use Rattle.session_steps.specs.declared.sessions.Sessions.{Sessions}
 use Rattle.session_laws.specs.Sees.{last_on}
-use Rattle.session_steps.specs.Shows.{Hidden, plain_of, plain_session, plain_drawn, HoldsSession, HoldsEntry, HoldsDrawn, HoldsLines, HasLines, line_numbers, Shows}
+use Rattle.session_steps.specs.Shows.{Hidden, plain_of, plain_session, plain_drawn, HoldsSession, HoldsEntry, HoldsDrawn, HoldsLines, line_numbers, Shows}
 use Rattle.session_steps.specs.Opening.{Begins, HasFound}
 
 module _ (a : Layout) (ruling : Record) (next : ℕ) (free : List Bool) (q : State) (device : Device) (begins : Begins a ruling next free q) (u : Upholds (origin_of q) q device) (orderly : IsOrderly device) where
@@ -148,7 +147,7 @@ module _ (a : Layout) (ruling : Record) (next : ℕ) (free : List Bool) (q : Sta
 -- ---- all
 
 module _ (s : Sessions) (device : Device) (free : List Bool) (q : State) (same : s.slots ≡ free) (begun : s.collector ≡ record { place = 0; swept = false }) (begins : Begins s.numbers.geometry s.numbers.record s.numbers.next free q) (u : Upholds (origin_of q) q device) (orderly : IsOrderly device)
-    (none_open : (n : ℕ) → transaction_at s.transactions n ≡ None) (none_drawn : s.drawn.commits ≡ []) (none_touched : s.dirty.touches ≡ []) (counted : length free ≡ s.numbers.geometry.slots)
+    (none_open : (n : ℕ) → transaction_at s.transactions n ≡ None) (none_drawn : s.drawn.commits ≡ []) (none_touched : (n line : ℕ) → is_touched s.dirty n line ≡ false) (sized : total_words s.numbers.geometry ≤ 8 * length s.dirty) (counted : length free ≡ s.numbers.geometry.slots)
     (found : layout_of (image_of device) ≡ s.numbers.geometry → HasFound (image_of device) free s.numbers.geometry.slots s.index) where
   abbrev hidden : Hidden
   hidden = record { origin = origin_of q; history = q.history; lost = q.lost; seen = λ n. 0; failed = q.failed; hand = q.hand; held = q.held }
@@ -168,11 +167,10 @@ module _ (s : Sessions) (device : Device) (free : List Bool) (q : State) (same :
   plain : q ≡ plain_of s hidden
   plain = λ i. record q { layout = begins.layout_is i; ruling = begins.ruling_is i; drawn = no-drawn i; sessions = λ n. no-session-open n i; next = begins.next_is i; swept = is-unswept i; place = is-first i }
 
-  no-lines : HoldsLines q s.drawn.commits s.dirty.touches
+  no-lines : HoldsLines q s.drawn.commits s.dirty
   no-lines =
-      subst (λ (ds : List DrawnCommit). HoldsLines q ds s.dirty.touches) (sym none_drawn)
-      (subst (λ (ts : List Touch). HoldsLines q [] ts) (sym none_touched)
-      record { own = All-nil (λ (d : DrawnCommit). (line : ℕ) → is_touched [] d.session line ≡ list_any (λ l. nat_eq l line) (line_numbers q ((plain_drawn d).commit ∷ []))); none = λ n line others. refl })
+      subst (λ (ds : List DrawnCommit). HoldsLines q ds s.dirty) (sym none_drawn)
+      record { own = All-nil (λ (d : DrawnCommit). (line : ℕ) → is_touched s.dirty d.session line ≡ list_any (λ l. nat_eq l line) (line_numbers q ((plain_drawn d).commit ∷ []))); none = λ n line others. none_touched n line }
 
   pub shows-opened : Shows s device q
   shows-opened = record {
@@ -186,6 +184,6 @@ module _ (s : Sessions) (device : Device) (free : List Bool) (q : State) (same :
       counted = ap (λ (f : List Bool). length f) same ∙ counted ∙ ap (λ (l : Layout). l.slots) (sym begins.layout_is);
       index = λ key. holds-found s.numbers.geometry s.numbers.record s.numbers.next free q device begins u orderly s.index (found (laid-out s.numbers.geometry s.numbers.record s.numbers.next free q device begins u orderly)) key;
       lines = no-lines;
-      room = λ n. subst (λ (t : Option Transaction). HasLines (promised_to s.dirty n) t) (sym (none_open n)) tt;
+      sized = subst (λ (l : Layout). total_words l ≤ 8 * length s.dirty) (sym begins.layout_is) sized;
     };
   }

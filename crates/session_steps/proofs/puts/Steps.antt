@@ -1,8 +1,8 @@
 -- Put.
-use Rattle.std.proofs.Common.{◌≡◌, ◌≢◌, ◌⊎◌, inl, inr, ℕ, ◌+◌, ◌-◌, ◌*◌, ◌<◌, ◌≤◌, Bool, true, false, ◌&&◌, not, cond, List, [], ◌∷◌, ◌++◌, length, map, set, refl, sym, ◌∙◌, ap, subst, arith, nat_eq, nat_le, length-set}
+use Rattle.std.proofs.Common.{◌≡◌, ◌≢◌, ◌⊎◌, inl, inr, ℕ, ◌+◌, ◌-◌, ◌<◌, ◌≤◌, Bool, true, false, ◌&&◌, not, cond, List, [], ◌∷◌, ◌++◌, length, map, set, refl, sym, ◌∙◌, ap, subst, arith, nat_eq, nat_le, length-set}
 use Rattle.std.specs.Prelude.{Option, Some, None, is_none, is_some, slice_get, slice_set}
 use Rattle.std.specs.List.{list_all, range_with_len}
-use Rattle.std.specs.Option.{option_map, option_or, option_and_then}
+use Rattle.std.specs.Option.{option_map, option_or}
 use Rattle.std.proofs.lemmas.Bool.Decides.{nat_tests}
 use Rattle.std.proofs.lemmas.List.{get_or-set_same, get_or-set_other, set-set, set-get_or}
 use Rattle.std.proofs.lemmas.Option.{slice_get-get_or, get_or_from_slice_get}
@@ -29,10 +29,9 @@ use Rattle.txn.specs.declared.transaction.Transaction.{Transaction}
 use Rattle.txn.specs.declared.transaction.Transaction.TheVariants.{Active}
 use Rattle.txn.specs.declared.write.Write.{Write}
 use Rattle.txn.specs.Transactions.{transaction_at, Sets}
-use Rattle.txn.specs.WriteSets.{write_of, plain_writes, with_write_at}
+use Rattle.txn.specs.WriteSets.{plain_writes, with_write_at}
 use Rattle.txn.proofs.Found.{all-with_write_at}
 use Rattle.txn.proofs.Plain.{plain_writes-with_write_at}
-use Rattle.dirty_table.specs.Touches.{promised_to}
 use Rattle.index.specs.Entries.{entry_at, head_of}
 use Rattle.slot_alloc.specs.Free.{is_free, lowest_free}
 use Rattle.version_slot.specs.declared.words.Version.{Version as Content}
@@ -47,14 +46,13 @@ use Rattle.step_simulation.specs.Moves.{IsSlotOf, unless_own, put_operations, Li
 use Rattle.step_simulation.proofs.Counting.{puts-count}
 use Rattle.step_simulation.proofs.puts.Leads.{puts-lead}
 use Rattle.session_steps.specs.declared.sessions.Sessions.{Sessions}
-use Rattle.session_steps.specs.Giving.{own_of, count_with, is_full_of}
-use Rattle.session_steps.specs.Shows.{Hidden, plain_of, plain_session, HasItsSlot, HoldsSession, HoldsEntry, HasLines, Agrees}
+use Rattle.session_steps.specs.Giving.{own_of, is_full_of}
+use Rattle.session_steps.specs.Shows.{Hidden, plain_of, plain_session, HasItsSlot, HoldsSession, HoldsEntry, Agrees}
 use Rattle.session_steps.specs.Steps.{Holds, HoldsOn, GoesOn, is_by_actor}
 use Rattle.session_steps.proofs.transactions.Agrees.{agrees-changed}
 use Rattle.session_steps.proofs.Failing.{failed-agrees}
 use Rattle.session_steps.proofs.slots.Freeing.{full-plain}
 use Rattle.session_steps.proofs.slots.Held.{is_nobodys_or, Moves}
-use Rattle.session_steps.proofs.puts.LineRoom.{lines-written, lines-again}
 use Rattle.session_steps.proofs.transactions.Sets.{sessions-kept, replaced-same}
 use Rattle.session_steps.proofs.slots.Owned.{own-is, own_slot-is, rising-plain}
 use Rattle.session_steps.proofs.transactions.Steps.{found}
@@ -187,15 +185,15 @@ module _ (s : Sessions) (h : Hidden) (n : ℕ) (snapshot : Seen) (writes : List 
 
     agrees-put : Moves n h.held (held_after_put q n v.key) → held_after_put q n v.key slot ≡ Some (version_by v.key (BySession n)) → slot < s.numbers.geometry.slots
         → ((other : Key) → key_eq v.key other ≡ false → (o : Option ℕ) → IsSlotOf q (version_by other (BySession n)) o → IsSlotOf then (version_by other (BySession n)) o)
-        → ((k : ℕ) → k < s.numbers.geometry.slots → slice_get slots k ≡ Some (is_none (held_after_put q n v.key k))) → length slots ≡ s.numbers.geometry.slots → 3 * count_with v.key writes ≤ promised_to s.dirty n
+        → ((k : ℕ) → k < s.numbers.geometry.slots → slice_get slots k ≡ Some (is_none (held_after_put q n v.key k))) → length slots ≡ s.numbers.geometry.slots
         → Agrees after-put h.origin h.seen then
-    agrees-put moves its lt others free counted lines =
+    agrees-put moves its lt others free counted =
         agrees-changed s h ts slots h.seen (held_after_put q n v.key) n (Some (Active snapshot (with_write_at new writes))) holds.agrees sets moves (λ m apart. refl) (
           record { covered = session.0.covered; early = session.0.early; gaps = session.0.gaps },
           all-with_write_at (HasItsSlot then (BySession n)) new writes (rising-plain h.origin q n (h.seen n) writes holds.upholds.keeps here) (record { slot = (lt, its); row = refl })
               (λ k d below apart. record { slot = others _ apart _ (session.1 k d below).slot; row = (session.1 k d below).row }),
         )
-        (lines-written new writes (promised_to s.dirty n) (rising-plain h.origin q n (h.seen n) writes holds.upholds.keeps here) lines) (λ k d below there. absurd (cc (at, there))) free counted
+        (λ k d below there. absurd (cc (at, there))) free counted
 
     -- all of it
     goes-put : Agrees after-put h.origin h.seen then → Fits s.numbers.geometry v → v.previous ≡ head_of (entry_at s.index v.key) → refusal q (step.Put n v.key v.row) ≡ None → slot < s.numbers.geometry.slots → held_after_put q n v.key slot ≡ Some (version_by v.key (BySession n))
@@ -240,13 +238,6 @@ module _ (s : Sessions) (h : Hidden) (n : ℕ) (snapshot : Seen) (writes : List 
     own-held : held_after_put q n v.key slot ≡ Some (version_by v.key (BySession n))
     own-held = ap (λ (f : ℕ → Option Version). f slot) held-same ∙ own-here.1
 
-    own-lines : 3 * count_with v.key writes ≤ promised_to s.dirty n
-    own-lines = by (write_of v.key writes) refl own-of
-      where
-        by : (o : Option Write) → write_of v.key writes ≡ o → option_and_then (λ (w : Write). w.slot) o ≡ Some slot → 3 * count_with v.key writes ≤ promised_to s.dirty n
-        by None is none = absurd (cc none)
-        by (Some write) is some = lines-again v.key write writes (promised_to s.dirty n) is (subst (λ (t : Option Transaction). HasLines (promised_to s.dirty n) t) at (holds.agrees.room n))
-
     own-allowed : refusal q (step.Put n v.key v.row) ≡ None
     own-allowed = allowed (Some slot) own-of refl
 
@@ -254,7 +245,7 @@ module _ (s : Sessions) (h : Hidden) (n : ℕ) (snapshot : Seen) (writes : List 
         → GoesOn s (record s { transactions = ts }) before now (Put n v.key v.row) Done h
     puts-own ts sets fits linked run =
         goes-put ts s.slots sets
-        (agrees-put ts s.slots sets (λ k. inl (λ i. held-same i k)) own-held own-here.0 (λ other apart o has. stays other o has) (λ k lt. holds.agrees.free k lt ∙ (λ i. Some (is_none (sym held-same i k)))) holds.agrees.counted own-lines)
+        (agrees-put ts s.slots sets (λ k. inl (λ i. held-same i k)) own-held own-here.0 (λ other apart o has. stays other o has) (λ k lt. holds.agrees.free k lt ∙ (λ i. Some (is_none (sym held-same i k)))) holds.agrees.counted)
         fits linked own-allowed own-here.0 own-held (subst (λ (ops : List Operation). Runs ops before now) (sym own-operations) run) own-only
       where
         stays : (other : Key) (o : Option ℕ) → IsSlotOf q (version_by other (BySession n)) o → IsSlotOf (then ts s.slots sets) (version_by other (BySession n)) o
@@ -293,11 +284,11 @@ module _ (s : Sessions) (h : Hidden) (n : ℕ) (snapshot : Seen) (writes : List 
     taken-allowed : refusal q (step.Put n v.key v.row) ≡ None
     taken-allowed = allowed None none (ap (λ (o : Option ℕ). is_none o) free-slot)
 
-    pub puts-taken : (ts : List (Option Transaction)) (slots : List Bool) → 3 * count_with v.key writes ≤ promised_to s.dirty n → slots ≡ slice_set s.slots slot false → Sets s.transactions ts n (Some (Active snapshot (with_write_at new writes))) → Fits s.numbers.geometry v
+    pub puts-taken : (ts : List (Option Transaction)) (slots : List Bool) → slots ≡ slice_set s.slots slot false → Sets s.transactions ts n (Some (Active snapshot (with_write_at new writes))) → Fits s.numbers.geometry v
         → v.previous ≡ head_of (entry_at s.index v.key) → Runs (clear_operations s.numbers.geometry n slot ++ fill_operations s.numbers.geometry slot v) before now → GoesOn s (record s { transactions = ts; slots = slots }) before now (Put n v.key v.row) Done h
-    puts-taken ts slots lines taken sets fits linked run =
+    puts-taken ts slots taken sets fits linked run =
         goes-put ts slots sets
-        (agrees-put ts slots sets (λ k. moves k (nat_eq k slot) refl) taken-held free-here.0 others (λ k lt. free k lt (nat_eq k slot) refl) (ap (λ (xs : List Bool). length xs) taken ∙ length-set s.slots slot false ∙ holds.agrees.counted) lines)
+        (agrees-put ts slots sets (λ k. moves k (nat_eq k slot) refl) taken-held free-here.0 others (λ k lt. free k lt (nat_eq k slot) refl) (ap (λ (xs : List Bool). length xs) taken ∙ length-set s.slots slot false ∙ holds.agrees.counted))
         fits linked taken-allowed free-here.0 taken-held (subst (λ (ops : List Operation). Runs ops before now) (sym taken-operations) run) taken-only
       where
         at-slot : (k : ℕ) → held_after_put q n v.key k ≡ cond (nat_eq k slot) (Some (version_by v.key (BySession n))) (h.held k)

@@ -1,5 +1,5 @@
 -- Steps that give slots back: Abort and Delete.
-use Rattle.std.proofs.Common.{◌≡◌, ◌⊎◌, inl, inr, ℕ, ◌*◌, ◌<◌, ◌≤◌, Bool, true, false, ◌&&◌, cond, List, [], ◌∷◌, length, refl, sym, ◌∙◌, ap, subst, arith, length-set}
+use Rattle.std.proofs.Common.{◌≡◌, ◌⊎◌, inl, inr, ℕ, ◌<◌, Bool, true, false, ◌&&◌, cond, List, [], ◌∷◌, length, refl, sym, ◌∙◌, ap, subst, arith, length-set}
 use Rattle.std.specs.Prelude.{Option, Some, None, is_none, All, slice_get, nat_le}
 use Rattle.std.specs.Option.{option_map, option_and_then}
 use Rattle.std.proofs.lemmas.Bool.Decides.{nat_tests}
@@ -25,16 +25,14 @@ use Rattle.txn.proofs.Plain.{plain_writes-with_write_at, lookup_key-plain_writes
 use Rattle.state_invariant.specs.Kept.{version_by}
 use Rattle.state_invariant.proofs.Lookups.{apart-keys, held-by}
 use Rattle.state_invariant.proofs.sessions.Steps.{version-parts, own-at}
-use Rattle.dirty_table.specs.Touches.{promised_to}
 use Rattle.session_steps.specs.declared.sessions.Sessions.{Sessions}
-use Rattle.session_steps.specs.Giving.{fits_slot, fits_writes, GivesBack, own_of, given, is_full_of, count_with}
+use Rattle.session_steps.specs.Giving.{fits_slot, fits_writes, GivesBack, own_of, given, is_full_of}
 use Rattle.step_simulation.specs.Moves.{IsSlotOf}
 use Rattle.session_steps.specs.Shows.{Hidden, plain_of, plain_session, HasItsSlot, HoldsSession}
 use Rattle.session_steps.specs.Steps.{Holds, Goes}
 use Rattle.session_steps.proofs.transactions.Agrees.{agrees-changed}
 use Rattle.session_steps.proofs.slots.Freed.{given-same, given-other}
 use Rattle.session_steps.proofs.slots.Held.{is_nobodys_or}
-use Rattle.session_steps.proofs.puts.LineRoom.{lines-written}
 use Rattle.session_steps.proofs.transactions.Sets.{sessions-kept}
 use Rattle.session_steps.proofs.slots.Owned.{found-in, fits-all, own-is, own-test, rising-plain}
 use Rattle.session_steps.proofs.transactions.Steps.{found}
@@ -73,7 +71,7 @@ aborts s ts slots n snapshot writes h at gives sets holds = record {
   next = record h { held = held_after_abort (plain_of s h) n };
   origin = refl;
   drawers = same-drawers s.drawn.commits;
-  agrees = agrees-changed s h ts slots h.seen (held_after_abort (plain_of s h) n) n None holds.agrees sets (λ slot. moves slot (is_held_by n (h.held slot)) refl) (λ m apart. refl) tt tt
+  agrees = agrees-changed s h ts slots h.seen (held_after_abort (plain_of s h) n) n None holds.agrees sets (λ slot. moves slot (is_held_by n (h.held slot)) refl) (λ m apart. refl) tt
       (λ k d lt there. absurd (cc (at, there))) (λ slot lt. free slot lt (is_held_by n (h.held slot)) refl) (gives.size ∙ holds.agrees.counted);
   stepped = answered (passes (plain_of s h) (step.Abort n) n _ holds.works refl (found s h n _ at) refl) refl
       (λ i. record (plain_of s h) { sessions = λ m. sessions-kept s.transactions ts h.seen n None sets m i; held = held_after_abort (plain_of s h) n });
@@ -140,14 +138,14 @@ other-version n key other o apart at own =
     apart-keys key other apart (version-parts same).1
 
 pub deletes : (s : Sessions) (ts : List (Option Transaction)) (slots : List Bool) (n : ℕ) (key : Key) (place : Option ℕ) (snapshot : Seen) (writes : List Write) (h : Hidden) → transaction_at s.transactions n ≡ Some (Active snapshot writes)
-    → is_full_of key writes ≡ false → 3 * count_with key writes ≤ promised_to s.dirty n → slots ≡ given (own_of key writes) s.slots → Sets s.transactions ts n (Some (Active snapshot (with_write_at (deletion key place) writes))) → Holds s h
+    → is_full_of key writes ≡ false → slots ≡ given (own_of key writes) s.slots → Sets s.transactions ts n (Some (Active snapshot (with_write_at (deletion key place) writes))) → Holds s h
     → Goes s (record s { transactions = ts; slots = slots }) (Delete n key) Done h
-deletes s ts slots n key place snapshot writes h at full room gives sets holds = record {
+deletes s ts slots n key place snapshot writes h at full gives sets holds = record {
   next = record h { held = held };
   origin = refl;
   drawers = same-drawers s.drawn.commits;
   agrees = agrees-changed s h ts slots h.seen held n (Some (Active snapshot (with_write_at (deletion key place) writes))) holds.agrees sets (λ slot. moves slot (is_own_at n key (h.held slot)) refl) (λ m apart. refl)
-      (record { covered = session.0.covered; early = session.0.early; gaps = session.0.gaps }, written) (lines-written (deletion key place) writes (promised_to s.dirty n) (rising-plain h.origin (plain_of s h) n (h.seen n) writes holds.keeps (found s h n _ at)) room)
+      (record { covered = session.0.covered; early = session.0.early; gaps = session.0.gaps }, written)
       (λ k d lt there. absurd (cc (at, there))) (λ slot lt. free slot lt (is_own_at n key (h.held slot)) refl (own_of key writes) own gives) (counted (own_of key writes) gives);
   stepped = answered (delete-asks s h n key snapshot writes false holds at full) refl
       (λ i. record (plain_of s h) { sessions = λ m. (sessions-kept s.transactions ts h.seen n (Some (Active snapshot (with_write_at (deletion key place) writes))) sets m ∙ ap (λ (x : Option Session). replaced n x (plain_of s h).sessions m) now) i; held = held });

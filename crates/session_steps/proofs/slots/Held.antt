@@ -8,7 +8,7 @@ use Rattle.base.specs.Layout.{Layout, version_lines}
 use Rattle.machine.specs.Machine.{State, Version, Writer, BySession, ByCommit, is_by}
 use Rattle.txn.specs.declared.drawn.DrawnCommit.{DrawnCommit}
 use Rattle.txn.specs.declared.write.Write.{Write}
-use Rattle.dirty_table.specs.declared.touches.Touch.{Touch}
+use Rattle.dirty_table.specs.declared.sessions.SessionSet.{SessionSet}
 use Rattle.state_invariant.specs.Kept.{version_by}
 use Rattle.device_invariant.specs.Log.{is_own, is_ended, lines_in, line_at, line_number}
 use Rattle.step_simulation.specs.Moves.{IsSlotOf}
@@ -111,7 +111,7 @@ lines-kept n q q' commits same = numbers-by-tests q q' commits same.layout (λ s
             by (ByCommit t) = λ i. nat_eq (last_writer (same.history i) v.key) t && list_any (writes_key v.key) commits
     ended slot (inr both) = own-not-ended n q' commits (q'.held slot) both.1 ∙ sym (own-not-ended n q commits (q.held slot) both.0)
 
-pub table-kept : (n : ℕ) (q q' : State) (drawn : List DrawnCommit) (dirty : List Touch) → SameBut n q q' → HoldsLines q drawn dirty → HoldsLines q' drawn dirty
+pub table-kept : (n : ℕ) (q q' : State) (drawn : List DrawnCommit) (dirty : List SessionSet) → SameBut n q q' → HoldsLines q drawn dirty → HoldsLines q' drawn dirty
 table-kept n q q' drawn dirty same holds = record {
   own = λ k d lt line. holds.own k d lt line ∙ ap (λ (ls : List ℕ). list_any (λ l. nat_eq l line) ls) (sym (lines-kept n q q' ((plain_drawn (get_or drawn k d)).commit ∷ []) same));
   none = holds.none;

@@ -138,12 +138,12 @@ module _ (s : Sessions) (h : Hidden) (t spare : ℕ) where
       drawn = λ slot at. let has = e.drawn slot at in let still = found-stamped t has.1.0 s.drawn.commits has.1.1 has.1.2 in (has.0, (has.1.0, still.0, still.1, ap (writes_key key) still.2 ∙ has.1.3));
     };
     lines = record {
-      own = All-map (λ d. (line : ℕ) → is_touched s.dirty.touches d.session line ≡ list_any (λ l. nat_eq l line) (line_numbers (plain_of stamped h) ((plain_drawn d).commit ∷ []))) (with_stamp t) s.drawn.commits
-          (λ k d lt line. ap (λ (n : ℕ). is_touched s.dirty.touches n line) (same-session t (get_or s.drawn.commits k d)) ∙ agrees.lines.own k d lt line
+      own = All-map (λ d. (line : ℕ) → is_touched s.dirty d.session line ≡ list_any (λ l. nat_eq l line) (line_numbers (plain_of stamped h) ((plain_drawn d).commit ∷ []))) (with_stamp t) s.drawn.commits
+          (λ k d lt line. ap (λ (n : ℕ). is_touched s.dirty n line) (same-session t (get_or s.drawn.commits k d)) ∙ agrees.lines.own k d lt line
           ∙ ap (λ (c : Commit). list_any (λ l. nat_eq l line) (line_numbers (plain_of s h) (c ∷ []))) (sym (same-commit t (get_or s.drawn.commits k d))));
       none = λ n line out. agrees.lines.none n line (sym (by-stamped t n s.drawn.commits) ∙ out);
     };
-    room = agrees.room;
+    sized = agrees.sized;
   }
 
 -- ---- one commit has a timestamp

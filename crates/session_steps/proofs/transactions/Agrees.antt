@@ -10,10 +10,9 @@ use Rattle.txn.specs.Transactions.{transaction_at, Sets}
 use Rattle.index.specs.Entries.{entry_at, live_of}
 use Rattle.state_invariant.specs.Kept.{Origin}
 use Rattle.device_invariant.specs.Slots.{newest_of}
-use Rattle.dirty_table.specs.Touches.{promised_to}
 use Rattle.session_steps.specs.declared.sessions.Sessions.{Sessions}
 use Rattle.session_laws.specs.Sees.{Sees}
-use Rattle.session_steps.specs.Shows.{Hidden, plain_of, HoldsSession, HoldsDrawn, HasLines, Agrees}
+use Rattle.session_steps.specs.Shows.{Hidden, plain_of, HoldsSession, HoldsDrawn, Agrees}
 use Rattle.session_steps.proofs.transactions.Sets.{each-set}
 use Rattle.session_steps.proofs.slots.Held.{SameBut, Moves, slot-kept, version-kept, version-before, writes-kept, table-kept}
 
@@ -29,19 +28,19 @@ session-kept o n m q q' seen (Some ReadOnly) same sees apart holds = tt
 pub agrees-changed : (s : Sessions) (h : Hidden) (ts : List (Option Transaction)) (slots : List Bool) (seen : ℕ → ℕ) (held : ℕ → Option Version) (n : ℕ) (x : Option Transaction)
     → Agrees s h.origin h.seen (plain_of s h) → Sets s.transactions ts n x → Moves n h.held held
     → ((m : ℕ) → nat_eq m n ≡ false → seen m ≡ h.seen m)
-    → HoldsSession h.origin (plain_of (record s { transactions = ts; slots = slots }) (record h { seen = seen; held = held })) n (seen n) x → HasLines (promised_to s.dirty n) x
+    → HoldsSession h.origin (plain_of (record s { transactions = ts; slots = slots }) (record h { seen = seen; held = held })) n (seen n) x
     → All (λ (d : DrawnCommit). transaction_at s.transactions n ≡ Some (Drawn d.timestamp) → ⊥) s.drawn.commits
     → ((slot : ℕ) → slot < s.numbers.geometry.slots → slice_get slots slot ≡ Some (is_none (held slot))) → length slots ≡ s.numbers.geometry.slots
     → Agrees (record s { transactions = ts; slots = slots }) h.origin seen (plain_of (record s { transactions = ts; slots = slots }) (record h { seen = seen; held = held }))
-agrees-changed s h ts slots seen held n x agrees sets moves same-seen here has-room apart free counted = record {
+agrees-changed s h ts slots seen held n x agrees sets moves same-seen here apart free counted = record {
   sessions = each-set (λ m t. HoldsSession h.origin q' m (seen m) t) s.transactions ts n x sets here
       (λ m ne. subst (λ (k : ℕ). HoldsSession h.origin q' m k (transaction_at s.transactions m)) (sym (same-seen m ne)) (session-kept h.origin n m q q' (h.seen m) (transaction_at s.transactions m) same (λ snapshot sees. record { covered = sees.covered; early = sees.early; gaps = sees.gaps }) ne (agrees.sessions m)));
   drawn = λ k d lt. drawn _ (agrees.drawn k d lt) (apart k d lt);
   free = free;
   counted = counted;
   index = λ key. let e = agrees.index key in record { live = slot-kept n q q' (newest_of q key) (live_of (entry_at s.index key)) same refl e.live; last = e.last; newest = λ t slot last lt at. e.newest t slot last lt (version-before n q q' key slot t same at); only = λ slot at. version-kept n q q' key slot same (e.only slot at); drawn = e.drawn };
-  lines = table-kept n q q' s.drawn.commits s.dirty.touches same agrees.lines;
-  room = each-set (λ m t. HasLines (promised_to s.dirty m) t) s.transactions ts n x sets has-room (λ m apart. agrees.room m);
+  lines = table-kept n q q' s.drawn.commits s.dirty same agrees.lines;
+  sized = agrees.sized;
 }
   where
     q : State

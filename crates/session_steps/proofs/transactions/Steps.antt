@@ -118,7 +118,7 @@ begins s ts n snapshot h lowest is sets holds = record {
   origin = refl;
   drawers = same-drawers s.drawn.commits;
   agrees = agrees-changed s h ts s.slots seen h.held n (Some (Active snapshot [])) holds.agrees sets (λ slot. inl refl) (λ m apart. replaced-other n m (length h.history) h.seen apart)
-      (subst (λ (k : ℕ). HoldsSession h.origin (plain_of (record s { transactions = ts }) (record h { seen = seen })) n k (Some (Active snapshot []))) (sym (replaced-same n (length h.history) h.seen)) (sees, All-nil _)) (omega arith)
+      (subst (λ (k : ℕ). HoldsSession h.origin (plain_of (record s { transactions = ts }) (record h { seen = seen })) n k (Some (Active snapshot []))) (sym (replaced-same n (length h.history) h.seen)) (sees, All-nil _))
       (λ k d lt there. absurd (cc (lowest.free, there))) holds.agrees.free holds.agrees.counted;
   stepped =
       let free = free-at s h n lowest in
@@ -170,7 +170,7 @@ ends s ts n h over sets holds = record {
   next = h;
   origin = refl;
   drawers = same-drawers s.drawn.commits;
-  agrees = agrees-changed s h ts s.slots h.seen h.held n None holds.agrees sets (λ slot. inl refl) (λ m apart. refl) tt tt (apart (transaction_at s.transactions n) refl over) holds.agrees.free holds.agrees.counted;
+  agrees = agrees-changed s h ts s.slots h.seen h.held n None holds.agrees sets (λ slot. inl refl) (λ m apart. refl) tt (apart (transaction_at s.transactions n) refl over) holds.agrees.free holds.agrees.counted;
   stepped = answered (allowed (transaction_at s.transactions n) refl over) refl (λ i. record (plain_of s h) { sessions = λ m. sessions-kept s.transactions ts h.seen n None sets m i });
 }
   where

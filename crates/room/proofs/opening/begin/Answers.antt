@@ -1,4 +1,5 @@
-use Rattle.std.proofs.Common.{◌≡◌, ◌<◌, ◌^◌, ℕ, List, map, Bool, length, sym, ◌∙◌, ap, subst}
+use Rattle.std.proofs.Common.{◌≡◌, ◌<◌, ◌^◌, ℕ, List, map, Bool, length, sym, ◌∙◌, ap, subst, arith}
+use Rattle.base.specs.Layout.{total_words}
 use Rattle.base.specs.declared.fault.Fault.TheVariants.{OutOfMemory}
 use Rattle.pmem.specs.Words.{image_of}
 use Rattle.recovery.specs.Slots.{free_below}
@@ -12,7 +13,7 @@ use Rattle.index.specs.declared.entry.Entry.{Entry}
 use Rattle.index.specs.Entries.{ArePlaced}
 use Rattle.room.specs.Opening.{entry_of}
 use Rattle.room.proofs.openings.LiveIndex.{are-placed, listed-found}
-use Rattle.room.proofs.openings.Shown.{free-counted, examined-few, examined-free-now, examined-found}
+use Rattle.room.proofs.openings.Shown.{old-words, free-counted, examined-few, examined-free-now, examined-found}
 use Rattle.room.proofs.opening.begin.Goals as goal
 
 pub returns-in-Err-clause-fault : goal.returns-in-Err-clause-fault
@@ -45,6 +46,15 @@ returns-in-Err-new-clause-log g c =
 pub returns-in-Err-new-clause-images : goal.returns-in-Err-new-clause-images
 returns-in-Err-new-clause-images g c = images-refused (g.D.Pmem.state c.args.device.now) ((g.met.D.Pmem g.world.𝓛 g.world.𝓜 g.world.𝓡 ((λ s x. x), (λ x. x), (λ x. x), λ x. x)).orderly c.args.device.now) c.requires.at_rest
 
+-- ---- the table of lines
+
+pub returns-in-Err-new-2-clause-log : goal.returns-in-Err-new-2-clause-log
+returns-in-Err-new-2-clause-log g c =
+    tells-examined (image_of (g.D.Pmem.state c.args.device.now)) c.in-Ok.found.geometry c.in-Ok.found.ruling c.in-Ok.found.gaps c.in-Ok.found.free.items c.in-Ok.found.live.items c.in-Ok.ensures.ok OutOfMemory
+
+pub returns-in-Err-new-2-clause-images : goal.returns-in-Err-new-2-clause-images
+returns-in-Err-new-2-clause-images g c = images-refused (g.D.Pmem.state c.args.device.now) ((g.met.D.Pmem g.world.𝓛 g.world.𝓜 g.world.𝓡 ((λ s x. x), (λ x. x), (λ x. x), λ x. x)).orderly c.args.device.now) c.requires.at_rest
+
 -- ---- the operations
 
 pub returns-in-Err-open-clause-fault : goal.returns-in-Err-open-clause-fault
@@ -74,6 +84,11 @@ open-sessions-requires g c = record {
       ∙ sym (examined-free-now (g.D.Pmem.state c.args.device.now) c.in-Ok.found.geometry c.in-Ok.found.ruling c.in-Ok.found.gaps c.in-Ok.found.free.items c.in-Ok.found.live.items c.in-Ok.ensures.ok
       (g.D.Pmem.state c.open.new.device) c.in-Ok-open.life.geometry c.in-Ok-open.life.ruling c.in-Ok-open.life.next c.in-Ok-open.life.free.items c.in-Ok-open.life.live.items c.in-Ok-open.ensures.ok))
       ∙ free-counted (g.D.Pmem.state c.args.device.now) (g.D.Pmem.state c.open.new.device) c.in-Ok-open.life.geometry c.in-Ok-open.life.ruling c.in-Ok-open.life.next c.in-Ok-open.life.free.items c.in-Ok-open.life.live.items c.in-Ok-open.ensures.ok;
+  untouched = c.in-Ok-new-2.ensures.touches;
+  sized =
+      let words : (g.D.Pmem.state c.args.device.now).words ≡ total_words c.in-Ok-open.life.geometry =
+      old-words (g.D.Pmem.state c.args.device.now) (g.D.Pmem.state c.open.new.device) c.in-Ok-open.life.geometry c.in-Ok-open.life.ruling c.in-Ok-open.life.next c.in-Ok-open.life.free.items c.in-Ok-open.life.live.items c.in-Ok-open.ensures.ok in
+      omega (arith, words, c.words.ensures, c.in-Ok-new-2.ensures.lines);
 }
 
 pub returns-clause-ok : goal.returns-clause-ok
@@ -98,7 +113,7 @@ returns-clause-ok g c =
           ∙ sym (examined-free-now old c.in-Ok.found.geometry c.in-Ok.found.ruling c.in-Ok.found.gaps c.in-Ok.found.free.items c.in-Ok.found.live.items c.in-Ok.ensures.ok new life.geometry life.ruling life.next life.free.items life.live.items c.in-Ok-open.ensures.ok) in
           let shown : ShowsOpened c.open-sessions.result new life.geometry life.ruling life.next c.in-Ok-new.slots =
           c.open-sessions.ensures new ((g.met.D.Pmem g.world.𝓛 g.world.𝓜 g.world.𝓡 ((λ s x. x), (λ x. x), (λ x. x), λ x. x)).orderly c.open.new.device) (subst (λ (l : List Bool). HasFound (image_of new) l life.geometry.slots c.of-index.result) (sym slots) found) in
-          subst (λ (s : Sessions). ShowsOpened s new life.geometry life.ruling life.next life.free.items) (sym c.new-2.ensures.sessions)
+          subst (λ (s : Sessions). ShowsOpened s new life.geometry life.ruling life.next life.free.items) (sym c.new-3.ensures.sessions)
           (subst (λ (l : List Bool). ShowsOpened c.open-sessions.result new life.geometry life.ruling life.next l) slots shown);
-      rests = c.new-2.ensures.rests;
+      rests = c.new-3.ensures.rests;
     }

@@ -1,4 +1,4 @@
-use Rattle.std.proofs.Common.{◌∙◌, ◌++◌, [], sym, ap, subst, arith, take, ℕ, List}
+use Rattle.std.proofs.Common.{◌∙◌, ◌++◌, [], sym, ap, subst, take, ℕ, List}
 use Rattle.std.specs.Prelude.{Option}
 use Rattle.std.specs.Option.{option_map_or}
 use Rattle.index.specs.declared.entry.Entry.{Entry}
@@ -19,8 +19,7 @@ loop-write-preserved c =
       lines =
           touches-more (touched_lines c.args.geometry c.args.index.now) c.args.session c.loop-write.write-index c.as_slice-write-items.result.now c.write-item.result (option_map_or (own_lines c.args.geometry) c.write-item.result.slot [])
           (option_map_or (ended_lines c.args.geometry) c.draw-ended.result []) c.args.dirty.now c.loop-write.dirty c.touch_own.new.dirty c.touch_ended.new.dirty c.loop-write-test.true c.write-item.is
-          (ap (λ (o : Option ℕ). option_map_or (own_lines c.args.geometry) c.write-item.result.slot [] ++ option_map_or (ended_lines c.args.geometry) o []) (sym live)) c.loop-write.invariant.lines c.touch_own.ensures.lines c.touch_ended.ensures.lines;
-      room = omega (arith, c.loop-write.invariant.room, c.touch_own.ensures.left, c.touch_ended.ensures.left);
+          (ap (λ (o : Option ℕ). option_map_or (own_lines c.args.geometry) c.write-item.result.slot [] ++ option_map_or (ended_lines c.args.geometry) o []) (sym live)) c.loop-write.invariant.lines c.touch_own.ensures c.touch_ended.ensures;
       entries =
           note-next c.as_slice-write-items.result.now c.loop-write.write-index c.args.timestamp c.write-item.result c.args.index.now c.loop-write.index c.draw-ended.new.self c.loop-write-test.true c.write-item.is
           (subst (λ (ws : List Write). IsRising ws) (sym c.as_slice-write-items.ensures.slice) c.as_slice-write-items.ensures.rising) c.loop-write.invariant.entries c.draw-ended.ensures.entries;

@@ -1,22 +1,25 @@
-use Rattle.std.proofs.Common.{◌≡◌, ◌∙◌, true, Option, ap, subst, sym}
-use Rattle.std.specs.Option.{option_map}
-use Rattle.dirty_table.specs.declared.touches.Touch.{Touch}
-use Rattle.dirty_table.specs.Touches.{has, are_in_order, Table}
-use Rattle.dirty_table.proofs.Tables.{next_line_from, lines_touched-rising}
+use Rattle.std.proofs.Common.{ℕ, subst, sym, ◌∙◌}
+use Rattle.std.specs.Prelude.{Option, IfNone}
+use Rattle.dirty_table.specs.Touches.{IsUntouchedFrom}
+use Rattle.dirty_table.proofs.Tables.{walks-first, walks-found, walks-on, walks-past, lines_touched-rising}
 use Rattle.dirty_table.proofs.table.DirtyTable.next.Goals as goal
 
-pub returns-in_err-touch-clause-line : goal.returns-in_err-touch-clause-line
-returns-in_err-touch-clause-line c =
-    c.from_residual.ensures ∙ ap (λ (o : Option Touch). option_map (λ (touch : Touch). touch.line) o) (sym c.in_err-touch.was)
-    ∙ next_line_from (has c.args.sessions.now) c.args.from c.args.self.now.touches c.as_slice.result.now c.first.result c.first.ensures (c.as_slice.ensures.value ∙ ap (λ (t : Table). t.touches) c.self.view_is)
+pub loop-line-init : goal.loop-line-init
+loop-line-init c = walks-first c.args.sessions.now c.args.self.now c.args.from
 
-pub returns-in_err-touch-clause-rising : goal.returns-in_err-touch-clause-rising
-returns-in_err-touch-clause-rising c = lines_touched-rising (has c.args.sessions.now) c.args.self.now.touches (subst (λ (t : Table). are_in_order t.touches ≡ true) c.self.view_is c.self.invariant.0)
+pub loop-line-preserved : goal.loop-line-preserved
+loop-line-preserved c = walks-on c.args.sessions.now c.args.self.now c.args.from c.loop-line.low c.loop-line.invariant c.in-Some.line c.in-Some.ensures.some (sym c.meets.ensures ∙ c.if-meets.false)
+
+pub returns-then-meets-clause-line : goal.returns-then-meets-clause-line
+returns-then-meets-clause-line c = walks-found c.args.sessions.now c.args.self.now c.args.from c.loop-line.low c.loop-line.invariant c.in-Some.line c.in-Some.ensures.some (sym c.meets.ensures ∙ c.if-meets.true)
+
+pub returns-then-meets-clause-rising : goal.returns-then-meets-clause-rising
+returns-then-meets-clause-rising c = lines_touched-rising c.args.sessions.now c.args.self.now
 
 pub returns-clause-line : goal.returns-clause-line
 returns-clause-line c =
-    ap (λ (o : Option Touch). option_map (λ (touch : Touch). touch.line) o) (sym c.in_ok-touch.was)
-    ∙ next_line_from (has c.args.sessions.now) c.args.from c.args.self.now.touches c.as_slice.result.now c.first.result c.first.ensures (c.as_slice.ensures.value ∙ ap (λ (t : Table). t.touches) c.self.view_is)
+    walks-past c.args.sessions.now c.args.self.now c.args.from c.loop-line.low c.loop-line.invariant
+    (subst (λ (r : Option ℕ). IfNone r (IsUntouchedFrom c.args.self.now c.loop-line.low)) c.in_default.is c.next_touched.ensures.none)
 
 pub returns-clause-rising : goal.returns-clause-rising
-returns-clause-rising c = lines_touched-rising (has c.args.sessions.now) c.args.self.now.touches (subst (λ (t : Table). are_in_order t.touches ≡ true) c.self.view_is c.self.invariant.0)
+returns-clause-rising c = lines_touched-rising c.args.sessions.now c.args.self.now

@@ -1,7 +1,7 @@
 use Rattle.std.proofs.Common.{◌+◌, ◌≤◌, ap, subst, sym, ◌∙◌, arith}
 use Rattle.std.specs.Prelude.{IsTrue}
 use Rattle.std.proofs.lemmas.Bool.{leb-true, le-leb}
-use Rattle.dirty_table.specs.Touches.{has, lines_touched}
+use Rattle.dirty_table.specs.Touches.{lines_touched}
 use Rattle.group_commit.specs.declared.stage.CycleStage.{CycleStage}
 use Rattle.group_commit.specs.Cycles.{Cycling, line_from, is_counted}
 use Rattle.group_commit.proofs.Batches.{found-from}
@@ -10,8 +10,8 @@ use Rattle.group_commit.proofs.cycle.Cycle.tick.Goals as goal
 pub flush-requires : goal.flush-requires
 flush-requires g c =
     c.requires.lines c.in-Some.line
-    (sym (ap (λ (v : Cycling). line_from (lines_touched (has v.sessions) c.args.table.now.touches) v.stage) c.self.view_is)
-    ∙ ap (λ (s : CycleStage). line_from (lines_touched (has c.self.inside.sessions) c.args.table.now.touches) s) c.in-FlushLines.is ∙ sym c.next.ensures.line ∙ c.in-Some.is)
+    (sym (ap (λ (v : Cycling). line_from (lines_touched v.sessions c.args.table.now) v.stage) c.self.view_is)
+    ∙ ap (λ (s : CycleStage). line_from (lines_touched c.self.inside.sessions c.args.table.now) s) c.in-FlushLines.is ∙ sym c.next.ensures.line ∙ c.in-Some.is)
 
 pub overflow_add-self : goal.overflow_add-self
 overflow_add-self g c =
@@ -22,8 +22,8 @@ overflow_add-self g c =
 pub overflow_add-self-in-Some : goal.overflow_add-self-in-Some
 overflow_add-self-in-Some g c = omega (arith, c.if-prove.false)
 
-pub invariant_of-self-in-Some : goal.invariant_of-self-in-Some
-invariant_of-self-in-Some g c =
+pub invariant_of-self : goal.invariant_of-self
+invariant_of-self g c =
     let counted : c.in-FlushLines.flushed ≤ c.in-FlushLines.from = leb-true c.in-FlushLines.flushed c.in-FlushLines.from (subst (λ (s : CycleStage). IsTrue (is_counted s)) c.in-FlushLines.is c.self.invariant) in
     let above = found-from c.in-FlushLines.from c.in-Some.line _ (sym c.next.ensures.line ∙ c.in-Some.is) in
     le-leb (c.in-FlushLines.flushed + 1) (c.in-Some.line + 1) (omega (arith, counted, above))

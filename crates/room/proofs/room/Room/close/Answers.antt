@@ -20,3 +20,9 @@ returns-in-Ok-clause-ok g c = λ q shows. c.in-Ok.ensures.ok q shows.agrees.show
 
 pub returns-clause-images : goal.returns-clause-images
 returns-clause-images g c = λ q shows. c.in-Err.ensures.images q shows.agrees.shown (shows.agrees.failed ∙ c.if-failed.false)
+
+pub returns-in-Ok-clause-may_close : goal.returns-in-Ok-clause-may_close
+returns-in-Ok-clause-may_close g c = λ q shows. c.in-Ok.ensures.may_close q shows.agrees.shown (shows.agrees.failed ∙ c.if-failed.false)
+
+pub returns-clause-fault : goal.returns-clause-fault
+returns-clause-fault g c = λ q shows. c.in-Err.ensures.fault q shows.agrees.shown (shows.agrees.failed ∙ c.if-failed.false)

@@ -1,4 +1,4 @@
-use Rattle.std.proofs.Common.{◌≡◌, ◌+◌, ◌^◌, ◌<◌, true, sym, ◌∙◌, ap, subst}
+use Rattle.std.proofs.Common.{◌≡◌, ◌+◌, ◌^◌, ◌<◌, List, true, sym, ◌∙◌, ap, subst}
 use Rattle.std.proofs.lemmas.Bool.{iff_false}
 use Rattle.std.specs.Prelude.{nat_eq}
 use Rattle.std.specs.List.{list_any}
@@ -7,7 +7,8 @@ use Rattle.base.specs.Records.{are_rising}
 use Rattle.base.proofs.Results.{reported}
 use Rattle.pmem.specs.Trace.{applied}
 use Rattle.log_area.specs.Writings.{begun}
-use Rattle.dirty_table.specs.Touches.{has, lines_touched, Table}
+use Rattle.dirty_table.specs.declared.sessions.SessionSet.{SessionSet}
+use Rattle.dirty_table.specs.Touches.{lines_touched}
 use Rattle.txn.specs.InFlight.{InFlight}
 use Rattle.group_commit.specs.Cycles.{line_from, operation_in, ticked_in}
 use Rattle.session_steps.specs.declared.numbers.Numbers.{Numbers}
@@ -41,7 +42,7 @@ tick-requires-clause-lines g c =
     let state = g.D.Pmem.state in
     λ line is.
     line-fits c.args.self.now (state c.args.device.now) (state c.loop-cycle.device) c.loop-cycle.cycle c.loop-cycle.invariant c.requires.rests c.requires.stamped c.requires.numbered c.requires.shown (g.met.D.Pmem.orderly _) line
-    (sym (λ i. line_from (lines_touched (has c.loop-cycle.cycle.sessions) (c.dirty.ensures i).touches) c.loop-cycle.cycle.stage) ∙ is)
+    (sym (λ i. line_from (lines_touched c.loop-cycle.cycle.sessions (c.dirty.ensures i)) c.loop-cycle.cycle.stage) ∙ is)
 
 pub returns-in_err-tick-clause-err : goal.returns-in_err-tick-clause-err
 returns-in_err-tick-clause-err g c =
@@ -55,18 +56,18 @@ loop-cycle-smaller g c =
     let state = g.D.Pmem.state in
     comes-closer c.args.self.now (state c.args.device.now) (state c.loop-cycle.device) c.loop-cycle.cycle c.loop-cycle.invariant c.requires.rests c.requires.stamped c.requires.numbered
     (state c.tick.new.device) (g.met.D.Pmem.orderly _) (g.met.D.Pmem.orderly _) (iff_false c.is_done.ensures c.loop-cycle-test.true)
-    (λ count from is. subst (λ (t : Table). are_rising (lines_touched (has c.loop-cycle.cycle.sessions) t.touches) ≡ true) c.dirty.ensures (c.tick.ensures.rising count from is))
-    (c.in_ok-tick.ensures.operation ∙ λ i. applied (operation_in (lines_touched (has c.loop-cycle.cycle.sessions) (c.dirty.ensures i).touches) c.loop-cycle.cycle) (state c.loop-cycle.device))
-    c.tick.new.self (c.in_ok-tick.ensures.ok ∙ λ i. ticked_in (lines_touched (has c.loop-cycle.cycle.sessions) (c.dirty.ensures i).touches) c.loop-cycle.cycle)
+    (λ count from is. subst (λ (t : List SessionSet). are_rising (lines_touched c.loop-cycle.cycle.sessions t) ≡ true) c.dirty.ensures (c.tick.ensures.rising count from is))
+    (c.in_ok-tick.ensures.operation ∙ λ i. applied (operation_in (lines_touched c.loop-cycle.cycle.sessions (c.dirty.ensures i)) c.loop-cycle.cycle) (state c.loop-cycle.device))
+    c.tick.new.self (c.in_ok-tick.ensures.ok ∙ λ i. ticked_in (lines_touched c.loop-cycle.cycle.sessions (c.dirty.ensures i)) c.loop-cycle.cycle)
 
 pub loop-cycle-preserved : goal.loop-cycle-preserved
 loop-cycle-preserved g c =
     let state = g.D.Pmem.state in
     ticks c.args.self.now (state c.args.device.now) (state c.loop-cycle.device) c.loop-cycle.cycle c.loop-cycle.invariant c.requires.rests c.requires.stamped c.requires.numbered
     (state c.tick.new.device) (g.met.D.Pmem.orderly _) (g.met.D.Pmem.orderly _) (iff_false c.is_done.ensures c.loop-cycle-test.true)
-    (λ count from is. subst (λ (t : Table). are_rising (lines_touched (has c.loop-cycle.cycle.sessions) t.touches) ≡ true) c.dirty.ensures (c.tick.ensures.rising count from is))
-    (c.in_ok-tick.ensures.operation ∙ λ i. applied (operation_in (lines_touched (has c.loop-cycle.cycle.sessions) (c.dirty.ensures i).touches) c.loop-cycle.cycle) (state c.loop-cycle.device))
-    c.tick.new.self (c.in_ok-tick.ensures.ok ∙ λ i. ticked_in (lines_touched (has c.loop-cycle.cycle.sessions) (c.dirty.ensures i).touches) c.loop-cycle.cycle)
+    (λ count from is. subst (λ (t : List SessionSet). are_rising (lines_touched c.loop-cycle.cycle.sessions t) ≡ true) c.dirty.ensures (c.tick.ensures.rising count from is))
+    (c.in_ok-tick.ensures.operation ∙ λ i. applied (operation_in (lines_touched c.loop-cycle.cycle.sessions (c.dirty.ensures i)) c.loop-cycle.cycle) (state c.loop-cycle.device))
+    c.tick.new.self (c.in_ok-tick.ensures.ok ∙ λ i. ticked_in (lines_touched c.loop-cycle.cycle.sessions (c.dirty.ensures i)) c.loop-cycle.cycle)
 
 pub returns-clause-ok : goal.returns-clause-ok
 returns-clause-ok g c =

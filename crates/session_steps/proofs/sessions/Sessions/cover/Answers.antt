@@ -27,7 +27,7 @@ pub returns-clause-covers : goal.returns-clause-covers
 returns-clause-covers c = λ h hand may.
     subst (λ (ts : List (Option Transaction)). HasCovered c.args.self.now (record c.args.self.now { numbers = record { geometry = c.args.self.now.numbers.geometry; «record» = c.args.ruling; next = c.args.self.now.numbers.next }; index = c.cover_commits.new.index; dirty = c.forget.new.self; drawn = c.cover.new.self; transactions = ts }) h hand) (sym c.cover.ensures.transactions)
     (has-covered c.args.self.now c.args.ruling h hand may c.cover_commits.new.index c.forget.new.self c.sessions_of-sessions.result c.cover.new.self
-    (subst (λ (ds : List DrawnCommit). CoversCommits (committed_by c.args.ruling ds) c.args.self.now.index c.cover_commits.new.index) c.as_slice-commits.ensures.commits c.cover_commits.ensures) c.forget.ensures.touches c.forget.ensures.promised
+    (subst (λ (ds : List DrawnCommit). CoversCommits (committed_by c.args.ruling ds) c.args.self.now.index c.cover_commits.new.index) c.as_slice-commits.ensures.commits c.cover_commits.ensures) c.forget.ensures
     (subst (λ (ds : List DrawnCommit). (n : ℕ) → has c.sessions_of-sessions.result n ≡ has_drawn_by (committed_by c.args.ruling ds) n) c.as_slice-commits.ensures.commits c.sessions_of-sessions.ensures) left)
   where
     left : c.cover.new.self.commits ≡ left_by c.args.ruling c.args.self.now.drawn.commits

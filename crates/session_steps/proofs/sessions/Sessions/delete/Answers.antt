@@ -1,16 +1,13 @@
 use Rattle.std.proofs.Math.Bool.{Bool-set}
 use Rattle.std.proofs.Math.Logic.{∥∥₁_elim}
-use Rattle.std.proofs.Common.{refl, sym, ◌∙◌, true, false, ap, subst, ℕ, Bool, length, arith}
+use Rattle.std.proofs.Common.{refl, sym, ◌∙◌, true, ap, subst, ℕ, Bool, length}
 use Rattle.std.specs.Bool.{OnFalse}
 use Rattle.txn.specs.WriteSets.{HasRoomFor}
-use Rattle.std.specs.Prelude.{Option, Some}
+use Rattle.std.specs.Prelude.{Option}
 use Rattle.session_steps.specs.Giving.{fits_slot, given}
 use Rattle.base.specs.declared.fault.Fault.TheVariants.{WriteSetFull}
 use Rattle.base.specs.declared.step.SessionStep.TheVariants.{Delete}
-use Rattle.base.specs.declared.step.SessionReply.TheVariants.{Done}
-use Rattle.txn.specs.declared.transaction.Transaction.TheVariants.{Active}
 use Rattle.session_steps.proofs.slots.Freeing.{deletes, delete-asks, fits-own_of}
-use Rattle.session_steps.proofs.puts.LineRoom.{goes-from, holds-promised, room-promised, wants-memory}
 use Rattle.session_steps.proofs.transactions.Steps.{inactive, refuses}
 use Rattle.session_steps.proofs.sessions.Sessions.delete.Goals as goal
 
@@ -26,19 +23,9 @@ give-requires c = ap (fits_slot (length c.args.self.now.slots)) c.own_slot.ensur
 pub write-requires : goal.write-requires
 write-requires c = (_, _, c.in-Ok.ensures.ok, subst (λ (b : Bool). OnFalse b (HasRoomFor c.args.key c.in-Ok.active.writes.now)) c.if-is_full_for.false c.is_full_for.ensures.room)
 
-pub returns-in-Err-promise : goal.returns-in-Err-promise
-returns-in-Err-promise c = record {
-  step = λ h holds.
-      wants-memory c.args.self.now h c.promise.new.self (Delete c.args.session c.args.key) c.in-Err-promise.fault holds
-      (delete-asks c.args.self.now h c.args.session c.args.key _ _ false holds c.in-Ok.ensures.ok (sym c.is_full_for.ensures.full ∙ c.if-is_full_for.false)) refl c.in-Err-promise.ensures.err c.in-Err-promise.ensures.fault;
-}
-
 pub returns : goal.returns
 returns c = record {
   step = λ h holds.
-      goes-from c.args.self.now _ h c.promise.new.self (Delete c.args.session c.args.key) Done
-      (deletes (record c.args.self.now { dirty = c.promise.new.self }) c.write.new.self c.give.new.slots c.args.session c.args.key c.place.result _ _ h c.in-Ok.ensures.ok (sym c.is_full_for.ensures.full ∙ c.if-is_full_for.false)
-      (room-promised c.args.key (Some (Active c.in-Ok.active.snapshot.now c.in-Ok.active.writes.now)) c.args.session _ c.args.self.now.dirty c.promise.new.self c.in-Ok-promise.ensures.ok (omega (arith, c.lines_with.ensures)))
-      (c.give.ensures ∙ ap (λ (o : Option ℕ). given o c.args.self.now.slots) c.own_slot.ensures) (c.write.ensures _ _ c.in-Ok.ensures.ok)
-      (holds-promised c.args.self.now h c.args.session _ c.promise.new.self c.in-Ok-promise.ensures.ok holds));
+      deletes c.args.self.now c.write.new.self c.give.new.slots c.args.session c.args.key c.place.result _ _ h c.in-Ok.ensures.ok (sym c.is_full_for.ensures.full ∙ c.if-is_full_for.false)
+      (c.give.ensures ∙ ap (λ (o : Option ℕ). given o c.args.self.now.slots) c.own_slot.ensures) (c.write.ensures _ _ c.in-Ok.ensures.ok) holds;
 }

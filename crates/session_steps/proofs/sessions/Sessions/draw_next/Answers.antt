@@ -1,15 +1,11 @@
 use Rattle.std.proofs.Common.{◌≡◌, ◌∙◌, ap, subst, sym, refl, ℕ, true, List, [], ◌∷◌, ◌++◌}
-use Rattle.std.specs.Prelude.{Option}
 use Rattle.std.proofs.Math.Bool.{Bool-set}
 use Rattle.std.proofs.Math.Bridge.{le_prop}
 use Rattle.std.proofs.Math.Logic.{∥∥₁_elim}
-use Rattle.dirty_table.specs.Touches.{promised_to}
 use Rattle.txn.specs.DrawnCommits.{are_below}
 use Rattle.txn.specs.declared.drawn.DrawnCommit.{DrawnCommit}
-use Rattle.txn.specs.declared.transaction.Transaction.{Transaction}
 use Rattle.txn.specs.declared.write.Write.{Write}
 use Rattle.base.specs.declared.step.SessionStep.TheVariants.{Draw}
-use Rattle.session_steps.specs.Shows.{HasLines}
 use Rattle.session_steps.proofs.draws.Steps.{all-early, draws, draws-not}
 use Rattle.session_steps.proofs.draws.Notes.{fits-lines}
 use Rattle.session_steps.proofs.transactions.Steps.{inactive}
@@ -22,8 +18,8 @@ reserve_keys-requires c = record { there = c.requires.there _ _ c.in-Ok.ensures.
 pub draw_writes-requires-clause-fits : goal.draw_writes-requires-clause-fits
 draw_writes-requires-clause-fits c = ∥∥₁_elim c.requires.shown (Bool-set _ _) (λ shown. fits-lines c.args.self.now shown.0 c.args.session _ _ c.reserve_keys.new.index shown.1 c.in-Ok.ensures.ok c.reserve_keys.ensures.entries)
 
-pub draw_writes-requires-clause-room : goal.draw_writes-requires-clause-room
-draw_writes-requires-clause-room c = ∥∥₁_elim c.requires.shown le_prop (λ shown. subst (λ (t : Option Transaction). HasLines (promised_to c.args.self.now.dirty c.args.session) t) c.in-Ok.ensures.ok (shown.1.agrees.room c.args.session))
+pub draw_writes-requires-clause-sized : goal.draw_writes-requires-clause-sized
+draw_writes-requires-clause-sized c = ∥∥₁_elim c.requires.shown le_prop (λ shown. shown.1.agrees.sized)
 
 pub push-requires-clause-last : goal.push-requires-clause-last
 push-requires-clause-last c =

@@ -4,8 +4,6 @@ use Rattle.std.proofs.Math.Nat.{ℕ_set}
 use Rattle.std.proofs.Math.Logic.{∥∥₁_elim}
 use Rattle.std.specs.Prelude.{Option, Some, Err, slice_set}
 use Rattle.pmem.proofs.Traces.{runs-then}
-use Rattle.dirty_table.specs.Touches.{promised_to}
-use Rattle.txn.specs.declared.transaction.Transaction.{Transaction}
 use Rattle.txn.specs.declared.transaction.Transaction.TheVariants.{Active}
 use Rattle.txn.specs.declared.write.Write.{Write}
 use Rattle.txn.specs.Transactions.{Sets}
@@ -14,7 +12,6 @@ use Rattle.slot_alloc.specs.Free.{lowest_free}
 use Rattle.pmem.specs.Trace.{Runs, StopsWithin}
 use Rattle.version_slot.specs.Operations.{clear_operations}
 use Rattle.version_slot.specs.Words.{link_number}
-use Rattle.session_steps.specs.Giving.{HasLinesWith}
 use Rattle.session_steps.proofs.puts.Steps.{free-within, link-fits, puts-taken, puts-untaken, puts-returned, taken-within}
 use Rattle.session_steps.proofs.reads.Rows.{words-are}
 use Rattle.session_steps.proofs.Stepping.{held-on}
@@ -50,7 +47,7 @@ pub returns-in-Ok-fill-clause-step : goal.returns-in-Ok-fill-clause-step
 returns-in-Ok-fill-clause-step g c = λ h holds.
     puts-taken c.args.self.now h c.args.session c.requires.ready.snapshot c.requires.ready.writes (record { key = c.args.key; row = c.args.row; previous = _ }) c.in-Ok.slot c.place-place.result (g.D.Pmem.state c.args.device.now) (g.D.Pmem.state c.fill.new.device) holds
     c.requires.ready.active c.requires.ready.fits c.requires.row c.requires.ready.slot c.in-Ok.ensures.lowest c.write.new.self c.take.new.self
-    (subst (λ (t : Option Transaction). HasLinesWith c.args.key (promised_to c.args.self.now.dirty c.args.session) t) c.requires.ready.active c.requires.lines) c.in-Ok.ensures.taken
+    c.in-Ok.ensures.taken
     (subst (λ (w : Write). Sets c.args.self.now.transactions c.write.new.self c.args.session (Some (Active c.requires.ready.snapshot (with_write_at w c.requires.ready.writes)))) c.row_write.ensures (c.write.ensures _ _ c.requires.ready.active))
     c.in-Ok-fill.ensures.version.fits c.link.ensures (runs-then (subst (λ (k : ℕ). Runs (clear_operations c.args.self.now.numbers.geometry k c.in-Ok.slot) (g.D.Pmem.state c.args.device.now) (g.D.Pmem.state c.take.new.device)) c.session.ensures c.in-Ok.ensures.run) c.in-Ok-fill.ensures.run)
 

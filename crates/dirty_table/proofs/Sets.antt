@@ -1,0 +1,59 @@
+-- Sets of sessions as bits.
+use Rattle.std.proofs.Common.{◌≡◌, ℕ, zero, suc, ◌+◌, ◌*◌, ◌%◌, ◌^◌, ◌<◌, Bool, true, false, ◌||◌, ◌&&◌, not, nat_eq, bit_and, bit_or, refl, ◌∙◌, ap, arith}
+use Rattle.std.specs.Prelude.{min, bit_xor}
+use Rattle.std.specs.Int.{bit_at, w64}
+use Rattle.std.proofs.lemmas.Bool.{eqb-true, eqb-false}
+use Rattle.std.proofs.lemmas.Nat.Bits.{bit_at-lt, bit_at_and, bit_at_xor, bit_at_set_same, bit_at_set_other}
+use Rattle.dirty_table.specs.declared.sessions.SessionSet.{SessionSet}
+use Rattle.dirty_table.specs.Bits.{has_bit}
+use Rattle.dirty_table.specs.Touches.{has, meets}
+use Rattle.dirty_table.proofs.Words.{nonzero}
+use Rattle.dirty_table.proofs.Summaries.{no-bits}
+
+-- ---- one set
+
+pub with-session : (bits session n : ℕ) → session < 64 → has_bit (bit_or bits (1 * 2 ^ session % 2 ^ 64)) n ≡ (nat_eq n session || has_bit bits n)
+with-session bits session n lt = by (nat_eq n session) refl
+  where
+    by : (b : Bool) → nat_eq n session ≡ b → has_bit (bit_or bits (1 * 2 ^ session % 2 ^ 64)) n ≡ (b || has_bit bits n)
+    by true e = ap (has_bit (bit_or bits (1 * 2 ^ session % 2 ^ 64))) (eqb-true n session e) ∙ ap (λ (x : ℕ). nat_eq x 1) (bit_at_set_same w64 bits session lt)
+    by false e = ap (λ (x : ℕ). nat_eq x 1) (bit_at_set_other w64 bits session lt n (eqb-false n session e))
+
+pub without-sessions : (bits others n : ℕ) → has_bit (bit_xor bits (bit_and bits others)) n ≡ (has_bit bits n && not (has_bit others n))
+without-sessions bits others n =
+    ap (λ (x : ℕ). nat_eq x 1) (bit_at_xor bits (bit_and bits others) n ∙ ap (λ (x : ℕ). (bit_at bits n + x) % 2) (bit_at_and bits others n))
+    ∙ tests (bit_at bits n) (bit_at others n) (bit_at-lt bits n) (bit_at-lt others n)
+  where
+    tests : (x y : ℕ) → x < 2 → y < 2 → nat_eq ((x + min x y) % 2) 1 ≡ (nat_eq x 1 && not (nat_eq y 1))
+    tests zero zero few few' = refl
+    tests zero (suc zero) few few' = refl
+    tests zero (suc (suc y)) few few' = absurd (omega (arith, few'))
+    tests (suc zero) zero few few' = refl
+    tests (suc zero) (suc zero) few few' = refl
+    tests (suc zero) (suc (suc y)) few few' = absurd (omega (arith, few'))
+    tests (suc (suc x)) y few few' = absurd (omega (arith, few))
+
+-- ---- two sets
+
+-- sets without a session in both
+pub meets-apart : (one two : SessionSet) → ((n : ℕ) → has one n ≡ true → has two n ≡ false) → meets one two ≡ false
+meets-apart one two apart =
+    ap (λ (w : ℕ). not (nat_eq w 0)) (no-bits (bit_and one.bits two.bits) (λ n.
+    ap (λ (x : ℕ). nat_eq x 1) (bit_at_and one.bits two.bits n) ∙ tests (bit_at one.bits n) (bit_at two.bits n) (bit_at-lt one.bits n) (bit_at-lt two.bits n) (apart n)))
+  where
+    tests : (x y : ℕ) → x < 2 → y < 2 → (nat_eq x 1 ≡ true → nat_eq y 1 ≡ false) → nat_eq (min x y) 1 ≡ false
+    tests zero zero few few' none = refl
+    tests zero (suc zero) few few' none = refl
+    tests zero (suc (suc y)) few few' none = absurd (omega (arith, few'))
+    tests (suc zero) zero few few' none = refl
+    tests (suc zero) (suc zero) few few' none = absurd (cc (none refl))
+    tests (suc zero) (suc (suc y)) few few' none = absurd (omega (arith, few'))
+    tests (suc (suc x)) y few few' none = absurd (omega (arith, few))
+
+-- a session in both
+pub meets-at : (one two : SessionSet) (n : ℕ) → has one n ≡ true → has two n ≡ true → meets one two ≡ true
+meets-at one two n here there =
+    ap not (nonzero (bit_and one.bits two.bits) n (ap (λ (x : ℕ). nat_eq x 1) (bit_at_and one.bits two.bits n ∙ both (bit_at one.bits n) (bit_at two.bits n) (eqb-true (bit_at one.bits n) 1 here) (eqb-true (bit_at two.bits n) 1 there))))
+  where
+    both : (x y : ℕ) → x ≡ 1 → y ≡ 1 → min x y ≡ 1
+    both x y is is' = omega (arith, is, is')

@@ -1,0 +1,141 @@
+-- A summary of words: which of them aren't 0.
+use Rattle.std.proofs.Common.{◌≡◌, ◌≢◌, inl, inr, ℕ, ◌+◌, ◌-◌, ◌*◌, ◌/◌, ◌%◌, ◌^◌, ◌<◌, ◌≤◌, Bool, true, false, ◌||◌, ◌&&◌, not, nat_eq, List, length, get_or, replicate, refl, sym, ◌∙◌, ap, subst, arith}
+use Rattle.std.specs.Int.{bit_at}
+use Rattle.std.proofs.lemmas.Bool.{cases_eq, cases_lt, eqb-true, eqb-false}
+use Rattle.std.proofs.lemmas.List.{get_or_past, get_or-replicate, length-replicate}
+use Rattle.std.proofs.lemmas.Nat.Bits.{same_from_bits, bit_at-zero, bit_at-lt}
+use Rattle.dirty_table.specs.Bits.{has_bit, is_in, IsLowestBit, IsLowest, IsSummed}
+use Rattle.dirty_table.proofs.Words.{zero-bit, nonzero, at-word}
+
+zero-word : (word : ℕ) → word ≡ 0 → not (nat_eq word 0) ≡ false
+zero-word word is = ap (λ (w : ℕ). not (nat_eq w 0)) is
+
+-- a word without a bit is 0
+pub no-bits : (word : ℕ) → ((i : ℕ) → has_bit word i ≡ false) → word ≡ 0
+no-bits word none = same_from_bits word 0 (λ i. none-is (bit_at word i) (bit_at-lt word i) (none i) ∙ sym (bit_at-zero i))
+  where
+    none-is : (b : ℕ) → b < 2 → nat_eq b 1 ≡ false → b ≡ 0
+    none-is b lt is = let apart : b ≢ 1 = eqb-false b 1 is in omega (arith, lt, apart)
+
+module _ (words summary now summary' : List ℕ) (line : ℕ) (summed : IsSummed words summary) (size : length now ≡ length words) (size' : length summary' ≡ length summary)
+    (others : (at : ℕ) → at ≢ line / 64 → get_or now at 0 ≡ get_or words at 0) where
+  kept : (at : ℕ) → at ≢ line / 64 → is_in summary at ≡ not (nat_eq (get_or now at 0) 0)
+  kept at apart = summed.sums at ∙ ap (λ (w : ℕ). not (nat_eq w 0)) (sym (others at apart))
+
+  enough : length now ≤ 64 * length summary'
+  enough = omega (arith, size, size', summed.enough)
+
+  -- with a line, its word is in the summary
+  pub summed-with : is_in now line ≡ true → ((i : ℕ) → is_in summary' i ≡ (nat_eq i (line / 64) || is_in summary i)) → IsSummed now summary'
+  summed-with here now_is = record {
+    sums = λ at. now_is at ∙ by at (nat_eq at (line / 64)) refl;
+    enough = enough;
+    few = omega (arith, size, summed.few);
+    small = omega (arith, size', summed.small);
+  }
+    where
+      by : (at : ℕ) (b : Bool) → nat_eq at (line / 64) ≡ b → (b || is_in summary at) ≡ not (nat_eq (get_or now at 0) 0)
+      by at true e = sym (ap (λ (a : ℕ). not (nat_eq (get_or now a 0) 0)) (eqb-true at (line / 64) e) ∙ ap not (nonzero (get_or now (line / 64) 0) (line % 64) here))
+      by at false e = kept at (eqb-false at (line / 64) e)
+
+  -- a word that has become 0 isn't
+  pub summed-without : get_or now (line / 64) 0 ≡ 0 → ((i : ℕ) → is_in summary' i ≡ (is_in summary i && not (nat_eq i (line / 64)))) → IsSummed now summary'
+  summed-without none without = record {
+    sums = λ at. without at ∙ by at (nat_eq at (line / 64)) refl;
+    enough = enough;
+    few = omega (arith, size, summed.few);
+    small = omega (arith, size', summed.small);
+  }
+    where
+      and-false : (x : Bool) → (x && false) ≡ false
+      and-false true = refl
+      and-false false = refl
+
+      and-true : (x : Bool) → (x && true) ≡ x
+      and-true true = refl
+      and-true false = refl
+
+      by : (at : ℕ) (b : Bool) → nat_eq at (line / 64) ≡ b → (is_in summary at && not b) ≡ not (nat_eq (get_or now at 0) 0)
+      by at true e = and-false (is_in summary at) ∙ sym (zero-word (get_or now at 0) (ap (λ (a : ℕ). get_or now a 0) (eqb-true at (line / 64) e) ∙ none))
+      by at false e = and-true (is_in summary at) ∙ kept at (eqb-false at (line / 64) e)
+
+-- one that hasn't stays
+pub summed-still : (words summary now : List ℕ) (line : ℕ) → IsSummed words summary → length now ≡ length words → ((at : ℕ) → at ≢ line / 64 → get_or now at 0 ≡ get_or words at 0) → get_or now (line / 64) 0 ≤ get_or words (line / 64) 0
+    → get_or now (line / 64) 0 ≢ 0 → IsSummed now summary
+summed-still words summary now line summed size others less some = record {
+  sums = λ at. elim (cases_eq at (line / 64)) [
+    | inl same ↦ summed.sums at ∙ ap (λ (a : ℕ). not (nat_eq (get_or words a 0) 0)) same ∙ ap not (apart (get_or words (line / 64) 0) (λ none. some (omega (arith, none, less))))
+        ∙ sym (ap (λ (a : ℕ). not (nat_eq (get_or now a 0) 0)) same ∙ ap not (apart (get_or now (line / 64) 0) some))
+    | inr other ↦ summed.sums at ∙ ap (λ (w : ℕ). not (nat_eq w 0)) (sym (others at other))
+  ];
+  enough = omega (arith, size, summed.enough);
+  few = omega (arith, size, summed.few);
+  small = summed.small;
+}
+  where
+    apart : (w : ℕ) → w ≢ 0 → nat_eq w 0 ≡ false
+    apart w is = by (nat_eq w 0) refl
+      where
+        by : (b : Bool) → nat_eq w 0 ≡ b → nat_eq w 0 ≡ false
+        by true e = absurd (is (eqb-true w 0 e))
+        by false e = e
+
+pub summed-same : (words summary words' summary' : List ℕ) → words' ≡ words → summary' ≡ summary → IsSummed words summary → IsSummed words' summary'
+summed-same words summary words' summary' same same' summed = subst (λ (ws : List ℕ). IsSummed ws summary') (sym same) (subst (λ (ss : List ℕ). IsSummed words ss) (sym same') summed)
+
+-- ---- words of 0
+
+zeros-word : (count at : ℕ) → ◌≡◌ {A = ℕ} (get_or (replicate count 0) at 0) 0
+zeros-word count at = elim (cases_lt at count) [
+  | inl lt ↦ get_or-replicate count at 0 0 lt
+  | inr ge ↦ get_or_past (replicate count 0) at 0 (omega (arith, ge, length-replicate {A = ℕ} count 0))
+]
+
+pub zeros-clear : (count : ℕ) (words : List ℕ) → words ≡ replicate count 0 → (i : ℕ) → is_in words i ≡ false
+zeros-clear count words is i = zero-bit (get_or words (i / 64) 0) (i % 64) (ap (λ (ws : List ℕ). get_or ws (i / 64) 0) is ∙ zeros-word count (i / 64))
+
+pub summed-zeros : (count count' : ℕ) (words summary : List ℕ) → words ≡ replicate count 0 → summary ≡ replicate count' 0 → count ≤ 64 * count' → count < 2 ^ 57 → count' < 2 ^ 57 → IsSummed words summary
+summed-zeros count count' words summary is is' le few few' =
+    let size : length words ≡ count = ap (λ (ws : List ℕ). length ws) is ∙ length-replicate {A = ℕ} count 0 in
+    let size' : length summary ≡ count' = ap (λ (ws : List ℕ). length ws) is' ∙ length-replicate {A = ℕ} count' 0 in
+    record {
+      sums = λ at. zeros-clear count' summary is' at ∙ sym (zero-word (get_or words at 0) (ap (λ (ws : List ℕ). get_or ws at 0) is ∙ zeros-word count at));
+      enough = omega (arith, size, size', le);
+      few = omega (arith, size, few);
+      small = omega (arith, size', few');
+    }
+
+-- ---- the lowest line
+
+module _ (words summary : List ℕ) (summed : IsSummed words summary) where
+  -- a word that isn't in the summary is 0
+  clear-word : (at : ℕ) → is_in summary at ≡ false → get_or words at 0 ≡ 0
+  clear-word at none = by (nat_eq (get_or words at 0) 0) refl
+    where
+      by : (b : Bool) → nat_eq (get_or words at 0) 0 ≡ b → get_or words at 0 ≡ 0
+      by true e = eqb-true (get_or words at 0) 0 e
+      by false e = absurd (cc (sym none ∙ summed.sums at ∙ ap not e))
+
+  -- one that is in it isn't
+  some-word : (at : ℕ) → is_in summary at ≡ true → get_or words at 0 ≢ 0
+  some-word at here none = absurd (cc (sym here ∙ summed.sums at ∙ zero-word (get_or words at 0) none))
+
+  pub word-within : (at : ℕ) → is_in summary at ≡ true → at < length words
+  word-within at here = elim (cases_lt at (length words)) [
+    | inl lt ↦ lt
+    | inr ge ↦ absurd (some-word at here (get_or_past words at 0 ge))
+  ]
+
+  pub in-words : (from at bit : ℕ) → IsLowest summary from at → IsLowestBit (get_or words at 0) 0 bit → IsLowest words (64 * from) (64 * at + bit)
+  in-words from at bit first found = record {
+    low = omega (arith, first.low);
+    within = let lt = word-within at first.here in omega (arith, lt, found.within);
+    here = at-word words at (64 * at + bit) bit found.within refl ∙ found.here;
+    before = λ i ge lt. elim (cases_lt (i / 64) at) [
+      | inl earlier ↦ zero-bit (get_or words (i / 64) 0) (i % 64) (clear-word (i / 64) (first.before (i / 64) (omega (arith, ge)) earlier))
+      | inr later ↦ at-word words at i (i - 64 * at) (omega (arith, lt, later, found.within)) (omega (arith, later)) ∙ found.before (i - 64 * at) (omega arith) (omega (arith, lt, later))
+    ];
+  }
+
+  pub never-empty : (from at : ℕ) → IsLowest summary from at → ((i : ℕ) → 0 ≤ i → has_bit (get_or words at 0) i ≡ false) → ⊥
+  never-empty from at first none = some-word at first.here (no-bits (get_or words at 0) (λ i. none i (omega arith)))

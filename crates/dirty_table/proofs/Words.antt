@@ -1,0 +1,184 @@
+-- Sets of numbers as bits of words.
+use Rattle.std.proofs.Common.{◌≡◌, ◌≢◌, inl, inr, ℕ, ◌+◌, ◌-◌, ◌*◌, ◌/◌, ◌%◌, ◌^◌, ◌<◌, ◌≤◌, Bool, true, false, ◌||◌, ◌&&◌, not, nat_eq, List, length, get_or, set, bit_and, bit_or, refl, sym, ◌∙◌, ap, arith}
+use Rattle.std.specs.Prelude.{min}
+use Rattle.std.specs.Int.{bit_at, trailing_zeros, w64}
+use Rattle.std.proofs.lemmas.Bool.{cases_eq, cases_lt, eqb-true, eqb-false}
+use Rattle.std.proofs.lemmas.Nat.{and_le_l}
+use Rattle.std.proofs.lemmas.Nat.Bits.{bit_at-zero, bit_at-lt, bit_at_above, bit_at_and, bit_at_mask_inside, bit_at_mask_below, ones_shl, bit_at-trailing_zeros, bit_at_set_same, bit_at_set_other, bit_at_clear_same, bit_at_clear_other}
+use Rattle.std.proofs.lemmas.List.{get_or_past, get_or-set_other}
+use Rattle.std.proofs.lemmas.Grind.{get_or-set_at}
+use Rattle.dirty_table.specs.Bits.{has_bit, is_in, IsLowestBit, IsLowest, IsClearFrom}
+
+-- ---- one word
+
+pub zero-bit : (word i : ℕ) → word ≡ 0 → has_bit word i ≡ false
+zero-bit word i none = ap (λ (w : ℕ). nat_eq (bit_at w i) 1) none ∙ ap (λ (b : ℕ). nat_eq b 1) (bit_at-zero i)
+
+pub past-bit : (word i : ℕ) → word < 2 ^ 64 → 64 ≤ i → has_bit word i ≡ false
+past-bit word i small past = ap (λ (b : ℕ). nat_eq b 1) (bit_at_above word 64 i small past)
+
+-- a word with a bit isn't 0
+pub nonzero : (word i : ℕ) → has_bit word i ≡ true → nat_eq word 0 ≡ false
+nonzero word i here = by (nat_eq word 0) refl
+  where
+    by : (b : Bool) → nat_eq word 0 ≡ b → nat_eq word 0 ≡ false
+    by true e = absurd (cc (sym here ∙ zero-bit word i (eqb-true word 0 e)))
+    by false e = e
+
+module _ (word low : ℕ) (small : word < 2 ^ 64) (lt : low < 64) where
+  -- the word without the bits below
+  abbrev masked : ℕ
+  masked = bit_and word ((2 ^ 64 - 1) * 2 ^ low % 2 ^ 64)
+
+  mask : (2 ^ 64 - 1) * 2 ^ low % 2 ^ 64 ≡ 2 ^ 64 - 2 ^ low
+  mask = ones_shl 64 low (omega (arith, lt))
+
+  whole : (x : ℕ) → x < 2 → min x 1 ≡ x
+  whole x few = omega (arith, few)
+
+  nothing : (x : ℕ) → min x 0 ≡ 0
+  nothing x = omega arith
+
+  high : (i : ℕ) → low ≤ i → i < 64 → bit_at masked i ≡ bit_at word i
+  high i le below =
+      bit_at_and word ((2 ^ 64 - 1) * 2 ^ low % 2 ^ 64) i
+      ∙ ap (λ (m : ℕ). min (bit_at word i) (bit_at m i)) mask
+      ∙ ap (λ (b : ℕ). min (bit_at word i) b) (bit_at_mask_inside low 64 i le below) ∙ whole (bit_at word i) (bit_at-lt word i)
+
+  under : (i : ℕ) → i < low → bit_at masked i ≡ 0
+  under i below =
+      bit_at_and word ((2 ^ 64 - 1) * 2 ^ low % 2 ^ 64) i
+      ∙ ap (λ (m : ℕ). min (bit_at word i) (bit_at m i)) mask
+      ∙ ap (λ (b : ℕ). min (bit_at word i) b) (bit_at_mask_below low 64 i below) ∙ nothing (bit_at word i)
+
+  pub lowest-is : 0 < masked → IsLowestBit word low (trailing_zeros w64 masked)
+  lowest-is some =
+      let least : masked < 2 ^ 64 = omega (arith, small, and_le_l word ((2 ^ 64 - 1) * 2 ^ low % 2 ^ 64)) in
+      let found = bit_at-trailing_zeros w64 masked some least in
+      let le : low ≤ trailing_zeros w64 masked = elim (cases_lt (trailing_zeros w64 masked) low) [
+        | inl below ↦ absurd (omega (arith, under (trailing_zeros w64 masked) below, found.1))
+        | inr ge ↦ ge
+      ] in
+      record {
+        above = le;
+        within = found.0;
+        here = ap (λ (b : ℕ). nat_eq b 1) (sym (high (trailing_zeros w64 masked) le found.0) ∙ found.1);
+        before = λ i ge below. ap (λ (b : ℕ). nat_eq b 1) (sym (high i ge (omega (arith, below, found.0))) ∙ found.2 i below);
+      }
+
+  pub lowest-none : masked ≡ 0 → (i : ℕ) → low ≤ i → has_bit word i ≡ false
+  lowest-none none i le = elim (cases_lt i 64) [
+    | inl below ↦ ap (λ (b : ℕ). nat_eq b 1) (sym (high i le below)) ∙ zero-bit masked i none
+    | inr ge ↦ past-bit word i small ge
+  ]
+
+-- ---- one bit of many words
+
+module _ (words : List ℕ) (k word : ℕ) (b : Bool) (within : k / 64 < length words) (here : has_bit word (k % 64) ≡ b)
+    (others : (i : ℕ) → i < 64 → i ≢ k % 64 → bit_at word i ≡ bit_at (get_or words (k / 64) 0) i) where
+  at-place : is_in (set words (k / 64) word) k ≡ b
+  at-place = ap (λ (w : ℕ). nat_eq (bit_at w (k % 64)) 1) (get_or-set_at words (k / 64) (k / 64) word 0 refl within) ∙ here
+
+  elsewhere : (i : ℕ) → i ≢ k → is_in (set words (k / 64) word) i ≡ is_in words i
+  elsewhere i apart = elim (cases_eq (i / 64) (k / 64)) [
+    | inl same ↦
+        ap (λ (w : ℕ). nat_eq (bit_at w (i % 64)) 1) (get_or-set_at words (k / 64) (i / 64) word 0 same within)
+        ∙ ap (λ (x : ℕ). nat_eq x 1) (others (i % 64) (omega arith) (λ is. apart (omega (arith, is, same))))
+        ∙ ap (λ (at : ℕ). nat_eq (bit_at (get_or words at 0) (i % 64)) 1) (sym same)
+    | inr other ↦ ap (λ (w : ℕ). nat_eq (bit_at w (i % 64)) 1) (get_or-set_other words (k / 64) (i / 64) word 0 other)
+  ]
+
+and-true : (x : Bool) → x ≡ (x && true)
+and-true true = refl
+and-true false = refl
+
+and-false : (x : Bool) → false ≡ (x && false)
+and-false true = refl
+and-false false = refl
+
+module _ (words : List ℕ) (k : ℕ) (within : k / 64 < length words) where
+  abbrev word : ℕ
+  word = get_or words (k / 64) 0
+
+  abbrev with_bit : ℕ
+  with_bit = bit_or word (1 * 2 ^ (k % 64) % 2 ^ 64)
+
+  abbrev without_bit : ℕ
+  without_bit = bit_and word (2 ^ 64 - 1 - 1 * 2 ^ (k % 64) % 2 ^ 64)
+
+  set-here : has_bit with_bit (k % 64) ≡ true
+  set-here = ap (λ (x : ℕ). nat_eq x 1) (bit_at_set_same w64 word (k % 64) (omega arith))
+
+  set-others : (i : ℕ) → i < 64 → i ≢ k % 64 → bit_at with_bit i ≡ bit_at word i
+  set-others i lt apart = bit_at_set_other w64 word (k % 64) (omega arith) i apart
+
+  clear-here : has_bit without_bit (k % 64) ≡ false
+  clear-here = ap (λ (x : ℕ). nat_eq x 1) (bit_at_clear_same w64 word (k % 64) (omega arith))
+
+  clear-others : (i : ℕ) → i < 64 → i ≢ k % 64 → bit_at without_bit i ≡ bit_at word i
+  clear-others i lt apart = bit_at_clear_other w64 word (k % 64) (omega arith) i lt apart
+
+  pub inserted : (i : ℕ) → is_in (set words (k / 64) with_bit) i ≡ (nat_eq i k || is_in words i)
+  inserted i = by (nat_eq i k) refl
+    where
+      by : (b : Bool) → nat_eq i k ≡ b → is_in (set words (k / 64) with_bit) i ≡ (b || is_in words i)
+      by true e = ap (is_in (set words (k / 64) with_bit)) (eqb-true i k e) ∙ at-place words k with_bit true within set-here set-others
+      by false e = elsewhere words k with_bit true within set-here set-others i (eqb-false i k e)
+
+  pub removed : (i : ℕ) → is_in (set words (k / 64) without_bit) i ≡ (is_in words i && not (nat_eq i k))
+  removed i = by (nat_eq i k) refl
+    where
+      by : (b : Bool) → nat_eq i k ≡ b → is_in (set words (k / 64) without_bit) i ≡ (is_in words i && not b)
+      by true e = ap (is_in (set words (k / 64) without_bit)) (eqb-true i k e) ∙ at-place words k without_bit false within clear-here clear-others ∙ and-false (is_in words i)
+      by false e = elsewhere words k without_bit false within clear-here clear-others i (eqb-false i k e) ∙ and-true (is_in words i)
+
+  pub other-words : (w at : ℕ) → at ≢ k / 64 → get_or (set words (k / 64) w) at 0 ≡ get_or words at 0
+  other-words w at apart = get_or-set_other words (k / 64) at w 0 apart
+
+  -- no word becomes greater
+  pub removed-less : (at : ℕ) → get_or (set words (k / 64) without_bit) at 0 ≤ get_or words at 0
+  removed-less at = elim (cases_eq at (k / 64)) [
+    | inl same ↦
+        let now : get_or (set words (k / 64) without_bit) at 0 ≡ without_bit = get_or-set_at words (k / 64) at without_bit 0 same within in
+        let was : get_or words at 0 ≡ word = ap (λ (a : ℕ). get_or words a 0) same in
+        omega (arith, now, was, and_le_l word (2 ^ 64 - 1 - 1 * 2 ^ (k % 64) % 2 ^ 64))
+    | inr other ↦ let same : get_or (set words (k / 64) without_bit) at 0 ≡ get_or words at 0 = other-words without_bit at other in omega (arith, same)
+  ]
+
+-- ---- the walk over words
+
+pub at-word : (words : List ℕ) (at i bit : ℕ) → bit < 64 → i ≡ 64 * at + bit → is_in words i ≡ has_bit (get_or words at 0) bit
+at-word words at i bit lt is =
+    let place : i / 64 ≡ at = omega (arith, is, lt) in
+    let rest : i % 64 ≡ bit = omega (arith, is, lt) in
+    ap (λ (a : ℕ). has_bit (get_or words a 0) (i % 64)) place ∙ ap (λ (b : ℕ). has_bit (get_or words at 0) b) rest
+
+pub past-words : (words : List ℕ) (i : ℕ) → length words ≤ i / 64 → is_in words i ≡ false
+past-words words i past = zero-bit (get_or words (i / 64) 0) (i % 64) (get_or_past words (i / 64) 0 past)
+
+-- from the number on, none is in the set up to the bit of the word
+pub record Looks (words : List ℕ) (from at low : ℕ) : Type 0 where
+  pub fits : low < 64
+  pub place : from ≤ 64 * at + low
+  pub none : (i : ℕ) → from ≤ i → i < 64 * at + low → is_in words i ≡ false
+
+pub looks-first : (words : List ℕ) (from : ℕ) → Looks words from (from / 64) (from % 64)
+looks-first words from = record { fits = omega arith; place = omega arith; none = λ i ge lt. absurd (omega (arith, ge, lt)) }
+
+module _ (words : List ℕ) (from at low : ℕ) (looks : Looks words from at low) where
+  pub looks-found : (bit : ℕ) → at < length words → IsLowestBit (get_or words at 0) low bit → IsLowest words from (64 * at + bit)
+  looks-found bit within found = record {
+    low = omega (arith, looks.place, found.above);
+    within = omega (arith, within, found.within);
+    here = at-word words at (64 * at + bit) bit found.within refl ∙ found.here;
+    before = λ i ge lt. elim (cases_lt i (64 * at + low)) [
+      | inl earlier ↦ looks.none i ge earlier
+      | inr later ↦ at-word words at i (i - 64 * at) (omega (arith, lt, later, found.within)) (omega (arith, later)) ∙ found.before (i - 64 * at) (omega (arith, later)) (omega (arith, lt, later))
+    ];
+  }
+
+  pub looks-past : length words ≤ at → IsClearFrom words from
+  looks-past past i ge = elim (cases_lt i (64 * at + low)) [
+    | inl earlier ↦ looks.none i ge earlier
+    | inr later ↦ past-words words i (omega (arith, past, later))
+  ]
