@@ -1,5 +1,5 @@
 -- Which refusal ends a subcommand.
-use Rattle.std.proofs.Common.{◌≡◌, ◌⊎◌, ℕ, List, [], ◌∷◌, ◌++◌, length, true, sym, ◌∙◌, ap, subst, inl, inr, append-nil}
+use Rattle.std.proofs.Common.{◌≡◌, ◌⊎◌, ℕ, List, [], ◌∷◌, ◌++◌, length, true, sym, ◌∙◌, ap, subst, inl, inr, refl, append-nil}
 use Rattle.std.specs.Prelude.{Option, Some, None, IfSome, Result, Ok, Err, IsErrAnd, IfErr}
 use Rattle.std.specs.Io.KnownBytes.{Appends}
 use Rattle.base.specs.declared.fault.Fault.{Fault}
@@ -41,6 +41,11 @@ pub fault-on : {T : Type 0} (r : Result T Stop) (stop : Stop) (P Q : Fault → T
     → IfRefused P stop → IfErr r (IfRefused Q)
 fault-on (Ok x) stop P Q is says p = tt
 fault-on (Err y) stop P Q is says p = subst (IfRefused Q) (sym is) (fault-by stop P Q says p)
+
+-- nothing is printed beside the one or the other
+pub unprinted : {A B : Type 0} (printed : Option Text) → A ⊎ B → A ⊎ ((printed ≡ printed) × B)
+unprinted printed (inl a) = inl a
+unprinted printed (inr b) = inr (refl, b)
 
 -- nothing is printed
 pub appends-same : (old new : Option Text) → new ≡ old → Appends old new []

@@ -3,6 +3,7 @@ use Rattle.pmem_model.specs.Sim.{device_of}
 use Rattle.command_line.specs.Texts.{closed_line}
 use Rattle.console.proofs.KeptHistory.{file-restarted}
 use Rattle.console.proofs.Lives.{ends-closed}
+use Rattle.console.proofs.Refusals.{unprinted}
 use Rattle.console.proofs.run.close.Goals as goal
 
 pub returns-clause-ends : goal.returns-clause-ends
@@ -16,3 +17,6 @@ returns-clause-ends g c =
           c.in-Ok.ensures.closed left.1
           (file-restarted (device_of c.in_ok-device.device) left.0 c.in_ok-file.file.items left.2 c.in_ok-file.ensures.file) shows,
     )
+
+pub returns-in-Err-clause-refused : goal.returns-in-Err-clause-refused
+returns-in-Err-clause-refused g c = unprinted (g.W.Write.contents c.args.output.now) c.in-Err.ensures.fault

@@ -10,7 +10,7 @@ use Rattle.room.specs.Room.{Shows, device_of as device_in}
 use Rattle.console.proofs.BadLine.{ends-at, passed_on, unblamed}
 use Rattle.console.proofs.Lives.{life-of, lives-keep}
 use Rattle.console.proofs.Obeyed.{appends-more}
-use Rattle.std.proofs.Common.{◌⊎◌}
+use Rattle.std.proofs.Common.{◌⊎◌, inl}
 use Rattle.base.specs.declared.fault.Fault.TheVariants.{OutOfMemory}
 use Rattle.console.specs.Refusals.{IsClosingFault, IsOpeningFault}
 use Rattle.console.proofs.Refusals.{at-end, fault-on, opening-of-file}
@@ -81,6 +81,11 @@ returns-in_err-room-clause-refused g c =
     (λ fault is. opening-of-file c.args.file.now c.in_ok-words.words.items c.as_slice.result.now (g.R.Read.remaining c.args.input.now) (g.W.Write.contents c.args.output.now) fault
     c.in_ok-words.ensures.length c.in_ok-words.ensures.ok c.as_slice.ensures.value is)
     c.in_err-room.ensures.fault
+
+pub returns-in_err-show_opened-clause-refused : goal.returns-in_err-show_opened-clause-refused
+returns-in_err-show_opened-clause-refused g c =
+    fault-on c.from_residual-in_err-show_opened.result _ (λ fault. fault ≡ OutOfMemory) _ c.from_residual-in_err-show_opened.ensures.1 (λ fault is. inl is)
+    c.in_err-show_opened.ensures.memory
 
 pub returns-in_err-left-clause-refused : goal.returns-in_err-left-clause-refused
 returns-in_err-left-clause-refused g c =
