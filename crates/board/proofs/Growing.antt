@@ -1,5 +1,5 @@
 -- What changes make of a published list.
-use Rattle.std.proofs.Common.{◌≡◌, ℕ, ◌+◌, ◌-◌, ◌≤◌, ◌<◌, Bool, true, false, nat_le, MatchBool, length, length-append, drop, suc, subst, fold, map, Option, Some, None, is_some, Result, Ok, Err, is_err, MatchResult, List, [], ◌∷◌, ◌++◌, refl, sym, ap, ◌∙◌, le_refl, le_trans, arith}
+use Rattle.std.proofs.Common.{◌≡◌, ℕ, ◌+◌, ◌≤◌, ◌<◌, Bool, true, false, nat_le, MatchBool, length, length-append, subst, fold, map, Option, Some, None, is_some, Result, Ok, Err, is_err, MatchResult, List, [], ◌∷◌, ◌++◌, refl, sym, ap, ◌∙◌, le_refl, le_trans, arith}
 use Rattle.std.proofs.lemmas.Bool.Decides.{nat_tests}
 use mathlib.Core.List.{append-nil, append_assoc, IsPrefix}
 use Rattle.board.proofs.Fronts.{prefix_shorter}
@@ -64,20 +64,6 @@ pub begins_lists : (xs ys both : List Change) (a b : ℕ) → length xs ≡ a �
 begins_lists xs ys both a b n m i j p q true e = let le : a ≤ b = grind (arith, nat_tests) in begins_log xs ys (omega (arith, n, i)) (prefix_shorter xs ys both p q (omega (arith, n, m, le)))
 begins_lists xs ys both a b n m i j p q false e = let le : b < a = grind (arith, nat_tests) in begins_log ys xs (omega (arith, m, j)) (prefix_shorter ys xs both q p (omega (arith, n, m, le)))
 
--- a history that goes on by one change goes on by the one that it ends in
-pub next_is : (xs log : List Change) (c : Change) → IsPrefix xs log → length log ≡ length xs + 1 → drop (length log - 1) log ≡ c ∷ [] → log ≡ xs ++ c ∷ []
-next_is [] log c p n e = let k : length log - 1 ≡ 0 = omega (arith, n) in subst (λ (k : ℕ). drop k log ≡ c ∷ []) k e
-next_is (x ∷ xs) [] c p n e = absurd (omega (arith, n))
-next_is (x ∷ xs) (y ∷ log) c p n e =
-    let heads : x ≡ y = cc (p.1) in
-    let k : length (y ∷ log) - 1 ≡ suc (length log - 1) = omega (arith, n) in
-    let rest = next_is xs log c (p.0, cc (p.1)) (omega (arith, n)) (subst (λ (j : ℕ). drop j (y ∷ log) ≡ c ∷ []) k e) in
-    cc (heads, rest)
-
-pub ends_so : (xs : List Change) (c : Change) → drop (length (xs ++ c ∷ []) - 1) (xs ++ c ∷ []) ≡ c ∷ []
-ends_so [] c = refl
-ends_so (x ∷ xs) c = let k : length (x ∷ (xs ++ c ∷ [])) - 1 ≡ suc (length (xs ++ c ∷ []) - 1) = omega (arith, length-append xs (c ∷ [])) in subst (λ (j : ℕ). drop j (x ∷ (xs ++ c ∷ [])) ≡ c ∷ []) (sym k) (ends_so xs c)
-
 -- the history with one more change makes the changed list
 pub list_next : (log : List Change) (c : Change) → 0 < length log → list_of (log ++ c ∷ []) ≡ changed (list_of log) c
 list_next log c some = list_on log (c ∷ []) some
@@ -85,15 +71,6 @@ list_next log c some = list_on log (c ∷ []) some
 pub fold_steps : {A : Type 0} (f : A → Change) (log : List Change) (steps : List A) → fold (λ log step. log ++ f step ∷ []) log steps ≡ log ++ map f steps
 fold_steps f log [] = sym (append-nil log)
 fold_steps f log (step ∷ steps) = fold_steps f (log ++ f step ∷ []) steps ∙ append_assoc log (f step ∷ []) (map f steps)
-
--- what the board knows of its list once one more change waits
-pub one_more : (log : List Change) (waits : List Change) (front : List Change) (c : Change) → front ≡ log ++ waits → 0 < length log → list_of (front ++ c ∷ []) ≡ changed (fold changed (list_of log) waits) c
-one_more log waits front c is some =
-    let n : 0 < length front = omega (arith, ap length is, length-append log waits, some) in
-    list_on front (c ∷ []) n ∙ ap (λ (l : Published). changed l c) (ap list_of is ∙ list_on log waits some)
-
-pub assoc : (xs ys : List Change) (c : Change) → (xs ++ ys) ++ c ∷ [] ≡ xs ++ (ys ++ c ∷ [])
-assoc xs ys c = append_assoc xs ys (c ∷ [])
 
 pub some_more : (xs ys : List Change) → 0 < length xs → 0 < length (xs ++ ys)
 some_more xs ys some = omega (arith, length-append xs ys, some)

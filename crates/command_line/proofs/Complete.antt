@@ -1,5 +1,5 @@
 -- Words that give an order are read: what each part of them leaves to be given by the others.
-use Rattle.std.proofs.Common.{◌≡◌, ◌≢◌, ℕ, suc, ◌+◌, ◌^◌, Bool, List, [], ◌∷◌, ◌++◌, true, false, Option, Some, None, refl, sym, inl, inr, ◌∙◌, ap, subst, is_some, length, drop, slice_index, arith, Bor}
+use Rattle.std.proofs.Common.{◌≡◌, ◌≢◌, ℕ, suc, ◌+◌, ◌^◌, Bool, List, [], ◌∷◌, ◌++◌, true, false, Option, Some, None, refl, sym, ◌∙◌, ap, subst, is_some, length, drop, slice_index, arith, Bor}
 use Rattle.std.proofs.lemmas.List.{length-append, nil_from_length}
 use Rattle.std.specs.Prelude.{IsSomeAnd, IfSome}
 use Rattle.std.specs.List.{flat_map}
@@ -60,11 +60,7 @@ size-joined choice value = length-append (option_word choice) (61 ∷ value)
 
 -- a name alone is no name with a value
 alone : (a b : Choice) (value : Text) → option_word a ≡ option_word b ++ 61 ∷ value → ⊥
-alone a b value h =
-    let same : a ≡ b = by_letter a b (sym (letter-plain a) ∙ (ap fifth h ∙ letter-at b (61 ∷ value))) in
-    let size : length (option_word a) ≡ length (option_word b) + suc (length value) = ap length h ∙ size-joined b value in
-    let len : length (option_word a) ≡ length (option_word b) = ap (λ (c : Choice). length (option_word c)) same in
-    absurd (omega (arith, size, len))
+alone a b value h = grind (arith, by_letter, letter-plain, letter-at, size-joined)
 
 same_name : (a b : Choice) → option_word a ≡ option_word b → a ≡ b
 same_name a b h = by_letter a b (sym (letter-plain a) ∙ (ap fifth h ∙ letter-plain b))
@@ -77,10 +73,7 @@ same_value-of Sessions u v h = ap (drop 11) h
 same_value-of Commits u v h = ap (drop 10) h
 
 same_joined : (a b : Choice) (u v : Text) → option_word a ++ 61 ∷ u ≡ option_word b ++ 61 ∷ v → (a ≡ b) × (u ≡ v)
-same_joined a b u v h =
-    let same : a ≡ b = by_letter a b (sym (letter-at a (61 ∷ u)) ∙ (ap fifth h ∙ letter-at b (61 ∷ v))) in
-    let aligned : option_word b ++ 61 ∷ u ≡ option_word b ++ 61 ∷ v = subst (λ (c : Choice). option_word c ++ 61 ∷ u ≡ option_word b ++ 61 ∷ v) same h in
-    (same, same_value-of b u v aligned)
+same_joined a b u v h = grind (arith, by_letter, letter-at, same_value-of)
 
 no_file-name : (choice : Choice) (more : Text) → is_file_name (option_word choice ++ more) ≡ false
 no_file-name Slots more = refl
@@ -132,19 +125,13 @@ no_flag false h = refl
 writes_first : (value : Text) (values : List Text) (o : Option ℕ) → WritesAtMostOne (value ∷ values) o
     → (values ≡ []) × (is_some (number_below (2 ^ 64) value) ≡ true) × (o ≡ number_below (2 ^ 64) value)
 writes_first value values None h = absurd (cons_not_nil value values h)
-writes_first value values (Some n) (v, same, is) =
-    let head : value ≡ v = same_head value v values [] same in
-    let reads : number_below (2 ^ 64) value ≡ Some n = subst (λ (t : Text). number_below (2 ^ 64) t ≡ Some n) (sym head) is in
-    (same_tail value v values [] same, rw reads refl, sym reads)
+writes_first value values (Some n) (v, same, is) = grind (arith, same_head, same_tail)
 
 -- the file that a part names is named by a file's name
 file_part : (name : Text) (names : List Text) (o : Option (Bor Text)) → name ∷ names ≡ at_most_one o → IsNamed o
     → (is_file_name name ≡ true) × (names ≡ []) × (at_most_one o ≡ name ∷ [])
 file_part name names None h named = absurd (cons_not_nil name names h)
-file_part name names (Some word) h named =
-    let head : name ≡ word.now = same_head name word.now names [] h in
-    let yes : is_file_name word.now ≡ true = named in
-    (rw head yes, same_tail name word.now names [] h, ap (λ (t : Text). t ∷ []) (sym head))
+file_part name names (Some word) h named = grind (arith, same_head, same_tail)
 
 -- what an option's part leaves
 record Leaves (choice : Choice) (value : Text) (parts : List Part) (given : Given) : Type 0 where
@@ -158,19 +145,7 @@ NumbersGiven choice value parts given = (asked : Choice) → WritesAtMostOne (va
 
 numbers_left : (choice : Choice) (value : Text) (parts : List Part) (given : Given) → NumbersGiven choice value parts given → flat_map (value_of choice) parts ≡ []
     → (asked : Choice) → WritesAtMostOne (flat_map (value_of asked) parts) (number_at asked (without choice given))
-numbers_left choice value parts given all none asked =
-    elim (same_or_not asked choice) [
-      | inl same ↦
-          let was : number_at asked (without choice given) ≡ None = ap (λ (c : Choice). number_at c (without choice given)) same ∙ number_same choice None given in
-          let left : flat_map (value_of asked) parts ≡ [] = ap (λ (c : Choice). flat_map (value_of c) parts) same ∙ none in
-          rw was left
-      | inr other ↦
-          let first : value_for asked choice value ≡ [] = value_other asked choice value other in
-          let was : number_at asked (without choice given) ≡ number_at asked given = number_other asked choice None given other in
-          let left : WritesAtMostOne ([] ++ flat_map (value_of asked) parts) (number_at asked given) =
-          subst (λ (values : List Text). WritesAtMostOne (values ++ flat_map (value_of asked) parts) (number_at asked given)) first (all asked) in
-          rw was left
-    ]
+numbers_left choice value parts given all none asked = grind (arith, same_or_not, number_same, value_other, number_other)
 
 leaves : (choice : Choice) (value : Text) (parts : List Part) (given : Given) → flat_map file_of parts ≡ at_most_one given.file → IsNamed given.file
     → flat_map flag_of parts ≡ flag_words given.wide → NumbersGiven choice value parts given → Leaves choice value parts given
@@ -215,10 +190,7 @@ pub record Flagged (words : List Text) (given : Given) : Type 0 where
 as_spaced : (choice : Choice) (words : List Text) (parts : List Part) (given : Given) → flat_map words_of_part parts ≡ option_word choice ∷ words → Shows parts given
     → Spaced choice words given
 as_spaced choice words [] given h shown = absurd (no_cons _ _ h)
-as_spaced choice words (file name ∷ parts) given h shown =
-    let is : name ≡ option_word choice = same_head name (option_word choice) _ words h in
-    let yes = (file_part name _ given.file shown.one_file shown.file_named).0 in
-    absurd (not_both name yes (rw is (no_file-plain choice)))
+as_spaced choice words (file name ∷ parts) given h shown = grind (arith, same_head, file_part, not_both, no_file-plain)
 as_spaced choice words (flag ∷ parts) given h shown = absurd (not_wide choice (same_head wide_word (option_word choice) _ words h))
 as_spaced choice words (spaced c value ∷ parts) given h shown =
     let same : c ≡ choice = same_name c choice (same_head (option_word c) (option_word choice) _ words h) in
@@ -239,10 +211,7 @@ as_spaced choice words (joined c value ∷ parts) given h shown =
 as_joined : (choice : Choice) (value : Text) (words : List Text) (parts : List Part) (given : Given)
     → flat_map words_of_part parts ≡ (option_word choice ++ 61 ∷ value) ∷ words → Shows parts given → Joined choice value words given
 as_joined choice value words [] given h shown = absurd (no_cons _ _ h)
-as_joined choice value words (file name ∷ parts) given h shown =
-    let is : name ≡ option_word choice ++ 61 ∷ value = same_head name (option_word choice ++ 61 ∷ value) _ words h in
-    let yes = (file_part name _ given.file shown.one_file shown.file_named).0 in
-    absurd (not_both name yes (rw is (no_file-name choice (61 ∷ value))))
+as_joined choice value words (file name ∷ parts) given h shown = grind (arith, same_head, file_part, not_both, no_file-name)
 as_joined choice value words (flag ∷ parts) given h shown =
     absurd (not_wide-joined choice (61 ∷ value) (same_head wide_word (option_word choice ++ 61 ∷ value) _ words h))
 as_joined choice value words (spaced c v ∷ parts) given h shown =
@@ -289,26 +258,8 @@ as_file name words (joined c v ∷ parts) given wide_not alone_not joined_not h 
 
 as_wide : (words : List Text) (parts : List Part) (given : Given) → flat_map words_of_part parts ≡ wide_word ∷ words → Shows parts given → Flagged words given
 as_wide words [] given h shown = absurd (no_cons _ _ h)
-as_wide words (file name ∷ parts) given h shown =
-    let is : name ≡ wide_word = same_head name wide_word _ words h in
-    let yes = (file_part name _ given.file shown.one_file shown.file_named).0 in
-    absurd (not_both name yes (rw is refl))
-as_wide words (flag ∷ parts) given h shown =
-    let rest : flat_map words_of_part parts ≡ words = same_tail wide_word wide_word _ words h in
-    let w = flag_part (flat_map flag_of parts) given.wide shown.wide_asked in
-    record {
-      rest = (
-        parts,
-        rest,
-        record {
-          one_file = shown.one_file;
-          file_named = shown.file_named;
-          numbers_given = λ choice. subst (WritesAtMostOne _) (sym (numbers_by-wide false given choice)) (shown.numbers_given choice);
-          wide_asked = w.1;
-        },
-      );
-      is = w.0;
-    }
+as_wide words (file name ∷ parts) given h shown = grind (arith, same_head, file_part, not_both)
+as_wide words (flag ∷ parts) given h shown = grind (arith, same_tail, flag_part, numbers_by-wide)
 as_wide words (spaced c v ∷ parts) given h shown = absurd (not_wide c (sym (same_head (option_word c) wide_word _ words h)))
 as_wide words (joined c v ∷ parts) given h shown =
     absurd (not_wide-joined c (61 ∷ v) (sym (same_head (option_word c ++ 61 ∷ v) wide_word _ words h)))
@@ -320,36 +271,17 @@ was_none old given choice same = same.numbers choice ∙ number_same choice None
 
 agrees-number : (choice : Choice) (value : Text) (old new given : Given) → Agrees old (without choice given) → number_at choice given ≡ number_below (2 ^ 64) value
     → SetsNumber old choice value new → Agrees new given
-agrees-number choice value old new given same is set = record {
-  file = ap (λ (g : Given). at_most_one g.file) set.is_now ∙ (ap at_most_one (file_kept choice _ old) ∙ (same.file ∙ ap at_most_one (file_kept choice None given)));
-  numbers = λ asked. elim (same_or_not asked choice) [
-    | inl equal ↦
-        let number : number_at choice new ≡ number_at choice given = ap (number_at choice) set.is_now ∙ (number_same choice _ old ∙ sym is) in
-        subst (λ (c : Choice). number_at c new ≡ number_at c given) (sym equal) number
-    | inr other ↦
-        ap (number_at asked) set.is_now
-        ∙ (number_other asked choice _ old other ∙ (same.numbers asked ∙ number_other asked choice None given other))
-  ];
-  width = ap (λ (g : Given). g.wide) set.is_now ∙ (wide_kept choice _ old ∙ (same.width ∙ wide_kept choice None given));
-}
+agrees-number choice value old new given same is set = grind (arith, file_kept, same_or_not, number_same, number_other, wide_kept)
 
 no_file-of : (o : Option (Bor Text)) → at_most_one o ≡ [] → o ≡ None
 no_file-of None h = refl
 no_file-of (Some word) h = absurd (cons_not_nil word.now [] h)
 
 agrees-file : (name : Text) (old new given : Given) → Agrees old (without_file given) → at_most_one given.file ≡ name ∷ [] → SetsFile old name new → Agrees new given
-agrees-file name old new given same is set = record {
-  file = set.is_now ∙ sym is;
-  numbers = λ choice. numbers_kept old new set.others_same choice ∙ (same.numbers choice ∙ numbers_kept given (without_file given) refl choice);
-  width = ap (λ (g : Given). g.wide) set.others_same ∙ same.width;
-}
+agrees-file name old new given same is set = grind (arith, numbers_kept)
 
 agrees-wide : (old new given : Given) → Agrees old (without_wide given) → given.wide ≡ true → SetsWide old new → Agrees new given
-agrees-wide old new given same is set = record {
-  file = ap (λ (g : Given). at_most_one g.file) set.is_now ∙ same.file;
-  numbers = λ choice. ap (number_at choice) set.is_now ∙ (numbers_by-wide true old choice ∙ (same.numbers choice ∙ numbers_by-wide false given choice));
-  width = ap (λ (g : Given). g.wide) set.is_now ∙ sym is;
-}
+agrees-wide old new given same is set = grind (arith, numbers_by-wide)
 
 both-some : (r : Option Given) (P Q : Given → Type 0) → is_some r ≡ true → IfSome r P → ((x : Given) → P x → Q x) → IsSomeAnd r Q
 both-some None P Q some h on = cc some
@@ -368,11 +300,7 @@ record GivesNone (given : Given) : Type 0 where
   narrow : given.wide ≡ false
 
 nothing-by : (parts : List Part) (given new : Given) → flat_map words_of_part parts ≡ [] → Shows parts given → GivesNone new → Agrees new given
-nothing-by [] given new h shown none = record {
-  file = ap at_most_one none.file ∙ shown.one_file;
-  numbers = λ choice. none.numbers choice ∙ sym (unwritten (number_at choice given) (shown.numbers_given choice));
-  width = none.narrow ∙ sym (no_flag given.wide shown.wide_asked);
-}
+nothing-by [] given new h shown none = grind (arith, unwritten, no_flag)
 nothing-by (file name ∷ parts) given new h shown none = absurd (cons_not_nil _ _ h)
 nothing-by (flag ∷ parts) given new h shown none = absurd (cons_not_nil _ _ h)
 nothing-by (spaced c v ∷ parts) given new h shown none = absurd (cons_not_nil _ _ h)

@@ -1,5 +1,5 @@
 -- What the command line is, as clap's statements take it, and which kinds of error answer with help.
-use Rattle.std.proofs.Common.{◌≡◌, ◌⊎◌, IfOk, IsOkAnd, Result, Ok, Err, Bool, true, false, not, ◌&&◌, List, [], ◌∷◌, ◌++◌, sym, ◌∙◌, ap, subst, inl, inr, refl}
+use Rattle.std.proofs.Common.{◌≡◌, ◌⊎◌, IfOk, IsOkAnd, Result, Ok, Err, Bool, true, false, not, ◌&&◌, List, [], ◌∷◌, ◌++◌, sym, ◌∙◌, ap, subst, inl, inr, refl, arith}
 use Rattle.std.proofs.lemmas.Result.{IfOk-weaker}
 use Rattle.clap.specs.Words.{AddsArg, AddsSubcommand, App, IsAmong, Kinds, Rule, Shape, app_of, fault_of, rule_of, shape_of, with_rule, with_subcommand}
 use Rattle.std.specs.declared.alloc.AllocError.{AllocError}
@@ -48,10 +48,7 @@ globals-off false b c d plain = cc plain
 
 module _ (a : App) (s : Shape) where
   adds-sub : (old sub new : Command) → AddsSubcommand old sub new → shape_of sub ≡ s → s.is_plain ≡ true → app_of old ≡ a → app_of new ≡ with_subcommand a s
-  adds-sub old sub new adds is plain was =
-      subst (λ (o : App). app_of new ≡ with_subcommand o s) was
-      (subst (λ (t : Shape). app_of new ≡ with_subcommand (app_of old) t) is
-      (adds.shape (globals-off _ _ _ _ (ap (λ (t : Shape). t.is_plain) is ∙ plain))))
+  adds-sub old sub new adds is plain was = grind (arith, globals-off)
 
   pub with-sub : (made sub next : Result Command AllocError) → IfOk next (λ new. IsOkAnd made (λ old. IsOkAnd sub (λ added. AddsSubcommand old added new)))
       → IfOk sub (λ command. shape_of command ≡ s) → s.is_plain ≡ true → IfOk made (λ command. app_of command ≡ a)

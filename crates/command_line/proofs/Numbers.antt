@@ -1,6 +1,6 @@
 -- What the reading of a number keeps.
-use Rattle.std.proofs.Common.{◌≡◌, ℕ, ◌+◌, ◌*◌, ◌<◌, ◌≤◌, List, [], ◌∷◌, length, true, Some, None, drop, sym, ◌∙◌, arith, ap}
-use Rattle.std.proofs.Common.{get_or, suc}
+use Rattle.std.proofs.Common.{◌≡◌, ℕ, ◌+◌, ◌*◌, ◌<◌, ◌≤◌, List, [], ◌∷◌, length, true, Some, None, drop, arith}
+use Rattle.std.proofs.Common.{get_or}
 use Rattle.std.proofs.Math.Seq.{drop-cons}
 use Rattle.std.proofs.lemmas.Bool.Decides.{nat_tests}
 use Rattle.std.specs.Char.{digit_value}
@@ -23,8 +23,4 @@ number_below-digits word most n some few digits e h = grind (arith, nat_tests)
 -- the number is at least what its digits so far and the next one write
 pub next-le-digits_value : (v i : ℕ) (w : Text) → i < length w → digits_value_after 10 v (drop i w) ≡ digits_value 10 w
     → v * 10 + digit_value (get_or w i 0) ≤ digits_value 10 w
-next-le-digits_value v i w lt e =
-    let d : ℕ = get_or w i 0 in
-    let cut : drop i w ≡ d ∷ drop (suc i) w = drop-cons w i 0 lt in
-    let whole : digits_value_after 10 (v * 10 + digit_value d) (drop (suc i) w) ≡ digits_value 10 w = ap (digits_value_after 10 v) (sym cut) ∙ e in
-    omega (arith, le-digits_value_after (v * 10 + digit_value d) (drop (suc i) w))
+next-le-digits_value v i w lt e = grind (arith, drop-cons, le-digits_value_after)

@@ -1,5 +1,5 @@
 -- What one more part of a command line sets.
-use Rattle.std.proofs.Common.{◌≡◌, ◌≢◌, ◌⊎◌, ◌^◌, ℕ, Bool, List, [], ◌∷◌, ◌++◌, true, false, Option, Some, None, refl, sym, ◌∙◌, ap, subst, inl, inr, is_some, unwrap_or, Bor}
+use Rattle.std.proofs.Common.{◌≡◌, ◌≢◌, ◌⊎◌, ◌^◌, ℕ, Bool, List, [], ◌∷◌, ◌++◌, true, false, Option, Some, None, refl, sym, ◌∙◌, ap, subst, inl, inr, is_some, unwrap_or, Bor, arith}
 use Rattle.command_line.specs.Lines.{texts}
 use Rattle.std.specs.List.{flat_map}
 use Rattle.command_line.specs.Numbers.{Text, number_below}
@@ -129,21 +129,7 @@ writes_one value (Some n) writes is = (value, refl, sym is)
 -- the numbers of a part with a number, before the rest
 numbers : (choice : Choice) (value : Text) (parts : List Part) (old new : Given) → Shows parts old → SetsNumber old choice value new
     → (asked : Choice) → WritesAtMostOne (value_for asked choice value ++ flat_map (value_of asked) parts) (number_at asked new)
-numbers choice value parts old new shown set asked =
-    elim (same_or_not asked choice) [
-      | inl same ↦
-          let first : value_for asked choice value ≡ value ∷ [] = ap (λ (c : Choice). value_for c choice value) same ∙ value_same choice value in
-          let none : flat_map (value_of asked) parts ≡ [] = none_given _ (number_at asked old) (ap (λ (c : Choice). number_at c old) same ∙ set.was_none) (shown.numbers_given asked) in
-          let only : value_for asked choice value ++ flat_map (value_of asked) parts ≡ value ∷ [] = rw (first, none) refl in
-          let is : number_at asked new ≡ number_below (2 ^ 64) value =
-          ap (λ (c : Choice). number_at c new) same ∙ (ap (number_at choice) set.is_now ∙ number_same choice _ old) in
-          rw only (writes_one value (number_at asked new) set.writes is)
-      | inr other ↦
-          let first : value_for asked choice value ≡ [] = value_other asked choice value other in
-          let all : value_for asked choice value ++ flat_map (value_of asked) parts ≡ flat_map (value_of asked) parts = rw first refl in
-          let is : number_at asked new ≡ number_at asked old = ap (number_at asked) set.is_now ∙ number_other asked choice _ old other in
-          rw all (kept _ _ _ is (shown.numbers_given asked))
-    ]
+numbers choice value parts old new shown set asked = grind (arith, same_or_not, value_same, none_given, number_same, writes_one, value_other, number_other, kept)
 
 same_file : (choice : Choice) (value : Text) (old new : Given) → SetsNumber old choice value new → new.file ≡ old.file
 same_file choice value old new set = ap (λ (g : Given). g.file) set.is_now ∙ file_kept choice _ old

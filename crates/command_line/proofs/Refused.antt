@@ -1,12 +1,11 @@
 -- Words that give an order are no others: which subcommand they name, and what its file and options are.
-use Rattle.std.proofs.Common.{◌≡◌, ◌≢◌, ◌≤◌, ℕ, Bool, List, [], ◌∷◌, true, false, Option, Some, None, refl, sym, ◌∙◌, ap, subst, inl, inr, unwrap_or, codes, length, is_some, slice_index, arith, Bor}
+use Rattle.std.proofs.Common.{◌≡◌, ◌≤◌, ℕ, Bool, List, [], ◌∷◌, true, false, Option, Some, None, refl, sym, ◌∙◌, ap, subst, inl, inr, unwrap_or, codes, is_some, slice_index, arith, Bor}
 use Rattle.std.specs.Prelude.{IfNone, IsOk, Result, Ok, Err, is_err, ◌↔◌}
 use Rattle.std.specs.List.{flat_map}
-use Rattle.std.proofs.lemmas.List.{nil_from_length}
 use Rattle.base.specs.Layout.{is_in_limits}
 use Rattle.command_line.specs.Lines.{texts}
 use Rattle.command_line.specs.Numbers.{Text}
-use Rattle.command_line.specs.Words.{GivesNothing, GivesNothingAfter, HasNumber, IsLeftOut, Part, Spells, SpellsFormat, SpellsThreads, WritesAtMostOne, asked_layout, flag_of, flag_words, subcommand_of, value_of}
+use Rattle.command_line.specs.Words.{GivesNothingAfter, HasNumber, IsLeftOut, Part, Spells, SpellsFormat, SpellsThreads, WritesAtMostOne, asked_layout, flag_of, flag_words, subcommand_of, value_of}
 use Rattle.command_line.specs.Given.{Agrees, AreGiven, IsNamed, at_most_one, number_at}
 use Rattle.command_line.specs.declared.given.Given.{Given}
 use Rattle.command_line.specs.declared.orders.Choice.{Choice}
@@ -44,16 +43,7 @@ option_given parts choice default n (inr h) = (Some n, h, refl)
 
 shown : (words : List Text) (parts : List Part) (name : Bor Text) (given : Given) → Spells words parts name.now → given.file ≡ Some name
     → flat_map flag_of parts ≡ flag_words given.wide → ((choice : Choice) → WritesAtMostOne (flat_map (value_of choice) parts) (number_at choice given)) → AreGiven words given
-shown words parts name given s is wide numbers = (
-  parts,
-  s.spelled,
-  record {
-    one_file = s.one_file ∙ ap at_most_one (sym is);
-    file_named = subst IsNamed (sym is) s.file_named;
-    numbers_given = numbers;
-    wide_asked = wide;
-  },
-)
+shown words parts name given s is wide numbers = grind arith
 
 -- ---- a format
 
@@ -123,11 +113,7 @@ no_format_found words found agrees never order (is, rest) = let first : initial 
 pub out_of_limits : (found : Given) (a b c : ℕ) → a ≡ unwrap_or found.slots 1024 → b ≡ unwrap_or found.places 4 → c ≡ unwrap_or found.window 64
     → (is_in_limits (asked_layout found.wide a b c) ≡ true → ⊥)
     → (name : Text) (wide : Bool) (slots places window : ℕ) → FormatFound found name wide slots places window → ⊥
-out_of_limits found a b c ea eb ec never name wide slots places window f =
-    let sa : a ≡ slots = ea ∙ f.slots_are in
-    let sb : b ≡ places = eb ∙ f.places_are in
-    let sc : c ≡ window = ec ∙ f.window_is in
-    never (rw (sa, sb, sc, f.width) f.limits)
+out_of_limits found a b c ea eb ec never name wide slots places window f = grind arith
 
 pub not_in_limits : {A B : Type 0} (r : Result A B) (P : Type 0) → IsOk r ↔ P → is_err r ≡ true → P → ⊥
 not_in_limits (Ok x) P limits bad p = cc bad
@@ -237,23 +223,9 @@ none_so (Some order) P e p = tt
 
 -- ---- the subcommand
 
-pub no_words : (words : List (Bor Text)) → length words ≡ 0 → GivesNothing (texts words)
-no_words words none order (rest, e, g) = no_cons _ rest (sym (ap texts (nil_from_length words none)) ∙ e)
-
 -- the words begin with this one
 named : (words rest : List (Bor Text)) (first : Bor Text) (other : Text) (more : List Text) → words ≡ first ∷ rest → texts words ≡ other ∷ more
     → (other ≡ first.now) × (texts rest ≡ more)
 named words rest first other more e1 e =
     let all : first.now ∷ texts rest ≡ other ∷ more = sym (ap texts e1) ∙ e in
     (sym (same_head first.now other (texts rest) more all), same_tail first.now other (texts rest) more all)
-
--- a word that is no subcommand
-pub no_subcommand : (words rest : List (Bor Text)) (first : Bor Text) → words ≡ first ∷ rest
-    → first.now ≢ codes "format" → first.now ≢ codes "run" → first.now ≢ codes "check" → first.now ≢ codes "lives" → first.now ≢ codes "threads" → GivesNothing (texts words)
-no_subcommand words rest first e1 f r c l t order (more, e, g) = no_order order (named words rest first (subcommand_of order) more e1 e).0 where
-  no_order : (order : Order) → subcommand_of order ≡ first.now → ⊥
-  no_order (Format name wide slots places window) is = f (sym is)
-  no_order (Run name) is = r (sym is)
-  no_order (Check name) is = c (sym is)
-  no_order (Lives name) is = l (sym is)
-  no_order (Threads name sessions commits) is = t (sym is)

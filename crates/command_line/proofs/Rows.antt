@@ -111,12 +111,7 @@ spelled_by text bytes false false d b h =
 
 -- the row that is read is the one that is written
 pub row_of-spelled : (text bytes : List ℕ) → row_of text ≡ Some bytes → text ≡ row_text bytes
-row_of-spelled text bytes h =
-    spelled_by text bytes (bytes_eq text (codes "-")) (length text == 0 || list_any is_ascii_uppercase text)
-    (bytes_eq-Decides text (codes "-")).0
-    (λ n. let parts = or_parts (length text == 0) (list_any is_ascii_uppercase text) n in
-    (λ zero_length. let yes : (length text == 0) ≡ true = rw zero_length refl in cc (yes, parts.0), parts.1))
-    h
+row_of-spelled text bytes h = grind (arith, spelled_by, bytes_eq-Decides, or_parts)
 
 no_upper_case : (bytes : List ℕ) → IsBytes bytes → list_any is_ascii_uppercase (encode_lower bytes) ≡ false
 unfolding encode_with
@@ -131,14 +126,7 @@ no_upper_case (b ∷ rest) h =
 -- the text of a row is read as the row
 pub row_of-row_text : (bytes : List ℕ) → IsBytes bytes → row_of (row_text bytes) ≡ Some bytes
 row_of-row_text [] h = refl
-row_of-row_text (b ∷ rest) h =
-    let t : Text = encode_lower (b ∷ rest) in
-    let size : length t ≡ 2 * length (b ∷ rest) = length-encode_with lower_digits (b ∷ rest) in
-    let dash : bytes_eq t (codes "-") ≡ false = false_from_ne_true _ (λ yes. let e = ap length ((bytes_eq-Decides t (codes "-")).0 yes) in omega (arith, e, size)) in
-    let some : (length t == 0) ≡ false = false_from_ne_true _ (λ yes. let e = eqb-true (length t) 0 yes in omega (arith, e, size)) in
-    let low : list_any is_ascii_uppercase t ≡ false = no_upper_case (b ∷ rest) h in
-    let read : decode_of t ≡ Ok (b ∷ rest) = decode_of-encode_lower (b ∷ rest) h in
-    rw (dash, some, low, read) refl
+row_of-row_text (b ∷ rest) h = grind (arith, length-encode_with, false_from_ne_true, bytes_eq-Decides, eqb-true, no_upper_case, decode_of-encode_lower)
 
 pub no_row : (text : Text) → row_of text ≡ None → IsNoRow text
 no_row text none bytes h e =
@@ -198,10 +186,7 @@ no_hex-no_row text dash bad odd = row_by (bytes_eq text (codes "-")) (length tex
 -- one that is, in lower case, is a row
 pub hex-row : (text : Text) → bytes_eq text (codes "-") ≡ false → (length text == 0 || list_any is_ascii_uppercase text) ≡ false → is_hex text ≡ true
     → is_some (row_of text) ≡ true
-hex-row text dash bad is =
-    let d = decodes text is in
-    let read : row_of text ≡ Some d.0 = row_by (bytes_eq text (codes "-")) (length text == 0 || list_any is_ascii_uppercase text) (decode_of text) (Some d.0) dash bad (ap result_ok d.1) in
-    rw read refl
+hex-row text dash bad is = grind (arith, decodes, row_by)
 
 -- a text that is empty, or has an upper case letter, is none either
 pub bad-no_row : (text : Text) → bytes_eq text (codes "-") ≡ false → (length text == 0 || list_any is_ascii_uppercase text) ≡ true → row_of text ≡ None

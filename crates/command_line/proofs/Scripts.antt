@@ -1,5 +1,5 @@
 -- How the lines of a script add up.
-use Rattle.std.proofs.Common.{◌≡◌, ◌≢◌, ℕ, ◌+◌, ◌-◌, ◌^◌, ◌<◌, suc, Bool, true, false, List, [], ◌∷◌, ◌++◌, length, map, take, drop, get_or, Option, Some, None, refl, sym, ◌∙◌, ap, subst, inl, inr, arith, append_assoc, append-nil, Bor}
+use Rattle.std.proofs.Common.{◌≡◌, ◌≢◌, ℕ, ◌+◌, ◌-◌, ◌^◌, ◌<◌, suc, false, List, [], ◌∷◌, ◌++◌, length, map, take, drop, get_or, Option, Some, None, refl, sym, ◌∙◌, ap, subst, inl, inr, arith, append_assoc, append-nil, Bor}
 use Rattle.std.specs.Prelude.{min, Result, Ok, Err, IfErr, IfOk}
 use Rattle.std.specs.List.{flat_map}
 use Rattle.std.specs.Option.{option_to_list}
@@ -10,8 +10,6 @@ use Rattle.base.specs.Layout.{is_in_limits, layout_with, plain_version}
 use Rattle.command_line.specs.Lines.{texts}
 use Rattle.command_line.specs.Numbers.{Text}
 use Rattle.command_line.specs.Scripts.{AreReadAs, BeginScript, HasBadGeometry, IfBadGeometry, IfWrongLine, IsFirstWrongLine, IsNoLineOf, IsOutOfPlace, IsShut, IsWrongAfter, IsWrongLine, SpellsScript, closing, leaves_life_open, lines_in, lines_of, lines_of_life, lines_so_far, lines_with, script_line_of, script_lines}
-use Rattle.command_line.specs.declared.command.Command.{Command}
-use Rattle.command_line.specs.declared.command.Survivor.{Survivor}
 use Rattle.command_line.specs.declared.script.Draft.{Draft}
 use Rattle.command_line.specs.declared.script.Script.{Script}
 use Rattle.command_line.specs.declared.script.ScriptFault.{ScriptFault}
@@ -37,17 +35,6 @@ read-more written lines now text read (each, spelled, are) is more = (
 )
 
 -- ---- lines that are added
-
--- a life that isn't closed goes on
-pub goes-on : (fuse : Option ℕ) (keeps : Survivor) (commands : List Command) (one : Command) (closes : Bool) → closes ≡ false
-    → (line.Life fuse keeps ∷ (map (λ c. line.Command c) (commands ++ one ∷ []) ++ closing closes))
-    ≡ (line.Life fuse keeps ∷ (map (λ c. line.Command c) commands ++ closing closes)) ++ line.Command one ∷ []
-goes-on fuse keeps commands one true unclosed = cc unclosed
-goes-on fuse keeps commands one false unclosed =
-    ap (λ l. line.Life fuse keeps ∷ l)
-    (append-nil (map (λ c. line.Command c) (commands ++ one ∷ []))
-    ∙ (map-append (λ (c : Command). line.Command c) commands (one ∷ [])
-    ∙ ap (λ l. l ++ line.Command one ∷ []) (sym (append-nil (map (λ c. line.Command c) commands)))))
 
 lives-with : (before : List ScriptLife) (life : ScriptLife) → flat_map lines_of_life (before ++ life ∷ []) ≡ flat_map lines_of_life before ++ lines_of_life life
 lives-with before life = flat_map-append lines_of_life before (life ∷ []) ∙ ap (λ l. flat_map lines_of_life before ++ l) (append-nil (lines_of_life life))
@@ -131,10 +118,7 @@ no-line text yielded read is all reads =
 pub spelled-in : (text : Text) (draft : Draft) (r : Result Script ScriptFault) → AreReadAs (script_lines text) (lines_in draft)
     → IfOk r (λ script. lines_of script.geometry script.lives.items ≡ lines_in draft) → IfOk r (λ script. script.geometry.version ≡ plain_version)
     → IfOk r (λ script. SpellsScript text script.geometry script.lives.items)
-spelled-in text draft (Ok script) reads same newest = record {
-  lines = subst (AreReadAs (script_lines text)) (sym same) reads;
-  newest = newest;
-}
+spelled-in text draft (Ok script) reads same newest = grind arith
 spelled-in text draft (Err fault) reads same newest = tt
 
 -- the numbers of its image alone are wrong

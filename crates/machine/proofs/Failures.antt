@@ -1,10 +1,10 @@
 -- Which replies report a failing device, and what a failed state answers.
-use Rattle.std.proofs.Common.{◌≡◌, ℕ, ◌+◌, ◌*◌, ◌^◌, ◌&&◌, ◌||◌, nat_eq, Bool, true, false, cond, [], ◌∷◌, refl, sym, ◌∙◌, ap, subst}
-use Rattle.std.specs.Prelude.{Option, Some, None, is_none, nat_le}
+use Rattle.std.proofs.Common.{◌≡◌, ℕ, Bool, true, false, cond, [], ◌∷◌, refl, sym, ◌∙◌, ap, subst, arith}
+use Rattle.std.specs.Prelude.{Option, Some, None}
 use Rattle.std.specs.Option.{option_or, option_map}
 use Rattle.base.specs.declared.key.Key.{Key}
 use Rattle.base.specs.declared.fault.Fault.{Fault}
-use Rattle.base.specs.declared.fault.Fault.TheVariants.{Failed, SessionsFull, NoSession, WrongState, TooLong, WriteSetFull, SlotsOut, Conflict, WindowFull, TimestampsOut}
+use Rattle.base.specs.declared.fault.Fault.TheVariants.{Failed, Conflict}
 use Rattle.base.specs.declared.step.Step.{Step}
 use Rattle.base.specs.declared.step.Step.TheVariants.{Begin, Get, Scan, Put, Delete, Draw, Stamp, Poll, Abort, End, Commit as CommitTick, Collect}
 use Rattle.base.specs.declared.step.Stage.{Stage}
@@ -12,7 +12,7 @@ use Rattle.base.specs.declared.step.Reply.{Reply}
 use Rattle.base.specs.declared.step.Reply.TheVariants.{Began, Row, Rows, Done, Drawn, More, Stamped, Waiting, Committed, Idle, Ticked, Covered, Visited, SweepEnd, Refused}
 use Rattle.base.specs.Commits.{Writes}
 use Rattle.base.specs.Search.{some_if}
-use Rattle.machine.specs.Machine.{State, Hand, Stepped, refused, answered, memory_refused, device_failed, refusal, conflicts, begins, free_session, is_absent, is_misplaced, is_too_long, overfills, lacks_slot, draws, chooses, is_idle, writes_of, next_stage, taken_in_hand, next_state, state_drawn, state_ticked, state_ticked_on}
+use Rattle.machine.specs.Machine.{State, Hand, Stepped, refused, answered, memory_refused, device_failed, refusal, is_idle, writes_of, next_stage, taken_in_hand, next_state, state_drawn, state_ticked, state_ticked_on}
 use Rattle.base.specs.Replies.{is_failure}
 use Rattle.machine.proofs.Runs.{IsAnswer, Answers-answer}
 use Rattle.machine.proofs.collector.Visits.{visit-changes}
@@ -42,18 +42,7 @@ quiet-or None b p r = r
 quiet-or (Some fault) b p r = p
 
 pub refusal-quiet : (q : State) (step : Step) (fault : Fault) → refusal q step ≡ Some fault → is_failure (Refused fault) ≡ false
-refusal-quiet q step =
-    quiet-or _ _ (quiet-if q.failed Failed refl)
-    (quiet-or _ _ (quiet-if (begins step && is_none (free_session q)) SessionsFull refl)
-    (quiet-or _ _ (quiet-if (is_absent q step) NoSession refl)
-    (quiet-or _ _ (quiet-if (is_misplaced q step) WrongState refl)
-    (quiet-or _ _ (quiet-if (is_too_long q step) TooLong refl)
-    (quiet-or _ _ (quiet-if (overfills q step) WriteSetFull refl)
-    (quiet-or _ _ (quiet-if (lacks_slot q step) SlotsOut refl)
-    (quiet-or _ _ (quiet-conflict (conflicts q step))
-    (quiet-or _ _ (quiet-if (draws q step && nat_eq q.next q.ruling.dirty) WindowFull refl)
-    (quiet-or _ _ (quiet-if (draws q step && nat_le (2 ^ 62) (q.next + 2 * q.layout.window) || chooses q step && nat_le (2 ^ 62) (q.ruling.gate + 1)) TimestampsOut refl)
-    quiet-none)))))))))
+refusal-quiet q step = grind (arith, quiet-or, quiet-if, quiet-conflict, quiet-none)
 
 pub answer-quiet : (reply : Reply) → IsAnswer reply → is_failure reply ≡ false
 answer-quiet (Began n) a = refl
@@ -112,8 +101,4 @@ failed-after q step reply q' (device_failed e m r s) works = ap (λ (x : State).
 
 -- a failed state refuses each step
 pub failed-refuses : (q : State) (step : Step) → q.failed ≡ true → refusal q step ≡ Some Failed
-failed-refuses q step failed = by q.failed _ failed
-  where
-    by : (b : Bool) (rest : Option Fault) → b ≡ true → option_or (some_if b Failed) rest ≡ Some Failed
-    by true rest e = refl
-    by false rest e = absurd (cc e)
+failed-refuses q step failed = grind arith

@@ -108,11 +108,7 @@ pub polled-in : (q : State) (o : Option Session) (t : ℕ) → Committed t ≡ p
 polled-in q None t e = cc
 polled-in q (Some (Active begun writes)) t e = cc
 polled-in q (Some WroteNothing) t e = cc
-polled-in q (Some (Drew u)) t e = by (has_timestamp q.history u) refl e
-  where
-    by : (b : Bool) → has_timestamp q.history u ≡ b → Committed t ≡ (if b then Committed u else Waiting) → has_timestamp q.history t ≡ true
-    by true is f = subst (λ (v : ℕ). has_timestamp q.history v ≡ true) (sym (committed_is t u f)) is
-    by false is f = cc
+polled-in q (Some (Drew u)) t e = grind (arith, committed_is)
 
 poll-in : (q : State) (n t : ℕ) (q' : State) → Stepped q (Poll n) (Committed t) q' → has_timestamp q.history t ≡ true
 poll-in q n t q' (refused fault e r s) = cc

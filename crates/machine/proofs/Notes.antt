@@ -1,5 +1,5 @@
 -- A step has a note of its kind.
-use Rattle.std.proofs.Common.{◌≡◌, ℕ, refl, sym, ap, ◌∙◌, Bool, true, false, List, [], ◌∷◌}
+use Rattle.std.proofs.Common.{◌≡◌, ℕ, refl, sym, ap, ◌∙◌, Bool, true, false, List, [], ◌∷◌, arith}
 use Rattle.std.specs.Prelude.{Option, Some, None, if◌then◌else◌}
 use Rattle.base.specs.declared.key.Key.{Key}
 use Rattle.base.specs.declared.fault.Fault.{Fault}
@@ -87,10 +87,7 @@ ticked_lists q None = either_lists (is_idle q) Idle (Ticked Chosen) refl refl
 ticked_lists q (Some hand) = ticked_on_lists q hand (next_stage q hand)
 
 unlisted : {P : Type 0} (reply other : Reply) → lists reply ≡ true → reply ≡ other → lists other ≡ false → P
-unlisted reply other has is none = absurd (apart (sym has ∙ (ap lists is ∙ none)))
-  where
-    apart : true ≡ false → ⊥
-    apart h = cc
+unlisted reply other has is none = grind arith
 
 -- only a scan lists rows, and it changes nothing
 listed : (q : State) (step : Step) (reply : Reply) → lists reply ≡ true → Answers q step reply → next_state q step ≡ q

@@ -15,11 +15,7 @@ use Rattle.state_invariant.proofs.Places.{take-place}
 -- ---- commits that write no row there
 
 rowless : (key : Key) (c : Commit) → writes_key key c ≡ false → is_some (row_in c.writes key) ≡ false
-rowless key c none = by (lookup_key c.writes key) none
-  where
-    by : (x : Option (Option (List ℕ))) → is_some x ≡ false → is_some (unwrap_or x None) ≡ false
-    by None e = refl
-    by (Some v) e = absurd (cc e)
+rowless key c none = grind arith
 
 pub none-row : (key : Key) (last : Option ℕ) (ys : List Commit) → ((i : ℕ) (c : Commit) → slice_get ys i ≡ Some c → writes_key key c ≡ false)
     → fold (λ (last : Option ℕ) (commit : Commit). cond (is_some (row_in commit.writes key)) (Some commit.timestamp) last) last ys ≡ last

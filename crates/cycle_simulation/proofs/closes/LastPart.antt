@@ -1,5 +1,5 @@
 -- The last part of a close: what is drawn is made to persist, and the record that covers it is written.
-use Rattle.std.proofs.Common.{◌≡◌, inl, inr, ℕ, zero, suc, ◌+◌, ◌-◌, ◌^◌, ◌<◌, ◌≤◌, true, cond, ◌||◌, List, [], ◌∷◌, ◌++◌, length, take, refl, sym, ◌∙◌, ap, subst, arith}
+use Rattle.std.proofs.Common.{◌≡◌, inl, inr, ℕ, zero, suc, ◌+◌, ◌-◌, ◌^◌, ◌<◌, ◌≤◌, true, cond, ◌||◌, List, [], ◌∷◌, length, take, refl, sym, ◌∙◌, ap, subst, arith}
 use Rattle.std.specs.Prelude.{Option, Some, is_some, slice_get, nat_eq}
 use Rattle.std.proofs.lemmas.Bool.{or_cases, cases_lt}
 use Rattle.std.proofs.lemmas.List.{take_all}
@@ -141,10 +141,7 @@ module _ (o : Origin) (q : State) (device : Device) (c : IsClosing o q device) w
   gate-is = ap (λ (h : Option Hand). let n : ℕ = cond (is_some h) 2 1 in q.ruling.gate + n) c.rests
 
   cover-is : present last_state ≡ closed q
-  cover-is = λ i. record {
-    ruled_by = record { gate = sym gate-is i; persisted = reaches i; dirty = q.next; gaps = standing_gaps q; longs = none-passed o q kept c.stamped i };
-    commits = q.history ++ all-uncovered i;
-  }
+  cover-is = grind (arith, gate-is, reaches, none-passed, kept, all-uncovered)
 
   module _ (persisted : HasPersisted q device) where
     abbrev now : State
@@ -160,16 +157,7 @@ module _ (o : Origin) (q : State) (device : Device) (c : IsClosing o q device) w
     safe-now = safe o now (value_of device) (keeps-covered o q hand kept k) (shows-covered o q hand (value_of device) c.works kept k c.upholds.shows)
 
     slot-last : (slot : ℕ) → SlotHolds now device slot → SlotHolds last_state device slot
-    slot-last slot h = record {
-      begin_before = h.begin_before;
-      end_before = h.end_before;
-      free = h.free;
-      own = h.own;
-      drawn = h.drawn;
-      unstamped = h.unstamped;
-      newest = λ key held. let live = h.newest key held in record { begin = live.begin; counted = live.counted; end = live.end; settled = live.settled };
-      replaced = h.replaced;
-    }
+    slot-last slot h = grind (arith, settled)
 
     pub held-last : SlotsHold last_state device
     held-last = record { each = λ slot lt. slot-last slot (held-now.each slot lt) }

@@ -1,19 +1,17 @@
 -- From which state a close goes on, after a tick or a stamp.
-use Rattle.std.proofs.Common.{◌≡◌, ◌⊎◌, inl, inr, ℕ, ◌+◌, ◌-◌, Bool, true, false, cond, not, ◌&&◌, ◌||◌, List, [], ◌∷◌, ◌++◌, map, filter, refl, sym, ◌∙◌, ap, subst, arith, append_assoc, true≢false}
-use Rattle.std.specs.Prelude.{Option, Some, None, is_none, nat_eq, IsTrue, Contains, if◌then◌else◌}
+use Rattle.std.proofs.Common.{◌≡◌, ◌⊎◌, inl, inr, ℕ, ◌+◌, ◌-◌, Bool, true, false, cond, not, ◌||◌, List, [], ◌∷◌, ◌++◌, map, filter, refl, sym, ◌∙◌, ap, subst, arith, append_assoc, true≢false}
+use Rattle.std.specs.Prelude.{Option, Some, nat_eq, Contains, if◌then◌else◌}
 use Rattle.std.proofs.lemmas.Bool.{or_left, or_right}
 use Rattle.std.proofs.lemmas.List.Folds.{list_any-append}
 use Rattle.std.proofs.lemmas.List.Elements.{Contains-append_cases}
-use Rattle.base.specs.declared.fault.Fault.{Fault}
 use Rattle.base.specs.declared.gap.Gap.{Gap}
 use Rattle.base.specs.declared.step.Reply.{Reply}
-use Rattle.base.specs.declared.step.Stage.{Stage}
 use Rattle.base.specs.declared.step.Step.TheVariants.{Stamp, Commit as CommitTick}
 use Rattle.base.specs.Commits.{Commit}
 use Rattle.base.specs.Images.{Image, ruling}
 use Rattle.base.specs.Records.{is_committed}
-use Rattle.base.specs.Stands.{Stands, has_timestamp}
-use Rattle.machine.specs.Machine.{State, Cover, Drawn, Hand, Stepped, refused, answered, memory_refused, device_failed, refusal, is_idle, next_stage, next_state, state_ticked, state_ticked_on, state_covered, present, covers_at, closed, uncovered, in_hand, drawn_of, timestamp_of, StandsUnder, StandsWithin, StandsClosing}
+use Rattle.base.specs.Stands.{has_timestamp}
+use Rattle.machine.specs.Machine.{State, Cover, Drawn, Hand, Stepped, next_state, state_covered, present, covers_at, closed, uncovered, in_hand, drawn_of, timestamp_of, StandsUnder, StandsWithin, StandsClosing}
 use Rattle.base.proofs.Lists.{filter-all}
 use Rattle.machine.proofs.stamps.Drawn.{counted-commits}
 use Rattle.state_invariant.specs.Kept.{KeepsHand}
@@ -27,18 +25,7 @@ use Rattle.cycle_simulation.proofs.covers.Ticks.{refusal-in_hand}
 
 -- what is drawn, covered and in hand stays
 closes-same : (q q' : State) → q'.layout ≡ q.layout → drawn_of q' ≡ drawn_of q → q'.next ≡ q.next → covers_at q' ≡ covers_at q → closed q' ≡ closed q → ClosesAs q q'
-closes-same q q' layout drawn next covers last = record {
-  number = ap (λ (c : Cover). c.ruled_by.gate) last;
-  within = λ image s. (s.0, subst (λ (cs : List Cover). Contains cs s.0) (λ i. covers i ++ last i ∷ []) s.1, under s.0 image s.2);
-  after_it = λ image s. subst (λ (c : Cover). StandsUnder q c image) last (under (closed q') image s);
-}
-  where
-    under : (cover : Cover) (image : Image) → StandsUnder q' cover image → StandsUnder q cover image
-    under cover image s = record {
-      stands = subst (λ (ds : List Commit). Stands image cover.commits ds q.next) drawn (subst (λ (n : ℕ). Stands image cover.commits (drawn_of q') n) next s.stands);
-      ruled = s.ruled;
-      laid_out = s.laid_out ∙ layout;
-    }
+closes-same q q' layout drawn next covers last = grind arith
 
 -- ---- a tick
 
@@ -58,12 +45,7 @@ tick-covers_within q hand in_hand = within-closing q (state_covered q hand) (λ 
 
 filter-drawn : (p : Commit → Bool) (ds : List Drawn) → map (λ (d : Drawn). d.commit) (filter (λ (d : Drawn). p d.commit) ds) ≡ filter p (map (λ (d : Drawn). d.commit) ds)
 filter-drawn p [] = refl
-filter-drawn p (d ∷ ds) = by (p d.commit) (filter-drawn p ds)
-  where
-    by : (b : Bool) → map (λ (d : Drawn). d.commit) (filter (λ (d : Drawn). p d.commit) ds) ≡ filter p (map (λ (d : Drawn). d.commit) ds)
-        → map (λ (d : Drawn). d.commit) (cond b (d ∷ filter (λ (d : Drawn). p d.commit) ds) (filter (λ (d : Drawn). p d.commit) ds)) ≡ cond b (d.commit ∷ filter p (map (λ (d : Drawn). d.commit) ds)) (filter p (map (λ (d : Drawn). d.commit) ds))
-    by true rest = ap (λ (cs : List Commit). d.commit ∷ cs) rest
-    by false rest = rest
+filter-drawn p (d ∷ ds) = grind (arith, filter-drawn p ds)
 
 -- gaps stand as they did, or are dropped once they are swept
 gaps-dropped : (q : State) (gaps : List Gap) → (gaps ≡ q.ruling.gaps) ⊎ ((q.swept ≡ true) × (gaps ≡ [])) → (if q.swept then [] else gaps) ≡ (if q.swept then [] else q.ruling.gaps)
@@ -134,23 +116,7 @@ tick-covers q hand in_hand k = record {
 
 module _ (q q' : State) (hand : Hand) (reply : Reply) (in_hand : q.hand ≡ Some hand) (up : q.failed ≡ false) (stepped : Stepped q CommitTick reply q') where
   outcome : (q' ≡ one_tick_on q hand) ⊎ ((q' ≡ state_covered q hand) ⊎ (q' ≡ record q { failed = true }))
-  outcome = by stepped
-    where
-      by_stage : (o : Option Stage) → q' ≡ state_ticked_on q hand o → (q' ≡ one_tick_on q hand) ⊎ ((q' ≡ state_covered q hand) ⊎ (q' ≡ record q { failed = true }))
-      by_stage (Some stage) is = inl is
-      by_stage None is = inr (inl is)
-
-      none : (fault : Fault) → refusal q CommitTick ≡ Some fault → ⊥
-      none fault is = let un = refusal-in_hand q hand up in_hand in cc
-
-      never : IsTrue (is_none q.hand && not (is_idle q)) → ⊥
-      never takes = true≢false (sym takes ∙ ap (λ (h : Option Hand). is_none h && not (is_idle q)) in_hand)
-
-      by : Stepped q CommitTick reply q' → (q' ≡ one_tick_on q hand) ⊎ ((q' ≡ state_covered q hand) ⊎ (q' ≡ record q { failed = true }))
-      by (refused fault is told same) = absurd (none fault is)
-      by (answered un told is) = by_stage (next_stage q hand) (is ∙ ap (state_ticked q) in_hand)
-      by (memory_refused un takes told same) = absurd (never takes)
-      by (device_failed un operating told is) = inr (inr is)
+  outcome = grind (arith, refusal-in_hand, true≢false)
 
   tick-within : (image : Image) → StandsWithin q q' image → StandsClosing q image
   tick-within image = by outcome

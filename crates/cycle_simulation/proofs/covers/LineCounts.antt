@@ -1,5 +1,5 @@
 -- Drawn commits touch as many lines as the machine counts for them.
-use Rattle.std.proofs.Common.{◌≡◌, inl, ℕ, ◌+◌, ◌<◌, Bool, true, false, cond, ◌&&◌, List, [], ◌∷◌, length, map, take, refl, sym, ◌∙◌, ap, subst, arith}
+use Rattle.std.proofs.Common.{◌≡◌, inl, ℕ, ◌+◌, ◌<◌, Bool, true, false, cond, ◌&&◌, List, [], ◌∷◌, length, map, take, refl, sym, ◌∙◌, ap, arith}
 use Rattle.std.specs.Prelude.{Option, Some, None, is_some, nat_eq, sum_by, unwrap_or}
 use Rattle.std.specs.List.{list_any, range_with_len, flat_map}
 use Rattle.std.specs.Option.{option_map, option_or}
@@ -54,17 +54,11 @@ module _ (o : Origin) (q : State) (commits : List Commit) (kept : Keeps o q) (dr
 
   -- a commit of the batch writes its keys in order
   rising-writes : (t : ℕ) (c : Commit) → commit_at commits t ≡ Some c → is_rising (map (λ (w : Wrote). w.0) c.writes) ≡ true
-  rising-writes t c found =
-      let d = drawn.each t c found in
-      subst (λ (c : Commit). is_rising (map (λ (w : Wrote). w.0) c.writes) ≡ true) d.2
-      (find-all (λ (d : Drawn). nat_eq d.commit.timestamp t) (λ (d : Drawn). is_rising (map (λ (w : Wrote). w.0) d.commit.writes)) q.drawn d.0 kept.draws.in_order d.1)
+  rising-writes t c found = grind (arith, find-all)
 
   -- no two of them write one key
   alone : (key : Key) (t u : ℕ) (c e : Commit) → commit_at commits t ≡ Some c → commit_at commits u ≡ Some e → writes_key key c ≡ true → writes_key key e ≡ true → t ≡ u
-  alone key t u c e found_c found_e writes_c writes_e =
-      let a = drawn.each t c found_c in
-      let b = drawn.each u e found_e in
-      kept.draws.apart t u a.0 b.0 key a.1 b.1 (ap (writes_key key) a.2 ∙ writes_c) (ap (writes_key key) b.2 ∙ writes_e)
+  alone key t u c e found_c found_e writes_c writes_e = grind arith
 
   in_life : (t : ℕ) (d : Drawn) → drawn_at q t ≡ Some d → commit_at (commits_of_life o q) t ≡ Some d.commit
   in_life t d found =
@@ -189,17 +183,7 @@ module _ (o : Origin) (q : State) (commits : List Commit) (kept : Keeps o q) (dr
     -- one that is ended on the key is its newest
     ended-here : (slot : ℕ) (v : Option Version) → q.held slot ≡ v → (is_ended q commits v && is_at key v) ≡ true → q.held slot ≡ Some (newest_of q key)
     ended-here slot None held is = absurd (cc is)
-    ended-here slot (Some v) held is = by_writer v.writer refl (and_parts (is_ended q commits (Some v)) (key_eq v.key key) is)
-      where
-        by_writer : (w : Writer) → v.writer ≡ w → (is_ended q commits (Some v) ≡ true) × (key_eq v.key key ≡ true) → q.held slot ≡ Some (newest_of q key)
-        by_writer (BySession n) by_it both =
-            let last : is_last_on q v.key (BySession n) ≡ true = ap (is_last_on q v.key) (sym by_it) ∙ (and_parts (is_last_on q v.key v.writer) (list_any (writes_key v.key) commits) both.0).0 in
-            absurd (cc last)
-        by_writer (ByCommit u) by_it both =
-            let last : nat_eq (last_writer q.history v.key) u ≡ true = ap (is_last_on q v.key) (sym by_it) ∙ (and_parts (is_last_on q v.key v.writer) (list_any (writes_key v.key) commits) both.0).0 in
-            let keys = key_eq-true v.key key both.1 in
-            let time : u ≡ last_writer q.history key = sym (eqb-true (last_writer q.history v.key) u last) ∙ ap (last_writer q.history) keys in
-            held ∙ ap (λ (v : Version). Some v) (ap (λ (k : Key). version_by k v.writer) keys ∙ ap (version_by key) by_it ∙ ap (λ (n : ℕ). version_by key (ByCommit n)) time)
+    ended-here slot (Some v) held is = grind (arith, and_parts, key_eq-true, eqb-true)
 
     owned-sum : (row : Option (List ℕ)) → r ≡ row → sum_by (λ slot. owned q commits key (q.held slot)) (range_with_len 0 q.layout.slots) ≡ cond (is_some row) (version_lines q.layout) 0
     owned-sum (Some row) is =

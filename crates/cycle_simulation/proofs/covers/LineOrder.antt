@@ -1,5 +1,5 @@
 -- The lines that commits touch rise, and are those that one of the commits touches.
-use Rattle.std.proofs.Common.{◌≡◌, ◌≢◌, ◌⊎◌, inl, inr, ℕ, zero, suc, ◌+◌, ◌*◌, ◌/◌, ◌<◌, ◌≤◌, Bool, true, false, cond, ◌&&◌, ◌||◌, List, [], ◌∷◌, ◌++◌, map, refl, sym, ◌∙◌, ap, subst, arith, true≢false}
+use Rattle.std.proofs.Common.{◌≡◌, ◌≢◌, ◌⊎◌, inl, inr, ℕ, zero, suc, ◌+◌, ◌/◌, ◌<◌, ◌≤◌, Bool, true, false, cond, ◌&&◌, ◌||◌, List, [], ◌∷◌, ◌++◌, map, refl, sym, ◌∙◌, ap, subst, arith, true≢false}
 use Rattle.std.specs.Prelude.{Option, Some, None, nat_eq, nat_lt, nat_le}
 use Rattle.std.specs.List.{list_any, list_all, range_with_len, flat_map}
 use Rattle.std.proofs.lemmas.Bool.{and_parts, and_from, eq-eqb, leb-true, ltb-true, le-leb, lt-ltb, ne_eqb, or_cases, or_from, or_left, cases_eq, cases_lt}
@@ -38,13 +38,7 @@ record IsBetween (low high : ℕ) (xs : List ℕ) : Type 0 where
   pub to : list_all (λ x. nat_lt x high) xs ≡ true
 
 between-append : (low mid high : ℕ) (xs ys : List ℕ) → low ≤ mid → mid ≤ high → IsBetween low mid xs → IsBetween mid high ys → IsBetween low high (xs ++ ys)
-between-append low mid high xs ys le le' a b = record {
-  rising = rising-append mid xs ys a.rising b.rising a.to b.from;
-  from = list_all-append (nat_le low) xs ys
-      ∙ and_from (list_all (nat_le low) xs) (list_all (nat_le low) ys) a.from (all-weaken (nat_le mid) (nat_le low) ys (λ y e. le-leb low y (omega (arith, le, leb-true mid y e))) b.from);
-  to = list_all-append (λ x. nat_lt x high) xs ys
-      ∙ and_from (list_all (λ x. nat_lt x high) xs) (list_all (λ x. nat_lt x high) ys) (all-weaken (λ x. nat_lt x mid) (λ x. nat_lt x high) xs (λ x e. lt-ltb x high (omega (arith, le', ltb-true x mid e))) a.to) b.to;
-}
+between-append low mid high xs ys le le' a b = grind (arith, rising-append, list_all-append, and_from, all-weaken, le-leb, leb-true, lt-ltb, ltb-true)
 
 between-none : (low high : ℕ) → IsBetween low high []
 between-none low high = record { rising = refl; from = refl; to = refl }
@@ -53,11 +47,7 @@ between-one : (low high x : ℕ) → low ≤ x → x < high → IsBetween low hi
 between-one low high x le lt = record { rising = refl; from = and_from (nat_le low x) true (le-leb low x le) refl; to = and_from (nat_lt x high) true (lt-ltb x high lt) refl }
 
 between-two : (low high x y : ℕ) → low ≤ x → x < y → y < high → IsBetween low high (x ∷ y ∷ [])
-between-two low high x y le less lt = record {
-  rising = rising-with x (y ∷ []) (and_from (nat_lt x y) true (lt-ltb x y less) refl) refl;
-  from = and_from (nat_le low x) (nat_le low y && true) (le-leb low x le) (and_from (nat_le low y) true (le-leb low y (omega (arith, le, less))) refl);
-  to = and_from (nat_lt x high) (nat_lt y high && true) (lt-ltb x high (omega (arith, less, lt))) (and_from (nat_lt y high) true (lt-ltb y high lt) refl);
-}
+between-two low high x y le less lt = grind (arith, rising-with, and_from, lt-ltb, le-leb)
 
 -- ---- the lines of slots
 
@@ -69,27 +59,14 @@ abbrev start : Layout → ℕ → ℕ
 start a slot = slot_start a slot / 8
 
 start-rises : (a : Layout) (s n : ℕ) → start a s ≤ start a (s + n)
-start-rises a s n = by_width (nat_eq a.version 3)
-  where
-    by_width : (b : Bool) → (8 + 32 * a.places + cond b 16 8 * s) / 8 ≤ (8 + 32 * a.places + cond b 16 8 * (s + n)) / 8
-    by_width true = omega arith
-    by_width false = omega arith
+start-rises a s n = grind arith
 
 module _ (q : State) (commits : List Commit) where
   abbrev numbers_at : ℕ → List ℕ
   numbers_at slot = map (line_number q.layout) (lines_at q commits slot)
 
   slot-between : (slot : ℕ) → IsBetween (start q.layout slot) (start q.layout (slot + 1)) (numbers_at slot)
-  slot-between slot = by_tests (nat_eq q.layout.version 3) (is_own commits (q.held slot)) (is_ended q commits (q.held slot))
-    where
-      by_tests : (b own ended : Bool) → IsBetween ((8 + 32 * q.layout.places + cond b 16 8 * slot) / 8) ((8 + 32 * q.layout.places + cond b 16 8 * (slot + 1)) / 8)
-          (map (λ (line : Line). (8 + 32 * q.layout.places + cond b 16 8 * line.slot) / 8 + line.part)
-          (cond own (flat_map (λ part. line_at slot part ∷ []) (range_with_len 0 (cond (nat_eq (cond b 16 8) 16) 2 1))) (cond ended (line_at slot 0 ∷ []) [])))
-      by_tests true true ended = between-two _ _ _ _ (omega arith) (omega arith) (omega arith)
-      by_tests false true ended = between-one _ _ _ (omega arith) (omega arith)
-      by_tests true false true = between-one _ _ _ (omega arith) (omega arith)
-      by_tests false false true = between-one _ _ _ (omega arith) (omega arith)
-      by_tests b false false = between-none _ _
+  slot-between slot = grind (arith, between-two, between-one, between-none)
 
   slots-between : (from n : ℕ) → IsBetween (start q.layout from) (start q.layout (from + n)) (map (line_number q.layout) (flat_map (lines_at q commits) (range_with_len from n)))
   slots-between from zero = between-none _ _
@@ -113,13 +90,7 @@ module _ (q : State) (commits : List Commit) where
 
 any-and : {X : Type 0} (f : X → Bool) (b : Bool) (xs : List X) → list_any (λ x. f x && b) xs ≡ (list_any f xs && b)
 any-and f b [] = refl
-any-and f b (x ∷ xs) = ap (λ (c : Bool). (f x && b) || c) (any-and f b xs) ∙ spread (f x) (list_any f xs) b
-  where
-    spread : (a c d : Bool) → ((a && d) || (c && d)) ≡ ((a || c) && d)
-    spread true c true = refl
-    spread true true false = refl
-    spread true false false = refl
-    spread false c d = refl
+any-and f b (x ∷ xs) = grind (arith, any-and f b xs)
 
 any-swap : {X Y : Type 0} (r : X → Y → Bool) (xs : List X) (ys : List Y) → list_any (λ x. list_any (r x) ys) xs ≡ list_any (λ y. list_any (λ x. r x y) xs) ys
 any-swap r xs [] = any-never xs
@@ -127,10 +98,7 @@ any-swap r xs (y ∷ ys) = any-or (λ x. r x y) (λ x. list_any (r x) ys) xs ∙
 
 any-numbers : (q : State) (commits : List Commit) (line : ℕ) (slots : List ℕ) → is_line_of line (map (line_number q.layout) (flat_map (lines_at q commits) slots)) ≡ list_any (λ slot. is_line_of line (map (line_number q.layout) (lines_at q commits slot))) slots
 any-numbers q commits line [] = refl
-any-numbers q commits line (slot ∷ slots) =
-    ap (is_line_of line) (map-append (line_number q.layout) (lines_at q commits slot) (flat_map (lines_at q commits) slots))
-    ∙ list_any-append (λ l. nat_eq l line) (map (line_number q.layout) (lines_at q commits slot)) (map (line_number q.layout) (flat_map (lines_at q commits) slots))
-    ∙ ap (λ (b : Bool). is_line_of line (map (line_number q.layout) (lines_at q commits slot)) || b) (any-numbers q commits line slots)
+any-numbers q commits line (slot ∷ slots) = grind (arith, any-numbers q commits line slots, map-append, list_any-append)
 
 module _ (q : State) (line : ℕ) where
   abbrev among : List Line → Bool
@@ -144,31 +112,14 @@ module _ (q : State) (line : ℕ) where
 
   -- the first line is one of all
   first-among : (slot : ℕ) → among (first_of slot) ≡ true → among (all_of slot) ≡ true
-  first-among slot is = by_width (nat_eq q.layout.version 3) is
-    where
-      by_width : (b : Bool) → is_line_of line (map (λ (line : Line). (8 + 32 * q.layout.places + cond b 16 8 * line.slot) / 8 + line.part) (line_at slot 0 ∷ [])) ≡ true
-          → is_line_of line (map (λ (line : Line). (8 + 32 * q.layout.places + cond b 16 8 * line.slot) / 8 + line.part) (flat_map (λ part. line_at slot part ∷ []) (range_with_len 0 (cond (nat_eq (cond b 16 8) 16) 2 1)))) ≡ true
-      by_width true is = elim (or_cases (nat_eq ((8 + 32 * q.layout.places + 16 * slot) / 8 + 0) line) false is) [
-        | inl here ↦ or_left (nat_eq ((8 + 32 * q.layout.places + 16 * slot) / 8 + 0) line) (nat_eq ((8 + 32 * q.layout.places + 16 * slot) / 8 + 1) line || false) here
-        | inr none ↦ absurd (cc none)
-      ]
-      by_width false is = is
+  first-among slot is = grind (arith, or_cases, or_left)
 
   -- either all its lines are touched, or the first alone
   by-kind : (slot : ℕ) (own ended : Bool) → among (cond own (all_of slot) (cond ended (first_of slot) [])) ≡ ((own && among (all_of slot)) || (ended && among (first_of slot)))
   by-kind slot false true = refl
   by-kind slot false false = refl
-  by-kind slot true false = or-none (among (all_of slot))
-    where
-      or-none : (b : Bool) → b ≡ (b || false)
-      or-none true = refl
-      or-none false = refl
-  by-kind slot true true = absorbed (among (all_of slot)) (among (first_of slot)) (first-among slot)
-    where
-      absorbed : (a b : Bool) → (b ≡ true → a ≡ true) → a ≡ (a || b)
-      absorbed true b e = refl
-      absorbed false true e = e refl
-      absorbed false false e = refl
+  by-kind slot true false = grind arith
+  by-kind slot true true = grind (arith, first-among)
 
   own-any : (commits : List Commit) (v : Option Version) → is_own commits v ≡ list_any (λ c. is_own (c ∷ []) v) commits
   own-any commits None = sym (any-never commits)

@@ -1,26 +1,24 @@
 -- The lines of the batch in hand stay over each step of a session.
-use Rattle.std.proofs.Common.{◌≡◌, ◌⊎◌, inl, inr, ℕ, zero, suc, ◌+◌, ◌<◌, ◌≤◌, Bool, true, false, cond, ◌&&◌, List, [], ◌∷◌, ◌++◌, refl, sym, ◌∙◌, ap, subst, arith}
-use Rattle.std.specs.Prelude.{Option, Some, None, nat_eq, is_none}
+use Rattle.std.proofs.Common.{◌≡◌, ℕ, zero, suc, ◌+◌, ◌<◌, ◌≤◌, Bool, true, false, cond, ◌&&◌, List, [], ◌∷◌, ◌++◌, refl, sym, ◌∙◌, ap, subst, arith}
+use Rattle.std.specs.Prelude.{Option, Some, None, nat_eq}
 use Rattle.std.specs.List.{range_with_len, flat_map, list_any}
 use Rattle.std.proofs.lemmas.Bool.{and_parts, ne_eqb, eqb-true, false_from_ne_true}
 use Rattle.base.specs.declared.key.Key.{Key}
 use Rattle.base.specs.declared.step.Step.{Step}
 use Rattle.base.specs.declared.step.Step.TheVariants.{Begin, Get, Scan, Put, Delete, Draw, Stamp, Poll, Abort, End, Commit as CommitTick, Collect}
 use Rattle.base.specs.declared.step.Reply.{Reply}
-use Rattle.base.specs.Keys.{key_eq}
-use Rattle.base.specs.Commits.{Commit, Writes, writes_key, last_writer}
+use Rattle.base.specs.Commits.{Commit, writes_key, last_writer}
 use Rattle.machine.specs.Laws.{is_no_tick}
-use Rattle.base.specs.Records.{is_committed}
 use Rattle.base.specs.Stands.{has_timestamp}
 use Rattle.base.specs.Layout.{version_lines}
-use Rattle.machine.specs.Machine.{State, Hand, Version, Writer, BySession, ByCommit, Stepped, refused, answered, memory_refused, device_failed, next_state, state_drawn, writes_of, free_slot, own_slot, held_at, held_with, held_after_put, held_after_delete, held_after_abort, is_by, is_own_at, is_held_by, by_commit}
+use Rattle.machine.specs.Machine.{State, Hand, Version, BySession, Stepped, refused, answered, memory_refused, device_failed, next_state, held_after_put, held_after_delete, held_after_abort, is_by, by_commit}
 use Rattle.machine.specs.Collecting.{is_at_slot, held_after_visit, slot_visited, sweep_ended}
 use Rattle.state_invariant.specs.Kept.{Origin, Keeps, KeepsHand, version_by}
 use Rattle.state_invariant.proofs.Lookups.{first_below-some}
 use Rattle.state_invariant.proofs.collector.Garbage.{IsGarbage, garbage-undrawn, garbage-replaced}
 use Rattle.state_invariant.proofs.collector.Kept.{OnlyFrees, stays as same_holder, frees, visit-frees}
 use Rattle.state_invariant.proofs.Commits.{commit_at-has, committed-bounds}
-use Rattle.device_invariant.specs.Log.{Line, line_at, lines_at, lines_in, is_one_of, is_last_on, is_own, is_ended}
+use Rattle.device_invariant.specs.Log.{Line, line_at, lines_at, lines_in, is_own, is_ended}
 use Rattle.device_invariant.proofs.PresentValues.{drawn-bounds, last-committed}
 use Rattle.cycle_simulation.specs.Laws.{LinesStay}
 
@@ -37,11 +35,7 @@ by_session : (q : State) (commits : List Commit) (v : Option Version) (key : Key
 by_session q commits v key n none = record { own = sym (ap (is_own commits) none); ended = sym (ap (is_ended q commits) none) }
 
 given_back : (q : State) (commits : List Commit) (v : Version) (n : ℕ) → is_by n v.writer ≡ true → IsAlike q commits None (Some v)
-given_back q commits v n by_it = by_writer v.writer refl by_it
-  where
-    by_writer : (w : Writer) → v.writer ≡ w → is_by n w ≡ true → IsAlike q commits None (Some v)
-    by_writer (BySession m) is mine = record { own = sym (ap (is_one_of commits) is); ended = sym (ap (λ (w : Writer). is_last_on q v.key w && list_any (writes_key v.key) commits) is) }
-    by_writer (ByCommit t) is mine = absurd (cc mine)
+given_back q commits v n by_it = grind arith
 
 lines-alike : (q : State) (held : ℕ → Option Version) (commits : List Commit) (from n : ℕ) → ((slot : ℕ) → from ≤ slot → slot < from + n → IsAlike q commits (held slot) (q.held slot))
     → flat_map (lines_at (record q { held = held }) commits) (range_with_len from n) ≡ flat_map (lines_at q commits) (range_with_len from n)
@@ -59,47 +53,13 @@ held-lines q held commits each = lines-alike q held commits 0 q.layout.slots (λ
 -- ---- steps that change what holds slots
 
 put-alike : (q : State) (commits : List Commit) (n : ℕ) (key : Key) (slot : ℕ) → IsAlike q commits (held_after_put q n key slot) (q.held slot)
-put-alike q commits n key slot = by_own (own_slot q n key)
-  where
-    by_place : (at : ℕ) → free_slot q ≡ Some at → (b : Bool) → nat_eq slot at ≡ b → IsAlike q commits (cond b (Some (version_by key (BySession n))) (q.held slot)) (q.held slot)
-    by_place at free false is = alike q commits (q.held slot)
-    by_place at free true is =
-        let none : is_none (q.held at) ≡ true = (first_below-some q.layout.slots (λ slot. is_none (q.held slot)) at free).1 in
-        by_session q commits (q.held slot) key n (ap q.held (eqb-true slot at is) ∙ nothing (q.held at) none)
-      where
-        nothing : (v : Option Version) → is_none v ≡ true → v ≡ None
-        nothing None e = refl
-        nothing (Some v) e = absurd (cc e)
-
-    by_free : (f : Option ℕ) → free_slot q ≡ f → IsAlike q commits (held_at f (version_by key (BySession n)) q.held slot) (q.held slot)
-    by_free None is = alike q commits (q.held slot)
-    by_free (Some at) is = by_place at is (nat_eq slot at) refl
-
-    by_own : (own : Option ℕ) → IsAlike q commits (held_with q (version_by key (BySession n)) own slot) (q.held slot)
-    by_own (Some own) = alike q commits (q.held slot)
-    by_own None = by_free (free_slot q) refl
+put-alike q commits n key slot = grind (arith, alike, first_below-some, by_session, eqb-true)
 
 delete-alike : (q : State) (commits : List Commit) (n : ℕ) (key : Key) (slot : ℕ) → IsAlike q commits (held_after_delete q n key slot) (q.held slot)
-delete-alike q commits n key slot = by_held (q.held slot)
-  where
-    by_test : (v : Version) (b : Bool) → (is_by n v.writer && key_eq v.key key) ≡ b → IsAlike q commits (cond b None (Some v)) (Some v)
-    by_test v true is = given_back q commits v n (and_parts (is_by n v.writer) (key_eq v.key key) is).0
-    by_test v false is = alike q commits (Some v)
-
-    by_held : (v : Option Version) → IsAlike q commits (cond (is_own_at n key v) None v) v
-    by_held None = alike q commits None
-    by_held (Some v) = by_test v (is_by n v.writer && key_eq v.key key) refl
+delete-alike q commits n key slot = grind (arith, given_back, and_parts, alike)
 
 abort-alike : (q : State) (commits : List Commit) (n : ℕ) (slot : ℕ) → IsAlike q commits (held_after_abort q n slot) (q.held slot)
-abort-alike q commits n slot = by_held (q.held slot)
-  where
-    by_test : (v : Version) (b : Bool) → is_by n v.writer ≡ b → IsAlike q commits (cond b None (Some v)) (Some v)
-    by_test v true is = given_back q commits v n is
-    by_test v false is = alike q commits (Some v)
-
-    by_held : (v : Option Version) → IsAlike q commits (cond (is_held_by n v) None v) v
-    by_held None = alike q commits None
-    by_held (Some v) = by_test v (is_by n v.writer) refl
+abort-alike q commits n slot = grind (arith, given_back, alike)
 
 module _ (o : Origin) (q : State) (hand : Hand) (kept : Keeps o q) (in_hand : q.hand ≡ Some hand) where
   k : KeepsHand q hand
@@ -117,27 +77,10 @@ module _ (o : Origin) (q : State) (hand : Hand) (kept : Keeps o q) (in_hand : q.
           omega (arith, below)
 
   next-unwritten : (key : Key) → nat_eq (last_writer q.history key) q.next ≡ false
-  next-unwritten key = ne_eqb (last_writer q.history key) q.next (λ e. never e (last-committed o q kept key))
-    where
-      never : last_writer q.history key ≡ q.next → (last_writer q.history key ≡ 0) ⊎ (is_committed q.ruling (last_writer q.history key) ≡ true) → ⊥
-      never e (inl none) = omega (arith, e, none, kept.numbers.persisted)
-      never e (inr counts) = omega (arith, e, (committed-bounds q.ruling (last_writer q.history key) counts).1, kept.numbers.persisted)
+  next-unwritten key = grind (arith, ne_eqb, last-committed, committed-bounds)
 
   draw-alike : (n slot : ℕ) → IsAlike q hand.commits (by_commit n q.next (q.held slot)) (q.held slot)
-  draw-alike n slot = by_held (q.held slot)
-    where
-      by_test : (v : Version) (b : Bool) → is_by n v.writer ≡ b → IsAlike q hand.commits (Some (record { key = v.key; writer = cond b (ByCommit q.next) v.writer })) (Some v)
-      by_test v false is = record { own = refl; ended = refl }
-      by_test v true is =
-          let back = given_back q hand.commits v n is in
-          record {
-            own = next-apart ∙ back.own;
-            ended = ap (λ (b : Bool). b && list_any (writes_key v.key) hand.commits) (next-unwritten v.key) ∙ back.ended;
-          }
-
-      by_held : (v : Option Version) → IsAlike q hand.commits (by_commit n q.next v) v
-      by_held None = alike q hand.commits None
-      by_held (Some v) = by_test v (is_by n v.writer) refl
+  draw-alike n slot = grind (arith, given_back, next-apart, next-unwritten, alike)
 
   -- a version that nobody reads is neither the batch's own nor ended by it
   freed-alike : (slot : ℕ) → IsGarbage q slot → IsAlike q hand.commits None (q.held slot)
@@ -166,11 +109,7 @@ module _ (o : Origin) (q : State) (hand : Hand) (kept : Keeps o q) (in_hand : q.
   next-lines (Scan n table lo hi) is = refl
   next-lines (Put n key row) is = held-lines q (held_after_put q n key) hand.commits (λ slot lt. put-alike q hand.commits n key slot)
   next-lines (Delete n key) is = held-lines q (held_after_delete q n key) hand.commits (λ slot lt. delete-alike q hand.commits n key slot)
-  next-lines (Draw n) is = by_writes (writes_of (q.sessions n))
-    where
-      by_writes : (writes : Writes) → lines_in (state_drawn q n writes) hand.commits ≡ lines_in q hand.commits
-      by_writes [] = refl
-      by_writes (write ∷ writes) = held-lines q (λ slot. by_commit n q.next (q.held slot)) hand.commits (λ slot lt. draw-alike n slot)
+  next-lines (Draw n) is = grind (arith, held-lines, draw-alike)
   next-lines (Stamp n) is = refl
   next-lines (Poll n) is = refl
   next-lines (Abort n) is = held-lines q (held_after_abort q n) hand.commits (λ slot lt. abort-alike q hand.commits n slot)

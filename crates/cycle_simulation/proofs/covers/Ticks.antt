@@ -1,17 +1,14 @@
 -- Each tick is a step of the plain machine, and each image that it leaves stands.
-use Rattle.std.proofs.Common.{◌≡◌, ◌≢◌, inl, inr, ℕ, ◌+◌, ◌^◌, ◌<◌, ◌≤◌, Bool, true, false, cond, not, ◌&&◌, [], ◌∷◌, ◌++◌, length, get_or, refl, sym, ◌∙◌, ap, subst, arith, true≢false}
-use Rattle.std.specs.Prelude.{Option, Some, None, is_none, is_some, nat_le, slice_get, IsTrue, Contains}
-use Rattle.std.specs.Option.{option_or}
+use Rattle.std.proofs.Common.{◌≡◌, ◌≢◌, inl, inr, ℕ, ◌+◌, ◌^◌, ◌<◌, ◌≤◌, Bool, true, false, cond, [], ◌∷◌, ◌++◌, length, get_or, refl, sym, ◌∙◌, ap, subst, arith, true≢false}
+use Rattle.std.specs.Prelude.{Option, Some, None, is_some, slice_get, IsTrue, Contains}
 use Rattle.std.proofs.lemmas.Bool.{leb-false}
 use Rattle.std.proofs.lemmas.Option.{slice_get_within}
 use Rattle.std.proofs.lemmas.List.Elements.{Contains-append_left, Contains-append_right, Contains-append_cases}
-use Rattle.base.specs.declared.fault.Fault.TheVariants.{Failed, TimestampsOut}
 use Rattle.base.specs.declared.step.Step.TheVariants.{Commit as CommitTick}
 use Rattle.base.specs.declared.step.Stage.{Stage}
 use Rattle.base.specs.declared.step.Stage.TheVariants.{Chosen, LineFlushed, LinesFenced}
 use Rattle.base.specs.declared.step.Reply.TheVariants.{Idle, Ticked}
 use Rattle.base.specs.Images.{Image}
-use Rattle.base.specs.Search.{some_if}
 use Rattle.machine.specs.Machine.{State, Hand, refused, answered, memory_refused, device_failed, refusal, is_idle, taken_in_hand, operates, most_operations, ticked, ticked_on, state_ticked, state_ticked_on, next_stage, stages, state_covered, Cover, present, of_hand, covers_at, StandsUnder, StandsAt, StandsWithin}
 use Rattle.machine.proofs.Runs.{StandsAt-within}
 use Rattle.pmem.specs.Device.{Device, IsOrderly, MayLeave, stored, flushed, fenced}
@@ -48,16 +45,7 @@ one_at_most q hand in_hand = ap (λ (h : Option Hand). cond (is_some h) 1 0) in_
 
 -- where the tick chooses and isn't refused, a record is left
 numbered : (q : State) → refusal q CommitTick ≡ None → q.hand ≡ None → is_idle q ≡ false → q.ruling.gate + 1 < 2 ^ 62
-numbered q none rests busy = by_tests q.failed (is_none q.hand && not (is_idle q)) chooses_now (nat_le (2 ^ 62) (q.ruling.gate + 1)) refl none
-  where
-    chooses_now : is_none q.hand && not (is_idle q) ≡ true
-    chooses_now = rw (rests, busy) refl
-
-    by_tests : (down chosen : Bool) → chosen ≡ true → (past : Bool) → nat_le (2 ^ 62) (q.ruling.gate + 1) ≡ past → option_or (some_if down Failed) (option_or (some_if (chosen && past) TimestampsOut) None) ≡ None → q.ruling.gate + 1 < 2 ^ 62
-    by_tests down chosen is false within e = omega (arith, leb-false (2 ^ 62) (q.ruling.gate + 1) within)
-    by_tests true chosen is true past e = absurd (cc e)
-    by_tests false true is true past e = absurd (cc e)
-    by_tests false false is true past e = absurd (true≢false (sym is))
+numbered q none rests busy = grind (arith, leb-false, true≢false)
 
 -- ---- ticks without an operation
 
@@ -68,14 +56,7 @@ still o q q' device orderly before u = record {
 }
 
 pub idle-ticks : IdleTicks
-idle-ticks o q device orderly none rests idle u = record {
-  stepped = answered none
-      (sym (ap (ticked q) rests ∙ ap (λ (b : Bool). cond b Idle (Ticked Chosen)) idle))
-      (sym (ap (state_ticked q) rests ∙ ap (λ (b : Bool). cond b q (record q { hand = Some (taken_in_hand q) })) idle));
-  leads = still o q q device orderly u u;
-  no_failure = refl;
-  operations = omega arith;
-}
+idle-ticks o q device orderly none rests idle u = grind (arith, still)
 
 pub choosing-ticks : ChoosingTicks
 choosing-ticks o q device orderly none rests busy u = record {

@@ -1,6 +1,6 @@
 -- The collector makes 0 of a begin or an end that lies in a gap.
 use Rattle.std.proofs.Common.{◌≡◌, ◌≢◌, ◌⊎◌, inl, inr, ℕ, zero, suc, ◌<◌, Bool, true, false, cond, List, [], refl, sym, ◌∙◌, ap, subst, arith, true≢false, nat_eq}
-use Rattle.std.specs.Prelude.{Option, Some, None, IsTrue, nat_le, unwrap_or}
+use Rattle.std.specs.Prelude.{Option, Some, None, IsTrue, unwrap_or}
 use Rattle.std.specs.List.{list_any}
 use Rattle.std.proofs.lemmas.Bool.{cases_eq, eq-eqb, ne_eqb, and_right, leb-true, leb-false}
 use Rattle.base.specs.declared.key.Key.{Key}
@@ -12,7 +12,7 @@ use Rattle.pmem.specs.Device.{Device, stored}
 use Rattle.pmem.specs.Words.{Survives, value_of, OnlyShrinks}
 use Rattle.pmem.proofs.Changes.{stored-survives, stored-value, each-shrinks}
 use Rattle.state_invariant.specs.Kept.{Origin, version_by, wanted}
-use Rattle.state_invariant.specs.Shown.{word_of, HasBegun, IsNever, IsHidden, is_drawn_on, is_key_stamped, SlotShows, ShowsAs, class_of_version, class_of_drawn, Begun, Waiting, Newest, Replaced, IsWaiting, IsNewest, IsReplaced}
+use Rattle.state_invariant.specs.Shown.{word_of, HasBegun, IsNever, IsHidden, is_drawn_on, is_key_stamped, SlotShows, ShowsAs, class_of_version, class_of_drawn, Newest, Replaced, IsWaiting, IsNewest, IsReplaced}
 use Rattle.state_invariant.proofs.Commits.{uncommitted-gap}
 use Rattle.state_invariant.proofs.covers.Kept.{no_gap-above}
 use Rattle.state_invariant.proofs.reads.Tables.{never-counts}
@@ -56,13 +56,7 @@ module _ (o : Origin) (q : State) (slot : ℕ) (old : Device) (up : q.failed ≡
   not-counted x gap counts = true≢false (sym counts ∙ uncommitted-gap q.ruling x gap)
 
   not-begun : (t x : ℕ) → is_in q.ruling.gaps x ≡ true → HasBegun o t x → ⊥
-  not-begun t x gap begun = by (nat_le t o.ruling.persisted) refl
-    where
-      by : (b : Bool) → nat_le t o.ruling.persisted ≡ b → ⊥
-      by true le = not-counted x gap (u.keeps.numbers.origin.still x (begun.earlier (leb-true t o.ruling.persisted le)))
-      by false above =
-          let less : o.ruling.persisted < t = leb-false t o.ruling.persisted above in
-          not-above x gap (omega (arith, less, begun.own less))
+  not-begun t x gap begun = grind (arith, not-counted, leb-true, leb-false, not-above)
 
   -- ---- what holds the slot
 
@@ -101,18 +95,7 @@ module _ (o : Origin) (q : State) (slot : ℕ) (old : Device) (up : q.failed ≡
   end-newest there v (BySession n) same held gap =
       let waits : IsWaiting q (value_of old) slot v.key (row v.key (BySession n)) = shows-held (version_by v.key (BySession n)) held in
       absurd (not-zero end gap (waits.end up))
-  end-newest there v (ByCommit t) same held gap = by (drawn_at q t) refl
-    where
-      stamped : (b : Bool) (r : List ℕ) → ShowsAs o q (value_of old) slot (cond b (Begun t v.key r) (Waiting v.key r)) → end ≡ 0
-      stamped true r shows = shows.end
-      stamped false r shows = shows.end up
-
-      by : (d : Option Drawn) → drawn_at q t ≡ d → q.held slot ≡ Some (newest_of q v.key)
-      by (Some d) found = absurd (not-zero end gap (stamped (is_key_stamped d v.key) (unwrap_or (wanted o q (version_by v.key (ByCommit t))) []) (shows-drawn v.key t (Some d) held found)))
-      by None undrawn = elim (cases_eq t (last_writer q.history v.key)) [
-        | inl last ↦ held ∙ ap (λ (x : ℕ). Some (version_by v.key (ByCommit x))) last
-        | inr apart ↦ absurd (not-counted end gap ((was.replaced t v.key held undrawn apart).each end there))
-      ]
+  end-newest there v (ByCommit t) same held gap = grind (arith, not-zero, shows-drawn, cases_eq, not-counted, was)
 
   -- ---- the end is made 0
 
@@ -222,12 +205,7 @@ module _ (o : Origin) (q : State) (slot : ℕ) (old : Device) (up : q.failed ≡
       }
 
       newest : (r : List ℕ) → IsNewest o q (value_of old) slot (last_writer q.history key) key r → IsNewest o q (value_of new) slot (last_writer q.history key) key r
-      newest r h = record {
-        begin = subst (HasBegun o (last_writer q.history key)) (sym first.value) h.begin;
-        end = inl (inl zeroed);
-        ended = λ v d found stamped. absurd (unended v d found stamped);
-        spells = record { read = λ image is_laid size words. h.spells.read image is_laid size (λ w two in_slot. words w two in_slot ∙ (others w (λ e. omega (arith, e, two))).value) };
-      }
+      newest r h = grind (arith, first, zeroed, unended, others)
 
       shown : SlotShows o q (value_of new) slot
       shown =

@@ -1,5 +1,5 @@
 -- What each operation of the writing of a batch's record makes of what a device holds; the last one covers the batch.
-use Rattle.std.proofs.Common.{◌≡◌, ◌≢◌, ◌⊎◌, inl, inr, ℕ, ◌+◌, ◌-◌, Bool, true, false, cond, List, [], refl, sym, ◌∙◌, ap, subst, arith, true≢false}
+use Rattle.std.proofs.Common.{◌≡◌, ◌≢◌, ◌⊎◌, inl, inr, ℕ, ◌+◌, ◌-◌, true, false, cond, List, [], refl, sym, ◌∙◌, ap, subst, arith, true≢false}
 use Rattle.std.specs.Prelude.{Some, nat_lt}
 use Rattle.std.proofs.lemmas.Bool.{lt-ltb, le-ltb}
 use Rattle.base.specs.declared.gap.Gap.{Gap}
@@ -38,18 +38,8 @@ stage_after n =
 
 -- the operations made tell the stage
 stage-after : (stage : WritingStage) → IsStage stage → stage_after (operations_before stage) ≡ stage
-stage-after (StoreBody w) is =
-    let same : w - 1 + 0 + 0 + 1 ≡ w = omega (arith, is.0) in
-    ap (λ (b : Bool). cond b (StoreBody (w - 1 + 0 + 0 + 1)) (cond (nat_lt (w - 1 + 0 + 0) 35) (FlushBody (w - 1 + 0 + 0 - 31)) (cond (nat_lt (w - 1 + 0 + 0) 36) FenceBody (cond (nat_lt (w - 1 + 0 + 0) 37) StoreGate (cond (nat_lt (w - 1 + 0 + 0) 38) FlushGate (cond (nat_lt (w - 1 + 0 + 0) 39) FenceGate Done))))))
-    (lt-ltb (w - 1 + 0 + 0) 31 (omega (arith, is.0, is.1)))
-    ∙ ap StoreBody same
-stage-after (FlushBody line) is =
-    let same : 31 + line + 0 - 31 ≡ line = omega arith in
-    ap (λ (b : Bool). cond b (StoreBody (31 + line + 0 + 1)) (cond (nat_lt (31 + line + 0) 35) (FlushBody (31 + line + 0 - 31)) (cond (nat_lt (31 + line + 0) 36) FenceBody (cond (nat_lt (31 + line + 0) 37) StoreGate (cond (nat_lt (31 + line + 0) 38) FlushGate (cond (nat_lt (31 + line + 0) 39) FenceGate Done))))))
-    (le-ltb (31 + line + 0) 31 (omega arith))
-    ∙ ap (λ (b : Bool). cond b (FlushBody (31 + line + 0 - 31)) (cond (nat_lt (31 + line + 0) 36) FenceBody (cond (nat_lt (31 + line + 0) 37) StoreGate (cond (nat_lt (31 + line + 0) 38) FlushGate (cond (nat_lt (31 + line + 0) 39) FenceGate Done)))))
-    (lt-ltb (31 + line + 0) 35 (omega (arith, is)))
-    ∙ ap FlushBody same
+stage-after (StoreBody w) is = grind (arith, lt-ltb)
+stage-after (FlushBody line) is = grind (arith, le-ltb, lt-ltb)
 stage-after FenceBody is = refl
 stage-after StoreGate is = refl
 stage-after FlushGate is = refl
@@ -127,11 +117,7 @@ sweeping-covered q hand device k s = record {
 -- the device holds the state in which a batch is covered, where its lines persist and its record rules
 pub holds-cover : (o : Origin) (q : State) (hand : Hand) (device : Device) → Keeps o q → KeepsHand q hand → SlotsShow o q (value_of device) → SlotsHold q device → IsSweeping q device → IsBatchSettled q hand.commits device → HoldsRecord q.layout hand.target device
     → HoldsState (state_covered q hand) device
-holds-cover o q hand device kept k shows slots sweeping settled holds = record {
-  slots = slots-covered o q hand device kept k shows sweeping settled slots;
-  log = holds;
-  sweeping = sweeping-covered q hand device k sweeping;
-}
+holds-cover o q hand device kept k shows slots sweeping settled holds = grind (arith, slots-covered, sweeping-covered)
 
 -- the fence after the gate's flush covers the batch
 pub holds-covered : (o : Origin) (q : State) (hand : Hand) (old new : Device) → IsOrderly old → IsOrderly new → q.hand ≡ Some hand → hand.ticks ≡ 2 + lines_of q hand.commits + operations_before FenceGate

@@ -100,11 +100,7 @@ module _ (o : Origin) (q : State) (hand : Hand) (device : Device) (kept : Keeps 
   -- ---- drawn commits
 
   none-drawn : (t : ℕ) → drawn_at now t ≡ None → (in_batch t ≡ true) ⊎ ((in_batch t ≡ false) × (drawn_at q t ≡ None))
-  none-drawn t none = by_test (in_batch t) refl
-    where
-      by_test : (b : Bool) → in_batch t ≡ b → (in_batch t ≡ true) ⊎ ((in_batch t ≡ false) × (drawn_at q t ≡ None))
-      by_test true is = inl is
-      by_test false is = inr (is, sym (found-left o q hand kept k t is) ∙ none)
+  none-drawn t none = grind (arith, found-left)
 
   -- ---- one slot
 

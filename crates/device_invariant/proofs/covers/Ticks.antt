@@ -1,6 +1,6 @@
 -- What each tick of a cycle makes of what a device holds.
 use Rattle.std.proofs.Common.{◌≡◌, inl, inr, ℕ, suc, zero, ◌+◌, ◌-◌, ◌*◌, ◌/◌, ◌^◌, ◌<◌, ◌≤◌, Bool, true, false, cond, List, [], ◌∷◌, ◌++◌, take, length, refl, sym, ◌∙◌, ap, subst, arith, true≢false}
-use Rattle.std.specs.Prelude.{Option, Some, None, slice_get, nat_eq}
+use Rattle.std.specs.Prelude.{Option, Some, None, slice_get}
 use Rattle.std.specs.List.{flat_map, range_with_len}
 use Rattle.std.proofs.lemmas.Bool.{cases_lt}
 use Rattle.std.proofs.lemmas.List.{take_all}
@@ -44,16 +44,7 @@ holds-fenced q old new actor is = holds-shrink q old new (ap (λ (d : Device). d
 -- ---- the state fails
 
 slot-fails : (q : State) (device : Device) (slot : ℕ) → SlotHolds q device slot → SlotHolds (record q { failed = true }) device slot
-slot-fails q device slot h = record {
-  begin_before = h.begin_before;
-  end_before = h.end_before;
-  free = h.free;
-  own = h.own;
-  drawn = h.drawn;
-  unstamped = λ t key d held found not_stamped up. absurd (true≢false up);
-  newest = λ key held. let live = h.newest key held in record { begin = live.begin; counted = live.counted; end = live.end; settled = live.settled };
-  replaced = h.replaced;
-}
+slot-fails q device slot h = grind (arith, true≢false)
 
 hand-fails : (q : State) (device : Device) (hand : Option Hand) → HoldsHand q device hand → HoldsHand (record q { failed = true }) device hand
 hand-fails q device None holds = holds
@@ -74,16 +65,7 @@ holds-failed q old new is h =
 -- ---- another batch in hand
 
 slot-with_hand : (q : State) (hand : Option Hand) (device : Device) (slot : ℕ) → SlotHolds q device slot → SlotHolds (record q { hand = hand }) device slot
-slot-with_hand q hand device slot h = record {
-  begin_before = h.begin_before;
-  end_before = h.end_before;
-  free = h.free;
-  own = h.own;
-  drawn = h.drawn;
-  unstamped = h.unstamped;
-  newest = λ key held. let live = h.newest key held in record { begin = live.begin; counted = live.counted; end = live.end; settled = live.settled };
-  replaced = h.replaced;
-}
+slot-with_hand q hand device slot h = grind arith
 
 pub with_hand : (q : State) (hand : Option Hand) (device : Device) → SlotsHold q device → IsSweeping q device → HoldsHand (record q { hand = hand }) device hand → HoldsState (record q { hand = hand }) device
 with_hand q hand device slots sweeping log = record {
@@ -119,11 +101,7 @@ ready-more a device (x ∷ lines) (suc i) line at ready this = (ready.0, ready-m
 
 -- each word of a line of a slot has the line's number
 line-word : (a : Layout) (line : Line) (w : ℕ) → 8 * line.part ≤ w → w < 8 * line.part + 8 → word_of a line.slot w / 8 ≡ line_number a line
-line-word a line w from to = by_width (nat_eq a.version 3)
-  where
-    by_width : (b : Bool) → (8 + 32 * a.places + cond b 16 8 * line.slot + w) / 8 ≡ (8 + 32 * a.places + cond b 16 8 * line.slot) / 8 + line.part
-    by_width true = omega (arith, from, to)
-    by_width false = omega (arith, from, to)
+line-word a line w from to = grind arith
 
 pub line-flushed : (a : Layout) (old new : Device) (line : Line) → IsOrderly old → old.words ≡ total_words a → new ≡ flushed committer (line_number a line) old → IsLineReady a new line
 line-flushed a old new line orderly size is = record {
@@ -171,11 +149,7 @@ ready-at a device f from (suc n) k ready le lt =
 
 -- the lines of a slot have all its words
 part-below : (a : Layout) (w : ℕ) → w < slot_words a.version → w / 8 < version_lines a
-part-below a w lt = by_width (nat_eq a.version 3) lt
-  where
-    by_width : (b : Bool) → w < cond b 16 8 → w / 8 < cond (nat_eq (cond b 16 8) 16) 2 1
-    by_width true lt = omega (arith, lt)
-    by_width false lt = omega (arith, lt)
+part-below a w lt = grind arith
 
 module _ (q : State) (commits : List Commit) (old new : Device) (is : new ≡ fenced committer old) (ready : AreReady q.layout old (lines_in q commits)) where
   here : (slot : ℕ) → slot < q.layout.slots → AreReady q.layout old (lines_at q commits slot)

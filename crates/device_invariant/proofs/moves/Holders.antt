@@ -1,5 +1,5 @@
 -- Slots are given back by sessions, taken by them and freed, while the device does nothing.
-use Rattle.std.proofs.Common.{◌≡◌, ◌≢◌, inl, inr, ℕ, suc, zero, ◌+◌, ◌-◌, ◌<◌, ◌≤◌, Bool, false, cond, ◌&&◌, List, [], ◌∷◌, ◌++◌, take, refl, sym, ◌∙◌, ap, subst, arith}
+use Rattle.std.proofs.Common.{◌≡◌, ◌≢◌, inl, inr, ℕ, suc, zero, ◌+◌, ◌<◌, ◌≤◌, Bool, false, cond, ◌&&◌, List, [], ◌∷◌, ◌++◌, refl, sym, ◌∙◌, ap, arith}
 use Rattle.std.specs.Prelude.{Option, Some, None}
 use Rattle.std.specs.List.{flat_map, range_with_len, list_any}
 use Rattle.std.proofs.lemmas.Bool.{ne_eqb, false_from_ne_true}
@@ -14,7 +14,7 @@ use Rattle.state_invariant.specs.Kept.{Origin, Keeps, version_by}
 use Rattle.state_invariant.specs.Shown.{word_of}
 use Rattle.state_invariant.proofs.covers.Kept.{batch-drawn}
 use Rattle.device_invariant.specs.Slots.{SlotHolds}
-use Rattle.device_invariant.specs.Log.{Line, line_at, lines_at, is_own, is_ended, AreReady, HoldsHand}
+use Rattle.device_invariant.specs.Log.{Line, line_at, lines_at, is_own, is_ended, HoldsHand}
 use Rattle.device_invariant.specs.Upholds.{HoldsState}
 use Rattle.device_invariant.specs.Laws.{ChangesHolder, stays, given_back, taken, freed, HoldersKeep}
 use Rattle.pmem.proofs.Changes.{each-settled, each-weaken}
@@ -26,55 +26,21 @@ module _ (q : State) (sessions : ℕ → Option Session) (held : ℕ → Option 
   -- ---- a slot
 
   same-slot : (slot : ℕ) → held slot ≡ q.held slot → SlotHolds q device slot → SlotHolds then device slot
-  same-slot slot same h = record {
-    begin_before = h.begin_before;
-    end_before = h.end_before;
-    free = λ at. h.free (sym same ∙ at);
-    own = λ n key at. h.own n key (sym same ∙ at);
-    drawn = λ t key d at found. h.drawn t key d (sym same ∙ at) found;
-    unstamped = λ t key d at found not_yet up. h.unstamped t key d (sym same ∙ at) found not_yet up;
-    newest = λ key at. let live = h.newest key (sym same ∙ at) in record { begin = live.begin; counted = live.counted; end = live.end; settled = live.settled };
-    replaced = λ t key at none other. h.replaced t key (sym same ∙ at) none other;
-  }
+  same-slot slot same h = grind arith
 
   -- that nobody or a session holds, with a begin that is 0
   undrawn-slot : (slot : ℕ) → ((t : ℕ) (key : Key) → held slot ≡ Some (version_by key (ByCommit t)) → ⊥) → IsSettledAt device (word_of q.layout slot 0) 0 → SlotHolds q device slot → SlotHolds then device slot
-  undrawn-slot slot not_commit cleared h = record {
-    begin_before = h.begin_before;
-    end_before = h.end_before;
-    free = λ at. inl (each-weaken (λ x is. inl is) (each-settled cleared));
-    own = λ n key at. cleared;
-    drawn = λ t key d at found. absurd (not_commit t key at);
-    unstamped = λ t key d at found not_yet up. absurd (not_commit t key at);
-    newest = λ key at. absurd (not_commit (last_writer q.history key) key at);
-    replaced = λ t key at none other. absurd (not_commit t key at);
-  }
+  undrawn-slot slot not_commit cleared h = grind (arith, each-weaken, each-settled)
 
   not-none : (slot t : ℕ) (key : Key) → held slot ≡ None → held slot ≡ Some (version_by key (ByCommit t)) → ⊥
   not-none slot t key a b = let both : ◌≡◌ {A = Option Version} None (Some (version_by key (ByCommit t))) = sym a ∙ b in cc both
 
   not-session : (slot t n : ℕ) (key other : Key) → held slot ≡ Some (version_by other (BySession n)) → held slot ≡ Some (version_by key (ByCommit t)) → ⊥
-  not-session slot t n key other a b =
-      let both : Some (version_by other (BySession n)) ≡ Some (version_by key (ByCommit t)) = sym a ∙ b in
-      let one : version_by other (BySession n) ≡ version_by key (ByCommit t) = cc both in
-      let writers : BySession n ≡ ByCommit t = ap (λ (v : Version). v.writer) one in
-      cc writers
+  not-session slot t n key other a b = grind arith
 
   -- whose version was replaced
   freed-slot : (slot t : ℕ) (key : Key) → q.held slot ≡ Some (version_by key (ByCommit t)) → drawn_at q t ≡ None → t ≢ last_writer q.history key → held slot ≡ None → SlotHolds q device slot → SlotHolds then device slot
-  freed-slot slot t key at undrawn apart none h = record {
-    begin_before = h.begin_before;
-    end_before = h.end_before;
-    free = λ free. inr (h.replaced t key at undrawn apart);
-    own = λ n k held_by. absurd (not-some (version_by k (BySession n)) held_by);
-    drawn = λ u k d held_by found. absurd (not-none slot u k none held_by);
-    unstamped = λ u k d held_by found not_yet up. absurd (not-none slot u k none held_by);
-    newest = λ k held_by. absurd (not-none slot (last_writer q.history k) k none held_by);
-    replaced = λ u k held_by gone other. absurd (not-none slot u k none held_by);
-  }
-    where
-      not-some : (v : Version) → held slot ≡ Some v → ⊥
-      not-some v held_by = let both : ◌≡◌ {A = Option Version} None (Some v) = sym none ∙ held_by in cc both
+  freed-slot slot t key at undrawn apart none h = grind (arith, not-none)
 
   slot-then : (slot : ℕ) → ChangesHolder q held device slot → SlotHolds q device slot → SlotHolds then device slot
   slot-then slot (stays same) h = same-slot slot same h
@@ -112,23 +78,8 @@ module _ (q : State) (sessions : ℕ → Option Session) (held : ℕ → Option 
 
     hand-then : (hand : Option Hand) → ((h : Hand) → hand ≡ Some h → AreUncovered h.commits) → HoldsHand q device hand → HoldsHand then device hand
     hand-then None uncovered holds = holds
-    hand-then (Some hand) uncovered (inl f) = inl record {
-      chosen = f.chosen;
-      within = f.within;
-      follows = f.follows;
-      ready = subst (λ (ls : List Line). AreReady q.layout device (take (hand.ticks - 1) ls)) (sym (lines-same hand.commits (uncovered hand refl) 0 q.layout.slots (omega arith))) f.ready;
-    }
-    hand-then (Some hand) uncovered (inr r) = inr record {
-      stage = r.stage;
-      staged = r.staged;
-      under_way = r.under_way;
-      ticks = r.ticks;
-      replaces = r.replaces;
-      settled = record {
-        own = λ slot lt is. r.settled.own slot lt (sym (own-same hand.commits slot (uncovered hand refl) (changes slot lt)) ∙ is);
-        ended = λ slot lt is. r.settled.ended slot lt (sym (ended-same hand.commits slot (changes slot lt)) ∙ is);
-      };
-    }
+    hand-then (Some hand) uncovered (inl f) = grind (arith, lines-same)
+    hand-then (Some hand) uncovered (inr r) = grind (arith, own-same, ended-same)
 
     pub holds-then : ((h : Hand) → q.hand ≡ Some h → AreUncovered h.commits) → HoldsState q device → HoldsState then device
     holds-then uncovered h = record {

@@ -1,14 +1,14 @@
 -- Which version each one names, in the words of a device.
-use Rattle.std.proofs.Common.{◌≡◌, ◌≢◌, ◌⊎◌, inl, inr, ℕ, ◌<◌, true, sym, ◌∙◌, ap, arith}
+use Rattle.std.proofs.Common.{◌≡◌, ◌⊎◌, inl, ℕ, ◌<◌, true, arith}
 use Rattle.std.specs.Prelude.{Some, None}
 use Rattle.std.proofs.lemmas.Bool.{cases_eq}
 use Rattle.base.specs.declared.key.Key.{Key}
 use Rattle.base.specs.Layout.{slot_words}
-use Rattle.machine.specs.Machine.{State, Version, BySession}
+use Rattle.machine.specs.Machine.{State, BySession}
 use Rattle.pmem.specs.Device.{Device, stored}
 use Rattle.pmem.specs.Words.{value_of}
 use Rattle.state_invariant.specs.Kept.{Origin, version_by}
-use Rattle.state_invariant.specs.Links.{Links, SameRows}
+use Rattle.state_invariant.specs.Links.{Links}
 use Rattle.state_invariant.specs.Shown.{word_of}
 use Rattle.state_invariant.proofs.steps.LinksStay.{links-stores}
 use Rattle.device_invariant.proofs.moves.Stores.{others-stored, rest-stored}
@@ -23,14 +23,4 @@ IsUnlinked q slot w = (w < 2) ⊎ ((q.held slot ≡ None) ⊎ ((q.failed ≡ tru
 
 -- so they do over a store in such a word
 pub links-but_one : (o : Origin) (q : State) (old new : Device) (slot w value : ℕ) → w < slot_words q.layout.version → new ≡ stored (word_of q.layout slot w) value old → IsUnlinked q slot w → Links o q (value_of old) → Links o q (value_of new)
-links-but_one o q old new slot w value low is unlinked links = links-stores o q (value_of old) (value_of new) (λ s v lt held. by s v lt held (cases_eq s slot) unlinked) links
-  where
-    by : (s : ℕ) (v : Version) → s < q.layout.slots → q.held s ≡ Some v → (s ≡ slot) ⊎ (s ≢ slot) → IsUnlinked q slot w → SameRows q.layout (value_of old) (value_of new) s ⊎ ((q.failed ≡ true) × (n : ℕ) × (v.writer ≡ BySession n))
-    by s v lt held (inr apart) unlinked = inl record { each = λ x two in_slot. (others-stored q.layout old new slot w value low is s lt apart x in_slot).value }
-    by s v lt held (inl same) (inl stamp) =
-        inl record { each = λ x two in_slot. ap (λ (j : ℕ). value_of new (word_of q.layout j x)) same ∙ (rest-stored q.layout old new slot w value x (λ e. omega (arith, e, two, stamp)) is).value ∙ ap (λ (j : ℕ). value_of old (word_of q.layout j x)) (sym same) }
-    by s v lt held (inl same) (inr (inl free)) = let clash : None ≡ Some v = sym free ∙ ap q.held (sym same) ∙ held in absurd (cc clash)
-    by s v lt held (inl same) (inr (inr (down, n, key, own))) =
-        let both : Some v ≡ Some (version_by key (BySession n)) = sym held ∙ ap q.held same ∙ own in
-        let one : v ≡ version_by key (BySession n) = cc both in
-        inr (down, n, ap (λ (x : Version). x.writer) one)
+links-but_one o q old new slot w value low is unlinked links = grind (arith, links-stores, cases_eq, others-stored, rest-stored)

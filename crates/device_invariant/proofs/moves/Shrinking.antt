@@ -73,10 +73,7 @@ ready-shrink a old new [] shrinks ready = tt
 ready-shrink a old new (line ∷ lines) shrinks ready = (line-shrink a old new line shrinks ready.0, ready-shrink a old new lines shrinks ready.1)
 
 pub settled-shrink : (q : State) (hand : Hand) (old new : Device) → ShrinksSlots q.layout old new → IsBatchSettled q hand.commits old → IsBatchSettled q hand.commits new
-settled-shrink q hand old new shrinks settled = record {
-  own = λ slot lt is. record { each = λ w low. (shrinks slot lt w low).settled ((settled.own slot lt is).each w low) };
-  ended = λ slot lt is. (shrinks slot lt 1 (within-slot q.layout.version 1 (omega arith))).settled (settled.ended slot lt is);
-}
+settled-shrink q hand old new shrinks settled = grind (arith, within-slot)
 
 -- ---- the log
 

@@ -1,22 +1,22 @@
 -- A device that an opening left upholds the opened state.
-use Rattle.std.proofs.Common.{◌≡◌, ◌≢◌, ◌⊎◌, inl, inr, ℕ, ◌<◌, ◌≤◌, Bool, true, false, cond, List, [], ◌++◌, map, length, take, drop, refl, sym, ◌∙◌, ap, subst, arith, true≢false, nat_eq}
+use Rattle.std.proofs.Common.{◌≡◌, ◌≢◌, ◌⊎◌, inl, inr, ℕ, ◌<◌, ◌≤◌, true, List, [], length, take, drop, refl, sym, ◌∙◌, ap, subst, arith, true≢false, nat_eq}
 use Rattle.std.specs.Prelude.{Option, Some, None, IsTrue, slice_index}
 use Rattle.std.specs.List.{find}
 use Rattle.std.proofs.lemmas.Bool.{ne_eqb, or_cases}
 use Rattle.std.proofs.lemmas.List.{take_all, length-drop, nil_from_length}
 use Rattle.base.specs.declared.key.Key.{Key}
-use Rattle.base.specs.Commits.{Commit, after, last_writer}
+use Rattle.base.specs.Commits.{Commit, last_writer}
 use Rattle.base.specs.Layout.{Layout, slot_words}
 use Rattle.base.specs.Records.{is_committed}
 use Rattle.base.specs.Images.{layout_of, ruling, begin_of, end_of}
 use Rattle.base.specs.Stands.{has_timestamp}
-use Rattle.machine.specs.Machine.{State, Drawn, Session, Version, BySession, ByCommit, drawn_at, drawn_of, writes_of}
+use Rattle.machine.specs.Machine.{State, Drawn, Version, BySession, ByCommit, drawn_at}
 use Rattle.machine.specs.Openings.{gaps_kept, opened_slots}
 use Rattle.base.specs.Records.{opened_gaps}
 use Rattle.machine.proofs.openings.States.{IsOpening, ruled_before, opening-of, opened-below}
 use Rattle.pmem.specs.Device.{Device}
 use Rattle.pmem.specs.Words.{value_of, IsSettled, EachSurvivor}
-use Rattle.state_invariant.specs.Kept.{origin_of, Keeps, version_by, row_by, row_in, commit_at, commits_of_life}
+use Rattle.state_invariant.specs.Kept.{origin_of, Keeps, version_by}
 use Rattle.state_invariant.specs.Shown.{IsNever, word_of, IsHidden, is_drawn_on, SlotsShow, ShowsAs, class_of_version}
 use Rattle.state_invariant.proofs.Commits.{committed-bounds}
 use Rattle.state_invariant.proofs.steps.LinksStay.{links-opened}
@@ -83,21 +83,11 @@ module _ (q : State) (device : Device) (fresh : IsFresh q device) (kept : Keeps 
 
   -- a session has no version
   no-session : (n : ℕ) (key : Key) → q.held slot ≡ Some (version_by key (BySession n)) → ⊥
-  no-session n key held =
-      let has = kept.owns.has slot (version_by key (BySession n)) lt held in
-      let none : ◌≡◌ {A = Option (List ℕ)} None (Some has.0) = sym (ap (λ (s : Option Session). row_in (writes_of s) key) (fresh.sessions n)) ∙ has.1 in
-      cc none
+  no-session n key held = grind arith
 
   -- only the last commits have versions
   only-last : (t : ℕ) (key : Key) → q.held slot ≡ Some (version_by key (ByCommit t)) → t ≢ last_writer q.history key → ⊥
-  only-last t key held other =
-      let has = kept.owns.has slot (version_by key (ByCommit t)) lt held in
-      let life : commits_of_life (origin_of q) q ≡ [] = ap (λ (cs : List Commit). cs ++ drawn_of q) (drop-whole q.history (length q.history) (omega arith)) ∙ ap (λ (ds : List Drawn). map (λ (d : Drawn). d.commit) ds) fresh.drawn in
-      let whole : take (length q.history) q.history ≡ q.history = take_all (length q.history) q.history (omega arith) in
-      let apart : nat_eq (last_writer (take (length q.history) q.history) key) t ≡ false = ap (λ (cs : List Commit). nat_eq (last_writer cs key) t) whole ∙ ne_eqb (last_writer q.history key) t (λ same. other (sym same)) in
-      let none : ◌≡◌ {A = Option (List ℕ)} None (Some has.0) =
-      sym (ap (λ (cs : List Commit). row_by (origin_of q) q key t (commit_at cs t)) life ∙ ap (λ (b : Bool). cond b (after (take (length q.history) q.history) key) None) apart) ∙ has.1 in
-      cc none
+  only-last t key held other = grind (arith, drop-whole, take_all, ne_eqb)
 
   live : (key : Key) → q.held slot ≡ Some (newest_of q key) → IsLive q device slot key
   live key held =

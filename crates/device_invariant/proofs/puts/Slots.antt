@@ -2,7 +2,6 @@
 use Rattle.std.proofs.Common.{◌≡◌, ◌⊎◌, inl, inr, ℕ, ◌<◌, ◌≤◌, false, sym, ◌∙◌, ap, arith}
 use Rattle.std.specs.Prelude.{Option, Some, None}
 use Rattle.base.specs.declared.key.Key.{Key}
-use Rattle.base.specs.Commits.{last_writer}
 use Rattle.base.specs.Layout.{slot_words}
 use Rattle.base.specs.Records.{is_in}
 use Rattle.machine.specs.Machine.{State, Hand, Version, BySession, ByCommit}
@@ -31,27 +30,14 @@ untouched-undrawn q hand slot (inr own) = record { not_own = ap (is_own hand.com
 
 not-by_commit : (q : State) (slot t : ℕ) (key : Key) → IsUndrawn q slot → q.held slot ≡ Some (version_by key (ByCommit t)) → ⊥
 not-by_commit q slot t key (inl free) held = let none : ◌≡◌ {A = Option Version} None (Some (version_by key (ByCommit t))) = sym free ∙ held in cc none
-not-by_commit q slot t key (inr own) held =
-    let same : Some (version_by own.1 (BySession own.0)) ≡ Some (version_by key (ByCommit t)) = sym own.2 ∙ held in
-    let one : version_by own.1 (BySession own.0) ≡ version_by key (ByCommit t) = cc same in
-    let writers : BySession own.0 ≡ ByCommit t = ap (λ (v : Version). v.writer) one in
-    cc writers
+not-by_commit q slot t key (inr own) held = grind arith
 
 -- ---- the stores
 
 -- where no drawn or covered commit holds the slot, this is what it has to hold
 pub undrawn-holds : (q : State) (new : Device) (slot : ℕ) → IsUndrawn q slot → EachSurvivor new (word_of q.layout slot 0) (λ x. x < q.next) → EachSurvivor new (word_of q.layout slot 1) (λ x. x < q.next)
     → (q.held slot ≡ None → IsDead q new slot) → ((n : ℕ) (key : Key) → q.held slot ≡ Some (version_by key (BySession n)) → IsSettledAt new (word_of q.layout slot 0) 0) → SlotHolds q new slot
-undrawn-holds q new slot undrawn begin end free own = record {
-  begin_before = begin;
-  end_before = end;
-  free = free;
-  own = own;
-  drawn = λ t key d held found. absurd (not-by_commit q slot t key undrawn held);
-  unstamped = λ t key d held found not_stamped up. absurd (not-by_commit q slot t key undrawn held);
-  newest = λ key held. absurd (not-by_commit q slot (last_writer q.history key) key undrawn held);
-  replaced = λ t key held none other. absurd (not-by_commit q slot t key undrawn held);
-}
+undrawn-holds q new slot undrawn begin end free own = grind (arith, not-by_commit)
 
 -- a free slot's begin is made 0
 pub holds-cleared : (q : State) (old new : Device) (slot : ℕ) → 0 < q.next → is_in q.ruling.gaps 0 ≡ false → slot < q.layout.slots → q.held slot ≡ None → new ≡ stored (word_of q.layout slot 0) 0 old → HoldsState q old → HoldsState q new

@@ -47,7 +47,4 @@ links-image o q device orderly u =
     (λ slot v lt held. inl record { each = λ w two low. image_word device (word_of q.layout slot w) (omega (arith, word-within q.layout slot w lt low, size, image_size device)) }) u.links
 
 pub devices-read : DevicesRead
-devices-read o q device n orderly u in_use =
-    let ruled = ruled-image q device q.hand orderly u.holds.log in
-    let size : length (image_of device) ≡ total_words q.layout = laid_size q.layout (image_of device) (laid q.layout ruled.0 (image_of device) ruled.1) in
-    reads o q (image_of device) n ruled.1.laid_out size u.keeps (shows-image o q device orderly u) in_use
+devices-read o q device n orderly u in_use = grind (arith, ruled-image, laid_size, laid, reads, shows-image)

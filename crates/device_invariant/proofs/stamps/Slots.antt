@@ -1,6 +1,6 @@
 -- A drawn commit stamps a write: its timestamp is stored in the begin of its version, and in the end of the version that it replaces.
 use Rattle.std.proofs.Common.{◌≡◌, ◌≢◌, ◌⊎◌, inl, inr, ℕ, ◌<◌, Bool, true, false, cond, List, [], refl, sym, ◌∙◌, ap, subst, arith, true≢false, nat_eq}
-use Rattle.std.specs.Prelude.{Option, Some, None, IsTrue, unwrap_or, length}
+use Rattle.std.specs.Prelude.{Option, Some, None, IsTrue, unwrap_or}
 use Rattle.std.specs.List.{list_any}
 use Rattle.std.proofs.lemmas.Bool.{and_left, and_right, eq-eqb, ne_eqb}
 use Rattle.base.specs.declared.key.Key.{Key}
@@ -45,11 +45,7 @@ module _ (o : Origin) (q : State) (kept : Keeps o q) (t : ℕ) (d : Drawn) (key 
   -- the batch in hand has stamped all that it writes, so the commit isn't of it
   not-in_batch : (hand : Hand) → KeepsHand q hand → (b : Bool) → has_timestamp hand.commits t ≡ b → b ≡ false
   not-in_batch hand k false is = refl
-  not-in_batch hand k true is =
-      let drawn = batch-drawn o q hand kept k t is in
-      let same : Some drawn.0 ≡ Some d = sym drawn.1 ∙ found in
-      let this : drawn.0 ≡ d = cc same in
-      sym (all-stamped d key (ap (λ (e : Drawn). nat_eq e.stamped (length e.commit.writes)) (sym this) ∙ drawn.3) writes) ∙ not_stamped
+  not-in_batch hand k true is = grind (arith, batch-drawn, all-stamped)
 
   -- and no commit of it writes the key
   not-written : (hand : Hand) → KeepsHand q hand → list_any (writes_key key) hand.commits ≡ false
@@ -85,18 +81,10 @@ module _ (o : Origin) (q : State) (kept : Keeps o q) (t : ℕ) (d : Drawn) (key 
 
 -- a slot has one holder
 pub same-key : (q : State) (slot t u : ℕ) (key other : Key) → q.held slot ≡ Some (version_by key (ByCommit t)) → q.held slot ≡ Some (version_by other (ByCommit u)) → (other ≡ key) × (u ≡ t)
-same-key q slot t u key other a b =
-    let both : Some (version_by other (ByCommit u)) ≡ Some (version_by key (ByCommit t)) = sym b ∙ a in
-    let one : version_by other (ByCommit u) ≡ version_by key (ByCommit t) = cc both in
-    let writers : ByCommit u ≡ ByCommit t = ap (λ (v : Version). v.writer) one in
-    (ap (λ (v : Version). v.key) one, cc writers)
+same-key q slot t u key other a b = grind arith
 
 pub not-session : (q : State) (slot t n : ℕ) (key other : Key) → q.held slot ≡ Some (version_by key (ByCommit t)) → q.held slot ≡ Some (version_by other (BySession n)) → ⊥
-not-session q slot t n key other a b =
-    let both : Some (version_by other (BySession n)) ≡ Some (version_by key (ByCommit t)) = sym b ∙ a in
-    let one : version_by other (BySession n) ≡ version_by key (ByCommit t) = cc both in
-    let writers : BySession n ≡ ByCommit t = ap (λ (v : Version). v.writer) one in
-    cc writers
+not-session q slot t n key other a b = grind arith
 
 pub not-free : (q : State) (slot t : ℕ) (key : Key) → q.held slot ≡ Some (version_by key (ByCommit t)) → q.held slot ≡ None → ⊥
 not-free q slot t key a b = let both : ◌≡◌ {A = Option Version} None (Some (version_by key (ByCommit t))) = sym b ∙ a in cc both

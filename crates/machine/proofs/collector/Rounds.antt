@@ -8,7 +8,7 @@ use Rattle.base.specs.declared.step.Reply.{Reply}
 use Rattle.base.specs.Layout.{Layout}
 use Rattle.base.specs.Lists.{replaced}
 use Rattle.machine.specs.State.{State, Version, session_numbers}
-use Rattle.machine.specs.Collecting.{replace, sees_replaced, is_garbage, is_at_slot, held_after_visit, slot_visited, sweep_ended, visited, collected}
+use Rattle.machine.specs.Collecting.{replace, sees_replaced, is_garbage, is_at_slot, slot_visited, sweep_ended, visited, collected}
 use Rattle.machine.specs.Machine.{refusal}
 use Rattle.machine.specs.Replay.{reply_on, state_on, reply_of, state_of, replies as replies_to, end}
 use Rattle.machine.specs.Rounds.{visits, visits_answer, round_of, VisitsFollow, RoundsRepeat}
@@ -76,11 +76,7 @@ clean-visits (suc n) q slot clean = clean-visits n (visited q) slot (clean-visit
 
 -- the slot that is visited
 freed : (q : State) → is_garbage (slot_visited q) q.place ≡ false
-freed q = by (is_garbage q q.place) refl
-  where
-    by : (b : Bool) → is_garbage q q.place ≡ b → garbage_of q (cond b (replaced q.place None q.held) q.held q.place) ≡ false
-    by true is = ap (λ (b : Bool). garbage_of q (cond b None (q.held q.place))) (eq-eqb q.place q.place refl)
-    by false is = is
+freed q = grind (arith, eq-eqb)
 
 clean-at : (n : ℕ) (q : State) (slot : ℕ) → q.place + n ≡ slot → slot < q.layout.slots → is_garbage (visits (suc n) q) slot ≡ false
 clean-at zero q slot is lt =
@@ -93,11 +89,7 @@ clean-at (suc n) q slot is lt =
 -- ---- the sweep
 
 swept-visited : (q : State) → q.swept ≡ true → (visited q).swept ≡ true
-swept-visited q is = by (is_at_slot q)
-  where
-    by : (b : Bool) → (cond b (slot_visited q) (sweep_ended q)).swept ≡ true
-    by true = is
-    by false = refl
+swept-visited q is = grind arith
 
 swept-visits : (n : ℕ) (q : State) → q.swept ≡ true → (visits n q).swept ≡ true
 swept-visits zero q is = is
@@ -159,11 +151,7 @@ module _ (q : State) (within : q.place ≤ q.layout.slots) where
           subst (λ (p : State). is_garbage p slot ≡ false) (sym parts) (clean-visits rest (visits (suc (slot - q.place)) q) slot here)
 
   settled-within : IsSettled (round_of q)
-  settled-within = record {
-    clean = λ slot lt. clean-round slot (omega (arith, lt, slots-visits (q.layout.slots + 1) q));
-    swept = ap (λ (p : State). p.swept) whole ∙ swept-visits q.place mid over.swept;
-    place = omega (arith, back, within, slots-visits (q.layout.slots + 1) q);
-  }
+  settled-within = grind (arith, clean-round, slots-visits, whole, swept-visits, over, back)
 
 -- from a place past the closing one
 module _ (q : State) (past : q.layout.slots < q.place) where
@@ -191,34 +179,12 @@ module _ (q : State) (past : q.layout.slots < q.place) where
   }
 
 round-settles : (q : State) → IsSettled (round_of q)
-round-settles q = by (cases_lt q.layout.slots q.place)
-  where
-    by : (q.layout.slots < q.place) ⊎ (q.place ≤ q.layout.slots) → IsSettled (round_of q)
-    by (inl past) = settled-past q past
-    by (inr within) = settled-within q within
+round-settles q = grind (arith, cases_lt, settled-past, settled-within)
 
 -- ---- where nothing is left, only the place moves
 
 settled-visit : (q : State) → IsSettled q → (visited q ≡ record q { place = (visited q).place }) × IsSettled (visited q)
-settled-visit q settled = by (cases_lt q.place q.layout.slots)
-  where
-    clean : (slot : ℕ) → slot < (visited q).layout.slots → is_garbage (visited q) slot ≡ false
-    clean slot lt = clean-visited q slot (settled.clean slot (omega (arith, lt, slots-visited q)))
-
-    by : (q.place < q.layout.slots) ⊎ (q.layout.slots ≤ q.place) → (visited q ≡ record q { place = (visited q).place }) × IsSettled (visited q)
-    by (inl lt) =
-        let at = at-slot q lt in
-        let same : held_after_visit q q.place ≡ q.held = ap (λ (b : Bool). cond b (replaced q.place None q.held) q.held) (settled.clean q.place lt) in
-        let moved : (visited q).place ≡ q.place + 1 = ap (λ (p : State). p.place) at in (
-          at ∙ (λ i. record q { held = same i; place = sym moved i }),
-          record { clean = clean; swept = swept-visited q settled.swept; place = omega (arith, moved, lt, slots-visited q) },
-        )
-    by (inr le) =
-        let at = at-end q le in
-        let moved : (visited q).place ≡ 0 = ap (λ (p : State). p.place) at in (
-          at ∙ (λ i. record q { swept = sym settled.swept i; place = sym moved i }),
-          record { clean = clean; swept = swept-visited q settled.swept; place = omega (arith, moved) },
-        )
+settled-visit q settled = grind (arith, cases_lt, clean-visited, slots-visited, at-slot, swept-visited, at-end)
 
 settled-visits : (n : ℕ) (q : State) → IsSettled q → visits n q ≡ record q { place = (visits n q).place }
 settled-visits zero q settled = refl

@@ -48,11 +48,7 @@ IsRest q hand k rest =
     × (end (at q hand k) (replicate (suc (length rest)) CommitTick) ≡ state_covered q hand)
 
 rest-of : (q : State) (hand : Hand) (done rest : List Stage) → q.failed ≡ false → stages (lines_of q hand.commits) ≡ done ++ rest → IsRest q hand (length done) rest
-rest-of q hand done [] works e =
-    let all : stages (lines_of q hand.commits) ≡ done = e ∙ append-nil done in
-    let past : slice_get (stages (lines_of q hand.commits)) (length done) ≡ None =
-    ap (λ (l : List Stage). slice_get l (length done)) all ∙ slice_get_past done (length done) (omega arith) in
-    (ap (λ (r : Reply). r ∷ []) (tick-reply q hand (length done) None works past), tick-state q hand (length done) None works past)
+rest-of q hand done [] works e = grind (arith, append-nil, slice_get_past, tick-reply, tick-state)
 rest-of q hand done (stage ∷ rest) works e =
     let here : slice_get (stages (lines_of q hand.commits)) (length done) ≡ Some stage =
     ap (λ (l : List Stage). slice_get l (length done)) e ∙ seam done stage rest in
@@ -82,12 +78,7 @@ later lines =
     ++ map BodyFlushed (range_with_len 0 4) ++ (BodyFenced ∷ GateStored ∷ GateFlushed ∷ [])
 
 later-length : (lines : ℕ) → length (later lines) ≡ lines + 39
-later-length lines =
-    let a : List Stage = map LineFlushed (range_with_len 0 lines) in
-    let b : List Stage = LinesFenced ∷ map BodyStored (range_with_len 1 31) in
-    let c : List Stage = map BodyFlushed (range_with_len 0 4) in
-    let d : List Stage = BodyFenced ∷ GateStored ∷ GateFlushed ∷ [] in
-    omega (arith, length-append (a ++ b ++ c) d, length-append (a ++ b) c, length-append a b, length-map-range_with_len LineFlushed 0 lines, length-map-range_with_len BodyStored 1 31, length-map-range_with_len BodyFlushed 0 4)
+later-length lines = grind (arith, length-append, length-map-range_with_len)
 
 pub cycle-whole : (q : State) → q.hand ≡ None → IsTrue (chooses q CommitTick) → refusal q CommitTick ≡ None → CycleIsWhole q
 cycle-whole q none chooses_now ok =

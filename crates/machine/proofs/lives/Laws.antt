@@ -1,11 +1,9 @@
 -- What holds over any number of lives.
-use Rattle.std.proofs.Common.{◌≡◌, ℕ, List, [], ◌∷◌, ◌++◌, sym, ◌∙◌, ap, subst, inl, inr, append-nil, append_assoc}
+use Rattle.std.proofs.Common.{◌≡◌, ℕ, List, [], ◌∷◌, ◌++◌, sym, ◌∙◌, ap, subst, inl, inr, append-nil, append_assoc, arith}
 use Rattle.std.specs.Prelude.{Bool, true, false, Option, Some, None, Result, Ok, Err}
 use Rattle.base.specs.declared.fault.Fault.{Fault}
 use Rattle.base.specs.declared.step.Reply.{Reply}
-use Rattle.base.specs.Commits.{Commit}
-use Rattle.base.specs.Stands.{Stands}
-use Rattle.machine.specs.Machine.{State, Cover, drawn_of}
+use Rattle.machine.specs.Machine.{State, Cover}
 use Rattle.machine.specs.Lives.{World, IsWorld, Opening, Opens, Fails, Numbers, Asked, Report, StopsAt, StopsOpening, EndsAs, LifeAs, Lives, left_out}
 
 -- what was lost stays lost
@@ -42,10 +40,7 @@ lives-lose before (a ∷ asked) [] after none = absurd none
 
 -- each stop leaves an image that stands for the history
 stop-stands : (q : State) (covers : List Cover) (lost : List ℕ) (after : World) → StopsAt q covers lost after → IsWorld after
-stop-stands q covers lost after s =
-    subst (λ (h : List Commit). Stands after.image h after.drawn after.next) (sym s.history)
-    (subst (λ (d : List Commit). Stands after.image s.cover.commits d after.next) (sym s.drawn)
-    (subst (λ (n : ℕ). Stands after.image s.cover.commits (drawn_of q) n) (sym s.next) s.stands.stands))
+stop-stands q covers lost after s = grind arith
 
 end-stands : (q : State) (closes : Bool) (closed : Option (Result Numbers Fault)) (lost : List ℕ) (after : World) → EndsAs q closes closed lost after → IsWorld after
 end-stands q closes None lost after (c, s) = stop-stands q _ lost after s
@@ -54,10 +49,7 @@ end-stands q closes (Some (Err fault)) lost after (c, works, inr (f, d, s)) = st
 end-stands q closes (Some (Ok numbers)) lost after (c, works, f, n, s) = stop-stands q _ lost after s
 
 stopped-stands : (before after : World) → StopsOpening before after → IsWorld after
-stopped-stands before after s =
-    subst (λ (h : List Commit). Stands after.image h after.drawn after.next) (sym s.history)
-    (subst (λ (d : List Commit). Stands after.image before.history d after.next) (sym s.drawn)
-    (subst (λ (n : ℕ). Stands after.image before.history [] n) (sym s.next) s.stands.stands))
+stopped-stands before after s = grind arith
 
 pub life-stands : (before : World) (asked : Asked) (opening : Opening) (replies : List Reply) (closed : Option (Result Numbers Fault)) (after : World)
     → IsWorld before → LifeAs before asked opening replies closed after → IsWorld after
@@ -74,7 +66,4 @@ lives-stand before (a ∷ asked) [] after w none = absurd none
 
 -- a close that was asked is told of, unless the device had failed
 pub close-told : (q : State) (lost : List ℕ) (after : World) → q.failed ≡ false → EndsAs q true None lost after → ⊥
-close-told q lost after works (failed, s) = apart (sym works ∙ failed)
-  where
-    apart : false ≡ true → ⊥
-    apart e = cc
+close-told q lost after works (failed, s) = grind arith

@@ -12,7 +12,6 @@ use Rattle.base.specs.declared.step.Reply.{Reply}
 use Rattle.base.specs.Commits.{Commit, Writes}
 use Rattle.base.specs.Stands.{has_timestamp}
 use Rattle.machine.specs.Machine.{State, Drawn, Hand, Stepped, refused, answered, memory_refused, device_failed, Run, final, next_state, state_ticked, state_ticked_on, state_drawn, next_stage, is_idle, writes_of, counted, drawn_of, in_hand, uncovered, is_chosen, timestamp_of, chosen, taken_in_hand, Cover, covers_at, of_hand, present, covers_closing, closed}
-use Rattle.machine.specs.Collecting.{is_at_slot, slot_visited, sweep_ended}
 use Rattle.machine.specs.Lives.{World, IsWorld, Opening, Opens, Fails, Numbers, Asked, Report, StopsAt, EndsAs, LifeAs, Lives, RunsUp, left_out}
 use Rattle.machine.specs.Laws.{RiseBetween, drawn_in, drawn_over, StayOut}
 use Rattle.machine.proofs.Growth.{rise-append, run-rise}
@@ -41,11 +40,7 @@ widen-drawn : (from to more : ℕ) (ds : List Drawn) → to ≤ more → All (λ
 widen-drawn from to more ds le all = All-weaker (λ d. Within from to d.commit) (λ d. Within from more d.commit) (λ d w. widen from to more d.commit le w) ds all
 
 within-counted : (from to t : ℕ) (d : Drawn) → Within from to d.commit → Within from to (counted t d).commit
-within-counted from to t d w = by (nat_eq d.commit.timestamp t)
-  where
-    by : (b : Bool) → Within from to (cond b (let e : Drawn = record { commit = d.commit; stamped = d.stamped + 1 } in e) d).commit
-    by true = w
-    by false = w
+within-counted from to t d w = grind arith
 
 fresh-drawn : (from : ℕ) (q : State) (n : ℕ) (writes : Writes) → Fresh from q → Fresh from (state_drawn q n writes)
 fresh-drawn from q n [] f = record { le = f.le; drawn = f.drawn; hand = f.hand }
@@ -120,11 +115,7 @@ kept-next from q (Poll n) f = (f, none_more from q)
 kept-next from q (Abort n) f = (record { le = f.le; drawn = f.drawn; hand = f.hand }, ([], sym (append-nil q.history), All-nil (Within from q.next)))
 kept-next from q (End n) f = (record { le = f.le; drawn = f.drawn; hand = f.hand }, ([], sym (append-nil q.history), All-nil (Within from q.next)))
 kept-next from q CommitTick f = kept-ticked from q q.hand f f.hand
-kept-next from q Collect f = by (is_at_slot q)
-  where
-    by : (b : Bool) → Fresh from (cond b (slot_visited q) (sweep_ended q)) × Grows from q (cond b (slot_visited q) (sweep_ended q))
-    by true = (record { le = f.le; drawn = f.drawn; hand = f.hand }, ([], sym (append-nil q.history), All-nil (Within from q.next)))
-    by false = (record { le = f.le; drawn = f.drawn; hand = f.hand }, ([], sym (append-nil q.history), All-nil (Within from q.next)))
+kept-next from q Collect f = grind (arith, append-nil)
 
 kept-stepped : (from : ℕ) (q : State) (step : Step) (reply : Reply) (q' : State) → Fresh from q → Stepped q step reply q' → Kept from q q'
 unfolding Kept
@@ -277,11 +268,7 @@ rise-lower low from to [] le r = omega (arith, le, r)
 rise-lower low from to (t ∷ ts) le r = (omega (arith, le, r.0), r.1)
 
 fresh-opened : (start : State) (from : ℕ) → start.next ≡ from → start.drawn ≡ [] → start.hand ≡ None → Fresh from start
-fresh-opened start from next drawn hand = record {
-  le = omega (arith, next);
-  drawn = All-same (λ d. Within from start.next d.commit) start.drawn [] drawn (All-nil (λ d. Within from start.next d.commit));
-  hand = All-same (Within from start.next) (in_hand start) [] (ap (λ (o : Option Hand). option_map_or (λ (h : Hand). h.commits) o []) hand) (All-nil (Within from start.next));
-}
+fresh-opened start from next drawn hand = grind arith
 
 lived : (before : World) (start : State) (done : List Step) (replies : List Reply) (states : List State) (closes : Bool) (c : Option (Result Numbers Fault)) (after : World)
     → before.next ≤ start.next → start.history ≡ before.history → start.drawn ≡ [] → start.hand ≡ None
@@ -303,26 +290,14 @@ lived before start done replies states closes c after le same drawn hand run end
 
 -- a life that doesn't open
 still : (before after : World) (replies : List Reply) → after.history ≡ before.history → after.next ≡ before.next → after.lost ≡ before.lost → replies ≡ [] → Lived before replies after
-still before after replies history next lost none = record {
-  history = ([], history ∙ sym (append-nil before.history));
-  drawn = subst (λ (l : List Reply). RiseBetween before.next (drawn_in l) after.next) (sym none) (omega (arith, next));
-  out = λ o. record {
-    below = All-same (λ t. t < after.next) after.lost before.lost lost (All-weaker (λ t. t < before.next) (λ t. t < after.next) (λ t l. omega (arith, l, next)) before.lost o.below);
-    out = All-same (λ t. has_timestamp after.history t ≡ false) after.lost before.lost lost (λ k d h. subst (λ (l : List Commit). has_timestamp l (get_or before.lost k d) ≡ false) (sym history) (o.out k d h));
-  };
-}
+still before after replies history next lost none = grind (arith, append-nil)
 
 life-lived : (before : World) (asked : Asked) (opening : Opening) (replies : List Reply) (c : Option (Result Numbers Fault)) (after : World)
     → IsWorld before → LifeAs before asked opening replies c after → Lived before replies after
 life-lived before asked (Fails fault) replies c after w (inl f, r, n) = still before after replies (ap (λ (x : World). x.history) f.1) (ap (λ (x : World). x.next) f.1) (ap (λ (x : World). x.lost) f.1) r
 life-lived before asked (Fails fault) replies c after w (inr (inl f), r, n) = still before after replies (ap (λ (x : World). x.history) f.2) (ap (λ (x : World). x.next) f.2) (ap (λ (x : World). x.lost) f.2) r
 life-lived before asked (Fails fault) replies c after w (inr (inr f), r, n) = still before after replies f.1.history f.1.next f.1.lost r
-life-lived before asked (Opens numbers next gaps rows) replies c after w (may, start, states, opens, told, at, gaps_told, rows_told, runs, ends) =
-    let run = runs-up start asked.steps replies states runs in
-    let is = opens.2 in
-    lived before start run.0 replies states asked.closes c after
-    (omega (arith, w.reserved, ap (λ (q : State). q.next) is)) (ap (λ (q : State). q.history) is) (ap (λ (q : State). q.drawn) is) (ap (λ (q : State). q.hand) is)
-    run.1 ends
+life-lived before asked (Opens numbers next gaps rows) replies c after w (may, start, states, opens, told, at, gaps_told, rows_told, runs, ends) = grind (arith, runs-up, lived)
 
 pub lives-lived : (before : World) (asked : List Asked) (reports : List Report) (after : World) → IsWorld before → Lives before asked reports after
     → ((more : List Commit) × (after.history ≡ before.history ++ more)) × RiseBetween before.next (drawn_over reports) after.next × (StayOut before → StayOut after)

@@ -1,5 +1,5 @@
 -- What the replies of a run say of the commits that it draws and covers.
-use Rattle.std.proofs.Common.{◌≡◌, ◌⊎◌, inl, inr, ℕ, Bool, true, false, cond, not, ◌||◌, nat_eq, List, [], ◌∷◌, ◌++◌, refl, sym, ◌∙◌, ap, subst, append-nil, append_assoc, map}
+use Rattle.std.proofs.Common.{◌≡◌, ◌⊎◌, inl, inr, ℕ, Bool, true, false, cond, not, ◌||◌, nat_eq, List, [], ◌∷◌, ◌++◌, refl, sym, ◌∙◌, ap, subst, append-nil, append_assoc, map, arith}
 use Rattle.std.specs.Prelude.{Option, Some, None, All, Contains, IsTrue, Result, Ok, Err, filter, flat_map, if◌then◌else◌}
 use Rattle.std.specs.Option.{option_map_or}
 use Rattle.std.proofs.lemmas.Bool.{eqb-true, eq-eqb}
@@ -30,11 +30,7 @@ use Rattle.machine.proofs.stamps.Drawn.{counted-commits}
 
 has-right : (xs ys : List Commit) (t : ℕ) → has_timestamp ys t ≡ true → has_timestamp (xs ++ ys) t ≡ true
 has-right [] ys t e = e
-has-right (x ∷ xs) ys t e = either (nat_eq x.timestamp t) (has-right xs ys t e)
-  where
-    either : (a : Bool) {b : Bool} → b ≡ true → a || b ≡ true
-    either true e = refl
-    either false e = e
+has-right (x ∷ xs) ys t e = grind (arith, has-right xs ys t e)
 
 -- a commit of two lists is in one of them
 has-if : (a : Bool) (xs ys : List Commit) (t : ℕ) → (has_timestamp (xs ++ ys) t ≡ true → (has_timestamp xs t ≡ true) ⊎ (has_timestamp ys t ≡ true)) → a || has_timestamp (xs ++ ys) t ≡ true
@@ -101,10 +97,7 @@ abbrev ToldAfter : List Commit → List Commit → List ℕ → Reply → State 
 ToldAfter before covered ts reply q = Told before (covered ++ covered_by reply) (ts ++ drawn_by reply) q
 
 told-quiet : (before covered : List Commit) (ts : List ℕ) (reply : Reply) (q q' : State) → IsQuiet reply → Told before covered ts q' → ToldAfter before covered ts reply q'
-told-quiet before covered ts reply q q' quiet told =
-    let c : covered ++ covered_by reply ≡ covered = ap (λ (l : List Commit). covered ++ l) quiet.0 ∙ append-nil covered in
-    let t : ts ++ drawn_by reply ≡ ts = ap (λ (l : List ℕ). ts ++ l) quiet.1 ∙ append-nil ts in
-    subst (λ (l : List Commit). Told before l (ts ++ drawn_by reply) q') (sym c) (subst (λ (l : List ℕ). Told before covered l q') (sym t) told)
+told-quiet before covered ts reply q q' quiet told = grind (arith, append-nil)
 
 -- the state has the same commits
 record SameCommits (q q' : State) : Type 0 where
@@ -267,13 +260,7 @@ told-run before covered ts q (s1 ∷ steps) [] states told run = absurd run
 told-run before covered ts q (s1 ∷ steps) (r1 ∷ replies) [] told run = absurd run
 
 told-opened : (start : State) (history : List Commit) → start.history ≡ history → start.drawn ≡ [] → start.hand ≡ None → Told history [] [] start
-told-opened start history same drawn hand = record {
-  history = same ∙ sym (append-nil history);
-  covered_among = All-nil (Among []);
-  drawn_among = All-same (Among []) (drawn_of start) [] (ap (λ (ds : List Drawn). map (λ (d : Drawn). d.commit) ds) drawn) (All-nil (Among []));
-  hand_among = All-same (Among []) (in_hand start) [] (ap (λ (o : Option Hand). option_map_or (λ (h : Hand). h.commits) o []) hand) (All-nil (Among []));
-  each = All-nil (λ t. has_timestamp ([] ++ drawn_of start) t ≡ true);
-}
+told-opened start history same drawn hand = grind (arith, append-nil)
 
 -- ---- what a stop adds
 
@@ -322,10 +309,7 @@ end-leaves q closes (Some (Ok numbers)) lost after (asked, works, g, n, s) = lea
 
 -- a close that succeeded leaves all
 closed-leaves : (q : State) (lost : List ℕ) (after : World) → StopsAt q (closed q ∷ []) lost after → after.history ≡ q.history ++ uncovered q
-closed-leaves q lost after s =
-    All-contains (λ (c : Cover). after.history ≡ c.commits → after.history ≡ q.history ++ uncovered q) (closed q ∷ []) s.cover
-    (All-cons (λ (c : Cover). after.history ≡ c.commits → after.history ≡ q.history ++ uncovered q) (closed q) [] (λ e. e) (All-nil (λ (c : Cover). after.history ≡ c.commits → after.history ≡ q.history ++ uncovered q)))
-    s.one s.history
+closed-leaves q lost after s = grind arith
 
 -- what is uncovered was drawn, and all that is drawn is in it
 uncovered-among : (ts : List ℕ) (q : State) → All (Among ts) (in_hand q) → All (Among ts) (drawn_of q) → All (Among ts) (uncovered q)

@@ -1,5 +1,5 @@
 -- The gaps of an opened record are one list: they cover what they should, in order and apart.
-use Rattle.std.proofs.Common.{◌≡◌, ◌⊎◌, inl, inr, ℕ, ◌+◌, ◌-◌, ◌<◌, ◌≤◌, min, max, Bool, true, false, cond, ◌&&◌, ◌||◌, nat_eq, nat_lt, nat_le, List, [], ◌∷◌, refl, sym, ◌∙◌, arith}
+use Rattle.std.proofs.Common.{◌≡◌, ◌⊎◌, inl, inr, ℕ, ◌+◌, ◌-◌, ◌<◌, ◌≤◌, min, max, Bool, true, false, cond, ◌&&◌, ◌||◌, nat_eq, nat_lt, nat_le, List, [], ◌∷◌, refl, sym, arith}
 use Rattle.std.specs.Prelude.{fold}
 use Rattle.std.specs.List.{list_any, list_all}
 use Rattle.std.proofs.lemmas.Bool.{ltb-true, ltb-false, leb-true, lt-ltb, le-leb, eqb-true, eq-eqb, and_parts, and_from, or_cases, or_left, or_right, cases_lt}
@@ -156,39 +156,18 @@ abbrev skipped : Record → Gap
 skipped r = record { first = r.persisted + 1; last = r.dirty - 1 }
 
 tidy-skipped : (r : Record) (gaps : List Gap) → Tidy 0 gaps → Tidy 0 (with_skipped r gaps)
-tidy-skipped r gaps tidy = by (nat_lt (r.persisted + 1) r.dirty) refl
-  where
-    by : (b : Bool) → nat_lt (r.persisted + 1) r.dirty ≡ b → Tidy 0 (cond b (with_gap (skipped r) gaps) gaps)
-    by true e = tidy-with 0 (skipped r) gaps (omega arith) (omega (arith, ltb-true (r.persisted + 1) r.dirty e)) tidy
-    by false e = tidy
+tidy-skipped r gaps tidy = grind (arith, tidy-with, ltb-true)
 
 in-skipped : (r : Record) (gaps : List Gap) (t : ℕ) → Tidy 0 gaps → In (with_skipped r gaps) t → In gaps t ⊎ ((r.persisted < t) × (t < r.dirty))
-in-skipped r gaps t tidy is = by (nat_lt (r.persisted + 1) r.dirty) refl is
-  where
-    or_skipped : Within (skipped r) t ⊎ In gaps t → r.persisted + 1 < r.dirty → In gaps t ⊎ ((r.persisted < t) × (t < r.dirty))
-    or_skipped (inl w) h = inr (omega (arith, w.0), omega (arith, w.1, h))
-    or_skipped (inr is) h = inl is
-
-    by : (b : Bool) → nat_lt (r.persisted + 1) r.dirty ≡ b → In (cond b (with_gap (skipped r) gaps) gaps) t → In gaps t ⊎ ((r.persisted < t) × (t < r.dirty))
-    by true e i = let h = ltb-true (r.persisted + 1) r.dirty e in or_skipped (in-with 0 (skipped r) gaps t (omega (arith, h)) tidy i) h
-    by false e i = inl i
+in-skipped r gaps t tidy is = grind (arith, ltb-true, in-with)
 
 skipped-in : (r : Record) (gaps : List Gap) (t : ℕ) → In gaps t ⊎ ((r.persisted < t) × (t < r.dirty)) → In (with_skipped r gaps) t
-skipped-in r gaps t is = by (nat_lt (r.persisted + 1) r.dirty) refl is
-  where
-    by : (b : Bool) → nat_lt (r.persisted + 1) r.dirty ≡ b → In gaps t ⊎ ((r.persisted < t) × (t < r.dirty)) → In (cond b (with_gap (skipped r) gaps) gaps) t
-    by true e (inl i) = with-in (skipped r) gaps t (inr i)
-    by true e (inr (a, b)) = with-in (skipped r) gaps t (inl (omega (arith, a), omega (arith, b)))
-    by false e (inl i) = i
-    by false e (inr (a, b)) = absurd (omega (arith, a, b, ltb-false (r.persisted + 1) r.dirty e))
+skipped-in r gaps t is = grind (arith, with-in, ltb-false)
 
 -- The opened gaps
 
 formed-tidy : (version : ℕ) (r : Record) → is_well_formed version r ≡ true → Tidy 0 r.gaps
-formed-tidy version r formed =
-    let parts = well_formed-parts version r formed in
-    tidy-all (λ gap. nat_le 1 gap.first && nat_le gap.first gap.last && nat_le gap.last r.persisted)
-    (λ gap e. leb-true gap.first gap.last (and_parts (nat_le 1 gap.first) (nat_le gap.first gap.last) (and_parts _ _ e).0).1) r.gaps parts.each parts.apart
+formed-tidy version r formed = grind (arith, well_formed-parts, tidy-all, leb-true, and_parts)
 
 pub opened-gaps : (version : ℕ) (r : Record) → is_well_formed version r ≡ true → IsOpenedGaps r (opened_gaps r)
 opened-gaps version r formed =
@@ -229,22 +208,10 @@ first-in gap gaps le = inl (omega arith, le)
 
 -- the head of a tidy list reaches xs far xs that of another with the same timestamps
 head-le : (low : ℕ) (a : Gap) (xs : List Gap) (b : Gap) (ys : List Gap) → Tidy low (a ∷ xs) → Tidy low (b ∷ ys) → a.first ≡ b.first → (In (b ∷ ys) (a.last + 1) → In (a ∷ xs) (a.last + 1)) → b.last ≤ a.last
-head-le low a xs b ys ta tb same back = by (cases_lt a.last b.last)
-  where
-    none : In (a ∷ xs) (a.last + 1) → ⊥
-    none (inl w) = omega (arith, w.1)
-    none (inr more) = omega (arith, in-low (a.last + 2) xs (a.last + 1) ta.2 more)
-
-    by : (a.last < b.last) ⊎ (b.last ≤ a.last) → b.last ≤ a.last
-    by (inl h) = absurd (none (back (inl (omega (arith, same, ta.1), omega (arith, h)))))
-    by (inr h) = h
+head-le low a xs b ys ta tb same back = grind (arith, cases_lt, in-low)
 
 tail-in : (a : Gap) (xs : List Gap) (b : Gap) (ys : List Gap) (t : ℕ) → Tidy (a.last + 2) xs → a.last ≡ b.last → (In (a ∷ xs) t → In (b ∷ ys) t) → In xs t → In ys t
-tail-in a xs b ys t ta same forth is = by (forth (inr is)) (in-low (a.last + 2) xs t ta is)
-  where
-    by : Within b t ⊎ In ys t → a.last + 2 ≤ t → In ys t
-    by (inl w) h = absurd (omega (arith, w.1, h, same))
-    by (inr more) h = more
+tail-in a xs b ys t ta same forth is = grind (arith, in-low)
 
 one_list : (low : ℕ) (xs ys : List Gap) → Tidy low xs → Tidy low ys → ((t : ℕ) → In xs t → In ys t) → ((t : ℕ) → In ys t → In xs t) → xs ≡ ys
 one_list low [] [] ta tb forth back = refl
@@ -262,8 +229,4 @@ one_list low (a ∷ xs) (b ∷ ys) ta tb forth back =
     (λ i. (let g : Gap = record { first = first i; last = last i } in g) ∷ rest i)
 
 pub one_gap_list : (r : Record) (xs ys : List Gap) → IsOpenedGaps r xs → IsOpenedGaps r ys → xs ≡ ys
-one_gap_list r xs ys a b =
-    one_list 0 xs ys (tidy-all (λ gap. nat_le gap.first gap.last) (λ gap e. leb-true gap.first gap.last e) xs a.ordered a.apart)
-    (tidy-all (λ gap. nat_le gap.first gap.last) (λ gap e. leb-true gap.first gap.last e) ys b.ordered b.apart)
-    (λ t i. in-from ys t (b.same t ∙ (sym (a.same t) ∙ in-test xs t i)))
-    (λ t i. in-from xs t (a.same t ∙ (sym (b.same t) ∙ in-test ys t i)))
+one_gap_list r xs ys a b = grind (arith, one_list, tidy-all, leb-true, in-from, in-test)

@@ -1,5 +1,5 @@
 -- What the record that an opening writes commits, with and without a sweep.
-use Rattle.std.proofs.Common.{◌≡◌, inl, inr, ℕ, ◌+◌, ◌-◌, ◌^◌, ◌<◌, ◌≤◌, Bool, true, false, cond, not, ◌&&◌, ◌||◌, List, [], ◌∷◌, length, refl, sym, ◌∙◌, subst, arith, nat_eq, nat_lt, nat_le}
+use Rattle.std.proofs.Common.{◌≡◌, inl, inr, ℕ, ◌+◌, ◌-◌, ◌^◌, ◌<◌, ◌≤◌, Bool, true, false, cond, not, ◌&&◌, ◌||◌, List, [], ◌∷◌, length, refl, sym, subst, arith, nat_eq, nat_lt, nat_le}
 use Rattle.std.specs.List.{list_any, list_all}
 use Rattle.std.proofs.lemmas.Bool.{and_parts, and_from, or_cases, or_left, or_right, leb-true, ltb-true, ltb-false, le-leb, eqb-true, false≢true}
 use Rattle.std.proofs.lemmas.Bool.Decides.{nat_tests}
@@ -21,46 +21,19 @@ uncovered false true false false e = absurd (cc e)
 
 -- below the old dirty timestamp both records commit the same
 pub same-committed : (a : Layout) (r : Record) (gaps : List Gap) (t : ℕ) → IsOpenedGaps r gaps → t < r.dirty → is_committed (opening_record a r gaps) t ≡ is_committed r t
-same-committed a r gaps t covers below = by (is_in gaps t) (is_in r.gaps t) (list_any (nat_eq t) r.longs) (covers.same t)
-  where
-    by : (x y z : Bool) → x ≡ (y || z || (nat_lt r.persisted t && nat_lt t r.dirty)) → (nat_le 1 t && nat_le t (r.dirty - 1) && not x && not false) ≡ (nat_le 1 t && nat_le t r.persisted && not y && not z)
-    by x true z is = let h : x ≡ true = is in rw h (uncovered (nat_le 1 t && nat_le t (r.dirty - 1)) (nat_le 1 t && nat_le t r.persisted) true z refl)
-    by x false true is = let h : x ≡ true = is in rw h (uncovered (nat_le 1 t && nat_le t (r.dirty - 1)) (nat_le 1 t && nat_le t r.persisted) false true refl)
-    by x false false is = let h : x ≡ (nat_lt r.persisted t && nat_lt t r.dirty) = is in grind (arith, nat_tests)
+same-committed a r gaps t covers below = grind (arith, uncovered, nat_tests)
 
 -- what lies in a gap of the opening counts for nothing before
 pub uncommitted-in : (r : Record) (gaps : List Gap) (t : ℕ) → IsOpenedGaps r gaps → is_in gaps t ≡ true → is_committed r t ≡ false
-uncommitted-in r gaps t covers there = by (is_in r.gaps t) (list_any (nat_eq t) r.longs) (sym (covers.same t) ∙ there)
-  where
-    by : (y z : Bool) → (y || z || (nat_lt r.persisted t && nat_lt t r.dirty)) ≡ true → (nat_le 1 t && nat_le t r.persisted && not y && not z) ≡ false
-    by true z is = sym (uncovered false (nat_le 1 t && nat_le t r.persisted) true z refl)
-    by false true is = sym (uncovered false (nat_le 1 t && nat_le t r.persisted) false true refl)
-    by false false is = let h : (nat_lt r.persisted t && nat_lt t r.dirty) ≡ true = is in grind (arith, nat_tests)
+uncommitted-in r gaps t covers there = grind (arith, uncovered, nat_tests)
 
 -- with its gaps swept, a record without gaps commits of what is left what the old one committed
 pub swept-committed : (a : Layout) (r : Record) (gaps : List Gap) (t : ℕ) → IsOpenedGaps r gaps → t < r.dirty → is_committed (opening_record a r []) (cond (is_in gaps t) 0 t) ≡ is_committed r t
-swept-committed a r gaps t covers below = by (is_in gaps t) refl
-  where
-    by : (x : Bool) → is_in gaps t ≡ x → is_committed (opening_record a r []) (cond x 0 t) ≡ is_committed r t
-    by true is = sym (uncommitted-in r gaps t covers is)
-    by false is = sides (is_in r.gaps t) (list_any (nat_eq t) r.longs) (sym (covers.same t) ∙ is)
-      where
-        sides : (y z : Bool) → (y || z || (nat_lt r.persisted t && nat_lt t r.dirty)) ≡ false → (nat_le 1 t && nat_le t (r.dirty - 1) && true && true) ≡ (nat_le 1 t && nat_le t r.persisted && not y && not z)
-        sides true z e = absurd (cc e)
-        sides false true e = absurd (cc e)
-        sides false false e = let h : (nat_lt r.persisted t && nat_lt t r.dirty) ≡ false = e in grind (arith, nat_tests)
+swept-committed a r gaps t covers below = grind (arith, uncommitted-in, nat_tests)
 
 -- with the gaps kept or swept, it commits what was committed
 pub still-committed : (a : Layout) (r : Record) (gaps : List Gap) (t : ℕ) → IsOpenedGaps r gaps → t < r.dirty → is_committed r t ≡ true → is_committed (opening_record a r (gaps_kept gaps)) t ≡ true
-still-committed a r gaps t covers below counts = by (nat_lt 8 (length gaps))
-  where
-    by : (b : Bool) → is_committed (opening_record a r (cond b [] gaps)) t ≡ true
-    by false = same-committed a r gaps t covers below ∙ counts
-    by true = sides (is_in gaps t) refl
-      where
-        sides : (x : Bool) → is_in gaps t ≡ x → is_committed (opening_record a r []) t ≡ true
-        sides true is = absurd (false≢true (sym (uncommitted-in r gaps t covers is) ∙ counts))
-        sides false is = subst (λ (x : Bool). is_committed (opening_record a r []) (cond x 0 t) ≡ is_committed r t) is (swept-committed a r gaps t covers below) ∙ counts
+still-committed a r gaps t covers below counts = grind (arith, same-committed, false≢true, uncommitted-in, swept-committed)
 
 -- ---- the form of the record
 
@@ -115,24 +88,7 @@ up_to-in bound (gap ∷ gaps) ordered each =
 
 -- the gaps lie below the old dirty timestamp
 gaps-below : (version : ℕ) (r : Record) (gaps : List Gap) → WellFormed version r → IsOpenedGaps r gaps → are_up_to (r.dirty - 1) gaps ≡ true
-gaps-below version r gaps formed opened = up_to-in (r.dirty - 1) gaps opened.ordered (λ t there. within t (sym (opened.same t) ∙ there))
-  where
-    wider : (t : ℕ) → IsUpTo r.persisted t → IsUpTo (r.dirty - 1) t
-    wider t h = let less = formed.below in (h.0, omega (arith, h.1, less))
-
-    within : (t : ℕ) → (is_in r.gaps t || list_any (nat_eq t) r.longs || (nat_lt r.persisted t && nat_lt t r.dirty)) ≡ true → IsUpTo (r.dirty - 1) t
-    within t e =
-        elim (or_cases (is_in r.gaps t || list_any (nat_eq t) r.longs) (nat_lt r.persisted t && nat_lt t r.dirty) e) [
-          | inl before ↦ elim (or_cases (is_in r.gaps t) (list_any (nat_eq t) r.longs) before) [
-            | inl gap ↦ wider t (in-up_to r.persisted t r.gaps formed.each gap)
-            | inr long ↦ wider t (long-up_to r.persisted t r.gaps r.longs formed.within long)
-          ]
-          | inr between ↦
-              let both = and_parts (nat_lt r.persisted t) (nat_lt t r.dirty) between in
-              let from = ltb-true r.persisted t both.0 in
-              let to = ltb-true t r.dirty both.1 in
-              (omega (arith, from), omega (arith, to))
-        ]
+gaps-below version r gaps formed opened = grind (arith, up_to-in, or_cases, in-up_to, long-up_to, and_parts, ltb-true)
 
 pub formed-over : (version : ℕ) (a : Layout) (r : Record) (gaps : List Gap) → is_well_formed version r ≡ true → IsOpenedGaps r gaps → length gaps ≤ 8 → 0 < a.window → r.dirty + a.window < 2 ^ 62
     → is_well_formed version (opening_record a r gaps) ≡ true

@@ -1,20 +1,20 @@
 -- What an opening finds, and the state that it gives: with a sweep it is that of the image as swept, under a record
 -- without gaps.
-use Rattle.std.proofs.Common.{◌≡◌, ℕ, ◌+◌, ◌-◌, ◌*◌, ◌^◌, ◌<◌, ◌≤◌, Bool, true, false, cond, not, ◌&&◌, ◌||◌, List, [], ◌∷◌, length, refl, sym, ◌∙◌, ap, arith, nat_eq, nat_lt, nat_le}
-use Rattle.std.specs.Prelude.{Some, None, slice_index, ◌↔◌}
-use Rattle.std.specs.List.{list_all, range_with_len}
+use Rattle.std.proofs.Common.{◌≡◌, ℕ, ◌+◌, ◌-◌, ◌*◌, ◌^◌, ◌<◌, ◌≤◌, Bool, true, false, cond, not, ◌&&◌, ◌||◌, List, [], ◌∷◌, length, refl, sym, ◌∙◌, ap, arith, nat_lt, nat_le}
+use Rattle.std.specs.Prelude.{Some, None, ◌↔◌}
+use Rattle.std.specs.List.{list_all}
 use Rattle.std.proofs.lemmas.Bool.{and_parts, and_from, or_parts, leb-true, leb-false, ltb-true, ltb-false, lt-ltb, le-leb, eqb-true, not-false}
 use Rattle.std.proofs.lemmas.Bool.Decides.{nat_tests}
 use Rattle.base.specs.declared.key.Key.{Key}
 use Rattle.base.specs.declared.gap.Gap.{Gap}
-use Rattle.base.specs.declared.fault.Fault.TheVariants.{Damaged, TimestampsOut}
+use Rattle.base.specs.declared.fault.Fault.TheVariants.{Damaged}
 use Rattle.base.specs.Search.{first_below}
-use Rattle.base.specs.Commits.{Commit, after, last_writer}
+use Rattle.base.specs.Commits.{Commit, after}
 use Rattle.base.specs.Layout.{Layout, most_longs, slot_words, total_words, is_in_limits, is_known_version}
-use Rattle.base.specs.Records.{Record, record_word, record_in, is_record, is_in, is_committed, is_well_formed, opened_gaps}
-use Rattle.base.specs.Images.{Image, IsSound, layout_of, ruling, ruling_place, place_words, greatest_gate, has_good_geometry, is_formatted, is_ruled, is_wrong_gate, key_of, begin_of, end_of, is_ahead, is_shown, is_misfit, is_second, is_bad_slot, ShownUnder, faults_of, needs_sweep, is_near_limit, opening_fault}
+use Rattle.base.specs.Records.{Record, is_in, is_committed, is_well_formed, opened_gaps}
+use Rattle.base.specs.Images.{Image, IsSound, layout_of, ruling, has_good_geometry, is_formatted, is_ruled, is_wrong_gate, begin_of, end_of, is_ahead, is_shown, is_misfit, is_second, is_bad_slot, ShownUnder, faults_of, needs_sweep, opening_fault}
 use Rattle.base.specs.Stands.{Stands}
-use Rattle.machine.specs.Machine.{State, Version, ByCommit}
+use Rattle.machine.specs.Machine.{State}
 use Rattle.machine.specs.Openings.{IsOpenedGaps, IsUpToDate, opening_record, opened, opened_under, held_under, gaps_kept, swept, opened_slots}
 use Rattle.base.proofs.Histories.{no_bad_slot}
 use Rattle.base.proofs.Layouts.{line-words}
@@ -59,20 +59,10 @@ whole-of image sound =
     }
 
 pub size-of : (image : Image) → has_good_geometry image ≡ true → (is_in_limits (layout_of image) ≡ true) × (length image ≡ total_words (layout_of image))
-size-of image good =
-    let limits : Bool = is_in_limits (layout_of image) in
-    let total : Bool = nat_eq (slice_index image 5) (total_words (layout_of image)) in
-    let size : Bool = nat_eq (length image) (slice_index image 5) in
-    let rest : Bool = nat_eq (slice_index image 6) 0 in
-    let three = and_parts (limits && total) size (and_parts (limits && total && size) rest (and_parts (limits && total && size && rest) (nat_eq (slice_index image 7) 0) good).0).0 in
-    let two = and_parts limits total three.0 in
-    (two.0, eqb-true (length image) (slice_index image 5) three.1 ∙ eqb-true (slice_index image 5) (total_words (layout_of image)) two.1)
+size-of image good = grind (arith, and_parts, eqb-true)
 
 pub formed-of : (image : Image) → IsSound image → is_well_formed (layout_of image).version (ruling image) ≡ true
-formed-of image sound =
-    let words = place_words image (ruling_place image) in
-    (and_parts (nat_eq (length words) 32 && list_all (λ w. nat_eq (slice_index words w) (record_word (record_in words) w)) (range_with_len 0 32)) (is_well_formed (layout_of image).version (record_in words))
-    (and_parts (not (nat_eq (greatest_gate image) 0)) (is_record (layout_of image).version words) (whole-of image sound).ruled).1).1
+formed-of image sound = grind (arith, and_parts, whole-of)
 
 pub covers-of : (image : Image) → IsSound image → IsOpenedGaps (ruling image) (opened_gaps (ruling image))
 covers-of image sound = opened-gaps (layout_of image).version (ruling image) (formed-of image sound)
@@ -90,10 +80,7 @@ pub limit-of : (image : Image) → IsSound image → (ruling image).dirty < 2 ^ 
 limit-of image sound = (well_formed-parts (layout_of image).version (ruling image) (formed-of image sound)).limit
 
 pub room-of : (image : Image) → opening_fault image ≡ None → ((ruling image).dirty + 2 * (layout_of image).window < 2 ^ 62) × ((ruling image).gate + 1 < 2 ^ 62)
-room-of image opens =
-    let near = (or-none _ _ (or-none _ _ opens).1).0 in
-    let both = or_parts (nat_le (2 ^ 62) ((ruling image).dirty + 2 * (layout_of image).window)) (nat_le (2 ^ 62) ((ruling image).gate + 1)) (some_if-none (is_near_limit image) TimestampsOut near) in
-    (leb-false (2 ^ 62) ((ruling image).dirty + 2 * (layout_of image).window) both.0, leb-false (2 ^ 62) ((ruling image).gate + 1) both.1)
+room-of image opens = grind (arith, or-none, or_parts, some_if-none, leb-false)
 
 -- ---- what is found
 
@@ -157,20 +144,7 @@ abbrev pub IsOpeningBy : Bool → Image → List Commit → List Gap → Type 0
 IsOpeningBy b image history gaps = IsOpening (layout_of image) (cond b (swept_record (ruling image)) (ruling image)) (cond b (swept image) image) history (cond b [] gaps)
 
 opening-by : (image : Image) (history drawn : List Commit) (next : ℕ) → opening_fault image ≡ None → Stands image history drawn next → (b : Bool) → needs_sweep image ≡ b → IsOpeningBy b image history (opened_gaps (ruling image))
-opening-by image history drawn next opens stands false is =
-    let size = size-of image (whole-of image stands.sound).geometry in
-    record {
-      layout = refl;
-      limits = size.0;
-      size = size.1;
-      formed = formed-of image stands.sound;
-      room = (room-of image opens).0;
-      good = λ slot h. no_bad_slot image stands.sound slot h;
-      tables = stands.tables;
-      covered = stands.covered;
-      gaps_cover = covers-of image stands.sound;
-      few = ltb-false 8 (length (opened_gaps (ruling image))) is;
-    }
+opening-by image history drawn next opens stands false is = grind (arith, size-of, whole-of, formed-of, room-of, no_bad_slot, covers-of, ltb-false)
 opening-by image history drawn next opens stands true is =
     let sound = stands.sound in
     let size = size-of image (whole-of image sound).geometry in
@@ -222,20 +196,7 @@ opened_by b image history lost gaps = opened_under (layout_of image) (cond b (sw
 
 same-held : (image : Image) (history : List Commit) → IsSound image → (slot : ℕ)
     → held_under (layout_of image) (swept_record (ruling image)) (swept image) history slot ≡ held_under (layout_of image) (ruling image) image history slot
-same-held image history sound slot = by (nat_lt slot (layout_of image).slots) refl
-  where
-    version : Image → Version
-    version i = record { key = key_of i slot; writer = ByCommit (last_writer history (key_of i slot)) }
-
-    by : (b : Bool) → nat_lt slot (layout_of image).slots ≡ b
-        → cond (b && is_shown (swept_record (ruling image)) (swept image) slot) (Some (version (swept image))) None ≡ cond (b && is_shown (ruling image) image slot) (Some (version image)) None
-    by false is = refl
-    by true is =
-        let h : slot < (layout_of image).slots = ltb-true slot (layout_of image).slots is in
-        let wide : 8 ≤ slot_words (layout_of image).version = line-words (layout_of image).version in
-        let shown = shown-same image (swept image) (swept-rows image) (ruling image) (swept_record (ruling image)) (sweep-counts image sound) wide slot h in
-        let key = key-same image (swept image) (swept-rows image) slot h wide in
-        λ i. cond (shown i) (Some (let v : Version = record { key = key i; writer = ByCommit (last_writer history (key i)) } in v)) None
+same-held image history sound slot = grind (arith, swept_record, ltb-true, line-words, shown-same, swept-rows, sweep-counts, key-same)
 
 same-by : (image : Image) (history : List Commit) (lost : List ℕ) (gaps : List Gap) → IsSound image → (b : Bool)
     → opened_by b image history lost gaps ≡ opened_under (layout_of image) (ruling image) image history lost (cond b [] gaps)

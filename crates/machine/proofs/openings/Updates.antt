@@ -1,12 +1,12 @@
 -- An image of the first version opens as one of the second, which has the same words but for the version.
-use Rattle.std.proofs.Common.{◌≡◌, ◌≢◌, ◌⊎◌, inl, inr, ℕ, zero, suc, ◌+◌, ◌*◌, ◌%◌, ◌^◌, ◌≤◌, max, Bool, true, false, cond, not, ◌&&◌, ◌||◌, nat_eq, nat_le, nat_lt, List, [], ◌∷◌, length, map, fold, refl, sym, ◌∙◌, ap, subst, arith}
+use Rattle.std.proofs.Common.{◌≡◌, ◌≢◌, ◌⊎◌, inl, inr, ℕ, zero, suc, ◌+◌, ◌*◌, ◌%◌, ◌^◌, ◌≤◌, max, Bool, true, cond, not, ◌&&◌, ◌||◌, nat_eq, nat_le, nat_lt, List, [], ◌∷◌, length, map, fold, refl, sym, ◌∙◌, ap, subst, arith}
 use Rattle.std.specs.Prelude.{◌/◌, Some, None, is_some, slice_index, slice_range, drop, take, flat_map}
 use Rattle.std.specs.List.{list_all, range_with_len}
 use Rattle.std.specs.Option.{option_map}
 use Rattle.std.specs.Int.{to_le_bytes, w64}
 use Rattle.std.proofs.lemmas.Bool.{and_parts, and_from, leb-true}
 use Rattle.base.specs.declared.gap.Gap.{Gap}
-use Rattle.base.specs.declared.fault.Fault.TheVariants.{Damaged, Version, TimestampsOut}
+use Rattle.base.specs.declared.fault.Fault.TheVariants.{Damaged, TimestampsOut}
 use Rattle.base.specs.Commits.{Commit, last_writer}
 use Rattle.base.specs.Layout.{Layout, is_known_version, opened_layout, place_start}
 use Rattle.base.specs.Search.{count_below, first_below, some_if}
@@ -24,32 +24,11 @@ use Rattle.base.proofs.Options.{AllNone, all_none, none_first, some_if_not-none}
 -- ---- versions
 
 known-is : (v : ℕ) → is_known_version v ≡ true → (v ≡ 1) ⊎ (v ≡ 2) ⊎ (v ≡ 3)
-known-is v known = by v (leb-true 1 v both.0) (leb-true v 3 both.1)
-  where
-    both : (nat_le 1 v ≡ true) × (nat_le v 3 ≡ true)
-    both = and_parts (nat_le 1 v) (nat_le v 3) known
-
-    by : (v : ℕ) → 1 ≤ v → v ≤ 3 → (v ≡ 1) ⊎ (v ≡ 2) ⊎ (v ≡ 3)
-    by zero low high = absurd (omega (arith, low))
-    by (suc zero) low high = inl refl
-    by (suc (suc zero)) low high = inr (inl refl)
-    by (suc (suc (suc zero))) low high = inr (inr refl)
-    by (suc (suc (suc (suc v)))) low high = absurd (omega (arith, high))
+known-is v known = grind (arith, leb-true, and_parts)
 
 -- what is well formed under the first version is so under the second
 formed-more : (r : Record) → is_well_formed 1 r ≡ true → is_well_formed 2 r ≡ true
-formed-more r e =
-    let parts = well_formed-parts 1 r e in
-    well_formed-from 2 r (record {
-      below = parts.below;
-      limit = parts.limit;
-      few = parts.few;
-      fewer = omega (arith, parts.fewer);
-      each = parts.each;
-      apart = parts.apart;
-      within = parts.within;
-      rising = parts.rising;
-    })
+formed-more r e = grind (arith, well_formed-parts, well_formed-from)
 
 -- ---- the words
 
@@ -139,11 +118,7 @@ module _ (first : ℕ) (words : List ℕ) where
       ∙ sym (swept-at old word)
 
   slots-same : (word : ℕ) → 2 ≤ word → slice_index (opened_slots new) word ≡ slice_index (opened_slots old) word
-  slots-same word far = ap (λ (b : Bool). slice_index (cond b (swept new) new) word) needs-same ∙ by (needs_sweep old)
-    where
-      by : (b : Bool) → slice_index (cond b (swept new) new) word ≡ slice_index (cond b (swept old) old) word
-      by true = swept-same word far
-      by false = word-same word far
+  slots-same word far = grind (arith, needs-same, swept-same, word-same)
 
   lies-same : (w slot : ℕ) → lies_in_gap new w slot ≡ lies_in_gap old w slot
   lies-same w slot = λ i. is_in (opened_gaps (ruling-same i)) (slot-same slot w i)
@@ -268,11 +243,7 @@ module _ (first : ℕ) (words : List ℕ) where
     }
 
 known-of : (first version : ℕ) (words : List ℕ) → opening_fault (first ∷ version ∷ words) ≡ None → is_known_version version ≡ true
-known-of first version words opens =
-    let image : Image = first ∷ version ∷ words in
-    let (sound, _) = all_none (damage image ∷ some_if (is_near_limit image) TimestampsOut ∷ []) opens in
-    let (_, (known, _)) = all_none (faults_of image) sound in
-    some_if_not-none (is_known_version version) (Version version) known
+known-of first version words opens = grind (arith, all_none, some_if_not-none)
 
 -- an image of the second version is its own
 same-second : (first : ℕ) (words : List ℕ) → opening_fault (first ∷ 2 ∷ words) ≡ None → OpensUpdated (first ∷ 2 ∷ words)

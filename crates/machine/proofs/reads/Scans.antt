@@ -7,7 +7,7 @@ use Rattle.std.proofs.lemmas.Bool.Decides.{nat_tests}
 use Rattle.std.proofs.lemmas.Option.{same_Some, none-some}
 use Rattle.base.specs.declared.key.Key.{Key}
 use Rattle.base.specs.Keys.{key_eq, key_lt, is_rising, lookup_key, is_in_range}
-use Rattle.base.specs.Commits.{Commit, Writes, Tables, overlaid, laid, after, in_range, Lists, with_write}
+use Rattle.base.specs.Commits.{Commit, Writes, Tables, overlaid, laid, in_range, Lists, with_write}
 use Rattle.machine.specs.Machine.{State, writes_of, begun_of, seen_by}
 use Rattle.machine.specs.Replay.{merged, written, with_row, rows_among, written_for, scanned}
 use Rattle.base.proofs.Keys.{key_eq-true, key_eq-same, key_lt-trans, key_lt-swap}
@@ -63,13 +63,7 @@ module _ {X : Type 0} where
   -- what the lists have past the head, which they share
   past-head : (pair : Key × X) (xs ys : List (Key × X)) → above pair.0 xs ≡ true → above pair.0 ys ≡ true
       → ((key : Key) → lookup_key (pair ∷ xs) key ≡ lookup_key (pair ∷ ys) key) → (key : Key) → lookup_key xs key ≡ lookup_key ys key
-  past-head pair xs ys above_xs above_ys same key = by (key_eq pair.0 key) refl (same key)
-    where
-      by : (b : Bool) → key_eq pair.0 key ≡ b → cond b (Some pair.1) (lookup_key xs key) ≡ cond b (Some pair.1) (lookup_key ys key) → lookup_key xs key ≡ lookup_key ys key
-      by true is e =
-          let at : pair.0 ≡ key = key_eq-true pair.0 key is in
-          subst (λ (k : Key). lookup_key xs k ≡ lookup_key ys k) at (absent pair.0 xs above_xs ∙ sym (absent pair.0 ys above_ys))
-      by false is e = e
+  past-head pair xs ys above_xs above_ys same key = grind (arith, key_eq-true, absent)
 
   -- lists by rising key that have the same at each key are one
   pub one-list : (xs ys : List (Key × X)) → rising xs ≡ true → rising ys ≡ true → ((key : Key) → lookup_key xs key ≡ lookup_key ys key) → xs ≡ ys
@@ -100,26 +94,8 @@ module _ {X : Type 0} where
 
   -- the pairs whose keys pass a test
   filter-lookup : (test : Key → Bool) (pairs : List (Key × X)) (key : Key) → lookup_key (filter (λ pair. test pair.0) pairs) key ≡ cond (test key) (lookup_key pairs key) None
-  filter-lookup test [] key = by (test key)
-    where
-      by : (b : Bool) → ◌≡◌ {A = Option X} None (cond b None None)
-      by true = refl
-      by false = refl
-  filter-lookup test (pair ∷ pairs) key = by (test pair.0) refl (key_eq pair.0 key) refl (filter-lookup test pairs key)
-    where
-      rest : List (Key × X)
-      rest = filter (λ pair. test pair.0) pairs
-
-      by : (t : Bool) → test pair.0 ≡ t → (b : Bool) → key_eq pair.0 key ≡ b → lookup_key rest key ≡ cond (test key) (lookup_key pairs key) None
-          → lookup_key (cond t (pair ∷ rest) rest) key ≡ cond (test key) (cond b (Some pair.1) (lookup_key pairs key)) None
-      by true passes true is more =
-          let here : test key ≡ true = subst (λ (k : Key). test k ≡ true) (key_eq-true pair.0 key is) passes in
-          ap (λ (b : Bool). cond b (Some pair.1) (lookup_key rest key)) is ∙ sym (ap (λ (b : Bool). cond b (Some pair.1) None) here)
-      by true passes false is more = ap (λ (b : Bool). cond b (Some pair.1) (lookup_key rest key)) is ∙ more
-      by false fails true is more =
-          let here : test key ≡ false = subst (λ (k : Key). test k ≡ false) (key_eq-true pair.0 key is) fails in
-          more ∙ (ap (λ (b : Bool). cond b (lookup_key pairs key) None) here ∙ sym (ap (λ (b : Bool). cond b (Some pair.1) None) here))
-      by false fails false is more = more
+  filter-lookup test [] key = grind arith
+  filter-lookup test (pair ∷ pairs) key = grind (arith, filter-lookup test pairs key, key_eq-true)
 
   filter-above : (test : Key → Bool) (low : Key) (pairs : List (Key × X)) → above low pairs ≡ true → above low (filter (λ pair. test pair.0) pairs) ≡ true
   filter-above test low [] all = refl
@@ -136,15 +112,7 @@ module _ {X : Type 0} where
 
   filter-rising : (test : Key → Bool) (pairs : List (Key × X)) → rising pairs ≡ true → rising (filter (λ pair. test pair.0) pairs) ≡ true
   filter-rising test [] r = r
-  filter-rising test (pair ∷ pairs) r =
-      by (test pair.0) (filter-above test pair.0 pairs (rising-above pair pairs r)) (filter-rising test pairs (rising-rest pair pairs r))
-    where
-      rest : List (Key × X)
-      rest = filter (λ pair. test pair.0) pairs
-
-      by : (t : Bool) → above pair.0 rest ≡ true → rising rest ≡ true → rising (cond t (pair ∷ rest) rest) ≡ true
-      by true low more = rising-with pair rest low more
-      by false low more = more
+  filter-rising test (pair ∷ pairs) r = grind (arith, filter-rising test pairs (rising-rest pair pairs r), filter-above, rising-above, rising-rest, rising-with)
 
 -- ---- writes
 
@@ -154,33 +122,7 @@ Write = Key × Option (List ℕ)
 with-lookup : (key : Key) (value : Option (List ℕ)) (writes : Writes) (other : Key)
     → lookup_key (with_write key value writes) other ≡ cond (key_eq key other) (Some value) (lookup_key writes other)
 with-lookup key value [] other = refl
-with-lookup key value (write ∷ writes) other = by (key_eq key write.0) refl (key_lt key write.0) (with-lookup key value writes other)
-  where
-    same_key : key_eq key write.0 ≡ true → key_eq write.0 other ≡ key_eq key other
-    same_key is = ap (λ (k : Key). key_eq k other) (sym (key_eq-true key write.0 is))
-
-    apart : key_eq key write.0 ≡ false → key_eq write.0 other ≡ true → key_eq key other ≡ false
-    apart not_it there = subst (λ (k : Key). key_eq key k ≡ false) (key_eq-true write.0 other there) not_it
-
-    later : key_eq key write.0 ≡ false → (b : Bool) → key_eq write.0 other ≡ b → lookup_key (with_write key value writes) other ≡ cond (key_eq key other) (Some value) (lookup_key writes other)
-        → cond b (Some write.1) (lookup_key (with_write key value writes) other) ≡ cond (key_eq key other) (Some value) (cond b (Some write.1) (lookup_key writes other))
-    later not_it true there more = sym (ap (λ (b : Bool). cond b (Some value) (Some write.1)) (apart not_it there))
-    later not_it false there more = more
-
-    first : (c b : Bool) → key_eq write.0 other ≡ b → (key_eq write.0 other ≡ key_eq key other) → cond c (Some value) (lookup_key writes other) ≡ cond c (Some value) (cond b (Some write.1) (lookup_key writes other)) → cond c (Some value) (lookup_key writes other) ≡ cond c (Some value) (cond b (Some write.1) (lookup_key writes other))
-    first c b is same e = e
-
-    by : (e : Bool) → key_eq key write.0 ≡ e → (l : Bool) → lookup_key (with_write key value writes) other ≡ cond (key_eq key other) (Some value) (lookup_key writes other)
-        → lookup_key (cond e ((key, value) ∷ writes) (cond l ((key, value) ∷ write ∷ writes) (write ∷ with_write key value writes))) other
-        ≡ cond (key_eq key other) (Some value) (lookup_key (write ∷ writes) other)
-    by true is l more = replaced (key_eq key other) (key_eq write.0 other) (same_key is)
-      where
-        replaced : (c b : Bool) → b ≡ c → cond c (Some value) (lookup_key writes other) ≡ cond c (Some value) (cond b (Some write.1) (lookup_key writes other))
-        replaced true b e = refl
-        replaced false true e = absurd (true≢false e)
-        replaced false false e = refl
-    by false is true more = refl
-    by false is false more = later is (key_eq write.0 other) refl more
+with-lookup key value (write ∷ writes) other = grind (arith, with-lookup key value writes other, key_eq-true, true≢false)
 
 with-above : (low key : Key) (value : Option (List ℕ)) (writes : Writes) → key_lt low key ≡ true → above low writes ≡ true → above low (with_write key value writes) ≡ true
 with-above low key value [] less all = and_from _ _ less refl
@@ -195,10 +137,7 @@ with-above low key value (write ∷ writes) less all =
     by false false here rest more = and_from _ _ here more
 
 with-rising : (key : Key) (value : Option (List ℕ)) (writes : Writes) → rising writes ≡ true → rising (with_write key value writes) ≡ true
-with-rising key value [] r = rising-with (key, value) [] (nothing key) r
-  where
-    nothing : (low : Key) → above {X = Option (List ℕ)} low [] ≡ true
-    nothing low = refl
+with-rising key value [] r = grind (arith, rising-with)
 with-rising key value (write ∷ writes) r =
     by (key_eq key write.0) refl (key_lt key write.0) refl (rising-above write writes r) (rising-rest write writes r) (with-rising key value writes (rising-rest write writes r))
   where
@@ -227,13 +166,7 @@ tables_in writes key = unwrap_or (lookup_key writes key) None
 
 merged-tables : (writes under : Writes) (key : Key) → tables_in (merged writes under) key ≡ overlaid writes (tables_in under) key
 merged-tables [] under key = refl
-merged-tables (write ∷ writes) under key =
-    ap (λ (o : Option (Option (List ℕ))). unwrap_or o None) (with-lookup write.0 write.1 (merged writes under) key) ∙ by (key_eq write.0 key) (merged-tables writes under key)
-  where
-    by : (b : Bool) → tables_in (merged writes under) key ≡ overlaid writes (tables_in under) key
-        → unwrap_or (cond b (Some write.1) (lookup_key (merged writes under) key)) None ≡ unwrap_or (cond b (Some write.1) (lookup_key writes key)) (tables_in under key)
-    by true more = refl
-    by false more = more
+merged-tables (write ∷ writes) under key = grind (arith, merged-tables writes under key, with-lookup)
 
 written-tables : (under : Writes) (commits : List Commit) (key : Key) → tables_in (written under commits) key ≡ laid (tables_in under) commits key
 written-tables under [] key = refl
@@ -269,10 +202,7 @@ rows-above low (write ∷ writes) all =
     by (Some row) here more = and_from _ _ here more
 
 rows-rising : (writes : Writes) → rising writes ≡ true → rising (rows_among writes) ≡ true
-rows-rising [] r = empty
-  where
-    empty : rising {X = List ℕ} [] ≡ true
-    empty = refl
+rows-rising [] r = grind arith
 rows-rising (write ∷ writes) r = by write.1 (rows-above write.0 writes (rising-above write writes r)) (rows-rising writes (rising-rest write writes r))
   where
     by : (value : Option (List ℕ)) → above write.0 (rows_among writes) ≡ true → rising (rows_among writes) ≡ true → rising (with_row write.0 value (rows_among writes)) ≡ true
@@ -285,10 +215,7 @@ none-written : rising {X = Option (List ℕ)} [] ≡ true
 none-written = refl
 
 seen-tables : (q : State) (n : ℕ) (key : Key) → tables_in (written_for q n) key ≡ seen_by q n key
-seen-tables q n key =
-    let commits : List Commit = take (begun_of (q.sessions n)) q.history in
-    let same : tables_in (written [] commits) ≡ after commits = λ i k. written-tables [] commits k i in
-    merged-tables (writes_of (q.sessions n)) (written [] commits) key ∙ ap (λ (t : Tables). overlaid (writes_of (q.sessions n)) t key) same
+seen-tables q n key = grind (arith, written-tables, merged-tables)
 
 -- the rows are those that the session sees in the range, by rising key
 pub scan-lists : (q : State) (n table lo hi : ℕ) → Lists (scanned q n table lo hi) (in_range table lo hi (seen_by q n))

@@ -3,7 +3,6 @@ use Rattle.std.proofs.Common.{◌≡◌, ℕ, ◌≤◌, Bool, true, false, cond
 use Rattle.std.specs.Prelude.{Option, Some, None, is_none, unwrap_or}
 use Rattle.std.proofs.lemmas.Bool.{ne_eqb}
 use Rattle.std.proofs.lemmas.List.{take-append-le, length-append}
-use Rattle.base.specs.declared.fault.Fault.{Fault}
 use Rattle.base.specs.declared.step.Step.{Step}
 use Rattle.base.specs.declared.step.Step.TheVariants.{Begin, Get, Scan, Put, Delete, Draw, Stamp, Poll, Abort, End, Commit as CommitTick, Collect}
 use Rattle.base.specs.declared.step.Stage.{Stage}
@@ -11,7 +10,7 @@ use Rattle.base.specs.declared.step.Reply.{Reply}
 use Rattle.base.specs.Images.{Image}
 use Rattle.base.specs.Commits.{Commit, Writes, after, overlaid}
 use Rattle.base.specs.Lists.{replaced}
-use Rattle.machine.specs.Machine.{State, Session, Active, Drew, WroteNothing, Hand, Stepped, refused, answered, memory_refused, device_failed, refusal, next_state, state_ticked, state_ticked_on, state_drawn, next_stage, is_idle, taken_in_hand, writes_of, begun_of, session_of, session_numbers, free_session}
+use Rattle.machine.specs.Machine.{State, Session, Active, Drew, WroteNothing, Hand, Stepped, refused, answered, memory_refused, device_failed, refusal, next_state, state_ticked, state_ticked_on, state_drawn, next_stage, is_idle, taken_in_hand, writes_of, begun_of, session_of, free_session}
 use Rattle.machine.specs.Openings.{OpensAs}
 use Rattle.machine.specs.Laws.{SeesCovered, SeesTheSame}
 use Rattle.machine.proofs.Growth.{Extends, extends-stepped}
@@ -33,11 +32,7 @@ abbrev Within : ℕ → Option Session → Type 0
 Within covered session = begun_of session ≤ covered
 
 within-but : (n m covered : ℕ) (session : Option Session) (sessions : ℕ → Option Session) → Within covered session → ((k : ℕ) → Within covered (sessions k)) → Within covered (replaced n session sessions m)
-within-but n m covered session sessions here each = by (nat_eq m n)
-  where
-    by : (b : Bool) → Within covered (cond b session (sessions m))
-    by true = here
-    by false = each m
+within-but n m covered session sessions here each = grind arith
 
 -- what a step does to the sessions: nothing, or it gives one of them another state that sees no more than is covered
 data Does (q q' : State) : Type 0 where
@@ -87,15 +82,7 @@ longer : (q : State) (q' : State) → Extends q.history q' → length q.history 
 longer q q' (more, e) = omega (arith, ap (length {A = Commit}) e, length-append q.history more)
 
 pub sees-kept : (q : State) (step : Step) (reply : Reply) (q' : State) → SeesCovered q → Stepped q step reply q' → SeesCovered q'
-sees-kept q step reply q' sees s n = by (does q step reply q' sees s)
-  where
-    grown : length q.history ≤ length q'.history
-    grown = longer q q' (extends-stepped q step reply q' s)
-
-    by : Does q q' → begun_of (q'.sessions n) ≤ length q'.history
-    by (nothing same) = omega (arith, ap begun_of (same n), sees n, grown)
-    by (one m session within but) =
-        omega (arith, ap begun_of (but n), within-but m n (length q.history) session q.sessions within sees, grown)
+sees-kept q step reply q' sees s n = grind (arith, does, longer, extends-stepped, within-but)
 
 pub sees-opened : (image : Image) (history : List Commit) (lost : List ℕ) (q : State) → OpensAs image history lost q → SeesCovered q
 sees-opened image history lost q opens n = omega (arith, ap (λ (p : State). begun_of (p.sessions n)) opens.2)
@@ -104,25 +91,11 @@ sees-opened image history lost q opens n = omega (arith, ap (λ (p : State). beg
 
 -- where no number is free, none begins
 refuses-full : (q : State) → is_none (free_session q) ≡ true → is_none (refusal q Begin) ≡ false
-refuses-full q full = by q.failed refl
-  where
-    by : (b : Bool) → q.failed ≡ b → is_none (refusal q Begin) ≡ false
-    by true f = rw f refl
-    by false f = rw (f, full) refl
+refuses-full q full = grind arith
 
 -- where a session begins, it has a number that was free
 begun-free : (q : State) (n : ℕ) (session : Session) → refusal q Begin ≡ None → q.sessions n ≡ Some session → nat_eq n (unwrap_or (free_session q) 0) ≡ false
-begun-free q n session ok is_at = ne_eqb n (unwrap_or (free_session q) 0) (λ same. taken (free_session q) refl same)
-  where
-    busy : (m : ℕ) → n ≡ m → is_none (q.sessions m) ≡ true → ⊥
-    busy m same none = let e : is_none (q.sessions m) ≡ false = ap (λ (k : ℕ). is_none (q.sessions k)) (sym same) ∙ ap (λ (o : Option Session). is_none o) is_at in cc
-
-    taken : (o : Option ℕ) → free_session q ≡ o → n ≡ unwrap_or (free_session q) 0 → ⊥
-    taken None e same =
-        let f : is_none (refusal q Begin) ≡ false = refuses-full q (ap (λ (o : Option ℕ). is_none o) e) in
-        let g : is_none (refusal q Begin) ≡ true = ap (λ (o : Option Fault). is_none o) ok in
-        cc
-    taken (Some m) e same = busy m (same ∙ ap (λ (o : Option ℕ). unwrap_or o 0) e) (find-passes (λ k. is_none (q.sessions k)) session_numbers m e)
+begun-free q n session ok is_at = grind (arith, ne_eqb, refuses-full, find-passes)
 
 other : (n m : ℕ) (session : Option Session) (q : State) → nat_eq n m ≡ false → replaced m session q.sessions n ≡ q.sessions n
 other n m session q apart = ap (λ (b : Bool). cond b session (q.sessions n)) apart

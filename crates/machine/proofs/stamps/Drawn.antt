@@ -1,13 +1,9 @@
 -- The commits that are drawn, after a stamp.
-use Rattle.std.proofs.Common.{◌≡◌, ℕ, ◌+◌, Bool, true, false, cond, nat_eq, List, [], ◌∷◌, map, refl}
+use Rattle.std.proofs.Common.{◌≡◌, ℕ, List, [], ◌∷◌, map, refl, arith}
 use Rattle.machine.specs.Machine.{Drawn, counted}
 
 pub counted-commit : (t : ℕ) (d : Drawn) → (counted t d).commit ≡ d.commit
-counted-commit t d = by (nat_eq d.commit.timestamp t)
-  where
-    by : (b : Bool) → (let e : Drawn = cond b (record { commit = d.commit; stamped = d.stamped + 1 }) d in e).commit ≡ d.commit
-    by true = refl
-    by false = refl
+counted-commit t d = grind arith
 
 pub counted-commits : (t : ℕ) (ds : List Drawn) → map (λ (d : Drawn). d.commit) (map (counted t) ds) ≡ map (λ (d : Drawn). d.commit) ds
 counted-commits t [] = refl

@@ -11,7 +11,7 @@ use Rattle.base.specs.Stands.{has_timestamp}
 use Rattle.machine.specs.Machine.{most_sessions, State, Session, Active, Drew, WroteNothing, Drawn, Version, Writer, BySession, ByCommit, drawn_at, session_numbers}
 use Rattle.machine.specs.Collecting.{is_replaced_by, replace, sees_replaced, is_garbage}
 use Rattle.state_invariant.specs.Kept.{Origin, Keeps, IsInUse, wanted, version_by}
-use Rattle.state_invariant.specs.Shown.{word_of, counts_at, Newest, Replaced, IsWaiting, IsNewest, IsReplaced, ShowsAs, SlotShows, class_of_version, class_of_drawn, is_key_stamped, IsNever, is_drawn_on, Begun, Waiting}
+use Rattle.state_invariant.specs.Shown.{word_of, counts_at, Newest, Replaced, IsWaiting, IsNewest, IsReplaced, ShowsAs, SlotShows, class_of_version, class_of_drawn, is_key_stamped, Begun, Waiting}
 use Rattle.state_invariant.proofs.Commits.{timestamp-all, committed-bounds, uncommitted-above}
 use Rattle.state_invariant.proofs.openings.Kept.{passes-last_writer}
 use Rattle.state_invariant.proofs.Log.{stays-or_replaced, IsReplaced as IsChanged, IsPlaced, placed, has-place, one-place, has-here}
@@ -34,11 +34,7 @@ all-each p [] each = refl
 all-each p (x ∷ xs) each = and_from (p x) (list_all p xs) (each x) (all-each p xs each)
 
 has-more : (cs : List Commit) (m n t : ℕ) → m ≤ n → has_timestamp (take m cs) t ≡ true → has_timestamp (take n cs) t ≡ true
-has-more cs zero n t le has = absurd (false≢true (none cs has))
-  where
-    none : (cs : List Commit) → has_timestamp (take 0 cs) t ≡ true → false ≡ true
-    none [] has = has
-    none (c ∷ cs) has = has
+has-more cs zero n t le has = grind (arith, false≢true)
 has-more [] (suc m) n t le has = absurd (false≢true has)
 has-more (c ∷ cs) (suc m) zero t le has = absurd (omega (arith, le))
 has-more (c ∷ cs) (suc m) (suc n) t le has = elim (or_cases (nat_eq c.timestamp t) (has_timestamp (take m cs) t) has) [
@@ -265,11 +261,7 @@ module _ (o : Origin) (q : State) (kept : Keeps o q) (value : ℕ → ℕ) (slot
       }
 
       open_end : (t : ℕ) → IsNewest o q value slot t v.key (row (ByCommit t)) → ⊥
-      open_end t w = by w.end
-        where
-          by : IsNever o q end ⊎ (is_drawn_on q v.key end ≡ true) → ⊥
-          by (inl never) = true≢false (sym counted ∙ never-counts o q kept (length q.history) end never)
-          by (inr drawn) = true≢false (sym counted ∙ drawn_on-counts o q kept (length q.history) end v.key drawn)
+      open_end t w = grind (arith, true≢false, counted, never-counts, drawn_on-counts)
 
       by_newest : (t : ℕ) → q.held slot ≡ Some (version_by v.key (ByCommit t)) → drawn_at q t ≡ None → (last_writer q.history v.key ≡ t) ⊎ (last_writer q.history v.key ≢ t)
           → ShowsAs o q value slot (cond (nat_eq (last_writer q.history v.key) t) (Newest t v.key (row (ByCommit t))) (Replaced t v.key (row (ByCommit t)))) → IsGarbage q slot

@@ -1,16 +1,14 @@
 -- A visit of the collector keeps what a state keeps, and what the slots show.
-use Rattle.std.proofs.Common.{◌≡◌, ◌≢◌, ◌⊎◌, inl, inr, ℕ, ◌+◌, ◌<◌, ◌≤◌, Bool, true, false, cond, List, length, slice_get, [], take, refl, sym, ◌∙◌, ap, subst, arith, Option, Some, None}
-use Rattle.std.specs.Prelude.{IsTrue}
+use Rattle.std.proofs.Common.{◌≡◌, ◌≢◌, ◌⊎◌, inl, inr, ℕ, ◌+◌, ◌<◌, ◌≤◌, Bool, true, List, length, slice_get, [], take, refl, sym, ◌∙◌, ap, subst, arith, Option, Some, None}
 use Rattle.std.proofs.lemmas.Bool.{cases_eq, cases_lt}
 use Rattle.base.specs.declared.gap.Gap.{Gap}
 use Rattle.base.specs.declared.key.Key.{Key}
 use Rattle.base.specs.Commits.{Commit, last_writer}
 use Rattle.base.specs.Records.{is_committed}
-use Rattle.base.specs.Lists.{replaced}
 use Rattle.machine.specs.Machine.{State, Drawn, Hand, Version, BySession, ByCommit, drawn_at}
-use Rattle.machine.specs.Collecting.{is_garbage, is_at_slot, held_after_visit, slot_visited, sweep_ended, visited}
+use Rattle.machine.specs.Collecting.{held_after_visit, slot_visited, sweep_ended, visited}
 use Rattle.state_invariant.specs.Kept.{Origin, KeepsHand, Keeps, IsInUse, HasSlot, version_by, last_of}
-use Rattle.state_invariant.specs.Shown.{word_of, IsNever, is_drawn_on, Class, Free, Waiting, Begun, Newest, Replaced, class_of, class_of_version, ShowsAs, SlotShows, SlotsShow}
+use Rattle.state_invariant.specs.Shown.{word_of, IsNever, Class, Free, Waiting, Begun, Newest, Replaced, class_of, class_of_version, ShowsAs, SlotShows, SlotsShow}
 use Rattle.state_invariant.proofs.Lookups.{replaced-same, replaced-other}
 use Rattle.state_invariant.proofs.Commits.{committed-bounds}
 use Rattle.state_invariant.proofs.Log.{IsWritten, writer-since, placed, one-place}
@@ -31,15 +29,7 @@ pub data OnlyFrees (q : State) (held : ℕ → Option Version) (slot : ℕ) : Ty
 
 -- a visit frees the slot of its place alone
 pub visit-frees : (o : Origin) (q : State) (at slot : ℕ) → Keeps o q → OnlyFrees q (held_after_visit q at) slot
-visit-frees o q at slot kept = by (is_garbage q at) refl
-  where
-    by_place : is_garbage q at ≡ true → (slot ≡ at) ⊎ (slot ≢ at) → OnlyFrees q (replaced at None q.held) slot
-    by_place garbage (inl same) = frees (subst (IsGarbage q) (sym same) (garbage-is o q at kept garbage)) (replaced-same at None q.held slot same)
-    by_place garbage (inr apart) = stays (replaced-other at None q.held slot apart)
-
-    by : (b : Bool) → is_garbage q at ≡ b → OnlyFrees q (held_after_visit q at) slot
-    by true garbage = subst (λ (b : Bool). OnlyFrees q (cond b (replaced at None q.held) q.held) slot) (sym garbage) (by_place garbage (cases_eq slot at))
-    by false live = subst (λ (b : Bool). OnlyFrees q (cond b (replaced at None q.held) q.held) slot) (sym live) (stays refl)
+visit-frees o q at slot kept = grind (arith, garbage-is, replaced-same, replaced-other, cases_eq)
 
 module _ (o : Origin) (q : State) (kept : Keeps o q) (held : ℕ → Option Version) (swept : Bool) (place : ℕ) (still : q.swept ≡ true → swept ≡ true) (only : (slot : ℕ) → OnlyFrees q held slot) where
   abbrev then : State
@@ -55,28 +45,17 @@ module _ (o : Origin) (q : State) (kept : Keeps o q) (held : ℕ → Option Vers
   hand-then hand k = record { extends = k.extends; persisted = k.persisted; window = k.window; gaps = gaps-stand k.gaps; longs = k.longs; drawn = k.drawn }
 
   was : (slot : ℕ) (v : Version) → held slot ≡ Some v → q.held slot ≡ Some v
-  was slot v at = by (only slot)
-    where
-      by : OnlyFrees q held slot → q.held slot ≡ Some v
-      by (stays same) = sym same ∙ at
-      by (frees g none) = let clash : ◌≡◌ {A = Option Version} None (Some v) = sym none ∙ at in absurd (cc clash)
+  was slot v at = grind arith
 
   -- a version that isn't garbage keeps its slot
   has-still : (v : Version) → ((slot : ℕ) → IsGarbage q slot → q.held slot ≡ Some v → ⊥) → HasSlot q v → HasSlot then v
-  has-still v needed (slot, lt, at) = (slot, lt, by (only slot))
-    where
-      by : OnlyFrees q held slot → held slot ≡ Some v
-      by (stays same) = same ∙ at
-      by (frees g none) = absurd (needed slot g at)
+  has-still v needed (slot, lt, at) = grind arith
 
   same-version : (slot : ℕ) (g : IsGarbage q slot) (v : Version) → q.held slot ≡ Some v → version_by g.key (ByCommit g.timestamp) ≡ v
   same-version slot g v at = let both : Some (version_by g.key (ByCommit g.timestamp)) ≡ Some v = sym g.held ∙ at in cc both
 
   same-commit : (slot : ℕ) (g : IsGarbage q slot) (key : Key) (t : ℕ) → q.held slot ≡ Some (version_by key (ByCommit t)) → (g.key ≡ key) × (g.timestamp ≡ t)
-  same-commit slot g key t at =
-      let same = same-version slot g (version_by key (ByCommit t)) at in
-      let writers : ByCommit g.timestamp ≡ ByCommit t = ap (λ (v : Version). v.writer) same in
-      (ap (λ (v : Version). v.key) same, cc writers)
+  same-commit slot g key t at = grind (arith, same-version)
 
   of-session : (slot n : ℕ) (key : Key) → IsGarbage q slot → q.held slot ≡ Some (version_by key (BySession n)) → ⊥
   of-session slot n key g at =
@@ -146,11 +125,7 @@ module _ (o : Origin) (q : State) (kept : Keeps o q) (held : ℕ → Option Vers
     shows-as slot lt Free (inr ended) = inr ended
     shows-as slot lt (Waiting key row) h = record { begin = h.begin; end = h.end; spells = h.spells }
     shows-as slot lt (Begun t key row) h = record { begin = h.begin; end = h.end; spells = h.spells }
-    shows-as slot lt (Newest t key row) h = record { begin = h.begin; end = by h.end; ended = h.ended; spells = h.spells }
-      where
-        by : IsNever o q (value (word_of q.layout slot 1)) ⊎ IsTrue (is_drawn_on q key (value (word_of q.layout slot 1))) → IsNever o then (value (word_of q.layout slot 1)) ⊎ IsTrue (is_drawn_on then key (value (word_of q.layout slot 1)))
-        by (inl none) = inl (never slot 1 lt (omega arith) none)
-        by (inr drawn) = inr drawn
+    shows-as slot lt (Newest t key row) h = grind arith
     shows-as slot lt (Replaced t key row) h = record {
       begin = h.begin;
       ended = λ u f. h.ended u record { place = f.place; since = f.since; commit = f.commit; at = f.at; writes = f.writes; stamped = f.stamped; last = f.last };
@@ -175,8 +150,4 @@ pub keeps-sweep_ended : (o : Origin) (q : State) → Keeps o q → Keeps o (swee
 keeps-sweep_ended o q kept = keeps-moved o q kept q.held true 0 (λ is. refl) (λ slot. stays refl)
 
 pub keeps-visited : (o : Origin) (q : State) → Keeps o q → Keeps o (visited q)
-keeps-visited o q kept = by (is_at_slot q)
-  where
-    by : (b : Bool) → Keeps o (cond b (slot_visited q) (sweep_ended q))
-    by true = keeps-slot_visited o q kept
-    by false = keeps-sweep_ended o q kept
+keeps-visited o q kept = grind (arith, keeps-slot_visited, keeps-sweep_ended)

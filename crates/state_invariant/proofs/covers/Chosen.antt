@@ -2,7 +2,7 @@
 use Rattle.std.proofs.Common.{◌||◌, ◌≡◌, ◌≢◌, ◌⊎◌, inl, inr, ℕ, suc, ◌+◌, ◌<◌, ◌≤◌, Bool, true, false, cond, not, ◌&&◌, List, [], ◌∷◌, map, filter, fold, length, refl, sym, ◌∙◌, ap, arith, Option, Some, None, find, true≢false}
 use Rattle.std.specs.Prelude.{nat_eq, nat_lt, nat_le, max}
 use Rattle.std.specs.List.{list_any, list_all}
-use Rattle.std.specs.Option.{option_map, option_or}
+use Rattle.std.specs.Option.{option_map}
 use Rattle.std.proofs.lemmas.Bool.{cases_eq, cases_lt, eq-eqb, eqb-true, ne_eqb, and_parts, and_from, ltb-true, lt-ltb, leb-true, le-leb, or_cases, or_left, or_right, false_from_ne_true, not-true}
 use Rattle.base.specs.Commits.{Commit}
 use Rattle.base.specs.Layout.{most_longs}
@@ -76,18 +76,7 @@ all-by_found p (x ∷ ds) rising each =
 found-unfiltered : (f : Drawn → Bool) (ds : List Drawn) (u : ℕ) (d : Drawn) → are_rising (map time_of ds) ≡ true → find (λ (e : Drawn). nat_eq e.commit.timestamp u) (filter f ds) ≡ Some d
     → (find (λ (e : Drawn). nat_eq e.commit.timestamp u) ds ≡ Some d) × (f d ≡ true)
 found-unfiltered f [] u d rising found = absurd (cc found)
-found-unfiltered f (x ∷ ds) u d rising found = by (f x) refl (nat_eq (time_of x) u) refl found (found-unfiltered f ds u d (rising-rest (time_of x) (map time_of ds) rising))
-  where
-    by : (a : Bool) → f x ≡ a → (b : Bool) → nat_eq (time_of x) u ≡ b → find (λ (e : Drawn). nat_eq e.commit.timestamp u) (cond a (x ∷ filter f ds) (filter f ds)) ≡ Some d
-        → (find (λ (e : Drawn). nat_eq e.commit.timestamp u) (filter f ds) ≡ Some d → (find (λ (e : Drawn). nat_eq e.commit.timestamp u) ds ≡ Some d) × (f d ≡ true))
-        → (find (λ (e : Drawn). nat_eq e.commit.timestamp u) (x ∷ ds) ≡ Some d) × (f d ≡ true)
-    by true passes true is found rest =
-        let same : x ≡ d = (let e : Some x ≡ Some d = sym (ap (λ (b : Bool). cond b (Some x) (find (λ (e : Drawn). nat_eq e.commit.timestamp u) (filter f ds))) is) ∙ found in cc e) in
-        (ap (λ (b : Bool). cond b (Some x) (find (λ (e : Drawn). nat_eq e.commit.timestamp u) ds)) is ∙ ap (λ (y : Drawn). Some y) same, ap f (sym same) ∙ passes)
-    by true passes false is found rest =
-        let old = rest (sym (ap (λ (b : Bool). cond b (Some x) (find (λ (e : Drawn). nat_eq e.commit.timestamp u) (filter f ds))) is) ∙ found) in
-        (found-later x ds u d rising old.0, old.1)
-    by false drops b is found rest = let old = rest found in (found-later x ds u d rising old.0, old.1)
+found-unfiltered f (x ∷ ds) u d rising found = grind (arith, found-unfiltered f ds u d (rising-rest (time_of x) (map time_of ds) rising), rising-rest, found-later)
 
 -- a filter keeps what passes it
 kept-by_filter : (f : Drawn → Bool) (ds : List Drawn) (u : ℕ) (d : Drawn) → find (λ (e : Drawn). nat_eq e.commit.timestamp u) ds ≡ Some d → f d ≡ true → list_any (λ e. nat_eq e.commit.timestamp u) (filter f ds) ≡ true
@@ -112,39 +101,21 @@ filter-none p (x ∷ xs) all = by (p x) (and_parts (not (p x)) (list_all (λ x. 
 
 any-unfiltered : (p r : Drawn → Bool) (ds : List Drawn) → list_any r (filter p ds) ≡ true → list_any (λ d. p d && r d) ds ≡ true
 any-unfiltered p r [] any = absurd (cc any)
-any-unfiltered p r (d ∷ ds) any = by (p d) any (any-unfiltered p r ds)
-  where
-    by : (b : Bool) → list_any r (cond b (d ∷ filter p ds) (filter p ds)) ≡ true → (list_any r (filter p ds) ≡ true → list_any (λ d. p d && r d) ds ≡ true) → ((b && r d) || list_any (λ d. p d && r d) ds) ≡ true
-    by true any rest = elim (or_cases (r d) (list_any r (filter p ds)) any) [
-      | inl here ↦ or_left (r d) (list_any (λ d. p d && r d) ds) here
-      | inr later ↦ or_right (r d) (list_any (λ d. p d && r d) ds) (rest later)
-    ]
-    by false any rest = rest any
+any-unfiltered p r (d ∷ ds) any = grind (arith, any-unfiltered p r ds, or_cases, or_left, or_right)
 
 -- ---- records
 
 -- what a record commits lies up to what it persists, in no gap, and is no long commit
 pub committed-parts : (r : Record) (t : ℕ) → is_committed r t ≡ true → (1 ≤ t) × (t ≤ r.persisted) × (is_in r.gaps t ≡ false) × (list_any (nat_eq t) r.longs ≡ false)
-committed-parts r t e =
-    let a = and_parts (nat_le 1 t && nat_le t r.persisted && not (is_in r.gaps t)) (not (list_any (nat_eq t) r.longs)) e in
-    let b = and_parts (nat_le 1 t && nat_le t r.persisted) (not (is_in r.gaps t)) a.0 in
-    let c = and_parts (nat_le 1 t) (nat_le t r.persisted) b.0 in
-    (leb-true 1 t c.0, leb-true t r.persisted c.1, not-true (is_in r.gaps t) b.1, not-true (list_any (nat_eq t) r.longs) a.1)
+committed-parts r t e = grind (arith, and_parts, leb-true, not-true)
 
 -- and the other way round
 pub committed-from : (r : Record) (t : ℕ) → 1 ≤ t → t ≤ r.persisted → is_in r.gaps t ≡ false → list_any (nat_eq t) r.longs ≡ false → is_committed r t ≡ true
-committed-from r t from to out short =
-    and_from (nat_le 1 t && nat_le t r.persisted && not (is_in r.gaps t)) (not (list_any (nat_eq t) r.longs))
-    (and_from (nat_le 1 t && nat_le t r.persisted) (not (is_in r.gaps t)) (and_from (nat_le 1 t) (nat_le t r.persisted) (le-leb 1 t from) (le-leb t r.persisted to)) (ap not out))
-    (ap not short)
+committed-from r t from to out short = grind (arith, and_from, le-leb)
 
 -- a record that doesn't commit what it persists and has in no gap, names it as a long commit
 pub uncommitted-long : (r : Record) (t : ℕ) → 1 ≤ t → t ≤ r.persisted → is_in r.gaps t ≡ false → is_committed r t ≡ false → list_any (nat_eq t) r.longs ≡ true
-uncommitted-long r t from to out uncounted = by (list_any (nat_eq t) r.longs) refl
-  where
-    by : (b : Bool) → list_any (nat_eq t) r.longs ≡ b → list_any (nat_eq t) r.longs ≡ true
-    by true is = is
-    by false is = absurd (true≢false (sym (committed-from r t from to out is) ∙ uncounted))
+uncommitted-long r t from to out uncounted = grind (arith, true≢false, committed-from)
 
 -- ---- how many
 
@@ -200,11 +171,7 @@ rising-among (x ∷ xs) (y ∷ ys) up high all = by (λ zs rises among. rising-a
 -- a filter has as many as are counted
 pub length-filtered : (p : Drawn → Bool) (n : ℕ) (ds : List Drawn) → fold (λ (n : ℕ) (d : Drawn). n + cond (p d) 1 0) n ds ≡ n + length (filter p ds)
 length-filtered p n [] = omega arith
-length-filtered p n (d ∷ ds) = by (p d) (length-filtered p (n + cond (p d) 1 0) ds)
-  where
-    by : (b : Bool) → fold (λ (n : ℕ) (d : Drawn). n + cond (p d) 1 0) (n + cond b 1 0) ds ≡ (n + cond b 1 0) + length (filter p ds) → fold (λ (n : ℕ) (d : Drawn). n + cond (p d) 1 0) (n + cond b 1 0) ds ≡ n + length (cond b (d ∷ filter p ds) (filter p ds))
-    by true is = is ∙ omega arith
-    by false is = is ∙ omega arith
+length-filtered p n (d ∷ ds) = grind (arith, length-filtered p (n + cond (p d) 1 0) ds)
 
 -- where what passes one passes the other, it has no more
 pub fewer-filtered : (p r : Drawn → Bool) (ds : List Drawn) → list_all (λ d. not (p d) || r d) ds ≡ true → length (filter p ds) ≤ length (filter r ds)
@@ -222,15 +189,7 @@ fewer-filtered p r (d ∷ ds) all =
 -- the greatest is the first number or stands in the list
 pub max-is : (p : ℕ) (ts : List ℕ) → (fold max p ts ≡ p) ⊎ (list_any (nat_eq (fold max p ts)) ts ≡ true)
 max-is p [] = inl refl
-max-is p (t ∷ ts) =
-    elim (max-is (max p t) ts) [
-      | inl same ↦ by (cases_lt p t) same
-      | inr there ↦ inr (or_right (nat_eq (fold max (max p t) ts) t) (list_any (nat_eq (fold max (max p t) ts)) ts) there)
-    ]
-  where
-    by : (p < t) ⊎ (t ≤ p) → fold max (max p t) ts ≡ max p t → (fold max (max p t) ts ≡ p) ⊎ ((nat_eq (fold max (max p t) ts) t || list_any (nat_eq (fold max (max p t) ts)) ts) ≡ true)
-    by (inl less) same = inr (or_left (nat_eq (fold max (max p t) ts) t) (list_any (nat_eq (fold max (max p t) ts)) ts) (eq-eqb (fold max (max p t) ts) t (omega (arith, same, less))))
-    by (inr more) same = inl (omega (arith, same, more))
+max-is p (t ∷ ts) = grind (arith, max-is (max p t) ts, cases_lt, or_right, or_left, eq-eqb)
 
 -- ---- the batch
 
@@ -255,13 +214,7 @@ module _ (o : Origin) (q : State) (kept : Keeps o q) where
       (is, omega (arith, is, above), omega (arith, is, less), sym (ap (is_committed q.ruling) is) ∙ not-true (is_committed q.ruling (time_of d)) both.0)
 
   has-drawn : (t : ℕ) → has_timestamp (drawn_of q) t ≡ true → (d : Drawn) × (drawn_at q t ≡ Some d)
-  has-drawn t has =
-      let c = commit_at-has (drawn_of q) t has in
-      by (drawn_at q t) refl (sym (commit_at-drawn q t) ∙ c.1)
-    where
-      by : (x : Option Drawn) → drawn_at q t ≡ x → option_map (λ (d : Drawn). d.commit) x ≡ Some (commit_at-has (drawn_of q) t has).0 → (d : Drawn) × (drawn_at q t ≡ Some d)
-      by None is e = absurd (cc e)
-      by (Some d) is e = (d, is)
+  has-drawn t has = grind (arith, commit_at-has, commit_at-drawn)
 
   drawn-has : (t : ℕ) (d : Drawn) → drawn_at q t ≡ Some d → has_timestamp (drawn_of q) t ≡ true
   drawn-has t d found = commit_at-some (drawn_of q) t d.commit (commit_at-drawn q t ∙ ap (λ (x : Option Drawn). option_map (λ (d : Drawn). d.commit) x) found)
@@ -277,10 +230,7 @@ module _ (o : Origin) (q : State) (kept : Keeps o q) where
       by : (x : Option Drawn) → find (λ (d : Drawn). nat_eq d.commit.timestamp t) (filter (is_chosen q) q.drawn) ≡ x → option_map (λ (d : Drawn). d.commit) x ≡ Some c
           → (d : Drawn) × (drawn_at q t ≡ Some d) × (d.commit ≡ c) × (is_stamped d ≡ true) × (t ≤ reach q)
       by None is e = absurd (cc e)
-      by (Some d) is e =
-          let old = found-unfiltered (is_chosen q) q.drawn t d rising is in
-          let both = and_parts (is_stamped d) (nat_le d.commit.timestamp (reach q)) old.1 in
-          (d, old.0, cc e, both.0, omega (arith, leb-true d.commit.timestamp (reach q) both.1, drawn_at-timestamp q t d old.0))
+      by (Some d) is e = grind (arith, found-unfiltered, rising, and_parts, leb-true, drawn_at-timestamp)
 
   pub chosen-found : (t : ℕ) → has_timestamp (chosen q) t ≡ true → (d : Drawn) × (drawn_at q t ≡ Some d) × (is_stamped d ≡ true) × (t ≤ reach q)
   chosen-found t has = let c = commit_at-has (chosen q) t has in let d = chosen-drawn t c.0 c.1 in (d.0, d.1, d.3, d.4)
@@ -318,12 +268,7 @@ module _ (o : Origin) (q : State) (kept : Keeps o q) where
 
   -- none is both
   apart : (t : ℕ) → has_timestamp (chosen q) t ≡ true → list_any (nat_eq t) (passed_over q) ≡ true → ⊥
-  apart t has any =
-      let a = chosen-found t has in
-      let b = passed-found t any in
-      let one : Some a.0 ≡ Some b.0 = sym a.1 ∙ b.1 in
-      let same : a.0 ≡ b.0 = cc one in
-      true≢false (sym a.2 ∙ ap is_stamped same ∙ b.2)
+  apart t has any = grind (arith, chosen-found, passed-found, true≢false)
 
   reach-persisted : q.ruling.persisted ≤ reach q
   reach-persisted = max-least q.ruling.persisted (map time_of (filter (may_be_covered q) q.drawn))
@@ -343,10 +288,7 @@ module _ (o : Origin) (q : State) (kept : Keeps o q) where
           (found.0, ap (drawn_at q) (eqb-true (reach q) (time_of found.0) both.1) ∙ found.1, both.0)
 
   reach-next : reach q < q.next
-  reach-next = elim reach-is [
-    | inl same ↦ omega (arith, same, kept.numbers.persisted)
-    | inr some ↦ (bounds (reach q) some.0 some.1).2
-  ]
+  reach-next = grind (arith, reach-is, bounds)
 
   -- ---- the long commits of the record
 
@@ -488,10 +430,7 @@ module _ (o : Origin) (q : State) (kept : Keeps o q) where
           → (is_committed q.ruling t ≡ true) ⊎ (has_timestamp (chosen q) t ≡ true)
       of_life t le short (Some c) d covered found has = inl (timestamp-all (is_committed q.ruling) (covered_since o q) t (all-drop (λ c. is_committed q.ruling c.timestamp) o.opened q.history kept.numbers.covered) (commit_at-some (covered_since o q) t c covered))
       of_life t le short None (Some d) covered found has = inr (by_stamped t d found le short (is_stamped d) refl)
-      of_life t le short None None covered found has =
-          let there = commit_at-has (commits_of_life o q) t has in
-          let none : None ≡ Some there.0 = sym (commit_at-append (covered_since o q) (drawn_of q) t ∙ ap (λ (x : Option Commit). option_or x (commit_at (drawn_of q) t)) covered ∙ commit_at-drawn q t ∙ ap (λ (x : Option Drawn). option_map (λ (d : Drawn). d.commit) x) found) ∙ there.1 in
-          absurd (cc none)
+      of_life t le short None None covered found has = grind (arith, commit_at-has, commit_at-append, commit_at-drawn)
 
       only : (t : ℕ) → is_committed (target_of q) t ≡ true → is_in q.ruling.gaps t ≡ false → (o.ruling.persisted < t) ⊎ (t ≤ o.ruling.persisted) → (is_committed q.ruling t ≡ true) ⊎ (has_timestamp (chosen q) t ≡ true)
       only t counts out (inl above) =

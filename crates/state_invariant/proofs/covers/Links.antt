@@ -7,7 +7,7 @@ use Rattle.std.proofs.lemmas.List.Sums.{fold-append}
 use Rattle.base.specs.declared.key.Key.{Key}
 use Rattle.base.specs.Commits.{Commit, writes_key}
 use Rattle.base.specs.Stands.{has_timestamp}
-use Rattle.machine.specs.Machine.{State, Session, Active, Drew, WroteNothing, Drawn, Hand, Version, ByCommit, drawn_at, begun_of, state_covered}
+use Rattle.machine.specs.Machine.{State, Drawn, Hand, Version, ByCommit, drawn_at, begun_of, state_covered}
 use Rattle.state_invariant.specs.Kept.{Origin, KeepsHand, Keeps, row_in, version_by}
 use Rattle.state_invariant.specs.Links.{last_row, IsFreeToDraw, ComesAfter, by_session, by_draw, by_commit, Links}
 use Rattle.state_invariant.proofs.Log.{found-place}
@@ -39,13 +39,7 @@ module _ (o : Origin) (q : State) (hand : Hand) (kept : Keeps o q) (k : KeepsHan
   came v place t (by_session n key works free) last = (length q.history, by_session n key works was, all-then key ∙ sym (all-now key (λ j c at. in-batch j c at)) ∙ last)
     where
       begun-within : begun_of (q.sessions n) ≤ length q.history
-      begun-within = by (q.sessions n) refl
-        where
-          by : (x : Option Session) → q.sessions n ≡ x → begun_of x ≤ length q.history
-          by None is = omega arith
-          by (Some (Active begun writes)) is = (kept.numbers.snapshots n begun writes is).1
-          by (Some (Drew u)) is = omega arith
-          by (Some WroteNothing) is = omega arith
+      begun-within = grind arith
 
       in-batch : (j : ℕ) (c : Commit) → slice_get hand.commits j ≡ Some c → writes_key key c ≡ false
       in-batch j c at = free.covered (length q.history + j) c (omega (arith, begun-within)) (at-more q.history hand.commits j ∙ at)

@@ -16,7 +16,7 @@ use Rattle.base.specs.Stands.{has_timestamp}
 use Rattle.machine.specs.Machine.{State, Drawn, Hand, Version, Writer, BySession, ByCommit, drawn_at, drawn_of, is_stamped, state_covered}
 use Rattle.base.proofs.Lists.{all-drop}
 use Rattle.state_invariant.specs.Kept.{Origin, KeepsHand, Keeps, IsInUse, wanted, row_by, commit_at, commits_of_life, covered_since, version_by}
-use Rattle.state_invariant.specs.Shown.{word_of, IsNever, counts_at, is_drawn_on, is_key_stamped, Follows, Waiting, Begun, Newest, Replaced, class_of_version, class_by, class_of_drawn, HasBegun, IsHidden, IsWaiting, IsBegun, IsNewest, IsReplaced, ShowsAs, SlotsShow}
+use Rattle.state_invariant.specs.Shown.{word_of, IsNever, counts_at, is_drawn_on, is_key_stamped, Follows, Newest, Replaced, class_of_version, class_by, class_of_drawn, HasBegun, IsHidden, IsWaiting, IsBegun, IsNewest, IsReplaced, ShowsAs, SlotsShow}
 use Rattle.state_invariant.proofs.Lists.{find-any}
 use Rattle.state_invariant.proofs.Commits.{commit_at-append, commit_at-none, commit_at-drawn, commit_at-place, distinct-rising, writer_from, writer-append, timestamp-all, found-any, writer-none}
 use Rattle.state_invariant.proofs.stamps.Stamped.{all-stamped, stamped-among}
@@ -95,12 +95,7 @@ module _ (o : Origin) (q : State) (hand : Hand) (value : ℕ → ℕ) (up : q.fa
           (ended (length q.history) (inl refl))
 
   waiting-covered : (slot : ℕ) (key : Key) (row : List ℕ) → IsWaiting q value slot key row → IsWaiting covered value slot key row
-  waiting-covered slot key row w = record { begin = by w.begin; end = w.end; spells = w.spells }
-    where
-      by : (value (word_of q.layout slot 0) ≡ 0) ⊎ ((q.failed ≡ true) × IsTrue (is_drawn_on q key (value (word_of q.layout slot 0))))
-          → (value (word_of q.layout slot 0) ≡ 0) ⊎ ((q.failed ≡ true) × IsTrue (is_drawn_on covered key (value (word_of q.layout slot 0))))
-      by (inl none) = inl none
-      by (inr (down, drawn)) = absurd (true≢false (sym down ∙ up))
+  waiting-covered slot key row w = grind (arith, true≢false)
 
   drawn-uncounted : (t : ℕ) (d : Drawn) → drawn_at q t ≡ Some d → is_committed q.ruling t ≡ false
   drawn-uncounted t d found = (drawn-facts o q kept t d found).1
@@ -266,21 +261,13 @@ module _ (o : Origin) (q : State) (hand : Hand) (value : ℕ → ℕ) (up : q.fa
           true≢false (sym (any_passes_from_place (λ x. nat_eq x.timestamp t) hand.commits c.0 c.1 c.2 (eq-eqb c.1.timestamp t (sym last ∙ same))) ∙ out)
 
   shows-left : (x : Option Drawn) → drawn_at q t ≡ x → has_timestamp hand.commits t ≡ false → ShowsAs o q value slot (class_of_drawn q v.key t row x) → ShowsAs o after_it value slot (class_of_drawn after_it v.key t row x)
-  shows-left (Some d) found out shows = stamp (is_key_stamped d v.key) shows
-    where
-      stamp : (b : Bool) → ShowsAs o q value slot (cond b (Begun t v.key row) (Waiting v.key row)) → ShowsAs o after_it value slot (cond b (Begun t v.key row) (Waiting v.key row))
-      stamp true b = record { begin = b.begin; end = b.end; spells = b.spells }
-      stamp false w = waiting-covered o q hand value up kept k slot v.key row w
+  shows-left (Some d) found out shows = grind (arith, waiting-covered)
   shows-left None undrawn out shows = shows-undrawn undrawn out (nat_eq (last_writer q.history v.key) t) refl shows (list_any (writes_key v.key) hand.commits) refl
 
   shows-commit : (b : Bool) → has_timestamp hand.commits t ≡ b → ShowsAs o q value slot (class_of_drawn q v.key t row (drawn_at q t)) → ShowsAs o after_it value slot (class_of_drawn after_it v.key t row (drawn_at after_it t))
   shows-commit false out shows =
       subst (λ (x : Option Drawn). ShowsAs o after_it value slot (class_of_drawn after_it v.key t row x)) (sym (found-left o q hand kept k t out)) (shows-left (drawn_at q t) refl out shows)
-  shows-commit true in_batch shows =
-      let d = batch-drawn o q hand kept k t in_batch in
-      let begun : IsBegun q value slot t v.key row = subst (λ (b : Bool). ShowsAs o q value slot (cond b (Begun t v.key row) (Waiting v.key row))) (all-stamped d.0 v.key d.3 (drawn-writes d.0 d.1)) (subst (λ (x : Option Drawn). ShowsAs o q value slot (class_of_drawn q v.key t row x)) d.1 shows) in
-      subst (λ (x : Option Drawn). ShowsAs o after_it value slot (class_of_drawn after_it v.key t row x)) (sym (found-covered o q hand kept k t in_batch))
-      (subst (λ (b : Bool). ShowsAs o after_it value slot (cond b (Newest t v.key row) (Replaced t v.key row))) (sym (eq-eqb (last_writer after_it.history v.key) t (last-batch d.0 d.1 d.2))) (begun-covered d.0 d.1 in_batch begun))
+  shows-commit true in_batch shows = grind (arith, batch-drawn, all-stamped, drawn-writes, found-covered, eq-eqb, last-batch, begun-covered)
 
 -- ---- every slot
 

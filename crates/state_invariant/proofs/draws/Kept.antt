@@ -8,11 +8,10 @@ use Rattle.std.proofs.lemmas.List.{map-append}
 use Rattle.std.proofs.lemmas.List.Folds.{find-append, list_all-map, list_any-append}
 use Rattle.base.specs.declared.key.Key.{Key}
 use Rattle.base.specs.declared.step.Step.TheVariants.{Draw}
-use Rattle.base.specs.Keys.{lookup_key, key_eq, is_rising}
+use Rattle.base.specs.Keys.{lookup_key, is_rising}
 use Rattle.base.specs.Commits.{Writes, Commit, writes_key, last_writer}
 use Rattle.base.specs.Records.{is_committed, are_rising}
 use Rattle.base.specs.Stands.{has_timestamp}
-use Rattle.base.specs.Lists.{is_nil}
 use Rattle.machine.specs.Machine.{State, Session, Active, Drew, WroteNothing, Drawn, Hand, Version, Writer, BySession, ByCommit, drawn_at, drawn_of, writes_of, begun_of, is_by, by_commit, state_drawn, next_state, refusal, unseen_by, conflict_of}
 use Rattle.base.proofs.Keys.{key_eq-true}
 use Rattle.base.proofs.Lists.{all-drop}
@@ -33,41 +32,19 @@ drawn_now q writes = record { commit = record { timestamp = q.next; writes = wri
 
 -- none was drawn yet at the next timestamp
 pub drawn_at-next : (o : Origin) (q : State) → KeepsNumbers o q → drawn_at q q.next ≡ None
-drawn_at-next o q kept = by_case (drawn_at q q.next) refl
-  where
-    by_case : (d : Option Drawn) → drawn_at q q.next ≡ d → d ≡ None
-    by_case None is = refl
-    by_case (Some d) is =
-        let both = and_parts (not (is_committed q.ruling d.commit.timestamp)) (nat_lt d.commit.timestamp q.next)
-        (find-all (λ (d : Drawn). nat_eq d.commit.timestamp q.next) (λ d. not (is_committed q.ruling d.commit.timestamp) && nat_lt d.commit.timestamp q.next) q.drawn d kept.drawn is) in
-        absurd (omega (arith, ltb-true d.commit.timestamp q.next both.1, drawn_at-timestamp q q.next d is))
+drawn_at-next o q kept = grind (arith, and_parts, find-all, ltb-true, drawn_at-timestamp)
 
 pub found-new : (o : Origin) (q : State) (writes : Writes) → KeepsNumbers o q → find (λ d. nat_eq d.commit.timestamp q.next) (q.drawn ++ drawn_now q writes ∷ []) ≡ Some (drawn_now q writes)
-found-new o q writes kept =
-    find-append (λ d. nat_eq d.commit.timestamp q.next) q.drawn (drawn_now q writes ∷ [])
-    ∙ ap (λ (d : Option Drawn). option_or d (find (λ d. nat_eq d.commit.timestamp q.next) (drawn_now q writes ∷ []))) (drawn_at-next o q kept)
-    ∙ ap (λ (b : Bool). cond b (Some (drawn_now q writes)) None) (eq-eqb q.next q.next refl)
+found-new o q writes kept = grind (arith, find-append, drawn_at-next, eq-eqb)
 
 pub found-old : (q : State) (writes : Writes) (t : ℕ) → t ≢ q.next → find (λ d. nat_eq d.commit.timestamp t) (q.drawn ++ drawn_now q writes ∷ []) ≡ drawn_at q t
-found-old q writes t apart =
-    find-append (λ d. nat_eq d.commit.timestamp t) q.drawn (drawn_now q writes ∷ [])
-    ∙ ap (λ (b : Bool). option_or (drawn_at q t) (cond b (Some (drawn_now q writes)) None)) (ne_eqb q.next t (λ e. apart (sym e)))
-    ∙ option_or-none (drawn_at q t)
+found-old q writes t apart = grind (arith, find-append, ne_eqb, option_or-none)
 
 -- ---- the slots that its session held
 
 turned : (n t : ℕ) (k : Key) (x : Writer) (w : Version) → Some (version_by k (cond (is_by n x) (ByCommit t) x)) ≡ Some w
     → ((Some (version_by k x) ≡ Some (version_by w.key (BySession n))) × (w.writer ≡ ByCommit t)) ⊎ ((Some (version_by k x) ≡ Some w) × (is_by n w.writer ≡ false))
-turned n t k (BySession m) w e = by_test (nat_eq m n) refl e
-  where
-    by_test : (b : Bool) → nat_eq m n ≡ b → Some (version_by k (cond b (ByCommit t) (BySession m))) ≡ Some w
-        → ((Some (version_by k (BySession m)) ≡ Some (version_by w.key (BySession n))) × (w.writer ≡ ByCommit t)) ⊎ ((Some (version_by k (BySession m)) ≡ Some w) × (is_by n w.writer ≡ false))
-    by_test true is e =
-        let same : version_by k (ByCommit t) ≡ w = cc e in
-        inl (ap (λ (j : ℕ). Some (version_by k (BySession j))) (eqb-true m n is) ∙ ap (λ (v : Version). Some (version_by v.key (BySession n))) same, sym (ap (λ (v : Version). v.writer) same))
-    by_test false is e =
-        let same : version_by k (BySession m) ≡ w = cc e in
-        inr (e, ap (λ (v : Version). is_by n v.writer) (sym same) ∙ is)
+turned n t k (BySession m) w e = grind (arith, eqb-true)
 turned n t k (ByCommit u) w e =
     let same : version_by k (ByCommit u) ≡ w = cc e in
     inr (e, ap (λ (v : Version). is_by n v.writer) (sym same))
@@ -88,22 +65,11 @@ held-turns n t o k e = ap (by_commit n t) e ∙ ap (λ (b : Bool). Some (version
 
 pub key-found : (key : Key) (writes : Writes) (p : Key → Bool) → is_some (lookup_key writes key) ≡ true → find p (map (λ write. write.0) writes) ≡ None → p key ≡ false
 key-found key [] p has none = cc has
-key-found key (write ∷ writes) p has none = by (key_eq write.0 key) refl (p write.0) refl has none (key-found key writes p)
-  where
-    by : (a : Bool) → key_eq write.0 key ≡ a → (b : Bool) → p write.0 ≡ b → is_some (cond a (Some write.1) (lookup_key writes key)) ≡ true → cond b (Some write.0) (find p (map (λ (w : Key × Option (List ℕ)). w.0) writes)) ≡ None
-        → (is_some (lookup_key writes key) ≡ true → find p (map (λ (w : Key × Option (List ℕ)). w.0) writes) ≡ None → p key ≡ false) → p key ≡ false
-    by a same true passes has none rest = cc none
-    by true same false fails has none rest = ap p (sym (key_eq-true write.0 key same)) ∙ fails
-    by false apart false fails has none rest = rest has none
+key-found key (write ∷ writes) p has none = grind (arith, key-found key writes p, key_eq-true)
 
 no-any : {X : Type 0} (p : X → Bool) (xs : List X) (test : X → Bool) (x : X) → list_any p xs ≡ false → find test xs ≡ Some x → p x ≡ false
 no-any p [] test x none found = cc found
-no-any p (y ∷ ys) test x none found = by (p y) refl (test y) none found (no-any p ys test x)
-  where
-    by : (a : Bool) → p y ≡ a → (b : Bool) → (a || list_any p ys) ≡ false → cond b (Some y) (find test ys) ≡ Some x → (list_any p ys ≡ false → find test ys ≡ Some x → p x ≡ false) → p x ≡ false
-    by true is b none found rest = cc none
-    by false is true none found rest = let same : y ≡ x = cc found in ap p (sym same) ∙ is
-    by false is false none found rest = rest none found
+no-any p (y ∷ ys) test x none found = grind (arith, no-any p ys test x)
 
 -- where the draw meets no conflict, what is drawn already writes none of the session's keys
 pub unlike-drawn : (q : State) (n : ℕ) (key : Key) (u : ℕ) (e : Drawn) → conflict_of q n ≡ None → is_some (lookup_key (writes_of (q.sessions n)) key) ≡ true → drawn_at q u ≡ Some e → writes_key key e.commit ≡ false
@@ -127,10 +93,7 @@ module _ (o : Origin) (q : State) (n : ℕ) (write : Key × Option (List ℕ)) (
   newest = drawn_now q (write ∷ rest)
 
   found-old_still : (t : ℕ) (d : Drawn) → drawn_at q t ≡ Some d → drawn_at then t ≡ Some d
-  found-old_still t d found = found-old q (write ∷ rest) t (λ same. clash (sym found ∙ ap (drawn_at q) same ∙ drawn_at-next o q kept.numbers)) ∙ found
-    where
-      clash : Some d ≡ None → ⊥
-      clash e = cc e
+  found-old_still t d found = grind (arith, found-old, drawn_at-next)
 
   -- ---- the commits of the life
 
@@ -205,10 +168,7 @@ module _ (o : Origin) (q : State) (n : ℕ) (write : Key × Option (List ℕ)) (
   }
     where
       further : (d : Drawn) → (not (is_committed q.ruling d.commit.timestamp) && nat_lt d.commit.timestamp q.next) ≡ true → (not (is_committed q.ruling d.commit.timestamp) && nat_lt d.commit.timestamp (q.next + 1)) ≡ true
-      further d e =
-          let both = and_parts (not (is_committed q.ruling d.commit.timestamp)) (nat_lt d.commit.timestamp q.next) e in
-          let lt : d.commit.timestamp < q.next = ltb-true d.commit.timestamp q.next both.1 in
-          and_from (not (is_committed q.ruling d.commit.timestamp)) (nat_lt d.commit.timestamp (q.next + 1)) both.0 (lt-ltb d.commit.timestamp (q.next + 1) (omega arith))
+      further d e = grind (arith, and_parts, ltb-true, and_from, lt-ltb)
 
   writes-new : (key : Key) → writes_key key newest.commit ≡ true → is_some (lookup_key (writes_of (q.sessions n)) key) ≡ true
   writes-new key writes = ap (λ (ws : Writes). is_some (lookup_key ws key)) has_writes ∙ writes
@@ -253,11 +213,7 @@ module _ (o : Origin) (q : State) (n : ℕ) (write : Key × Option (List ℕ)) (
 
   -- those of commits have the rows that they had
   pub wanted-old : (key : Key) (t : ℕ) → t < q.next → wanted o then (version_by key (ByCommit t)) ≡ wanted o q (version_by key (ByCommit t))
-  wanted-old key t lt = ap (row_by o then key t) (life-drawn t (λ same. omega (arith, same, lt))) ∙ by_found (commit_at (commits_of_life o q) t)
-    where
-      by_found : (c : Option Commit) → row_by o then key t c ≡ row_by o q key t c
-      by_found (Some c) = refl
-      by_found None = refl
+  wanted-old key t lt = grind (arith, life-drawn)
 
   -- those that its session wrote too
   pub wanted-new : (key : Key) → wanted o then (version_by key (ByCommit q.next)) ≡ wanted o q (version_by key (BySession n))
@@ -281,11 +237,7 @@ module _ (o : Origin) (q : State) (n : ℕ) (write : Key × Option (List ℕ)) (
     where
       used : (m : ℕ) → IsInUse then m → IsInUse q m
       used m (inl all) = inl all
-      used m (inr (session, writes, active)) = inr (session, writes, by (cases_eq session n))
-        where
-          by : (session ≡ n) ⊎ (session ≢ n) → q.sessions session ≡ Some (Active m writes)
-          by (inl is) = let clash : Some (Drew q.next) ≡ Some (Active m writes) = sym (replaced-same n (Some (Drew q.next)) q.sessions session is) ∙ active in cc clash
-          by (inr apart) = sym (replaced-other n (Some (Drew q.next)) q.sessions session apart) ∙ active
+      used m (inr (session, writes, active)) = grind (arith, cases_eq, replaced-same, active, replaced-other)
 
       old_version : (a : ℕ) (w : Version) → w.writer ≡ ByCommit q.next → q.held a ≡ Some w → q.held a ≡ Some (version_by w.key (ByCommit q.next))
       old_version a w is at = at ∙ ap (λ (x : Writer). Some (version_by w.key x)) is
@@ -349,22 +301,7 @@ module _ (o : Origin) (q : State) (n : ℕ) (write : Key × Option (List ℕ)) (
 -- what is known where a draw isn't refused
 pub draw-facts : (o : Origin) (q : State) (n : ℕ) (write : Key × Option (List ℕ)) (rest : Writes) → Keeps o q → refusal q (Draw n) ≡ None → writes_of (q.sessions n) ≡ write ∷ rest
     → (q.next < q.ruling.dirty) × (q.next + 2 * q.layout.window < 2 ^ 62) × (conflict_of q n ≡ None)
-draw-facts o q n write rest kept none is =
-    let facts = allowed q (Draw n) none in
-    let some : not (is_nil (writes_of (q.sessions n))) ≡ true = ap (λ (ws : Writes). not (is_nil ws)) is in
-    (less _ some facts.window, fits _ _ some facts.limits, facts.alone)
-  where
-    less : (b : Bool) → b ≡ true → (b && nat_eq q.next q.ruling.dirty) ≡ false → q.next < q.ruling.dirty
-    less true is e = omega (arith, eqb-false q.next q.ruling.dirty e, kept.numbers.reserved)
-    less false is e = cc is
-
-    fits : (b c : Bool) → b ≡ true → (b && nat_le (2 ^ 62) (q.next + 2 * q.layout.window) || c) ≡ false → q.next + 2 * q.layout.window < 2 ^ 62
-    fits true c is e = leb-false (2 ^ 62) (q.next + 2 * q.layout.window) (first _ c e)
-      where
-        first : (a b : Bool) → (a || b) ≡ false → a ≡ false
-        first true b e = e
-        first false b e = refl
-    fits false c is e = cc is
+draw-facts o q n write rest kept none is = grind (arith, allowed, eqb-false, leb-false)
 
 pub keeps-draw : (o : Origin) (q : State) (n : ℕ) → Keeps o q → refusal q (Draw n) ≡ None → Keeps o (next_state q (Draw n))
 keeps-draw o q n kept none = by (writes_of (q.sessions n)) refl

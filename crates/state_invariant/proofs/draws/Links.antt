@@ -8,7 +8,7 @@ use Rattle.base.specs.declared.key.Key.{Key}
 use Rattle.base.specs.Keys.{lookup_key}
 use Rattle.base.specs.Commits.{Commit, Writes, writes_key}
 use Rattle.base.specs.Records.{is_committed}
-use Rattle.machine.specs.Machine.{State, Drew, Drawn, Version, BySession, ByCommit, drawn_at, drawn_of, begun_of, writes_of, state_drawn, unseen_by, conflict_of}
+use Rattle.machine.specs.Machine.{State, Drew, Drawn, Version, BySession, ByCommit, drawn_at, begun_of, writes_of, state_drawn, conflict_of}
 use Rattle.base.proofs.Lists.{all-take}
 use Rattle.state_invariant.specs.Kept.{Origin, Keeps, version_by}
 use Rattle.state_invariant.specs.Links.{last_row, IsFreeToDraw, ComesAfter, by_session, by_draw, by_commit, LinksTo, Links}
@@ -28,13 +28,7 @@ none-at p (x ∷ cs) (suc from) (suc place) c none low at = none-at p cs from pl
 
 -- a session that meets no conflict may draw each key that it writes
 pub free-to-draw : (q : State) (n : ℕ) (key : Key) → conflict_of q n ≡ None → is_some (lookup_key (writes_of (q.sessions n)) key) ≡ true → IsFreeToDraw q n key
-free-to-draw q n key alone has =
-    let none : list_any (writes_key key) (unseen_by q n) ≡ false = key-found key (writes_of (q.sessions n)) (λ key. list_any (writes_key key) (unseen_by q n)) has alone in
-    let parts = or_parts _ _ (sym (list_any-append (writes_key key) (drop (begun_of (q.sessions n)) q.history) (drawn_of q)) ∙ none) in
-    record {
-      covered = λ place c low at. none-at (writes_key key) q.history (begun_of (q.sessions n)) place c parts.0 low at;
-      drawn = λ t d found. unlike-drawn q n key t d alone has found;
-    }
+free-to-draw q n key alone has = grind (arith, key-found, or_parts, list_any-append, none-at, unlike-drawn)
 
 -- the last row's timestamp was drawn
 last-before : (o : Origin) (q : State) (t : ℕ) (key : Key) (commits : List Commit) → Keeps o q → list_all (λ c. is_committed q.ruling c.timestamp) commits ≡ true → last_row commits key ≡ Some t → t < q.next
@@ -65,10 +59,7 @@ module _ (o : Origin) (q : State) (n : ℕ) (write : Key × Option (List ℕ)) (
 
   -- a version of an earlier commit held its slot before
   held-was : (slot t : ℕ) (key : Key) → t < q.next → then.held slot ≡ Some (version_by key (ByCommit t)) → q.held slot ≡ Some (version_by key (ByCommit t))
-  held-was slot t key before held = elim (held-drawn n q.next (q.held slot) (version_by key (ByCommit t)) held) [
-    | inl turned ↦ absurd (omega (arith, before, same-writer t q.next turned.1))
-    | inr stays ↦ stays.0
-  ]
+  held-was slot t key before held = grind (arith, held-drawn, same-writer)
 
   apart-next : (t : ℕ) (d : Drawn) → drawn_at q t ≡ Some d → t ≢ q.next
   apart-next t d found same = let clash : Some d ≡ None = sym found ∙ ap (drawn_at q) same ∙ drawn_at-next o q kept.numbers in absurd (cc clash)

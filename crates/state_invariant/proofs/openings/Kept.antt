@@ -1,6 +1,6 @@
 -- An opened state keeps what every state keeps, and its slots show what it says.
-use Rattle.std.proofs.Common.{◌≡◌, ◌⊎◌, inl, inr, ℕ, ◌+◌, ◌-◌, ◌*◌, ◌^◌, ◌<◌, ◌≤◌, Bool, true, false, not, ◌&&◌, ◌||◌, List, [], ◌∷◌, ◌++◌, length, take, drop, refl, sym, ◌∙◌, ap, subst, nat_eq, cond, arith}
-use Rattle.std.specs.Prelude.{slice_index, Option, Some, None, unwrap_or, is_some, fold, nat_le, nat_lt, if◌then◌else◌}
+use Rattle.std.proofs.Common.{◌≡◌, ◌⊎◌, inl, inr, ℕ, ◌+◌, ◌-◌, ◌*◌, ◌^◌, ◌<◌, ◌≤◌, Bool, true, false, not, ◌&&◌, ◌||◌, List, [], ◌∷◌, length, take, drop, refl, sym, ◌∙◌, ap, subst, nat_eq, cond, arith}
+use Rattle.std.specs.Prelude.{slice_index, Option, Some, None, unwrap_or, is_some, fold, nat_le, nat_lt}
 use Rattle.std.specs.List.{list_all}
 use Rattle.std.proofs.lemmas.List.{take_all, drop_all}
 use Rattle.std.proofs.lemmas.Bool.{and_parts, and_from, and_right, and_cases, or_parts, or_left, cases_order, leb-false, le-leb, lt-ltb, eq-eqb, not-true, not-false, cond-true, cond-false, false≢true, true≢false}
@@ -11,7 +11,7 @@ use Rattle.base.specs.Keys.{key_eq, lookup_key}
 use Rattle.base.specs.Commits.{Commit, Tables, overlaid, laid, no_rows, writes_key, after, last_writer}
 use Rattle.base.specs.Layout.{Layout}
 use Rattle.base.specs.Records.{Record, is_in, is_committed, opened_gaps}
-use Rattle.base.specs.Images.{Image, layout_of, key_of, row_of, begin_of, end_of, is_shown, is_ahead, is_misfit, is_second, ruling, is_bad_slot, opening_fault}
+use Rattle.base.specs.Images.{Image, layout_of, key_of, row_of, begin_of, end_of, is_shown, is_misfit, is_second, ruling, is_bad_slot, opening_fault}
 use Rattle.base.specs.Search.{first_below}
 use Rattle.base.specs.Stands.{Stands}
 use Rattle.machine.specs.Openings.{IsOpenedGaps, IsUpToDate, OpensAs, opening_record, opened_under, held_under, gaps_kept, opened_slots}
@@ -23,7 +23,7 @@ use Rattle.base.proofs.Keys.{key_eq-same}
 use Rattle.base.proofs.Options.{is_some-none}
 use Rattle.base.proofs.Search.{first_below-none}
 use Rattle.base.proofs.Layouts.{has_window}
-use Rattle.state_invariant.specs.Kept.{Origin, origin_of, Keeps, HasSlot, IsInUse, wanted, version_by, last_of, commit_at, row_by, are_distinct}
+use Rattle.state_invariant.specs.Kept.{Origin, origin_of, Keeps, HasSlot, IsInUse, wanted, version_by, last_of, are_distinct}
 use Rattle.state_invariant.specs.Shown.{word_of, IsNever, IsHidden, IsNewest, ShowsAs, SlotsShow, class_of_version, Newest, Replaced}
 use Rattle.state_invariant.proofs.Commits.{committed-bounds}
 use Rattle.state_invariant.proofs.Spelling.{spells-image}
@@ -42,15 +42,7 @@ live-parts true misfit second e is = or_parts misfit second e
 live-parts false misfit second e is = absurd (false≢true is)
 
 good-slot : (r : Record) (image : Image) (slot : ℕ) → is_bad_slot r image slot ≡ false → IsGood r image slot
-good-slot r image slot e =
-    let both = or_parts (is_ahead r image slot) (is_shown r image slot && (is_misfit image slot || is_second r image slot)) e in
-    let marks = or_parts (nat_le r.dirty (begin_of image slot)) (nat_le r.dirty (end_of image slot)) both.0 in
-    record {
-      begin = leb-false r.dirty (begin_of image slot) marks.0;
-      end = leb-false r.dirty (end_of image slot) marks.1;
-      fits = λ is. (live-parts (is_shown r image slot) (is_misfit image slot) (is_second r image slot) both.1 is).0;
-      first = λ is. (live-parts (is_shown r image slot) (is_misfit image slot) (is_second r image slot) both.1 is).1;
-    }
+good-slot r image slot e = grind (arith, or_parts, leb-false, live-parts)
 
 -- two live slots of a key are one
 one-lower : (r : Record) (image : Image) (lower slot : ℕ) → lower < slot → IsGood r image slot → is_shown r image lower ≡ true → is_shown r image slot ≡ true → key_of image lower ≡ key_of image slot → ⊥
@@ -62,12 +54,7 @@ one-lower r image lower slot less good live_lower live same =
     false≢true (sym (first_below-none slot test none lower less) ∙ both)
 
 one-live : (r : Record) (image : Image) (a b : ℕ) → IsGood r image a → IsGood r image b → is_shown r image a ≡ true → is_shown r image b ≡ true → key_of image a ≡ key_of image b → a ≡ b
-one-live r image a b good_a good_b live_a live_b same = by (cases_order a b)
-  where
-    by : (a ≡ b) ⊎ ((a < b) ⊎ (b < a)) → a ≡ b
-    by (inl is) = is
-    by (inr (inl less)) = absurd (one-lower r image a b less good_b live_a live_b same)
-    by (inr (inr more)) = absurd (one-lower r image b a more good_a live_b live_a (sym same))
+one-live r image a b good_a good_b live_a live_b same = grind (arith, cases_order, one-lower)
 
 -- ---- the versions that live slots are given
 
@@ -115,12 +102,7 @@ narrower dirty window limit h = omega (arith, h)
 -- what the opened record doesn't commit, though it lies below the old dirty timestamp, is 0 or in a gap
 never-parts : (t persisted : ℕ) (i : Bool) → t ≤ persisted → (nat_le 1 t && nat_le t persisted && not i && not false) ≡ false → (t ≡ 0) ⊎ (i ≡ true)
 never-parts t persisted true h e = inr refl
-never-parts t persisted false h e = inl (by (nat_le 1 t) (nat_le t persisted) refl (le-leb t persisted h) e)
-  where
-    by : (b c : Bool) → nat_le 1 t ≡ b → c ≡ true → (b && c && true && true) ≡ false → t ≡ 0
-    by true true is most e = absurd (true≢false e)
-    by true false is most e = absurd (false≢true most)
-    by false c is most e = let less = leb-false 1 t is in omega (arith, less)
+never-parts t persisted false h e = grind (arith, le-leb, true≢false, false≢true, leb-false)
 
 never-over : (a : Layout) (r : Record) (gaps : List Gap) (t : ℕ) → IsOpenedGaps r gaps → t < r.dirty → is_committed r t ≡ false → (t ≡ 0) ⊎ (is_in gaps t ≡ true)
 never-over a r gaps t opened h e = never-parts t (r.dirty - 1) (is_in gaps t) (omega (arith, h)) (same-committed a r gaps t opened h ∙ e)
@@ -163,10 +145,7 @@ module _ (a : Layout) (r : Record) (image : Image) (history : List Commit) (lost
   none-since = drop_all (length history) history (omega arith)
 
   wanted-opened : (key : Key) (row : List ℕ) → after history key ≡ Some row → wanted begins start (version_by key (ByCommit (last_writer history key))) ≡ Some row
-  wanted-opened key row is =
-      ap (λ (cs : List Commit). row_by begins start key (last_writer history key) (commit_at (cs ++ []) (last_writer history key))) none-since
-      ∙ ap (λ (cs : List Commit). if nat_eq (last_writer cs key) (last_writer history key) then after cs key else None) all-taken
-      ∙ ap (λ (b : Bool). if b then after history key else None) (eq-eqb (last_writer history key) (last_writer history key) refl) ∙ is
+  wanted-opened key row is = grind (arith, none-since, all-taken, eq-eqb)
 
   opened-keeps : Keeps begins start
   opened-keeps = record {
@@ -258,10 +237,7 @@ module _ (a : Layout) (r : Record) (image : Image) (history : List Commit) (lost
   end-value slot = ap (λ (l : Layout). slice_index image (word_of l slot 1)) (sym opening.layout)
 
   never : (t : ℕ) → t < r.dirty → is_committed r t ≡ false → IsNever begins start t
-  never t h e = elim (never-over a r gaps t opening.gaps_cover h e) [
-    | inl none ↦ inl none
-    | inr inside ↦ inr (refl, inside)
-  ]
+  never t h e = grind (arith, never-over)
 
   shows-live : (slot : ℕ) → slot < a.slots → is_shown r image slot ≡ true → IsNewest begins start value slot (last_writer history (key_of image slot)) (key_of image slot) (row_of image slot)
   shows-live slot h live =

@@ -1,14 +1,13 @@
 -- Which version each one names, over a put.
-use Rattle.std.proofs.Common.{◌≡◌, ◌≢◌, ◌⊎◌, inl, inr, ℕ, ◌+◌, ◌<◌, true, List, length, take, refl, sym, ◌∙◌, ap, subst, arith, Option, Some, None, slice_get}
+use Rattle.std.proofs.Common.{◌≡◌, ◌≢◌, ◌⊎◌, inl, inr, ℕ, ◌+◌, ◌<◌, true, List, length, take, refl, sym, ◌∙◌, ap, subst, arith, Some, None, slice_get}
 use Rattle.std.specs.Prelude.{find, nat_eq}
 use Rattle.std.proofs.lemmas.Bool.{cases_eq}
 use Rattle.std.proofs.lemmas.List.{take_all}
 use Rattle.base.specs.declared.key.Key.{Key}
 use Rattle.base.specs.declared.step.Step.TheVariants.{Put}
-use Rattle.base.specs.Commits.{Commit, with_write}
+use Rattle.base.specs.Commits.{Commit}
 use Rattle.base.specs.Layout.{Layout}
-use Rattle.base.specs.Lists.{replaced}
-use Rattle.machine.specs.Machine.{State, Active, Drawn, Version, BySession, ByCommit, drawn_at, begun_of, writes_of, own_slot, free_slot, held_with, held_at, held_after_put, next_state, refusal}
+use Rattle.machine.specs.Machine.{State, Drawn, Version, BySession, ByCommit, drawn_at, begun_of, held_after_put, next_state, refusal}
 use Rattle.state_invariant.specs.Kept.{Origin, Keeps, version_by}
 use Rattle.state_invariant.specs.Links.{last_row, IsFreeToDraw, ComesAfter, by_session, by_draw, by_commit, LinksTo, Links, NamesNewest, SameRows}
 use Rattle.state_invariant.specs.Shown.{SameWords, StoresPut, StopsPut}
@@ -33,10 +32,7 @@ pub record Puts (q q' : State) (value new : ℕ → ℕ) (slot n : ℕ) (key : K
 
 module _ (o : Origin) (q q' : State) (value new : ℕ → ℕ) (slot n : ℕ) (key : Key) (p : Puts q q' value new slot n key) (links : Links o q value) where
   free-was : (m : ℕ) (k : Key) → IsFreeToDraw q' m k → IsFreeToDraw q m k
-  free-was m k free = record {
-    covered = λ place c low at. free.covered place c (omega (arith, low, p.begun m)) (ap (λ (cs : List Commit). slice_get cs place) p.history ∙ at);
-    drawn = λ t d found. free.drawn t d (ap (λ (ds : List Drawn). find (λ (d : Drawn). nat_eq d.commit.timestamp t) ds) p.drawn ∙ found);
-  }
+  free-was m k free = grind arith
 
   found-was : (t : ℕ) (d : Drawn) → drawn_at q' t ≡ Some d → drawn_at q t ≡ Some d
   found-was t d found = ap (λ (ds : List Drawn). find (λ (d : Drawn). nat_eq d.commit.timestamp t) ds) (sym p.drawn) ∙ found
@@ -51,24 +47,10 @@ module _ (o : Origin) (q q' : State) (value new : ℕ → ℕ) (slot n : ℕ) (k
 
   -- the versions of commits are where they were
   commit-was : (earlier t : ℕ) (k : Key) → q'.held earlier ≡ Some (version_by k (ByCommit t)) → (earlier ≢ slot) × (q.held earlier ≡ Some (version_by k (ByCommit t)))
-  commit-was earlier t k held = (apart, sym (p.others earlier apart) ∙ held)
-    where
-      apart : earlier ≢ slot
-      apart same =
-          let both : Some (version_by k (ByCommit t)) ≡ Some (version_by key (BySession n)) = sym held ∙ ap q'.held same ∙ p.here in
-          let one : version_by k (ByCommit t) ≡ version_by key (BySession n) = cc both in
-          let writers : ByCommit t ≡ BySession n = ap (λ (v : Version). v.writer) one in
-          absurd (cc writers)
+  commit-was earlier t k held = grind arith
 
   own : (place t earlier : ℕ) (v : Version) → v ≡ version_by key (BySession n) → ComesAfter o q' v place → last_row (take place q'.history) v.key ≡ Some t → earlier < q.layout.slots → q.held earlier ≡ Some (version_by v.key (ByCommit t)) → LinksTo q.layout new slot (earlier + 1)
-  own place t earlier v is (by_session m k up free) last low there =
-      let keys : k ≡ key = ap (λ (v : Version). v.key) is in
-      let writers : BySession m ≡ BySession n = ap (λ (v : Version). v.writer) is in
-      let same : m ≡ n = cc writers in
-      let free_there : IsFreeToDraw q n key = subst (λ (x : Key). IsFreeToDraw q n x) keys (subst (λ (x : ℕ). IsFreeToDraw q x k) same (free-was m k free)) in
-      p.names free_there t earlier
-      (ap (λ (x : Key). last_row q.history x) (sym keys) ∙ ap (λ (cs : List Commit). last_row cs k) (sym (take_all (length q'.history) q.history (omega (arith, length-put)))) ∙ ap (λ (cs : List Commit). last_row (take (length q'.history) cs) k) (sym p.history) ∙ last)
-      low (there ∙ ap (λ (x : Key). Some (version_by x (ByCommit t))) keys)
+  own place t earlier v is (by_session m k up free) last low there = grind (arith, free-was, take_all, length-put)
   own place t earlier v is (by_draw u k d found writes) last low there = let writers : ByCommit u ≡ BySession n = ap (λ (v : Version). v.writer) is in absurd (cc writers)
   own place t earlier v is (by_commit u at k c since found is_at writes) last low there = let writers : ByCommit u ≡ BySession n = ap (λ (v : Version). v.writer) is in absurd (cc writers)
 
@@ -100,11 +82,7 @@ module _ (o : Origin) (q : State) (n : ℕ) (key : Key) (row : List ℕ) (kept :
   then = next_state q (Put n key row)
 
   begun-same : (m : ℕ) → begun_of (then.sessions m) ≡ begun_of (q.sessions m)
-  begun-same m = by (cases_eq m n)
-    where
-      by : (m ≡ n) ⊎ (m ≢ n) → begun_of (then.sessions m) ≡ begun_of (q.sessions m)
-      by (inl same) = ap begun_of (replaced-same n (Some (Active (begun_of (q.sessions n)) (with_write key (Some row) (writes_of (q.sessions n))))) q.sessions m same) ∙ ap (λ (k : ℕ). begun_of (q.sessions k)) (sym same)
-      by (inr apart) = ap begun_of (replaced-other n (Some (Active (begun_of (q.sessions n)) (with_write key (Some row) (writes_of (q.sessions n))))) q.sessions m apart)
+  begun-same m = grind (arith, cases_eq, replaced-same, replaced-other)
 
   links-stored : StoresPut q.layout value new slot key row → NamesNewest q new slot n key → Links o q value → Links o then new
   links-stored stores names links = links-put o q then value new slot n key record {
@@ -121,19 +99,7 @@ module _ (o : Origin) (q : State) (n : ℕ) (key : Key) (row : List ℕ) (kept :
 
   -- whatever held the slot before is the session's
   own-version : (v : Version) → q.held slot ≡ Some v → v.writer ≡ BySession n
-  own-version v at = by (own_slot q n key) refl (free_slot q) refl
-    where
-      is : q.held slot ≡ Some (version_by key (BySession n)) → v.writer ≡ BySession n
-      is own = let both : Some v ≡ Some (version_by key (BySession n)) = sym at ∙ own in let same : v ≡ version_by key (BySession n) = cc both in ap (λ (w : Version). w.writer) same
-
-      taken : (f : ℕ) → free_slot q ≡ Some f → (slot ≡ f) ⊎ (slot ≢ f) → replaced f (Some (version_by key (BySession n))) q.held slot ≡ Some (version_by key (BySession n)) → v.writer ≡ BySession n
-      taken f free (inl same) now = let clash : ◌≡◌ {A = Option Version} None (Some v) = sym (free_slot-some q f free).1 ∙ ap q.held (sym same) ∙ at in absurd (cc clash)
-      taken f free (inr apart) now = is (sym (replaced-other f (Some (version_by key (BySession n))) q.held slot apart) ∙ now)
-
-      by : (a : Option ℕ) → own_slot q n key ≡ a → (b : Option ℕ) → free_slot q ≡ b → v.writer ≡ BySession n
-      by (Some own) found b free = is (sym (ap (λ (x : Option ℕ). held_with q (version_by key (BySession n)) x slot) found) ∙ held)
-      by None out None free = is (sym (ap (λ (x : Option ℕ). held_with q (version_by key (BySession n)) x slot) out ∙ ap (λ (x : Option ℕ). held_at x (version_by key (BySession n)) q.held slot) free) ∙ held)
-      by None out (Some f) free = taken f free (cases_eq slot f) (sym (ap (λ (x : Option ℕ). held_with q (version_by key (BySession n)) x slot) out ∙ ap (λ (x : Option ℕ). held_at x (version_by key (BySession n)) q.held slot) free) ∙ held)
+  own-version v at = grind (arith, own, free_slot-some, replaced-other, cases_eq)
 
   links-stopped : StopsPut q.layout value new slot → Links o q value → Links o (record q { failed = true }) new
   links-stopped stops links = links-stores o (record q { failed = true }) value new (λ s v lt_s at. by s v lt_s at (cases_eq s slot)) (links-failed o q value links)

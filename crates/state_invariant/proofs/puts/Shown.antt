@@ -4,10 +4,10 @@ use Rattle.std.specs.Prelude.{unwrap_or, IsTrue}
 use Rattle.std.proofs.lemmas.Bool.{cases_eq}
 use Rattle.base.specs.declared.key.Key.{Key}
 use Rattle.base.specs.declared.step.Step.TheVariants.{Put}
-use Rattle.machine.specs.Machine.{State, Active, Version, Writer, BySession, begun_of, held_with, held_at, held_after_put, own_slot, free_slot, next_state, refusal}
+use Rattle.machine.specs.Machine.{State, Active, Version, Writer, BySession, begun_of, held_after_put, next_state, refusal}
 use Rattle.base.proofs.Layouts.{line-words}
-use Rattle.state_invariant.specs.Kept.{Origin, Keeps, wanted, version_by}
-use Rattle.state_invariant.specs.Shown.{word_of, Spells, IsNever, is_drawn_on, Class, Free, Waiting, Begun, Newest, Replaced, class_of, class_of_version, HasBegun, IsHidden, ShowsAs, SlotShows, SlotsShow, SameWords, StoresPut, StopsPut}
+use Rattle.state_invariant.specs.Kept.{Origin, Keeps, version_by}
+use Rattle.state_invariant.specs.Shown.{word_of, Spells, is_drawn_on, Class, Free, Waiting, Begun, Newest, Replaced, class_of, class_of_version, HasBegun, IsHidden, ShowsAs, SlotShows, SlotsShow, SameWords, StoresPut, StopsPut}
 use Rattle.state_invariant.proofs.Lookups.{replaced-other}
 use Rattle.state_invariant.proofs.Spelling.{spells-same}
 use Rattle.state_invariant.proofs.steps.Refusals.{allowed, active}
@@ -37,12 +37,7 @@ shows-values o q value new slot class same shows = by class shows
       spells = λ up. spells key row (w.spells up);
     }
     by (Begun t key row) w = record { begin = begin-is ∙ w.begin; end = end-is ∙ w.end; spells = spells key row w.spells }
-    by (Newest t key row) w = record {
-      begin = subst (HasBegun o t) (sym begin-is) w.begin;
-      end = subst (λ (e : ℕ). IsNever o q e ⊎ IsTrue (is_drawn_on q key e)) (sym end-is) w.end;
-      ended = λ u d found is. end-is ∙ w.ended u d found is;
-      spells = spells key row w.spells;
-    }
+    by (Newest t key row) w = grind (arith, begin-is, end-is, spells)
     by (Replaced t key row) w = record { begin = subst (HasBegun o t) (sym begin-is) w.begin; ended = λ u f. end-is ∙ w.ended u f; spells = spells key row w.spells }
 
 -- ---- a put
@@ -57,20 +52,7 @@ module _ (o : Origin) (q : State) (n : ℕ) (key : Key) (row : List ℕ) (kept :
 
   -- the other slots are held as before
   pub held-other : (s : ℕ) → s ≢ slot → held_after_put q n key s ≡ q.held s
-  held-other s apart = by (own_slot q n key) refl (free_slot q) refl
-    where
-      taken : (at : ℕ) → own_slot q n key ≡ None → free_slot q ≡ Some at → (slot ≡ at) ⊎ (slot ≢ at) → slot ≡ at
-      taken at out free (inl same) = same
-      taken at out free (inr other) =
-          absurd (own_slot-none q n key out slot lt
-          (sym (ap (λ (x : Option ℕ). held_with q (version_by key (BySession n)) x slot) out ∙ ap (λ (x : Option ℕ). held_at x (version_by key (BySession n)) q.held slot) free ∙ replaced-other at (Some (version_by key (BySession n))) q.held slot other) ∙ held))
-
-      by : (a : Option ℕ) → own_slot q n key ≡ a → (b : Option ℕ) → free_slot q ≡ b → held_with q (version_by key (BySession n)) (own_slot q n key) s ≡ q.held s
-      by (Some own) found b free = ap (λ (x : Option ℕ). held_with q (version_by key (BySession n)) x s) found
-      by None out None free = ap (λ (x : Option ℕ). held_with q (version_by key (BySession n)) x s) out ∙ ap (λ (x : Option ℕ). held_at x (version_by key (BySession n)) q.held s) free
-      by None out (Some at) free =
-          ap (λ (x : Option ℕ). held_with q (version_by key (BySession n)) x s) out ∙ ap (λ (x : Option ℕ). held_at x (version_by key (BySession n)) q.held s) free
-          ∙ replaced-other at (Some (version_by key (BySession n))) q.held s (λ same. apart (same ∙ sym (taken at out free (cases_eq slot at))))
+  held-other s apart = grind (arith, own_slot-none, replaced-other, cases_eq)
 
   not-own : (s : ℕ) → s < q.layout.slots → s ≢ slot → q.held s ≡ Some (version_by key (BySession n)) → ⊥
   not-own s lt_s apart own = apart (keeps-then.owns.once s slot (version_by key (BySession n)) lt_s lt (held-other s apart ∙ own) held)
@@ -109,19 +91,7 @@ module _ (o : Origin) (q : State) (n : ℕ) (key : Key) (row : List ℕ) (kept :
   -- what the slot was that the put takes: free, or the session's own
   class-before : (x : Option Version) → q.held slot ≡ x → (class_of_version o q x ≡ Free) ⊎ ((k : Key) × (r : List ℕ) × (class_of_version o q x ≡ Waiting k r))
   class-before None at = inl refl
-  class-before (Some v) at = by (own_slot q n key) refl (free_slot q) refl
-    where
-      own : Some v ≡ Some (version_by key (BySession n)) → (class_of_version o q (Some v) ≡ Free) ⊎ ((k : Key) × (r : List ℕ) × (class_of_version o q (Some v) ≡ Waiting k r))
-      own same = inr (key, unwrap_or (wanted o q (version_by key (BySession n))) [], ap (class_of_version o q) same)
-
-      by : (a : Option ℕ) → own_slot q n key ≡ a → (b : Option ℕ) → free_slot q ≡ b → (class_of_version o q (Some v) ≡ Free) ⊎ ((k : Key) × (r : List ℕ) × (class_of_version o q (Some v) ≡ Waiting k r))
-      by (Some s) found b free = own (sym at ∙ sym (ap (λ (x : Option ℕ). held_with q (version_by key (BySession n)) x slot) found) ∙ held)
-      by None out None free = own (sym at ∙ sym (ap (λ (x : Option ℕ). held_with q (version_by key (BySession n)) x slot) out ∙ ap (λ (x : Option ℕ). held_at x (version_by key (BySession n)) q.held slot) free) ∙ held)
-      by None out (Some s) free = place (cases_eq slot s)
-        where
-          place : (slot ≡ s) ⊎ (slot ≢ s) → (class_of_version o q (Some v) ≡ Free) ⊎ ((k : Key) × (r : List ℕ) × (class_of_version o q (Some v) ≡ Waiting k r))
-          place (inl same) = let e : Some v ≡ None = sym at ∙ ap q.held same ∙ (free_slot-some q s free).1 in cc e
-          place (inr apart) = own (sym at ∙ sym (ap (λ (x : Option ℕ). held_with q (version_by key (BySession n)) x slot) out ∙ ap (λ (x : Option ℕ). held_at x (version_by key (BySession n)) q.held slot) free ∙ replaced-other s (Some (version_by key (BySession n))) q.held slot apart) ∙ held)
+  class-before (Some v) at = grind (arith, cases_eq, free_slot-some, replaced-other)
 
   -- where the device stops it, the slot's begin is 0 already, or its words are as they were
   shows-stopped_put : (value new : ℕ → ℕ) → StopsPut q.layout value new slot → SlotsShow o q value → SlotsShow o (record q { failed = true }) new

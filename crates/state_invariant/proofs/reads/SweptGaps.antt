@@ -1,6 +1,6 @@
 -- What a snapshot sees of a slot, whatever it says of timestamps in swept gaps.
 use Rattle.std.proofs.Common.{◌≡◌, ◌≢◌, ◌⊎◌, inl, inr, ℕ, ◌<◌, Bool, true, false, cond, not, ◌&&◌, ◌||◌, List, [], ◌∷◌, refl, sym, ◌∙◌, ap, subst, arith, Option, Some, None, true≢false}
-use Rattle.std.specs.Prelude.{nat_eq, nat_le, unwrap_or, find}
+use Rattle.std.specs.Prelude.{nat_eq, unwrap_or, find}
 use Rattle.std.specs.List.{list_any}
 use Rattle.std.proofs.lemmas.Bool.{cases_eq, eq-eqb, ne_eqb, leb-true, leb-false, and_right}
 use Rattle.base.specs.declared.key.Key.{Key}
@@ -21,11 +21,7 @@ module _ (o : Origin) (q : State) (kept : Keeps o q) where
   out-above t above = above-gaps q.layout.version o.ruling t kept.numbers.origin.formed above
 
   out-committed : (t : ℕ) → is_committed o.ruling t ≡ true → is_in o.ruling.gaps t ≡ false
-  out-committed t is = by (is_in o.ruling.gaps t) refl
-    where
-      by : (b : Bool) → is_in o.ruling.gaps t ≡ b → b ≡ false
-      by false e = refl
-      by true e = absurd (true≢false (sym is ∙ uncommitted-gap o.ruling t e))
+  out-committed t is = grind (arith, true≢false, uncommitted-gap)
 
   pub out-counted : (n t : ℕ) → counts_at o q n t ≡ true → is_in o.ruling.gaps t ≡ false
   out-counted n t counts = by (is_committed o.ruling t) refl
@@ -35,11 +31,7 @@ module _ (o : Origin) (q : State) (kept : Keeps o q) where
       by false out = let p = counts-placed o q kept n t out counts in out-above t (omega (arith, p.is, above-origin o q kept p.place p.commit p.low p.at))
 
   out-begun : (t begin : ℕ) → HasBegun o t begin → is_in o.ruling.gaps begin ≡ false
-  out-begun t begin begun = by (nat_le t o.ruling.persisted) refl
-    where
-      by : (b : Bool) → nat_le t o.ruling.persisted ≡ b → is_in o.ruling.gaps begin ≡ false
-      by true le = out-committed begin (begun.earlier (leb-true t o.ruling.persisted le))
-      by false high = let above : o.ruling.persisted < t = leb-false t o.ruling.persisted high in out-above begin (omega (arith, above, begun.own above))
+  out-begun t begin begun = grind (arith, out-committed, leb-true, leb-false, out-above)
 
   drawn-on : (key : Key) (t : ℕ) → is_drawn_on q key t ≡ true → (d : Drawn) × (drawn_at q t ≡ Some d)
   drawn-on key t on = some q.drawn on
@@ -167,10 +159,7 @@ module _ (o : Origin) (q : State) (kept : Keeps o q) where
         let shows : IsNewest o q value slot t key (unwrap_or (wanted o q (version_by key (ByCommit t))) []) =
         subst (λ (b : Bool). ShowsAs o q value slot (cond b (Newest t key (unwrap_or (wanted o q (version_by key (ByCommit t))) [])) (Replaced t key (unwrap_or (wanted o q (version_by key (ByCommit t))) [])))) (eq-eqb (last_writer q.history key) t last) w in
         open-out key shows.end
-    newest-out key t held undrawn (inr old) w =
-        let shows : IsReplaced o q value slot t key (unwrap_or (wanted o q (version_by key (ByCommit t))) []) =
-        subst (λ (b : Bool). ShowsAs o q value slot (cond b (Newest t key (unwrap_or (wanted o q (version_by key (ByCommit t))) [])) (Replaced t key (unwrap_or (wanted o q (version_by key (ByCommit t))) [])))) (ne_eqb (last_writer q.history key) t old) w in
-        (λ swept. out-above its_end (replaced-above o q kept value slot lt key t held undrawn (unwrap_or (wanted o q (version_by key (ByCommit t))) []) shows old))
+    newest-out key t held undrawn (inr old) w = grind (arith, ne_eqb, out-above, replaced-above)
 
     drawn-out : (key : Key) (t : ℕ) → q.held slot ≡ Some (version_by key (ByCommit t)) → (d : Option Drawn) → drawn_at q t ≡ d → ShowsAs o q value slot (class_of_drawn q key t (unwrap_or (wanted o q (version_by key (ByCommit t))) []) d) → IsOutOfSwept o q its_end
     drawn-out key t held None undrawn w = newest-out key t held undrawn (cases_eq (last_writer q.history key) t) w

@@ -2,7 +2,6 @@
 use Rattle.std.proofs.Common.{◌||◌, ◌≡◌, ◌⊎◌, inl, inr, ℕ, suc, ◌<◌, ◌≤◌, Bool, true, false, cond, not, ◌&&◌, List, [], ◌∷◌, length, take, drop, refl, sym, ◌∙◌, ap, subst, arith, Option, Some, None, slice_get, true≢false}
 use Rattle.std.specs.Prelude.{nat_eq, nat_lt, unwrap_or, IsTrue, slice_index, find}
 use Rattle.std.specs.List.{list_any}
-use Rattle.std.specs.Option.{option_map, option_or}
 use Rattle.std.proofs.lemmas.Bool.{eq-eqb, eqb-true, and_parts, and_from, or_left, or_right, ltb-true, not_from_false, false_from_ne_true, false≢true, not-true}
 use Rattle.std.proofs.lemmas.List.{take_all}
 use Rattle.std.proofs.lemmas.Option.{slice_get_within}
@@ -13,11 +12,11 @@ use Rattle.base.specs.Layout.{Layout, total_words}
 use Rattle.base.specs.Records.{is_committed}
 use Rattle.base.specs.Images.{Image, layout_of, begin_of, end_of, is_live, Shown}
 use Rattle.base.specs.Stands.{has_timestamp}
-use Rattle.machine.specs.Machine.{State, Drawn, Version, Writer, BySession, ByCommit, drawn_at, drawn_of}
+use Rattle.machine.specs.Machine.{State, Drawn, Version, Writer, BySession, ByCommit, drawn_at}
 use Rattle.base.proofs.Lists.{all-take}
 use Rattle.base.proofs.Options.{option_or-none}
 use Rattle.state_invariant.specs.Kept.{Origin, KeepsOrigin, Keeps, IsInUse, wanted, row_by, row_in, commit_at, commits_of_life, covered_since, version_by, last_of}
-use Rattle.state_invariant.specs.Shown.{CanBeRead, word_of, HasVersion, Spells, IsNever, counts_at, is_drawn_on, is_key_stamped, Follows, Waiting, Begun, Newest, Replaced, class_of_version, class_by, class_of_drawn, HasBegun, IsHidden, IsWaiting, ShowsAs, SlotShows, SlotsShow, ReadsAs}
+use Rattle.state_invariant.specs.Shown.{CanBeRead, word_of, HasVersion, Spells, IsNever, counts_at, is_drawn_on, is_key_stamped, Follows, Waiting, Begun, Newest, Replaced, class_of_version, class_by, class_of_drawn, HasBegun, IsWaiting, ShowsAs, SlotShows, SlotsShow, ReadsAs}
 use Rattle.state_invariant.proofs.Lookups.{find-all}
 use Rattle.state_invariant.proofs.Commits.{commit_at-append, commit_at-drawn, commit_at-timestamp, drawn_at-timestamp, committed-bounds, uncommitted-gap, uncommitted-above}
 use Rattle.state_invariant.proofs.Records.{above-gaps}
@@ -50,11 +49,7 @@ module _ (o : Origin) (q : State) (kept : Keeps o q) where
 
   -- a timestamp counts when a commit of the life has it
   pub counts-placed : (n t : ℕ) → is_committed o.ruling t ≡ false → counts_at o q n t ≡ true → IsPlaced q.history o.opened n t
-  counts-placed n t out counts = placed q.history o.opened n t (second (is_committed o.ruling t) (has_timestamp (drop o.opened (take n q.history)) t) out counts)
-    where
-      second : (a b : Bool) → a ≡ false → (a || b) ≡ true → b ≡ true
-      second true b e f = absurd (true≢false e)
-      second false b e f = f
+  counts-placed n t out counts = grind (arith, placed, true≢false)
 
   uncounted : (n t : ℕ) → is_committed o.ruling t ≡ false → (IsPlaced q.history o.opened n t → ⊥) → counts_at o q n t ≡ false
   uncounted n t out nowhere = false_from_ne_true (counts_at o q n t) (λ counts. nowhere (counts-placed n t out counts))
@@ -147,10 +142,7 @@ module _ (o : Origin) (q : State) (kept : Keeps o q) where
       by (commit_at (covered_since o q) t) refl (ap (row_by o q key t) (sym whole) ∙ is)
     where
       whole : commit_at (commits_of_life o q) t ≡ commit_at (covered_since o q) t
-      whole =
-          commit_at-append (covered_since o q) (drawn_of q) t
-          ∙ ap (λ (c : Option Commit). option_or (commit_at (covered_since o q) t) c) (commit_at-drawn q t ∙ ap (λ (d : Option Drawn). option_map (λ (d : Drawn). d.commit) d) undrawn)
-          ∙ option_or-none (commit_at (covered_since o q) t)
+      whole = grind (arith, commit_at-append, commit_at-drawn, option_or-none)
 
       by_test : (b : Bool) → nat_eq (last_writer (take o.opened q.history) key) t ≡ b → cond b (after (take o.opened q.history) key) None ≡ Some row → Started o q key row t begin
       by_test true same there = started-by_opening key row t begin (eqb-true (last_writer (take o.opened q.history) key) t same) there begun
@@ -230,11 +222,7 @@ module _ (o : Origin) (q : State) (kept : Keeps o q) where
       row = (kept.owns.has slot v lt held).0
 
       waiting : (key : Key) (r : List ℕ) → IsWaiting q value slot key r → ⊥
-      waiting key r w = by w.begin
-        where
-          by : (value (word_of q.layout slot 0) ≡ 0) ⊎ ((q.failed ≡ true) × IsTrue (is_drawn_on q key (value (word_of q.layout slot 0)))) → ⊥
-          by (inl none) = not-both _ begun (never-counts n (value (word_of q.layout slot 0)) (inl none))
-          by (inr (down, drawn)) = not-both _ begun (drawn_on-counts n (value (word_of q.layout slot 0)) key drawn)
+      waiting key r w = grind (arith, not-both, never-counts, drawn_on-counts)
 
       seen : (t : ℕ) → v.writer ≡ ByCommit t → (last_writer (take n q.history) v.key ≡ t) × (after (take n q.history) v.key ≡ Some row) → Spells q.layout value slot v.key (unwrap_or (wanted o q v) []) → (row : List ℕ) × IsSeen value n slot v.key row
       seen t by is spells = (
@@ -282,11 +270,7 @@ module _ (o : Origin) (q : State) (kept : Keeps o q) where
 
   -- a free slot isn't seen at a snapshot in use
   pub free-ended : (value : ℕ → ℕ) (n slot : ℕ) → IsInUse q n → SlotShows o q value slot → q.held slot ≡ None → counts_at o q n (value (word_of q.layout slot 0)) ≡ true → counts_at o q n (value (word_of q.layout slot 1)) ≡ true
-  free-ended value n slot in_use shows held begun = hidden (subst (λ (x : Option Version). ShowsAs o q value slot (class_of_version o q x)) held shows)
-    where
-      hidden : IsHidden o q (value (word_of q.layout slot 0)) (value (word_of q.layout slot 1)) → counts_at o q n (value (word_of q.layout slot 1)) ≡ true
-      hidden (inl none) = absurd (not-both _ begun (never-counts n (value (word_of q.layout slot 0)) none))
-      hidden (inr ended) = ended n in_use
+  free-ended value n slot in_use shows held begun = grind (arith, not-both, never-counts)
 
   pub slot-seen : (value : ℕ → ℕ) (n slot : ℕ) → IsInUse q n → slot < q.layout.slots → SlotShows o q value slot
       → counts_at o q n (value (word_of q.layout slot 0)) ≡ true → counts_at o q n (value (word_of q.layout slot 1)) ≡ false → (key : Key) × (row : List ℕ) × IsSeen value n slot key row
@@ -377,12 +361,7 @@ reads o q image n layout size kept shows in_use = record {
         (s.0, s.1, s.2.0, s.2.1, s.2.2)
 
     from_slot : (key : Key) (row : List ℕ) → Shown (counts_at o q n) image key row → after (take n q.history) key ≡ Some row
-    from_slot key row (slot, lt, live, at, is) =
-        let s = seen slot (subst (λ (l : Layout). slot < l.slots) layout lt) live in
-        let v = version slot s.0 s.1 s.4 in
-        let keys : s.0 ≡ key = sym v.at ∙ at in
-        let rows : s.1 ≡ row = sym v.is ∙ is in
-        subst (λ (k : Key). after (take n q.history) k ≡ Some row) keys (s.3 ∙ ap (λ (r : List ℕ). Some r) rows)
+    from_slot key row (slot, lt, live, at, is) = grind (arith, seen, version)
 
     to_slot : (key : Key) (row : List ℕ) → after (take n q.history) key ≡ Some row → Shown (counts_at o q n) image key row
     to_slot key row there =

@@ -1,5 +1,5 @@
 -- One session changes, and with it what it holds.
-use Rattle.std.proofs.Common.{◌≡◌, ◌≢◌, ◌⊎◌, inl, inr, ℕ, ◌<◌, ◌≤◌, Bool, true, false, cond, ◌&&◌, List, [], ◌∷◌, map, length, refl, sym, ◌∙◌, ap, subst, Option, Some, None}
+use Rattle.std.proofs.Common.{◌≡◌, ◌⊎◌, inl, inr, ℕ, ◌<◌, ◌≤◌, Bool, true, false, cond, ◌&&◌, List, [], ◌∷◌, map, length, refl, sym, ◌∙◌, ap, subst, Option, Some, None, arith}
 use Rattle.std.proofs.lemmas.Bool.{cases_eq, and_parts, and_from}
 use Rattle.base.specs.declared.key.Key.{Key}
 use Rattle.base.specs.Keys.{key_eq, key_lt, lookup_key, is_rising}
@@ -40,26 +40,10 @@ module _ (o : Origin) (q : State) (sessions : ℕ → Option Session) (held : �
   then = with_held q sessions held
 
   numbers-held : KeepsNumbers o then
-  numbers-held = let k = kept.numbers in record {
-    ruling = k.ruling;
-    drawn = k.drawn;
-    longs = k.longs;
-    hand = k.hand;
-    origin = k.origin;
-    snapshots = λ n begun writes is. let s = (each n).snapshot begun writes is in (s.0, s.1);
-    numbered = numbered;
-  }
+  numbers-held = grind arith
 
   draws-held : DrawsInOrder o then
-  draws-held = let k = kept.draws in record {
-    rising = k.rising;
-    apart = k.apart;
-    counted = k.counted;
-    in_order = k.in_order;
-    sorted = λ n. (each n).sorted;
-    drew = λ n t is. (each n).drew t is;
-    rises = k.rises;
-  }
+  draws-held = grind arith
 
   owns-held : HeldKeeps q sessions held → Owns o then
   owns-held h = record {
@@ -92,36 +76,19 @@ module _ (o : Origin) (q : State) (sessions : ℕ → Option Session) (held : �
 -- ---- sessions as they are
 
 pub session-keeps : (o : Origin) (q : State) (n : ℕ) → Keeps o q → SessionKeeps o q (q.sessions n)
-session-keeps o q n kept = record {
-  sorted = kept.draws.sorted n;
-  drew = λ t is. kept.draws.drew n t is;
-  snapshot = λ begun writes is. let s = kept.numbers.snapshots n begun writes is in (s.0, s.1, inr (n, writes, is));
-}
+session-keeps o q n kept = grind arith
 
 -- what each has, each has after one is set that has it
 pub each-set : (P : Option Session → Type 0) (n : ℕ) (s : Option Session) (sessions : ℕ → Option Session) → P s → ((m : ℕ) → P (sessions m)) → (m : ℕ) → P (replaced n s sessions m)
-each-set P n s sessions this each m = by (cases_eq m n)
-  where
-    by : (m ≡ n) ⊎ (m ≢ n) → P (replaced n s sessions m)
-    by (inl is) = subst P (sym (replaced-same n s sessions m is)) this
-    by (inr apart) = subst P (sym (replaced-other n s sessions m apart)) (each m)
+each-set P n s sessions this each m = grind (arith, cases_eq, replaced-same, replaced-other)
 
 -- one that is set where there was one, or at a session's number, or that ends
 pub numbered-set : (o : Origin) (q : State) (n : ℕ) (s : Option Session) → Keeps o q → IsSessionNumber n ⊎ (s ≡ None) → AreNumbered (replaced n s q.sessions)
-numbered-set o q n s kept this m session is = by (cases_eq m n) this
-  where
-    by : (m ≡ n) ⊎ (m ≢ n) → IsSessionNumber n ⊎ (s ≡ None) → IsSessionNumber m
-    by (inl same) (inl here) = subst IsSessionNumber (sym same) here
-    by (inl same) (inr none) = let both : ◌≡◌ {A = Option Session} None (Some session) = sym none ∙ sym (replaced-same n s q.sessions m same) ∙ is in absurd (cc both)
-    by (inr apart) either = kept.numbers.numbered m session (sym (replaced-other n s q.sessions m apart) ∙ is)
+numbered-set o q n s kept this m session is = grind (arith, cases_eq, replaced-same, replaced-other)
 
 -- a session that writes is open
 pub number-writing : (o : Origin) (q : State) (n : ℕ) (write : Key × Option (List ℕ)) (rest : Writes) → Keeps o q → writes_of (q.sessions n) ≡ write ∷ rest → IsSessionNumber n
-number-writing o q n write rest kept has = by (q.sessions n) refl
-  where
-    by : (s : Option Session) → q.sessions n ≡ s → IsSessionNumber n
-    by None is = let clash : ◌≡◌ {A = Writes} [] (write ∷ rest) = sym (ap writes_of is) ∙ has in absurd (cc clash)
-    by (Some s) is = kept.numbers.numbered n s is
+number-writing o q n write rest kept has = grind arith
 
 -- ---- a session that writes what it wrote
 
@@ -137,11 +104,7 @@ keeps-session o q n s kept its number same =
     }
   where
     writes : (m : ℕ) → writes_of (replaced n s q.sessions m) ≡ writes_of (q.sessions m)
-    writes m = by (cases_eq m n)
-      where
-        by : (m ≡ n) ⊎ (m ≢ n) → writes_of (replaced n s q.sessions m) ≡ writes_of (q.sessions m)
-        by (inl is) = ap writes_of (replaced-same n s q.sessions m is) ∙ same ∙ ap (λ (k : ℕ). writes_of (q.sessions k)) (sym is)
-        by (inr apart) = ap writes_of (replaced-other n s q.sessions m apart)
+    writes m = grind (arith, cases_eq, replaced-same, replaced-other)
 
 -- ---- a further write keeps the keys in order
 

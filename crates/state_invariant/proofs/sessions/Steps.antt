@@ -8,11 +8,11 @@ use Rattle.base.specs.declared.step.Step.TheVariants.{Begin, Put, Delete, Abort,
 use Rattle.base.specs.Keys.{key_eq, lookup_key}
 use Rattle.base.specs.Commits.{Writes, with_write}
 use Rattle.base.specs.Lists.{replaced}
-use Rattle.machine.specs.Machine.{State, Session, Active, Version, Writer, BySession, ByCommit, held_at, held_with, held_after_put, held_after_delete, held_after_abort, writes_of, begun_of, is_by, is_own_at, is_held_by, own_slot, free_slot, free_session, most_sessions, session_numbers, next_state, refusal}
+use Rattle.machine.specs.Machine.{State, Session, Active, Version, BySession, ByCommit, held_with, held_after_put, held_after_delete, held_after_abort, writes_of, begun_of, is_own_at, is_held_by, own_slot, free_slot, free_session, next_state, refusal}
 use Rattle.base.proofs.Keys.{key_eq-true, key_eq-same}
 use Rattle.base.proofs.Search.{first_below-none}
 use Rattle.base.proofs.Lists.{find-passes}
-use Rattle.state_invariant.specs.Kept.{Origin, Keeps, IsInUse, IsSessionNumber, row_in, version_by}
+use Rattle.state_invariant.specs.Kept.{Origin, Keeps, IsSessionNumber, row_in, version_by}
 use Rattle.state_invariant.proofs.Lookups.{cases-keys, lookup-with_write_same, lookup-with_write_other, first_below-some, replaced-same, replaced-other}
 use Rattle.state_invariant.proofs.steps.Refusals.{allowed, active, ended-writes}
 use Rattle.state_invariant.proofs.sessions.Changes.{SessionKeeps, HeldKeeps, keeps-held, keeps-session, session-keeps, each-set, numbered-set, sorted-with_write}
@@ -33,13 +33,7 @@ apart-writers {k} {l} {t} {n} e =
 
 pub own-at : (n : ℕ) (key : Key) (o : Option Version) → is_own_at n key o ≡ true → o ≡ Some (version_by key (BySession n))
 own-at n key None own = absurd (cc own)
-own-at n key (Some v) own = by_writer v.writer own
-  where
-    by_writer : (w : Writer) → (is_by n w && key_eq v.key key) ≡ true → Some (version_by v.key w) ≡ Some (version_by key (BySession n))
-    by_writer (BySession m) own =
-        let both : (nat_eq m n ≡ true) × (key_eq v.key key ≡ true) = and_parts (nat_eq m n) (key_eq v.key key) own in
-        ap (λ (j : ℕ). Some (version_by v.key (BySession j))) (eqb-true m n both.0) ∙ ap (λ (j : Key). Some (version_by j (BySession n))) (key_eq-true v.key key both.1)
-    by_writer (ByCommit t) own = absurd (cc own)
+own-at n key (Some v) own = grind (arith, and_parts, eqb-true, key_eq-true)
 
 pub own_slot-some : (q : State) (n : ℕ) (key : Key) (slot : ℕ) → own_slot q n key ≡ Some slot → (slot < q.layout.slots) × (q.held slot ≡ Some (version_by key (BySession n)))
 own_slot-some q n key slot found =
@@ -52,13 +46,7 @@ own_slot-none q n key none slot lt own =
     true≢false (sym (and_from (nat_eq n n) (key_eq key key) (eq-eqb n n refl) (key_eq-same key)) ∙ ap (is_own_at n key) (sym own) ∙ not_own)
 
 pub free_slot-some : (q : State) (slot : ℕ) → free_slot q ≡ Some slot → (slot < q.layout.slots) × (q.held slot ≡ None)
-free_slot-some q slot found =
-    let at : (slot < q.layout.slots) × (is_none (q.held slot) ≡ true) = first_below-some q.layout.slots (λ s. is_none (q.held s)) slot found in
-    (at.0, by_version (q.held slot) at.1)
-  where
-    by_version : (o : Option Version) → is_none o ≡ true → o ≡ None
-    by_version None none = refl
-    by_version (Some v) none = absurd (cc none)
+free_slot-some q slot found = grind (arith, first_below-some)
 
 -- ---- the writes of sessions after one of them writes
 
@@ -67,55 +55,26 @@ with_active q n key value = replaced n (Some (Active (begun_of (q.sessions n)) (
 
 -- whether it is the version that is written
 pub cases-own : (m n : ℕ) (other key : Key) → ((m ≡ n) × (other ≡ key)) ⊎ (m ≡ n → other ≡ key → ⊥)
-cases-own m n other key = by_number (cases_eq m n) (cases-keys other key)
-  where
-    by_number : (m ≡ n) ⊎ (m ≢ n) → (other ≡ key) ⊎ (other ≢ key) → ((m ≡ n) × (other ≡ key)) ⊎ (m ≡ n → other ≡ key → ⊥)
-    by_number (inl a) (inl b) = inl (a, b)
-    by_number (inr a) b = inr (λ e f. a e)
-    by_number (inl a) (inr b) = inr (λ e f. b f)
+cases-own m n other key = grind (arith, cases_eq, cases-keys)
 
 pub lookup-here : (q : State) (n : ℕ) (key : Key) (value : Option (List ℕ)) (m : ℕ) (other : Key) → m ≡ n → other ≡ key → lookup_key (writes_of (with_active q n key value m)) other ≡ Some value
-lookup-here q n key value m other e f =
-    ap (λ (s : Option Session). lookup_key (writes_of s) other) (replaced-same n (Some (Active (begun_of (q.sessions n)) (with_write key value (writes_of (q.sessions n))))) q.sessions m e)
-    ∙ ap (lookup_key (with_write key value (writes_of (q.sessions n)))) f
-    ∙ lookup-with_write_same key value (writes_of (q.sessions n))
+lookup-here q n key value m other e f = grind (arith, replaced-same, lookup-with_write_same)
 
 pub lookup-there : (q : State) (n : ℕ) (key : Key) (value : Option (List ℕ)) (m : ℕ) (other : Key) → (m ≡ n → other ≡ key → ⊥) → lookup_key (writes_of (with_active q n key value m)) other ≡ lookup_key (writes_of (q.sessions m)) other
-lookup-there q n key value m other apart = by_number (cases_eq m n)
-  where
-    by_number : (m ≡ n) ⊎ (m ≢ n) → lookup_key (writes_of (with_active q n key value m)) other ≡ lookup_key (writes_of (q.sessions m)) other
-    by_number (inl is) =
-        ap (λ (s : Option Session). lookup_key (writes_of s) other) (replaced-same n (Some (Active (begun_of (q.sessions n)) (with_write key value (writes_of (q.sessions n))))) q.sessions m is)
-        ∙ lookup-with_write_other key value (writes_of (q.sessions n)) other (λ e. apart is (sym e))
-        ∙ ap (λ (k : ℕ). lookup_key (writes_of (q.sessions k)) other) (sym is)
-    by_number (inr ne) = ap (λ (s : Option Session). lookup_key (writes_of s) other) (replaced-other n (Some (Active (begun_of (q.sessions n)) (with_write key value (writes_of (q.sessions n))))) q.sessions m ne)
+lookup-there q n key value m other apart = grind (arith, cases_eq, replaced-same, lookup-with_write_other, replaced-other)
 
 -- the session is active and keeps its snapshot
 active-keeps : (o : Origin) (q : State) (n : ℕ) (key : Key) (value : Option (List ℕ)) (begun : ℕ) (writes : Writes) → Keeps o q → q.sessions n ≡ Some (Active begun writes)
     → SessionKeeps o q (Some (Active (begun_of (q.sessions n)) (with_write key value (writes_of (q.sessions n)))))
-active-keeps o q n key value begun writes kept is = record {
-  sorted = sorted-with_write key value (writes_of (q.sessions n)) (kept.draws.sorted n);
-  drew = λ t e. cc e;
-  snapshot = λ other ws e. by other ws (ap begun_of e);
-}
-  where
-    by : (other : ℕ) (ws : Writes) → begun_of (q.sessions n) ≡ other → (o.opened ≤ other) × (other ≤ length q.history) × IsInUse q other
-    by other ws e = (session-keeps o q n kept).snapshot other writes (is ∙ ap (λ (b : ℕ). Some (Active b writes)) (sym (ap begun_of is) ∙ e))
+active-keeps o q n key value begun writes kept is = grind (arith, sorted-with_write, session-keeps)
 
 -- ---- a put that takes a slot
 
 held-put : (q : State) (taken : ℕ) (v : Version) (slot : ℕ) (w : Version) → replaced taken (Some v) q.held slot ≡ Some w → ((slot ≡ taken) × (v ≡ w)) ⊎ ((slot ≢ taken) × (q.held slot ≡ Some w))
-held-put q taken v slot w is = by_place (cases_eq slot taken)
-  where
-    by_place : (slot ≡ taken) ⊎ (slot ≢ taken) → ((slot ≡ taken) × (v ≡ w)) ⊎ ((slot ≢ taken) × (q.held slot ≡ Some w))
-    by_place (inl same) = let e : Some v ≡ Some w = sym (replaced-same taken (Some v) q.held slot same) ∙ is in inl (same, cc e)
-    by_place (inr apart) = inr (apart, sym (replaced-other taken (Some v) q.held slot apart) ∙ is)
+held-put q taken v slot w is = grind (arith, cases_eq, replaced-same, replaced-other)
 
 held-stays : (q : State) (taken : ℕ) (v : Version) (slot : ℕ) (w : Version) → q.held taken ≡ None → q.held slot ≡ Some w → replaced taken (Some v) q.held slot ≡ Some w
-held-stays q taken v slot w free is = replaced-other taken (Some v) q.held slot apart ∙ is
-  where
-    apart : slot ≡ taken → ⊥
-    apart same = let e : None ≡ Some w = sym free ∙ ap q.held (sym same) ∙ is in cc e
+held-stays q taken v slot w free is = grind (arith, replaced-other)
 
 module _ (o : Origin) (q : State) (n : ℕ) (key : Key) (row : List ℕ) (kept : Keeps o q) where
   abbrev own : Version
@@ -186,11 +145,7 @@ module _ (o : Origin) (q : State) (n : ℕ) (key : Key) (row : List ℕ) (kept :
       by_own (Some slot) found b is room =
           let at = own_slot-some q n key slot found in
           subst (λ (a : Option ℕ). HeldKeeps q (with_active q n key (Some row)) (held_with q own a)) (sym found) (put-own slot at.0 at.1)
-      by_own None none (Some taken) is room =
-          let at = free_slot-some q taken is in
-          subst (λ (a : Option ℕ). HeldKeeps q (with_active q n key (Some row)) (held_with q own a)) (sym none)
-          (subst (λ (b : Option ℕ). HeldKeeps q (with_active q n key (Some row)) (held_at b own q.held)) (sym is)
-          (put-taken taken at.0 at.1 (own_slot-none q n key none)))
+      by_own None none (Some taken) is room = grind (arith, free_slot-some, put-taken, own_slot-none)
       by_own None none None is room = cc room
 
   pub keeps-put : refusal q (Put n key row) ≡ None → Keeps o (next_state q (Put n key row))
@@ -214,11 +169,7 @@ pub record MayFree (q : State) (sessions : ℕ → Option Session) (test : Optio
 
 -- what holds a slot after it held it before
 pub held-before : (test : Option Version → Bool) (o : Option Version) (v : Version) → cond (test o) None o ≡ Some v → (o ≡ Some v) × (test (Some v) ≡ false)
-held-before test o v e = by_test (test o) refl e
-  where
-    by_test : (b : Bool) → test o ≡ b → cond b None o ≡ Some v → (o ≡ Some v) × (test (Some v) ≡ false)
-    by_test true is e = absurd (cc e)
-    by_test false is e = (e, ap test (sym e) ∙ is)
+held-before test o v e = grind arith
 
 held-left : (test : Option Version → Bool) (o : Option Version) (v : Version) → o ≡ Some v → test (Some v) ≡ false → cond (test o) None o ≡ Some v
 held-left test o v e out = ap (λ (b : Bool). cond b None o) (ap test e ∙ out) ∙ e
@@ -245,14 +196,7 @@ held-freed o q sessions test kept may = record {
 -- ---- a session deletes a key's row: its own slot is freed
 
 pub may-give : (q : State) (n : ℕ) (key : Key) → MayFree q (with_active q n key None) (is_own_at n key)
-may-give q n key = record {
-  commits = λ k t. refl;
-  stays = λ k m not_own. lookup-there q n key None m k (λ same one. true≢false (sym (and_from (nat_eq m n) (key_eq k key) (eq-eqb m n same) (subst (λ (j : Key). key_eq k j ≡ true) one (key_eq-same k))) ∙ not_own));
-  gone = λ k m row own has.
-      let both = and_parts (nat_eq m n) (key_eq k key) own in
-      let deleted : Some None ≡ Some (Some row) = sym (lookup-here q n key None m k (eqb-true m n both.0) (key_eq-true k key both.1)) ∙ has in
-      cc deleted;
-}
+may-give q n key = grind (arith, lookup-there, true≢false, and_from, eq-eqb, key_eq-same, and_parts, lookup-here, eqb-true, key_eq-true)
 
 pub keeps-delete : (o : Origin) (q : State) (n : ℕ) (key : Key) → Keeps o q → refusal q (Delete n key) ≡ None → Keeps o (next_state q (Delete n key))
 keeps-delete o q n key kept none =
@@ -266,14 +210,7 @@ keeps-delete o q n key kept none =
 -- ---- a session ends without a commit: all of its slots are freed
 
 pub may-abort : (q : State) (n : ℕ) → MayFree q (replaced n None q.sessions) (is_held_by n)
-may-abort q n = record {
-  commits = λ k t. refl;
-  stays = λ k m other. ap (λ (s : Option Session). lookup_key (writes_of s) k) (replaced-other n None q.sessions m (eqb-false m n other));
-  gone = λ k m row own has. gone k m row (sym (ap (λ (s : Option Session). lookup_key (writes_of s) k) (replaced-same n None q.sessions m (eqb-true m n own))) ∙ has);
-}
-  where
-    gone : (k : Key) (m : ℕ) (row : List ℕ) → None ≡ Some (Some row) → ⊥
-    gone k m row e = cc e
+may-abort q n = grind (arith, replaced-other, eqb-false, replaced-same, eqb-true)
 
 -- a session that has ended keeps all
 pub none-keeps : (o : Origin) (q : State) → SessionKeeps o q None
@@ -290,39 +227,19 @@ pub keeps-end : (o : Origin) (q : State) (n : ℕ) → Keeps o q → refusal q (
 keeps-end o q n kept none = keeps-session o q n None kept (none-keeps o q) (inr refl) (sym (ended-writes q n (q.sessions n) (allowed q (End n) none).placed))
 
 pub begun-keeps : (o : Origin) (q : State) → Keeps o q → SessionKeeps o q (Some (Active (length q.history) []))
-begun-keeps o q kept = record {
-  sorted = refl;
-  drew = λ t e. cc e;
-  snapshot = λ begun writes e. let same : length q.history ≡ begun = ap begun_of e in (omega (arith, kept.numbers.origin.opened, same), omega (arith, same), inl (sym same));
-}
+begun-keeps o q kept = grind arith
 
 -- the number that a session gets is free
 pub free-session : (q : State) → is_none (free_session q) ≡ false → q.sessions (unwrap_or (free_session q) 0) ≡ None
-free-session q has = by (free_session q) refl has
-  where
-    by_none : (o : Option Session) → is_none o ≡ true → o ≡ None
-    by_none None e = refl
-    by_none (Some s) e = cc e
-
-    by : (f : Option ℕ) → free_session q ≡ f → is_none f ≡ false → q.sessions (unwrap_or f 0) ≡ None
-    by None is e = cc e
-    by (Some n) is e = by_none (q.sessions n) (find-passes (λ n. is_none (q.sessions n)) session_numbers n is)
+free-session q has = grind (arith, find-passes)
 
 -- and a session's
 number-among : (test : ℕ → Bool) (from many n : ℕ) → find test (range_with_len from many) ≡ Some n → (from ≤ n) × (n < from + many)
 number-among test from zero n is = absurd (cc is)
-number-among test from (suc many) n is = by (test from) is (number-among test (from + 1) many n)
-  where
-    by : (b : Bool) → cond b (Some from) (find test (range_with_len (from + 1) many)) ≡ Some n → (find test (range_with_len (from + 1) many) ≡ Some n → (from + 1 ≤ n) × (n < from + 1 + many)) → (from ≤ n) × (n < from + suc many)
-    by true is rest = let same : from ≡ n = cc is in (omega (arith, same), omega (arith, same))
-    by false is rest = let both = rest is in (omega (arith, both.0), omega (arith, both.1))
+number-among test from (suc many) n is = grind (arith, number-among test (from + 1) many n)
 
 free-number : (q : State) → is_none (free_session q) ≡ false → IsSessionNumber (unwrap_or (free_session q) 0)
-free-number q has = by (free_session q) refl has
-  where
-    by : (f : Option ℕ) → free_session q ≡ f → is_none f ≡ false → IsSessionNumber (unwrap_or f 0)
-    by None is e = cc e
-    by (Some n) is e = number-among (λ n. is_none (q.sessions n)) 2 most_sessions n is
+free-number q has = grind (arith, number-among)
 
 pub keeps-begin : (o : Origin) (q : State) → Keeps o q → refusal q Begin ≡ None → Keeps o (next_state q Begin)
 keeps-begin o q kept none =

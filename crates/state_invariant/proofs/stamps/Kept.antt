@@ -9,9 +9,9 @@ use Rattle.base.specs.Keys.{lookup_key, is_rising}
 use Rattle.base.specs.Commits.{Commit, writes_key}
 use Rattle.base.specs.Records.{is_committed, are_rising}
 use Rattle.base.specs.Stands.{has_timestamp}
-use Rattle.machine.specs.Machine.{State, Drew, Drawn, Hand, Version, Writer, BySession, ByCommit, drawn_at, drawn_of, timestamp_of, counted, is_stamped, next_state, refusal}
+use Rattle.machine.specs.Machine.{State, Drew, Drawn, Hand, Version, drawn_at, drawn_of, timestamp_of, counted, is_stamped, next_state, refusal}
 use Rattle.machine.proofs.stamps.Drawn.{counted-commit}
-use Rattle.state_invariant.specs.Kept.{Origin, KeepsHand, KeepsOrigin, Keeps, wanted, row_by, row_from, commit_at, covered_since}
+use Rattle.state_invariant.specs.Kept.{Origin, KeepsHand, KeepsOrigin, Keeps, wanted, covered_since}
 use Rattle.state_invariant.proofs.steps.Refusals.{allowed, stamping}
 
 -- the state after the stamp of the commit with this timestamp
@@ -28,14 +28,7 @@ counted-other t d apart = ap (λ (b : Bool). cond b (record { commit = d.commit;
 
 pub found-counted : (t u : ℕ) (ds : List Drawn) → find (λ d. nat_eq d.commit.timestamp u) (map (counted t) ds) ≡ option_map (counted t) (find (λ d. nat_eq d.commit.timestamp u) ds)
 found-counted t u [] = refl
-found-counted t u (d ∷ ds) =
-    ap (λ (c : Commit). cond (nat_eq c.timestamp u) (Some (counted t d)) (find (λ d. nat_eq d.commit.timestamp u) (map (counted t) ds))) (counted-commit t d)
-    ∙ by_test (nat_eq d.commit.timestamp u) (found-counted t u ds)
-  where
-    by_test : (b : Bool) → find (λ d. nat_eq d.commit.timestamp u) (map (counted t) ds) ≡ option_map (counted t) (find (λ d. nat_eq d.commit.timestamp u) ds)
-        → cond b (Some (counted t d)) (find (λ d. nat_eq d.commit.timestamp u) (map (counted t) ds)) ≡ option_map (counted t) (cond b (Some d) (find (λ d. nat_eq d.commit.timestamp u) ds))
-    by_test true rest = refl
-    by_test false rest = rest
+found-counted t u (d ∷ ds) = grind (arith, found-counted t u ds, counted-commit)
 
 timestamps-counted : (t : ℕ) (ds : List Drawn) → map (λ d. d.commit.timestamp) (map (counted t) ds) ≡ map (λ d. d.commit.timestamp) ds
 timestamps-counted t [] = refl
@@ -76,11 +69,7 @@ module _ (o : Origin) (q : State) (t : ℕ) (unfinished : list_any (λ d. nat_eq
 
   -- those that are found were there, with the same commit
   pub found-before : (u : ℕ) (d : Drawn) → drawn_at then u ≡ Some d → (e : Drawn) × (drawn_at q u ≡ Some e) × (d ≡ counted t e)
-  found-before u d found = by (drawn_at q u) refl (sym (found-counted t u q.drawn) ∙ found)
-    where
-      by : (x : Option Drawn) → drawn_at q u ≡ x → option_map (counted t) x ≡ Some d → (e : Drawn) × (drawn_at q u ≡ Some e) × (d ≡ counted t e)
-      by None is e = absurd (cc e)
-      by (Some e) is same = (e, is, cc same)
+  found-before u d found = grind (arith, found-counted)
 
   pub found-after : (u : ℕ) (d : Drawn) → drawn_at q u ≡ Some d → drawn_at then u ≡ Some (counted t d)
   found-after u d found = found-counted t u q.drawn ∙ ap (λ (x : Option Drawn). option_map (counted t) x) found
@@ -93,10 +82,7 @@ module _ (o : Origin) (q : State) (t : ℕ) (unfinished : list_any (λ d. nat_eq
       by : (a b : Bool) → (nat_eq x.commit.timestamp t && is_stamped x) ≡ b → (b || list_any (λ d. nat_eq d.commit.timestamp t && is_stamped d) ds) ≡ false → cond a (Some x) (find (λ (d : Drawn). nat_eq d.commit.timestamp u) ds) ≡ Some d
           → (list_any (λ d. nat_eq d.commit.timestamp t && is_stamped d) ds ≡ false → find (λ (d : Drawn). nat_eq d.commit.timestamp u) ds ≡ Some d → ⊥) → ⊥
       by a true this none found rest = cc none
-      by true false this none found rest =
-          let same : x ≡ d = cc found in
-          let both : (nat_eq d.commit.timestamp t && is_stamped d) ≡ true = and_from (nat_eq d.commit.timestamp t) (is_stamped d) (eq-eqb d.commit.timestamp t is) stamped in
-          true≢false (sym both ∙ ap (λ (y : Drawn). nat_eq y.commit.timestamp t && is_stamped y) (sym same) ∙ this)
+      by true false this none found rest = grind (arith, and_from, eq-eqb, true≢false)
       by false false this none found rest = rest none found
 
   life-stamped : drawn_of then ≡ drawn_of q
@@ -124,15 +110,7 @@ module _ (o : Origin) (q : State) (t : ℕ) (unfinished : list_any (λ d. nat_eq
   }
 
   pub wanted-stamped : (v : Version) → wanted o then v ≡ wanted o q v
-  wanted-stamped v = by_writer v.writer
-    where
-      by_found : (u : ℕ) (c : Option Commit) → row_by o then v.key u c ≡ row_by o q v.key u c
-      by_found u (Some c) = refl
-      by_found u None = refl
-
-      by_writer : (w : Writer) → row_from o then v.key w ≡ row_from o q v.key w
-      by_writer (BySession n) = refl
-      by_writer (ByCommit u) = ap (λ (cs : List Commit). row_by o then v.key u (commit_at (covered_since o q ++ cs) u)) life-stamped ∙ by_found u (commit_at (covered_since o q ++ drawn_of q) u)
+  wanted-stamped v = grind (arith, life-stamped)
 
   pub keeps-stamped : Keeps o then
   keeps-stamped = let n = kept.numbers in let k = kept.draws in record {
@@ -177,11 +155,7 @@ module _ (o : Origin) (q : State) (t : ℕ) (unfinished : list_any (λ d. nat_eq
 -- what is known where a stamp isn't refused
 pub stamp-facts : (q : State) (n : ℕ) → refusal q (Stamp n) ≡ None
     → (q.sessions n ≡ Some (Drew (timestamp_of (q.sessions n)))) × (has_timestamp q.history (timestamp_of (q.sessions n)) ≡ false) × (list_any (λ d. nat_eq d.commit.timestamp (timestamp_of (q.sessions n)) && is_stamped d) q.drawn ≡ false)
-stamp-facts q n none =
-    let a = allowed q (Stamp n) none in
-    let s = stamping q n (q.sessions n) a.there a.placed in
-    let t : timestamp_of (q.sessions n) ≡ s.0 = ap timestamp_of s.1 in
-    (s.1 ∙ ap (λ (t : ℕ). Some (Drew t)) (sym t), ap (has_timestamp q.history) t ∙ s.2, ap (λ (t : ℕ). list_any (λ d. nat_eq d.commit.timestamp t && is_stamped d) q.drawn) t ∙ s.3)
+stamp-facts q n none = grind (arith, allowed, stamping)
 
 pub keeps-stamp : (o : Origin) (q : State) (n : ℕ) → Keeps o q → refusal q (Stamp n) ≡ None → Keeps o (next_state q (Stamp n))
 keeps-stamp o q n kept none = keeps-stamped o q (timestamp_of (q.sessions n)) (stamp-facts q n none).2 kept

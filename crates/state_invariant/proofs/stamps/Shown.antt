@@ -80,11 +80,7 @@ module _ (o : Origin) (q : State) (t : ℕ) (d : Drawn) (key : Key) (row : Optio
       by : (class : Class) → ((u : ℕ) (k : Key) (r : List ℕ) → class ≡ Newest u k r → k ≡ key → ⊥) → ShowsAs o q new slot class → ShowsAs o now new slot class
       by Free apart (inl none) = inl none
       by Free apart (inr ended) = inr ended
-      by (Waiting k r) apart w = record { begin = begin w.begin; end = w.end; spells = w.spells }
-        where
-          begin : (new (word_of q.layout slot 0) ≡ 0) ⊎ ((q.failed ≡ true) × IsTrue (is_drawn_on q k (new (word_of q.layout slot 0)))) → (new (word_of q.layout slot 0) ≡ 0) ⊎ ((q.failed ≡ true) × IsTrue (is_drawn_on now k (new (word_of q.layout slot 0))))
-          begin (inl none) = inl none
-          begin (inr (down, drawn)) = inr (down, drawn-still k (new (word_of q.layout slot 0)) drawn)
+      by (Waiting k r) apart w = grind (arith, drawn-still)
       by (Begun u k r) apart w = record { begin = w.begin; end = w.end; spells = w.spells }
       by (Newest u k r) apart w = record { begin = w.begin; end = end w.end; ended = ended; spells = w.spells }
         where
@@ -118,16 +114,8 @@ module _ (o : Origin) (q : State) (t : ℕ) (d : Drawn) (key : Key) (row : Optio
   -- ---- the version whose begin is stamped
 
   begin-stamped : (slot : ℕ) (r : List ℕ) (b : Bool) → StampsBegin q.layout value new slot t → ShowsAs o q value slot (cond b (Begun t key r) (Waiting key r)) → IsBegun now new slot t key r
-  begin-stamped slot r true s w = record {
-    begin = s.begin;
-    end = s.others 1 (omega (arith, line-words q.layout.version)) (λ e. cc e) ∙ w.end;
-    spells = spells-same q.layout value new slot key r w.spells (λ i low high. s.others i high (λ e. omega (arith, e, low)));
-  }
-  begin-stamped slot r false s w = record {
-    begin = s.begin;
-    end = s.others 1 (omega (arith, line-words q.layout.version)) (λ e. cc e) ∙ w.end up;
-    spells = spells-same q.layout value new slot key r (w.spells up) (λ i low high. s.others i high (λ e. omega (arith, e, low)));
-  }
+  begin-stamped slot r true s w = grind (arith, line-words, spells-same)
+  begin-stamped slot r false s w = grind (arith, line-words, spells-same)
 
   -- ---- the newest version, which is ended
 
@@ -148,10 +136,7 @@ module _ (o : Origin) (q : State) (t : ℕ) (d : Drawn) (key : Key) (row : Optio
   -- ---- every slot
 
   parts : (v : Version) (u w : ℕ) (k : Key) → v.writer ≡ ByCommit u → Some v ≡ Some (version_by k (ByCommit w)) → (v.key ≡ k) × (u ≡ w)
-  parts v u w k is e =
-      let same : v ≡ version_by k (ByCommit w) = cc e in
-      let writers : ByCommit u ≡ ByCommit w = sym is ∙ ap (λ (x : Version). x.writer) same in
-      (ap (λ (x : Version). x.key) same, cc writers)
+  parts v u w k is e = grind arith
 
   all-taken : take (length q.history) q.history ≡ q.history
   all-taken = take_all (length q.history) q.history (omega arith)
@@ -174,13 +159,7 @@ module _ (o : Origin) (q : State) (t : ℕ) (d : Drawn) (key : Key) (row : Optio
       not_last k last = unlike-last o q t d key row value new up kept unfinished found at stored shows u e key there (sym last)
 
       stays : SameWords q.layout value new slot → is_key_stamped (counted t e) v.key ≡ is_key_stamped e v.key → ShowsAs o (with_stamp q t) new slot (cond (is_key_stamped (counted t e) v.key) (Begun u v.key r) (Waiting v.key r))
-      stays words same =
-          subst (λ (b : Bool). ShowsAs o (with_stamp q t) new slot (cond b (Begun u v.key r) (Waiting v.key r))) (sym same)
-          (class-stays o q t d key row value new up kept unfinished found at stored shows slot words (cond (is_key_stamped e v.key) (Begun u v.key r) (Waiting v.key r)) (λ x k l eq. absurd (no-newest (is_key_stamped e v.key) x k l eq)) here)
-        where
-          no-newest : (b : Bool) (x : ℕ) (k : Key) (l : List ℕ) → cond b (Begun u v.key r) (Waiting v.key r) ≡ Newest x k l → ⊥
-          no-newest true x k l eq = cc eq
-          no-newest false x k l eq = cc eq
+      stays words same = grind (arith, with_stamp, class-stays)
 
       by : (u ≡ t) ⊎ (u ≢ t) → (v.key ≡ key) ⊎ (v.key ≢ key) → ShowsAs o (with_stamp q t) new slot (cond (is_key_stamped (counted t e) v.key) (Begun u v.key r) (Waiting v.key r))
       by (inr apart) k = stays (same-words (λ k same. apart same) not_last) (stamped-other o q t d key row value new up kept unfinished found at stored shows u e v.key apart there)

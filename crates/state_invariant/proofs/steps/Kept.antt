@@ -1,5 +1,5 @@
 -- Every step, whatever it answers, keeps what a state keeps.
-use Rattle.std.proofs.Common.{◌≡◌, ◌+◌, Bool, true, false, cond, List, [], ◌∷◌, refl, sym, subst, Option, Some, None}
+use Rattle.std.proofs.Common.{◌≡◌, ◌+◌, Bool, true, false, cond, List, [], ◌∷◌, refl, sym, subst, Option, Some, None, arith}
 use Rattle.std.proofs.lemmas.Option.{same_Some}
 use Rattle.base.specs.declared.step.Step.{Step}
 use Rattle.base.specs.declared.step.Step.TheVariants.{Begin, Get, Scan, Put, Delete, Draw, Stamp, Poll, Abort, End, Commit as CommitTick, Collect}
@@ -20,14 +20,7 @@ abbrev pub with_hand : State → Option Hand → Bool → State
 with_hand q hand failed = record q { hand = hand; failed = failed }
 
 pub keeps-with_hand : (o : Origin) (q : State) (hand : Option Hand) (failed : Bool) → Keeps o q → ((h : Hand) → hand ≡ Some h → KeepsHand q h) → Keeps o (with_hand q hand failed)
-keeps-with_hand o q hand failed kept keeps =
-    let n = kept.numbers in
-    let w = kept.owns in
-    record {
-      numbers = record { ruling = n.ruling; drawn = n.drawn; longs = n.longs; hand = keeps; origin = n.origin; snapshots = n.snapshots; numbered = n.numbered };
-      draws = kept.draws;
-      owns = record { once = w.once; has = w.has; before = w.before; by_session = w.by_session; by_draw = w.by_draw; since_snapshot = w.since_snapshot };
-    }
+keeps-with_hand o q hand failed kept keeps = grind arith
 
 -- ---- the committer's ticks
 

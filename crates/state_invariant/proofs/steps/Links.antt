@@ -1,5 +1,5 @@
 -- Which version each one names, over each step.
-use Rattle.std.proofs.Common.{◌≡◌, ◌≢◌, ◌⊎◌, inl, inr, ℕ, ◌+◌, ◌<◌, Bool, true, false, cond, List, [], ◌∷◌, length, map, refl, sym, ◌∙◌, ap, subst, Option, Some, None, true≢false}
+use Rattle.std.proofs.Common.{◌≡◌, ◌⊎◌, inl, inr, ℕ, ◌+◌, ◌<◌, Bool, true, false, cond, List, [], ◌∷◌, length, map, refl, sym, ◌∙◌, ap, subst, Option, Some, None, true≢false, arith}
 use Rattle.std.specs.Prelude.{find, is_some, nat_eq, unwrap_or}
 use Rattle.std.specs.Option.{option_map}
 use Rattle.std.proofs.lemmas.Bool.{cases_eq}
@@ -8,12 +8,12 @@ use Rattle.base.specs.declared.step.Step.{Step}
 use Rattle.base.specs.declared.step.Step.TheVariants.{Begin, Get, Scan, Put, Delete, Draw, Stamp, Poll, Abort, End, Commit as CommitTick, Collect}
 use Rattle.base.specs.declared.step.Stage.{Stage}
 use Rattle.base.specs.Keys.{lookup_key}
-use Rattle.base.specs.Commits.{Commit, Writes, with_write}
+use Rattle.base.specs.Commits.{Writes, with_write}
 use Rattle.base.specs.Lists.{replaced}
-use Rattle.machine.specs.Machine.{State, Session, Active, WroteNothing, Drawn, Hand, Version, BySession, drawn_at, begun_of, writes_of, is_own_at, is_held_by, free_session, state_drawn, counted, timestamp_of, held_after_delete, held_after_abort, state_ticked, state_ticked_on, next_stage, taken_in_hand, is_idle, next_state, refusal, refused, answered, memory_refused, device_failed}
+use Rattle.machine.specs.Machine.{State, Session, Active, WroteNothing, Drawn, Hand, Version, BySession, drawn_at, begun_of, writes_of, is_own_at, is_held_by, free_session, state_drawn, counted, timestamp_of, held_after_delete, held_after_abort, state_ticked, state_ticked_on, next_stage, next_state, refusal, refused, answered, memory_refused, device_failed}
 use Rattle.machine.specs.Collecting.{is_at_slot, held_after_visit, slot_visited, sweep_ended}
 use Rattle.machine.proofs.stamps.Drawn.{counted-commit}
-use Rattle.state_invariant.specs.Kept.{Origin, Keeps, row_in, version_by}
+use Rattle.state_invariant.specs.Kept.{Origin, Keeps, version_by}
 use Rattle.state_invariant.specs.Links.{Links}
 use Rattle.state_invariant.specs.Laws.{fills, StepsLink, CoveringLinks}
 use Rattle.state_invariant.proofs.Lists.{find-map}
@@ -31,15 +31,7 @@ use Rattle.state_invariant.proofs.covers.Links.{links-covered}
 fills-none : (q : State) (sessions : ℕ → Option Session) (held : ℕ → Option Version) (failed : Bool) (hand : Option Hand) → (failed ≡ false → q.failed ≡ false) → ((slot : ℕ) (v : Version) → held slot ≡ Some v → q.held slot ≡ Some v)
     → ((slot n : ℕ) (key : Key) → slot < q.layout.slots → held slot ≡ Some (version_by key (BySession n)) → begun_of (sessions n) ≡ begun_of (q.sessions n))
     → FillsNone q (record q { sessions = sessions; held = held; failed = failed; hand = hand })
-fills-none q sessions held failed hand works was begun = record {
-  layout = refl;
-  history = refl;
-  drawn = λ t d found. (d, found, refl);
-  still = λ t d found. (d, found, refl);
-  works = works;
-  held = was;
-  begun = begun;
-}
+fills-none q sessions held failed hand works was begun = grind arith
 
 -- one session changes, which keeps its snapshot or writes nothing then
 module _ (o : Origin) (q : State) (n : ℕ) (s : Option Session) (held : ℕ → Option Version) (kept : Keeps o (record q { sessions = replaced n s q.sessions; held = held }))
@@ -48,15 +40,7 @@ module _ (o : Origin) (q : State) (n : ℕ) (s : Option Session) (held : ℕ →
   then = record q { sessions = replaced n s q.sessions; held = held }
 
   begun-then : (slot m : ℕ) (key : Key) → slot < q.layout.slots → held slot ≡ Some (version_by key (BySession m)) → begun_of (replaced n s q.sessions m) ≡ begun_of (q.sessions m)
-  begun-then slot m key lt at = by (cases_eq m n) its
-    where
-      by : (m ≡ n) ⊎ (m ≢ n) → (writes_of s ≡ []) ⊎ (begun_of s ≡ begun_of (q.sessions n)) → begun_of (replaced n s q.sessions m) ≡ begun_of (q.sessions m)
-      by (inr apart) its = ap begun_of (replaced-other n s q.sessions m apart)
-      by (inl same) (inr begun) = ap begun_of (replaced-same n s q.sessions m same) ∙ begun ∙ ap (λ (k : ℕ). begun_of (q.sessions k)) (sym same)
-      by (inl same) (inl none) =
-          let wrote = session-writes o then slot m key kept lt at in
-          let clash : None ≡ Some wrote.0 = ap (λ (ws : Writes). row_in ws key) (sym (ap writes_of (replaced-same n s q.sessions m same) ∙ none)) ∙ wrote.1 in
-          absurd (cc clash)
+  begun-then slot m key lt at = grind (arith, cases_eq, replaced-other, replaced-same, session-writes)
 
   links-session : (value : ℕ → ℕ) → Links o q value → Links o then value
   links-session value links = links-carried o q then (fills-none q (replaced n s q.sessions) held q.failed q.hand (λ up. up) was begun-then) value links
@@ -76,26 +60,10 @@ links-hand o q hand value links = links-with_hand o q q.failed hand value (λ up
 
 -- a visit of the collector
 pub links-moved : (o : Origin) (q : State) (held : ℕ → Option Version) (swept : Bool) (place : ℕ) (value : ℕ → ℕ) → ((slot : ℕ) → OnlyFrees q held slot) → Links o q value → Links o (record q { held = held; swept = swept; place = place }) value
-links-moved o q held swept place value only links = links-carried o q (record q { held = held; swept = swept; place = place }) record {
-  layout = refl;
-  history = refl;
-  drawn = λ t d found. (d, found, refl);
-  still = λ t d found. (d, found, refl);
-  works = λ up. up;
-  held = λ slot v at. by slot v at (only slot);
-  begun = λ slot n key lt at. refl;
-} value links
-  where
-    by : (slot : ℕ) (v : Version) → held slot ≡ Some v → OnlyFrees q held slot → q.held slot ≡ Some v
-    by slot v at (stays same) = sym same ∙ at
-    by slot v at (frees g none) = let clash : ◌≡◌ {A = Option Version} None (Some v) = sym none ∙ at in absurd (cc clash)
+links-moved o q held swept place value only links = grind (arith, links-carried, stays, frees)
 
 stamped-found : (t u : ℕ) (ds : List Drawn) → find (λ (d : Drawn). nat_eq d.commit.timestamp u) (map (counted t) ds) ≡ option_map (counted t) (find (λ (d : Drawn). nat_eq d.commit.timestamp u) ds)
-stamped-found t u ds = find-map (λ (d : Drawn). nat_eq d.commit.timestamp u) (counted t) ds ∙ ap (λ (x : Option Drawn). option_map (counted t) x) (same-test ds)
-  where
-    same-test : (ds : List Drawn) → find (λ (d : Drawn). nat_eq (counted t d).commit.timestamp u) ds ≡ find (λ (d : Drawn). nat_eq d.commit.timestamp u) ds
-    same-test [] = refl
-    same-test (d ∷ ds) = ap (λ (c : Commit). cond (nat_eq c.timestamp u) (Some d) (find (λ (d : Drawn). nat_eq (counted t d).commit.timestamp u) ds)) (counted-commit t d) ∙ ap (λ (x : Option Drawn). cond (nat_eq d.commit.timestamp u) (Some d) x) (same-test ds)
+stamped-found t u ds = grind (arith, find-map, counted-commit)
 
 stamp-carries : (q : State) (t : ℕ) → FillsNone q (record q { drawn = map (counted t) q.drawn })
 stamp-carries q t = record {
@@ -110,19 +78,12 @@ stamp-carries q t = record {
   where
     back : (u : ℕ) (d : Drawn) (x : Option Drawn) → drawn_at q u ≡ x → drawn_at (record q { drawn = map (counted t) q.drawn }) u ≡ Some d → (e : Drawn) × (drawn_at q u ≡ Some e) × (e.commit ≡ d.commit)
     back u d None was found = let clash : ◌≡◌ {A = Option Drawn} None (Some d) = sym (stamped-found t u q.drawn ∙ ap (λ (x : Option Drawn). option_map (counted t) x) was) ∙ found in absurd (cc clash)
-    back u d (Some e) was found =
-        let both : Some (counted t e) ≡ Some d = sym (stamped-found t u q.drawn ∙ ap (λ (x : Option Drawn). option_map (counted t) x) was) ∙ found in
-        let same : counted t e ≡ d = cc both in
-        (e, was, sym (counted-commit t e) ∙ ap (λ (d : Drawn). d.commit) same)
+    back u d (Some e) was found = grind (arith, stamped-found, counted-commit)
 
 -- ---- each step that fills no slot
 
 links-ticked : (o : Origin) (q : State) (value : ℕ → ℕ) (hand : Option Hand) → Keeps o q → q.hand ≡ hand → Links o q value → Links o (state_ticked q hand) value
-links-ticked o q value None kept is links = by (is_idle q)
-  where
-    by : (b : Bool) → Links o (cond b q (record q { hand = Some (taken_in_hand q) })) value
-    by true = links
-    by false = links-hand o q (Some (taken_in_hand q)) value links
+links-ticked o q value None kept is links = grind (arith, links-hand)
 links-ticked o q value (Some hand) kept is links = by (next_stage q hand)
   where
     by : (stage : Option Stage) → Links o (state_ticked_on q hand stage) value

@@ -11,9 +11,9 @@ use Rattle.base.specs.declared.step.Stage.{Stage}
 use Rattle.base.specs.declared.step.Reply.{Reply}
 use Rattle.base.specs.Commits.{Writes, writes_key}
 use Rattle.base.specs.Lists.{replaced}
-use Rattle.machine.specs.Machine.{State, Session, Active, Drew, WroteNothing, Drawn, Hand, Version, Writer, BySession, ByCommit, drawn_at, writes_of, is_own_at, is_held_by, by_commit, free_session, with_session, state_drawn, conflict_of, begun_of, state_ticked, state_ticked_on, next_stage, taken_in_hand, is_idle, next_state, refusal, Stepped, refused, answered, memory_refused, device_failed}
+use Rattle.machine.specs.Machine.{State, Session, Active, Drew, WroteNothing, Drawn, Hand, Version, Writer, BySession, ByCommit, drawn_at, writes_of, is_own_at, is_held_by, by_commit, free_session, with_session, state_drawn, conflict_of, begun_of, state_ticked, state_ticked_on, next_stage, next_state, refusal, Stepped, refused, answered, memory_refused, device_failed}
 use Rattle.state_invariant.specs.Kept.{Origin, Keeps, IsInUse, wanted, row_in, version_by}
-use Rattle.state_invariant.specs.Shown.{is_drawn_on, is_key_stamped, Waiting, class_of, class_of_version, class_by, class_of_drawn, SlotsShow, ShowsAs}
+use Rattle.state_invariant.specs.Shown.{is_drawn_on, is_key_stamped, Waiting, class_of, class_of_version, class_of_drawn, SlotsShow, ShowsAs}
 use Rattle.state_invariant.specs.Laws.{stores}
 use Rattle.state_invariant.proofs.Lookups.{replaced-same, replaced-other}
 use Rattle.state_invariant.proofs.steps.Refusals.{allowed, active, ended-writes}
@@ -27,57 +27,24 @@ use Rattle.state_invariant.proofs.steps.ShownStays.{Carries, shows-carries, clas
 module _ (o : Origin) (q : State) (value : ℕ → ℕ) (shows : SlotsShow o q value) where
   shows-sessions : (sessions : ℕ → Option Session) (failed : Bool) (hand : Option Hand) → ((n : ℕ) → writes_of (sessions n) ≡ writes_of (q.sessions n)) → ((n : ℕ) → IsInUse (with_all q sessions q.held failed hand) n → IsInUse q n)
       → (failed ≡ false → q.failed ≡ false) → (q.failed ≡ true → failed ≡ true) → SlotsShow o (with_all q sessions q.held failed hand) value
-  shows-sessions sessions failed hand same used up down =
-      shows-with o q sessions q.held failed hand value (carries-with o q sessions q.held failed hand used up down)
-      (λ slot lt. inl (class-same o q sessions q.held failed hand (q.held slot) (λ v is. wanted-commit o q sessions q.held failed hand v (λ n by. ap (λ (ws : Writes). row_in ws v.key) (same n)))))
-      shows
+  shows-sessions sessions failed hand same used up down = grind (arith, shows-with, carries-with, class-same, wanted-commit)
 
   shows-session : (n : ℕ) (s : Option Session) → writes_of s ≡ writes_of (q.sessions n) → ((begun : ℕ) (writes : Writes) → s ≡ Some (Active begun writes) → IsInUse q begun) → SlotsShow o (with_session n s q) value
   shows-session n s same used = shows-sessions (replaced n s q.sessions) q.failed q.hand writes in_use (λ up. up) (λ down. down)
     where
       writes : (m : ℕ) → writes_of (replaced n s q.sessions m) ≡ writes_of (q.sessions m)
-      writes m = by (cases_eq m n)
-        where
-          by : (m ≡ n) ⊎ (m ≢ n) → writes_of (replaced n s q.sessions m) ≡ writes_of (q.sessions m)
-          by (inl is) = ap writes_of (replaced-same n s q.sessions m is) ∙ same ∙ ap (λ (k : ℕ). writes_of (q.sessions k)) (sym is)
-          by (inr apart) = ap writes_of (replaced-other n s q.sessions m apart)
+      writes m = grind (arith, cases_eq, replaced-same, replaced-other)
 
       in_use : (m : ℕ) → IsInUse (with_session n s q) m → IsInUse q m
       in_use m (inl all) = inl all
-      in_use m (inr (session, ws, active)) = by (cases_eq session n)
-        where
-          by : (session ≡ n) ⊎ (session ≢ n) → IsInUse q m
-          by (inl is) = used m ws (sym (replaced-same n s q.sessions session is) ∙ active)
-          by (inr apart) = inr (session, ws, sym (replaced-other n s q.sessions session apart) ∙ active)
+      in_use m (inr (session, ws, active)) = grind (arith, cases_eq, replaced-same, active, replaced-other)
 
   -- ---- slots are freed
 
   shows-freed : (sessions : ℕ → Option Session) (test : Option Version → Bool) → q.failed ≡ false → MayFree q sessions test
       → ((n : ℕ) → IsInUse (with_all q sessions (λ slot. cond (test (q.held slot)) None (q.held slot)) q.failed q.hand) n → IsInUse q n)
       → test None ≡ false → SlotsShow o (with_all q sessions (λ slot. cond (test (q.held slot)) None (q.held slot)) q.failed q.hand) value
-  shows-freed sessions test up may used none =
-      shows-with o q sessions (λ slot. cond (test (q.held slot)) None (q.held slot)) q.failed q.hand value (carries-with o q sessions _ q.failed q.hand used (λ up. up) (λ down. down))
-      (λ slot lt. by slot (q.held slot) refl (test (q.held slot)) refl) shows
-    where
-      waiting : (v : Version) → test (Some v) ≡ true → (key : Key) × (row : List ℕ) × (class_of_version o q (Some v) ≡ Waiting key row)
-      waiting v is = by_writer v.writer refl
-        where
-          by_writer : (w : Writer) → v.writer ≡ w → (key : Key) × (row : List ℕ) × (class_of_version o q (Some v) ≡ Waiting key row)
-          by_writer (BySession m) by = (v.key, unwrap_or (wanted o q v) [], ap (class_by q v.key (unwrap_or (wanted o q v) [])) by)
-          by_writer (ByCommit t) by = absurd (true≢false (sym is ∙ ap (λ (w : Writer). test (Some (version_by v.key w))) by ∙ may.commits v.key t))
-
-      by : (slot : ℕ) (x : Option Version) → q.held slot ≡ x → (b : Bool) → test (q.held slot) ≡ b
-          → (class_of_version o (with_all q sessions (λ slot. cond (test (q.held slot)) None (q.held slot)) q.failed q.hand) (cond (test (q.held slot)) None (q.held slot)) ≡ class_of_version o q (q.held slot))
-          ⊎ ((q.failed ≡ false) × (cond (test (q.held slot)) None (q.held slot) ≡ None) × (key : Key) × (row : List ℕ) × (class_of_version o q (q.held slot) ≡ Waiting key row))
-      by slot None held true is = absurd (true≢false (sym is ∙ ap test held ∙ none))
-      by slot (Some v) held true is =
-          let w = waiting v (ap test (sym held) ∙ is) in
-          inr (up, ap (λ (b : Bool). cond b None (q.held slot)) is, w.0, w.1, ap (class_of_version o q) held ∙ w.2)
-      by slot x held false is =
-          inl (ap (λ (b : Bool). class_of_version o (with_all q sessions (λ slot. cond (test (q.held slot)) None (q.held slot)) q.failed q.hand) (cond b None (q.held slot))) is
-          ∙ class-same o q sessions (λ slot. cond (test (q.held slot)) None (q.held slot)) q.failed q.hand (q.held slot)
-          (λ v at. wanted-commit o q sessions (λ slot. cond (test (q.held slot)) None (q.held slot)) q.failed q.hand v
-          (λ n by. ap (λ (x : Option (Option (List ℕ))). unwrap_or x None) (may.stays v.key n (ap (λ (w : Writer). test (Some (version_by v.key w))) (sym by) ∙ ap test (sym at) ∙ is)))))
+  shows-freed sessions test up may used none = grind (arith, shows-with, carries-with, true≢false, with_all, class-same, wanted-commit)
 
 -- ---- a draw
 
@@ -99,11 +66,7 @@ module _ (o : Origin) (q : State) (value : ℕ → ℕ) (n : ℕ) (write : Key �
     where
       used : (m : ℕ) → IsInUse drew m → IsInUse q m
       used m (inl all) = inl all
-      used m (inr (session, ws, active)) = inr (session, ws, by (cases_eq session n))
-        where
-          by : (session ≡ n) ⊎ (session ≢ n) → q.sessions session ≡ Some (Active m ws)
-          by (inl is) = let clash : Some (Drew q.next) ≡ Some (Active m ws) = sym (replaced-same n (Some (Drew q.next)) q.sessions session is) ∙ active in cc clash
-          by (inr apart) = sym (replaced-other n (Some (Drew q.next)) q.sessions session apart) ∙ active
+      used m (inr (session, ws, active)) = grind (arith, cases_eq, replaced-same, active, replaced-other)
 
       stamped : (key : Key) (u : ℕ) (d : Drawn) → drawn_at drew u ≡ Some d → is_key_stamped d key ≡ true → (u ≡ q.next) ⊎ (u ≢ q.next) → (e : Drawn) × (drawn_at q u ≡ Some e) × (is_key_stamped e key ≡ true)
       stamped key u d found is (inl now) =
@@ -158,11 +121,7 @@ pub shows-hand : (o : Origin) (q : State) (hand : Option Hand) (value : ℕ → 
 shows-hand o q hand value shows = shows-sessions o q value shows q.sessions q.failed hand (λ n. refl) (λ n in_use. in_use) (λ up. up) (λ down. down)
 
 shows-ticked : (o : Origin) (q : State) (value : ℕ → ℕ) (hand : Option Hand) → q.failed ≡ false → Keeps o q → q.hand ≡ hand → SlotsShow o q value → SlotsShow o (state_ticked q hand) value
-shows-ticked o q value None up kept is shows = by (is_idle q)
-  where
-    by : (b : Bool) → SlotsShow o (cond b q (record q { hand = Some (taken_in_hand q) })) value
-    by true = shows
-    by false = shows-hand o q (Some (taken_in_hand q)) value shows
+shows-ticked o q value None up kept is shows = grind (arith, shows-hand)
 shows-ticked o q value (Some hand) up kept is shows = by (next_stage q hand)
   where
     by : (stage : Option Stage) → SlotsShow o (state_ticked_on q hand stage) value
@@ -175,11 +134,7 @@ shows-ticked o q value (Some hand) up kept is shows = by (next_stage q hand)
 pub fewer : (q : State) (n : ℕ) (s : Option Session) (held : ℕ → Option Version) → ((begun : ℕ) (writes : Writes) → s ≡ Some (Active begun writes) → IsInUse q begun)
     → (m : ℕ) → IsInUse (with_all q (replaced n s q.sessions) held q.failed q.hand) m → IsInUse q m
 fewer q n s held used m (inl all) = inl all
-fewer q n s held used m (inr (session, ws, active)) = by (cases_eq session n)
-  where
-    by : (session ≡ n) ⊎ (session ≢ n) → IsInUse q m
-    by (inl is) = used m ws (sym (replaced-same n s q.sessions session is) ∙ active)
-    by (inr apart) = inr (session, ws, sym (replaced-other n s q.sessions session apart) ∙ active)
+fewer q n s held used m (inr (session, ws, active)) = grind (arith, cases_eq, replaced-same, active, replaced-other)
 
 shows-next : (o : Origin) (q : State) (step : Step) (value : ℕ → ℕ) → Keeps o q → refusal q step ≡ None → stores step ≡ false → SlotsShow o q value → SlotsShow o (next_state q step) value
 shows-next o q Begin value kept none quiet shows =
