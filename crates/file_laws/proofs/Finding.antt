@@ -1,8 +1,8 @@
 -- What may be found of such a device is an image of an earlier moment with the gates of now.
-use Rattle.std.proofs.Common.{◌≡◌, ℕ, ◌+◌, ◌*◌, ◌%◌, ◌<◌, true, false, ◌&&◌, List, [], ◌==◌, sym, ◌∙◌, subst, arith, nat_lt}
+use Rattle.std.proofs.Common.{◌≡◌, ◌⊎◌, inl, inr, ℕ, ◌+◌, ◌*◌, ◌%◌, ◌<◌, true, false, ◌&&◌, List, [], ◌==◌, sym, ◌∙◌, subst, arith, nat_lt}
 use Rattle.std.specs.Prelude.{slice_index}
 use Rattle.std.proofs.Math.Logic.{∥∥₁_map}
-use Rattle.std.proofs.lemmas.Bool.{and_from, or_left, or_right, eq-eqb, lt-ltb}
+use Rattle.std.proofs.lemmas.Bool.{and_from, cases_lt, or_left, or_right, eq-eqb, lt-ltb}
 use Rattle.base.specs.Layout.{Layout, place_start}
 use Rattle.base.specs.Commits.{Commit}
 use Rattle.base.specs.Fresh.{fresh_image}
@@ -14,7 +14,7 @@ use Rattle.pmem.specs.Device.{Device, survivors_at, IsAmong, MayLeave, MightHave
 use Rattle.machine.specs.Openings.{OpensAs, StandsOpening}
 use Rattle.pmem.specs.Words.{Survives, Continues, LeavesOnly, image_of}
 use Rattle.pmem.specs.declared.device.Pmem as pmem
-use Rattle.pmem.proofs.Images.{left_still, continues_refl}
+use Rattle.pmem.proofs.Images.{continues_refl, grows, left_before, left_still}
 use Rattle.journal.specs.declared.images.Images.{Ghosts}
 use Rattle.pmem_file.specs.Journaled.{is_gate}
 use Rattle.pmem_file.specs.Orderly.{orderly_of}
@@ -35,6 +35,22 @@ first : (places place : ℕ) → place < places → is_gate places (place_start 
 first places place h =
     or_right (nat_lt (place_start place) 8) ((place_start place % 32 == 8) && nat_lt (place_start place) (8 + 32 * places))
     (and_from (place_start place % 32 == 8) (nat_lt (place_start place) (8 + 32 * places)) (eq-eqb (place_start place % 32) 8 (omega arith)) (lt-ltb (place_start place) (8 + 32 * places) (omega (arith, h))))
+
+-- what a device left that began at 0 is what it might have left by any later moment
+pub left-since : (device later : Device) (since start : ℕ) (image : Image) → start ≡ 0 → Continues device later → MightHaveLeft device since image → MightHaveLeft later start image
+left-since device later since start image zero_is continues might = grows start continues (record {
+  moment = might.moment;
+  from = omega (arith, zero_is);
+  to = might.to;
+  left = might.left;
+})
+
+-- before a moment it is what was left up to then, and else what was left since
+pub left-either : (P Q : Image → Type 0) (first mid last : Device) (image : Image) → LeavesOnly first mid P → LeavesOnly mid last Q → MightHaveLeft last first.clock image → P image ⊎ Q image
+left-either P Q first mid last image before after might = elim (cases_lt might.moment mid.clock) [
+  | inl early ↦ inl (before.each image (record { moment = might.moment; from = might.from; to = omega (arith, early); left = left_before might.moment after.continues (omega (arith, early)) might.left }))
+  | inr late ↦ inr (after.each image (record { moment = might.moment; from = late; to = might.to; left = might.left }))
+]
 
 -- what a device left, and whose gates survive, is found at that moment of what it becomes
 pub is-found : (layout : Layout) (places : ℕ) (device later : Device) (since : ℕ) (image : Image) → places ≡ layout.places → IsOrderly device → Continues device later

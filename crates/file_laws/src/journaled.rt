@@ -1,4 +1,4 @@
-ghost use Rattle.std.specs.Prelude.{◌≡◌, ℕ, false, List, []};
+ghost use Rattle.std.specs.Prelude.{◌≡◌, ◌⊎◌, ℕ, false, List, []};
 ghost use Rattle.base.specs.Commits.{Commit};
 ghost use Rattle.base.specs.Fresh.{fresh_image};
 ghost use Rattle.base.specs.Images.{Image, is_formatted};
@@ -8,7 +8,7 @@ ghost use Rattle.base.specs.declared.step.Step.{Step};
 ghost use Rattle.file_laws.specs.Finding.{HasPlaces, MayFind, state_of};
 ghost use Rattle.machine.specs.Machine.{State, StandsAt, StandsClosed, StandsClosing, StandsWithin, final};
 ghost use Rattle.machine.specs.Openings.{OpensAs, StandsOpening};
-ghost use Rattle.pmem.specs.Device.{MayLeave};
+ghost use Rattle.pmem.specs.Device.{Device, MayLeave};
 ghost use Rattle.pmem.specs.Words.{Continues, LeavesOnly, image_of};
 ghost use Rattle.recovery.specs.Fresh.{IsFormatting};
 ghost use Rattle.file_laws.specs.Found.{RunsSince};
@@ -82,4 +82,34 @@ pub fn journaled_images_stand_at_a_close<I: Images>(
 {
     found.found_image_was_left();
     device.found_image_was_left();
+}
+
+/// So does what is found at an instant within an opening, or within a format and the opening after it, when the device was as
+/// `found`: it is what a crash within these leaves, also where one of them fails. `later` is what the device had become then.
+pub fn journaled_images_stand_at_an_opening<I: Images>(
+    unformatted: &JournaledPmem<I>,
+    device: &JournaledPmem<I>,
+    found: &JournaledPmem<I>,
+)
+    ensures opening { (history : List Commit) (next : ℕ) (later : Device) (image : Image)
+        → (state_of device.now).clock ≡ 0
+        → LeavesOnly (state_of device.now) later (StandsOpening (image_of (state_of device.now)) history next)
+        → Continues (state_of found.now) later
+        → MayFind I.may_hold found.now image
+        → ∥ StandsOpening (image_of (state_of device.now)) history next image ∥₁ }
+    ensures formatting { (layout : Layout) (later : Device) (image : Image)
+        → (state_of unformatted.now).clock ≡ 0
+        → LeavesOnly (state_of unformatted.now) later (IsFormatting (state_of unformatted.now) layout)
+        → Continues (state_of found.now) later
+        → MayFind I.may_hold found.now image
+        → ∥ IsFormatting (state_of unformatted.now) layout image ∥₁ }
+    ensures formatted { (layout : Layout) (history : List Commit) (next : ℕ) (later : Device) (image : Image)
+        → (state_of unformatted.now).clock ≡ 0
+        → LeavesOnly (state_of unformatted.now) (state_of device.now) (IsFormatting (state_of unformatted.now) layout)
+        → LeavesOnly (state_of device.now) later (StandsOpening (image_of (state_of device.now)) history next)
+        → Continues (state_of found.now) later
+        → MayFind I.may_hold found.now image
+        → ∥ IsFormatting (state_of unformatted.now) layout image ⊎ StandsOpening (image_of (state_of device.now)) history next image ∥₁ }
+{
+    found.found_image_was_left();
 }

@@ -11,7 +11,7 @@ use Rattle.journal.specs.Several.{journal}
 use Rattle.journal.specs.LinePayloads.{payloads_of_lines, IsLine}
 use Rattle.journal.specs.InPlace.{put_over}
 use Rattle.journal.specs.Opened.{lines_found, all_lines, journal_of, AreLines}
-use Rattle.journal.specs.Files.{magic, pass_word, pass_of, journal_in, is_on, lines_in, Opens, FoundOpens, FoundEither, IsStoodFor}
+use Rattle.journal.specs.Files.{magic, pass_word, pass_of, journal_in, is_on, lines_in, Opens, FoundOpens, FoundEither, IsStoodFor, StandsAmong}
 use Rattle.journal.specs.States.{Knows, Rests}
 use Rattle.journal.proofs.Several.{none_left}
 use Rattle.journal.proofs.Opened.{file_states}
@@ -312,6 +312,10 @@ may-kept may_hold words room pass position next image some size (inl is) = is
 may-kept may_hold words room pass position next image some size (inr stood) =
     let by : IsStoodFor may_hold words room image = subst (λ (n : ℕ). IsStoodFor may_hold n room image) size stood in
     equal_out image next (∥∥₁_map some (λ r. equal_out image next (known-opens may_hold words room pass next r.known by.file image by.found by.opens)))
+
+-- where all that is found stands for the image that was written last
+pub stands-among : (before now : ℕ → ℕ → Type 0) (room : ℕ) (durable : List ℕ) → FoundOpens now (length durable) room durable → StandsAmong before now room durable
+stands-among before now room durable all image stood = inl (equal_out image durable (all stood.file image stood.found stood.opens))
 
 -- ---- a file that was read
 

@@ -10,7 +10,7 @@ use Rattle.journal.specs.Kept.{HoldsOnly, IsFound}
 use Rattle.journal.specs.Entries.{NoneOf}
 use Rattle.journal.specs.InPlace.{put_over}
 use Rattle.journal.specs.Opened.{lines_found}
-use Rattle.journal.specs.Files.{magic, pass_word, pass_of, tail_of, journal_in, is_on, lines_in, Opens, FoundOpens, IsInRun}
+use Rattle.journal.specs.Files.{magic, pass_word, pass_of, tail_of, journal_in, is_on, lines_in, IsInRun, IsStoodFor, MayBe, Opens, FoundOpens, StandsAs}
 use Rattle.journal.specs.States.{Knows, IsInPlace, IsOff, IsClear, Rests}
 use Rattle.journal.specs.LinePayloads.{lines_of}
 use Rattle.journal.specs.Passes.{joined}
@@ -103,6 +103,22 @@ pub known-opens : (may_hold : ℕ → ℕ → Type 0) (words room : ℕ) (pass :
 known-opens may_hold words room pass durable known = found_opens may_hold words room durable (λ found is.
     let same : found ≡ known.file = ext_get_or 0 found known.file (is.size ∙ sym known.size) (λ at lt. found_word may_hold (words + room + 8) known.file found known.holds is at (omega (arith, lt, is.size))) in
     subst (λ (f : List ℕ). Opens words room f durable) (sym same) known.opens)
+
+-- what was read of a file is found
+pub file-stands : (may_hold : ℕ → ℕ → Type 0) (words room : ℕ) (file : List ℕ) → HoldsOnly may_hold (length file) file → StandsAs may_hold words room file
+file-stands may_hold words room file holds is_file image opens = found_opens may_hold words room image (λ found is.
+    let same : found ≡ file = ext_get_or 0 found file (is.size ∙ sym is_file.size) (λ at lt. found_word may_hold (length file) file found holds (record { size = is.size ∙ sym is_file.size; each = λ word below. is.each word (omega (arith, below, is_file.size)) }) at (omega (arith, lt, is.size, is_file.size))) in
+    subst (λ (f : List ℕ). Opens words room f image) (sym same) opens)
+
+-- an image that all stands for is the one that the file stood for
+pub opened-stands : (may_hold : ℕ → ℕ → Type 0) (words room : ℕ) (file image : List ℕ) → Opens words room file image → FoundOpens may_hold words room image → StandsAs may_hold words room file
+opened-stands may_hold words room file image opens all is_file other is = subst (λ (l : List ℕ). FoundOpens may_hold words room l) (opens-one words room file image other opens is) all
+
+-- and so, where no other image may be found
+pub only-stands : (may_hold : ℕ → ℕ → Type 0) (words room : ℕ) (file image : List ℕ) → Opens words room file image → ((other : List ℕ) → MayBe may_hold room image other → other ≡ image) → StandsAs may_hold words room file
+only-stands may_hold words room file image opens only = opened-stands may_hold words room file image opens (λ found other is stands.
+    let stood : IsStoodFor may_hold words room other = record { file = found; found = is; opens = stands } in
+    merely (only other (inr (subst (λ (n : ℕ). IsStoodFor may_hold n room other) (sym opens.size) stood))))
 
 -- ---- the image is put in place
 

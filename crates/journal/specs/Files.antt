@@ -56,11 +56,19 @@ pub record IsStoodFor (may_hold : ℕ → ℕ → Type 0) (words room : ℕ) (im
 abbrev pub MayBe : (ℕ → ℕ → Type 0) → ℕ → List ℕ → List ℕ → Type 0
 MayBe may_hold room durable image = (image ≡ durable) ⊎ IsStoodFor may_hold (length durable) room image
 
+-- what is found now stands for an image that might have been found before
+abbrev pub StandsAmong : (ℕ → ℕ → Type 0) → (ℕ → ℕ → Type 0) → ℕ → List ℕ → Type 0
+StandsAmong before now room durable = (image : List ℕ) → IsStoodFor now (length durable) room image → MayBe before room durable image
+
 -- a file of so many words has an image of so many, a journal of so much room, and a tail
 pub record IsFile (words room count : ℕ) : Type 0 where
   pub whole : words % 8 ≡ 0
   pub fits : words + room + 8 < 2 ^ 58
   pub size : count ≡ words + room + 8
+
+-- whatever is found stands for the image that this file stands for, if it is as long as one of these
+abbrev pub StandsAs : (ℕ → ℕ → Type 0) → ℕ → ℕ → List ℕ → Type 0
+StandsAs may_hold words room file = IsFile words room (length file) → (image : List ℕ) → Opens words room file image → FoundOpens may_hold words room image
 
 -- why no image is read: the file has another length, or its pass is none, or there is no memory
 abbrev pub TellsUnread : ℕ → ℕ → List ℕ → ErrorKind → Type 0

@@ -7,8 +7,6 @@ pub(crate) fn eight_at(words: &[u64], at: usize) -> [u64; 8]
     ensures each { (place : ℕ) → place < 8 → slice_index result place ≡ slice_index words.now (8 * at + place) }
 {
     let mut eight = [0; 8];
-    for place in 0..8 {
-        eight[place] = words[8 * at + place];
-    }
+    eight.copy_from_slice(&words[8 * at..8 * at + 8]);
     eight
 }

@@ -1,7 +1,7 @@
-ghost use Rattle.std.specs.Prelude.{◌≡◌, ℕ, List, ◌+◌, ◌%◌, ◌<◌, ◌^◌, true, false, length, IfOk, OnOk};
+ghost use Rattle.std.specs.Prelude.{◌≡◌, ℕ, List, ◌+◌, ◌%◌, ◌<◌, ◌^◌, true, false, length, IfErr, IfOk, OnOk};
 ghost use Rattle.std.proofs.Common.{inl};
 ghost use Rattle.journal.specs.Kept.{HoldsOnly};
-ghost use Rattle.journal.specs.Files.{MayBe, Opens};
+ghost use Rattle.journal.specs.Files.{MayBe, Opens, StandsAmong, StandsAs};
 ghost use Rattle.journal.specs.States.{IsOff, Rests};
 
 use crate::appending::begin_words;
@@ -47,10 +47,17 @@ pub struct Unopened<S> {
     pub storage: S,
 }
 
+/// Why a file isn't closed, and the file.
+#[derive(Drop)]
+pub struct Unclosed<S> {
+    pub error: io::Error,
+    pub storage: S,
+}
+
 impl<S: Storage> JournaledImages<S> {
     /// Opens a file that holds these words: so many of an image, a journal of so much room, and a tail. What it stands for is
     /// the image that is kept, and it is brought to rest. Fails as [`image_in`] does, and where a
-    /// write fails.
+    /// write fails: whichever it is, the file stands for that image.
     pub fn open(
         alloc: Global,
         storage: S,
@@ -63,6 +70,8 @@ impl<S: Storage> JournaledImages<S> {
         requires holds { HoldsOnly (S.may_hold storage) (length file.now) file.now }
         ensures stands { IfOk result (λ images. Opens words room file.now images.written.items) }
         ensures found { IfOk result (λ images. (image : List ℕ) → MayBe (S.may_hold images.storage) images.room images.written.items image → image ≡ images.written.items) }
+        ensures room { IfOk result (λ images. images.room ≡ room) }
+        ensures unopened { IfErr result (λ unopened. StandsAs (S.may_hold unopened.storage) words room file.now) }
     {
         let durable = match image_in(alloc, file, words, room) {
             Ok(durable) => durable,
@@ -110,23 +119,29 @@ impl<S: Storage> JournaledImages<S> {
     }
 
     /// Brings the image in place, and hands out where it is kept: the file's first words alone are the image then. Fails where an
-    /// image isn't kept.
-    pub fn close(self) -> io::Result<S>
+    /// image isn't kept, and where a write fails: whichever it is, the file stands for an image that might have been found before.
+    pub fn close(self) -> Result<S, Unclosed<S>>
     where
         S: Drop,
-        ensures { IfOk result (λ storage. ∥ IsOff (S.may_hold storage) (length self.written.items) self.room self.written.items ∥₁) }
+        ensures closed { IfOk result (λ storage. ∥ IsOff (S.may_hold storage) (length self.written.items) self.room self.written.items ∥₁) }
+        ensures unclosed { IfErr result (λ unclosed. StandsAmong (S.may_hold self.storage) (S.may_hold unclosed.storage) self.room self.written.items) }
     {
         if self.failed || self.is_begun {
-            return Err(io::Error::from(ErrorKind::InvalidData));
+            return Err(Unclosed {
+                error: io::Error::from(ErrorKind::InvalidData),
+                storage: self.storage,
+            });
         }
         let mut storage = self.storage;
-        settle(
+        match settle(
             &mut storage,
             self.written.as_slice(),
             self.room,
             self.position.pass,
-        )?;
-        Ok(storage)
+        ) {
+            Ok(()) => Ok(storage),
+            Err(error) => Err(Unclosed { error, storage }),
+        }
     }
 
     // Waits until the image persists that was written last, if it doesn't yet.

@@ -18,7 +18,7 @@ pub use entry::read_entry;
 pub use file_image::{extent_of, image_in};
 pub use images::{Images, Nowhere};
 pub use journal::read_journal;
-pub use journaled::{JournaledImages, Unopened};
+pub use journaled::{JournaledImages, Unclosed, Unopened};
 pub use law::{
     appends_are_whole, files_are_whole, images_in_place_stay, lines_return, passes_follow,
     scrubbed_entries_stay_torn, stretches_are_by_places, torn_entries_are_seen,

@@ -26,16 +26,17 @@ fn packed(line: &Line) -> u64
     rest
 }
 
-// Adds the words of a line, in this pass.
-fn push_marked(words: &mut Vec<u64>, line: &Line, pass: bool) -> Result<(), AllocError>
+// The words of a line, in this pass.
+fn marked_line(line: &Line, pass: bool) -> [u64; 9]
     requires { line.now.number < 2 ^ 55 }
-    ensures { OnOk result (words.new.items ≡ words.old.items ++ marks pass (line_payloads line.now)) }
+    ensures { result ≡ marks pass (line_payloads line.now) }
 {
-    for word in &line.words {
-        words.push(marked(*word % (1 << 63), pass))?;
+    let mut words = [0; 9];
+    for place in 0..8 {
+        words[place] = marked(line.words[place] % (1 << 63), pass);
     }
-    words.push(marked(packed(line), pass))?;
-    Ok(())
+    words[8] = marked(packed(line), pass);
+    words
 }
 
 /// The words of an entry of this pass with these lines.
@@ -49,7 +50,7 @@ pub fn entry_of(alloc: Global, lines: &[Line], pass: bool) -> Result<Vec<u64>, A
     let mut words = Vec::with_capacity(alloc, count + 1)?;
     words.push(marked(count as u64, pass))?;
     for line in lines {
-        push_marked(&mut words, line, pass)?;
+        words.extend_from_slice(&marked_line(line, pass))?;
     }
     Ok(words)
 }

@@ -52,8 +52,10 @@ impl JournaledPmem<JournaledImages<FileStorage>> {
     /// fails; the next opening reads the journal then.
     pub fn close(self) -> io::Result<()> {
         let words = self.words();
-        let storage = self.into_storage()?;
-        storage.cut(words)
+        match self.into_storage() {
+            Ok(storage) => storage.cut(words),
+            Err(unclosed) => Err(unclosed.error),
+        }
     }
 }
 

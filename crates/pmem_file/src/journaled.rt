@@ -1,6 +1,6 @@
-ghost use Rattle.std.specs.Prelude.{◌≡◌, ◌⊎◌, ◌/◌, ◌<◌, ◌&&◌, ◌||◌, ℕ, List, length, true, false, slice_index, IfOk, OnOk, OnErr, IfErr};
+ghost use Rattle.std.specs.Prelude.{◌≡◌, ◌⊎◌, ◌/◌, ◌<◌, ◌≤◌, ◌*◌, ◌&&◌, ◌||◌, ℕ, List, length, true, false, slice_index, IfOk, OnOk, OnErr, IfErr};
 ghost use Rattle.journal.specs.Changes.{DiffersIn};
-ghost use Rattle.pmem.specs.Device.{Device, fenced, failed, MightHaveLeft};
+ghost use Rattle.pmem.specs.Device.{Device, stored, fenced, failed, MightHaveLeft};
 ghost use Rattle.journal.specs.Kept.{HoldsOnly};
 ghost use Rattle.pmem_file.specs.Shown.{IsShown};
 ghost use Rattle.pmem_file.specs.Mirrored.{IsMirrored};
@@ -9,10 +9,11 @@ ghost use Rattle.pmem_file.specs.Traces.{device_of};
 
 use crate::changed::ChangedLines;
 use crate::flushed::{Flushed, MOST_ACTORS, forget};
+use crate::gates::{is_gate, is_gate_line};
 use crate::trace::{Operation, Trace};
 use base::actor::Actor;
 use base::fault::Fault;
-use journal::{Images, JournaledImages, Storage, Unopened};
+use journal::{Images, JournaledImages, Storage, Unclosed, Unopened};
 use pmem::Pmem;
 use std::alloc::Global;
 use std::io;
@@ -51,13 +52,14 @@ pub struct JournaledPmem<I: Images> {
 
     // What was done up to the last image that was written, while it isn't kept.
     written: Snapshot<Trace>,
+    ghost marked: { (length words.items ≤ 8 * changed.count) × (changed.places ≡ places) },
     ghost shown: { IsShown (device_of trace) words.items },
     ghost mirrored: { IsMirrored (device_of trace) words.items flushed.items (HoldsGate places (I.may_hold images)) },
     ghost since: { IsSince (device_of trace) (device_of kept.value).clock (I.may_hold images) },
     ghost gates: { is_gate_stored ≡ false → HoldsOnly (HoldsGate places (I.may_hold images)) (length words.items) words.items },
     ghost since_written: { failed ≡ false → IsSince (device_of trace) (device_of written.value).clock (I.shows images) },
     ghost gates_written: { failed ≡ false → is_gate_unwritten ≡ false → HoldsOnly (HoldsGate places (I.shows images)) (length words.items) words.items },
-    ghost changes: { failed ≡ false → (image : List ℕ) → I.shows images image → DiffersIn changed words.items image },
+    ghost changes: { failed ≡ false → (image : List ℕ) → I.shows images image → DiffersIn changed.lines words.items image },
 }
 
 impl<I: Images> JournaledPmem<I> {
@@ -76,12 +78,13 @@ impl<I: Images> JournaledPmem<I> {
         ensures rest { IfOk result (λ made. IsAtRest (device_of made.trace)) }
         ensures device { IfOk result (λ made. device_of made.trace ≡ restarted words.items) }
         ensures places { IfOk result (λ made. made.places ≡ places) }
+        ensures images { IfErr result (λ back. back ≡ images) }
     {
         let lines = words.len() / 8;
         let Ok(flushed) = Vec::with_capacity(alloc, lines.saturating_add(MOST_ACTORS)) else {
             return Err(images);
         };
-        let Ok(changed) = ChangedLines::new(alloc, lines.saturating_add(1)) else {
+        let Ok(changed) = ChangedLines::new(alloc, lines.saturating_add(1), places) else {
             return Err(images);
         };
         let trace = Trace::begun(&words);
@@ -124,6 +127,30 @@ impl<I: Images> JournaledPmem<I> {
     {
         self.trace.note(Operation::Failure);
         Fault::Device
+    }
+
+    // A store that may be the first to its line since an image was written, or of a gate.
+    #[inline(never)]
+    fn store_first(&mut self, word: usize, value: u64) -> Result<(), Fault>
+        requires { word < length self.old.words.items }
+        ensures ok { OnOk result (device_of self.new.trace ≡ stored word value (device_of self.old.trace)) }
+        ensures err { OnErr result (device_of self.new.trace ≡ failed (device_of self.old.trace)) }
+        ensures fault { IfErr result (λ fault. fault ≡ Fault.Device) }
+    {
+        match self.changed.add(word / 8) {
+            Ok(()) => {
+                self.words[word] = value;
+                note_gate(
+                    &mut self.is_gate_stored,
+                    &mut self.is_gate_unwritten,
+                    self.places,
+                    word,
+                );
+                self.trace.note(Operation::Store { word, value });
+                Ok(())
+            }
+            Err(_) => Err(self.refuse()),
+        }
     }
 
     // Does a fence by this actor make a gate durable that no kept image has yet?
@@ -213,12 +240,13 @@ impl<I: Images> JournaledPmem<I> {
 }
 
 impl<S: Storage> JournaledPmem<JournaledImages<S>> {
-    ghost use Rattle.journal.specs.Files.{Opens};
+    ghost use Rattle.journal.specs.Files.{Opens, StandsAmong, StandsAs};
     ghost use Rattle.journal.specs.States.{IsOff};
     ghost use Rattle.pmem.specs.Words.{IsAtRest, image_of};
 
     /// A device at rest with the image that a file of these words stands for: so many of an image, a journal of so much room,
-    /// and a tail. It has this number of places for records. Fails as [`JournaledImages::open`] does.
+    /// and a tail. It has this number of places for records. Fails as [`JournaledImages::open`] does, and the file stands for
+    /// that image then too.
     pub fn over(
         alloc: Global,
         storage: S,
@@ -233,6 +261,7 @@ impl<S: Storage> JournaledPmem<JournaledImages<S>> {
         ensures rest { IfOk result (λ device. IsAtRest (device_of device.trace)) }
         ensures stands { IfOk result (λ device. Opens words room file.now (image_of (device_of device.trace))) }
         ensures places { IfOk result (λ device. device.places ≡ places) }
+        ensures unopened { IfErr result (λ unopened. StandsAs (S.may_hold unopened.storage) words room file.now) }
     {
         let images = JournaledImages::open(alloc, storage, file, words, room)?;
         let Ok(image) = Vec::from_slice(alloc, images.image()) else {
@@ -245,7 +274,9 @@ impl<S: Storage> JournaledPmem<JournaledImages<S>> {
     }
 
     /// Why an image wasn't kept, if one wasn't. No fence succeeds since then.
-    pub fn failure(&self) -> Option<io::Error> {
+    pub fn failure(&self) -> Option<io::Error>
+        ensures { result ≡ self.now.images.failure }
+    {
         self.images.failure()
     }
 
@@ -257,34 +288,25 @@ impl<S: Storage> JournaledPmem<JournaledImages<S>> {
     }
 
     /// Brings the image that was kept last in place, and hands out where it is kept: the first words alone are the image then.
-    /// Fails where an image wasn't kept.
-    pub fn into_storage(self) -> io::Result<S>
+    /// Fails as [`JournaledImages::close`] does.
+    pub fn into_storage(self) -> Result<S, Unclosed<S>>
     where
         S: Drop,
-        ensures { IfOk result (λ storage. ∥ IsOff (S.may_hold storage) (length self.images.written.items) self.images.room self.images.written.items ∥₁) }
+        ensures closed { IfOk result (λ storage. ∥ IsOff (S.may_hold storage) (length self.images.written.items) self.images.room self.images.written.items ∥₁) }
+        ensures unclosed { IfErr result (λ unclosed. StandsAmong (S.may_hold self.images.storage) (S.may_hold unclosed.storage) self.images.room self.images.written.items) }
     {
         self.images.close()
     }
 }
 
 // Memory was refused.
-fn unopened<S: Storage>(images: JournaledImages<S>) -> Unopened<S> {
+fn unopened<S: Storage>(images: JournaledImages<S>) -> Unopened<S>
+    ensures { result.storage ≡ images.storage }
+{
     Unopened {
         error: io::Error::from(io::ErrorKind::OutOfMemory),
         storage: images.release(),
     }
-}
-
-// Is it a word of the superblock, or the first of a place for a record?
-#[inline(always)]
-fn is_gate(places: usize, word: usize) -> bool
-    ensures { result ≡ is_gate places word }
-{
-    // Most words lie behind all places.
-    if word / 32 > places {
-        return false;
-    }
-    word < 8 || word % 32 == 8 && (word - 8) / 32 < places
 }
 
 // Notes in both marks that a gate was stored, if this word is one. Most words are none, and change no mark.
@@ -299,14 +321,7 @@ fn note_gate(stored: &mut bool, unwritten: &mut bool, places: usize, word: usize
     }
 }
 
-// Is it the superblock's line, or the first of a place for a record?
-fn is_gate_line(places: usize, line: usize) -> bool
-    ensures { result ≡ is_gate_line places line }
-{
-    line == 0 || line % 4 == 1 && (line - 1) / 4 < places
-}
-
-// Did the actor flush such a line, and hasn't fenced it yet?
+// Did the actor flush a line with a gate, and hasn't fenced it yet?
 fn is_gate_flushed(places: usize, flushed: &[Flushed], actor: u8) -> bool
     ensures { result ≡ is_gate_flushed places flushed.now actor }
 {
@@ -334,22 +349,14 @@ impl<I: Images> Pmem for JournaledPmem<I> {
         self.words[word]
     }
 
-    // It fails only where there is no memory.
+    // It fails only where there is no memory. Most stores are to a line that was stored to before, and holds no gate.
     fn store(&mut self, word: usize, value: u64) -> Result<(), Fault> {
-        match self.changed.add(word / 8) {
-            Ok(()) => {
-                self.words[word] = value;
-                note_gate(
-                    &mut self.is_gate_stored,
-                    &mut self.is_gate_unwritten,
-                    self.places,
-                    word,
-                );
-                self.trace.note(Operation::Store { word, value });
-                Ok(())
-            }
-            Err(_) => Err(self.refuse()),
+        if self.changed.has_plain(word / 8) {
+            self.words[word] = value;
+            self.trace.note(Operation::Store { word, value });
+            return Ok(());
         }
+        self.store_first(word, value)
     }
 
     // It fails only where there is no memory.

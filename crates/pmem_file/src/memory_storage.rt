@@ -71,8 +71,8 @@ impl MemoryStorage {
 }
 
 impl JournaledPmem<JournaledImages<MemoryStorage>> {
-    ghost use Rattle.std.specs.Prelude.{IfOk};
-    ghost use Rattle.journal.specs.Files.{Opens};
+    ghost use Rattle.std.specs.Prelude.{IfErr, IfOk};
+    ghost use Rattle.journal.specs.Files.{Opens, StandsAs};
     ghost use Rattle.pmem.specs.Words.{IsAtRest, image_of};
     ghost use Rattle.pmem_file.specs.Traces.{device_of};
 
@@ -86,6 +86,8 @@ impl JournaledPmem<JournaledImages<MemoryStorage>> {
     ) -> Result<Self, Unopened<MemoryStorage>>
         ensures rest { IfOk result (λ device. IsAtRest (device_of device.trace)) }
         ensures stands { IfOk result (λ device. Opens words room (stored_in storage) (image_of (device_of device.trace))) }
+        ensures places { IfOk result (λ device. device.places ≡ places) }
+        ensures unopened { IfErr result (λ unopened. StandsAs (IsStored unopened.storage) words room (stored_in storage)) }
     {
         match storage.words.clone() {
             Ok(file) => JournaledPmem::over(alloc, storage, file.as_slice(), words, room, places),

@@ -12,7 +12,7 @@ use base::step::{Reply, Step};
 use journal::{JournaledImages, extent_of, image_in};
 use pmem::Pmem;
 use pmem_file::{JournaledPmem, MemoryStorage, Nowhere, Part};
-use recovery::format;
+use recovery::format_new;
 use room::Room;
 use std::alloc::Global;
 use std::io::ErrorKind;
@@ -60,22 +60,12 @@ fn opened(
 ) -> Result<Device, MemoryStorage>
     ensures { IfOk result (λ device. IsAtRest (device_of device.trace)) }
 {
-    let device = match Device::of_storage(alloc, storage, WORDS, ROOM, 2) {
+    let mut device = match Device::of_storage(alloc, storage, WORDS, ROOM, 2) {
         Ok(device) => device,
         Err(unopened) => return Err(unopened.storage),
     };
-    if device.words() > 0 && device.load(0) == 0 {
-        return formatted(device, geometry);
-    }
-    Ok(device)
-}
-
-fn formatted(device: Device, geometry: Geometry) -> Result<Device, MemoryStorage>
-    ensures { IfOk result (λ device. IsAtRest (device_of device.trace)) }
-{
-    let mut device = device;
-    match format(&mut device, geometry) {
-        Ok(()) => Ok(device),
+    match format_new(&mut device, geometry) {
+        Ok(_is_new) => Ok(device),
         Err(_fault) => Err(device.release()),
     }
 }
@@ -280,7 +270,7 @@ fn a_device_says_why_a_call_failed(rt: HostRuntime) -> Result<(), Fault> {
         return Err(Fault::OutOfMemory);
     };
     let before = device.failure();
-    let formatted = format(&mut device, Geometry::new(4, 2, 8)?);
+    let formatted = format_new(&mut device, Geometry::new(4, 2, 8)?);
     let failure = device.failure();
     assert!(rt; before.is_none() && formatted == Err(Fault::Device));
     assert!(rt; failure.map(|error| error.kind()) == Some(ErrorKind::StorageFull));

@@ -11,7 +11,7 @@ use base::row::Row;
 use database::{CommitError, Database, Refused};
 use journal::{JournaledImages, extent_of};
 use pmem_file::{JournaledPmem, MemoryStorage};
-use recovery::format;
+use recovery::format_new;
 use std::alloc::Global;
 use std::process::Abort;
 use std::sync::Wait;
@@ -55,8 +55,8 @@ pub fn fresh(alloc: Global, slots: u64) -> Result<Vec<u64>, Fault> {
         return Err(Fault::OutOfMemory);
     };
     let mut device = found(alloc, MemoryStorage::new(zeros), (words, room))?;
-    match format(&mut device, geometry) {
-        Ok(()) => Ok(device.release().into_words()),
+    match format_new(&mut device, geometry) {
+        Ok(_is_new) => Ok(device.release().into_words()),
         Err(fault) => Err(fault),
     }
 }

@@ -1,5 +1,6 @@
 use Rattle.std.proofs.Common.{◌≡◌, ◌∙◌, ℕ, List, sym, ap, subst}
-use Rattle.journal.specs.Files.{Opens}
+use Rattle.journal.specs.Files.{MayBe, Opens, StandsAs}
+use Rattle.journal.proofs.Files.{only-stands}
 use Rattle.pmem.specs.Words.{image_of}
 use Rattle.pmem.proofs.Restarted.{image-restarted}
 use Rattle.pmem_file.specs.Traces.{device_of}
@@ -14,3 +15,28 @@ returns-in-Ok-new-clause-stands g c =
     let is : image_of (device_of c.in-Ok-new.device.trace) ≡ c.in_ok-images.images.written.items =
     ap image_of c.in-Ok-new.ensures.device ∙ image-restarted c.in-Ok.image.items ∙ (c.in-Ok.ensures.items ∙ c.image.ensures) in
     subst P (sym is) c.in_ok-images.ensures.stands
+
+-- where the storage is the same
+moved : {S : Type 0} (may_hold : S → ℕ → ℕ → Type 0) (old new : S) (words room : ℕ) (file : List ℕ) → new ≡ old → StandsAs (may_hold old) words room file → StandsAs (may_hold new) words room file
+moved {S} may_hold old new words room file same = subst (λ (s : S). StandsAs (may_hold s) words room file) (sym same)
+
+-- where no other image may be found, by the room that was asked for
+kept : (may_hold : ℕ → ℕ → Type 0) (words room named : ℕ) (file image : List ℕ) → named ≡ room → Opens words room file image
+    → ((other : List ℕ) → MayBe may_hold named image other → other ≡ image) → StandsAs may_hold words room file
+kept may_hold words room named file image is opens only =
+    let F : ℕ → Type 0 = λ r. (other : List ℕ) → MayBe may_hold r image other → other ≡ image in
+    only-stands may_hold words room file image opens (subst F is only)
+
+pub returns-in_default-clause-unopened : goal.returns-in_default-clause-unopened
+returns-in_default-clause-unopened g c =
+    let images = c.in_ok-images.images in
+    let hold = g.S.Storage.may_hold in
+    moved hold images.storage c.unopened.result.storage c.args.words c.args.room c.args.file.now c.unopened.ensures
+    (kept (hold images.storage) c.args.words c.args.room images.room c.args.file.now images.written.items c.in_ok-images.ensures.room c.in_ok-images.ensures.stands c.in_ok-images.ensures.found)
+
+pub returns-in-Err-clause-unopened : goal.returns-in-Err-clause-unopened
+returns-in-Err-clause-unopened g c =
+    let images = c.in_ok-images.images in
+    let hold = g.S.Storage.may_hold in
+    moved hold images.storage c.unopened-in-Err.result.storage c.args.words c.args.room c.args.file.now (c.unopened-in-Err.ensures ∙ ap (λ i. i.storage) c.in-Err.ensures.images)
+    (kept (hold images.storage) c.args.words c.args.room images.room c.args.file.now images.written.items c.in_ok-images.ensures.room c.in_ok-images.ensures.stands c.in_ok-images.ensures.found)

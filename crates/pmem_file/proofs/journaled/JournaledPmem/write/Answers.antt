@@ -1,6 +1,7 @@
-use Rattle.std.proofs.Common.{◌≡◌, ◌⊎◌, false, sym, subst, List, ℕ}
+use Rattle.std.proofs.Common.{◌≡◌, ◌⊎◌, ◌*◌, ◌≤◌, false, sym, subst, length, List, ℕ}
 use Rattle.std.proofs.lemmas.Bool.{true≢false}
 use Rattle.journal.specs.Changes.{DiffersIn}
+use Rattle.pmem_file.specs.Changed.{Changes}
 use Rattle.pmem_file.specs.declared.trace.Trace.{Trace}
 use Rattle.pmem_file.specs.Traces.{device_of}
 use Rattle.pmem_file.proofs.Differences.{differs-nowhere}
@@ -14,7 +15,7 @@ invariant_of-self-in-Err g c =
     let whole : T old.words.items = c.begin.ensures.whole in
     let h = holds-tried (device_of old.trace) old.words.items old.flushed.items old.places old.is_gate_stored (device_of old.kept.value).clock (g.I.Images.may_hold old.images) (g.I.Images.may_hold c.begin.new.self)
     (record { shown = old.shown; mirrored = old.mirrored; back = old.since; gates = old.gates }) whole in
-    record { shown = h.shown; mirrored = h.mirrored; since = h.back; gates = h.gates; since_written = λ none. absurd (true≢false none); gates_written = λ none. absurd (true≢false none); changes = λ none. absurd (true≢false none) }
+    record { marked = old.marked; shown = h.shown; mirrored = h.mirrored; since = h.back; gates = h.gates; since_written = λ none. absurd (true≢false none); gates_written = λ none. absurd (true≢false none); changes = λ none. absurd (true≢false none) }
 
 pub invariant_of-self : goal.invariant_of-self
 invariant_of-self g c =
@@ -30,13 +31,14 @@ invariant_of-self g c =
     let Q : Trace → Type 0 = λ t. Written (device_of old.trace) words old.places false (device_of t).clock shows in
     let w : Q c.of.result.value = subst Q (sym c.of.ensures) (written-now (device_of old.trace) words old.places shows old.shown begun) in
     record {
+      marked = subst (λ (changes : Changes). (length words ≤ 8 * changes.count) × (changes.places ≡ old.places)) (sym c.clear.ensures) old.marked;
       shown = h.shown;
       mirrored = h.mirrored;
       since = h.back;
       gates = h.gates;
       since_written = λ works. w.back;
       gates_written = λ works. w.gates;
-      changes = λ works image may. subst (λ (l : List ℕ). DiffersIn l words image) (sym c.clear.ensures) (differs-nowhere words image (begun image may));
+      changes = λ works image may. subst (λ (changes : Changes). DiffersIn changes.lines words image) (sym c.clear.ensures) (differs-nowhere words image (begun image may));
     }
 
 pub begin-requires : goal.begin-requires

@@ -11,6 +11,7 @@ invariant_of-self g c =
     let w : old.failed ≡ false → Written (device_of old.trace) old.words.items old.places old.is_gate_unwritten (device_of old.written.value).clock (g.I.Images.shows c.hand_out.new.self) = λ works. written-within (device_of old.trace) old.words.items old.places old.is_gate_unwritten (device_of old.written.value).clock (g.I.Images.shows old.images) (g.I.Images.shows c.hand_out.new.self)
     c.hand_out.ensures.shown (record { back = old.since_written works; gates = old.gates_written works }) in
     record {
+      marked = old.marked;
       shown = h.shown;
       mirrored = h.mirrored;
       since = h.back;

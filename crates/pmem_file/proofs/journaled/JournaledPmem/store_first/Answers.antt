@@ -1,0 +1,32 @@
+use Rattle.std.proofs.Common.{◌≡◌, Bool, false, sym, ◌∙◌, subst, arith, slice_set}
+use Rattle.std.proofs.lemmas.List.{length-set}
+use Rattle.pmem.specs.Device.{Device, stored}
+use Rattle.pmem_file.specs.Traces.{device_of}
+use Rattle.pmem_file.proofs.Differences.{differs-stored}
+use Rattle.pmem_file.proofs.Since.{Holds, Written, holds-stored, written-stored}
+use Rattle.pmem_file.proofs.journaled.JournaledPmem.store_first.Goals as goal
+
+pub invariant_of-self : goal.invariant_of-self
+invariant_of-self g c =
+    let old = c.args.self.now in
+    let words = slice_set old.words.items c.args.word c.args.value in
+    let device = stored c.args.word c.args.value (device_of old.trace) in
+    let S : Bool → Type 0 = λ b. Holds device words old.flushed.items old.places b (device_of old.kept.value).clock (g.I.Images.may_hold old.images) in
+    let h0 = subst S (sym c.note_gate.ensures.stored) (holds-stored (device_of old.trace) old.words.items old.flushed.items old.places old.is_gate_stored (device_of old.kept.value).clock (g.I.Images.may_hold old.images) c.args.word c.args.value
+    (record { shown = old.shown; mirrored = old.mirrored; back = old.since; gates = old.gates }) (c.requires) c.ranges.value.fits) in
+    let P : Device → Type 0 = λ d. Holds d words old.flushed.items old.places c.note_gate.new.stored (device_of old.kept.value).clock (g.I.Images.may_hold old.images) in
+    let h = subst P (sym c.note.ensures) h0 in
+    let V : Bool → Type 0 = λ b. old.failed ≡ false → Written device words old.places b (device_of old.written.value).clock (g.I.Images.shows old.images) in
+    let w0 = subst V (sym c.note_gate.ensures.unwritten) (λ works. written-stored (device_of old.trace) old.words.items old.places old.is_gate_unwritten (device_of old.written.value).clock (g.I.Images.shows old.images) c.args.word c.args.value (record { back = old.since_written works; gates = old.gates_written works })) in
+    let W : Device → Type 0 = λ d. old.failed ≡ false → Written d words old.places c.note_gate.new.unwritten (device_of old.written.value).clock (g.I.Images.shows old.images) in
+    let w = subst W (sym c.note.ensures) w0 in
+    record {
+      marked = (omega (arith, old.marked.0, length-set old.words.items c.args.word c.args.value, c.add.ensures.count), c.add.ensures.places ∙ old.marked.1);
+      shown = h.shown;
+      mirrored = h.mirrored;
+      since = h.back;
+      gates = h.gates;
+      since_written = λ works. (w works).back;
+      gates_written = λ works. (w works).gates;
+      changes = λ none image may. differs-stored old.changed.lines c.add.new.self.lines old.words.items image c.args.word c.args.value (old.changes none image may) (c.in-Ok.ensures.has) c.add.ensures.others;
+    }
