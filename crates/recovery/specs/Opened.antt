@@ -18,7 +18,9 @@ use Rattle.log_area.specs.Writings.{IsOutside, begun, record_operations}
 use Rattle.recovery.specs.Gaps.{few_gaps}
 use Rattle.recovery.specs.Slots.{free_below}
 use Rattle.recovery.specs.Live.{live_below}
-use Rattle.recovery.specs.Sweeping.{is_hit, whole_sweep}
+use Rattle.recovery.specs.Held.{HavePlaces}
+use Rattle.recovery.specs.Sweeping.{AreHits, is_hit, whole_sweep}
+use Rattle.recovery.specs.declared.examining.Examined.{Examined as ExaminedValue}
 use Rattle.recovery.specs.declared.rows.LiveSlot.{LiveSlot}
 
 -- the words after the log area are the same
@@ -41,6 +43,12 @@ pub record IsExamined (image : Image) (layout : Layout) (r : Record) (gaps : Opt
 
 unfoldable pub Examined : Image → Layout → Record → Option (List Gap) → List Bool → List LiveSlot → Type 0
 Examined image layout r gaps free live = IsExamined image layout r gaps free live
+
+-- what was examined of an image that opens: beside that, the places of its keys, and what a sweep stores in
+pub record HasExamined (image : Image) (found : ExaminedValue) : Type 0 where
+  pub examined : Examined image found.geometry found.ruling found.gaps found.free.items found.live.items
+  pub placed : HavePlaces found.live.items found.places.entries
+  pub hits : AreHits image found.geometry found.gaps found.hits.items
 
 -- which slots are free at an opening: those that aren't live
 abbrev pub free_in : Image → List Bool

@@ -6,7 +6,9 @@ use Rattle.base.specs.declared.fault.Fault.{Fault}
 use Rattle.base.specs.declared.fault.Fault.TheVariants.{OutOfMemory}
 use Rattle.base.specs.Layout.{Layout}
 use Rattle.base.specs.Records.{Record}
-use Rattle.base.specs.Images.{Image, IsSound, damage, layout_of, ruling, key_of, row_of, is_shown, log_damage}
+use Rattle.base.specs.Images.{Image, IsRuledBy, IsSound, damage, layout_of, ruling, key_of, row_of, is_shown, log_damage}
+use Rattle.recovery.specs.declared.examining.Readings.{Readings}
+use Rattle.recovery.specs.Slots.{readings_below}
 
 -- a slot's key and row, where it is live
 abbrev pub row_at : Image → ℕ → List (Key × List ℕ)
@@ -28,6 +30,15 @@ pub record IsRead (image : Image) (layout : Layout) (r : Record) (rows : List (K
 abbrev pub IsReadRefusal : Image → Fault → Type 0
 IsReadRefusal image fault = (damage image ≡ Some fault) ⊎ ((log_damage image ≡ None) × (fault ≡ OutOfMemory))
 
+-- the fault of the superblock, of a gate or of the ruling record; want of memory only where these are right
+abbrev pub IsLogRefusal : Image → Fault → Type 0
+IsLogRefusal image fault = (log_damage image ≡ Some fault) ⊎ ((log_damage image ≡ None) × (fault ≡ OutOfMemory))
+
 -- the fault of the superblock, of a gate or of the ruling record is the one that is answered, where there is one
 abbrev pub TellsLogFault : Image → Fault → Type 0
 TellsLogFault image fault = (log_damage image ≡ Some fault) ⊎ (log_damage image ≡ None)
+
+-- this was read of the image: what rules it, and each slot
+pub record AreOf (image : Image) (readings : Readings) : Type 0 where
+  pub rules : IsRuledBy readings.geometry readings.ruling image
+  pub slots_are : readings.slots.items ≡ readings_below image readings.geometry.slots

@@ -7,8 +7,8 @@ ghost use Rattle.pmem.specs.Words.{image_of};
 ghost use Rattle.recovery.specs.Gaps.{MayRule, few_gaps};
 ghost use Rattle.recovery.specs.Held.{HavePlaces};
 ghost use Rattle.recovery.specs.Sweeping.{is_hit_by, AreHits};
-ghost use Rattle.recovery.specs.Opened.{Examined as IsExaminedAs, Refuses};
-ghost use Rattle.recovery.specs.Read.{TellsLogFault};
+ghost use Rattle.recovery.specs.Opened.{Examined as IsExaminedAs, HasExamined, Refuses};
+ghost use Rattle.recovery.specs.Read.{AreOf, IsLogRefusal, TellsLogFault};
 
 use crate::gaps::opened_gaps;
 use crate::holding::{Held, held_slots};
@@ -19,7 +19,7 @@ use base::fault::Fault;
 use base::gap::Gaps;
 use base::geometry::Geometry;
 use base::key::Key;
-use log_area::{Record, Ruling, latest};
+use log_area::{Record, latest};
 use pmem::Pmem;
 use std::alloc::{AllocError, Global};
 use std::collections::BTreeMap;
@@ -41,6 +41,62 @@ pub struct Examined {
     pub hits: Vec<bool>,
 }
 
+/// What was read of an image whose log has no fault: its layout, the record that rules it, and each slot once.
+#[derive(Drop)]
+pub struct Readings {
+    pub geometry: Geometry,
+    pub ruling: Record,
+    /// In the order of the slots.
+    pub slots: Vec<SlotReading>,
+}
+
+/// Reads all that an opening asks of an image: the log first, and where that has no fault the slots, in several threads.
+pub fn read<R: Threads + Sync, D: Pmem + Sync>(
+    rt: &R,
+    alloc: Global,
+    device: &D,
+) -> Result<Readings, Fault>
+    ensures ok { IfOk result (AreOf (image_of (D.state device.now))) }
+    ensures fault { IfErr result (IsLogRefusal (image_of (D.state device.now))) }
+{
+    let found = match latest(device) {
+        Ok(found) => found,
+        Err(fault) => return Err(fault),
+    };
+    match read_slots(rt, alloc, device, found.geometry, found.record) {
+        Ok(slots) => Ok(Readings {
+            geometry: found.geometry,
+            ruling: found.record,
+            slots,
+        }),
+        Err(_) => Err(Fault::OutOfMemory),
+    }
+}
+
+impl Readings {
+    ghost use Rattle.std.specs.Prelude.{◌≡◌, IfOk, IfErr};
+    ghost use Rattle.base.specs.Images.{Image};
+
+    /// Tests all that an opening asks of the slots that were read, in order.
+    pub fn examine<R: Threads + Sync>(&self, rt: &R, alloc: Global) -> Result<Examined, Fault>
+        requires read { (image : Image) × AreOf image self.now }
+        ensures ok { IfOk result (λ found. (image : Image) → AreOf image self.now → HasExamined image found) }
+        ensures fault { IfErr result (λ fault. (image : Image) → AreOf image self.now → Refuses image fault) }
+    {
+        let held = match held_slots(rt, alloc, self.geometry, self.slots.as_slice()) {
+            Ok(held) => held,
+            Err(fault) => return Err(fault),
+        };
+        if is_near_limit(self.geometry, self.ruling) {
+            return Err(Fault::TimestampsOut);
+        }
+        match gather(alloc, self, held) {
+            Ok(examined) => Ok(examined),
+            Err(_) => Err(Fault::OutOfMemory),
+        }
+    }
+}
+
 /// Tests all that an opening asks of an image, in order. Several threads read each slot once.
 pub fn examine<R: Threads + Sync, D: Pmem + Sync>(
     rt: &R,
@@ -53,50 +109,34 @@ pub fn examine<R: Threads + Sync, D: Pmem + Sync>(
     ensures fault { IfErr result (Refuses (image_of (D.state device.now))) }
     ensures log { IfErr result (TellsLogFault (image_of (D.state device.now))) }
 {
-    let found = match latest(device) {
-        Ok(found) => found,
-        Err(fault) => return Err(fault),
-    };
-    let readings = match read_slots(rt, alloc, device, found.geometry, found.record) {
+    let readings = match read(rt, alloc, device) {
         Ok(readings) => readings,
-        Err(_) => return Err(Fault::OutOfMemory),
-    };
-    let held = match held_slots(rt, alloc, found.geometry, readings.as_slice()) {
-        Ok(held) => held,
         Err(fault) => return Err(fault),
     };
-    if is_near_limit(found.geometry, found.record) {
-        return Err(Fault::TimestampsOut);
-    }
-    match gather(alloc, found, held, readings.as_slice()) {
-        Ok(examined) => Ok(examined),
-        Err(_) => Err(Fault::OutOfMemory),
+    match readings.examine(rt, alloc) {
+        Ok(found) => Ok(found),
+        Err(fault) => Err(fault),
     }
 }
 
-// What the readings of the slots tell an opening that has this layout and this ruling record.
-fn gather(
-    alloc: Global,
-    found: Ruling,
-    held: Held,
-    readings: &[SlotReading],
-) -> Result<Examined, AllocError>
-    requires { MayRule found.record }
-    ensures layout { IfOk result (λ examined. examined.geometry ≡ found.geometry) }
-    ensures rules { IfOk result (λ examined. examined.ruling ≡ found.record) }
-    ensures gaps { IfOk result (λ examined. examined.gaps ≡ few_gaps found.record) }
+// What the readings tell an opening, whose slots hold this.
+fn gather(alloc: Global, readings: &Readings, held: Held) -> Result<Examined, AllocError>
+    requires { MayRule readings.now.ruling }
+    ensures layout { IfOk result (λ examined. examined.geometry ≡ readings.now.geometry) }
+    ensures rules { IfOk result (λ examined. examined.ruling ≡ readings.now.ruling) }
+    ensures gaps { IfOk result (λ examined. examined.gaps ≡ few_gaps readings.now.ruling) }
     ensures held { IfOk result (λ examined. record { free = examined.free; live = examined.live; places = examined.places } ≡ held) }
-    ensures hits { IfOk result (λ examined. examined.gaps ≡ None → examined.hits.items ≡ map (is_hit_by found.record) readings.now) }
+    ensures hits { IfOk result (λ examined. examined.gaps ≡ None → examined.hits.items ≡ map (is_hit_by readings.now.ruling) readings.now.slots.items) }
 {
-    let gaps = opened_gaps(found.record);
+    let gaps = opened_gaps(readings.ruling);
     let hits = match gaps {
         Some(_) => Vec::new(alloc),
-        None => hit_slots(alloc, found.record, readings)?,
+        None => hit_slots(alloc, readings.ruling, readings.slots.as_slice())?,
     };
     let Held { free, live, places } = held;
     Ok(Examined {
-        geometry: found.geometry,
-        ruling: found.record,
+        geometry: readings.geometry,
+        ruling: readings.ruling,
         gaps,
         free,
         live,

@@ -1,7 +1,7 @@
 //! Word 0 goes first and comes last, and each time that persists before anything else is stored: so whatever stops a format
 //! leaves an image that isn't formatted, or a whole one.
 
-ghost use Rattle.std.specs.Prelude.{◌≡◌, ◌≢◌, ◌+◌, ◌/◌, ◌<◌, ℕ, Ok, false, IfOk, IfErr, OnOk, OnErr};
+ghost use Rattle.std.specs.Prelude.{◌≡◌, ◌≢◌, ◌+◌, ◌/◌, ◌<◌, ℕ, Ok, true, false, IfOk, IfErr, OnOk, OnErr};
 ghost use Rattle.base.specs.Layout.{total_words};
 ghost use Rattle.pmem.specs.Trace.{Runs, StopsWithin};
 ghost use Rattle.pmem.specs.Words.{LeavesOnly, IsAtRest, image_of, IsSettledAt, Makes, value_of};
@@ -42,6 +42,7 @@ pub fn format_new<D: Pmem>(device: &mut D, geometry: Geometry) -> Result<bool, F
     requires at_rest { IsAtRest (D.state device.old) }
     ensures kept { value_of (D.state device.old) 0 ≢ 0 → (result ≡ Ok false) × (device.new ≡ device.old) }
     ensures made { IfOk result (HasFormattedNew geometry (D.state device.old) (D.state device.new)) }
+    ensures operations { result ≡ Ok true → Makes (total_words geometry + 33) (total_words geometry / 8 + 7) 6 0 (D.state device.old) (D.state device.new) }
     ensures refusal { IfErr result (IsFormatRefusal geometry (D.state device.old) (D.state device.new)) }
     ensures rest { OnOk result (IsAtRest (D.state device.new)) }
     ensures images { LeavesOnly (D.state device.old) (D.state device.new) (IsFormatting (D.state device.old) geometry) }

@@ -81,7 +81,8 @@ impl Told {
     }
 }
 
-// The places of the keys, and what the readings tell without regard to keys: where there are many, in two threads.
+// The places of the keys, and what the readings tell without regard to keys: where there are many, in two threads. The greater
+// part stays in this one, whose heap has what was freed before.
 fn side_by_side<R: Threads + Sync>(
     rt: &R,
     alloc: Global,
@@ -101,7 +102,7 @@ fn side_by_side<R: Threads + Sync>(
     let listed = move || -> Result<Told, AllocError>
         ensures { IfOk result (IsTold readings.entry.now) }
     { told_by(alloc, readings) };
-    let (places, told) = join(rt, keyed, listed);
+    let (told, places) = join(rt, listed, keyed);
     Ok((places?, told?))
 }
 

@@ -14,8 +14,9 @@ mod slots;
 mod sweeping;
 mod updating;
 
-pub use examining::{Examined, examine};
+pub use examining::{Examined, Readings, examine, read};
 pub use formatting::{format, format_new};
 pub use opening::{Opened, OpenedImage, open, open_device};
 pub use reading::{ImageContents, read_image};
 pub use rows::LiveSlot;
+pub use slots::{SlotContent, SlotReading};

@@ -11,6 +11,7 @@ ghost use Rattle.machine.specs.Openings.{StandsOpening, gaps_kept, opening_recor
 ghost use Rattle.pmem.specs.Trace.{Runs, StopsWithin};
 ghost use Rattle.pmem.specs.Words.{LeavesOnly, IsAtRest, image_of};
 ghost use Rattle.recovery.specs.Gaps.{few_gaps};
+ghost use Rattle.recovery.specs.Held.{HavePlaces};
 ghost use Rattle.recovery.specs.Sweeping.{AreHits};
 ghost use Rattle.recovery.specs.Opened.{Examined as IsExaminedAs, HasOpened, IsCutShort, IsRefusal, IsUpdatedFirst, gap_operations, today_operations};
 ghost use Rattle.recovery.specs.Read.{TellsLogFault};
@@ -114,6 +115,7 @@ pub fn open_device<R: Threads + Sync, D: Pmem + Sync>(
 ) -> Result<OpenedImage, Fault>
     requires { IsAtRest (D.state device.old) }
     ensures ok { IfOk result (λ life. HasOpened (D.state device.old) (D.state device.new) life.geometry life.ruling life.next life.free.items life.live.items) }
+    ensures places { IfOk result (λ life. HavePlaces life.live.items life.places.entries) }
     ensures fault { IfErr result (IsRefusal (opening_fault (image_of (D.state device.old))) (D.state device.old) (D.state device.new)) }
     ensures log { IfErr result (TellsLogFault (image_of (D.state device.old))) }
     ensures images { (history drawn : List Commit) (next : ℕ) → Stands (image_of (D.state device.old)) history drawn next

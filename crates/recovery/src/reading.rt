@@ -4,15 +4,15 @@ ghost use Rattle.std.specs.Prelude.{IfOk, IfErr};
 ghost use Rattle.pmem.specs.Words.{image_of};
 ghost use Rattle.recovery.specs.Read.{IsRead, IsReadRefusal};
 
+use crate::examining::read;
 use crate::holding::held_slots;
 use crate::image_device::ImageDevice;
 use crate::rows::live_rows;
-use crate::slots::read_slots;
 use base::fault::Fault;
 use base::geometry::Geometry;
 use base::key::Key;
 use base::row::Row;
-use log_area::{Record, latest};
+use log_area::Record;
 use pmem::Pmem;
 use std::alloc::Global;
 use std::thread::Threads;
@@ -47,22 +47,19 @@ fn read_device<R: Threads + Sync, D: Pmem + Sync>(
     ensures ok { IfOk result (λ found. IsRead (image_of (D.state device.now)) found.geometry found.ruling found.rows.items) }
     ensures fault { IfErr result (IsReadRefusal (image_of (D.state device.now))) }
 {
-    let found = match latest(device) {
-        Ok(found) => found,
+    let readings = match read(rt, alloc, device) {
+        Ok(readings) => readings,
         Err(fault) => return Err(fault),
     };
-    let readings = match read_slots(rt, alloc, device, found.geometry, found.record) {
-        Ok(readings) => readings,
-        Err(_) => return Err(Fault::OutOfMemory),
-    };
-    let held = match held_slots(rt, alloc, found.geometry, readings.as_slice()) {
+    let slots = readings.slots.as_slice();
+    let held = match held_slots(rt, alloc, readings.geometry, slots) {
         Ok(held) => held,
         Err(fault) => return Err(fault),
     };
-    match live_rows(alloc, device, found.geometry, held.live.as_slice()) {
+    match live_rows(alloc, device, readings.geometry, held.live.as_slice()) {
         Ok(rows) => Ok(ImageContents {
-            geometry: found.geometry,
-            ruling: found.record,
+            geometry: readings.geometry,
+            ruling: readings.ruling,
             rows,
         }),
         Err(_) => Err(Fault::OutOfMemory),

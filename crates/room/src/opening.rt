@@ -1,15 +1,15 @@
 //! An opening takes all its memory before it changes the device, so that want of memory leaves the image as it was: the index and the
 //! slots are made from what was read, the table of lines from the device's length, and the record is written last.
 
-ghost use Rattle.std.specs.Prelude.{◌≡◌, ℕ, List, map, IfOk, IfErr};
+ghost use Rattle.std.specs.Prelude.{◌≡◌, ℕ, List, IfOk, IfErr};
 ghost use Rattle.base.specs.Commits.{Commit};
-ghost use Rattle.base.specs.Images.{opening_fault};
+ghost use Rattle.base.specs.Images.{Image, opening_fault};
 ghost use Rattle.base.specs.Stands.{Stands};
 ghost use Rattle.machine.specs.Openings.{StandsOpening};
 ghost use Rattle.pmem.specs.Words.{LeavesOnly, IsAtRest, image_of};
-ghost use Rattle.recovery.specs.Opened.{IsRefusal, MakesOpening};
-ghost use Rattle.recovery.specs.Read.{TellsLogFault};
-ghost use Rattle.room.specs.Opening.{HasBegun, entry_of};
+ghost use Rattle.recovery.specs.Opened.{HasExamined, IsRefusal, MakesOpening, Refuses};
+ghost use Rattle.recovery.specs.Read.{AreOf, TellsLogFault};
+ghost use Rattle.room.specs.Opening.{HasBegun, HasEntries, HasLearnt};
 
 use crate::room::Room;
 use crate::volatile::VolatileState;
@@ -18,11 +18,11 @@ use base::key::Key;
 use dirty_table::DirtyTable;
 use index::{Entry, Index};
 use pmem::Pmem;
-use recovery::{LiveSlot, examine};
+use recovery::{Examined, Readings, SlotContent, SlotReading, read};
 use session_steps::Sessions;
 use slot_alloc::SlotAlloc;
 use std::alloc::{AllocError, Global};
-use std::thread::Threads;
+use std::thread::{Threads, join};
 
 impl<D: Pmem + Drop + Send + Sync> Room<D> {
     ghost use Rattle.std.specs.Prelude.{◌+◌, ◌*◌, ◌<◌, ◌≤◌, true, false, None, slice_index, MatchResult};
@@ -92,14 +92,11 @@ fn begin<R: Threads + Sync, D: Pmem + Sync>(
     ensures images { (history drawn : List Commit) (next : ℕ) → Stands (image_of (D.state device.old)) history drawn next
         → LeavesOnly (D.state device.old) (D.state device.new) (StandsOpening (image_of (D.state device.old)) history next) }
 {
-    let found = match examine(rt, alloc, device) {
-        Ok(found) => found,
+    let learnt = match learn(rt, alloc, device) {
+        Ok(learnt) => learnt,
         Err(fault) => return Err(fault),
     };
-    let entries = match entries_of(alloc, found.live.as_slice()) {
-        Ok(entries) => entries,
-        Err(_) => return Err(Fault::OutOfMemory),
-    };
+    let Learnt { found, entries } = learnt;
     let slots = match SlotAlloc::new(alloc, found.free.as_slice()) {
         Ok(slots) => slots,
         Err(_) => return Err(Fault::OutOfMemory),
@@ -125,19 +122,86 @@ fn begin<R: Threads + Sync, D: Pmem + Sync>(
     Ok(VolatileState::new(sessions))
 }
 
-// The entries of the keys whose versions were found live. It reads no slot.
-fn entries_of(alloc: Global, live: &[LiveSlot]) -> Result<Vec<(Key, Entry)>, AllocError>
-    ensures { IfOk result (λ entries. entries.items ≡ map entry_of live.now) }
+// What is learnt of an image, and the entries of its index.
+#[derive(Drop)]
+struct Learnt {
+    found: Examined,
+    entries: Vec<(Key, Entry)>,
+}
+
+// Tests all that an opening asks of an image, and makes the index's entries beside that.
+fn learn<R: Threads + Sync, D: Pmem + Sync>(
+    rt: &R,
+    alloc: Global,
+    device: &D,
+) -> Result<Learnt, Fault>
+    ensures ok { IfOk result (HasLearnt (image_of (D.state device.now))) }
+    ensures fault { IfErr result (Refuses (image_of (D.state device.now))) }
+    ensures log { IfErr result (TellsLogFault (image_of (D.state device.now))) }
 {
-    let mut entries = Vec::with_capacity(alloc, live.len())?;
-    for found in live {
-        let entry = Entry {
-            newest: Some(found.slot),
-            ended: false,
-            drawn: None,
-            last: None,
-        };
-        entries.push((found.key, entry))?;
+    let readings = match read(rt, alloc, device) {
+        Ok(readings) => readings,
+        Err(fault) => return Err(fault),
+    };
+    let (entries, found) = side_by_side(rt, alloc, &readings);
+    let found = match found {
+        Ok(found) => found,
+        Err(fault) => return Err(fault),
+    };
+    match entries {
+        Ok(entries) => Ok(Learnt { found, entries }),
+        Err(_) => Err(Fault::OutOfMemory),
+    }
+}
+
+// Fewer slots are not worth a thread.
+const FEW: usize = 1024;
+
+// The entries of the index, and what an opening asks: where there are many slots, in two threads.
+fn side_by_side<R: Threads + Sync>(
+    rt: &R,
+    alloc: Global,
+    readings: &Readings,
+) -> (
+    Result<Vec<(Key, Entry)>, AllocError>,
+    Result<Examined, Fault>,
+)
+    requires read { (image : Image) × AreOf image readings.now }
+    ensures entries { IfOk result.0 (λ entries. HasEntries readings.now.slots.items entries.items) }
+    ensures found { IfOk result.1 (λ found. (image : Image) → AreOf image readings.now → HasExamined image found) }
+    ensures fault { IfErr result.1 (λ fault. (image : Image) → AreOf image readings.now → Refuses image fault) }
+{
+    let slots = readings.slots.as_slice();
+    if slots.len() < FEW {
+        let found = readings.examine(rt, alloc);
+        return (entries_of(alloc, slots), found);
+    }
+    let listed = move || -> Result<Vec<(Key, Entry)>, AllocError>
+        ensures { IfOk result (λ entries. HasEntries slots.entry.now entries.items) }
+    { entries_of(alloc, slots) };
+    let examined = move || -> Result<Examined, Fault>
+        requires { (image : Image) × AreOf image readings.now }
+        ensures found { IfOk result (λ found. (image : Image) → AreOf image readings.entry.now → HasExamined image found) }
+        ensures fault { IfErr result (λ fault. (image : Image) → AreOf image readings.entry.now → Refuses image fault) }
+    { readings.examine(rt, alloc) };
+    join(rt, listed, examined)
+}
+
+// The entries of the keys whose versions are live. It reads no slot.
+fn entries_of(alloc: Global, readings: &[SlotReading]) -> Result<Vec<(Key, Entry)>, AllocError>
+    ensures { IfOk result (λ entries. HasEntries readings.now entries.items) }
+{
+    let mut entries = Vec::new(alloc);
+    for slot in 0..readings.len() {
+        if let SlotContent::Live(key) = &readings[slot].found {
+            let entry = Entry {
+                newest: Some(slot as u64),
+                ended: false,
+                drawn: None,
+                last: None,
+            };
+            entries.push((*key, entry))?;
+        }
     }
     Ok(entries)
 }

@@ -1,6 +1,6 @@
 -- What an opening makes of a device.
 use Rattle.std.proofs.Common.{◌≡◌, ◌⊎◌, inl, inr, ℕ, ◌+◌, ◌-◌, ◌*◌, ◌^◌, ◌<◌, ◌≤◌, Bool, true, false, cond, not, ◌||◌, ◌&&◌, List, [], length, get_or, map, refl, sym, ◌∙◌, ap, subst, arith, nat_le}
-use Rattle.std.specs.Prelude.{Option, Some, None}
+use Rattle.std.specs.Prelude.{Option, None}
 use Rattle.std.specs.List.{range_with_len}
 use Rattle.std.proofs.lemmas.Bool.{and_parts, leb-true, leb-false, cases_lt, or_parts}
 use Rattle.std.proofs.lemmas.List.{get_or_past}
@@ -12,10 +12,11 @@ use Rattle.base.specs.Search.{some_if}
 use Rattle.base.specs.Commits.{Commit}
 use Rattle.base.specs.Layout.{Layout, total_words, is_known_version, is_in_limits, is_between}
 use Rattle.base.specs.Records.{Record, opened_gaps}
-use Rattle.base.specs.Images.{Image, IsSound, damage, layout_of, ruling, is_shown, opening_fault, is_near_limit, needs_sweep, IsRuledBy, log_damage}
+use Rattle.base.specs.Images.{Image, IsSound, damage, layout_of, ruling, is_shown, opening_fault, is_bad_slot, is_near_limit, needs_sweep, IsRuledBy}
 use Rattle.base.specs.Stands.{Stands}
 use Rattle.machine.specs.Openings.{IsOpenedGaps, opening_record, gaps_kept, swept, opened_slots, record_counts, StandsOpening}
-use Rattle.base.proofs.Histories.{opens-sound}
+use Rattle.base.proofs.Histories.{no_bad_slot, opens-sound}
+use Rattle.base.proofs.Search.{first_below-nowhere}
 use Rattle.machine.proofs.openings.Records.{formed-kept}
 use Rattle.machine.proofs.openings.States.{covers-of}
 use Rattle.machine.proofs.openings.Sweeps.{unmarked-low, swept-unmarked}
@@ -37,6 +38,7 @@ use Rattle.log_area.proofs.Whole.{record-holds, record-images, record-images_sto
 use Rattle.recovery.specs.Gaps.{few_gaps, MayRule}
 use Rattle.recovery.specs.Slots.{IsUnder, IsSlotsFault, free_below, bad_below}
 use Rattle.recovery.specs.Live.{live_below}
+use Rattle.recovery.specs.Read.{IsLogRefusal}
 use Rattle.recovery.specs.Sweeping.{is_hit}
 use Rattle.recovery.specs.Opened.{HasSlotsOf, Refuses, IsExamined, Examined, HasOpenedToday, IsCutBefore, IsCutShort, IsRefusal, IsUpdatedFirst, MakesAll, gap_operations, today_operations, total}
 use Rattle.recovery.specs.declared.rows.LiveSlot.{LiveSlot}
@@ -54,9 +56,10 @@ opening-near image none = some_if-none (is_near_limit image) TimestampsOut (or-n
 
 -- ---- a refused examination
 
-pub refuses-log : (image : Image) (fault : Fault) → log_damage image ≡ Some fault → Refuses image fault
+pub refuses-read : (image : Image) (fault : Fault) → IsLogRefusal image fault → Refuses image fault
 unfolding Refuses
-refuses-log image fault is = inl (fault-log image fault is)
+refuses-read image fault (inl log) = inl (fault-log image fault log)
+refuses-read image fault (inr memory) = inr memory.1
 
 module _ (layout : Layout) (r : Record) (image : Image) (rules : IsRuledBy layout r image) where
   layout-good : is_in_limits layout ≡ true
@@ -131,6 +134,10 @@ module _ (image : Image) (layout : Layout) (r : Record) (gaps : Option (List Gap
 
   sound : IsSound image
   sound = opens-sound image is.opens
+
+  pub none-bad : bad_below image layout.slots ≡ None
+  unfolding bad_below
+  none-bad = first_below-nowhere layout.slots (is_bad_slot (ruling image) image) (λ slot lt. no_bad_slot image sound slot (subst (λ (l : Layout). slot < l.slots) (sym is.rules.laid_out) lt))
 
   some-window : 0 < layout.window
   some-window =

@@ -10,7 +10,7 @@ use Rattle.base.specs.Layout.{Layout, is_known_version}
 use Rattle.base.specs.Records.{Record}
 use Rattle.base.specs.Images.{Image, IsSound, layout_of, ruling, is_formatted, has_good_geometry, is_wrong_gate, is_ruled, ruling_place, is_bad_slot, IsRuledBy, log_damage}
 use Rattle.recovery.specs.Slots.{IsSlotsFault, bad_below}
-use Rattle.recovery.specs.Read.{IsRead, IsReadRefusal, TellsLogFault, rows_below}
+use Rattle.recovery.specs.Read.{IsLogRefusal, IsRead, IsReadRefusal, TellsLogFault, rows_below}
 use Rattle.recovery.proofs.openings.Images.{known-good}
 use Rattle.recovery.specs.Opened.{Examined}
 use Rattle.recovery.specs.declared.rows.LiveSlot.{LiveSlot}
@@ -18,8 +18,13 @@ use Rattle.recovery.proofs.openings.Faults.{gates-none, no-damage, log-first}
 use Rattle.recovery.proofs.openings.Devices.{is}
 use Rattle.base.specs.declared.gap.Gap.{Gap}
 
-pub refusal-log : (image : Image) (fault : Fault) → log_damage image ≡ Some fault → IsReadRefusal image fault
-refusal-log image fault is = inl (log-first image fault is)
+pub refusal-log : (image : Image) (fault : Fault) → IsLogRefusal image fault → IsReadRefusal image fault
+refusal-log image fault (inl is) = inl (log-first image fault is)
+refusal-log image fault (inr memory) = inr memory
+
+pub tells-read : (image : Image) (fault : Fault) → IsLogRefusal image fault → TellsLogFault image fault
+tells-read image fault (inl is) = inl is
+tells-read image fault (inr memory) = inr memory.0
 
 module _ (layout : Layout) (r : Record) (image : Image) (rules : IsRuledBy layout r image) where
   -- the same, with what stands at the end of the list

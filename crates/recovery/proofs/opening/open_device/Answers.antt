@@ -1,4 +1,5 @@
-use Rattle.std.specs.Prelude.{◌≡◌, Bool, List, Option, IfErr, OnErr, Result, Ok, Err}
+use Rattle.std.proofs.Common.{◌∙◌, ap, subst, sym}
+use Rattle.std.specs.Prelude.{◌≡◌, Bool, List, Option, IfErr, IfOk, OnErr, Result, Ok, Err}
 use Rattle.base.specs.declared.gap.Gap.{Gap}
 use Rattle.base.specs.declared.fault.Fault.{Fault}
 use Rattle.base.specs.declared.fault.Fault.TheVariants.{Device as DeviceFault}
@@ -8,9 +9,13 @@ use Rattle.base.specs.Images.{Image, opening_fault}
 use Rattle.pmem.specs.Device.{Device}
 use Rattle.pmem.specs.Words.{image_of}
 use Rattle.recovery.specs.Read.{TellsLogFault}
+use Rattle.recovery.specs.declared.examining.Examined.{Examined as Found}
 use Rattle.recovery.specs.declared.rows.LiveSlot.{LiveSlot}
 use Rattle.recovery.specs.declared.opening.OpenedImage.{OpenedImage}
-use Rattle.recovery.specs.Opened.{Examined, IsCutShort, IsRefusal}
+use Rattle.recovery.specs.Held.{HavePlaces}
+use Rattle.recovery.specs.Live.{live_below}
+use Rattle.recovery.specs.Opened.{Examined, HasOpened, IsCutShort, IsRefusal}
+use Rattle.recovery.proofs.openings.Devices as devices
 use Rattle.recovery.proofs.openings.Devices.{images-refused, version-refused, refusal-examined, refusal-device}
 use Rattle.recovery.proofs.reads.Images.{tells-examined}
 use Rattle.recovery.proofs.opening.open_device.Goals as goal
@@ -45,3 +50,16 @@ returns-clause-fault g c =
 pub returns-clause-log : goal.returns-clause-log
 returns-clause-log g c =
     told-later (image_of (g.D.Pmem.state c.args.device.now)) c.open.result c.in-Ok.found.geometry c.in-Ok.found.ruling c.in-Ok.found.gaps c.in-Ok.found.free.items c.in-Ok.found.live.items c.in-Ok.ensures.ok
+
+placed-later : (old new : Device) (result : Result OpenedImage Fault) (found : Found) → Examined (image_of old) found.geometry found.ruling found.gaps found.free.items found.live.items → HavePlaces found.live.items found.places.entries
+    → IfOk result (λ life. HasOpened old new life.geometry life.ruling life.next life.free.items life.live.items) → IfOk result (λ life. life.places ≡ found.places) → IfOk result (λ life. HavePlaces life.live.items life.places.entries)
+placed-later old new (Err fault) found ex have opened same = tt
+placed-later old new (Ok life) found ex have opened same =
+    let e = devices.is (image_of old) found.geometry found.ruling found.gaps found.free.items found.live.items ex in
+    let alike : life.live.items ≡ found.live.items = opened.live_is ∙ ap (λ (l : Layout). live_below (image_of old) l.slots) e.rules.laid_out ∙ sym e.live_are in
+    let P : List LiveSlot → Type 0 = λ l. HavePlaces l found.places.entries in
+    subst (λ p. HavePlaces life.live.items p.entries) (sym same) (subst P (sym alike) have)
+
+pub returns-clause-places : goal.returns-clause-places
+returns-clause-places g c =
+    placed-later (g.D.Pmem.state c.args.device.now) (g.D.Pmem.state c.open.new.device) c.open.result c.in-Ok.found c.in-Ok.ensures.ok c.in-Ok.ensures.places c.open.ensures.ok c.open.ensures.places

@@ -1,7 +1,6 @@
 use Rattle.std.proofs.Common.{length, ◌∙◌, ap}
 use Rattle.pmem.specs.Words.{image_of}
 use Rattle.recovery.proofs.sweeps.Slots.{ruled-size}
-use Rattle.recovery.proofs.openings.Devices.{under}
 use Rattle.recovery.proofs.reads.Images.{refusal-log, refusal-slots, refusal-memory, is-read}
 use Rattle.recovery.proofs.reads.Slots.{readings-size}
 use Rattle.recovery.proofs.reading.read_device.Goals as goal
@@ -9,45 +8,39 @@ use Rattle.recovery.proofs.reading.read_device.Goals as goal
 pub returns-in-Err-clause-fault : goal.returns-in-Err-clause-fault
 returns-in-Err-clause-fault g c = refusal-log (image_of (g.D.Pmem.state c.args.device.now)) c.in-Err.fault c.in-Err.ensures.fault
 
-pub read_slots-requires-clause-size : goal.read_slots-requires-clause-size
-read_slots-requires-clause-size g c κs within = ruled-size (g.D.Pmem.state c.args.device.now) c.in-Ok.found.geometry c.in-Ok.found.record c.in-Ok.ensures.ok
-
-pub read_slots-requires-clause-under : goal.read_slots-requires-clause-under
-read_slots-requires-clause-under g c κs within = under c.in-Ok.found.geometry c.in-Ok.found.record (image_of (g.D.Pmem.state c.args.device.now)) c.in-Ok.ensures.ok
-
 pub held_slots-requires-clause-size : goal.held_slots-requires-clause-size
 held_slots-requires-clause-size g c κs within =
-    ap length (c.as_slice.ensures.value ∙ c.in-Ok-read_slots.ensures) ∙ readings-size (image_of (g.D.Pmem.state c.args.device.now)) c.in-Ok.found.geometry.slots
+    ap length (c.as_slice-slots.ensures.value ∙ c.in-Ok.ensures.ok.slots_are) ∙ readings-size (image_of (g.D.Pmem.state c.args.device.now)) c.in-Ok.readings.geometry.slots
 
 pub returns-in-Err-held_slots-clause-fault : goal.returns-in-Err-held_slots-clause-fault
 returns-in-Err-held_slots-clause-fault g c =
     let image = image_of (g.D.Pmem.state c.args.device.now) in
-    refusal-slots c.in-Ok.found.geometry c.in-Ok.found.record image c.in-Ok.ensures.ok c.in-Err-held_slots.fault (c.in-Err-held_slots.ensures.fault image (c.as_slice.ensures.value ∙ c.in-Ok-read_slots.ensures))
+    refusal-slots c.in-Ok.readings.geometry c.in-Ok.readings.ruling image c.in-Ok.ensures.ok.rules c.in-Err-held_slots.fault (c.in-Err-held_slots.ensures.fault image (c.as_slice-slots.ensures.value ∙ c.in-Ok.ensures.ok.slots_are))
 
 -- ---- the rows
 
 pub live_rows-requires-clause-size : goal.live_rows-requires-clause-size
-live_rows-requires-clause-size g c = ruled-size (g.D.Pmem.state c.args.device.now) c.in-Ok.found.geometry c.in-Ok.found.record c.in-Ok.ensures.ok
+live_rows-requires-clause-size g c = ruled-size (g.D.Pmem.state c.args.device.now) c.in-Ok.readings.geometry c.in-Ok.readings.ruling c.in-Ok.ensures.ok.rules
 
 pub live_rows-requires-clause-live : goal.live_rows-requires-clause-live
 live_rows-requires-clause-live g c =
     let image = image_of (g.D.Pmem.state c.args.device.now) in
-    c.as_slice-2.ensures.value ∙ (c.in-Ok-held_slots.ensures.held image (c.as_slice.ensures.value ∙ c.in-Ok-read_slots.ensures)).live_are
+    c.as_slice.ensures.value ∙ (c.in-Ok-held_slots.ensures.held image (c.as_slice-slots.ensures.value ∙ c.in-Ok.ensures.ok.slots_are)).live_are
 
 pub live_rows-requires-clause-laid_out : goal.live_rows-requires-clause-laid_out
-live_rows-requires-clause-laid_out g c = c.in-Ok.ensures.ok.laid_out
+live_rows-requires-clause-laid_out g c = c.in-Ok.ensures.ok.rules.laid_out
 
 pub live_rows-requires-clause-good : goal.live_rows-requires-clause-good
 live_rows-requires-clause-good g c =
     let image = image_of (g.D.Pmem.state c.args.device.now) in
-    (c.in-Ok-held_slots.ensures.held image (c.as_slice.ensures.value ∙ c.in-Ok-read_slots.ensures)).good
+    (c.in-Ok-held_slots.ensures.held image (c.as_slice-slots.ensures.value ∙ c.in-Ok.ensures.ok.slots_are)).good
 
 pub returns-in-Ok-live_rows-clause-ok : goal.returns-in-Ok-live_rows-clause-ok
 returns-in-Ok-live_rows-clause-ok g c =
     let image = image_of (g.D.Pmem.state c.args.device.now) in
-    let found = c.in-Ok.found in
-    let held = c.in-Ok-held_slots.ensures.held image (c.as_slice.ensures.value ∙ c.in-Ok-read_slots.ensures) in
-    is-read found.geometry found.record image c.in-Ok.ensures.ok held.good c.in-Ok-live_rows.rows.items c.in-Ok-live_rows.ensures
+    let readings = c.in-Ok.readings in
+    let held = c.in-Ok-held_slots.ensures.held image (c.as_slice-slots.ensures.value ∙ c.in-Ok.ensures.ok.slots_are) in
+    is-read readings.geometry readings.ruling image c.in-Ok.ensures.ok.rules held.good c.in-Ok-live_rows.rows.items c.in-Ok-live_rows.ensures
 
-pub returns-in-Err-read_slots-clause-fault : goal.returns-in-Err-read_slots-clause-fault
-returns-in-Err-read_slots-clause-fault g c = refusal-memory c.in-Ok.found.geometry c.in-Ok.found.record (image_of (g.D.Pmem.state c.args.device.now)) c.in-Ok.ensures.ok
+pub returns-clause-fault : goal.returns-clause-fault
+returns-clause-fault g c = refusal-memory c.in-Ok.readings.geometry c.in-Ok.readings.ruling (image_of (g.D.Pmem.state c.args.device.now)) c.in-Ok.ensures.ok.rules

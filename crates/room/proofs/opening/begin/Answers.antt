@@ -23,25 +23,16 @@ returns-in-Err-clause-fault g c = refusal-examined (g.D.Pmem.state c.args.device
 pub returns-in-Err-clause-images : goal.returns-in-Err-clause-images
 returns-in-Err-clause-images g c = images-refused (g.D.Pmem.state c.args.device.now) ((g.met.D.Pmem g.world.𝓛 g.world.𝓜 g.world.𝓡 ((λ s x. x), (λ x. x), (λ x. x), λ x. x)).orderly c.args.device.now) c.requires.at_rest
 
--- ---- the index
-
-pub returns-in-Err-entries_of-clause-log : goal.returns-in-Err-entries_of-clause-log
-returns-in-Err-entries_of-clause-log g c =
-    tells-examined (image_of (g.D.Pmem.state c.args.device.now)) c.in-Ok.found.geometry c.in-Ok.found.ruling c.in-Ok.found.gaps c.in-Ok.found.free.items c.in-Ok.found.live.items c.in-Ok.ensures.ok OutOfMemory
-
-pub returns-in-Err-entries_of-clause-images : goal.returns-in-Err-entries_of-clause-images
-returns-in-Err-entries_of-clause-images g c = images-refused (g.D.Pmem.state c.args.device.now) ((g.met.D.Pmem g.world.𝓛 g.world.𝓜 g.world.𝓡 ((λ s x. x), (λ x. x), (λ x. x), λ x. x)).orderly c.args.device.now) c.requires.at_rest
-
 -- ---- the free slots
 
 pub new-requires : goal.new-requires
 new-requires g c =
-    let few = examined-few (g.D.Pmem.state c.args.device.now) c.in-Ok.found.geometry c.in-Ok.found.ruling c.in-Ok.found.gaps c.in-Ok.found.free.items c.in-Ok.found.live.items c.in-Ok.ensures.ok in
-    subst (λ (l : List Bool). length l < 2 ^ 32) (sym c.as_slice-2.ensures.value) few
+    let few = examined-few (g.D.Pmem.state c.args.device.now) c.in-Ok.learnt.found.geometry c.in-Ok.learnt.found.ruling c.in-Ok.learnt.found.gaps c.in-Ok.learnt.found.free.items c.in-Ok.learnt.found.live.items c.in-Ok.ensures.ok.found.examined in
+    subst (λ (l : List Bool). length l < 2 ^ 32) (sym c.as_slice.ensures.value) few
 
 pub returns-in-Err-new-clause-log : goal.returns-in-Err-new-clause-log
 returns-in-Err-new-clause-log g c =
-    tells-examined (image_of (g.D.Pmem.state c.args.device.now)) c.in-Ok.found.geometry c.in-Ok.found.ruling c.in-Ok.found.gaps c.in-Ok.found.free.items c.in-Ok.found.live.items c.in-Ok.ensures.ok OutOfMemory
+    tells-examined (image_of (g.D.Pmem.state c.args.device.now)) c.in-Ok.learnt.found.geometry c.in-Ok.learnt.found.ruling c.in-Ok.learnt.found.gaps c.in-Ok.learnt.found.free.items c.in-Ok.learnt.found.live.items c.in-Ok.ensures.ok.found.examined OutOfMemory
 
 pub returns-in-Err-new-clause-images : goal.returns-in-Err-new-clause-images
 returns-in-Err-new-clause-images g c = images-refused (g.D.Pmem.state c.args.device.now) ((g.met.D.Pmem g.world.𝓛 g.world.𝓜 g.world.𝓡 ((λ s x. x), (λ x. x), (λ x. x), λ x. x)).orderly c.args.device.now) c.requires.at_rest
@@ -50,7 +41,7 @@ returns-in-Err-new-clause-images g c = images-refused (g.D.Pmem.state c.args.dev
 
 pub returns-in-Err-new-2-clause-log : goal.returns-in-Err-new-2-clause-log
 returns-in-Err-new-2-clause-log g c =
-    tells-examined (image_of (g.D.Pmem.state c.args.device.now)) c.in-Ok.found.geometry c.in-Ok.found.ruling c.in-Ok.found.gaps c.in-Ok.found.free.items c.in-Ok.found.live.items c.in-Ok.ensures.ok OutOfMemory
+    tells-examined (image_of (g.D.Pmem.state c.args.device.now)) c.in-Ok.learnt.found.geometry c.in-Ok.learnt.found.ruling c.in-Ok.learnt.found.gaps c.in-Ok.learnt.found.free.items c.in-Ok.learnt.found.live.items c.in-Ok.ensures.ok.found.examined OutOfMemory
 
 pub returns-in-Err-new-2-clause-images : goal.returns-in-Err-new-2-clause-images
 returns-in-Err-new-2-clause-images g c = images-refused (g.D.Pmem.state c.args.device.now) ((g.met.D.Pmem g.world.𝓛 g.world.𝓜 g.world.𝓡 ((λ s x. x), (λ x. x), (λ x. x), λ x. x)).orderly c.args.device.now) c.requires.at_rest
@@ -59,29 +50,29 @@ returns-in-Err-new-2-clause-images g c = images-refused (g.D.Pmem.state c.args.d
 
 pub returns-in-Err-open-clause-fault : goal.returns-in-Err-open-clause-fault
 returns-in-Err-open-clause-fault g c =
-    refusal-device (g.D.Pmem.state c.args.device.now) (g.D.Pmem.state c.open.new.device) c.in-Err-open.fault c.in-Ok.found.geometry c.in-Ok.found.ruling c.in-Ok.found.gaps c.in-Ok.found.free.items c.in-Ok.found.live.items c.in-Ok.ensures.ok
+    refusal-device (g.D.Pmem.state c.args.device.now) (g.D.Pmem.state c.open.new.device) c.in-Err-open.fault c.in-Ok.learnt.found.geometry c.in-Ok.learnt.found.ruling c.in-Ok.learnt.found.gaps c.in-Ok.learnt.found.free.items c.in-Ok.learnt.found.live.items c.in-Ok.ensures.ok.found.examined
     c.in-Err-open.ensures.fault c.in-Err-open.ensures.failed
 
 pub returns-in-Err-open-clause-log : goal.returns-in-Err-open-clause-log
 returns-in-Err-open-clause-log g c =
-    tells-examined (image_of (g.D.Pmem.state c.args.device.now)) c.in-Ok.found.geometry c.in-Ok.found.ruling c.in-Ok.found.gaps c.in-Ok.found.free.items c.in-Ok.found.live.items c.in-Ok.ensures.ok c.in-Err-open.fault
+    tells-examined (image_of (g.D.Pmem.state c.args.device.now)) c.in-Ok.learnt.found.geometry c.in-Ok.learnt.found.ruling c.in-Ok.learnt.found.gaps c.in-Ok.learnt.found.free.items c.in-Ok.learnt.found.live.items c.in-Ok.ensures.ok.found.examined c.in-Err-open.fault
 
 -- ---- the index
 
 pub of-index-requires : goal.of-index-requires
 of-index-requires g c =
-    let found = c.in-Ok.found in
-    let entries : c.in-Ok-entries_of.entries.items ≡ map entry_of found.live.items = c.in-Ok-entries_of.ensures ∙ ap (map entry_of) c.as_slice.ensures.value in
+    let found = c.in-Ok.learnt.found in
+    let entries : c.in-Ok.learnt.entries.items ≡ map entry_of found.live.items = c.in-Ok.ensures.ok.entries_are in
     let places : c.in-Ok-open.life.places.entries ≡ found.places.entries = ap (λ (m : BTreeMap Key ℕ). m.entries) c.in-Ok-open.ensures.places in
     subst (λ (es : List (Key × Entry)). ArePlaced c.in-Ok-open.life.places.entries es) (sym entries)
-    (subst (λ (ps : List (Key × ℕ)). ArePlaced ps (map entry_of found.live.items)) (sym places) (are-placed found.live.items found.places.entries c.in-Ok.ensures.places))
+    (subst (λ (ps : List (Key × ℕ)). ArePlaced ps (map entry_of found.live.items)) (sym places) (are-placed found.live.items found.places.entries c.in-Ok.ensures.ok.found.placed))
 
 -- ---- the sessions
 
 pub open-sessions-requires : goal.open-sessions-requires
 open-sessions-requires g c = record {
-  slots = ap (λ (l : List Bool). length l) (c.in-Ok-new.ensures ∙ c.as_slice-2.ensures.value
-      ∙ sym (examined-free-now (g.D.Pmem.state c.args.device.now) c.in-Ok.found.geometry c.in-Ok.found.ruling c.in-Ok.found.gaps c.in-Ok.found.free.items c.in-Ok.found.live.items c.in-Ok.ensures.ok
+  slots = ap (λ (l : List Bool). length l) (c.in-Ok-new.ensures ∙ c.as_slice.ensures.value
+      ∙ sym (examined-free-now (g.D.Pmem.state c.args.device.now) c.in-Ok.learnt.found.geometry c.in-Ok.learnt.found.ruling c.in-Ok.learnt.found.gaps c.in-Ok.learnt.found.free.items c.in-Ok.learnt.found.live.items c.in-Ok.ensures.ok.found.examined
       (g.D.Pmem.state c.open.new.device) c.in-Ok-open.life.geometry c.in-Ok-open.life.ruling c.in-Ok-open.life.next c.in-Ok-open.life.free.items c.in-Ok-open.life.live.items c.in-Ok-open.ensures.ok))
       ∙ free-counted (g.D.Pmem.state c.args.device.now) (g.D.Pmem.state c.open.new.device) c.in-Ok-open.life.geometry c.in-Ok-open.life.ruling c.in-Ok-open.life.next c.in-Ok-open.life.free.items c.in-Ok-open.life.live.items c.in-Ok-open.ensures.ok;
   untouched = c.in-Ok-new-2.ensures.touches;
@@ -104,13 +95,13 @@ returns-clause-ok g c =
       live = life.live.items;
       opened = c.in-Ok-open.ensures.ok;
       shows =
-          let known = is (image_of old) c.in-Ok.found.geometry c.in-Ok.found.ruling c.in-Ok.found.gaps c.in-Ok.found.free.items c.in-Ok.found.live.items c.in-Ok.ensures.ok in
+          let known = is (image_of old) c.in-Ok.learnt.found.geometry c.in-Ok.learnt.found.ruling c.in-Ok.learnt.found.gaps c.in-Ok.learnt.found.free.items c.in-Ok.learnt.found.live.items c.in-Ok.ensures.ok.found.examined in
           let found : HasFound (image_of new) life.free.items life.geometry.slots c.of-index.result =
-          examined-found old c.in-Ok.found.geometry c.in-Ok.found.ruling c.in-Ok.found.gaps c.in-Ok.found.free.items c.in-Ok.found.live.items c.in-Ok.ensures.ok new
-          life.geometry life.ruling life.next life.free.items life.live.items c.in-Ok-open.ensures.ok (free_below (image_of old) c.in-Ok.found.geometry.slots) c.of-index.result (sym known.free_are)
-          (λ laid. listed-found (image_of old) c.in-Ok.found.geometry.slots c.in-Ok.found.live.items c.of-index.result known.live_are (c.of-index.ensures ∙ c.in-Ok-entries_of.ensures ∙ ap (map entry_of) c.as_slice.ensures.value)) in
-          let slots : c.in-Ok-new.slots ≡ life.free.items = c.in-Ok-new.ensures ∙ c.as_slice-2.ensures.value
-          ∙ sym (examined-free-now old c.in-Ok.found.geometry c.in-Ok.found.ruling c.in-Ok.found.gaps c.in-Ok.found.free.items c.in-Ok.found.live.items c.in-Ok.ensures.ok new life.geometry life.ruling life.next life.free.items life.live.items c.in-Ok-open.ensures.ok) in
+          examined-found old c.in-Ok.learnt.found.geometry c.in-Ok.learnt.found.ruling c.in-Ok.learnt.found.gaps c.in-Ok.learnt.found.free.items c.in-Ok.learnt.found.live.items c.in-Ok.ensures.ok.found.examined new
+          life.geometry life.ruling life.next life.free.items life.live.items c.in-Ok-open.ensures.ok (free_below (image_of old) c.in-Ok.learnt.found.geometry.slots) c.of-index.result (sym known.free_are)
+          (λ laid. listed-found (image_of old) c.in-Ok.learnt.found.geometry.slots c.in-Ok.learnt.found.live.items c.of-index.result known.live_are (c.of-index.ensures ∙ c.in-Ok.ensures.ok.entries_are)) in
+          let slots : c.in-Ok-new.slots ≡ life.free.items = c.in-Ok-new.ensures ∙ c.as_slice.ensures.value
+          ∙ sym (examined-free-now old c.in-Ok.learnt.found.geometry c.in-Ok.learnt.found.ruling c.in-Ok.learnt.found.gaps c.in-Ok.learnt.found.free.items c.in-Ok.learnt.found.live.items c.in-Ok.ensures.ok.found.examined new life.geometry life.ruling life.next life.free.items life.live.items c.in-Ok-open.ensures.ok) in
           let shown : ShowsOpened c.open-sessions.result new life.geometry life.ruling life.next c.in-Ok-new.slots =
           c.open-sessions.ensures new ((g.met.D.Pmem g.world.𝓛 g.world.𝓜 g.world.𝓡 ((λ s x. x), (λ x. x), (λ x. x), λ x. x)).orderly c.open.new.device) (subst (λ (l : List Bool). HasFound (image_of new) l life.geometry.slots c.of-index.result) (sym slots) found) in
           subst (λ (s : Sessions). ShowsOpened s new life.geometry life.ruling life.next life.free.items) (sym c.new-3.ensures.sessions)
