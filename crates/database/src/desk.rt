@@ -19,24 +19,26 @@ use std::thread;
 // How often in a row the committer may be refused memory while somebody waits for it.
 const REFUSALS: u64 = 100;
 
-// How often a lock is tried before others are let run, and how often they are before one sleeps.
-const LOOKS: u64 = 200;
+// How often a lock is tried before others are let run, and how often they are before one sleeps. Between two looks lie so many pauses, since
+// each look takes the lock's word away from whoever holds it.
+const LOOKS: u64 = 50;
+
+const PAUSES: u64 = 4;
 
 const YIELDS: u64 = 20;
 
 /// What lies under the lock.
 #[derive(Drop)]
 pub struct Desk<D: Pmem> {
-    /// There from the opening to the close.
-    pub room: Option<OpenedRoom<D>>,
+    /// The commits that are waited for. They come first: a processor gives the lock's word with what lies behind it to each thread that looks
+    /// whether it is free, so nothing that its holder needs all the time is to lie there.
+    pub group: Group,
     /// How many workers there are.
     pub working: u64,
     /// They are to end.
     pub closing: bool,
     /// How many transactions are open, those that wait for their commit among them.
     pub open: u64,
-    /// The commits that are waited for.
-    pub group: Group,
     /// Somebody takes the committer's turns for those who wait.
     pub is_led: bool,
     /// Somebody leads the group after a while, if nobody has by then.
@@ -53,6 +55,8 @@ pub struct Desk<D: Pmem> {
     pub covered: u64,
     /// How many ticks in a row were refused for want of memory.
     pub refusals: u64,
+    /// There from the opening to the close.
+    pub room: Option<OpenedRoom<D>>,
     /// Why nothing more will be covered: what the committer was refused with.
     pub ended: Option<Fault>,
     ghost ended_so: { ForSome ended HasEnded },
@@ -197,6 +201,19 @@ impl<D: Pmem + Drop> Desk<D> {
             None => false,
         }
     }
+
+    // Whether it is late: a row for every other slot was covered since then.
+    fn is_round_late(&self) -> bool {
+        match &self.room {
+            Some(room) => room.geometry().slots() / 2 <= self.covered,
+            None => false,
+        }
+    }
+
+    /// Whether the collector's round may wait for the next sync, beside which it doesn't keep others from the lock.
+    pub fn may_round_wait(&self) -> bool {
+        self.syncs_apart && !self.is_syncing && !self.is_round_late()
+    }
 }
 
 // Takes a lock that nobody holds for long: it sleeps only after it has tried for a while. Whoever sleeps before would have to be woken,
@@ -207,11 +224,17 @@ fn enter<'a, T, R: Wait>(rt: &R, lock: &'a Mutex<T>) -> MutexGuard<'a, T> {
             if let Some(guard) = lock.try_lock() {
                 return guard;
             }
-            spin_loop();
+            pause();
         }
         thread::yield_now();
     }
     lock.lock(rt)
+}
+
+fn pause() {
+    for _ in 0..PAUSES {
+        spin_loop();
+    }
 }
 
 /// What the threads share.
@@ -243,11 +266,10 @@ impl<D: Pmem + Drop> Shared<D> {
     pub fn new() -> Shared<D> {
         Shared {
             desk: Mutex::new(Desk {
-                room: None,
+                group: Group::new(),
                 working: 0,
                 closing: false,
                 open: 0,
-                group: Group::new(),
                 is_led: false,
                 is_watched: false,
                 is_syncing: false,
@@ -256,6 +278,7 @@ impl<D: Pmem + Drop> Shared<D> {
                 is_wanted: false,
                 covered: u64::MAX,
                 refusals: 0,
+                room: None,
                 ended: None,
             }),
             commits: Condvar::new(),

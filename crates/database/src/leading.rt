@@ -7,8 +7,10 @@ use std::thread;
 use std::time::Duration;
 use sync_ahead::SyncAhead;
 
-// So many microseconds a group is let grow at most.
+// So many microseconds a group is let grow while nobody comes, and so many times as long at most while others do.
 const PATIENCE: u64 = 500;
+
+const NAPS: u64 = 4;
 
 impl<D: SyncAhead + Drop> Shared<D> {
     ghost use Rattle.database.specs.Committing.{IsAnswered};
@@ -91,16 +93,41 @@ impl<D: SyncAhead + Drop> Shared<D> {
             return desk;
         }
         desk.is_watched = true;
-        let seen = self.moved.notifications();
-        drop(desk);
-        self.moved.sleep(rt, seen, Duration::from_micros(PATIENCE));
-        let mut desk = self.desk(rt);
+        let mut desk = self.watch(rt, desk);
         desk.is_watched = false;
         if !desk.is_led {
             let after = desk.missing();
             desk.group.grew(before, after);
         }
         desk
+    }
+
+    // Sleeps as long as others come, up to the end of the group's growth.
+    fn watch<'a, R: Wait>(
+        &'a self,
+        rt: &R,
+        desk: MutexGuard<'a, Desk<D>>,
+    ) -> MutexGuard<'a, Desk<D>> {
+        let mut desk = desk;
+        for _ in 0..NAPS {
+            let missing = desk.missing();
+            desk = self.nap(rt, desk);
+            if !desk.is_watched || desk.is_whole() || missing <= desk.missing() {
+                break;
+            }
+        }
+        desk
+    }
+
+    fn nap<'a, R: Wait>(
+        &'a self,
+        rt: &R,
+        desk: MutexGuard<'a, Desk<D>>,
+    ) -> MutexGuard<'a, Desk<D>> {
+        let seen = self.moved.notifications();
+        drop(desk);
+        self.moved.sleep(rt, seen, Duration::from_micros(PATIENCE));
+        self.desk(rt)
     }
 
     // A turn of the committer, unless another takes one. Where there is nothing to do another leads, and covers the commit with its own.

@@ -108,7 +108,7 @@ fn commit<'a, R: Wait, D: SyncAhead + Drop>(
     }
 }
 
-// A turn of the collector, which sleeps where no round is due.
+// A turn of the collector, which sleeps where no round is due, or where its round may wait. Between two turns whoever waits for the lock gets it.
 fn collect<'a, R: Wait, D: SyncAhead + Drop>(
     rt: &R,
     shared: &'a Shared<D>,
@@ -116,7 +116,10 @@ fn collect<'a, R: Wait, D: SyncAhead + Drop>(
 ) {
     let mut desk = desk;
     match turns::collect(&mut desk) {
-        Turn::Unfinished => {}
+        Turn::Unfinished if !desk.may_round_wait() => {
+            drop(desk);
+            thread::yield_now();
+        }
         // The record that drops swept gaps is due.
         Turn::Finished => shared.commits.notify_all(),
         _ => drop(shared.rounds.wait(rt, desk)),
