@@ -3,7 +3,7 @@ use Rattle.std.proofs.Common.{◌≡◌, ℕ, ◌≤◌, Bool, true, false, cond
 use Rattle.std.specs.Prelude.{Option, IsTrue, nat_le}
 use Rattle.std.specs.List.{list_any}
 use Rattle.std.proofs.lemmas.Bool.{leb-true}
-use Rattle.std.proofs.lemmas.List.{take_all}
+use Rattle.std.proofs.lemmas.List.{take_all, length-map, length-take-le}
 use Rattle.std.proofs.lemmas.Simd.{map-map}
 use Rattle.base.specs.declared.key.Key.{Key}
 use Rattle.base.specs.Keys.{is_rising}
@@ -14,6 +14,7 @@ use Rattle.txn.specs.declared.drawn.DrawnCommit.{DrawnCommit}
 use Rattle.txn.specs.declared.write.Write.{Write}
 use Rattle.txn.specs.DrawnCommits.{plain_drawn}
 use Rattle.txn.specs.WriteSets.{IsRising, plain_write, plain_writes}
+use Rattle.txn.proofs.Passed.{few-filtered}
 
 -- rows that are pushed one after the other are by rising key, as the writes are
 pub rising-plain : (writes : List Write) (n : ℕ) (rows : Writes) → rows ≡ plain_writes (take n writes) → length writes ≤ n → IsRising writes → IsTrue (is_rising (map (λ (w : Key × Option (List ℕ)). w.0) rows))
@@ -30,6 +31,15 @@ none-chosen reach (d ∷ ds) = by (is_chosen reach (plain_drawn d)) (none-chosen
         → is_nil (map (λ (e : Drawn). e.commit) (cond b (plain_drawn d ∷ filter (is_chosen reach) (map plain_drawn ds)) (filter (is_chosen reach) (map plain_drawn ds)))) ≡ not (b || list_any (λ d. is_chosen reach (plain_drawn d)) ds)
     by true rest = refl
     by false rest = rest
+
+-- of so many no more are chosen
+pub few-chosen : (reach n : ℕ) (ds : List DrawnCommit) → n ≤ length ds → length (chosen reach (map plain_drawn (take n ds))) ≤ n
+few-chosen reach n ds within =
+    let each = length-map (filter (is_chosen reach) (map plain_drawn (take n ds))) (λ (d : Drawn). d.commit) in
+    let few = few-filtered (is_chosen reach) (map plain_drawn (take n ds)) in
+    let all = length-map (take n ds) plain_drawn in
+    let taken = length-take-le n ds within in
+    omega (arith, each, few, all, taken)
 
 -- a line that is found isn't below
 pub found-from : (from line : ℕ) (lines : List ℕ) → find (nat_le from) lines ≡ Some line → from ≤ line

@@ -19,6 +19,7 @@ use txn::{DrawnCommit, DrawnCommits};
 
 /// Whether the committer has nothing to do: no commit is chosen, half a window of timestamps is reserved, and no swept gap
 /// stands.
+#[inline(always)]
 pub fn is_idle(
     geometry: Geometry,
     ruling: Record,
@@ -32,13 +33,13 @@ pub fn is_idle(
     let reserved = ruling.dirty().saturating_sub(next);
     let window_is_short = reserved < (geometry.window() + 1) / 2;
     let has_swept_gaps = swept && !ruling.gaps().as_slice().is_empty();
-    let reach = reach_of(geometry, ruling, drawn);
+    let reach = reach_of(geometry, &ruling, drawn);
     !has_chosen(reach, drawn.as_slice()) && !(window_is_short || has_swept_gaps)
 }
 
 // Up to which timestamp the next record reaches.
-fn reach_of(geometry: Geometry, ruling: Record, drawn: &DrawnCommits) -> Ts
-    ensures { result ≡ reach (most_longs geometry.version) ruling.persisted (map plain_drawn drawn.now.commits) }
+fn reach_of(geometry: Geometry, ruling: &Record, drawn: &DrawnCommits) -> Ts
+    ensures { result ≡ reach (most_longs geometry.version) ruling.now.persisted (map plain_drawn drawn.now.commits) }
 {
     drawn.reach(ruling.persisted(), geometry.most_longs())
 }
@@ -58,25 +59,26 @@ fn has_chosen(reach: Ts, drawn: &[DrawnCommit]) -> bool
 }
 
 /// Whether a record may follow this one: its number is in range.
-pub(crate) fn is_numbered(ruling: Record) -> bool
-    requires { ruling.gate < 2 ^ 62 }
-    ensures { result ≡ nat_lt (ruling.gate + 1) (2 ^ 62) }
+pub(crate) fn is_numbered(ruling: &Record) -> bool
+    requires { ruling.now.gate < 2 ^ 62 }
+    ensures { result ≡ nat_lt (ruling.now.gate + 1) (2 ^ 62) }
 {
     ruling.gate() + 1 < NUMBER_LIMIT
 }
 
 /// The next record. It names the commits that it passes over.
+#[inline(always)]
 pub(crate) fn record_of(
     geometry: Geometry,
-    ruling: Record,
+    ruling: &Record,
     next: Ts,
     swept: bool,
     drawn: &DrawnCommits,
 ) -> Record
-    requires numbered { ruling.gate < 2 ^ 62 }
+    requires numbered { ruling.now.gate < 2 ^ 62 }
     requires countable { next ≤ 2 ^ 62 }
-    requires few { length (target_of geometry ruling next swept (map plain_drawn drawn.now.commits)).longs ≤ 12 }
-    ensures { result ≡ target_of geometry ruling next swept (map plain_drawn drawn.now.commits) }
+    requires few { length (target_of geometry ruling.now next swept (map plain_drawn drawn.now.commits)).longs ≤ 12 }
+    ensures { result ≡ target_of geometry ruling.now next swept (map plain_drawn drawn.now.commits) }
 {
     let reach = reach_of(geometry, ruling, drawn);
     let dirty = next + geometry.window();
@@ -86,9 +88,9 @@ pub(crate) fn record_of(
 }
 
 /// The record that a close writes last: it persists all that is drawn, names no long commit, and reserves no timestamp.
-pub(crate) fn closing_record(ruling: Record, next: Ts, swept: bool) -> Record
-    requires { ruling.gate < 2 ^ 62 }
-    ensures { result ≡ closing_record (ruling.gate + 1) ruling next swept }
+pub(crate) fn closing_record(ruling: &Record, next: Ts, swept: bool) -> Record
+    requires { ruling.now.gate < 2 ^ 62 }
+    ensures { result ≡ closing_record (ruling.now.gate + 1) ruling.now next swept }
 {
     let gaps = standing_gaps(ruling, swept);
     let persisted = next.saturating_sub(1);
@@ -96,21 +98,22 @@ pub(crate) fn closing_record(ruling: Record, next: Ts, swept: bool) -> Record
 }
 
 // The gaps that the next record names.
-fn standing_gaps(ruling: Record, swept: bool) -> Gaps
-    ensures { result ≡ standing_gaps swept ruling }
+fn standing_gaps(ruling: &Record, swept: bool) -> Gaps
+    ensures { result ≡ standing_gaps swept ruling.now }
 {
     if swept { Gaps::none() } else { ruling.gaps() }
 }
 
 /// The batch of those of the drawn commits that the record covers, under the one after which it comes. Its memory is taken
 /// here.
+#[inline(always)]
 pub(crate) fn batch_of(
     alloc: Global,
-    ruling: Record,
-    target: Record,
+    ruling: &Record,
+    target: &Record,
     drawn: &[DrawnCommit],
 ) -> Result<Batch, AllocError>
-    ensures { IfOk result (λ batch. batch ≡ batch_of ruling target (chosen target.persisted (map plain_drawn drawn.now))) }
+    ensures { IfOk result (λ batch. batch ≡ batch_of ruling.now target.now (chosen target.now.persisted (map plain_drawn drawn.now))) }
 {
     let commits = commits_of(alloc, target.persisted(), drawn)?;
     Ok(Batch::new(
@@ -129,19 +132,21 @@ fn commits_of(alloc: Global, reach: Ts, drawn: &[DrawnCommit]) -> Result<Vec<Com
     let mut commits = Vec::with_capacity(alloc, drawn.len())?;
     for commit in drawn {
         if is_chosen(reach, commit) {
-            commits.push(commit_of(alloc, commit)?)?;
+            commits.push_reserved(commit_of(alloc, commit)?);
         }
     }
     Ok(commits)
 }
 
 // The commit of a transaction that writes this.
+#[inline(always)]
 fn commit_of(alloc: Global, drawn: &DrawnCommit) -> Result<Commit, AllocError>
     ensures { IfOk result (λ commit. commit ≡ (plain_drawn drawn.now).commit) }
 {
-    let mut rows = SmallVec::with_capacity(alloc, drawn.writes.len())?;
-    for write in drawn.writes.as_slice() {
-        rows.push((write.key, write.row))?;
+    let writes = drawn.writes.as_slice();
+    let mut rows = SmallVec::with_capacity(alloc, writes.len())?;
+    for write in writes {
+        rows.push_reserved((write.key, write.row));
     }
     Ok(Commit::new(drawn.timestamp, rows))
 }
@@ -159,9 +164,9 @@ pub(crate) fn sessions_of(commits: &[DrawnCommit]) -> SessionSet
 }
 
 // The sessions that drew those of the commits that the record commits.
-pub(crate) fn sessions_committed_by(ruling: Record, commits: &[DrawnCommit]) -> SessionSet
+pub(crate) fn sessions_committed_by(ruling: &Record, commits: &[DrawnCommit]) -> SessionSet
     requires { IsTrue (are_numbered commits.now) }
-    ensures { (n : ℕ) → has result n ≡ list_any (λ d. nat_eq d.session n && is_committed ruling d.timestamp) commits.now }
+    ensures { (n : ℕ) → has result n ≡ list_any (λ d. nat_eq d.session n && is_committed ruling.now d.timestamp) commits.now }
 {
     let mut sessions = SessionSet::none();
     for commit in commits {

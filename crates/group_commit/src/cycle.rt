@@ -59,6 +59,7 @@ impl Cycle {
 
     /// Takes the drawn commits that the next record may cover, and the memory of their batch: no tick takes any. Fails with
     /// `TimestampsOut` where no record number is left, and else with `OutOfMemory`.
+    #[inline(always)]
     pub fn begin(
         alloc: Global,
         geometry: Geometry,
@@ -77,15 +78,15 @@ impl Cycle {
         ensures numbered { OnOk result (ruling.gate + 1 < 2 ^ 62) }
         ensures fault { IfErr result (IsBeginFault ruling) }
     {
-        if !is_numbered(ruling) {
+        if !is_numbered(&ruling) {
             return Err(Fault::TimestampsOut);
         }
         let commits = drawn.as_slice();
-        let target = record_of(geometry, ruling, next, swept, drawn);
-        let Ok(batch) = batch_of(alloc, ruling, target, commits) else {
+        let target = record_of(geometry, &ruling, next, swept, drawn);
+        let Ok(batch) = batch_of(alloc, &ruling, &target, commits) else {
             return Err(Fault::OutOfMemory);
         };
-        let sessions = sessions_committed_by(target, commits);
+        let sessions = sessions_committed_by(&target, commits);
         Ok(Cycle::new(geometry, target, batch, sessions))
     }
 
@@ -104,7 +105,7 @@ impl Cycle {
         ensures writing { result.writing ≡ begun geometry (closing_record (ruling.gate + 1) ruling next swept) }
         ensures stage { result.stage ≡ FlushLines 0 0 }
     {
-        let target = closing_record(ruling, next, swept);
+        let target = closing_record(&ruling, next, swept);
         let batch = Batch::new(
             ruling.gate(),
             target.gate(),
@@ -116,6 +117,7 @@ impl Cycle {
     }
 
     // No line is flushed yet.
+    #[inline(always)]
     fn new(geometry: Geometry, target: Record, batch: Batch, sessions: SessionSet) -> Cycle
         ensures { result ≡ record { batch = batch; sessions = sessions; writing = begun geometry target; stage = FlushLines 0 0 } }
     {
@@ -182,6 +184,7 @@ impl Cycle {
     }
 
     /// The batch and the record that covered it, once its last operation was made.
+    #[inline(always)]
     pub fn finish(self) -> Covered
         ensures batch { result.batch ≡ self.batch }
         ensures record { result.record ≡ self.writing.target }

@@ -9,6 +9,6 @@ mod ranges;
 mod walking;
 
 pub use entry::Entry;
-pub use map::Index;
+pub use map::{Index, Known};
 pub use ranges::{KeyRange, listed};
 pub use walking::Found;

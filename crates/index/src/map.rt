@@ -7,6 +7,13 @@ use std::alloc::Global;
 use std::collections::BTreeMap;
 use std::marker::Model;
 
+/// Where the entry of a key is, if it has one, and the slot that a new version of it links to.
+#[derive(Clone, Copy, Debug)]
+pub struct Known {
+    pub place: Option<usize>,
+    pub link: Option<SlotNo>,
+}
+
 /// Where the versions of each key are. A key that has no entry has a blank one.
 #[derive(Drop)]
 pub struct Index {
@@ -157,6 +164,22 @@ impl Index {
         ensures { result ≡ head_of (entry_at self.now key) }
     {
         self.entry(key, near).head()
+    }
+
+    /// What a put asks of its key, found once.
+    #[inline(always)]
+    pub fn known(&self, key: Key) -> Known
+        ensures { result.link ≡ head_of (entry_at self.now key) }
+    {
+        let place = self.place(key);
+        let entry = match place {
+            Some(at) => self.entry_in(at, key),
+            None => Entry::blank(),
+        };
+        Known {
+            place,
+            link: entry.head(),
+        }
     }
 
     // Sets the entry at the place of the key.

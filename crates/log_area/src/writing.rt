@@ -46,6 +46,7 @@ impl Writing {
     ghost use Rattle.log_area.specs.Writings.{begun, advanced, start_of, operation_of};
 
     /// Nothing is stored yet.
+    #[inline(always)]
     pub fn new(geometry: Geometry, target: Record) -> Writing
         ensures { result ≡ begun geometry target }
     {

@@ -327,15 +327,6 @@ pub record IsAfterSome (log : List Stored) (from clock word place newer : ℕ) (
   pub value : ℕ
   pub after : IsAfter log from clock word place value newer whole
 
-pub after_none : (log : List Stored) (from clock word place value : ℕ) (whole : List Entry) → Shows log from clock word place value nobody whole → IsAfter log from clock word place value 0 whole
-after_none log from clock word place value whole shown = record {
-  actors = nobody;
-  older = whole;
-  shown = shown;
-  count = omega arith;
-  each = λ k. let z : 0 + k ≡ k = omega arith in ap (λ (n : ℕ). get_or (survivors_in whole) n 0) z;
-}
-
 pub after_own : (log : List Stored) (from clock word n value newer : ℕ) (whole : List Entry) → from ≤ n → (store_at log n).word ≡ word → IsAfter log from clock word (suc n) value newer whole
     → IsAfter log from clock word n (store_at log n).replaced (newer + 1) whole
 after_own log from clock word n value newer whole in_span is after =

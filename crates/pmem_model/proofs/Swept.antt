@@ -1,5 +1,5 @@
 -- A fence that visits all lines, one after the other.
-use Rattle.std.proofs.Common.{◌≡◌, inl, inr, ℕ, ◌+◌, ◌/◌, ◌<◌, ◌≤◌, Bool, cond, List, [], ◌==◌, refl, sym, ◌∙◌, ap, arith}
+use Rattle.std.proofs.Common.{◌≡◌, inl, inr, ℕ, ◌+◌, ◌/◌, ◌<◌, ◌≤◌, Bool, cond, List, [], ◌==◌, sym, ◌∙◌, ap, arith}
 use Rattle.std.proofs.lemmas.Bool.{cases_eq, cases_lt, eq-eqb, ne_eqb}
 use Rattle.pmem.specs.Device.{Entry}
 
@@ -7,9 +7,6 @@ use Rattle.pmem.specs.Device.{Entry}
 pub record SweptTo (line : ℕ) (change : List Entry → List Entry) (old new : ℕ → List Entry) : Type 0 where
   pub before : (word : ℕ) → word / 8 < line → new word ≡ change (old word)
   pub after : (word : ℕ) → line ≤ word / 8 → new word ≡ old word
-
-pub swept-none : (change : List Entry → List Entry) (old : ℕ → List Entry) → SweptTo 0 change old old
-swept-none change old = record { before = λ word lt. absurd (omega arith); after = λ word le. refl }
 
 pub swept-more : (line : ℕ) (change : List Entry → List Entry) (old mid new : ℕ → List Entry) → SweptTo line change old mid
     → ((word : ℕ) → new word ≡ cond ((word / 8) == line) (change (mid word)) (mid word)) → SweptTo (line + 1) change old new

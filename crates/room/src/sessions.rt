@@ -1,7 +1,8 @@
 //! Each step of a session as a call of its own, which returns what that step is for. A step and a reply have room for the largest there
 //! is: these calls move neither.
 
-ghost use Rattle.std.specs.Prelude.{◌≡◌};
+ghost use Rattle.std.specs.Prelude.{◌≡◌, ◌≢◌, IfErr};
+ghost use Rattle.base.specs.declared.fault.Fault.TheVariants.{OutOfMemory};
 ghost use Rattle.room.specs.Steps.{reports_failure};
 
 use crate::room::Room;
@@ -54,10 +55,11 @@ impl<D: Pmem + Drop> Room<D> {
             .scan(&self.device, session, table, lo, hi)
     }
 
-    /// Writes a row.
+    /// Writes a row. It takes no memory.
     #[inline(always)]
     pub fn put(&mut self, session: u8, key: Key, row: Row) -> Result<(), Fault>
         ensures step { Leads D.state self.old self.new (Put session key row) (as_reply (done result)) }
+        ensures memory { IfErr result (λ fault. fault ≢ OutOfMemory) }
     {
         if self.failed {
             return Err(Fault::Failed);
@@ -70,10 +72,11 @@ impl<D: Pmem + Drop> Room<D> {
         returned
     }
 
-    /// Writes a deletion.
+    /// Writes a deletion. It takes no memory.
     #[inline(always)]
     pub fn delete(&mut self, session: u8, key: Key) -> Result<(), Fault>
         ensures step { Leads D.state self.old self.new (Delete session key) (as_reply (done result)) }
+        ensures memory { IfErr result (λ fault. fault ≢ OutOfMemory) }
     {
         if self.failed {
             return Err(Fault::Failed);

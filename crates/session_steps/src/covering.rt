@@ -24,11 +24,11 @@ fn cover_writes(index: &mut Index, writes: &WriteSet)
 }
 
 // Covers the versions of those of the commits that the record commits. The numbers of the sessions that drew them.
-fn cover_commits(index: &mut Index, commits: &[DrawnCommit], ruling: Record) -> SessionSet
+fn cover_commits(index: &mut Index, commits: &[DrawnCommit], ruling: &Record) -> SessionSet
     requires room { All (λ d. HasRoom index.old d.writes) commits.now }
     requires numbered { IsTrue (are_numbered commits.now) }
-    ensures index { CoversCommits (committed_by ruling commits.now) index.old index.new }
-    ensures sessions { (n : ℕ) → has result n ≡ has_drawn_by (committed_by ruling commits.now) n }
+    ensures index { CoversCommits (committed_by ruling.now commits.now) index.old index.new }
+    ensures sessions { (n : ℕ) → has result n ≡ has_drawn_by (committed_by ruling.now commits.now) n }
 {
     let mut sessions = SessionSet::none();
     for commit in commits {
@@ -44,6 +44,7 @@ impl Sessions {
     ghost use Rattle.session_steps.specs.Covering.{left_by, MayCoverSome, Covers, ShowsCovered};
 
     /// Covers the drawn commits that the record commits, which rules from now on. It takes no memory.
+    #[inline(always)]
     pub fn cover(&mut self, ruling: Record)
         requires { ∥ MayCoverSome self.old ruling ∥₁ }
         ensures drawn { self.new.drawn.commits ≡ left_by ruling self.old.drawn.commits }
@@ -51,7 +52,7 @@ impl Sessions {
         ensures shows { ShowsCovered self.old self.new ruling }
     {
         let commits = self.drawn.as_slice();
-        let sessions = cover_commits(&mut self.index, commits, ruling);
+        let sessions = cover_commits(&mut self.index, commits, &ruling);
         self.dirty.forget(&sessions);
         self.numbers.record = ruling;
         self.drawn

@@ -9,15 +9,18 @@ use base::key::Key;
 use txn::Write;
 
 impl Sessions {
+    ghost use Rattle.std.specs.Prelude.{◌≢◌, IfErr};
+    ghost use Rattle.base.specs.declared.fault.Fault.TheVariants.{OutOfMemory};
     ghost use Rattle.base.specs.declared.step.SessionStep.TheVariants.{Delete};
     ghost use Rattle.session_steps.specs.Replies.{done};
     ghost use Rattle.session_steps.specs.Steps.{HoldsSome, Takes};
 
-    /// Writes a deletion, and frees the slot that the session has for the key.
+    /// Writes a deletion, and frees the slot that the session has for the key. It takes no memory.
     #[inline(never)]
     pub fn delete(&mut self, session: u8, key: Key) -> Result<(), Fault>
         requires shown { ∥ HoldsSome self.old ∥₁ }
         ensures step { Takes self.old self.new (Delete session key) (done result) }
+        ensures memory { IfErr result (λ fault. fault ≢ OutOfMemory) }
     {
         let active = match active_in(&self.transactions, session) {
             Ok(active) => active,

@@ -82,11 +82,11 @@ impl Sessions {
         };
         match reserve_keys(&mut self.index, writes, all_there) {
             Ok(()) => {}
-            Err(fault) => return Err(fault),
+            Err(_) => return Err(Fault::OutOfMemory),
         }
         match self.drawn.reserve() {
             Ok(()) => {}
-            Err(fault) => return Err(fault),
+            Err(_) => return Err(Fault::OutOfMemory),
         }
         let geometry = self.numbers.geometry;
         let timestamp = self.numbers.draw();

@@ -3,7 +3,8 @@
 //! survive in the begin before any other word of the slot is stored; after that these need no order, since a slot whose begin
 //! is 0 is read by nobody. A slot that the session already has was cleared when it was taken, and is filled again as it is.
 
-ghost use Rattle.std.specs.Prelude.{◌≡◌, None, Some};
+ghost use Rattle.std.specs.Prelude.{◌≡◌, ◌≢◌, None, Some, IfErr};
+ghost use Rattle.base.specs.declared.fault.Fault.TheVariants.{OutOfMemory};
 
 use crate::active::active_in;
 use crate::giving::own_key;
@@ -30,7 +31,8 @@ impl Sessions {
     ghost use Rattle.session_steps.specs.Replies.{done};
     ghost use Rattle.session_steps.specs.Steps.{HoldsSomeOn, TakesOn};
 
-    /// Writes a row that a slot holds: in the slot that the session has for the key, or else in the lowest free one.
+    /// Writes a row that a slot holds: in the slot that the session has for the key, or else in the lowest free one. It takes no
+    /// memory.
     #[inline(never)]
     pub fn put<D: Pmem>(
         &mut self,
@@ -41,6 +43,7 @@ impl Sessions {
     ) -> Result<(), Fault>
         requires shown { ∥ HoldsSomeOn self.old (D.state device.old) ∥₁ }
         ensures step { TakesOn self.old self.new (D.state device.old) (D.state device.new) (Put session key row) (done result) }
+        ensures memory { IfErr result (λ fault. fault ≢ OutOfMemory) }
     {
         let active = match active_in(&self.transactions, session) {
             Ok(active) => active,
@@ -72,19 +75,20 @@ impl Sessions {
         requires ready { IsReady self.old.transactions session key (Some slot) }
         requires row { length row ≤ row_limit self.old.numbers.geometry.version }
         ensures step { TakesOn self.old self.new (D.state device.old) (D.state device.new) (Put session key row) (done result) }
+        ensures memory { IfErr result (λ fault. fault ≢ OutOfMemory) }
         ensures link { done result ≡ Done → IsVersion self.old.numbers.geometry (slot_at self.old.numbers.geometry slot (value_of (D.state device.new)))
             (record { key = key; row = row; previous = head_of (entry_at self.old.index key) }) }
     {
-        let place = self.index.place(key);
+        let found = self.index.known(key);
         let version = Version {
             key,
             row,
-            previous: self.index.link(key, place),
+            previous: found.link,
         };
         match fill(device, self.numbers.geometry, slot, &version) {
             Ok(()) => {
                 self.transactions
-                    .write(session, row_write(key, row, slot, place));
+                    .write(session, row_write(&version, slot, found.place));
                 Ok(())
             }
             Err(fault) => Err(fault),
@@ -105,16 +109,17 @@ impl Sessions {
         requires within { (2 ≤ session) × (session < 64) }
         requires row { length row ≤ row_limit self.old.numbers.geometry.version }
         ensures step { TakesOn self.old self.new (D.state device.old) (D.state device.new) (Put session key row) (done result) }
+        ensures memory { IfErr result (λ fault. fault ≢ OutOfMemory) }
         ensures link { done result ≡ Done → (slot : ℕ) × (lowest_free self.old.slots ≡ Some slot)
             × IsVersion self.old.numbers.geometry (slot_at self.old.numbers.geometry slot (value_of (D.state device.new)))
             (record { key = key; row = row; previous = head_of (entry_at self.old.index key) }) }
     {
         let geometry = self.numbers.geometry;
-        let place = self.index.place(key);
+        let found = self.index.known(key);
         let version = Version {
             key,
             row,
-            previous: self.index.link(key, place),
+            previous: found.link,
         };
         let slot = match self.slots.take(device, geometry, Actor::session(session)) {
             Ok(slot) => slot,
@@ -123,7 +128,7 @@ impl Sessions {
         match fill(device, geometry, slot, &version) {
             Ok(()) => {
                 self.transactions
-                    .write(session, row_write(key, row, slot, place));
+                    .write(session, row_write(&version, slot, found.place));
                 Ok(())
             }
             Err(fault) => {
@@ -134,14 +139,14 @@ impl Sessions {
     }
 }
 
-// The write of a row that lies in the slot.
+// The write of a version that lies in the slot.
 #[inline(always)]
-fn row_write(key: Key, row: Row, slot: SlotNo, place: Option<usize>) -> Write
-    ensures { result ≡ record { key = key; row = Some row; slot = Some slot; place = place } }
+fn row_write(version: &Version, slot: SlotNo, place: Option<usize>) -> Write
+    ensures { result ≡ record { key = version.now.key; row = Some version.now.row; slot = Some slot; place = place } }
 {
     Write {
-        key,
-        row: Some(row),
+        key: version.key,
+        row: Some(version.row),
         slot: Some(slot),
         place,
     }

@@ -2,9 +2,9 @@
 //! that writes this record flushes and fences both lines before its gate. A batch takes in only commits that are stamped whole,
 //! so a crash between two stamps of a commit shows none of it.
 
-ghost use Rattle.std.specs.Prelude.{◌≡◌, ◌++◌, false, nat_lt, length, IsTrue, IfErr, IfOk, OnErr, OnOk};
+ghost use Rattle.std.specs.Prelude.{◌≡◌, ◌++◌, false, nat_lt, length, IsTrue, IfErr, IfSome, IfNone, OnErr, OnOk};
 ghost use Rattle.base.specs.Layout.{total_words};
-ghost use Rattle.base.specs.declared.fault.Fault.TheVariants.{Device as DeviceFault, WrongState};
+ghost use Rattle.base.specs.declared.fault.Fault.TheVariants.{Device as DeviceFault};
 ghost use Rattle.pmem.specs.Trace.{Runs, StopsWithin};
 ghost use Rattle.version_slot.specs.Operations.{begin_operations, end_operations};
 ghost use Rattle.session_steps.specs.Giving.{fits_slot};
@@ -28,7 +28,7 @@ pub struct Unstamped<'a> {
 }
 
 impl Sessions {
-    ghost use Rattle.std.specs.Prelude.{Some};
+    ghost use Rattle.std.specs.Prelude.{Some, IfOk};
     ghost use Rattle.base.specs.declared.step.SessionStep.TheVariants.{Stamp};
     ghost use Rattle.txn.specs.Transactions.{transaction_at};
     ghost use Rattle.txn.specs.declared.transaction.Transaction.TheVariants.{Drawn};
@@ -47,7 +47,10 @@ impl Sessions {
             None => Err(Fault::NoSession),
             Some(Transaction::Active { .. }) => Err(Fault::WrongState),
             Some(Transaction::Drawn(timestamp)) => match self.drawn.get(*timestamp) {
-                Some(commit) => next_of(*timestamp, commit),
+                Some(commit) => match next_of(*timestamp, commit) {
+                    Some(next) => Ok(next),
+                    None => Err(Fault::WrongState),
+                },
                 None => Err(Fault::WrongState),
             },
             Some(Transaction::ReadOnly) => Err(Fault::WrongState),
@@ -73,27 +76,27 @@ impl Sessions {
                 self.drawn.stamp(timestamp);
                 if is_last { Ok(true) } else { Ok(false) }
             }
-            Err(fault) => Err(fault),
+            // The only fault that there is, told anew, so that none is handed on from each store.
+            Err(_) => Err(Fault::Device),
         }
     }
 }
 
 // The next write of a commit, if one is left.
 #[inline(always)]
-fn next_of(timestamp: Ts, commit: &DrawnCommit) -> Result<Unstamped<'_>, Fault>
-    ensures ok { IfOk result (λ next. IsNextIn commit.now next.write.now next.is_last) }
-    ensures timestamp { IfOk result (λ next. next.timestamp ≡ timestamp) }
-    ensures fault { IfErr result (λ fault. fault ≡ WrongState) }
-    ensures none { OnErr result (nat_lt commit.now.stamped (length commit.now.writes) ≡ false) }
+fn next_of(timestamp: Ts, commit: &DrawnCommit) -> Option<Unstamped<'_>>
+    ensures some { IfSome result (λ next. IsNextIn commit.now next.write.now next.is_last) }
+    ensures timestamp { IfSome result (λ next. next.timestamp ≡ timestamp) }
+    ensures none { IfNone result (nat_lt commit.now.stamped (length commit.now.writes) ≡ false) }
 {
     let len = commit.writes.len();
     match commit.writes.get(commit.stamped) {
-        Some(write) => Ok(Unstamped {
+        Some(write) => Some(Unstamped {
             timestamp,
             write,
             is_last: commit.stamped + 1 == len,
         }),
-        None => Err(Fault::WrongState),
+        None => None,
     }
 }
 

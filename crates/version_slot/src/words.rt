@@ -88,24 +88,23 @@ impl Version {
     ghost use Rattle.std.specs.Prelude.{◌≡◌, ◌≤◌, ◌<◌, ◌^◌, ℕ, length, slice_index};
     ghost use Rattle.version_slot.specs.Words.{filled_word, link_number};
 
-    // The words of a slot of so many that is filled with it, with 0 for the first, and in the places behind them.
+    // Puts the words of a slot of so many that is filled with it, from the second on, into their places.
     #[inline(always)]
-    pub(crate) fn words(&self, count: usize) -> [u64; 16]
+    pub(crate) fn put_words(&self, count: usize, words: &mut [u64; 16])
         requires count { (4 ≤ count) × (count ≤ 16) }
         requires link { link_number self.now.previous < 2 ^ 32 }
-        ensures size { length result ≡ 16 }
-        ensures words { (w : ℕ) → 1 ≤ w → w < count → slice_index result w ≡ filled_word self.now w }
+        ensures size { length words.new ≡ 16 }
+        ensures words { (w : ℕ) → 1 ≤ w → w < count → slice_index words.new w ≡ filled_word self.now w }
         ensures table { self.now.key.table < 2 ^ 16 }
         ensures bytes { (i : ℕ) → slice_index self.now.row i < 2 ^ 8 }
     {
         let bytes = self.row.as_bytes();
-        let mut words = [0; 16];
         let Key { table, key } = self.key;
+        words[1] = 0;
         words[2] = key;
         words[3] = header(table, bytes.len(), link_of(self.previous));
         for k in 0..count - 4 {
             words[4 + k] = word_at(bytes, 8 * k);
         }
-        words
     }
 }

@@ -30,7 +30,9 @@ pub fn fill<D: Pmem>(
     ensures stopped { OnErr result (StopsWithin (fill_operations geometry slot version.now) (D.state device.old) (D.state device.new)) }
 {
     let count = geometry.slot_words() as usize;
-    let words = version.words(count);
+    // In one place, since an array is large to hand on.
+    let mut words = [0; 16];
+    version.put_words(count, &mut words);
     store_all(device, geometry.slot_start(slot) + 1, &words[1..count])
 }
 

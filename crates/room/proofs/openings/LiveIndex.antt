@@ -1,6 +1,6 @@
 -- The index of the versions that an opening found live.
-use Rattle.std.proofs.Common.{◌≡◌, ◌⊎◌, inl, inr, ℕ, zero, suc, ◌+◌, ◌<◌, Bool, true, false, cond, List, [], ◌∷◌, map, refl, sym, ◌∙◌, ap, subst, arith, add-one}
-use Rattle.std.specs.Prelude.{Option, Some, is_some, slice_get, unwrap_or}
+use Rattle.std.proofs.Common.{◌≡◌, ◌⊎◌, inl, inr, ℕ, zero, suc, ◌+◌, ◌<◌, Bool, true, false, cond, List, [], ◌∷◌, map, length, refl, sym, ◌∙◌, ap, subst, arith, add-one}
+use Rattle.std.specs.Prelude.{Option, Some, None, is_some, slice_get, unwrap_or}
 use Rattle.std.specs.List.{Contains}
 use Rattle.std.proofs.lemmas.Bool.{true≢false}
 use Rattle.std.proofs.lemmas.Option.{slice_get-get_or}
@@ -8,16 +8,23 @@ use Rattle.std.proofs.lemmas.List.Elements.{Contains-append_left, Contains-appen
 use Rattle.base.specs.declared.key.Key.{Key}
 use Rattle.base.specs.Keys.{key_eq, lookup_key}
 use Rattle.base.specs.Images.{Image, key_of}
+use Rattle.base.specs.Layout.{Layout}
 use Rattle.base.proofs.Keys.{key_eq-true, key_eq-same}
 use Rattle.index.specs.declared.entry.Entry.{Entry}
 use Rattle.index.specs.Entries.{blank, entry_at, ArePlaced}
+use Rattle.recovery.specs.declared.examining.Examined.{Examined}
+use Rattle.recovery.specs.declared.examining.Readings.{Readings}
 use Rattle.recovery.specs.declared.rows.LiveSlot.{LiveSlot}
-use Rattle.recovery.specs.Slots.{is_free, free_below}
+use Rattle.recovery.specs.Opened.{HasExamined}
+use Rattle.recovery.specs.Read.{AreOf}
+use Rattle.recovery.specs.Slots.{bad_below, is_free, free_below}
 use Rattle.recovery.specs.Live.{live_at, live_below}
 use Rattle.recovery.proofs.reads.LiveRows.{live-none, live-live, live-free, free-is, free-size}
+use Rattle.recovery.proofs.reads.Slots.{are-readings, readings-size}
+use Rattle.recovery.proofs.openings.Devices.{is, none-bad}
 use Rattle.recovery.specs.Held.{HavePlaces}
 use Rattle.session_steps.specs.Opening.{HasFound}
-use Rattle.room.specs.Opening.{entry_of}
+use Rattle.room.specs.Opening.{HasEntries, entry_of}
 
 -- ---- elements
 
@@ -132,6 +139,19 @@ are-placed live places has = record {
       let s = get-slot live place key entry at in
       ap (lookup_key places) (sym s.2) ∙ has.once s.0 place s.1;
 }
+
+-- ---- as they were read
+
+-- of the image that was read they are those of the slots that were found live
+pub entries-are : (image : Image) (readings : Readings) (found : Examined) (entries : List (Key × Entry)) → AreOf image readings → HasExamined image found → HasEntries readings.slots.items entries → entries ≡ map entry_of found.live.items
+entries-are image readings found entries are has listed =
+    let known = is image found.geometry found.ruling found.gaps found.free.items found.live.items has.examined in
+    let same : found.geometry ≡ readings.geometry = sym known.rules.laid_out ∙ are.rules.laid_out in
+    let good : bad_below image readings.geometry.slots ≡ None = subst (λ (l : Layout). bad_below image l.slots ≡ None) same (none-bad image found.geometry found.ruling found.gaps found.free.items found.live.items has.examined) in
+    let size : length readings.slots.items ≡ found.geometry.slots = ap length are.slots_are ∙ readings-size image readings.geometry.slots ∙ ap (λ (l : Layout). l.slots) (sym same) in
+    listed image (are-readings image readings.geometry.slots readings.slots.items are.slots_are good)
+    ∙ ap (λ (n : ℕ). map entry_of (live_below image n)) size
+    ∙ ap (map entry_of) (sym known.live_are)
 
 -- ---- all of them
 

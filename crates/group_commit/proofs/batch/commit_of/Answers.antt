@@ -5,5 +5,5 @@ use Rattle.group_commit.proofs.batch.commit_of.Goals as goal
 
 pub new-requires : goal.new-requires
 new-requires c =
-    rising-plain c.as_slice-write-items.result.now c.loop-write.write-index c.loop-write.rows.items c.loop-write.invariant (omega arith)
-    (subst IsRising (sym c.as_slice-write-items.ensures.slice) c.as_slice-write-items.ensures.rising)
+    rising-plain c.as_slice-writes.result.now c.loop-write.write-index c.loop-write.rows.items c.loop-write.invariant.0 (omega arith)
+    (subst IsRising (sym c.as_slice-writes.ensures.slice) c.as_slice-writes.ensures.rising)

@@ -7,8 +7,8 @@ use Rattle.room.proofs.Rooms.{step-refused}
 use Rattle.room.proofs.Calls.{held, shows-after-quiet, quiet-leads}
 use Rattle.room.proofs.room.Room.delete.Goals as goal
 
-pub returns-then-self : goal.returns-then-self
-returns-then-self g c = record { step = step-refused g.D.Pmem.state c.args.self.now (machine.Delete c.args.session c.args.key) (g.met.D.Pmem.orderly c.args.self.now.device) c.if-self.true }
+pub returns-then-self-clause-step : goal.returns-then-self-clause-step
+returns-then-self-clause-step g c = step-refused g.D.Pmem.state c.args.self.now (machine.Delete c.args.session c.args.key) (g.met.D.Pmem.orderly c.args.self.now.device) c.if-self.true
 
 pub delete-requires : goal.delete-requires
 delete-requires g c = record { shown = held c.args.self.now.volatile (g.D.Pmem.state c.args.self.now.device) c.args.self.now.failed c.if-self.false c.args.self.now.shown }
@@ -19,8 +19,10 @@ invariant_of-self g c = record {
       (steps-quietly _ _ (g.D.Pmem.state c.args.self.now.device) (asked.Delete c.args.session c.args.key) (done c.delete.result) (g.met.D.Pmem.orderly _) refl c.delete.ensures.step) c.args.self.now.shown;
 }
 
-pub returns : goal.returns
-returns g c = record {
-  step = quiet-leads g.D.Pmem.state c.args.self.now _ (asked.Delete c.args.session c.args.key) (done c.delete.result) c.if-self.false refl refl refl c.args.self.now.shown
-      (steps-quietly _ _ (g.D.Pmem.state c.args.self.now.device) (asked.Delete c.args.session c.args.key) (done c.delete.result) (g.met.D.Pmem.orderly _) refl c.delete.ensures.step);
-}
+pub returns-clause-step : goal.returns-clause-step
+returns-clause-step g c =
+    quiet-leads g.D.Pmem.state c.args.self.now _ (asked.Delete c.args.session c.args.key) (done c.delete.result) c.if-self.false refl refl refl c.args.self.now.shown
+    (steps-quietly _ _ (g.D.Pmem.state c.args.self.now.device) (asked.Delete c.args.session c.args.key) (done c.delete.result) (g.met.D.Pmem.orderly _) refl c.delete.ensures.step)
+
+pub returns-clause-memory : goal.returns-clause-memory
+returns-clause-memory g c = c.delete.ensures.memory

@@ -7,8 +7,8 @@ use Rattle.room.proofs.Rooms.{step-refused, shows-some}
 use Rattle.room.proofs.Calls.{held-on, done-failure, shows-after-call, call-leads}
 use Rattle.room.proofs.room.Room.put.Goals as goal
 
-pub returns-then-self : goal.returns-then-self
-returns-then-self g c = record { step = step-refused g.D.Pmem.state c.args.self.now (machine.Put c.args.session c.args.key c.args.row) (g.met.D.Pmem.orderly c.args.self.now.device) c.if-self.true }
+pub returns-then-self-clause-step : goal.returns-then-self-clause-step
+returns-then-self-clause-step g c = step-refused g.D.Pmem.state c.args.self.now (machine.Put c.args.session c.args.key c.args.row) (g.met.D.Pmem.orderly c.args.self.now.device) c.if-self.true
 
 pub put-returned-requires : goal.put-returned-requires
 put-returned-requires g c = record { shown = held-on c.args.self.now.volatile (g.D.Pmem.state c.args.self.now.device) c.args.self.now.failed c.if-self.false c.args.self.now.shown }
@@ -19,8 +19,10 @@ invariant_of-self g c = record {
       (on-device _ _ (g.D.Pmem.state c.args.self.now.device) (g.D.Pmem.state c.put-returned.new.device) (asked.Put c.args.session c.args.key c.args.row) (done c.put-returned.result) c.put-returned.ensures.step) (shows-some c.args.self.now.volatile (g.D.Pmem.state c.args.self.now.device) c.args.self.now.failed c.if-self.false c.args.self.now.shown);
 }
 
-pub returns : goal.returns
-returns g c = record {
-  step = call-leads g.D.Pmem.state c.args.self.now _ (asked.Put c.args.session c.args.key c.args.row) (done c.put-returned.result) c.if-self.false (c.reports_failure-self.ensures ∙ done-failure c.put-returned.result) refl
-      (on-device _ _ (g.D.Pmem.state c.args.self.now.device) (g.D.Pmem.state c.put-returned.new.device) (asked.Put c.args.session c.args.key c.args.row) (done c.put-returned.result) c.put-returned.ensures.step);
-}
+pub returns-clause-step : goal.returns-clause-step
+returns-clause-step g c =
+    call-leads g.D.Pmem.state c.args.self.now _ (asked.Put c.args.session c.args.key c.args.row) (done c.put-returned.result) c.if-self.false (c.reports_failure-self.ensures ∙ done-failure c.put-returned.result) refl
+    (on-device _ _ (g.D.Pmem.state c.args.self.now.device) (g.D.Pmem.state c.put-returned.new.device) (asked.Put c.args.session c.args.key c.args.row) (done c.put-returned.result) c.put-returned.ensures.step)
+
+pub returns-clause-memory : goal.returns-clause-memory
+returns-clause-memory g c = c.put-returned.ensures.memory

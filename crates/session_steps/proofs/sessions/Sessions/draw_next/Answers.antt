@@ -5,6 +5,7 @@ use Rattle.std.proofs.Math.Logic.{∥∥₁_elim}
 use Rattle.txn.specs.DrawnCommits.{are_below}
 use Rattle.txn.specs.declared.drawn.DrawnCommit.{DrawnCommit}
 use Rattle.txn.specs.declared.write.Write.{Write}
+use Rattle.base.specs.declared.fault.Fault.TheVariants.{OutOfMemory}
 use Rattle.base.specs.declared.step.SessionStep.TheVariants.{Draw}
 use Rattle.session_steps.proofs.draws.Steps.{all-early, draws, draws-not}
 use Rattle.session_steps.proofs.draws.Notes.{fits-lines}
@@ -36,8 +37,8 @@ returns-in-Err-reserve_keys c =
     let active = c.requires.active _ _ c.in-Ok.ensures.ok in
     record {
       step = λ h holds.
-          draws-not c.args.self.now h c.args.session _ _ c.args.self.now.drawn c.reserve_keys.new.index c.in-Err-reserve_keys.fault holds c.in-Ok.ensures.ok active.0 active.1 c.requires.window c.requires.early refl c.reserve_keys.ensures.entries
-          c.reserve_keys.ensures.kept c.in-Err-reserve_keys.ensures.fault;
+          draws-not c.args.self.now h c.args.session _ _ c.args.self.now.drawn c.reserve_keys.new.index OutOfMemory holds c.in-Ok.ensures.ok active.0 active.1 c.requires.window c.requires.early refl c.reserve_keys.ensures.entries
+          c.reserve_keys.ensures.kept refl;
     }
 
 pub returns-in-Err-reserve : goal.returns-in-Err-reserve
@@ -45,8 +46,8 @@ returns-in-Err-reserve c =
     let active = c.requires.active _ _ c.in-Ok.ensures.ok in
     record {
       step = λ h holds.
-          draws-not c.args.self.now h c.args.session _ _ c.reserve.new.self c.reserve_keys.new.index c.in-Err-reserve.fault holds c.in-Ok.ensures.ok active.0 active.1 c.requires.window c.requires.early c.reserve.ensures.commits
-          c.reserve_keys.ensures.entries c.reserve_keys.ensures.kept c.in-Err-reserve.ensures.fault;
+          draws-not c.args.self.now h c.args.session _ _ c.reserve.new.self c.reserve_keys.new.index OutOfMemory holds c.in-Ok.ensures.ok active.0 active.1 c.requires.window c.requires.early c.reserve.ensures.commits
+          c.reserve_keys.ensures.entries c.reserve_keys.ensures.kept refl;
     }
 
 pub returns : goal.returns

@@ -18,7 +18,7 @@ fill-requires-clause-slot g c = ∥∥₁_elim c.requires.shown le_prop (λ show
 
 pub fill-requires-clause-previous : goal.fill-requires-clause-previous
 fill-requires-clause-previous g c =
-    subst (λ (o : Option ℕ). link_number o ≤ c.args.self.now.numbers.geometry.slots) (sym c.link.ensures) (∥∥₁_elim c.requires.shown le_prop (λ shown. link-fits c.args.self.now shown.0 c.args.key (held-on c.args.self.now shown.0 _ shown.1)))
+    subst (λ (o : Option ℕ). link_number o ≤ c.args.self.now.numbers.geometry.slots) (sym c.known-found.ensures) (∥∥₁_elim c.requires.shown le_prop (λ shown. link-fits c.args.self.now shown.0 c.args.key (held-on c.args.self.now shown.0 _ shown.1)))
 
 pub fill-requires-clause-device : goal.fill-requires-clause-device
 fill-requires-clause-device g c = ∥∥₁_elim c.requires.shown (ℕ_set _ _) (λ shown. words-are _ _ (g.D.Pmem.state c.args.device.now) (g.met.D.Pmem.orderly _) shown.1.upholds)
@@ -28,12 +28,12 @@ write-requires g c = (_, _, c.requires.ready.active, subst (λ (w : Write). HasR
 
 pub returns-in-Ok-clause-step : goal.returns-in-Ok-clause-step
 returns-in-Ok-clause-step g c = λ h holds.
-    puts-own c.args.self.now h c.args.session c.requires.ready.snapshot c.requires.ready.writes (record { key = c.args.key; row = c.args.row; previous = c.link.result }) c.args.slot c.place-place.result (g.D.Pmem.state c.args.device.now) (g.D.Pmem.state c.fill.new.device) holds
+    puts-own c.args.self.now h c.args.session c.requires.ready.snapshot c.requires.ready.writes (record { key = c.args.key; row = c.args.row; previous = c.known-found.result.link }) c.args.slot c.known-found.result.place (g.D.Pmem.state c.args.device.now) (g.D.Pmem.state c.fill.new.device) holds
     c.requires.ready.active c.requires.ready.fits c.requires.row c.requires.ready.slot c.write.new.self
     (subst (λ (w : Write). Sets c.args.self.now.transactions c.write.new.self c.args.session (Some (Active c.requires.ready.snapshot (with_write_at w c.requires.ready.writes)))) c.row_write.ensures (c.write.ensures _ _ c.requires.ready.active))
-    c.in-Ok.ensures.version.fits c.link.ensures c.in-Ok.ensures.run
+    c.in-Ok.ensures.version.fits c.known-found.ensures c.in-Ok.ensures.run
 
 pub returns-in-Err-clause-step : goal.returns-in-Err-clause-step
 returns-in-Err-clause-step g c = λ h holds.
-    puts-own-stopped c.args.self.now h c.args.session c.requires.ready.snapshot c.requires.ready.writes (record { key = c.args.key; row = c.args.row; previous = c.link.result }) c.args.slot c.place-place.result (g.D.Pmem.state c.args.device.now) (g.D.Pmem.state c.fill.new.device) holds
+    puts-own-stopped c.args.self.now h c.args.session c.requires.ready.snapshot c.requires.ready.writes (record { key = c.args.key; row = c.args.row; previous = c.known-found.result.link }) c.args.slot c.known-found.result.place (g.D.Pmem.state c.args.device.now) (g.D.Pmem.state c.fill.new.device) holds
     c.requires.ready.active c.requires.ready.fits c.requires.row c.requires.ready.slot c.in-Err.fault c.in-Err.ensures.fault c.in-Err.ensures.stopped

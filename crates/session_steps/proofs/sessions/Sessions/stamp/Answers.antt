@@ -1,4 +1,5 @@
-use Rattle.std.proofs.Common.{◌∙◌, ap, subst, ℕ}
+use Rattle.std.proofs.Common.{refl, ◌∙◌, ap, subst, ℕ}
+use Rattle.base.specs.declared.fault.Fault.TheVariants.{Device as DeviceFault}
 use Rattle.std.proofs.Math.Bool.{Bool-set}
 use Rattle.std.proofs.Math.Nat.{ℕ_set}
 use Rattle.std.proofs.Math.Logic.{∥∥₁_elim}
@@ -55,6 +56,6 @@ returns-else-is_last g c = record {
 pub returns-in-Err-stamp_write : goal.returns-in-Err-stamp_write
 returns-in-Err-stamp_write g c = record {
   step = λ h holds.
-      stamps-stopped c.args.self.now h c.args.session c.in-Ok.next (g.D.Pmem.state c.args.device.now) (g.D.Pmem.state c.stamp_write.new.device) holds c.in-Ok.ensures.at c.in-Ok.ensures.next c.in-Err-stamp_write.fault c.in-Err-stamp_write.ensures.fault
+      stamps-stopped c.args.self.now h c.args.session c.in-Ok.next (g.D.Pmem.state c.args.device.now) (g.D.Pmem.state c.stamp_write.new.device) holds c.in-Ok.ensures.at c.in-Ok.ensures.next DeviceFault refl
       (subst (λ (o : Option ℕ). StopsWithin (begin_operations c.args.self.now.numbers.geometry c.in-Ok.next.write.now.slot c.in-Ok.next.timestamp ++ end_operations c.args.self.now.numbers.geometry o c.in-Ok.next.timestamp) (g.D.Pmem.state c.args.device.now) (g.D.Pmem.state c.stamp_write.new.device)) c.live-ended.ensures c.in-Err-stamp_write.ensures.err);
 }

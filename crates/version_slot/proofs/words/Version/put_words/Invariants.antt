@@ -1,6 +1,6 @@
 use Rattle.std.proofs.Common.{◌≡◌, ◌+◌, ◌*◌, ◌^◌, ◌<◌, ℕ, length, slice_index}
 use Rattle.version_slot.specs.Words.{link_number, row_word}
-use Rattle.version_slot.proofs.words.Version.words.Given as goal
+use Rattle.version_slot.proofs.words.Version.put_words.Given as goal
 
 abbrev pub invariant-loop-k : goal.invariant-loop-k
 invariant-loop-k l = record {
