@@ -20,15 +20,17 @@ A seed is a game, and the same seed is the same game. There are five kinds:
               each word that no sync followed old or new; wants strace
 
 What each prints is compared with what the engine in Python says, to the letter (`room` with a model of its own). It prints how much was
-played, and of a difference its seed and the least script that it found for it, and ends with 1. It wants `bin/wbl` and `bin/kv`, which
-`./build` makes, and for `room` the program that `rt run` in crates/test_random_lives makes. The controls want nothing, since `rt try`
-builds their programs without proofs.
+played, and of a difference its seed and the least script that it found for it, and ends with 1. Where it can't go on, since the disk is
+full or it fails itself, it says so and ends with 2: that is no difference. It wants `bin/wbl` and `bin/kv`, which `./build` makes, and for
+`room` the program that `rt run` in crates/test_random_lives makes. The controls want nothing, since `rt try` builds their programs without
+proofs.
 """
 import argparse
 import collections
 import multiprocessing
 import os
 import pathlib
+import resource
 import shutil
 import subprocess
 import sys
@@ -41,6 +43,11 @@ from games import KINDS, Found, Programs, play
 
 ROOT = pathlib.Path(__file__).resolve().parent.parent.parent
 sys.path.insert(0, str(ROOT / "tests/memory"))
+
+# A game takes no more of the disk than this many bytes.
+LEAST_ROOM = 16_000_000
+
+ENDINGS = ["no difference was found", "a difference was found", "it can't go on: no difference was found before"]
 
 
 def kinds_here(words, refuse):
@@ -74,8 +81,27 @@ def built_refusing(folder):
         return None
 
 
+def spent():
+    """Returns how many microseconds of a processor this process took, and the programs that it ran."""
+    usages = map(resource.getrusage, (resource.RUSAGE_SELF, resource.RUSAGE_CHILDREN))
+    return int(sum(it.ru_utime + it.ru_stime for it in usages) * 1e6)
+
+
+def is_full(folder):
+    """Whether a program may have failed since there is no room for its files."""
+    return shutil.disk_usage(folder).free < LEAST_ROOM
+
+
+def timed(seed, kinds, programs):
+    """Plays a game. Returns its kind, and its counts with what it took of a processor."""
+    before = spent()
+    kind, counts = play(seed, kinds, programs)
+    counts["microseconds"] = spent() - before
+    return kind, counts
+
+
 def work(words, kinds, refuse, job, out):
-    """Plays every so many games from the job's first seed on, and puts what comes of each out."""
+    """Plays every so many games from the job's first seed on, and puts what comes of each out: what was found, or why it can't go on."""
     end = time.monotonic() + 60 * words.minutes if words.minutes else None
     with tempfile.TemporaryDirectory() as folder:
         programs = Programs(words.wbl, words.kv, words.room, refuse, folder)
@@ -84,13 +110,11 @@ def work(words, kinds, refuse, job, out):
                 break
             seed = words.seed + game
             try:
-                kind, counts = play(seed, kinds, programs)
-                out.put((seed, kind, counts, None))
-            except Found as found:
-                out.put((seed, "", collections.Counter(), (str(found), found.script)))
-                break
-            except Exception:
-                out.put((seed, "", collections.Counter(), (traceback.format_exc(), None)))
+                out.put((seed, *timed(seed, kinds, programs), None))
+            except Exception as ended:
+                is_found = isinstance(ended, Found) and not is_full(folder)
+                said = f"{folder} is full" if is_full(folder) else str(ended) if is_found else traceback.format_exc()
+                out.put((seed, "", collections.Counter(), (is_found, said, ended.script if is_found else None)))
                 break
     out.put(None)
 
@@ -99,7 +123,8 @@ def rate_text(counts, kinds, seconds):
     games = ", ".join(f"{count} {kind}" for kind, count in sorted(kinds.items()))
     sums = ", ".join(f"{counts[it]:,} {it}" for it in ("lives", "steps", "stops", "operations", "images"))
     a_minute = 60 / max(seconds, 0.001)
-    return f"{seconds / 60:.1f} minutes: {games} games; {sums}; a minute {counts['lives'] * a_minute:,.0f} lives and {counts['images'] * a_minute:,.0f} images"
+    processor = f"{counts['microseconds'] / 60e6:.1f} of a processor"
+    return f"{seconds / 60:.1f} minutes, {processor}: {games} games; {sums}; a minute {counts['lives'] * a_minute:,.0f} lives and {counts['images'] * a_minute:,.0f} images"
 
 
 def print_found(seed, said, script):
@@ -109,7 +134,7 @@ def print_found(seed, said, script):
 
 
 def simulate(words, refuse):
-    """Plays in so many processes, and prints what comes of it. Was a difference found?"""
+    """Plays in so many processes, and prints what comes of it. The status."""
     kinds = kinds_here(words, refuse)
     if not kinds:
         raise SystemExit("nothing can be played")
@@ -118,9 +143,9 @@ def simulate(words, refuse):
     for it in jobs:
         it.start()
     begin, said, left = time.monotonic(), time.monotonic(), words.jobs
-    counts, played, was_found = collections.Counter(), collections.Counter(), False
+    counts, played, status = collections.Counter(), collections.Counter(), 0
     try:
-        while left and not was_found:
+        while left and not status:
             came = out.get()
             left -= came is None
             if came:
@@ -128,8 +153,9 @@ def simulate(words, refuse):
                 counts.update(more)
                 played[kind] += found is None
                 if found:
-                    print_found(seed, *found)
-                    was_found = True
+                    is_found, *rest = found
+                    print_found(seed, *rest)
+                    status = 1 if is_found else 2
             if time.monotonic() - said > 60:
                 said = time.monotonic()
                 print(rate_text(counts, +played, said - begin), flush=True)
@@ -138,8 +164,8 @@ def simulate(words, refuse):
     for it in jobs:
         it.terminate()
     print(rate_text(counts, +played, time.monotonic() - begin))
-    print("a difference was found" if was_found else "no difference was found")
-    return was_found
+    print(ENDINGS[status])
+    return status
 
 
 def main():
@@ -163,7 +189,7 @@ def main():
     words.seed = words.seed or int(time.time()) * 1_000_000
     print(f"the first seed is {words.seed}", flush=True)
     with tempfile.TemporaryDirectory() as folder:
-        return int(simulate(words, built_refusing(folder)))
+        return simulate(words, built_refusing(folder))
 
 
 if __name__ == "__main__":
