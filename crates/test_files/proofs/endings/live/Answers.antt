@@ -1,0 +1,10 @@
+use denote.Param.Send.{sendable}
+use Rattle.std.proofs.Common.{rules}
+use Rattle.std.proofs.Crossing.{crosses}
+use Rattle.test_files.proofs.endings.live.Goals as goal
+
+pub open-requires-send-D : goal.open-requires-send-D
+open-requires-send-D g c κs within = search (rules, sendable, crosses) depth 60 fits 20000
+
+pub open-requires-sync-D : goal.open-requires-sync-D
+open-requires-sync-D g c κs within = search (rules, sendable, crosses) depth 60 fits 20000
