@@ -1,13 +1,14 @@
 -- Sets of sessions as bits.
-use Rattle.std.proofs.Common.{◌≡◌, ℕ, zero, suc, ◌+◌, ◌*◌, ◌%◌, ◌^◌, ◌<◌, Bool, true, false, ◌||◌, ◌&&◌, not, nat_eq, bit_and, bit_or, refl, ◌∙◌, ap, arith}
+use Rattle.std.proofs.Common.{◌≡◌, inl, inr, ℕ, zero, suc, ◌+◌, ◌-◌, ◌*◌, ◌%◌, ◌^◌, ◌<◌, Bool, true, false, ◌||◌, ◌&&◌, not, nat_eq, bit_and, bit_or, refl, sym, ◌∙◌, ap, arith}
 use Rattle.std.specs.Prelude.{min, bit_xor}
 use Rattle.std.specs.Int.{bit_at, w64}
-use Rattle.std.proofs.lemmas.Bool.{eqb-true, eqb-false}
-use Rattle.std.proofs.lemmas.Nat.Bits.{bit_at-lt, bit_at_and, bit_at_xor, bit_at_set_same, bit_at_set_other}
+use Rattle.std.proofs.lemmas.Bool.{cases_lt, eqb-true, eqb-false}
+use Rattle.std.proofs.lemmas.Nat.Bits.{bit_at-lt, bit_at_and, bit_at_xor, bit_at_set_same, bit_at_set_other, bit_at_clear_same, bit_at_clear_other}
+use Rattle.std.proofs.lemmas.Nat.{and_le_l}
 use Rattle.dirty_table.specs.declared.sessions.SessionSet.{SessionSet}
 use Rattle.dirty_table.specs.Bits.{has_bit}
 use Rattle.dirty_table.specs.Touches.{has, meets}
-use Rattle.dirty_table.proofs.Words.{nonzero}
+use Rattle.dirty_table.proofs.Words.{nonzero, past-bit, and-true, and-false}
 use Rattle.dirty_table.proofs.Summaries.{no-bits}
 
 -- ---- one set
@@ -18,6 +19,19 @@ with-session bits session n lt = by (nat_eq n session) refl
     by : (b : Bool) → nat_eq n session ≡ b → has_bit (bit_or bits (1 * 2 ^ session % 2 ^ 64)) n ≡ (b || has_bit bits n)
     by true e = ap (has_bit (bit_or bits (1 * 2 ^ session % 2 ^ 64))) (eqb-true n session e) ∙ ap (λ (x : ℕ). nat_eq x 1) (bit_at_set_same w64 bits session lt)
     by false e = ap (λ (x : ℕ). nat_eq x 1) (bit_at_set_other w64 bits session lt n (eqb-false n session e))
+
+pub without-session : (bits session n : ℕ) → bits < 2 ^ 64 → session < 64 → has_bit (bit_and bits (2 ^ 64 - 1 - 1 * 2 ^ session % 2 ^ 64)) n ≡ (has_bit bits n && not (nat_eq n session))
+without-session bits session n small lt = by (nat_eq n session) refl
+  where
+    rest : ℕ
+    rest = bit_and bits (2 ^ 64 - 1 - 1 * 2 ^ session % 2 ^ 64)
+
+    by : (b : Bool) → nat_eq n session ≡ b → has_bit rest n ≡ (has_bit bits n && not b)
+    by true e = ap (has_bit rest) (eqb-true n session e) ∙ ap (λ (x : ℕ). nat_eq x 1) (bit_at_clear_same w64 bits session lt) ∙ and-false (has_bit bits n)
+    by false e = elim (cases_lt n 64) [
+      | inl below ↦ ap (λ (x : ℕ). nat_eq x 1) (bit_at_clear_other w64 bits session lt n below (eqb-false n session e)) ∙ and-true (has_bit bits n)
+      | inr past ↦ past-bit rest n (omega (arith, small, and_le_l bits (2 ^ 64 - 1 - 1 * 2 ^ session % 2 ^ 64))) past ∙ sym (past-bit bits n small past) ∙ and-true (has_bit bits n)
+    ]
 
 pub without-sessions : (bits others n : ℕ) → has_bit (bit_xor bits (bit_and bits others)) n ≡ (has_bit bits n && not (has_bit others n))
 without-sessions bits others n =

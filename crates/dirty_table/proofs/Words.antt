@@ -88,11 +88,11 @@ module _ (words : List ℕ) (k word : ℕ) (b : Bool) (within : k / 64 < length 
     | inr other ↦ ap (λ (w : ℕ). nat_eq (bit_at w (i % 64)) 1) (get_or-set_other words (k / 64) (i / 64) word 0 other)
   ]
 
-and-true : (x : Bool) → x ≡ (x && true)
+pub and-true : (x : Bool) → x ≡ (x && true)
 and-true true = refl
 and-true false = refl
 
-and-false : (x : Bool) → false ≡ (x && false)
+pub and-false : (x : Bool) → false ≡ (x && false)
 and-false true = refl
 and-false false = refl
 

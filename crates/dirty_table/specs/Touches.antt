@@ -8,6 +8,13 @@ use Rattle.dirty_table.specs.Bits.{has_bit, is_in}
 abbrev pub has : SessionSet → ℕ → Bool
 has sessions n = has_bit sessions.bits n
 
+-- the lowest session of the set, from this number on
+pub record IsNextIn (sessions : SessionSet) (from n : ℕ) : Type 0 where
+  pub above : from ≤ n
+  pub within : n < 64
+  pub here : has sessions n ≡ true
+  pub before : (k : ℕ) → from ≤ k → k < n → has sessions k ≡ false
+
 -- some session is in both sets
 abbrev pub meets : SessionSet → SessionSet → Bool
 meets one two = not (nat_eq (bit_and one.bits two.bits) 0)

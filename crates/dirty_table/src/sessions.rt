@@ -1,5 +1,7 @@
-ghost use Rattle.std.specs.Prelude.{ℕ, ◌≡◌, ◌<◌, ◌||◌, ◌&&◌, not, nat_eq, false, IsTrue};
-ghost use Rattle.dirty_table.specs.Touches.{has, meets};
+ghost use Rattle.std.specs.Prelude.{ℕ, ◌≡◌, ◌<◌, ◌≤◌, ◌||◌, ◌&&◌, not, nat_eq, false, IsTrue, IfSome, IfNone};
+ghost use Rattle.dirty_table.specs.Touches.{has, meets, IsNextIn};
+
+use crate::bits::lowest_bit;
 
 /// A set of numbers of sessions, a bit each.
 #[derive(Clone, Copy)]
@@ -19,11 +21,22 @@ impl SessionSet {
     }
 
     /// Adds a session.
+    #[inline(always)]
     pub fn insert(&mut self, session: u8)
         requires { session < 64 }
         ensures { (n : ℕ) → has self.new n ≡ (nat_eq n session || has self.old n) }
     {
         self.bits |= 1 << session;
+    }
+
+    /// Takes a session out.
+    #[inline(always)]
+    pub fn remove(&mut self, session: u8)
+        requires { session < 64 }
+        ensures { (n : ℕ) → has self.new n ≡ (has self.old n && not (nat_eq n session)) }
+    {
+        let bits = self.bits;
+        self.bits = bits & !(1 << session);
     }
 
     /// Whether the session is in the set.
@@ -33,6 +46,22 @@ impl SessionSet {
     {
         let bits = self.bits;
         session < SessionSet::LIMIT && bits >> session & 1 == 1
+    }
+
+    /// The lowest session of the set, from this number on.
+    #[inline(always)]
+    pub fn next(&self, from: u8) -> Option<u8>
+        ensures some { IfSome result (λ n. IsNextIn self.now from n) }
+        ensures none { IfNone result ((n : ℕ) → from ≤ n → has self.now n ≡ false) }
+    {
+        let bits = self.bits;
+        if from >= SessionSet::LIMIT {
+            return None;
+        }
+        match lowest_bit(bits, u32::from(from)) {
+            Some(bit) => Some(bit as u8),
+            None => None,
+        }
     }
 
     /// Whether some session is in both sets.

@@ -39,12 +39,14 @@ impl<'a> SnapshotsInUse<'a> {
     fn each_covers(&self, ts: Ts) -> bool
         ensures { result ≡ each_covers self.now.transactions.now ts }
     {
-        for number in 2..self.transactions.limit() {
+        let mut from = 2;
+        while let Some(number) = self.transactions.next_active(from) {
             if let Some(Transaction::Active { snapshot, .. }) = self.transactions.get(number) {
                 if !snapshot.covers(ts) {
                     return false;
                 }
             }
+            from = number + 1;
         }
         true
     }

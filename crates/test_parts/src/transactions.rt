@@ -16,7 +16,7 @@ fn a_session_takes_the_lowest_number_that_is_free(rt: HostRuntime) -> Result<(),
     let second = transactions.begin(snapshot)?;
     assert_eq!(rt; first, 2);
     assert_eq!(rt; second, 3);
-    assert_eq!(rt; transactions.limit(), 4);
+    assert_eq!(rt; transactions.next_active(0), Some(2));
     transactions.write(
         first,
         Write {
@@ -35,6 +35,8 @@ fn a_session_takes_the_lowest_number_that_is_free(rt: HostRuntime) -> Result<(),
     }
     assert_eq!(rt; transactions.draw(first, 8).len(), 1);
     assert!(rt; matches!(transactions.get(first), Some(Transaction::Drawn(8))));
+    assert_eq!(rt; transactions.next_active(0), Some(3));
+    assert_eq!(rt; transactions.next_active(4), None);
     transactions.set(first, Transaction::ReadOnly);
     transactions.end(first);
     assert!(rt; transactions.get(first).is_none());

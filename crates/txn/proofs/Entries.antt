@@ -1,14 +1,14 @@
 -- A table whose first entry has the number 2.
 use Rattle.std.proofs.Common.{◌≡◌, ◌≢◌, ℕ, zero, suc, ◌+◌, ◌-◌, ◌<◌, ◌≤◌, Bool, true, false, cond, List, [], ◌∷◌, length, map, set, refl, sym, ◌∙◌, ap, subst, arith, nat_eq, nat_lt, Option, Some, None, IsSome, get_or, length-set, rules}
-use Rattle.std.specs.Prelude.{is_none, is_some, count_by, slice_index_or, slice_set}
-use Rattle.std.specs.List.{list_all, fold}
+use Rattle.std.specs.Prelude.{is_none, slice_index_or, slice_set}
+use Rattle.std.specs.List.{list_all}
 use Rattle.std.proofs.lemmas.Bool.Decides.{nat_tests}
 use Rattle.std.proofs.Math.ListN.{get_or-map}
 use Rattle.std.proofs.lemmas.List.{get_or-set_other, get_or_past}
 use Rattle.std.proofs.lemmas.Grind.{get_or-set_at}
-use Rattle.slab.specs.Slab.{Slab, get, slab_len, Updates, with_value}
+use Rattle.slab.specs.Slab.{Slab, get, Updates, with_value}
 use Rattle.base.specs.Lists.{replaced}
-use Rattle.txn.specs.Tables.{entry_at, found, listed, IsTable, IsAbove, AreTaken}
+use Rattle.txn.specs.Tables.{entry_at, found, listed, IsTable, AreTaken}
 
 -- what is listed under a number is what its place finds
 pub entry_at-listed : {T : Type 0} (slab : Slab T) (places : List (Option ℕ)) (n : ℕ) → entry_at (listed slab places) n ≡ found slab (entry_at places n)
@@ -213,44 +213,6 @@ put {T} slab places n key x table at =
         by : (b : Bool) → nat_eq m n ≡ b → entry_at places m ≡ cond b (Some key) (entry_at places m)
         by true is = let e : m ≡ n = grind (arith, nat_tests) in ap (λ (k : ℕ). entry_at places k) e ∙ at
         by false is = refl
-
--- ---- above which number there is none
-
--- once a value is put in below
-pub above-put_in : {T : Type 0} (places : List (Option T)) (n limit further : ℕ) (x : Option T) → length places ≡ 62 → 2 ≤ n → n < 64 → IsAbove limit places → limit ≤ further → n < further → IsAbove further (slice_set places (n - 2) x)
-above-put_in places n limit further x size lo hi above le lt m past = entry_at-set places n x size lo hi m ∙ by (nat_eq m n) refl
-  where
-    by : (b : Bool) → nat_eq m n ≡ b → cond b x (entry_at places m) ≡ None
-    by true is = absurd (grind (arith, nat_tests))
-    by false is = above m (omega (arith, le, past))
-
--- once one is taken out
-pub above-taken_out : {T : Type 0} (places : List (Option T)) (n limit : ℕ) → length places ≡ 62 → 2 ≤ n → n < 64 → IsAbove limit places → IsAbove limit (slice_set places (n - 2) None)
-above-taken_out places n limit size lo hi above m past = entry_at-set places n None size lo hi m ∙ by (nat_eq m n)
-  where
-    by : (b : Bool) → cond b None (entry_at places m) ≡ None
-    by true = refl
-    by false = above m past
-
-at-least : {T : Type 0} (slots : List (Option T)) (from : ℕ) → from ≤ fold (λ (n : ℕ) (o : Option T). n + cond (is_some o) 1 0) from slots
-at-least [] from = omega arith
-at-least (o ∷ slots) from = let rest = at-least slots (from + cond (is_some o) 1 0) in omega (arith, rest)
-
-none-counted : {T : Type 0} (slots : List (Option T)) (key : ℕ) → count_by is_some slots ≡ 0 → get_or slots key None ≡ None
-none-counted [] key none = refl
-none-counted (None ∷ slots) zero none = refl
-none-counted (None ∷ slots) (suc key) none = none-counted slots key none
-none-counted {T = T} (Some x ∷ slots) key none =
-    let counted : fold (λ (n : ℕ) (o : Option T). n + cond (is_some o) 1 0) 1 slots ≡ 0 = none in
-    absurd (omega (arith, counted, at-least slots 1))
-
--- where the slab is empty there is none at all
-pub above-empty : {T : Type 0} (slab : Slab T) (places : List (Option ℕ)) (limit : ℕ) → IsTable slab places → slab_len slab ≡ 0 → IsAbove limit places
-above-empty slab places limit table empty m past = by (entry_at places m) refl
-  where
-    by : (o : Option ℕ) → entry_at places m ≡ o → entry_at places m ≡ None
-    by None at = at
-    by (Some key) at = absurd (cc (table.there m key at, none-counted slab.slots key empty))
 
 -- ---- below which number each is taken
 

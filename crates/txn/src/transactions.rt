@@ -1,7 +1,8 @@
-ghost use Rattle.std.specs.Prelude.{◌≡◌, ◌⊎◌, ◌≤◌, ◌<◌, [], length, IfSome, IfOk, IfErr};
-ghost use Rattle.slab.specs.Slab.{slab_len};
+ghost use Rattle.std.specs.Prelude.{ℕ, ◌≡◌, ◌≤◌, ◌<◌, if◌then◌else◌, nat_eq, [], length, Some, IfSome, IfOk, IfErr};
+ghost use Rattle.dirty_table.specs.Touches.{has};
 ghost use Rattle.base.specs.declared.fault.Fault.TheVariants.{OutOfMemory};
 ghost use Rattle.txn.specs.Tables.{entry_at};
+ghost use Rattle.txn.specs.Transactions.{is_active};
 
 use crate::held::HeldSnapshot;
 use crate::transaction::Transaction;
@@ -9,6 +10,7 @@ use crate::write::Write;
 use crate::write_set::WriteSet;
 use base::Ts;
 use base::fault::Fault;
+use dirty_table::SessionSet;
 use slab::Slab;
 use snapshot::Snapshot;
 use std::alloc::Global;
@@ -20,8 +22,8 @@ use std::mem;
 pub struct Transactions {
     slab: Slab<Transaction>,
     places: [Option<usize>; 62],
-    // No session has a number from here on.
-    limit: u8,
+    // The numbers of those that are Active, so that whoever asks each of these looks at no other.
+    active: SessionSet,
     // Each number below this one has a session.
     first: u8,
     // Sets whose transactions ended, for those that begin. There is room for them from the first begin on.
@@ -38,11 +40,12 @@ impl Model for Transactions {
     ghost Value = { List (Option Transaction) };
 
     ghost use Rattle.std.specs.Prelude.{◌≤◌};
-    ghost use Rattle.txn.specs.Tables.{listed, IsTable, IsAbove, AreTaken};
+    ghost use Rattle.txn.specs.Tables.{listed, IsTable, AreTaken};
+    ghost use Rattle.txn.specs.Transactions.{AreMarked};
 
     ghost view = { λ t. listed t.slab t.places };
 
-    ghost invariant = { λ t. IsTable t.slab t.places × IsAbove t.limit t.places × (t.limit ≤ 64) × AreTaken t.first t.places × (2 ≤ t.first) };
+    ghost invariant = { λ t. IsTable t.slab t.places × AreMarked t.active (listed t.slab t.places) × AreTaken t.first t.places × (2 ≤ t.first) };
 }
 
 // The lowest number that a session may have.
@@ -64,11 +67,17 @@ fn place_of(places: &[Option<usize>; 62], number: u8) -> Option<usize>
     places[(number - FIRST) as usize]
 }
 
-// Above which number there is none: the same limit, or the lowest where all are gone.
-fn lowered(slab: &Slab<Transaction>, limit: u8) -> u8
-    ensures { (slab_len slab.now ≡ 0) × (result ≡ 2) ⊎ (result ≡ limit) }
+// Notes whether the transaction of this number is Active.
+#[inline(always)]
+fn mark(active: &mut SessionSet, number: u8, transaction: &Transaction)
+    requires { number < 64 }
+    ensures { (n : ℕ) → has active.new n ≡ (if nat_eq n number then is_active (Some transaction.now) else has active.old n) }
 {
-    if slab.is_empty() { FIRST } else { limit }
+    match transaction {
+        Transaction::Active { .. } => active.insert(number),
+        Transaction::Drawn(_) => active.remove(number),
+        Transaction::ReadOnly => active.remove(number),
+    }
 }
 
 // A set without writes: one whose transaction ended, or a new one.
@@ -136,14 +145,14 @@ fn keep_of(
 }
 
 impl Transactions {
-    ghost use Rattle.std.specs.Prelude.{ℕ, ◌⊎◌, [], Some, None, IsSome, IfOk, IfErr, IfNone, option_copied};
+    ghost use Rattle.std.specs.Prelude.{◌⊎◌, false, [], None, IsSome, IfNone, option_copied};
     ghost use Rattle.base.specs.declared.fault.Fault.TheVariants.{SessionsFull, OutOfMemory};
     ghost use Rattle.std.specs.Prelude.{List};
     ghost use Rattle.snapshot.specs.Snapshots.{Seen};
     ghost use Rattle.txn.specs.declared.write.Write.{Write};
     ghost use Rattle.txn.specs.declared.transaction.Transaction.TheVariants.{Active, Drawn};
     ghost use Rattle.txn.specs.WriteSets.{HasRoomFor, with_write_at};
-    ghost use Rattle.txn.specs.Transactions.{transaction_at, Sets, IsLowestFree, IsFull};
+    ghost use Rattle.txn.specs.Transactions.{transaction_at, is_active, Sets, IsLowestFree, IsFull, IsNextActive};
 
     /// None is open.
     pub fn new(alloc: Global) -> Transactions
@@ -152,7 +161,7 @@ impl Transactions {
         Transactions {
             slab: Slab::new(alloc),
             places: [None; 62],
-            limit: FIRST,
+            active: SessionSet::none(),
             first: FIRST,
             ended: Vec::new(alloc),
             held: Vec::new(alloc),
@@ -183,12 +192,13 @@ impl Transactions {
         self.slab.get(place)
     }
 
-    /// Above the number of each session that is open.
-    pub fn limit(&self) -> u8
-        ensures none { (n : ℕ) → result ≤ n → transaction_at self.now n ≡ None }
-        ensures within { result ≤ 64 }
+    /// The lowest number of an Active transaction, from this number on.
+    #[inline(always)]
+    pub fn next_active(&self, from: u8) -> Option<u8>
+        ensures some { IfSome result (λ n. IsNextActive self.now from n) }
+        ensures none { IfNone result ((n : ℕ) → from ≤ n → is_active (transaction_at self.now n) ≡ false) }
     {
-        self.limit
+        self.active.next(from)
     }
 
     /// Opens a transaction of this snapshot under the lowest number that is free. Its memory is taken here.
@@ -212,7 +222,7 @@ impl Transactions {
         match self.slab.insert(Transaction::Active { snapshot, writes }) {
             Ok(key) => {
                 self.places[(number - FIRST) as usize] = Some(key);
-                self.limit = self.limit.max(number + 1);
+                self.active.insert(number);
                 self.first = number + 1;
                 Ok(number)
             }
@@ -227,6 +237,7 @@ impl Transactions {
     {
         if let Some(place) = place_of(&self.places, number) {
             if let Some(found) = self.slab.get_mut(place) {
+                mark(&mut self.active, number, &transaction);
                 let before = mem::replace(found, transaction);
                 keep_of(&mut self.ended, &mut self.held, Some(before));
             }
@@ -242,7 +253,7 @@ impl Transactions {
             let ended = self.slab.try_remove(place);
             keep_of(&mut self.ended, &mut self.held, ended);
             self.places[(number - FIRST) as usize] = None;
-            self.limit = lowered(&self.slab, self.limit);
+            self.active.remove(number);
             self.first = self.first.min(number);
         }
     }
@@ -269,6 +280,7 @@ impl Transactions {
         };
         let (snapshot, writes) = found.draw(timestamp);
         give_up(&mut self.held, snapshot);
+        self.active.remove(number);
         writes
     }
 

@@ -1,12 +1,13 @@
 -- Whether the snapshots of all Active sessions cover a timestamp, by the numbers that sessions may have.
-use Rattle.std.proofs.Common.{◌≡◌, ℕ, zero, suc, ◌+◌, ◌<◌, ◌≤◌, Bool, true, false, List, refl, sym, ◌∙◌, ap, arith, nat_lt, Option, None}
+use Rattle.std.proofs.Common.{◌≡◌, ℕ, zero, suc, ◌+◌, ◌<◌, ◌≤◌, Bool, true, false, List, refl, sym, ◌∙◌, ap, arith, nat_lt, Option, Some, None}
 use Rattle.std.specs.List.{list_all, range_with_len}
 use Rattle.std.proofs.lemmas.Bool.{and_from, false_from_ne_true, true≢false}
 use Rattle.std.proofs.lemmas.Bool.Decides.{nat_tests}
 use Rattle.machine.specs.Machine.{most_sessions}
 use Rattle.state_invariant.proofs.collector.Garbage.{range-all}
 use Rattle.txn.specs.declared.transaction.Transaction.{Transaction}
-use Rattle.txn.specs.Transactions.{transaction_at}
+use Rattle.txn.specs.declared.transaction.Transaction.TheVariants.{Active, Drawn, ReadOnly}
+use Rattle.txn.specs.Transactions.{transaction_at, is_active}
 use Rattle.session_steps.specs.Collecting.{is_covered_in, each_covers}
 
 all-range : (p : ℕ → Bool) (from many : ℕ) → ((k : ℕ) → from ≤ k → k < from + many → p k ≡ true) → list_all p (range_with_len from many) ≡ true
@@ -18,17 +19,28 @@ sixty-two : most_sessions ≡ 62
 unfolding most_sessions
 sixty-two = refl
 
-pub each-covers : (ts : List (Option Transaction)) (t : ℕ) → ((k : ℕ) → 2 ≤ k → k < 64 → is_covered_in t (transaction_at ts k) ≡ true) → each_covers ts t ≡ true
+each-covers : (ts : List (Option Transaction)) (t : ℕ) → ((k : ℕ) → 2 ≤ k → k < 64 → is_covered_in t (transaction_at ts k) ≡ true) → each_covers ts t ≡ true
 each-covers ts t each = all-range (λ n. is_covered_in t (transaction_at ts n)) 2 most_sessions (λ k low high. each k low (omega (arith, high, sixty-two)))
 
 pub one-uncovers : (ts : List (Option Transaction)) (t n : ℕ) → 2 ≤ n → n < 64 → is_covered_in t (transaction_at ts n) ≡ false → each_covers ts t ≡ false
 one-uncovers ts t n low high is =
     false_from_ne_true (each_covers ts t) (λ all. true≢false (sym (range-all (λ n. is_covered_in t (transaction_at ts n)) 2 most_sessions n all low (omega (arith, high, sixty-two))) ∙ is))
 
--- above the limit there is none
-pub past-limit : (ts : List (Option Transaction)) (t k limit : ℕ) → ((n : ℕ) → limit ≤ n → transaction_at ts n ≡ None) → (k < limit → is_covered_in t (transaction_at ts k) ≡ true) → is_covered_in t (transaction_at ts k) ≡ true
-past-limit ts t k limit none below = by (nat_lt k limit) refl
+-- one that isn't Active reads nothing
+inactive-covered : (t : ℕ) (o : Option Transaction) → is_active o ≡ false → is_covered_in t o ≡ true
+inactive-covered t None inactive = refl
+inactive-covered t (Some (Active snapshot writes)) inactive = absurd (cc inactive)
+inactive-covered t (Some (Drawn u)) inactive = refl
+inactive-covered t (Some ReadOnly) inactive = refl
+
+-- so far the snapshot of each covers the timestamp
+abbrev pub CoverBelow : List (Option Transaction) → ℕ → ℕ → Type 0
+CoverBelow ts t from = (k : ℕ) → 2 ≤ k → k < from → is_covered_in t (transaction_at ts k) ≡ true
+
+-- where there is no next that is Active, that of each does
+pub covers-past : (ts : List (Option Transaction)) (t from : ℕ) → CoverBelow ts t from → ((n : ℕ) → from ≤ n → is_active (transaction_at ts n) ≡ false) → each_covers ts t ≡ true
+covers-past ts t from below none = each-covers ts t (λ k low high. by k low (nat_lt k from) refl)
   where
-    by : (b : Bool) → nat_lt k limit ≡ b → is_covered_in t (transaction_at ts k) ≡ true
-    by true is = below (grind (arith, nat_tests))
-    by false is = ap (is_covered_in t) (none k (grind (arith, nat_tests)))
+    by : (k : ℕ) → 2 ≤ k → (b : Bool) → nat_lt k from ≡ b → is_covered_in t (transaction_at ts k) ≡ true
+    by k low true is = below k low (grind (arith, nat_tests))
+    by k low false is = inactive-covered t (transaction_at ts k) (none k (grind (arith, nat_tests)))

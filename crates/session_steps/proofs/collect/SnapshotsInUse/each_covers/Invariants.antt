@@ -1,7 +1,9 @@
-use Rattle.std.specs.Prelude.{◌≡◌, ◌<◌, ◌≤◌, ℕ, true}
-use Rattle.txn.specs.Transactions.{transaction_at}
-use Rattle.session_steps.specs.Collecting.{is_covered_in}
+use Rattle.std.specs.Prelude.{◌≤◌, ◌-◌}
+use Rattle.session_steps.proofs.collector.Readers.{CoverBelow}
 use Rattle.session_steps.proofs.collect.SnapshotsInUse.each_covers.Given as goal
 
 abbrev pub invariant-loop-number : goal.invariant-loop-number
-invariant-loop-number l = (k : ℕ) → 2 ≤ k → k < l.number → is_covered_in l.ts (transaction_at l.self.transactions.now k) ≡ true
+invariant-loop-number l = (l.from ≤ 64) × CoverBelow l.self.transactions.now l.ts l.from
+
+abbrev pub decreases-loop-number : goal.decreases-loop-number
+decreases-loop-number l = 64 - l.from
