@@ -129,13 +129,13 @@ impl<I: Images> JournaledPmem<I> {
         Fault::Device
     }
 
-    // A store that may be the first to its line since an image was written, or of a gate.
+    // A store that may be the first to its line since an image was written, or of a gate. Whether there was memory for it: a
+    // result would want a place in memory at each store.
     #[inline(never)]
-    fn store_first(&mut self, word: usize, value: u64) -> Result<(), Fault>
+    fn store_first(&mut self, word: usize, value: u64) -> bool
         requires { word < length self.old.words.items }
-        ensures ok { OnOk result (device_of self.new.trace ≡ stored word value (device_of self.old.trace)) }
-        ensures err { OnErr result (device_of self.new.trace ≡ failed (device_of self.old.trace)) }
-        ensures fault { IfErr result (λ fault. fault ≡ Fault.Device) }
+        ensures stored { result ≡ true → device_of self.new.trace ≡ stored word value (device_of self.old.trace) }
+        ensures refused { result ≡ false → device_of self.new.trace ≡ failed (device_of self.old.trace) }
     {
         match self.changed.add(word / 8) {
             Ok(()) => {
@@ -147,9 +147,12 @@ impl<I: Images> JournaledPmem<I> {
                     word,
                 );
                 self.trace.note(Operation::Store { word, value });
-                Ok(())
+                true
             }
-            Err(_) => Err(self.refuse()),
+            Err(_) => {
+                let _ = self.refuse();
+                false
+            }
         }
     }
 
@@ -356,7 +359,11 @@ impl<I: Images> Pmem for JournaledPmem<I> {
             self.trace.note(Operation::Store { word, value });
             return Ok(());
         }
-        self.store_first(word, value)
+        if self.store_first(word, value) {
+            Ok(())
+        } else {
+            Err(Fault::Device)
+        }
     }
 
     // It fails only where there is no memory.
