@@ -1,4 +1,4 @@
 use Rattle.index.proofs.map.Index.walk_into.Goals as goal
 
-pub returns : goal.returns
-returns g c = record { tables = rw c.hinted.ensures at c.reach.ensures.tables }
+pub returns-clause-tables : goal.returns-clause-tables
+returns-clause-tables g c = rw c.hinted.ensures at c.reach.ensures.tables
