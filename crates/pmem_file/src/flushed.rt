@@ -12,13 +12,22 @@ pub(crate) struct Flushed {
 }
 
 /// What the actor flushed is fenced.
+#[inline(always)]
 pub(crate) fn forget(flushed: &mut Vec<Flushed>, actor: u8)
     ensures { flushed.new.items ≡ filter (is_of_another actor) flushed.old.items }
 {
     forget_last(flushed, actor);
     if !flushed.is_empty() {
-        flushed.retain(|one| one.actor != actor);
+        forget_each(flushed, actor);
     }
+}
+
+// The same, where another flushed a line after it.
+#[inline(never)]
+fn forget_each(flushed: &mut Vec<Flushed>, actor: u8)
+    ensures { flushed.new.items ≡ filter (is_of_another actor) flushed.old.items }
+{
+    flushed.retain(|one| one.actor != actor);
 }
 
 // What the actor flushed last, up to what another flushed. Mostly it is all that there is.

@@ -188,6 +188,24 @@ impl<I: Images> JournaledPmem<I> {
         }
     }
 
+    // A fence beside which a gate may be stored. Whether it succeeds: a result would want a place in memory at each operation
+    // beside it.
+    #[inline(never)]
+    fn is_fenced(&mut self, actor: u8) -> bool
+        ensures fenced { result ≡ true → device_of self.new.trace ≡ fenced actor (device_of self.old.trace) }
+        ensures refused { result ≡ false → device_of self.new.trace ≡ failed (device_of self.old.trace) }
+    {
+        if self.failed {
+            let _ = self.refuse();
+            return false;
+        }
+        if self.makes_a_gate_durable(actor) {
+            return self.persist(actor).is_ok();
+        }
+        self.order(actor);
+        true
+    }
+
     // Keeps an image with the gates as they are now: the one that is written, where it has them.
     fn keep(&mut self) -> io::Result<()>
         requires { self.old.failed ≡ false }
@@ -378,16 +396,17 @@ impl<I: Images> Pmem for JournaledPmem<I> {
         }
     }
 
+    // Most fences are made while no gate is stored, and order only.
     fn fence(&mut self, actor: Actor) -> Result<(), Fault> {
-        if self.failed {
-            return Err(self.refuse());
+        if !self.failed && !self.is_gate_stored {
+            self.order(actor.number);
+            return Ok(());
         }
-        let actor = actor.number;
-        if self.makes_a_gate_durable(actor) {
-            return self.persist(actor);
+        if self.is_fenced(actor.number) {
+            Ok(())
+        } else {
+            Err(Fault::Device)
         }
-        self.order(actor);
-        Ok(())
     }
 }
 

@@ -1,7 +1,5 @@
-use Rattle.std.proofs.Common.{rules, ◌∙◌}
-use Rattle.std.proofs.lemmas.Fn.{filter_same}
-use Rattle.pmem_file.specs.Flushes.{is_of_another}
+use Rattle.std.proofs.Common.{◌∙◌}
 use Rattle.pmem_file.proofs.flushed.forget.Goals as goal
 
 pub returns-then-not-is_empty : goal.returns-then-not-is_empty
-returns-then-not-is_empty c = filter_same _ (is_of_another c.args.actor) _ (λ x b f' k. search rules) _ _ c.retain.ensures.filtered ∙ c.forget_last.ensures
+returns-then-not-is_empty c = c.forget_each.ensures ∙ c.forget_last.ensures
