@@ -3,6 +3,7 @@ ghost use Rattle.std.specs.Int.{from_le_bytes, w64};
 ghost use Rattle.version_slot.specs.Words.{link_number, slot_byte};
 
 // The eight bytes from one on as a number, the first lowest, with 0 past the end.
+#[inline(always)]
 pub fn word_at(bytes: &[u8], from: usize) -> u64
     requires { from ≤ 96 }
     ensures { result ≡ from_le_bytes w64 (drop from bytes.now) }
@@ -18,6 +19,7 @@ pub fn word_at(bytes: &[u8], from: usize) -> u64
 }
 
 // Fewer than eight bytes as a number, with 0 past the end.
+#[inline(never)]
 fn last_word(bytes: &[u8]) -> u64
     requires { length bytes.now < 8 }
     ensures { result ≡ from_le_bytes w64 bytes.now }

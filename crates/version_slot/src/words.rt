@@ -85,8 +85,25 @@ pub(crate) fn held_key(words: &[u64; 16], geometry: Geometry) -> Option<Key>
 }
 
 impl Version {
-    ghost use Rattle.std.specs.Prelude.{◌≡◌, ◌≤◌, ◌<◌, ◌^◌, ℕ, length, slice_index};
+    ghost use Rattle.std.specs.Prelude.{◌≡◌, ◌≤◌, ◌<◌, ◌^◌, ℕ, [], ◌∷◌, length, slice_index};
     ghost use Rattle.version_slot.specs.Words.{filled_word, link_number};
+
+    // The words of a slot of one line that is filled with it, from the second on.
+    #[inline(always)]
+    pub(crate) fn line_words(&self) -> [u64; 7]
+        requires link { link_number self.now.previous < 2 ^ 32 }
+        ensures words { result ≡ filled_word self.now 1 ∷ filled_word self.now 2 ∷ filled_word self.now 3 ∷ filled_word self.now 4 ∷ filled_word self.now 5 ∷ filled_word self.now 6 ∷ filled_word self.now 7 ∷ [] }
+        ensures table { self.now.key.table < 2 ^ 16 }
+        ensures bytes { (i : ℕ) → slice_index self.now.row i < 2 ^ 8 }
+    {
+        let bytes = self.row.as_bytes();
+        let Key { table, key } = self.key;
+        let header = header(table, bytes.len(), link_of(self.previous));
+        let first = word_at(bytes, 0);
+        let second = word_at(bytes, 8);
+        let third = word_at(bytes, 16);
+        [0, key, header, first, second, third, word_at(bytes, 24)]
+    }
 
     // Puts the words of a slot of so many that is filled with it, from the second on, into their places.
     #[inline(always)]

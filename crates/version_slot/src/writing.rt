@@ -1,5 +1,5 @@
 ghost use Rattle.std.specs.Prelude.{◌≡◌, ◌<◌, ◌≤◌, [], ◌∷◌, length, IfErr, OnErr, OnOk, Some};
-ghost use Rattle.base.specs.Layout.{row_limit, total_words};
+ghost use Rattle.base.specs.Layout.{row_limit, slot_words, total_words};
 ghost use Rattle.pmem.specs.Words.{value_of};
 ghost use Rattle.pmem.specs.Trace.{store_op, Runs, StopsWithin};
 ghost use Rattle.version_slot.specs.Operations.{begin_operations, end_operations, fill_operations};
@@ -14,6 +14,54 @@ use pmem::{Pmem, store_all};
 /// two lines. The begin stays.
 #[inline(always)]
 pub fn fill<D: Pmem>(
+    device: &mut D,
+    geometry: Geometry,
+    slot: u64,
+    version: &Version,
+) -> Result<(), Fault>
+    requires slot { slot < geometry.slots }
+    requires row { length version.now.row ≤ row_limit geometry.version }
+    requires previous { link_number version.now.previous ≤ geometry.slots }
+    requires device { (D.state device.old).words ≡ total_words geometry }
+    ensures version { OnOk result (IsVersion geometry (slot_at geometry slot (value_of (D.state device.new))) version.now) }
+    ensures fault { IfErr result (λ fault. fault ≡ Fault.Device) }
+    ensures size { (D.state device.new).words ≡ (D.state device.old).words }
+    ensures run { OnOk result (Runs (fill_operations geometry slot version.now) (D.state device.old) (D.state device.new)) }
+    ensures stopped { OnErr result (StopsWithin (fill_operations geometry slot version.now) (D.state device.old) (D.state device.new)) }
+{
+    if geometry.slot_words() == 8 {
+        fill_line(device, geometry, slot, version)
+    } else {
+        fill_lines(device, geometry, slot, version)
+    }
+}
+
+// The same, of a slot of one line: so many words that each store is by itself.
+#[inline(always)]
+fn fill_line<D: Pmem>(
+    device: &mut D,
+    geometry: Geometry,
+    slot: u64,
+    version: &Version,
+) -> Result<(), Fault>
+    requires one { slot_words geometry.version ≡ 8 }
+    requires slot { slot < geometry.slots }
+    requires row { length version.now.row ≤ row_limit geometry.version }
+    requires previous { link_number version.now.previous ≤ geometry.slots }
+    requires device { (D.state device.old).words ≡ total_words geometry }
+    ensures version { OnOk result (IsVersion geometry (slot_at geometry slot (value_of (D.state device.new))) version.now) }
+    ensures fault { IfErr result (λ fault. fault ≡ Fault.Device) }
+    ensures size { (D.state device.new).words ≡ (D.state device.old).words }
+    ensures run { OnOk result (Runs (fill_operations geometry slot version.now) (D.state device.old) (D.state device.new)) }
+    ensures stopped { OnErr result (StopsWithin (fill_operations geometry slot version.now) (D.state device.old) (D.state device.new)) }
+{
+    let words = version.line_words();
+    store_all(device, geometry.slot_start(slot) + 1, &words)
+}
+
+// The same, of a slot of any number of lines.
+#[inline(never)]
+fn fill_lines<D: Pmem>(
     device: &mut D,
     geometry: Geometry,
     slot: u64,

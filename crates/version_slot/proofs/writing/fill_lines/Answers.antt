@@ -3,7 +3,7 @@ use Rattle.std.proofs.lemmas.Result.{on_ok_weaker, on_err_weaker}
 use Rattle.pmem.specs.Trace.{Operation, Runs, StopsWithin}
 use Rattle.version_slot.specs.Words.{Fits}
 use Rattle.version_slot.proofs.Operations.{filled_version, fills_by}
-use Rattle.version_slot.proofs.writing.fill.Goals as goal
+use Rattle.version_slot.proofs.writing.fill_lines.Goals as goal
 
 pub returns-clause-run : goal.returns-clause-run
 returns-clause-run g c =
