@@ -7,6 +7,8 @@ use Rattle.snapshot.specs.Snapshots.{Seen}
 use Rattle.txn.specs.declared.transaction.Transaction.{Transaction}
 use Rattle.txn.specs.declared.transaction.Transaction.TheVariants.{Active}
 use Rattle.txn.specs.declared.write.Write.{Write}
+use Rattle.base.specs.declared.fault.Fault.{Fault}
+use Rattle.session_steps.specs.Steps.{IsBarred, is_one_of, bar_of, is_over, is_over_at}
 use Rattle.std.proofs.lemmas.List.{append-nil}
 use Rattle.std.proofs.lemmas.List.Elements.{All-nil, All-cons}
 
@@ -22,6 +24,15 @@ unfound {X} test (x ∷ xs) none = by (test x) refl none (unfound test xs)
     by : (b : Bool) → test x ≡ b → cond b (Some x) (find test xs) ≡ None → (find test xs ≡ None → All (λ x. test x ≡ false) xs) → All (λ x. test x ≡ false) (x ∷ xs)
     by true is none rest = absurd (cc none)
     by false is none rest = All-cons (λ x. test x ≡ false) x xs is (rest none)
+
+-- what bars a session whose transaction isn't one of these
+pub barred : (lets : Transaction → Bool) (o : Option Transaction) (fault : Fault) → is_one_of lets o ≡ false → fault ≡ bar_of o → IsBarred lets o fault
+barred lets None fault out is = is
+barred lets (Some t) fault out is = (is, out)
+
+pub barred-over : (drawn : List DrawnCommit) (o : Option Transaction) (fault : Fault) → is_over_at drawn o ≡ false → fault ≡ bar_of o → IsBarred (is_over drawn) o fault
+barred-over drawn None fault out is = is
+barred-over drawn (Some t) fault out is = (is, out)
 
 -- no more are drawn
 pub same-drawers : (ds : List DrawnCommit) → (more : List ℕ) × (map (λ (d : DrawnCommit). d.session) ds ≡ map (λ (d : DrawnCommit). d.session) ds ++ more)

@@ -130,6 +130,16 @@ abbrev pub IsBarred : (Transaction → Bool) → Option Transaction → Fault �
 IsBarred lets None fault = fault ≡ NoSession
 IsBarred lets (Some transaction) fault = (fault ≡ WrongState) × (lets transaction ≡ false)
 
+-- it is one of these
+abbrev pub is_one_of : (Transaction → Bool) → Option Transaction → Bool
+is_one_of lets None = false
+is_one_of lets (Some transaction) = lets transaction
+
+-- what bars one that isn't
+abbrev pub bar_of : Option Transaction → Fault
+bar_of None = NoSession
+bar_of (Some transaction) = WrongState
+
 -- it reads, and may write
 abbrev pub is_active : Transaction → Bool
 is_active (Active snapshot writes) = true

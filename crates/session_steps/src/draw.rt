@@ -9,7 +9,7 @@ ghost use Rattle.index.specs.Entries.{entry_at, has_room};
 ghost use Rattle.session_laws.specs.Sees.{is_unseen};
 ghost use Rattle.session_steps.specs.Drawing.{conflict_in};
 
-use crate::active::active_in;
+use crate::active::{bar, find_active};
 use crate::sessions::Sessions;
 use crate::touching::draw_writes;
 use base::Ts;
@@ -44,9 +44,9 @@ impl Sessions {
         requires shown { ∥ HoldsSome self.old ∥₁ }
         ensures step { Takes self.old self.new (Draw session) (drawn result) }
     {
-        let active = match active_in(&self.transactions, session) {
+        let active = match find_active(&self.transactions, session) {
             Ok(active) => active,
-            Err(fault) => return Err(fault),
+            Err(_) => return Err(bar(&self.transactions, session)),
         };
         if active.writes.is_empty() {
             self.transactions.set(session, Transaction::ReadOnly);
@@ -70,15 +70,16 @@ impl Sessions {
     #[inline(always)]
     fn draw_next(&mut self, session: u8, all_there: bool) -> Result<Option<Ts>, Fault>
         requires shown { ∥ HoldsSome self.old ∥₁ }
+        requires one { (snapshot : Seen) × (writes : List Write) × (transaction_at self.old.transactions session ≡ Some (IsActiveWith snapshot writes)) }
         requires active { (snapshot : Seen) (writes : List Write) → transaction_at self.old.transactions session ≡ Some (IsActiveWith snapshot writes) → (writes ≢ []) × (conflict_in self.old.index snapshot writes ≡ None) }
         requires there { (snapshot : Seen) (writes : List Write) → transaction_at self.old.transactions session ≡ Some (IsActiveWith snapshot writes) → all_there ≡ true → All (λ write. has_room self.old.index write.key ≡ true) writes }
         requires window { nat_eq self.old.numbers.next self.old.numbers.record.dirty ≡ false }
         requires early { nat_le (2 ^ 62) (self.old.numbers.next + 2 * self.old.numbers.geometry.window) ≡ false }
         ensures step { Takes self.old self.new (Draw session) (drawn result) }
     {
-        let writes = match active_in(&self.transactions, session) {
+        let writes = match find_active(&self.transactions, session) {
             Ok(active) => active.writes,
-            Err(fault) => return Err(fault),
+            Err(_) => unreachable!(),
         };
         match reserve_keys(&mut self.index, writes, all_there) {
             Ok(()) => {}

@@ -1,25 +1,26 @@
+use crate::active::{Barred, bar};
 use crate::sessions::Sessions;
 use base::fault::Fault;
 use txn::Transaction;
 
 impl Sessions {
-    ghost use Rattle.std.specs.Prelude.{◌≡◌, true, IfErr, OnOk};
+    ghost use Rattle.std.specs.Prelude.{◌≡◌, true, false, OnOk, OnErr};
     ghost use Rattle.base.specs.declared.step.SessionStep.TheVariants.{End};
     ghost use Rattle.txn.specs.Transactions.{transaction_at};
     ghost use Rattle.session_steps.specs.Replies.{done};
-    ghost use Rattle.session_steps.specs.Steps.{Takes, IsBarred, is_over, is_over_at};
+    ghost use Rattle.session_steps.specs.Steps.{Takes, is_over_at};
 
     // Whether a session is open and over.
-    fn over(&self, session: u8) -> Result<(), Fault>
+    fn over(&self, session: u8) -> Result<(), Barred>
         ensures ok { OnOk result (is_over_at self.now.drawn.commits (transaction_at self.now.transactions session) ≡ true) }
-        ensures fault { IfErr result (λ fault. IsBarred (is_over self.now.drawn.commits) (transaction_at self.now.transactions session) fault) }
+        ensures barred { OnErr result (is_over_at self.now.drawn.commits (transaction_at self.now.transactions session) ≡ false) }
     {
         match self.transactions.get(session) {
-            None => Err(Fault::NoSession),
-            Some(Transaction::Active { .. }) => Err(Fault::WrongState),
+            None => Err(Barred),
+            Some(Transaction::Active { .. }) => Err(Barred),
             Some(Transaction::Drawn(timestamp)) => {
                 if self.drawn.get(*timestamp).is_some() {
-                    Err(Fault::WrongState)
+                    Err(Barred)
                 } else {
                     Ok(())
                 }
@@ -38,7 +39,7 @@ impl Sessions {
                 self.transactions.end(session);
                 Ok(())
             }
-            Err(fault) => Err(fault),
+            Err(_) => Err(bar(&self.transactions, session)),
         }
     }
 }

@@ -10,6 +10,7 @@ ghost use Rattle.version_slot.specs.Operations.{begin_operations, end_operations
 ghost use Rattle.session_steps.specs.Giving.{fits_slot};
 ghost use Rattle.session_steps.specs.Stamping.{IsNextIn};
 
+use crate::active::{Barred, bar};
 use crate::sessions::Sessions;
 use base::fault::Fault;
 use base::geometry::Geometry;
@@ -34,26 +35,26 @@ impl Sessions {
     ghost use Rattle.txn.specs.declared.transaction.Transaction.TheVariants.{Drawn};
     ghost use Rattle.session_steps.specs.Stamping.{IsNextOf, is_unstamped};
     ghost use Rattle.session_steps.specs.Replies.{stamped};
-    ghost use Rattle.session_steps.specs.Steps.{HoldsSomeOn, TakesOn, IsBarred};
+    ghost use Rattle.session_steps.specs.Steps.{HoldsSomeOn, TakesOn, is_one_of};
 
     // The write that the session of this number stamps next.
     #[inline(always)]
-    fn unstamped(&self, session: u8) -> Result<Unstamped<'_>, Fault>
+    fn unstamped(&self, session: u8) -> Result<Unstamped<'_>, Barred>
         ensures at { IfOk result (λ next. transaction_at self.now.transactions session ≡ Some (Drawn next.timestamp)) }
         ensures next { IfOk result (λ next. IsNextOf self.now.drawn.commits next) }
-        ensures fault { IfErr result (λ fault. IsBarred (is_unstamped self.now.drawn.commits) (transaction_at self.now.transactions session) fault) }
+        ensures barred { OnErr result (is_one_of (is_unstamped self.now.drawn.commits) (transaction_at self.now.transactions session) ≡ false) }
     {
         match self.transactions.get(session) {
-            None => Err(Fault::NoSession),
-            Some(Transaction::Active { .. }) => Err(Fault::WrongState),
+            None => Err(Barred),
+            Some(Transaction::Active { .. }) => Err(Barred),
             Some(Transaction::Drawn(timestamp)) => match self.drawn.get(*timestamp) {
                 Some(commit) => match next_of(*timestamp, commit) {
                     Some(next) => Ok(next),
-                    None => Err(Fault::WrongState),
+                    None => Err(Barred),
                 },
-                None => Err(Fault::WrongState),
+                None => Err(Barred),
             },
-            Some(Transaction::ReadOnly) => Err(Fault::WrongState),
+            Some(Transaction::ReadOnly) => Err(Barred),
         }
     }
 
@@ -65,7 +66,7 @@ impl Sessions {
     {
         let next = match self.unstamped(session) {
             Ok(next) => next,
-            Err(fault) => return Err(fault),
+            Err(_) => return Err(bar(&self.transactions, session)),
         };
         let timestamp = next.timestamp;
         let is_last = next.is_last;

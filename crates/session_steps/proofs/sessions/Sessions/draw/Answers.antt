@@ -10,11 +10,13 @@ use Rattle.txn.specs.declared.write.Write.{Write}
 use Rattle.session_steps.specs.Drawing.{conflict_in}
 use Rattle.session_steps.proofs.draws.Steps.{draw-asks, draws-nothing}
 use Rattle.session_steps.proofs.transactions.Steps.{inactive, refuses}
-use Rattle.session_steps.proofs.CodeTests.{nothing-is, some-is, one-active}
+use Rattle.txn.specs.Transactions.{transaction_at}
+use Rattle.session_steps.specs.Steps.{is_active}
+use Rattle.session_steps.proofs.CodeTests.{nothing-is, some-is, one-active, barred}
 use Rattle.session_steps.proofs.sessions.Sessions.draw.Goals as goal
 
 pub returns-in-Err : goal.returns-in-Err
-returns-in-Err c = record { step = λ h holds. inactive c.args.self.now (Draw c.args.session) c.args.session c.in-Err.fault h refl refl c.in-Err.ensures.fault holds }
+returns-in-Err c = record { step = λ h holds. inactive c.args.self.now (Draw c.args.session) c.args.session c.bar.result h refl refl (barred is_active (transaction_at c.args.self.now.transactions c.args.session) c.bar.result c.in-Err.ensures.barred c.bar.ensures) holds }
 
 pub returns-then-is_empty : goal.returns-then-is_empty
 returns-then-is_empty c = record {

@@ -6,10 +6,8 @@ use Rattle.txn.specs.DrawnCommits.{are_below}
 use Rattle.txn.specs.declared.drawn.DrawnCommit.{DrawnCommit}
 use Rattle.txn.specs.declared.write.Write.{Write}
 use Rattle.base.specs.declared.fault.Fault.TheVariants.{OutOfMemory}
-use Rattle.base.specs.declared.step.SessionStep.TheVariants.{Draw}
 use Rattle.session_steps.proofs.draws.Steps.{all-early, draws, draws-not}
 use Rattle.session_steps.proofs.draws.Notes.{fits-lines}
-use Rattle.session_steps.proofs.transactions.Steps.{inactive}
 use Rattle.session_steps.proofs.CodeTests.{one-active}
 use Rattle.session_steps.proofs.sessions.Sessions.draw_next.Goals as goal
 
@@ -28,9 +26,6 @@ push-requires-clause-last c =
     (λ shown. subst (λ (n : ℕ). are_below n c.reserve.new.self.commits ≡ true) (sym c.draw-timestamp.ensures.timestamp)
     (subst (λ (ds : List DrawnCommit). are_below c.args.self.now.numbers.next ds ≡ true) (sym c.reserve.ensures.commits)
     (all-early c.args.self.now.numbers.record c.args.self.now.numbers.next c.args.self.now.drawn.commits shown.1.keeps.numbers.drawn)))
-
-pub returns-in-Err : goal.returns-in-Err
-returns-in-Err c = record { step = λ h holds. inactive c.args.self.now (Draw c.args.session) c.args.session c.in-Err.fault h refl refl c.in-Err.ensures.fault holds }
 
 pub returns-in-Err-reserve_keys : goal.returns-in-Err-reserve_keys
 returns-in-Err-reserve_keys c =

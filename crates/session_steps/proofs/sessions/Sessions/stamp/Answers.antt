@@ -16,13 +16,16 @@ use Rattle.session_steps.specs.Shows.{plain_of}
 use Rattle.session_steps.proofs.draws.Notes.{fits-of}
 use Rattle.session_steps.proofs.reads.Rows.{words-are}
 use Rattle.session_steps.proofs.stamps.Steps.{own-slot, ended-slot, stamps-refusal, stamps-last, stamps-more, stamps-stopped}
+use Rattle.txn.specs.Transactions.{transaction_at}
+use Rattle.session_steps.specs.Stamping.{is_unstamped}
+use Rattle.session_steps.proofs.CodeTests.{barred}
 use Rattle.session_steps.proofs.Stepping.{held-on, refused-on}
 use Rattle.session_steps.proofs.sessions.Sessions.stamp.Goals as goal
 
 pub returns-in-Err : goal.returns-in-Err
 returns-in-Err g c = record {
   step = λ h holds.
-      refused-on c.args.self.now (g.D.Pmem.state c.args.device.now) (Stamp c.args.session) c.in-Err.fault h (g.met.D.Pmem.orderly _) holds (stamps-refusal c.args.self.now c.args.session c.in-Err.fault h c.in-Err.ensures.fault (held-on c.args.self.now h _ holds));
+      refused-on c.args.self.now (g.D.Pmem.state c.args.device.now) (Stamp c.args.session) c.bar.result h (g.met.D.Pmem.orderly _) holds (stamps-refusal c.args.self.now c.args.session c.bar.result h (barred (is_unstamped c.args.self.now.drawn.commits) (transaction_at c.args.self.now.transactions c.args.session) c.bar.result c.in-Err.ensures.barred c.bar.ensures) (held-on c.args.self.now h _ holds));
 }
 
 pub stamp_write-requires-clause-own : goal.stamp_write-requires-clause-own
