@@ -23,6 +23,7 @@ pub(crate) fn forget(flushed: &mut Vec<Flushed>, actor: u8)
 }
 
 // The same, where another flushed a line after it.
+#[cold]
 #[inline(never)]
 fn forget_each(flushed: &mut Vec<Flushed>, actor: u8)
     ensures { flushed.new.items ≡ filter (is_of_another actor) flushed.old.items }

@@ -131,6 +131,7 @@ impl<I: Images> JournaledPmem<I> {
 
     // A store that may be the first to its line since an image was written, or of a gate. Whether there was memory for it: a
     // result would want a place in memory at each store.
+    #[cold]
     #[inline(never)]
     fn store_first(&mut self, word: usize, value: u64) -> bool
         requires { word < length self.old.words.items }
@@ -190,6 +191,7 @@ impl<I: Images> JournaledPmem<I> {
 
     // A fence beside which a gate may be stored. Whether it succeeds: a result would want a place in memory at each operation
     // beside it.
+    #[cold]
     #[inline(never)]
     fn is_fenced(&mut self, actor: u8) -> bool
         ensures fenced { result ≡ true → device_of self.new.trace ≡ fenced actor (device_of self.old.trace) }

@@ -60,6 +60,7 @@ fn fill_line<D: Pmem>(
 }
 
 // The same, of a slot of any number of lines.
+#[cold]
 #[inline(never)]
 fn fill_lines<D: Pmem>(
     device: &mut D,
