@@ -46,6 +46,7 @@ pub(crate) fn widen(hints: &mut Vec<usize>, entries: &[(Key, Entry)]) -> Result<
 }
 
 // Makes all hints anew, more than there are entries.
+#[cold]
 #[inline(never)]
 fn renew(hints: &mut Vec<usize>, entries: &[(Key, Entry)]) -> Result<(), AllocError> {
     let count = entries.len();

@@ -84,6 +84,7 @@ impl Index {
     }
 
     // The same, by a descent of the map.
+    #[cold]
     #[inline(never)]
     fn search(&self, key: Key) -> Option<usize>
         ensures some { IfSome result (λ place. IsAt self.now place key) }
