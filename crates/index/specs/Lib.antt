@@ -2,3 +2,4 @@ pub mod Entries
 pub mod Reading
 pub mod Walking
 pub mod Counting
+pub mod Keyed

@@ -11,7 +11,7 @@ impl Index {
     {
         let mut count = 0;
         for place in 0..self.entries.len() {
-            if self.entries[place].1.live().is_some() {
+            if self.entries[place].entry().live().is_some() {
                 count += 1;
             }
         }

@@ -1,4 +1,6 @@
+use base::key::Key;
 use base::{SlotNo, Ts};
+use std::marker::Model;
 
 /// Where a key's versions are.
 #[derive(Clone, Copy, Debug, PartialEq, Eq)]
@@ -41,5 +43,104 @@ impl Entry {
         ensures { result ≡ head_of self.now }
     {
         self.drawn.or(self.newest)
+    }
+}
+
+/// A key with its entry, in as little memory as that takes: an opening makes one for each live slot, and pages of fresh memory cost
+/// it more than what it writes there.
+#[derive(Drop)]
+pub struct KeyedEntry {
+    key: u64,
+    newest: SlotNo,
+    drawn: SlotNo,
+    last: Ts,
+    table: u16,
+    has_newest: bool,
+    ended: bool,
+    has_drawn: bool,
+    has_last: bool,
+}
+
+impl Model for KeyedEntry {
+    ghost use Rattle.base.specs.declared.key.Key.{Key};
+    ghost use Rattle.index.specs.declared.entry.Entry.{Entry};
+
+    ghost Value = { Key × Entry };
+
+    ghost use Rattle.index.specs.Keyed.{key_in, entry_in};
+
+    ghost view = { λ k. (key_in k, entry_in k) };
+}
+
+impl KeyedEntry {
+    ghost use Rattle.std.specs.Prelude.{◌≡◌, Some};
+    ghost use Rattle.base.specs.Keys.{key_eq};
+    ghost use Rattle.index.specs.Entries.{blank};
+
+    /// That of a key whose covered row is in the slot, in a life that has drawn nothing for it.
+    pub fn live(key: Key, slot: SlotNo) -> KeyedEntry
+        ensures { result ≡ (key, record blank { newest = Some slot }) }
+    {
+        KeyedEntry {
+            key: key.key,
+            newest: slot,
+            drawn: 0,
+            last: 0,
+            table: key.table,
+            has_newest: true,
+            ended: false,
+            has_drawn: false,
+            has_last: false,
+        }
+    }
+
+    #[inline(always)]
+    pub(crate) fn new(key: Key, entry: Entry) -> KeyedEntry
+        ensures { result ≡ (key, entry) }
+    {
+        KeyedEntry {
+            key: key.key,
+            newest: entry.newest.unwrap_or(0),
+            drawn: entry.drawn.unwrap_or(0),
+            last: entry.last.unwrap_or(0),
+            table: key.table,
+            has_newest: entry.newest.is_some(),
+            ended: entry.ended,
+            has_drawn: entry.drawn.is_some(),
+            has_last: entry.last.is_some(),
+        }
+    }
+
+    #[inline(always)]
+    pub(crate) fn key(&self) -> Key
+        ensures { result ≡ self.now.0 }
+    {
+        Key {
+            table: self.table,
+            key: self.key,
+        }
+    }
+
+    #[inline(always)]
+    pub(crate) fn entry(&self) -> Entry
+        ensures { result ≡ self.now.1 }
+    {
+        Entry {
+            newest: self.has_newest.then_some(self.newest),
+            ended: self.ended,
+            drawn: self.has_drawn.then_some(self.drawn),
+            last: self.has_last.then_some(self.last),
+        }
+    }
+
+    // The version that a drawn commit wrote, and its timestamp.
+    #[inline(always)]
+    pub(crate) fn draw(&mut self, slot: Option<SlotNo>, ts: Ts)
+        ensures { self.new ≡ (self.old.0, record self.old.1 { drawn = slot; last = Some ts }) }
+    {
+        self.drawn = slot.unwrap_or(0);
+        self.has_drawn = slot.is_some();
+        self.last = ts;
+        self.has_last = true;
     }
 }

@@ -1,6 +1,6 @@
 ghost use Rattle.std.specs.Prelude.{◌<◌};
 
-use crate::entry::Entry;
+use crate::entry::KeyedEntry;
 use base::key::Key;
 use std::alloc::AllocError;
 
@@ -38,7 +38,7 @@ pub(crate) fn note(hints: &mut [usize], key: Key, place: usize) {
 
 /// Makes more hints, and all of them anew, where there are no more than entries.
 #[inline(always)]
-pub(crate) fn widen(hints: &mut Vec<usize>, entries: &[(Key, Entry)]) -> Result<(), AllocError> {
+pub(crate) fn widen(hints: &mut Vec<usize>, entries: &[KeyedEntry]) -> Result<(), AllocError> {
     if entries.len() < hints.len() {
         return Ok(());
     }
@@ -48,11 +48,11 @@ pub(crate) fn widen(hints: &mut Vec<usize>, entries: &[(Key, Entry)]) -> Result<
 // Makes all hints anew, more than there are entries.
 #[cold]
 #[inline(never)]
-fn renew(hints: &mut Vec<usize>, entries: &[(Key, Entry)]) -> Result<(), AllocError> {
+fn renew(hints: &mut Vec<usize>, entries: &[KeyedEntry]) -> Result<(), AllocError> {
     let count = entries.len();
     hints.resize(count.saturating_add(count).saturating_add(FEWEST), 0)?;
     for place in 0..count {
-        note(hints.as_mut_slice(), entries[place].0, place);
+        note(hints.as_mut_slice(), entries[place].key(), place);
     }
     Ok(())
 }

@@ -8,7 +8,7 @@ mod map;
 mod ranges;
 mod walking;
 
-pub use entry::Entry;
+pub use entry::{Entry, KeyedEntry};
 pub use map::{Index, Known};
 pub use ranges::{KeyRange, listed};
 pub use walking::Found;

@@ -1,4 +1,4 @@
-use crate::entry::Entry;
+use crate::entry::{Entry, KeyedEntry};
 use crate::hints::{hint_for, note, widen};
 use base::fault::Fault;
 use base::key::Key;
@@ -18,7 +18,7 @@ pub struct Known {
 #[derive(Drop)]
 pub struct Index {
     // Each with its key, in the order in which the keys came. It stays at its place.
-    pub(crate) entries: Vec<(Key, Entry)>,
+    pub(crate) entries: Vec<KeyedEntry>,
     // By key the place of its entry.
     pub(crate) places: BTreeMap<Key, usize, Global>,
     // Where an entry may be: tried first, and searched where it isn't.
@@ -60,7 +60,7 @@ impl Index {
     /// With these entries, whose places these are. It takes no memory: the first draws note where entries may be.
     pub fn of(
         alloc: Global,
-        entries: Vec<(Key, Entry)>,
+        entries: Vec<KeyedEntry>,
         places: BTreeMap<Key, usize, Global>,
     ) -> Index
         requires { ArePlaced places.entries entries.items }
@@ -103,7 +103,7 @@ impl Index {
         ensures none { IfNone result (has_room self.now key ≡ false) }
     {
         if let Some(place) = near {
-            if place < self.entries.len() && self.entries[place].0 == key {
+            if place < self.entries.len() && self.entries[place].key() == key {
                 return near;
             }
         }
@@ -116,7 +116,7 @@ impl Index {
         requires { IsAt self.now place key }
         ensures { result ≡ entry_at self.now key }
     {
-        self.entries[place].1
+        self.entries[place].entry()
     }
 
     /// What is known of the key's versions, if it has an entry.
@@ -190,7 +190,7 @@ impl Index {
         ensures sets { Sets self.old self.new key entry }
         ensures room { KeepsRoom self.old self.new }
     {
-        self.entries[place] = (key, entry);
+        self.entries[place] = KeyedEntry::new(key, entry);
     }
 
     // In the entry at the place of the key, the version that a drawn commit wrote, and its timestamp.
@@ -200,9 +200,7 @@ impl Index {
         ensures sets { Sets self.old self.new key (record (entry_at self.old key) { drawn = slot; last = Some ts }) }
         ensures room { KeepsRoom self.old self.new }
     {
-        let entry = &mut self.entries[place].1;
-        entry.drawn = slot;
-        entry.last = Some(ts);
+        self.entries[place].draw(slot, ts);
     }
 
     // Gives a key without an entry this one.
@@ -223,7 +221,7 @@ impl Index {
         let Ok(_) = self.places.insert(key, place) else {
             return Err(Fault::OutOfMemory);
         };
-        self.entries.push_reserved((key, entry));
+        self.entries.push_reserved(KeyedEntry::new(key, entry));
         note(self.hints.as_mut_slice(), key, place);
         Ok(())
     }

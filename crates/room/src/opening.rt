@@ -14,9 +14,8 @@ ghost use Rattle.room.specs.Opening.{HasBegun, HasEntries, HasLearnt};
 use crate::room::Room;
 use crate::volatile::VolatileState;
 use base::fault::Fault;
-use base::key::Key;
 use dirty_table::DirtyTable;
-use index::{Entry, Index};
+use index::{Index, KeyedEntry};
 use pmem::Pmem;
 use recovery::{Examined, Readings, SlotContent, SlotReading, read};
 use session_steps::Sessions;
@@ -126,7 +125,7 @@ fn begin<R: Threads + Sync, D: Pmem + Sync>(
 #[derive(Drop)]
 struct Learnt {
     found: Examined,
-    entries: Vec<(Key, Entry)>,
+    entries: Vec<KeyedEntry>,
 }
 
 // Tests all that an opening asks of an image, and makes the index's entries beside that.
@@ -162,10 +161,7 @@ fn side_by_side<R: Threads + Sync>(
     rt: &R,
     alloc: Global,
     readings: &Readings,
-) -> (
-    Result<Vec<(Key, Entry)>, AllocError>,
-    Result<Examined, Fault>,
-)
+) -> (Result<Vec<KeyedEntry>, AllocError>, Result<Examined, Fault>)
     requires read { (image : Image) × AreOf image readings.now }
     ensures entries { IfOk result.0 (λ entries. HasEntries readings.now.slots.items entries.items) }
     ensures found { IfOk result.1 (λ found. (image : Image) → AreOf image readings.now → HasExamined image found) }
@@ -176,7 +172,7 @@ fn side_by_side<R: Threads + Sync>(
         let found = readings.examine(rt, alloc);
         return (entries_of(alloc, slots), found);
     }
-    let listed = move || -> Result<Vec<(Key, Entry)>, AllocError>
+    let listed = move || -> Result<Vec<KeyedEntry>, AllocError>
         ensures { IfOk result (λ entries. HasEntries slots.entry.now entries.items) }
     { entries_of(alloc, slots) };
     let examined = move || -> Result<Examined, Fault>
@@ -188,19 +184,13 @@ fn side_by_side<R: Threads + Sync>(
 }
 
 // The entries of the keys whose versions are live. It reads no slot.
-fn entries_of(alloc: Global, readings: &[SlotReading]) -> Result<Vec<(Key, Entry)>, AllocError>
+fn entries_of(alloc: Global, readings: &[SlotReading]) -> Result<Vec<KeyedEntry>, AllocError>
     ensures { IfOk result (λ entries. HasEntries readings.now entries.items) }
 {
     let mut entries = Vec::new(alloc);
     for slot in 0..readings.len() {
         if let SlotContent::Live(key) = &readings[slot].found {
-            let entry = Entry {
-                newest: Some(slot as u64),
-                ended: false,
-                drawn: None,
-                last: None,
-            };
-            entries.push((*key, entry))?;
+            entries.push(KeyedEntry::live(*key, slot as u64))?;
         }
     }
     Ok(entries)

@@ -28,6 +28,7 @@ loop-slot-preserved c = λ image are.
           let is = sym w.in-Live.is ∙ found in
           let same = (found-live image slot _ is).2 in
           ap (λ (entries : Entries). entries.items) w.entries-is ∙ w.in_ok-push.ensures.items
+          ∙ ap (λ (made : Key × Entry). c.loop-slot.entries.items ++ made ∷ []) w.live.ensures
           ∙ (λ i. c.loop-slot.invariant image are i ++ (same i, record blank { newest = Some slot }) ∷ [])
           ∙ sym (map-append entry_of (live_below image slot) (live_at image slot ∷ []))
           ∙ ap (map entry_of) (sym (live-live image slot (live-here image slot _ is)))

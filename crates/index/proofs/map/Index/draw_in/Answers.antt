@@ -13,29 +13,33 @@ with_draw slot t entry = record entry { drawn = slot; last = Some t }
 here : (now inside : List (Key × Entry)) (place : ℕ) (key : Key) → inside ≡ now → IsAt now place key → IsAt inside place key
 here now inside place key is there = subst (λ (es : List (Key × Entry)). IsAt es place key) (sym is) there
 
-read : (inside : List (Key × Entry)) (place : ℕ) (key : Key) (x : Key × Entry) → IsAt inside place key → x ≡ get_or inside place x → (key, entry_at inside key) ≡ x
-read inside place key x at is = sym (is ∙ get_or_from_slice_get inside place (key, entry_at inside key) x at)
+-- what the place holds then
+drawn : (inside : List (Key × Entry)) (place : ℕ) (key : Key) (x y : Key × Entry) (slot : Option ℕ) (t : ℕ) → IsAt inside place key → x ≡ get_or inside place x → y ≡ (x.0, with_draw slot t x.1) → (key, with_draw slot t (entry_at inside key)) ≡ y
+drawn inside place key x y slot t at is made =
+    let read : (key, entry_at inside key) ≡ x = sym (is ∙ get_or_from_slice_get inside place (key, entry_at inside key) x at) in
+    (λ i. ((read i).0, with_draw slot t (read i).1)) ∙ sym made
 
 pub invariant_of-self : goal.invariant_of-self
 invariant_of-self c =
     let entries = c.self.inside.entries.items in
     let at = here c.args.self.now entries c.args.place c.args.key c.self.view_is c.requires in
-    subst (λ (x : Key × Entry). ArePlaced c.self.inside.places.entries (set entries c.args.place (x.0, with_draw c.args.slot c.args.ts x.1))) (read entries c.args.place c.args.key c.index_mut.result.now at c.index_mut.ensures.value)
+    subst (λ (y : Key × Entry). ArePlaced c.self.inside.places.entries (set entries c.args.place y)) (drawn entries c.args.place c.args.key c.index_mut.result.now c.draw.new.self c.args.slot c.args.ts at c.index_mut.ensures.value c.draw.ensures)
     (set-placed c.self.inside.places.entries entries c.self.invariant c.args.key c.args.place at (with_draw c.args.slot c.args.ts (entry_at entries c.args.key)))
 
 pub returns-clause-sets : goal.returns-clause-sets
 returns-clause-sets c =
     let entries = c.self.inside.entries.items in
     let at = here c.args.self.now entries c.args.place c.args.key c.self.view_is c.requires in
-    let changed = subst (λ (x : Key × Entry). Sets entries (set entries c.args.place (x.0, with_draw c.args.slot c.args.ts x.1)) c.args.key (with_draw c.args.slot c.args.ts (entry_at entries c.args.key)))
-    (read entries c.args.place c.args.key c.index_mut.result.now at c.index_mut.ensures.value)
+    let changed = subst (λ (y : Key × Entry). Sets entries (set entries c.args.place y) c.args.key (with_draw c.args.slot c.args.ts (entry_at entries c.args.key)))
+    (drawn entries c.args.place c.args.key c.index_mut.result.now c.draw.new.self c.args.slot c.args.ts at c.index_mut.ensures.value c.draw.ensures)
     (set-sets c.self.inside.places.entries entries c.self.invariant c.args.key c.args.place at (with_draw c.args.slot c.args.ts (entry_at entries c.args.key))) in
-    subst (λ (es : List (Key × Entry)). Sets es (set entries c.args.place (c.index_mut.result.now.0, with_draw c.args.slot c.args.ts c.index_mut.result.now.1)) c.args.key (with_draw c.args.slot c.args.ts (entry_at es c.args.key))) c.self.view_is changed
+    subst (λ (es : List (Key × Entry)). Sets es (set entries c.args.place c.draw.new.self) c.args.key (with_draw c.args.slot c.args.ts (entry_at es c.args.key))) c.self.view_is changed
 
 pub returns-clause-room : goal.returns-clause-room
 returns-clause-room c =
     let entries = c.self.inside.entries.items in
     let at = here c.args.self.now entries c.args.place c.args.key c.self.view_is c.requires in
-    let changed = subst (λ (x : Key × Entry). KeepsRoom entries (set entries c.args.place (x.0, with_draw c.args.slot c.args.ts x.1))) (read entries c.args.place c.args.key c.index_mut.result.now at c.index_mut.ensures.value)
+    let changed = subst (λ (y : Key × Entry). KeepsRoom entries (set entries c.args.place y))
+    (drawn entries c.args.place c.args.key c.index_mut.result.now c.draw.new.self c.args.slot c.args.ts at c.index_mut.ensures.value c.draw.ensures)
     (set-keeps c.self.inside.places.entries entries c.self.invariant c.args.key c.args.place at (with_draw c.args.slot c.args.ts (entry_at entries c.args.key))) in
-    subst (λ (es : List (Key × Entry)). KeepsRoom es (set entries c.args.place (c.index_mut.result.now.0, with_draw c.args.slot c.args.ts c.index_mut.result.now.1))) c.self.view_is changed
+    subst (λ (es : List (Key × Entry)). KeepsRoom es (set entries c.args.place c.draw.new.self)) c.self.view_is changed
