@@ -5,11 +5,12 @@ import re
 ROWS = {
     "commits, alone, 1,024 keys": "commits, alone",
     "commits, 32 a group, 1,024 keys": "commits, 32 a group",
+    "keys, 32 in one transaction, 1,024 keys": "keys, 32 in one transaction",
     "reads, 1,024 keys": "reads",
     "reads beside a writer, 1 thread": "reads beside a writer",
     "reads beside a writer, 4 threads": "the same, 4 threads",
 }
-COLOURS = ("#2f9e6e", "#4f7cc4", "#d9a441", "#8d99ab")
+COLOURS = ("#2f9e6e", "#8fcfb1", "#4f7cc4", "#d9a441", "#8d99ab")
 LEFT, WIDTH, BAR, TOP, SPACE = 168, 520, 13, 62, 12
 LEAST, MOST = 10, 100_000
 
@@ -55,7 +56,7 @@ def svg(stores, figures):
     legend, at = [], LEFT
     for store, colour in zip(stores, COLOURS):
         legend += [f'<rect x="{at}" y="34" width="11" height="11" rx="2" fill="{colour}"/>', text(at + 16, 44, store, 'class="small"')]
-        at += 100
+        at += 36 + 7 * len(store)
     width, height = LEFT + WIDTH + 60, y + 24
     style = "text{font:12px system-ui,sans-serif;fill:#20304a}.small{font-size:11px}.title{font-weight:600;font-size:13px}"
     head = f'<svg xmlns="http://www.w3.org/2000/svg" viewBox="0 0 {width} {height}" width="{width}" height="{height}">'
