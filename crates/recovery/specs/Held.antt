@@ -1,5 +1,6 @@
 -- What the slots of an image hold, of which none is bad.
-use Rattle.std.specs.Prelude.{◌≡◌, ◌↔◌, ℕ, suc, ◌<◌, false, List, [], ◌∷◌, length, slice_get, Some, None, All, IsTrue}
+use Rattle.std.specs.Prelude.{◌≡◌, ◌↔◌, ℕ, suc, ◌<◌, false, List, [], ◌∷◌, length, map, slice_get, Some, None, All, IsTrue}
+use Rattle.std.specs.List.{filter_map}
 use Rattle.base.specs.declared.key.Key.{Key}
 use Rattle.base.specs.Keys.{lookup_key}
 use Rattle.base.specs.Images.{Image}
@@ -8,13 +9,22 @@ use Rattle.recovery.specs.declared.slots.SlotContent.TheVariants.{Live}
 use Rattle.recovery.specs.declared.rows.LiveSlot.{LiveSlot}
 use Rattle.recovery.specs.declared.holding.Held.{Held}
 use Rattle.recovery.specs.declared.holding.Told.{Told}
-use Rattle.recovery.specs.Slots.{AreReadings, bad_below, free_below, is_unfit}
+use Rattle.recovery.specs.Slots.{AreReadings, bad_below, free_below, held_key, is_unfit}
 use Rattle.recovery.specs.Live.{live_below}
 
 -- the keys of live slots with their places in the list, from a number on
 abbrev pub placed : ℕ → List LiveSlot → List (Key × ℕ)
 placed n [] = []
 placed n (s ∷ live) = (s.key, n) ∷ placed (suc n) live
+
+-- the keys of the live versions that were read, in order of the slots
+abbrev pub held_keys : List SlotReading → List Key
+held_keys = filter_map (λ reading. held_key reading.found)
+
+-- keys with their places in the list, from a number on
+abbrev pub numbered : ℕ → List Key → List (Key × ℕ)
+numbered n [] = []
+numbered n (key ∷ keys) = (key, n) ∷ numbered (suc n) keys
 
 -- each of the live slots has its place in the list by its key, and there is nothing else
 pub record HavePlaces (live : List LiveSlot) (places : List (Key × ℕ)) : Type 0 where
@@ -33,7 +43,10 @@ pub record AreHeld (image : Image) (slots : ℕ) (held : Held) : Type 0 where
   pub live_are : held.live.items ≡ live_below image slots
   pub placed_so : HavePlaces held.live.items held.places.entries
 
--- which slots are free, where none is bad, and whether each holds by itself what it should
+-- which slots are free and which live, where none is bad, and whether each holds by itself what it should
 pub record IsTold (readings : List SlotReading) (told : Told) : Type 0 where
   pub free : (image : Image) → AreReadings image readings → told.free.items ≡ free_below image (length readings)
+  pub live : (image : Image) → AreReadings image readings → told.live.items ≡ live_below image (length readings)
+  pub each : HasEach readings (length readings) told.live.items
+  pub keys : map (λ s. s.key) told.live.items ≡ held_keys readings
   pub are_fit : IsTrue told.are_fit ↔ All (λ reading. is_unfit reading.found ≡ false) readings

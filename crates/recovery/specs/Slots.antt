@@ -38,6 +38,12 @@ is_held (Live key) = true
 is_held Free = false
 is_held Bad = false
 
+-- the key of a live version
+abbrev pub held_key : SlotContent → Option Key
+held_key (Live key) = Some key
+held_key Free = None
+held_key Bad = None
+
 -- what one reading of a slot gives
 unfoldable pub reading_in : Image → ℕ → SlotReading
 reading_in image slot = record { begin = begin_of image slot; end = end_of image slot; found = found_in image slot }

@@ -5,8 +5,8 @@ ghost use Rattle.std.specs.Prelude.{◌≡◌, ◌<◌, ◌+◌, ℕ, None, fals
 ghost use Rattle.std.specs.BTreeMap.{IsFromIterResult};
 ghost use Rattle.std.specs.BTreeSet.{contains};
 ghost use Rattle.base.specs.Images.{Image};
-ghost use Rattle.recovery.specs.Slots.{AreReadings, HasKeys, IsVisitFault, IsSlotsFault, found_in, readings_below, free_below, bad_below, is_bad, is_unfit, key_cmp};
-ghost use Rattle.recovery.specs.Held.{AreHeld, IsTold, placed};
+ghost use Rattle.recovery.specs.Slots.{AreReadings, HasKeys, IsVisitFault, IsSlotsFault, found_in, readings_below, free_below, bad_below, held_key, is_bad, is_unfit, key_cmp};
+ghost use Rattle.recovery.specs.Held.{AreHeld, IsTold, held_keys, numbered};
 
 use crate::rows::{LiveSlot, live_slots};
 use crate::slots::{SlotContent, SlotReading};
@@ -41,13 +41,10 @@ pub fn held_slots<R: Threads + Sync>(
     ensures held { IfOk result (λ held. (image : Image) → readings.now ≡ readings_below image geometry.slots → AreHeld image geometry.slots held) }
     ensures fault { IfErr result (λ fault. (image : Image) → readings.now ≡ readings_below image geometry.slots → IsSlotsFault geometry image fault) }
 {
-    let Ok(live) = live_slots(alloc, readings) else {
+    let Ok(made) = side_by_side(rt, alloc, readings) else {
         return Err(Fault::OutOfMemory);
     };
-    let Ok(made) = side_by_side(rt, alloc, live.as_slice(), readings) else {
-        return Err(Fault::OutOfMemory);
-    };
-    if made.0.len() != live.len() || !made.1.are_fit() {
+    if made.0.len() != made.1.live.len() || !made.1.are_fit() {
         match find_bad(alloc, geometry, readings) {
             Ok(()) => {}
             Err(fault) => return Err(fault),
@@ -56,12 +53,12 @@ pub fn held_slots<R: Threads + Sync>(
     let (places, told) = made;
     Ok(Held {
         free: told.free,
-        live,
+        live: told.live,
         places,
     })
 }
 
-// Fewer live slots are not worth a thread.
+// Fewer slots are not worth a thread.
 const FEW: usize = 1024;
 
 // What the readings tell without regard to keys.
@@ -69,6 +66,8 @@ const FEW: usize = 1024;
 struct Told {
     // Whether each slot is free.
     free: Vec<bool>,
+    // Those that hold a live version, in their order.
+    live: Vec<LiveSlot>,
     // Whether each slot holds by itself what it should.
     are_fit: bool,
 }
@@ -86,19 +85,18 @@ impl Told {
 fn side_by_side<R: Threads + Sync>(
     rt: &R,
     alloc: Global,
-    live: &[LiveSlot],
     readings: &[SlotReading],
 ) -> Result<(BTreeMap<Key, usize, Global>, Told), AllocError>
-    ensures places { IfOk result (λ made. IsFromIterResult key_cmp (placed 0 live.now) made.0) }
+    ensures places { IfOk result (λ made. IsFromIterResult key_cmp (numbered 0 (held_keys readings.now)) made.0) }
     ensures told { IfOk result (λ made. IsTold readings.now made.1) }
 {
-    if live.len() < FEW {
-        let places = places_of(alloc, live)?;
+    if readings.len() < FEW {
+        let places = places_of(alloc, readings)?;
         return Ok((places, told_by(alloc, readings)?));
     }
     let keyed = move || -> Result<BTreeMap<Key, usize, Global>, AllocError>
-        ensures { IfOk result (λ places. IsFromIterResult key_cmp (placed 0 live.entry.now) places) }
-    { places_of(alloc, live) };
+        ensures { IfOk result (λ places. IsFromIterResult key_cmp (numbered 0 (held_keys readings.entry.now)) places) }
+    { places_of(alloc, readings) };
     let listed = move || -> Result<Told, AllocError>
         ensures { IfOk result (IsTold readings.entry.now) }
     { told_by(alloc, readings) };
@@ -110,19 +108,30 @@ fn told_by(alloc: Global, readings: &[SlotReading]) -> Result<Told, AllocError>
     ensures { IfOk result (IsTold readings.now) }
 {
     let free = free_slots(alloc, readings)?;
+    let live = live_slots(alloc, readings)?;
     Ok(Told {
         free,
+        live,
         are_fit: are_fit(readings),
     })
 }
 
-// The place of each live slot by its key. Of two slots with one key the later one has its place there.
-fn places_of(alloc: Global, live: &[LiveSlot]) -> Result<BTreeMap<Key, usize, Global>, AllocError>
-    ensures { IfOk result (λ places. IsFromIterResult key_cmp (placed 0 live.now) places) }
+// By its key the place of each live slot among them. Of two slots with one key the later one has its place there.
+fn places_of(
+    alloc: Global,
+    readings: &[SlotReading],
+) -> Result<BTreeMap<Key, usize, Global>, AllocError>
+    ensures { IfOk result (λ places. IsFromIterResult key_cmp (numbered 0 (held_keys readings.now)) places) }
 {
-    live.iter()
+    readings
+        .iter()
+        .filter_map(
+            |reading: &SlotReading| -> Option<Key>
+                ensures { result ≡ held_key reading.now.found }
+            { reading.found.key() },
+        )
         .enumerate()
-        .map(|(place, found)| (found.key, place))
+        .map(|(place, key)| (key, place))
         .collect(alloc)
 }
 

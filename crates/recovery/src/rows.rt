@@ -1,12 +1,12 @@
 //! An opening needs the key and the number of a slot alone. Rows are read for whoever prints an image.
 
-ghost use Rattle.std.specs.Prelude.{◌≡◌, length, IfOk};
+ghost use Rattle.std.specs.Prelude.{◌≡◌, length, map, IfOk};
 ghost use Rattle.base.specs.Images.{Image, layout_of};
 ghost use Rattle.base.specs.Layout.{total_words};
 ghost use Rattle.pmem.specs.Words.{image_of};
 ghost use Rattle.recovery.specs.Slots.{AreReadings, bad_below};
 ghost use Rattle.recovery.specs.Read.{rows_below};
-ghost use Rattle.recovery.specs.Held.{HasEach};
+ghost use Rattle.recovery.specs.Held.{HasEach, held_keys};
 ghost use Rattle.recovery.specs.Live.{live_below};
 
 use crate::slots::{SlotContent, SlotReading};
@@ -29,6 +29,7 @@ pub struct LiveSlot {
 pub fn live_slots(alloc: Global, readings: &[SlotReading]) -> Result<Vec<LiveSlot>, AllocError>
     ensures live { IfOk result (λ live. (image : Image) → AreReadings image readings.now → live.items ≡ live_below image (length readings.now)) }
     ensures each { IfOk result (λ live. HasEach readings.now (length readings.now) live.items) }
+    ensures keys { IfOk result (λ live. map (λ s. s.key) live.items ≡ held_keys readings.now) }
 {
     let mut live = Vec::with_capacity(alloc, readings.len())?;
     for slot in 0..readings.len() {

@@ -27,7 +27,7 @@ pub enum SlotContent {
 
 impl SlotContent {
     ghost use Rattle.std.specs.Prelude.{◌≡◌};
-    ghost use Rattle.recovery.specs.Slots.{is_held, is_unfit};
+    ghost use Rattle.recovery.specs.Slots.{is_held, is_unfit, held_key};
 
     // Whether it is bad by itself.
     pub(crate) fn is_unfit(&self) -> bool
@@ -41,6 +41,16 @@ impl SlotContent {
         ensures { result ≡ is_held self.now }
     {
         matches!(self, SlotContent::Live(_))
+    }
+
+    // The key of the live version that is there.
+    pub(crate) fn key(&self) -> Option<Key>
+        ensures { result ≡ held_key self.now }
+    {
+        match self {
+            SlotContent::Live(key) => Some(*key),
+            SlotContent::Free | SlotContent::Bad => None,
+        }
     }
 }
 

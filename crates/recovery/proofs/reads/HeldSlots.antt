@@ -3,13 +3,14 @@ use Rattle.std.proofs.Common.{Vec, Global, ◌≡◌, ◌≢◌, ◌⊎◌, inl,
 use Rattle.std.specs.Prelude.{Some, None, is_some, slice_get, All}
 use Rattle.std.specs.Bool.{Decides}
 use Rattle.std.specs.Cmp.{IsTotalOrder}
-use Rattle.std.specs.List.{IsDistinct, AllByRecursion, AllPairs, enumerate_from}
+use Rattle.std.specs.List.{IsDistinct, AllByRecursion, AllPairs, enumerate_from, cons_option}
 use Rattle.std.specs.Ordering.{eq_by_cmp}
 use Rattle.std.specs.Map.{keys_of}
 use Rattle.std.specs.BTreeMap.{BTreeMap, IsFromIterResult}
 use Rattle.std.proofs.lemmas.Bool.{or_parts}
 use Rattle.std.proofs.lemmas.Cmp.{nat_cmp_total, on_total, then_total, eq_by_cmp_equiv}
-use Rattle.std.proofs.lemmas.List.{take_more}
+use Rattle.std.proofs.lemmas.List.{take_more, append-nil}
+use Rattle.std.proofs.lemmas.List.Elements.{filter_map-append}
 use Rattle.std.proofs.lemmas.List.Quantifiers.{all_pairs_push}
 use Rattle.std.proofs.lemmas.Option.{same_Some, slice_get-get_or, get_or_from_slice_get}
 use Rattle.std.proofs.lemmas.Map.Keys.{IsDistinct-head, IsDistinct-tail}
@@ -34,8 +35,8 @@ use Rattle.recovery.specs.declared.slots.SlotReading.{SlotReading}
 use Rattle.recovery.specs.declared.rows.LiveSlot.{LiveSlot}
 use Rattle.recovery.specs.Live.{live_at, live_below}
 use Rattle.recovery.specs.Read.{rows_below}
-use Rattle.recovery.specs.Held.{placed, HavePlaces, HasEach, AreHeld}
-use Rattle.recovery.specs.Slots.{IsUnder, AreReadings, found_in, readings_below, free_below, bad_below, is_bad, is_free, is_unfit, is_held, key_cmp}
+use Rattle.recovery.specs.Held.{placed, numbered, held_keys, HavePlaces, HasEach, AreHeld}
+use Rattle.recovery.specs.Slots.{IsUnder, AreReadings, found_in, readings_below, free_below, bad_below, is_bad, is_free, is_unfit, is_held, held_key, key_cmp}
 use Rattle.recovery.proofs.reads.Visits.{found-free, found-live, found-bad, none-read, row-held}
 use Rattle.recovery.proofs.reads.Slots.{found-at, readings-size, are-readings}
 use Rattle.recovery.proofs.reads.LiveRows.{rows-none, rows-live, rows-free, live-none, live-live, live-free, good-at}
@@ -76,9 +77,13 @@ keys-size (x ∷ live) = ap suc (keys-size live)
 
 -- ---- pairs of keys and places
 
-pub placed-of : (n : ℕ) (live : List LiveSlot) → map (λ (p : ℕ × LiveSlot). (p.1.key, p.0)) (enumerate_from n live) ≡ placed n live
-placed-of n [] = refl
-placed-of n (s ∷ live) = ap (λ (pairs : List (Key × ℕ)). (s.key, n) ∷ pairs) (ap (λ (k : ℕ). map (λ (p : ℕ × LiveSlot). (p.1.key, p.0)) (enumerate_from k live)) (add-one n) ∙ placed-of (suc n) live)
+pub numbered-of : (n : ℕ) (keys : List Key) → map (λ (p : ℕ × Key). (p.1, p.0)) (enumerate_from n keys) ≡ numbered n keys
+numbered-of n [] = refl
+numbered-of n (key ∷ keys) = ap (λ (pairs : List (Key × ℕ)). (key, n) ∷ pairs) (ap (λ (k : ℕ). map (λ (p : ℕ × Key). (p.1, p.0)) (enumerate_from k keys)) (add-one n) ∙ numbered-of (suc n) keys)
+
+pub placed-numbered : (n : ℕ) (live : List LiveSlot) → numbered n (map (λ (s : LiveSlot). s.key) live) ≡ placed n live
+placed-numbered n [] = refl
+placed-numbered n (s ∷ live) = ap (λ (pairs : List (Key × ℕ)). (s.key, n) ∷ pairs) (placed-numbered (suc n) live)
 
 placed-keys : (n : ℕ) (live : List LiveSlot) → keys_of (placed n live) ≡ map (λ (s : LiveSlot). s.key) live
 placed-keys n [] = refl
@@ -185,7 +190,7 @@ not-second image slot good shown lower lt below =
     second : is_second (ruling image) image slot ≡ false
     second = (or_parts (is_misfit image slot) (is_second (ruling image) image slot) (rest (is_shown (ruling image) image slot) (is_misfit image slot || is_second (ruling image) image slot) shown (or_parts (is_ahead (ruling image) image slot) (is_shown (ruling image) image slot && (is_misfit image slot || is_second (ruling image) image slot)) good).1)).1
 
-keys-more : (live : List LiveSlot) (s : LiveSlot) → map (λ (x : LiveSlot). x.key) (live ++ s ∷ []) ≡ map (λ (x : LiveSlot). x.key) live ++ s.key ∷ []
+pub keys-more : (live : List LiveSlot) (s : LiveSlot) → map (λ (x : LiveSlot). x.key) (live ++ s ∷ []) ≡ map (λ (x : LiveSlot). x.key) live ++ s.key ∷ []
 keys-more [] s = refl
 keys-more (t ∷ live) s = ap (λ (keys : List Key). t.key ∷ keys) (keys-more live s)
 
@@ -275,6 +280,29 @@ module _ (image : Image) (n : ℕ) (readings : List SlotReading) (are : readings
     all-good = first_below-nowhere n (is_bad_slot (ruling image) image) good-slot
 
 -- ---- one slot after the other
+
+pub keys-none : (readings : List SlotReading) → held_keys (take 0 readings) ≡ []
+keys-none [] = refl
+keys-none (r ∷ readings) = refl
+
+held-keys-more : (readings : List SlotReading) (n : ℕ) (d : SlotReading) → n < length readings → held_keys (take (n + 1) readings) ≡ held_keys (take n readings) ++ held_keys (get_or readings n d ∷ [])
+held-keys-more readings n d lt = ap held_keys (take_more readings n d lt) ∙ filter_map-append (λ (reading : SlotReading). held_key reading.found) (take n readings) (get_or readings n d ∷ [])
+
+module _ (readings : List SlotReading) (n : ℕ) (d : SlotReading) (lt : n < length readings) (live : List LiveSlot) (keys : map (λ (s : LiveSlot). s.key) live ≡ held_keys (take n readings)) where
+  pub keys-live : (s : LiveSlot) (key : Key) → s.key ≡ key → (get_or readings n d).found ≡ Live key → map (λ (s : LiveSlot). s.key) (live ++ s ∷ []) ≡ held_keys (take (n + 1) readings)
+  keys-live s key is found =
+      keys-more live s
+      ∙ (λ i. keys i ++ is i ∷ [])
+      ∙ ap (λ (f : SlotContent). held_keys (take n readings) ++ cons_option (held_key f) []) (sym found)
+      ∙ sym (held-keys-more readings n d lt)
+
+  pub keys-dead : ((key : Key) → (get_or readings n d).found ≡ Live key → ⊥) → map (λ (s : LiveSlot). s.key) live ≡ held_keys (take (n + 1) readings)
+  keys-dead dead = keys ∙ sym (held-keys-more readings n d lt ∙ by (get_or readings n d).found refl)
+    where
+      by : (f : SlotContent) → (get_or readings n d).found ≡ f → held_keys (take n readings) ++ cons_option (held_key (get_or readings n d).found) [] ≡ held_keys (take n readings)
+      by (Live key) is = absurd (dead key is)
+      by Free is = ap (λ (f : SlotContent). held_keys (take n readings) ++ cons_option (held_key f) []) is ∙ append-nil (held_keys (take n readings))
+      by Bad is = ap (λ (f : SlotContent). held_keys (take n readings) ++ cons_option (held_key f) []) is ∙ append-nil (held_keys (take n readings))
 
 pub each-none : (readings : List SlotReading) (live : List LiveSlot) → HasEach readings 0 live
 each-none readings live slot reading key lt at found = absurd (omega (arith, lt))

@@ -1,9 +1,10 @@
-use Rattle.std.proofs.Common.{◌<◌, ◌+◌, Vec, Global, List, [], ◌∷◌, ◌++◌, refl, sym, ◌∙◌, ap, subst, length, arith}
+use Rattle.std.proofs.Common.{◌≡◌, ◌<◌, ◌+◌, Vec, Global, List, [], ◌∷◌, ◌++◌, refl, sym, ◌∙◌, ap, subst, length, map, take, arith}
+use Rattle.std.proofs.lemmas.List.{take_all}
 use Rattle.recovery.specs.declared.rows.LiveSlot.{LiveSlot}
-use Rattle.recovery.specs.Held.{HasEach}
+use Rattle.recovery.specs.Held.{HasEach, held_keys}
 use Rattle.recovery.proofs.reads.LiveRows.{live-none, live-live, live-free, good-at}
 use Rattle.recovery.proofs.reads.Slots.{found-at, begin-at, live-here, free-here, live-is}
-use Rattle.recovery.proofs.reads.HeldSlots.{each-none, each-more, each-skip}
+use Rattle.recovery.proofs.reads.HeldSlots.{each-none, each-more, each-skip, keys-none, keys-live, keys-dead}
 use Rattle.recovery.proofs.rows.live_slots.Goals as goal
 use Rattle.recovery.proofs.rows.live_slots.Goals.{in-Live+in_ok-push, in_default}
 
@@ -14,6 +15,7 @@ pub loop-slot-init : goal.loop-slot-init
 loop-slot-init c = record {
   live = λ image are. c.in_ok-live.ensures.items ∙ sym (live-none image);
   each = each-none c.args.readings.now c.in_ok-live.live.items;
+  keys = ap (map (λ (s : LiveSlot). s.key)) c.in_ok-live.ensures.items ∙ sym (keys-none c.args.readings.now);
 }
 
 pub loop-slot-preserved : goal.loop-slot-preserved
@@ -44,7 +46,22 @@ loop-slot-preserved c = record {
             subst (λ (live : List LiveSlot). HasEach readings (slot + 1) live) (sym (ap (λ (live : Live). live.items) w.live-is))
             (each-skip readings slot _ _ refl c.loop-slot.live.items c.loop-slot.invariant.each w.in_default.not-Live)
       ];
+  keys =
+      let readings = c.args.readings.now in
+      let slot = c.loop-slot.slot in
+      let within : slot < length readings = omega (arith, c.loop-slot-test.true) in
+      elim c.match-reading.branch [
+        | in-Live+in_ok-push w ↦
+            subst (λ (live : List LiveSlot). map (λ (s : LiveSlot). s.key) live ≡ held_keys (take (slot + 1) readings)) (sym (ap (λ (live : Live). live.items) w.live-is ∙ w.in_ok-push.ensures.items))
+            (keys-live readings slot _ within c.loop-slot.live.items c.loop-slot.invariant.keys _ _ refl w.in-Live.is)
+        | in_default w ↦
+            subst (λ (live : List LiveSlot). map (λ (s : LiveSlot). s.key) live ≡ held_keys (take (slot + 1) readings)) (sym (ap (λ (live : Live). live.items) w.live-is))
+            (keys-dead readings slot _ within c.loop-slot.live.items c.loop-slot.invariant.keys w.in_default.not-Live)
+      ];
 }
 
 pub returns-clause-each : goal.returns-clause-each
 returns-clause-each c = λ slot reading key lt. c.loop-slot.invariant.each slot reading key (omega (arith, lt, c.loop-slot-test.false))
+
+pub returns-clause-keys : goal.returns-clause-keys
+returns-clause-keys c = c.loop-slot.invariant.keys ∙ ap held_keys (take_all c.loop-slot.slot c.args.readings.now (omega (arith, c.loop-slot-test.false)))
