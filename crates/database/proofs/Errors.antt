@@ -1,7 +1,7 @@
 -- What the error of a commit tells.
 use Rattle.std.proofs.Common.{◌≡◌, ◌≢◌, ◌⊎◌, inl, inr, ℕ, Bool, true, false, [], ◌∷◌, refl, sym, subst}
 use mathlib.Core.HLevel.{⊥_prop}
-use Rattle.std.specs.Prelude.{Some, None, Result, Ok, Err}
+use Rattle.std.specs.Prelude.{⊤, Option, Some, None, IfSome, Result, Ok, Err}
 use Rattle.std.specs.Result.{ForOk, ForErr}
 use Rattle.std.specs.Option.{option_or}
 use Rattle.std.proofs.Math.Logic.{∥∥₁_elim, ∥∥₁_prop}
@@ -26,7 +26,7 @@ use Rattle.database.specs.Replies.{committed_of}
 use Rattle.room.specs.Room.{Leads}
 use Rattle.database.specs.Runs.{HasRun, IsRunFrom}
 use Rattle.database.specs.Obeys.{Finishes, AnswersStep}
-use Rattle.database.specs.Committing.{IsAcknowledged, IsLast, HasEnded, StopsAfter, StopsAtEnd, GivesUp, IsAnswered, TellsError, TellsRefusal}
+use Rattle.database.specs.Committing.{IsAcknowledged, IsLast, HasEnded, StopsAfter, StopsAtEnd, GivesUp, IsAnswered, IsAnsweredAt, AnswersTo, TellsError, TellsRefusal}
 use Rattle.database.proofs.Runs.{leads-one, ends-run, answers-step}
 use Rattle.database.proofs.Telling.{polled_so}
 
@@ -70,6 +70,15 @@ pub answered-so : (session : ℕ) (result : Result ℕ CommitError) → ForOk re
 answered-so session (Ok t) told why = told t refl
 answered-so session (Err error) told why = why error refl
 
+-- and of the commit with this timestamp, where it is its answer
+pub answered-at : (session t : ℕ) (answer : Result ℕ CommitError) (result : Result ⊤ CommitError) → IsAnswered session answer → AnswersTo t answer result → IsAnsweredAt session t result
+answered-at session t answer (Ok done) is to = subst (IsAnswered session) to is
+answered-at session t answer (Err error) is to = subst (IsAnswered session) to is
+
+pub answered-if : (session t : ℕ) (answer : Result ℕ CommitError) (result : Option (Result ⊤ CommitError)) → IsAnswered session answer → IfSome result (AnswersTo t answer) → IfSome result (IsAnsweredAt session t)
+answered-if session t answer None is to = tt
+answered-if session t answer (Some result) is to = answered-at session t answer result is to
+
 -- its poll, or its end, was refused
 pub finish-refused : {D : Type 0} {G : Ghosts D} (state : D → Device) (old new : Room D G) (session : ℕ) (fault : Fault) → ∥ HasRun state old ∥₁
     → Finishes state old new session (Err fault) → StopsAtEnd session (Open fault)
@@ -94,4 +103,4 @@ tells-refusal session (Open fault) tells key e = absurd (cc e)
 tells-refusal session (Refused fault) (inl (inl (prepared, other), back)) key e = prepared
 tells-refusal session (Refused fault) (inl (inr (inl ended), back)) key e = let is : fault ≡ Conflict key = cc e in absurd (∥∥₁_elim ended ⊥_prop (λ t. not-last fault key is t.7.2))
 tells-refusal session (Refused fault) (inl (inr (inr memory), back)) key e = absurd (cc (sym memory, e))
-tells-refusal session (Refused fault) (inr (prepared, gives)) key e = let is : fault ≡ Conflict key = cc e in absurd (∥∥₁_elim gives ⊥_prop (λ why. not-given-up session fault key is why))
+tells-refusal session (Refused fault) (inr (t, prepared, gives)) key e = let is : fault ≡ Conflict key = cc e in absurd (∥∥₁_elim gives ⊥_prop (λ why. not-given-up session fault key is why))

@@ -1,5 +1,5 @@
 -- What a put and a commit make of a run from an opening.
-use Rattle.std.proofs.Common.{inl, inr, ℕ, Bool, true, false, List, [], ◌∷◌, ◌++◌, refl, sym, ◌∙◌, ap, subst, ◌≡◌}
+use Rattle.std.proofs.Common.{inl, inr, ℕ, List, [], ◌∷◌, ◌++◌, refl, sym, ◌∙◌, ap, subst, ◌≡◌}
 use Rattle.std.specs.Prelude.{⊤, Option, Some, None, Result, Ok, Err, IfOk, IfErr, replicate}
 use Rattle.std.proofs.lemmas.List.{append-nil, append_assoc}
 use Rattle.base.specs.declared.fault.Fault.{Fault}
@@ -153,10 +153,10 @@ polled_so state old new session t result Fact so run mid polls last =
     ends-run state old new _ _ Fact run (leads_two state old mid new (Poll session) committed_of _ (End session) done_of result polls last)
     (so _ _ (record { polled = polls.0; last = last.0; steps_are = refl; replies_are = refl; told = polls.2; tells = last.2 }))
 
-pub is-prepared : {D : Type 0} {G : Ghosts D} (state : D → Device) (old new : Room D G) (session : ℕ) (result : Result Bool CommitError)
+pub is-prepared : {D : Type 0} {G : Ghosts D} (state : D → Device) (old new : Room D G) (session : ℕ) (result : Result (Option ℕ) CommitError)
     → ∥ HasRun state old ∥₁ → Prepares state old new session result → IsPrepared session result
-is-prepared state old new session (Ok true) run (t, (drawn, draws, stamps)) = stamped_so state old new session t (Ok tt) _ (λ steps replies is. (t, is)) run drawn draws stamps
-is-prepared state old new session (Ok false) run (drawn, draws, last) = ended_so state old new session (Ok tt) _ (λ steps replies is. is) run drawn draws last
+is-prepared state old new session (Ok (Some t)) run (drawn, draws, stamps) = stamped_so state old new session t (Ok tt) _ (λ steps replies is. is) run drawn draws stamps
+is-prepared state old new session (Ok None) run (drawn, draws, last) = ended_so state old new session (Ok tt) _ (λ steps replies is. is) run drawn draws last
 is-prepared state old new session (Err (Open fault)) run (t, (drawn, draws, stamps)) = stamped_so state old new session t (Err fault) _ (λ steps replies is. (t, is)) run drawn draws stamps
 is-prepared state old new session (Err (Refused fault)) run (inl one) =
     ends-run state old new (Draw session ∷ []) (one.0 ∷ []) _ run (leads-one state old new (Draw session) one.0 one.1) (inl (one.0, refl, refl, one.2))
@@ -166,14 +166,14 @@ pub is-acknowledged : {D : Type 0} {G : Ghosts D} (state : D → Device) (old ne
     → ∥ HasRun state old ∥₁ → Finishes state old new session (Ok (Some t)) → IsAcknowledged session t
 is-acknowledged state old new session t run (mid, polls, last) = polled_so state old new session t (Ok tt) _ (λ steps replies is. is) run mid polls last
 
--- where it returns that it is whole, or that nothing was written
-pub prepared-ok : {D : Type 0} {G : Ghosts D} (state : D → Device) (old new : Room D G) (session : ℕ) (result : Result Bool CommitError)
-    → ∥ HasRun state old ∥₁ → Prepares state old new session result → IfOk result (λ wrote. IsPrepared session (Ok wrote))
-prepared-ok state old new session (Ok wrote) run prepares = is-prepared state old new session (Ok wrote) run prepares
+-- where it returns the timestamp, or that nothing was written
+pub prepared-ok : {D : Type 0} {G : Ghosts D} (state : D → Device) (old new : Room D G) (session : ℕ) (result : Result (Option ℕ) CommitError)
+    → ∥ HasRun state old ∥₁ → Prepares state old new session result → IfOk result (λ drawn. IsPrepared session (Ok drawn))
+prepared-ok state old new session (Ok drawn) run prepares = is-prepared state old new session (Ok drawn) run prepares
 prepared-ok state old new session (Err error) run prepares = tt
 
 -- where it returns why it isn't
-pub prepared-err : {D : Type 0} {G : Ghosts D} (state : D → Device) (old new : Room D G) (session : ℕ) (result : Result Bool CommitError)
+pub prepared-err : {D : Type 0} {G : Ghosts D} (state : D → Device) (old new : Room D G) (session : ℕ) (result : Result (Option ℕ) CommitError)
     → ∥ HasRun state old ∥₁ → Prepares state old new session result → (result ≡ Err (Refused WindowFull) → ⊥) → IfErr result (TellsUnprepared session)
-prepared-err state old new session (Ok wrote) run prepares other = tt
+prepared-err state old new session (Ok drawn) run prepares other = tt
 prepared-err state old new session (Err error) run prepares other = inl (is-prepared state old new session (Err error) run prepares, λ is. other (ap Err is))

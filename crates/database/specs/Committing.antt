@@ -1,5 +1,5 @@
 -- What a put and a commit make of a run.
-use Rattle.std.specs.Prelude.{◌≡◌, ◌≢◌, ◌⊎◌, ℕ, Bool, true, false, List, [], ◌∷◌, ◌++◌, replicate, ⊤, Option, Some, None, Result, Ok, Err, MatchResult}
+use Rattle.std.specs.Prelude.{◌≡◌, ◌≢◌, ◌⊎◌, ℕ, List, [], ◌∷◌, ◌++◌, replicate, ⊤, Option, Some, None, Result, Ok, Err, MatchResult}
 use Rattle.base.specs.declared.fault.Fault.{Fault}
 use Rattle.base.specs.declared.fault.Fault.TheVariants.{SlotsOut, Conflict, WindowFull, OutOfMemory, TimestampsOut, Failed, Device as DeviceFault}
 use Rattle.base.specs.declared.key.Key.{Key}
@@ -94,23 +94,23 @@ pub record PollsAndEnds (session t : ℕ) (result : Result ⊤ Fault) (steps : L
   pub tells : result ≡ done_of last
 
 -- how a session is prepared for its commit
-abbrev pub IsPreparation : ℕ → Result Bool CommitError → List Step → List Reply → Type 0
-IsPreparation session (Ok true) steps replies = (t : ℕ) × DrawsAndStamps session t (Ok tt) steps replies
-IsPreparation session (Ok false) steps replies = DrawsAndEnds session (Ok tt) steps replies
+abbrev pub IsPreparation : ℕ → Result (Option ℕ) CommitError → List Step → List Reply → Type 0
+IsPreparation session (Ok (Some t)) steps replies = DrawsAndStamps session t (Ok tt) steps replies
+IsPreparation session (Ok None) steps replies = DrawsAndEnds session (Ok tt) steps replies
 IsPreparation session (Err (Open fault)) steps replies = (t : ℕ) × DrawsAndStamps session t (Err fault) steps replies
 IsPreparation session (Err (Refused fault)) steps replies = IsStep (Draw session) drawn_of (Err fault) steps replies ⊎ DrawsAndEnds session (Err fault) steps replies
 
-abbrev pub IsPrepared : ℕ → Result Bool CommitError → Type 0
+abbrev pub IsPrepared : ℕ → Result (Option ℕ) CommitError → Type 0
 IsPrepared session result = EndsSomeRun (IsPreparation session result)
 
 -- the session's own poll told its timestamp, so that is covered, and the transaction is ended
 abbrev pub IsAcknowledged : ℕ → ℕ → Type 0
 IsAcknowledged session t = EndsSomeRun (PollsAndEnds session t (Ok tt))
 
--- What a commit returns: None where nothing was written, and else its timestamp, once it is covered
+-- What a commit returns: None where nothing was written, and else the timestamp that it drew, once that is covered
 abbrev pub TellsCommit : ℕ → Option ℕ → Type 0
-TellsCommit session None = IsPrepared session (Ok false)
-TellsCommit session (Some t) = IsPrepared session (Ok true) × IsAcknowledged session t
+TellsCommit session None = IsPrepared session (Ok None)
+TellsCommit session (Some t) = IsPrepared session (Ok (Some t)) × IsAcknowledged session t
 
 -- ---- a commit that isn't acknowledged
 
@@ -146,6 +146,18 @@ GivesUp session error = ∥ ((AnswersStep (Poll session) committed_of (Ok None) 
 abbrev pub IsAnswered : ℕ → Result ℕ CommitError → Type 0
 IsAnswered session result = MatchResult result (IsAcknowledged session) (GivesUp session)
 
+-- so it is of the one that drew this timestamp
+abbrev pub IsAnsweredAt : ℕ → ℕ → Result ⊤ CommitError → Type 0
+IsAnsweredAt session t result = MatchResult result (λ done. IsAcknowledged session t) (GivesUp session)
+
+-- an answer says this of the commit that drew the timestamp
+abbrev pub AnswersTo : ℕ → Result ℕ CommitError → Result ⊤ CommitError → Type 0
+AnswersTo t answer result = MatchResult result (λ done. answer ≡ Ok t) (λ error. answer ≡ Err error)
+
+-- it tells another timestamp
+abbrev pub AnswersAnother : ℕ → Result ℕ CommitError → Type 0
+AnswersAnother t answer = (told : ℕ) × (answer ≡ Ok told) × (told ≢ t)
+
 -- why one isn't drawn and stamped: its steps gave this reason, though no full window, which is waited for; or it stopped before them
 abbrev pub TellsUnprepared : ℕ → CommitError → Type 0
 TellsUnprepared session error = (IsPrepared session (Err error) × (error ≢ Refused WindowFull)) ⊎ StopsBefore error
@@ -156,7 +168,7 @@ IsGivenBack session = (result : Result ⊤ Fault) × AnswersStep (Abort session)
 
 -- What an error tells: that the commit wasn't drawn and stamped, for the reason that its steps gave, or before them; or that it was, and why it isn't acknowledged
 abbrev pub TellsError : ℕ → CommitError → Type 0
-TellsError session error = (TellsUnprepared session error × IsGivenBack session) ⊎ (IsPrepared session (Ok true) × GivesUp session error)
+TellsError session error = (TellsUnprepared session error × IsGivenBack session) ⊎ ((t : ℕ) × IsPrepared session (Ok (Some t)) × GivesUp session error)
 
 -- A conflict is told only where the session's draw was refused so
 abbrev pub TellsRefusal : ℕ → CommitError → Type 0

@@ -1,5 +1,5 @@
 -- What a call makes of a room.
-use Rattle.std.specs.Prelude.{◌≡◌, ◌⊎◌, ℕ, Bool, true, false, List, [], ◌∷◌, replicate, ⊤, Option, Some, None, Result, Ok, Err}
+use Rattle.std.specs.Prelude.{◌≡◌, ◌⊎◌, ℕ, Bool, true, List, [], ◌∷◌, replicate, ⊤, Option, Some, None, Result, Ok, Err}
 use Rattle.base.specs.declared.fault.Fault.{Fault}
 use Rattle.base.specs.declared.fault.Fault.TheVariants.{SlotsOut}
 use Rattle.base.specs.declared.step.Step.{Step}
@@ -15,11 +15,16 @@ use Rattle.room.specs.Room.{Shows, RunsTo, Leads}
 use Rattle.database.specs.declared.error.CommitError.{CommitError}
 use Rattle.database.specs.declared.error.CommitError.TheVariants.{Refused, Open}
 use Rattle.database.specs.Replies.{done_of, drawn_of, stamped_of, committed_of}
+use Rattle.database.specs.declared.opened.OpenedRoom.{OpenedRoom}
 use Rattle.database.specs.Runs.{EndsSomeRun}
 
 -- the room makes this step, and what is returned is read off its reply
 abbrev pub Obeys : {D A : Type 0} → {G : Ghosts D} → (D → Device) → Room D G → Room D G → Step → (Reply → Result A Fault) → Result A Fault → Type 0
 Obeys state old new step read result = (reply : Reply) × Leads state old new step reply × (result ≡ read reply)
+
+-- a room is there, makes this and nothing else, and is there still
+abbrev pub InRoom : {D : Type 0} → {G : Ghosts D} → (Room D G → Room D G → Type 0) → Option (OpenedRoom D G) → Option (OpenedRoom D G) → Type 0
+InRoom {D} {G} Makes old new = (before after : OpenedRoom D G) × (old ≡ Some before) × (new ≡ Some after) × Makes before.room after.room
 
 -- this is one step, and what is returned is read off its reply
 abbrev pub IsStep : {A : Type 0} → Step → (Reply → Result A Fault) → Result A Fault → List Step → List Reply → Type 0
@@ -63,11 +68,11 @@ StampsAll {D} {G} state old new session result =
 abbrev pub DrawsThen : {D : Type 0} → {G : Ghosts D} → (D → Device) → Room D G → ℕ → Option ℕ → (Room D G → Type 0) → Type 0
 DrawsThen {D} {G} state old session drawn Then = (mid : Room D G) × Obeys state old mid (Draw session) drawn_of (Ok drawn) × Then mid
 
--- Something was written, and its timestamp is drawn and all its keys are stamped; or nothing was, and the transaction is
+-- Something was written, and this timestamp is drawn for it and all its keys are stamped; or nothing was, and the transaction is
 -- ended. At a refusal the draw was refused, or that end; where it isn't known what becomes of the commit, a stamp was
-abbrev pub Prepares : {D : Type 0} → {G : Ghosts D} → (D → Device) → Room D G → Room D G → ℕ → Result Bool CommitError → Type 0
-Prepares state old new session (Ok true) = (t : ℕ) × DrawsThen state old session (Some t) (λ mid. StampsAll state mid new session (Ok tt))
-Prepares state old new session (Ok false) = DrawsThen state old session None (λ mid. Obeys state mid new (End session) done_of (Ok tt))
+abbrev pub Prepares : {D : Type 0} → {G : Ghosts D} → (D → Device) → Room D G → Room D G → ℕ → Result (Option ℕ) CommitError → Type 0
+Prepares state old new session (Ok (Some t)) = DrawsThen state old session (Some t) (λ mid. StampsAll state mid new session (Ok tt))
+Prepares state old new session (Ok None) = DrawsThen state old session None (λ mid. Obeys state mid new (End session) done_of (Ok tt))
 Prepares state old new session (Err (Open fault)) = (t : ℕ) × DrawsThen state old session (Some t) (λ mid. StampsAll state mid new session (Err fault))
 Prepares state old new session (Err (Refused fault)) =
     Obeys state old new (Draw session) drawn_of (Err fault) ⊎ DrawsThen state old session None (λ mid. Obeys state mid new (End session) done_of (Err fault))

@@ -1,6 +1,6 @@
-ghost use Rattle.std.specs.Prelude.{◌<◌, IfSome};
+ghost use Rattle.std.specs.Prelude.{◌<◌, IfSome, IfNone};
 ghost use Rattle.std.specs.Result.{ForOk, ForErr};
-ghost use Rattle.database.specs.Committing.{IsAcknowledged, GivesUp, IsAnswered};
+ghost use Rattle.database.specs.Committing.{IsAcknowledged, GivesUp, IsAnswered, IsAnsweredAt, AnswersTo, AnswersAnother};
 
 use crate::error::CommitError;
 use base::Ts;
@@ -58,9 +58,14 @@ impl Answers {
         });
     }
 
-    /// Takes the answer to this session's commit from there, if it came.
-    pub fn take(&mut self, place: usize, session: u8) -> Option<Result<Ts, CommitError>>
-        ensures { IfSome result (IsAnswered session) }
+    /// Takes the answer to this session's commit with this timestamp from there, if it came.
+    pub fn take(
+        &mut self,
+        place: usize,
+        session: u8,
+        timestamp: Ts,
+    ) -> Option<Result<(), CommitError>>
+        ensures { IfSome result (IsAnsweredAt session timestamp) }
     {
         let Place::Answered(answer) = self.places[place % 64] else {
             return None;
@@ -69,6 +74,21 @@ impl Answers {
             return None;
         }
         self.places[place % 64] = Place::Free;
-        Some(answer.result)
+        answer_to(timestamp, answer.result)
+    }
+}
+
+/// What an answer says of the commit with this timestamp. `None` where it is another commit's: a session has one at a time, so none is.
+pub fn answer_to(timestamp: Ts, answer: Result<Ts, CommitError>) -> Option<Result<(), CommitError>>
+    ensures some { IfSome result (AnswersTo timestamp answer) }
+    ensures none { IfNone result (AnswersAnother timestamp answer) }
+{
+    match answer {
+        Ok(told) => if told == timestamp {
+            Some(Ok(()))
+        } else {
+            None
+        },
+        Err(error) => Some(Err(error)),
     }
 }

@@ -85,23 +85,23 @@ pub fn begin_with<D: Pmem + Drop>(
     }
 }
 
-/// Draws a timestamp and stamps all keys. Whether something was written: where nothing was, the transaction is ended.
+/// Draws a timestamp and stamps all keys. The timestamp, or `None` where nothing was written: then the transaction is ended.
 pub fn prepare<D: Pmem + Drop, R: Wait>(
     rt: &R,
     room: &mut OpenedRoom<D>,
     session: u8,
-) -> Result<bool, CommitError>
+) -> Result<Option<Ts>, CommitError>
     ensures steps { Prepares D.state room.old.room room.new.room session result }
     ensures refused { IfErr result (IsRefusedWhole D.state room.old.room room.new.room) }
 {
     match draw(room, session) {
         Ok(drawn) => match drawn {
-            Some(_) => match stamp_all(rt, room, session) {
-                Ok(()) => Ok(true),
+            Some(timestamp) => match stamp_all(rt, room, session) {
+                Ok(()) => Ok(Some(timestamp)),
                 Err(fault) => Err(CommitError::Open(fault)),
             },
             None => match end(room, session) {
-                Ok(()) => Ok(false),
+                Ok(()) => Ok(None),
                 Err(fault) => Err(CommitError::Refused(fault)),
             },
         },

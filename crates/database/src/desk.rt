@@ -1,7 +1,7 @@
 ghost use Rattle.std.specs.Option.{ForSome};
 ghost use Rattle.database.specs.Committing.{HasEnded};
 
-use crate::answers::Answers;
+use crate::answers::{Answers, answer_to};
 use crate::committing::{begin_with, finish};
 use crate::error::CommitError;
 use crate::group::{Group, SESSIONS};
@@ -63,15 +63,16 @@ pub struct Desk<D: Pmem> {
 }
 
 impl<D: Pmem + Drop> Desk<D> {
-    ghost use Rattle.std.specs.Prelude.{IsTrue, is_some, IfSome};
+    ghost use Rattle.std.specs.Prelude.{◌≡◌, IsTrue, is_some, IfSome};
     ghost use Rattle.base.specs.declared.step.Step.TheVariants.{Begin, Abort};
     ghost use Rattle.database.specs.Replies.{began_of, done_of};
-    ghost use Rattle.database.specs.Obeys.{AnswersStep};
-    ghost use Rattle.database.specs.Committing.{AnswersBegunWith, IsAnswered, StopsAfter};
+    ghost use Rattle.database.specs.Obeys.{Obeys, InRoom, AnswersStep};
+    ghost use Rattle.database.specs.Committing.{BeginsWith, AnswersBegunWith, IsAnswered, IsAnsweredAt, StopsAfter};
 
     /// Opens a transaction. The number of its session.
     pub fn begin(&mut self) -> Result<u8, Fault>
         requires there { IsTrue (is_some self.old.room) }
+        ensures step { InRoom (λ old new. Obeys D.state old new Begin began_of result) self.old.room self.new.room }
         ensures made { AnswersStep Begin began_of result }
     {
         let Some(room) = &mut self.room else {
@@ -87,6 +88,7 @@ impl<D: Pmem + Drop> Desk<D> {
     /// Opens a transaction and makes these writes in it. The number of its session. Where one is refused it isn't open.
     pub fn begin_with(&mut self, writes: &[(Key, Option<Row>)]) -> Result<u8, Fault>
         requires there { IsTrue (is_some self.old.room) }
+        ensures steps { InRoom (λ old new. BeginsWith D.state old new writes.now result) self.old.room self.new.room }
         ensures made { AnswersBegunWith writes.now result }
     {
         let Some(room) = &mut self.room else {
@@ -99,14 +101,17 @@ impl<D: Pmem + Drop> Desk<D> {
         begun
     }
 
-    /// A transaction is over.
-    pub fn leave(&mut self) {
+    /// A transaction is over. It is no step.
+    pub fn leave(&mut self)
+        ensures { self.new.room ≡ self.old.room }
+    {
         self.open = self.open.saturating_sub(1);
     }
 
     /// Gives up the transaction of this session.
     pub fn abort(&mut self, session: u8) -> Result<(), Fault>
         requires there { IsTrue (is_some self.old.room) }
+        ensures step { InRoom (λ old new. Obeys D.state old new (Abort session) done_of result) self.old.room self.new.room }
         ensures made { AnswersStep (Abort session) done_of result }
     {
         let Some(room) = &mut self.room else {
@@ -129,6 +134,16 @@ impl<D: Pmem + Drop> Desk<D> {
                 None => None,
             },
             Err(fault) => Some(Err(CommitError::Open(fault))),
+        }
+    }
+
+    /// The answer to the session's commit with this timestamp, once there is one.
+    pub fn answer_to(&mut self, session: u8, timestamp: Ts) -> Option<Result<(), CommitError>>
+        ensures { IfSome result (IsAnsweredAt session timestamp) }
+    {
+        match self.answer(session) {
+            Some(answer) => answer_to(timestamp, answer),
+            None => None,
         }
     }
 

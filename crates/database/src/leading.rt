@@ -13,9 +13,9 @@ const PATIENCE: u64 = 500;
 const NAPS: u64 = 4;
 
 impl<D: SyncAhead + Drop> Shared<D> {
-    ghost use Rattle.database.specs.Committing.{IsAnswered};
+    ghost use Rattle.database.specs.Committing.{IsAnsweredAt};
 
-    /// Joins the group that is being formed, and waits until the commit of this session is covered, or won't be. Whoever comes last
+    /// Joins the group that is being formed, and waits until the session's commit with this timestamp is covered, or won't be. Whoever comes last
     /// leads the group: it makes the committer's ticks itself, so that nobody has to be woken for them. The first one watches, and leads
     /// where others don't come.
     pub fn wait<'a, R: Wait>(
@@ -23,8 +23,9 @@ impl<D: SyncAhead + Drop> Shared<D> {
         rt: &R,
         desk: MutexGuard<'a, Desk<D>>,
         session: u8,
-    ) -> Result<Ts, CommitError>
-        ensures { IsAnswered session result }
+        timestamp: Ts,
+    ) -> Result<(), CommitError>
+        ensures { IsAnsweredAt session timestamp result }
     {
         let mut desk = desk;
         desk.group.join();
@@ -32,11 +33,11 @@ impl<D: SyncAhead + Drop> Shared<D> {
             if let Some(place) = self.reserve_answer(rt) {
                 desk.group.follow(session, place);
                 drop(desk);
-                return self.take_answer(rt, session, place);
+                return self.take_answer(rt, session, timestamp, place);
             }
         }
         desk.refusals = 0;
-        self.lead(rt, desk, session)
+        self.lead(rt, desk, session, timestamp)
     }
 
     fn reserve_answer<R: Wait>(&self, rt: &R) -> Option<usize> {
@@ -44,12 +45,18 @@ impl<D: SyncAhead + Drop> Shared<D> {
     }
 
     // Sleeps until the answer is there.
-    fn take_answer<R: Wait>(&self, rt: &R, session: u8, place: usize) -> Result<Ts, CommitError>
-        ensures { IsAnswered session result }
+    fn take_answer<R: Wait>(
+        &self,
+        rt: &R,
+        session: u8,
+        timestamp: Ts,
+        place: usize,
+    ) -> Result<(), CommitError>
+        ensures { IsAnsweredAt session timestamp result }
     {
         let mut answers = self.enter_answers(rt);
         for _ in rt.forever() {
-            let answer = answers.take(place, session);
+            let answer = answers.take(place, session, timestamp);
             if let Some(answer) = answer {
                 return answer;
             }
@@ -64,12 +71,13 @@ impl<D: SyncAhead + Drop> Shared<D> {
         rt: &R,
         desk: MutexGuard<'a, Desk<D>>,
         session: u8,
-    ) -> Result<Ts, CommitError>
-        ensures { IsAnswered session result }
+        timestamp: Ts,
+    ) -> Result<(), CommitError>
+        ensures { IsAnsweredAt session timestamp result }
     {
         let mut desk = self.gather(rt, desk);
         for _ in rt.forever() {
-            let answer = desk.answer(session);
+            let answer = desk.answer_to(session, timestamp);
             if let Some(answer) = answer {
                 desk.group.leave(session);
                 desk.leave();

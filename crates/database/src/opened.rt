@@ -75,13 +75,23 @@ impl<D: Pmem + Drop> OpenedRoom<D> {
 }
 
 impl<D: SyncAhead + Drop> OpenedRoom<D> {
+    ghost use Rattle.std.specs.Prelude.{◌≡◌};
+    ghost use Rattle.machine.specs.Machine.{State};
+    ghost use Rattle.room.specs.Room.{Shows, device_of};
+
     /// Hands out the sync that the next tick would wait for, if it can be made ahead of it. It is no step.
-    pub fn begin_sync(&mut self) -> Option<D::Pending> {
+    pub fn begin_sync(&mut self) -> Option<D::Pending>
+        ensures device { device_of D.state self.new.room ≡ device_of D.state self.old.room }
+        ensures shows { (q : State) → Shows D.state self.old.room q → Shows D.state self.new.room q }
+    {
         self.room.begin_sync()
     }
 
     /// Takes it back, which is no step either.
-    pub fn end_sync(&mut self, pending: D::Pending) {
+    pub fn end_sync(&mut self, pending: D::Pending)
+        ensures device { device_of D.state self.new.room ≡ device_of D.state self.old.room }
+        ensures shows { (q : State) → Shows D.state self.old.room q → Shows D.state self.new.room q }
+    {
         self.room.end_sync(pending);
     }
 }

@@ -46,16 +46,18 @@ impl<D: SyncAhead + Drop> Shared<D> {
     {
         let (desk, prepared) = self.prepare(rt, desk, session);
         match prepared {
-            Ok(true) => match self.wait(rt, desk, session) {
-                Ok(timestamp) => Ok(Some(timestamp)),
-                Err(error) => Err(error),
+            Ok(drawn) => match drawn {
+                Some(timestamp) => match self.wait(rt, desk, session, timestamp) {
+                    Ok(()) => Ok(Some(timestamp)),
+                    Err(error) => Err(error),
+                },
+                None => {
+                    let mut desk = desk;
+                    desk.leave();
+                    self.urge(&desk);
+                    Ok(None)
+                }
             },
-            Ok(false) => {
-                let mut desk = desk;
-                desk.leave();
-                self.urge(&desk);
-                Ok(None)
-            }
             Err(error) => {
                 drop(desk);
                 self.give_way(rt, session, error);
@@ -64,14 +66,14 @@ impl<D: SyncAhead + Drop> Shared<D> {
         }
     }
 
-    // Draws and stamps, once the committer has reserved timestamps. Whether something was written.
+    // Draws and stamps, once the committer has reserved timestamps. The timestamp, if something was written.
     fn prepare<'a, R: Wait>(
         &'a self,
         rt: &R,
         desk: MutexGuard<'a, Desk<D>>,
         session: u8,
-    ) -> (MutexGuard<'a, Desk<D>>, Result<bool, CommitError>)
-        ensures ok { IfOk result.1 (λ wrote. IsPrepared session (Ok wrote)) }
+    ) -> (MutexGuard<'a, Desk<D>>, Result<Option<Ts>, CommitError>)
+        ensures ok { IfOk result.1 (λ drawn. IsPrepared session (Ok drawn)) }
         ensures err { IfErr result.1 (TellsUnprepared session) }
     {
         let mut desk = desk;
@@ -147,7 +149,7 @@ impl<D: SyncAhead + Drop> Shared<D> {
 }
 
 // Whether the draw found no timestamp left in the window.
-fn is_full(prepared: &Result<bool, CommitError>) -> bool
+fn is_full(prepared: &Result<Option<Ts>, CommitError>) -> bool
     ensures { IsTrue result ↔ (prepared.now ≡ Err (Refused WindowFull)) }
 {
     matches!(prepared, Err(CommitError::Refused(Fault::WindowFull)))

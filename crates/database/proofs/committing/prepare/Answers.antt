@@ -4,11 +4,11 @@ use Rattle.database.proofs.committing.prepare.Goals as goal
 
 pub returns-in-Ok-stamp_all-clause-steps : goal.returns-in-Ok-stamp_all-clause-steps
 returns-in-Ok-stamp_all-clause-steps g c =
-    (c.in-Some.field-0, (c.draw.new.room.room, obeys-as _ _ _ _ _ _ _ c.draw.ensures (c.in-Ok.is ∙ ap Ok c.in-Some.is), stamps-as _ _ _ _ _ _ c.stamp_all.ensures c.in-Ok-stamp_all.is))
+    (c.draw.new.room.room, obeys-as _ _ _ _ _ _ _ c.draw.ensures (c.in-Ok.is ∙ ap Ok c.in-Some.is), stamps-as _ _ _ _ _ _ c.stamp_all.ensures c.in-Ok-stamp_all.is)
 
 pub returns-in-Err-stamp_all-clause-steps : goal.returns-in-Err-stamp_all-clause-steps
 returns-in-Err-stamp_all-clause-steps g c =
-    (c.in-Some.field-0, (c.draw.new.room.room, obeys-as _ _ _ _ _ _ _ c.draw.ensures (c.in-Ok.is ∙ ap Ok c.in-Some.is), stamps-as _ _ _ _ _ _ c.stamp_all.ensures c.in-Err-stamp_all.is))
+    (c.in-Some.timestamp, (c.draw.new.room.room, obeys-as _ _ _ _ _ _ _ c.draw.ensures (c.in-Ok.is ∙ ap Ok c.in-Some.is), stamps-as _ _ _ _ _ _ c.stamp_all.ensures c.in-Err-stamp_all.is))
 
 pub returns-in-Ok-end-clause-steps : goal.returns-in-Ok-end-clause-steps
 returns-in-Ok-end-clause-steps g c =

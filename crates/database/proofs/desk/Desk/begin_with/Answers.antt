@@ -1,3 +1,4 @@
+use Rattle.std.proofs.Common.{refl}
 use Rattle.database.specs.Committing.{IsBegunWith}
 use Rattle.database.proofs.Runs.{ends-run}
 use Rattle.database.proofs.desk.Desk.begin_with.Goals as goal
@@ -5,9 +6,9 @@ use Rattle.database.proofs.desk.Desk.begin_with.Goals as goal
 pub returns-then-is_ok : goal.returns-then-is_ok
 returns-then-is_ok g c =
     let a = c.begin_with-begun.ensures in
-    record { made = ends-run g.D.Pmem.state c.in-Some.room.room c.begin_with-begun.new.room.room a.0 a.1 (IsBegunWith c.args.writes.now c.begin_with-begun.result) c.in-Some.room.run a.2 a.3 }
+    record { steps = (c.in-Some.room, c.begin_with-begun.new.room, c.in-Some.is, refl, a); made = ends-run g.D.Pmem.state c.in-Some.room.room c.begin_with-begun.new.room.room a.0 a.1 (IsBegunWith c.args.writes.now c.begin_with-begun.result) c.in-Some.room.run a.2 a.3 }
 
 pub returns-else-is_ok : goal.returns-else-is_ok
 returns-else-is_ok g c =
     let a = c.begin_with-begun.ensures in
-    record { made = ends-run g.D.Pmem.state c.in-Some.room.room c.begin_with-begun.new.room.room a.0 a.1 (IsBegunWith c.args.writes.now c.begin_with-begun.result) c.in-Some.room.run a.2 a.3 }
+    record { steps = (c.in-Some.room, c.begin_with-begun.new.room, c.in-Some.is, refl, a); made = ends-run g.D.Pmem.state c.in-Some.room.room c.begin_with-begun.new.room.room a.0 a.1 (IsBegunWith c.args.writes.now c.begin_with-begun.result) c.in-Some.room.run a.2 a.3 }
