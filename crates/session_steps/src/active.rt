@@ -20,7 +20,7 @@ pub struct Active<'a> {
 pub struct Barred;
 
 /// What bars a session whose transaction isn't one that the step is of.
-#[inline(never)]
+#[inline(always)]
 pub fn bar(transactions: &Transactions, session: u8) -> Fault
     ensures { result ≡ bar_of (transaction_at transactions.now session) }
 {
