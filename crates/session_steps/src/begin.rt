@@ -12,7 +12,8 @@ impl Sessions {
         requires shown { ∥ HoldsSome self.old ∥₁ }
         ensures step { Takes self.old self.new Begin (began result) }
     {
-        match self.transactions.begin(self.numbers.snapshot()) {
+        let covered = self.numbers.covered();
+        match self.transactions.begin(&covered) {
             Ok(number) => Ok(number),
             Err(fault) => Err(fault),
         }

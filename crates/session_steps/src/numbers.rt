@@ -4,9 +4,8 @@ ghost use Rattle.snapshot.specs.Snapshots.{seen_by};
 
 use base::geometry::Geometry;
 use base::{NUMBER_LIMIT, Ts};
-use gap_list::GapList;
 use log_area::Record;
-use snapshot::Snapshot;
+use snapshot::{Covered, Snapshot};
 
 /// The layout, the record that rules, and the timestamp that is drawn next.
 #[derive(Clone, Copy)]
@@ -17,14 +16,22 @@ pub struct Numbers {
 }
 
 impl Numbers {
+    /// What the record covers, where it lies.
+    #[inline(always)]
+    pub fn covered(&self) -> Covered<'_>
+        requires { IsTrue (is_gap_list self.now.record.gaps) }
+        ensures { result ≡ seen_by self.now.record }
+    {
+        Covered::by(&self.record)
+    }
+
     /// What the record covers.
     #[inline(always)]
     pub fn snapshot(&self) -> Snapshot
         requires { IsTrue (is_gap_list self.now.record.gaps) }
         ensures { result ≡ seen_by self.now.record }
     {
-        let gaps = GapList::of(self.record.gaps());
-        Snapshot::new(self.record.persisted(), gaps, self.record.longs())
+        self.covered().to_snapshot()
     }
 
     /// Is no timestamp left that the record reserves?

@@ -1,11 +1,13 @@
 //! Which commits a reader sees.
 #![tactic(auto)]
 
-ghost use Rattle.std.specs.Prelude.{◌≡◌};
+ghost use Rattle.std.specs.Prelude.{◌≡◌, IsTrue};
+ghost use Rattle.gap_list.specs.GapLists.{is_gap_list};
 
 use base::Ts;
 use base::longs::Longs;
 use gap_list::GapList;
+use log_area::Record;
 use std::marker::Model;
 
 /// The commits that a record covers.
@@ -27,7 +29,7 @@ impl Model for Snapshot {
 }
 
 impl Snapshot {
-    ghost use Rattle.base.specs.Records.{Record, is_committed};
+    ghost use Rattle.base.specs.Records.{Record as RecordValue, is_committed};
     ghost use Rattle.snapshot.specs.Snapshots.{covers, seen_by};
 
     /// What a record with this persisted timestamp, these gaps and these long commits covers.
@@ -39,6 +41,16 @@ impl Snapshot {
             gaps,
             longs,
         }
+    }
+
+    /// Becomes another one. Mostly neither has a gap or a long commit: then no list is copied.
+    #[inline(always)]
+    pub fn set(&mut self, covered: &Covered<'_>)
+        ensures { self.new ≡ covered.now }
+    {
+        set_gaps(&mut self.gaps, covered.record);
+        set_longs(&mut self.longs, covered.record);
+        self.persisted = covered.record.persisted();
     }
 
     /// The last timestamp that is covered, lies in a gap or is a long commit's.
@@ -65,8 +77,73 @@ impl Snapshot {
     /// Whether the commit of this timestamp is covered: whether a record with these numbers commits it.
     pub fn covers(&self, ts: Ts) -> bool
         ensures covers { result ≡ covers self.now ts }
-        ensures of_record { (r : Record) → self.now ≡ seen_by r → result ≡ is_committed r ts }
+        ensures of_record { (r : RecordValue) → self.now ≡ seen_by r → result ≡ is_committed r ts }
     {
         1 <= ts && ts <= self.persisted && !self.gaps.holds(ts) && !self.longs.contains(ts)
     }
+}
+
+/// What a record covers, while it lies there: it is copied once, where it is held.
+#[derive(Drop)]
+pub struct Covered<'a> {
+    record: &'a Record,
+}
+
+impl<'a> Model for Covered<'a> {
+    ghost use Rattle.std.specs.Prelude.{IsTrue};
+    ghost use Rattle.gap_list.specs.GapLists.{is_gap_list};
+    ghost use Rattle.snapshot.specs.Snapshots.{Seen, seen_by};
+
+    ghost Value = { Seen };
+
+    ghost view = { λ c. seen_by c.record.now };
+
+    ghost invariant = { λ c. IsTrue (is_gap_list c.record.now.gaps) };
+}
+
+impl<'a> Covered<'a> {
+    ghost use Rattle.snapshot.specs.Snapshots.{seen_by};
+
+    /// What this record covers.
+    #[inline(always)]
+    pub fn by(ruling: &'a Record) -> Covered<'a>
+        requires { IsTrue (is_gap_list ruling.now.gaps) }
+        ensures { result ≡ seen_by ruling.now }
+    {
+        Covered { record: ruling }
+    }
+
+    /// In memory of its own.
+    pub fn to_snapshot(&self) -> Snapshot
+        ensures { result ≡ self.now }
+    {
+        Snapshot {
+            persisted: self.record.persisted(),
+            gaps: GapList::of(self.record.gaps()),
+            longs: self.record.longs(),
+        }
+    }
+}
+
+// The gaps of the record.
+#[inline(always)]
+fn set_gaps(gaps: &mut GapList, ruling: &Record)
+    requires { IsTrue (is_gap_list ruling.now.gaps) }
+    ensures { gaps.new ≡ ruling.now.gaps }
+{
+    if gaps.gaps().as_slice().is_empty() && ruling.gaps().as_slice().is_empty() {
+        return;
+    }
+    *gaps = GapList::of(ruling.gaps());
+}
+
+// And its long commits.
+#[inline(always)]
+fn set_longs(longs: &mut Longs, ruling: &Record)
+    ensures { longs.new ≡ ruling.now.longs }
+{
+    if longs.as_slice().is_empty() && ruling.longs().as_slice().is_empty() {
+        return;
+    }
+    *longs = ruling.longs();
 }

@@ -1,19 +1,22 @@
 //! Open transactions by the numbers of their sessions, and drawn commits until a record covers them.
 use crate::batches::push;
 use base::Ts;
+use base::gap::Gaps;
 use base::key::Key;
 use base::longs::Longs;
 use gap_list::GapList;
-use snapshot::Snapshot;
+use log_area::Record;
+use snapshot::{Covered, Snapshot};
 use std::test::Fail;
 use txn::{DrawnCommit, DrawnCommits, Transaction, Transactions, Write, WriteSet};
 
 #[test]
 fn a_session_takes_the_lowest_number_that_is_free(rt: HostRuntime) -> Result<(), Fail> {
     let mut transactions = Transactions::new(rt.alloc());
-    let snapshot = Snapshot::new(7, GapList::none(), Longs::none());
-    let first = transactions.begin(snapshot)?;
-    let second = transactions.begin(snapshot)?;
+    let record = Record::new(1, 7, 9, Gaps::none(), Longs::none());
+    let covered = Covered::by(&record);
+    let first = transactions.begin(&covered)?;
+    let second = transactions.begin(&covered)?;
     assert_eq!(rt; first, 2);
     assert_eq!(rt; second, 3);
     assert_eq!(rt; transactions.next_active(0), Some(2));
@@ -40,7 +43,7 @@ fn a_session_takes_the_lowest_number_that_is_free(rt: HostRuntime) -> Result<(),
     transactions.set(first, Transaction::ReadOnly);
     transactions.end(first);
     assert!(rt; transactions.get(first).is_none());
-    assert_eq!(rt; transactions.begin(snapshot)?, 2);
+    assert_eq!(rt; transactions.begin(&covered)?, 2);
     Ok(())
 }
 

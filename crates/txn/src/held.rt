@@ -1,6 +1,6 @@
 use base::Ts;
 use base::fault::Fault;
-use snapshot::Snapshot;
+use snapshot::{Covered, Snapshot};
 use std::alloc::Global;
 use std::marker::Model;
 
@@ -23,11 +23,11 @@ impl HeldSnapshot {
     ghost use Rattle.base.specs.declared.fault.Fault.TheVariants.{OutOfMemory};
     ghost use Rattle.snapshot.specs.Snapshots.{covers};
 
-    pub(crate) fn new(alloc: Global, snapshot: Snapshot) -> Result<HeldSnapshot, Fault>
-        ensures held { IfOk result (λ held. held ≡ snapshot) }
+    pub(crate) fn new(alloc: Global, covered: &Covered<'_>) -> Result<HeldSnapshot, Fault>
+        ensures held { IfOk result (λ held. held ≡ covered.now) }
         ensures fault { IfErr result (λ fault. fault ≡ OutOfMemory) }
     {
-        match Box::new(alloc, snapshot) {
+        match Box::new(alloc, covered.to_snapshot()) {
             Ok(snapshot) => Ok(HeldSnapshot { snapshot }),
             Err(_) => Err(Fault::OutOfMemory),
         }
@@ -50,9 +50,9 @@ impl HeldSnapshot {
 
     // Another, in the memory that it has.
     #[inline(always)]
-    pub(crate) fn set(&mut self, snapshot: Snapshot)
-        ensures { self.new ≡ snapshot }
+    pub(crate) fn set(&mut self, covered: &Covered<'_>)
+        ensures { self.new ≡ covered.now }
     {
-        *self.snapshot = snapshot;
+        self.snapshot.set(covered);
     }
 }

@@ -10,7 +10,7 @@ use crate::write_set::WriteSet;
 use base::Ts;
 use base::fault::Fault;
 use dirty_table::SessionSet;
-use snapshot::Snapshot;
+use snapshot::Covered;
 use std::alloc::Global;
 use std::marker::Model;
 use std::mem;
@@ -136,19 +136,19 @@ fn keep(ended: &mut Vec<WriteSet>, writes: WriteSet) {
 fn hold(
     held: &mut Vec<HeldSnapshot>,
     alloc: Global,
-    snapshot: Snapshot,
+    covered: &Covered<'_>,
 ) -> Result<HeldSnapshot, Fault>
-    ensures held { IfOk result (λ holds. holds ≡ snapshot) }
+    ensures held { IfOk result (λ holds. holds ≡ covered.now) }
     ensures fault { IfErr result (λ fault. fault ≡ OutOfMemory) }
 {
     if let Some(mut holds) = held.pop() {
-        holds.set(snapshot);
+        holds.set(covered);
         return Ok(holds);
     }
     if held.reserve(MOST as usize).is_err() {
         return Err(Fault::OutOfMemory);
     }
-    HeldSnapshot::new(alloc, snapshot)
+    HeldSnapshot::new(alloc, covered)
 }
 
 // Gives up a snapshot, whose memory is kept where there is room.
@@ -234,10 +234,10 @@ impl Transactions {
         self.active.next(from)
     }
 
-    /// Opens a transaction of this snapshot under the lowest number that is free. Its memory is taken here.
-    pub fn begin(&mut self, snapshot: Snapshot) -> Result<u8, Fault>
+    /// Opens a transaction that reads what is covered, under the lowest number that is free. Its memory is taken here.
+    pub fn begin(&mut self, covered: &Covered<'_>) -> Result<u8, Fault>
         ensures number { IfOk result (λ n. IsLowestFree self.old n) }
-        ensures opened { IfOk result (λ n. Sets self.old self.new n (Some (Active snapshot []))) }
+        ensures opened { IfOk result (λ n. Sets self.old self.new n (Some (Active covered.now []))) }
         ensures same { IfErr result (λ fault. self.new ≡ self.old) }
         ensures fault { IfErr result (λ fault. (fault ≡ SessionsFull) × IsFull self.old ⊎ (fault ≡ OutOfMemory) × ((n : ℕ) × IsLowestFree self.old n)) }
     {
@@ -248,7 +248,7 @@ impl Transactions {
             Ok(writes) => writes,
             Err(fault) => return Err(fault),
         };
-        let snapshot = match hold(&mut self.held, self.alloc, snapshot) {
+        let snapshot = match hold(&mut self.held, self.alloc, covered) {
             Ok(snapshot) => snapshot,
             Err(fault) => return Err(fault),
         };
