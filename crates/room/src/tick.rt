@@ -56,6 +56,7 @@ impl VolatileState {
     }
 
     // Takes a batch in hand, unless there is nothing to do. Whether one is in hand then.
+    #[cold]
     #[inline(never)]
     fn choose(&mut self, alloc: Global) -> Result<bool, Fault>
         requires rests { self.old.cycle ≡ None }
@@ -106,6 +107,7 @@ impl VolatileState {
     }
 
     // The batch in hand is covered: its record rules. It is kept until it is handed out, or the next one is covered.
+    #[cold]
     #[inline(never)]
     fn cover(&mut self)
         requires hand { IsSome self.old.cycle }
