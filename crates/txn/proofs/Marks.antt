@@ -24,6 +24,17 @@ inserted old new was now n x active marks sets notes = marked old new was now n 
     by true h = refl
     by false h = refl
 
+-- it isn't
+pub removed : (old new : SessionSet) (was now : List (Option Transaction)) (n : ℕ) (x : Option Transaction) → is_active x ≡ false → AreMarked old was → Sets was now n x
+    → ((m : ℕ) → has new m ≡ (has old m && not (nat_eq m n))) → AreMarked new now
+removed old new was now n x inactive marks sets notes = marked old new was now n x marks sets (λ m. notes m ∙ by (nat_eq m n) (has old m) ∙ ap (λ (a : Bool). cond (nat_eq m n) a (has old m)) (sym inactive))
+  where
+    by : (b h : Bool) → (h && not b) ≡ cond b false h
+    by true true = refl
+    by true false = refl
+    by false true = refl
+    by false false = refl
+
 -- it was Active, and is
 pub kept : (numbers : SessionSet) (was now : List (Option Transaction)) (n : ℕ) (x : Option Transaction) → is_active x ≡ true → is_active (transaction_at was n) ≡ true → AreMarked numbers was → Sets was now n x → AreMarked numbers now
 kept numbers was now n x active before marks sets = marked numbers numbers was now n x marks sets (λ m. by m (nat_eq m n) refl)
@@ -31,3 +42,12 @@ kept numbers was now n x active before marks sets = marked numbers numbers was n
     by : (m : ℕ) (b : Bool) → nat_eq m n ≡ b → has numbers m ≡ cond b (is_active x) (has numbers m)
     by m true same = ap (has numbers) (eqb-true m n same) ∙ marks n ∙ before ∙ sym active
     by m false apart = refl
+
+-- the next of the set is the next that is Active
+pub next-is : (numbers : SessionSet) (entries : List (Option Transaction)) (from n : ℕ) → AreMarked numbers entries → IsNextIn numbers from n → IsNextActive entries from n
+next-is numbers entries from n marks next = record {
+  above = next.above;
+  last = next.within;
+  here = sym (marks n) ∙ next.here;
+  before = λ k le lt. sym (marks k) ∙ next.before k le lt;
+}

@@ -1,7 +1,8 @@
-ghost use Rattle.std.specs.Prelude.{ℕ, ◌≡◌, ◌≤◌, ◌<◌, ◌-◌, if◌then◌else◌, nat_eq, [], length, Some, IfSome, IfOk, IfErr, OnOk, OnErr};
+ghost use Rattle.std.specs.Prelude.{ℕ, ◌≡◌, ◌≤◌, ◌<◌, if◌then◌else◌, nat_eq, [], length, Some, IfSome, IfOk, IfErr};
 ghost use Rattle.dirty_table.specs.Touches.{has};
 ghost use Rattle.base.specs.declared.fault.Fault.TheVariants.{OutOfMemory};
-ghost use Rattle.txn.specs.Transactions.{transaction_at, is_active};
+ghost use Rattle.txn.specs.Tables.{entry_at};
+ghost use Rattle.txn.specs.Transactions.{is_active};
 
 use crate::held::HeldSnapshot;
 use crate::transaction::Transaction;
@@ -10,6 +11,7 @@ use crate::write_set::WriteSet;
 use base::Ts;
 use base::fault::Fault;
 use dirty_table::SessionSet;
+use slab::Slab;
 use snapshot::Covered;
 use std::alloc::Global;
 use std::marker::Model;
@@ -18,8 +20,8 @@ use std::mem;
 /// The open transactions, each under the number of its session: at most 62, from 2.
 #[derive(Drop)]
 pub struct Transactions {
-    // That of number n at the place n - 2. There are places for all from the first begin on.
-    places: Vec<Option<Transaction>>,
+    slab: Slab<Transaction>,
+    places: [Option<usize>; 62],
     // The numbers of those that are Active, so that whoever asks each of these looks at no other.
     active: SessionSet,
     // Each number below this one has a session.
@@ -38,12 +40,12 @@ impl Model for Transactions {
     ghost Value = { List (Option Transaction) };
 
     ghost use Rattle.std.specs.Prelude.{◌≤◌};
-    ghost use Rattle.std.specs.Prelude.{length};
-    ghost use Rattle.txn.specs.Transactions.{AreMarked, AreTaken};
+    ghost use Rattle.txn.specs.Tables.{listed, IsTable, AreTaken};
+    ghost use Rattle.txn.specs.Transactions.{AreMarked};
 
-    ghost view = { λ t. t.places.items };
+    ghost view = { λ t. listed t.slab t.places };
 
-    ghost invariant = { λ t. (length t.places.items ≤ 62) × AreMarked t.active t.places.items × AreTaken t.first t.places.items × (2 ≤ t.first) };
+    ghost invariant = { λ t. IsTable t.slab t.places × AreMarked t.active (listed t.slab t.places) × AreTaken t.first t.places × (2 ≤ t.first) };
 }
 
 // The lowest number that a session may have.
@@ -52,47 +54,17 @@ const FIRST: u8 = 2;
 // How many sessions may be open.
 const MOST: u8 = 62;
 
-// The place of a number.
+// The place of the session of this number.
 #[inline(always)]
-fn place_of(number: u8) -> usize
-    requires { 2 ≤ number }
-    ensures { result ≡ number - 2 }
+fn place_of(places: &[Option<usize>; 62], number: u8) -> Option<usize>
+    requires { length places.now ≡ 62 }
+    ensures place { result ≡ entry_at places.now number }
+    ensures within { IfSome result (λ place. (2 ≤ number) × (number < 64)) }
 {
-    (number - FIRST) as usize
-}
-
-// Makes the places that aren't there yet, all of them empty.
-#[inline(never)]
-fn make_places(places: &mut Vec<Option<Transaction>>) -> Result<(), Fault>
-    requires { length places.old.items ≤ 62 }
-    ensures ok { OnOk result (length places.new.items ≡ 62) }
-    ensures empty { (n : ℕ) → transaction_at places.new.items n ≡ transaction_at places.old.items n }
-    ensures err { OnErr result (places.new.items ≡ places.old.items) }
-    ensures fault { IfErr result (λ fault. fault ≡ OutOfMemory) }
-{
-    if places.reserve(MOST as usize - places.len()).is_err() {
-        return Err(Fault::OutOfMemory);
+    if number < FIRST || number >= FIRST + MOST {
+        return None;
     }
-    for _ in places.len()..MOST as usize {
-        places.push_reserved(None);
-    }
-    Ok(())
-}
-
-// Sees to it that there are all places.
-#[inline(always)]
-fn with_places(places: &mut Vec<Option<Transaction>>) -> Result<(), Fault>
-    requires { length places.old.items ≤ 62 }
-    ensures ok { OnOk result (length places.new.items ≡ 62) }
-    ensures empty { (n : ℕ) → transaction_at places.new.items n ≡ transaction_at places.old.items n }
-    ensures err { OnErr result (places.new.items ≡ places.old.items) }
-    ensures fault { IfErr result (λ fault. fault ≡ OutOfMemory) }
-{
-    if places.len() == MOST as usize {
-        Ok(())
-    } else {
-        make_places(places)
-    }
+    places[(number - FIRST) as usize]
 }
 
 // Notes whether the transaction of this number is Active.
@@ -180,14 +152,15 @@ impl Transactions {
     ghost use Rattle.txn.specs.declared.write.Write.{Write};
     ghost use Rattle.txn.specs.declared.transaction.Transaction.TheVariants.{Active, Drawn};
     ghost use Rattle.txn.specs.WriteSets.{HasRoomFor, with_write_at};
-    ghost use Rattle.txn.specs.Transactions.{Sets, IsLowestFree, IsFull, IsNextActive};
+    ghost use Rattle.txn.specs.Transactions.{transaction_at, is_active, Sets, IsLowestFree, IsFull, IsNextActive};
 
     /// None is open.
     pub fn new(alloc: Global) -> Transactions
         ensures { (n : ℕ) → transaction_at result n ≡ None }
     {
         Transactions {
-            places: Vec::new(alloc),
+            slab: Slab::new(alloc),
+            places: [None; 62],
             active: SessionSet::none(),
             first: FIRST,
             ended: Vec::new(alloc),
@@ -202,7 +175,7 @@ impl Transactions {
         ensures none { IfNone result (IsFull self.now) }
     {
         for number in self.first..FIRST + MOST {
-            if self.get(number).is_none() {
+            if self.places[(number - FIRST) as usize].is_none() {
                 return Some(number);
             }
         }
@@ -215,14 +188,8 @@ impl Transactions {
         ensures transaction { option_copied result ≡ transaction_at self.now number }
         ensures within { IfSome result (λ transaction. (2 ≤ number) × (number < 64)) }
     {
-        if number < FIRST {
-            return None;
-        }
-        match self.places.as_slice().get(place_of(number)) {
-            Some(Some(transaction)) => Some(transaction),
-            Some(None) => None,
-            None => None,
-        }
+        let place = place_of(&self.places, number)?;
+        self.slab.get(place)
     }
 
     /// The lowest number of an Active transaction, from this number on.
@@ -252,9 +219,9 @@ impl Transactions {
             Ok(snapshot) => snapshot,
             Err(fault) => return Err(fault),
         };
-        match with_places(&mut self.places) {
-            Ok(()) => {
-                self.places[place_of(number)] = Some(Transaction::Active { snapshot, writes });
+        match self.slab.insert(Transaction::Active { snapshot, writes }) {
+            Ok(key) => {
+                self.places[(number - FIRST) as usize] = Some(key);
                 self.active.insert(number);
                 self.first = number + 1;
                 Ok(number)
@@ -268,9 +235,13 @@ impl Transactions {
         requires { IsSome (transaction_at self.old number) }
         ensures { Sets self.old self.new number (Some transaction) }
     {
-        mark(&mut self.active, number, &transaction);
-        let before = mem::replace(&mut self.places[place_of(number)], Some(transaction));
-        keep_of(&mut self.ended, &mut self.held, before);
+        if let Some(place) = place_of(&self.places, number) {
+            if let Some(found) = self.slab.get_mut(place) {
+                mark(&mut self.active, number, &transaction);
+                let before = mem::replace(found, transaction);
+                keep_of(&mut self.ended, &mut self.held, Some(before));
+            }
+        }
     }
 
     /// Ends an open transaction: its number is free.
@@ -278,10 +249,13 @@ impl Transactions {
         requires { IsSome (transaction_at self.old number) }
         ensures { Sets self.old self.new number None }
     {
-        let ended = mem::replace(&mut self.places[place_of(number)], None);
-        keep_of(&mut self.ended, &mut self.held, ended);
-        self.active.remove(number);
-        self.first = self.first.min(number);
+        if let Some(place) = place_of(&self.places, number) {
+            let ended = self.slab.try_remove(place);
+            keep_of(&mut self.ended, &mut self.held, ended);
+            self.places[(number - FIRST) as usize] = None;
+            self.active.remove(number);
+            self.first = self.first.min(number);
+        }
     }
 
     /// Keeps the set of a commit that is drawn no more, for a transaction that begins.
@@ -298,7 +272,10 @@ impl Transactions {
         ensures writes { (snapshot : Seen) × (transaction_at self.old number ≡ Some (Active snapshot result)) }
         ensures drawn { Sets self.old self.new number (Some (Drawn timestamp)) }
     {
-        let Some(found) = &mut self.places[place_of(number)] else {
+        let Some(place) = place_of(&self.places, number) else {
+            unreachable!()
+        };
+        let Some(found) = self.slab.get_mut(place) else {
             unreachable!()
         };
         let (snapshot, writes) = found.draw(timestamp);
@@ -313,9 +290,10 @@ impl Transactions {
         requires { (snapshot : Seen) × (writes : List Write) × (transaction_at self.old number ≡ Some (Active snapshot writes)) × HasRoomFor write.key writes }
         ensures { (snapshot : Seen) (writes : List Write) → transaction_at self.old number ≡ Some (Active snapshot writes) → Sets self.old self.new number (Some (Active snapshot (with_write_at write writes))) }
     {
-        let Some(found) = &mut self.places[place_of(number)] else {
-            unreachable!()
-        };
-        found.write(write);
+        if let Some(place) = place_of(&self.places, number) {
+            if let Some(found) = self.slab.get_mut(place) {
+                found.write(write);
+            }
+        }
     }
 }

@@ -1,29 +1,39 @@
-use Rattle.std.proofs.Common.{◌≡◌, ◌∙◌, ap, arith, List, length-set}
+use Rattle.std.proofs.Common.{◌≡◌, ◌∙◌, sym, ap, ℕ, List}
 use Rattle.std.specs.Prelude.{Option, Some}
 use Rattle.txn.specs.declared.transaction.Transaction.{Transaction}
 use Rattle.txn.specs.declared.transaction.Transaction.TheVariants.{Active}
 use Rattle.txn.specs.WriteSets.{with_write_at}
+use Rattle.txn.specs.Tables.{entry_at, found, listed}
 use Rattle.txn.specs.Transactions.{transaction_at, is_active}
-use Rattle.txn.proofs.Entries.{found-at, sets-at, taken-replaced}
+use Rattle.txn.specs.declared.write.Write.{Write}
+use Rattle.snapshot.specs.Snapshots.{Seen}
+use Rattle.slab.specs.Slab.{Slab, get}
 use Rattle.txn.proofs.Marks.{kept}
+use Rattle.txn.proofs.Entries.{put, entry_at-listed}
 use Rattle.txn.proofs.transactions.Transactions.write.Goals as goal
+
+-- what lies at the place of an Active transaction
+active-at : (slab : Slab Transaction) (places : List (Option ℕ)) (now : List (Option Transaction)) (n place : ℕ) (there : Transaction) (snapshot : Seen) (writes : List Write) → listed slab places ≡ now
+    → Some place ≡ entry_at places n → Some there ≡ get slab place → transaction_at now n ≡ Some (Active snapshot writes) → there ≡ Active snapshot writes
+active-at slab places now n place there snapshot writes is at value active =
+    let found : Some there ≡ Some (Active snapshot writes) =
+    value ∙ ap (λ (p : Option ℕ). found slab p) at ∙ sym (entry_at-listed slab places n) ∙ ap (λ (e : List (Option Transaction)). transaction_at e n) is ∙ active in
+    cc
 
 pub invariant_of-self : goal.invariant_of-self
 invariant_of-self c =
-    let entries = c.self.inside.places.items in
-    let active : transaction_at entries c.args.number ≡ Some (Active c.requires.0 c.requires.1) = ap (λ (e : List (Option Transaction)). transaction_at e c.args.number) c.self.view_is ∙ c.requires.2 in
-    let was = found-at entries c.args.number c.place_of.result c.index_mut.result.now (Active c.requires.0 c.requires.1) c.in-Some.found c.place_of.ensures active c.index_mut.ensures.value c.in-Some.is in
-    let sets = sets-at entries c.args.number c.place_of.result (Active c.requires.0 c.requires.1) (Some c.write.new.self) c.place_of.ensures active in (
-      omega (arith, length-set entries c.place_of.result (Some c.write.new.self), c.self.invariant.0),
-      kept c.self.inside.active entries _ c.args.number (Some c.write.new.self) (ap (λ (t : Transaction). is_active (Some t)) (c.write.ensures c.requires.0 c.requires.1 was)) (ap is_active active) c.self.invariant.1 sets,
-      taken-replaced entries _ c.args.number c.self.inside.first c.write.new.self sets c.self.invariant.2,
+    let snapshot = c.requires.0 in
+    let writes = c.requires.1 in
+    let before = active-at c.self.inside.slab c.self.inside.places c.args.self.now c.args.number c.in-Some.place c.in-Some-get_mut.found.now snapshot writes c.self.view_is c.in-Some.ensures.place c.in-Some-get_mut.ensures.value c.requires.2 in
+    let changed = put c.self.inside.slab c.self.inside.places c.args.number c.in-Some.place c.write.new.self c.self.invariant.0 (sym c.in-Some.ensures.place) in (
+      changed.table,
+      kept c.self.inside.active (listed c.self.inside.slab c.self.inside.places) _ c.args.number (Some c.write.new.self) (ap (λ (t : Transaction). is_active (Some t)) (c.write.ensures snapshot writes before)) (ap is_active (ap (λ (e : List (Option Transaction)). transaction_at e c.args.number) c.self.view_is ∙ c.requires.2)) c.self.invariant.1 changed.sets,
+      c.self.invariant.2,
       c.self.invariant.3,
     )
 
-pub returns : goal.returns
-returns c = λ snapshot writes at.
-    let entries = c.self.inside.places.items in
-    let active : transaction_at entries c.args.number ≡ Some (Active snapshot writes) = ap (λ (e : List (Option Transaction)). transaction_at e c.args.number) c.self.view_is ∙ at in
-    let was = found-at entries c.args.number c.place_of.result c.index_mut.result.now (Active snapshot writes) c.in-Some.found c.place_of.ensures active c.index_mut.ensures.value c.in-Some.is in
+pub returns-in-Some-get_mut : goal.returns-in-Some-get_mut
+returns-in-Some-get_mut c = λ snapshot writes at.
+    let was = active-at c.self.inside.slab c.self.inside.places c.args.self.now c.args.number c.in-Some.place c.in-Some-get_mut.found.now snapshot writes c.self.view_is c.in-Some.ensures.place c.in-Some-get_mut.ensures.value at in
     let is : c.write.new.self ≡ Active snapshot (with_write_at c.args.write writes) = c.write.ensures snapshot writes was in
-    rw (← c.self.view_is, ← is) (sets-at entries c.args.number c.place_of.result (Active snapshot writes) (Some c.write.new.self) c.place_of.ensures active)
+    rw (← c.self.view_is, ← is) (put c.self.inside.slab c.self.inside.places c.args.number c.in-Some.place c.write.new.self c.self.invariant.0 (sym c.in-Some.ensures.place)).sets
