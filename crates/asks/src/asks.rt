@@ -27,10 +27,10 @@ pub enum Ask {
     Collect(u64),
 }
 
-/// The steps that are asked for.
-pub fn steps(alloc: Global, asks: &[Ask]) -> Result<Vec<Step>, Fault> {
+/// The steps that are asked for in a life.
+pub fn steps(alloc: Global, life: &[&[Ask]]) -> Result<Vec<Step>, Fault> {
     let mut steps = Vec::new(alloc);
-    for ask in asks {
+    for ask in life.iter().copied().flatten() {
         push_each(&mut steps, &step_of(*ask)?, count_of(*ask))?;
     }
     Ok(steps)

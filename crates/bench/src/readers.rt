@@ -6,7 +6,7 @@ use base::fault::Fault;
 use base::key::Key;
 use base::longs::Longs;
 use base::row::Row;
-use board::{Board, History, Naming, Reader};
+use board::{Board, Coverage, History, Naming, Reader};
 use smallvec::SmallVec;
 use std::alloc::{AllocError, Global};
 use std::marker::Brand;
@@ -57,16 +57,7 @@ fn read_one_board<J: Naming + Send + Sync, R: Threads + Wait + Sync>(
     requires readers { (0 < readers) × (readers ≤ 8) }
 {
     let rows = first_rows(alloc)?;
-    let (board, readers) = Board::<J, &R>::open(
-        rt,
-        alloc,
-        history,
-        0,
-        0,
-        Longs::none(),
-        &rows,
-        readers,
-    )?;
+    let (board, readers) = Board::<J, &R>::open(rt, alloc, history, nothing(), &rows, readers)?;
     let count = readers.len() as u64;
     let done = AtomicU64::new(0);
     let ((board, published), read) = join(
@@ -85,6 +76,15 @@ fn read_one_board<J: Naming + Send + Sync, R: Threads + Wait + Sync>(
         reads: answered,
         batches,
     })
+}
+
+// No commit is covered yet.
+fn nothing() -> Coverage {
+    Coverage {
+        stamp: 0,
+        persisted: 0,
+        longs: Longs::none(),
+    }
 }
 
 // A row under each key.
@@ -123,7 +123,11 @@ fn publish_one<J: Naming, R: Wait + Drop>(
     alloc: Global,
     board: &mut Board<J, R>,
 ) -> Result<(), Fault> {
-    let (stamp, persisted, longs) = board.last();
+    let Coverage {
+        stamp,
+        persisted,
+        longs,
+    } = board.last();
     if stamp >= MOST_BATCHES || persisted >= MOST_BATCHES {
         return Err(Fault::TimestampsOut);
     }

@@ -5,16 +5,17 @@ use Rattle.base.specs.declared.key.Key.{Key}
 use Rattle.base.specs.Keys.{lookup_key}
 use Rattle.base.specs.Batches.{Batch}
 use Rattle.base.specs.Published.{Published}
+use Rattle.board.specs.declared.coverage.Coverage.{Coverage}
 use Rattle.board.specs.Cells.{after_batches, after_commits, is_written}
 use Rattle.board.specs.Stored.{Stands}
 use Rattle.board.proofs.Puts.{laid_alike}
 
 -- rows that differ at keys of the first batch alone
-pub stands_alike : (stamp persisted : ℕ) (longs : List ℕ) (floor : ℕ) (rows other : List (Key × List ℕ)) (batches : List Batch) (batch : Batch) (list : Published) → slice_get batches 0 ≡ Some batch → batch.stamp ≤ floor
+pub stands_alike : (coverage : Coverage) (floor : ℕ) (rows other : List (Key × List ℕ)) (batches : List Batch) (batch : Batch) (list : Published) → slice_get batches 0 ≡ Some batch → batch.stamp ≤ floor
     → ((k : Key) → is_written k batch.commits ≡ false → lookup_key other k ≡ lookup_key rows k)
-    → Stands stamp persisted longs floor rows batches list → Stands stamp persisted longs floor other batches list
-stands_alike stamp persisted longs floor rows other [] batch list at low same h = absurd (cc at)
-stands_alike stamp persisted longs floor rows other (b ∷ batches) batch list at low same h =
+    → Stands coverage floor rows batches list → Stands coverage floor other batches list
+stands_alike coverage floor rows other [] batch list at low same h = absurd (cc at)
+stands_alike coverage floor rows other (b ∷ batches) batch list at low same h =
     let is : b ≡ batch = cc at in
     record {
       floor_is = h.floor_is;

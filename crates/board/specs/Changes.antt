@@ -11,11 +11,11 @@ changed list (Add batch) = record list { batches = list.batches ++ batch ∷ [] 
 changed list (Raise stamp) = record list { floor = max list.floor stamp }
 
 abbrev pub nothing : Published
-nothing = opening 0 0 [] []
+nothing = opening (record { stamp = 0; persisted = 0; longs = [] }) []
 
 -- the list that the first change opens
 abbrev pub begun : Change → Published
-begun (Begin start) = opening start.stamp start.persisted start.longs start.rows.items
+begun (Begin start) = opening start.coverage start.rows.items
 begun (Add batch) = nothing
 begun (Raise stamp) = nothing
 

@@ -4,6 +4,7 @@ use Rattle.std.specs.List.{range_with_len, list_any, list_all}
 use mathlib.Core.List.{IsPrefix}
 use Rattle.base.specs.Batches.{Batch}
 use Rattle.base.specs.Published.{Published, Follow, last_stamp}
+use Rattle.board.specs.declared.coverage.Coverage.{Coverage}
 
 -- the timestamp persisted by the last batch, or that before the first
 abbrev pub persisted_from : ℕ → List Batch → ℕ
@@ -22,6 +23,10 @@ longs_from longs (batch ∷ batches) = longs_from batch.longs batches
 -- the long commits at the last stamp
 abbrev pub last_longs : Published → List ℕ
 last_longs list = longs_from list.longs list.batches
+
+-- what is covered at the last stamp
+abbrev pub last_coverage : Published → Coverage
+last_coverage list = record { stamp = last_stamp list; persisted = last_persisted list; longs = last_longs list }
 
 abbrev pub is_among : List ℕ → ℕ → Bool
 is_among timestamps timestamp = list_any (nat_eq timestamp) timestamps

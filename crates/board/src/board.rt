@@ -2,16 +2,15 @@
 //! no memory to hand it on, it waits here, and nothing comes before it.
 
 use crate::change::{Change, Start};
+use crate::coverage::Coverage;
 use crate::fitting::covers_due;
 use crate::history::{Book, Front, History, Naming};
 use crate::reader::Reader;
 use crate::shelf::{Shelf, Step};
 use crate::token::Token;
-use base::Ts;
 use base::batch::Batch;
 use base::fault::Fault;
 use base::key::Key;
-use base::longs::Longs;
 use base::row::Row;
 use left_right::{Absorb, WriteHandle};
 use std::alloc::{AllocError, Global};
@@ -39,11 +38,9 @@ impl<J: Naming> Kept<Step<J>> for Shelf<J> {
 pub struct BoardWriter<J: Naming, T: Absorb<O> + Kept<O> + Drop, O: Drop, R: Wait + Drop> {
     handle: WriteHandle<T, O, R>,
     book: Book<J>,
-    // The history, with what waits, and where its list ends.
+    // The history, with what waits, and what its list covers.
     front: Front<J>,
-    stamp: u64,
-    persisted: Ts,
-    longs: Longs,
+    coverage: Coverage,
     // What waits last, where there was no memory to hand it over.
     kept: Option<O>,
 }
@@ -59,14 +56,13 @@ impl<J: Naming, T: Absorb<O> + Kept<O> + Drop, O: Drop, R: Wait + Drop> Model
 
     ghost use Rattle.std.specs.Prelude.{◌≡◌, ◌<◌, ◌++◌, length, map};
     ghost use Rattle.left_right.specs.Handles.{published, pending};
-    ghost use Rattle.base.specs.Published.{last_stamp};
     ghost use Rattle.board.specs.Changes.{list_of};
-    ghost use Rattle.board.specs.Lists.{last_persisted, last_longs};
+    ghost use Rattle.board.specs.Lists.{last_coverage};
     ghost use Rattle.board.specs.Shown.{one_or_none};
 
     ghost view = { λ b. record { list = list_of (T.log (published b.handle)); waits = map T.change (pending b.handle ++ one_or_none b.kept) } };
 
-    ghost invariant = { λ b. (0 < length (T.log (published b.handle))) × (b.front ≡ T.log (published b.handle) ++ map T.change (pending b.handle ++ one_or_none b.kept)) × (b.stamp ≡ last_stamp (list_of b.front)) × (b.persisted ≡ last_persisted (list_of b.front)) × (b.longs ≡ last_longs (list_of b.front)) };
+    ghost invariant = { λ b. (0 < length (T.log (published b.handle))) × (b.front ≡ T.log (published b.handle) ++ map T.change (pending b.handle ++ one_or_none b.kept)) × (b.coverage ≡ last_coverage (list_of b.front)) };
 }
 
 impl<J: Naming, R: Wait + Drop> BoardWriter<J, Shelf<J>, Step<J>, R> {
@@ -75,7 +71,7 @@ impl<J: Naming, R: Wait + Drop> BoardWriter<J, Shelf<J>, Step<J>, R> {
     ghost use Rattle.base.specs.Published.{last_stamp};
     ghost use Rattle.board.specs.declared.change.Change.TheVariants.{Add, Raise};
     ghost use Rattle.board.specs.Changes.{changed};
-    ghost use Rattle.board.specs.Lists.{Fits, IsPublished, last_persisted, last_longs};
+    ghost use Rattle.board.specs.Lists.{Fits, IsPublished, last_coverage};
     ghost use Rattle.board.specs.Openings.{opening};
     ghost use Rattle.board.specs.Shown.{whole, shown, waiting};
 
@@ -84,21 +80,17 @@ impl<J: Naming, R: Wait + Drop> BoardWriter<J, Shelf<J>, Step<J>, R> {
         rt: R,
         alloc: Global,
         history: History,
-        stamp: u64,
-        persisted: Ts,
-        longs: Longs,
+        coverage: Coverage,
         rows: &[(Key, Row)],
         readers: usize,
     ) -> Result<(BoardWriter<J, Shelf<J>, Step<J>, R>, Vec<Reader<J>>), Fault>
         requires name { history ≡ J.book }
         requires readers { (0 < readers) × (readers ≤ 8) }
-        ensures board { IfOk result (λ opened. opened.0 ≡ record { list = opening stamp persisted longs rows.now; waits = [] }) }
+        ensures board { IfOk result (λ opened. opened.0 ≡ record { list = opening coverage rows.now; waits = [] }) }
         ensures readers { IfOk result (λ opened. (0 < length opened.1.items) × (length opened.1.items ≤ readers) × All (λ reader. reader ≡ opened.0.list) opened.1.items) }
         ensures fault { IfErr result (λ fault. fault ≡ OutOfMemory) }
     {
-        let Ok(board) = BoardWriter::alone(
-            rt, alloc, history, stamp, persisted, longs, rows, readers,
-        ) else {
+        let Ok(board) = BoardWriter::alone(rt, alloc, history, &coverage, rows, readers) else {
             return Err(Fault::OutOfMemory);
         };
         let Ok(made) = Vec::with_capacity(alloc, readers) else {
@@ -116,34 +108,28 @@ impl<J: Naming, R: Wait + Drop> BoardWriter<J, Shelf<J>, Step<J>, R> {
         rt: R,
         alloc: Global,
         history: History,
-        stamp: u64,
-        persisted: Ts,
-        longs: Longs,
+        coverage: &Coverage,
         rows: &[(Key, Row)],
         readers: usize,
     ) -> Result<BoardWriter<J, Shelf<J>, Step<J>, R>, AllocError>
         requires name { history ≡ J.book }
         requires readers { (0 < readers) × (readers ≤ 8) }
-        ensures { IfOk result (λ board. board ≡ record { list = opening stamp persisted longs rows.now; waits = [] }) }
+        ensures { IfOk result (λ board. board ≡ record { list = opening coverage.now rows.now; waits = [] }) }
     {
         let start = Start {
-            stamp,
-            persisted,
-            longs,
+            coverage: *coverage,
             rows: rows.to_vec(alloc)?,
         };
         let Some((book, front)) = history.begun::<J>(&Change::Begin(start)) else {
             return Err(AllocError);
         };
-        let first = Shelf::new(alloc, front.again(), stamp, persisted, longs, rows)?;
-        let second = Shelf::new(alloc, front.again(), stamp, persisted, longs, rows)?;
+        let first = Shelf::new(alloc, front.again(), coverage, rows)?;
+        let second = Shelf::new(alloc, front.again(), coverage, rows)?;
         Ok(BoardWriter {
             handle: WriteHandle::new(alloc, rt, first, second, readers)?,
             book,
             front,
-            stamp,
-            persisted,
-            longs,
+            coverage: *coverage,
             kept: None,
         })
     }
@@ -165,21 +151,22 @@ impl<J: Naming, R: Wait + Drop> BoardWriter<J, Shelf<J>, Step<J>, R> {
         made
     }
 
-    /// The last stamp, the timestamp persisted and the long commits then, with what waits.
-    pub fn last(&self) -> (u64, Ts, Longs)
-        ensures { result ≡ (last_stamp (whole self.now), last_persisted (whole self.now), last_longs (whole self.now)) }
+    /// What is covered at the last stamp, with what waits.
+    pub fn last(&self) -> Coverage
+        ensures { result ≡ last_coverage (whole self.now) }
     {
-        (self.stamp, self.persisted, self.longs)
+        self.coverage
     }
 
     /// Whether the batch may come next: it goes on from what is published and what waits.
     pub fn fits(&self, batch: &Batch) -> bool
         ensures { IsTrue result ↔ Fits (whole self.now) batch.now }
     {
-        batch.from() == self.stamp
-            && batch.stamp() > self.stamp
-            && batch.stamp() - self.stamp == 1
-            && covers_due(self.persisted, &self.longs, batch)
+        let last = &self.coverage;
+        batch.from() == last.stamp
+            && batch.stamp() > last.stamp
+            && batch.stamp() - last.stamp == 1
+            && covers_due(last.persisted, &last.longs, batch)
     }
 
     /// Publishes what waits and then the batch. Where memory runs out, the batch comes back, or waits with the others.
@@ -236,10 +223,7 @@ impl<J: Naming, R: Wait + Drop> BoardWriter<J, Shelf<J>, Step<J>, R> {
         let Some(front) = self.front.then(&self.book, &change) else {
             return Err(change);
         };
-        let (stamp, persisted, longs) = change.end((self.stamp, self.persisted, self.longs));
-        self.stamp = stamp;
-        self.persisted = persisted;
-        self.longs = longs;
+        self.coverage = change.end(&self.coverage);
         self.front = front.again();
         self.kept = Some(Step { change, front });
         self.hand_over();
@@ -264,9 +248,7 @@ impl<J: Naming, R: Wait + Drop> BoardWriter<J, Shelf<J>, Step<J>, R> {
         let shelf = self.handle.published();
         Token {
             front: shelf.front().again(),
-            stamp: shelf.last(),
-            persisted: shelf.last_persisted(),
-            longs: shelf.last_longs(),
+            coverage: shelf.coverage(),
         }
     }
 }

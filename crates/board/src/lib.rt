@@ -3,6 +3,7 @@
 
 mod board;
 pub mod change;
+pub mod coverage;
 mod fitting;
 pub mod history;
 pub mod law;
@@ -13,6 +14,7 @@ pub mod token;
 mod versions;
 
 pub use board::{Board, BoardWriter, Kept};
+pub use coverage::Coverage;
 pub use history::{History, Naming};
 pub use reader::Reader;
 pub use shelf::{Shelf, Step};

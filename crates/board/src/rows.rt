@@ -7,11 +7,10 @@ ghost use Rattle.board.specs.Cells.{after_commits, is_written};
 ghost use Rattle.board.specs.Stored.{Stands};
 ghost use Rattle.board.specs.Versions.{Indexed};
 
+use crate::coverage::Coverage;
 use crate::versions::{Versions, forget};
-use base::Ts;
 use base::batch::{Batch, Commit};
 use base::key::Key;
-use base::longs::Longs;
 use base::row::Row;
 use std::alloc::{AllocError, Global};
 use std::collections::BTreeMap;
@@ -80,17 +79,17 @@ pub fn lay(rows: &mut Rows, commits: &[Commit]) -> Result<(), AllocError>
 }
 
 /// Lays the batches that are not above the floor into the rows, oldest first, and removes their versions. Where memory
-/// runs out the others stay. `last` is the stamp, the timestamp and the long commits of the last one that was laid.
+/// runs out the others stay. `last` is what the last one that was laid covers.
 pub fn settle(
     rows: &mut Rows,
     versions: &mut Versions,
     batches: &mut Vec<Batch>,
     floor: u64,
-    last: &mut (u64, Ts, Longs),
+    last: &mut Coverage,
 ) -> Result<(), AllocError>
-    ensures rows { (list : Published) → Stands last.old.0 last.old.1 last.old.2 floor rows.old.entries batches.old.items list → Stands last.new.0 last.new.1 last.new.2 floor rows.new.entries batches.new.items list }
-    ensures versions { Indexed last.old.0 versions.old.entries batches.old.items → Indexed last.new.0 versions.new.entries batches.new.items }
-    ensures all { OnOk result (Indexed last.old.0 versions.old.entries batches.old.items → All (λ batch. floor < batch.stamp) batches.new.items) }
+    ensures rows { (list : Published) → Stands last.old floor rows.old.entries batches.old.items list → Stands last.new floor rows.new.entries batches.new.items list }
+    ensures versions { Indexed last.old.stamp versions.old.entries batches.old.items → Indexed last.new.stamp versions.new.entries batches.new.items }
+    ensures all { OnOk result (Indexed last.old.stamp versions.old.entries batches.old.items → All (λ batch. floor < batch.stamp) batches.new.items) }
 {
     while settle_one(rows, versions, batches, floor, last)? {}
     Ok(())
@@ -102,10 +101,10 @@ fn settle_one(
     versions: &mut Versions,
     batches: &mut Vec<Batch>,
     floor: u64,
-    last: &mut (u64, Ts, Longs),
+    last: &mut Coverage,
 ) -> Result<bool, AllocError>
-    ensures rows { (list : Published) → Stands last.old.0 last.old.1 last.old.2 floor rows.old.entries batches.old.items list → Stands last.new.0 last.new.1 last.new.2 floor rows.new.entries batches.new.items list }
-    ensures versions { Indexed last.old.0 versions.old.entries batches.old.items → Indexed last.new.0 versions.new.entries batches.new.items }
+    ensures rows { (list : Published) → Stands last.old floor rows.old.entries batches.old.items list → Stands last.new floor rows.new.entries batches.new.items list }
+    ensures versions { Indexed last.old.stamp versions.old.entries batches.old.items → Indexed last.new.stamp versions.new.entries batches.new.items }
     ensures one { IfOk result (λ laid. MatchBool laid (length batches.new.items < length batches.old.items) (IfSome (slice_get batches.new.items 0) (λ batch. floor < batch.stamp))) }
 {
     let Some(batch) = batches.first() else {
@@ -117,6 +116,6 @@ fn settle_one(
     lay(rows, batch.commits())?;
     let batch = batches.remove(0);
     forget(versions, batch.stamp(), batch.commits());
-    *last = (batch.stamp(), batch.persisted(), batch.longs());
+    *last = Coverage::after(&batch);
     Ok(true)
 }

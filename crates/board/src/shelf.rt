@@ -3,14 +3,13 @@
 ghost use Rattle.board.specs.Rules.{Ends};
 
 use crate::change::Change;
+use crate::coverage::Coverage;
 use crate::history::{Front, Naming};
 use crate::rows::{Rows, row_of, rows_of, settle};
 use crate::versions::{Versions, enter, latest};
-use base::Ts;
 use base::batch::{Batch, Commit};
 use base::fault::Fault;
 use base::key::Key;
-use base::longs::Longs;
 use base::row::Row;
 use left_right::Absorb;
 use std::alloc::{AllocError, Global};
@@ -27,10 +26,8 @@ pub struct Step<J: Naming> {
 /// What is published. Contracts see it as the history that it was made by, which is the book's.
 #[derive(Drop)]
 pub struct Shelf<J: Naming> {
-    // Of the last batch that was laid into the rows, or of the rows alone.
-    stamp: u64,
-    persisted: Ts,
-    longs: Longs,
+    // By the last batch that was laid into the rows, or by the rows alone.
+    coverage: Coverage,
     rows: Rows,
     versions: Versions,
     batches: Vec<Batch>,
@@ -51,7 +48,7 @@ impl<J: Naming> Model for Shelf<J> {
 
     ghost view = { λ s. s.front };
 
-    ghost invariant = { λ s. Stands s.stamp s.persisted s.longs s.floor s.rows.entries s.batches.items (list_of s.front) × Indexed s.stamp s.versions.entries s.batches.items };
+    ghost invariant = { λ s. Stands s.coverage s.floor s.rows.entries s.batches.items (list_of s.front) × Indexed s.coverage.stamp s.versions.entries s.batches.items };
 }
 
 impl<J: Naming> Absorb<Step<J>> for Shelf<J> {
@@ -87,31 +84,27 @@ impl<J: Naming> Shelf<J> {
     ghost use Rattle.board.specs.declared.change.Change.TheVariants.{Add, Raise};
     ghost use Rattle.board.specs.Changes.{list_of};
     ghost use Rattle.board.specs.Openings.{opening};
-    ghost use Rattle.board.specs.Lists.{IsPublished, last_persisted, last_longs};
+    ghost use Rattle.board.specs.Lists.{last_coverage};
     ghost use Rattle.board.specs.Views.{answer};
     ghost use Rattle.board.specs.Cells.{after_batches};
 
-    /// The rows alone, at their stamp.
+    /// The rows alone.
     pub(crate) fn new(
         alloc: Global,
         front: Front<J>,
-        stamp: u64,
-        persisted: Ts,
-        longs: Longs,
+        coverage: &Coverage,
         rows: &[(Key, Row)],
     ) -> Result<Shelf<J>, AllocError>
-        requires { list_of front ≡ opening stamp persisted longs rows.now }
+        requires { list_of front ≡ opening coverage.now rows.now }
         ensures { IfOk result (λ shelf. shelf ≡ front) }
     {
         let rows = rows_of(alloc, rows)?;
         Ok(Shelf {
-            stamp,
-            persisted,
-            longs,
+            coverage: *coverage,
             rows,
             versions: Versions::new(alloc),
             batches: Vec::new(alloc),
-            floor: stamp,
+            floor: coverage.stamp,
             front,
             alloc,
         })
@@ -139,16 +132,14 @@ impl<J: Naming> Shelf<J> {
         self.front.is_published();
         self.front = front.again();
         self.floor = self.floor.max(stamp);
-        let mut last = (self.stamp, self.persisted, self.longs);
         // Where memory ends, the rest is laid by a later change.
         let _ = settle(
             &mut self.rows,
             &mut self.versions,
             &mut self.batches,
             self.floor,
-            &mut last,
+            &mut self.coverage,
         );
-        (self.stamp, self.persisted, self.longs) = last;
     }
 
     /// The history that it was made by.
@@ -165,23 +156,13 @@ impl<J: Naming> Shelf<J> {
         self.floor
     }
 
-    /// The timestamp persisted at the last stamp.
-    pub(crate) fn last_persisted(&self) -> Ts
-        ensures { result ≡ last_persisted (list_of self.now) }
+    /// What is covered at the last stamp.
+    pub(crate) fn coverage(&self) -> Coverage
+        ensures { result ≡ last_coverage (list_of self.now) }
     {
         match self.batches.last() {
-            Some(batch) => batch.persisted(),
-            None => self.persisted,
-        }
-    }
-
-    /// The long commits at the last stamp.
-    pub(crate) fn last_longs(&self) -> Longs
-        ensures { result ≡ last_longs (list_of self.now) }
-    {
-        match self.batches.last() {
-            Some(batch) => batch.longs(),
-            None => self.longs,
+            Some(batch) => Coverage::after(batch),
+            None => self.coverage,
         }
     }
 
@@ -204,7 +185,7 @@ impl<J: Naming> Shelf<J> {
     {
         match self.batches.last() {
             Some(batch) => batch.stamp(),
-            None => self.stamp,
+            None => self.coverage.stamp,
         }
     }
 

@@ -1,17 +1,15 @@
 //! A token is a front and a few numbers, so it can be sent anywhere, and who learns it waits for nobody.
 
+use crate::coverage::Coverage;
 use crate::history::{Front, Naming};
 use base::Ts;
-use base::longs::Longs;
 use std::marker::Model;
 
 /// What was published when it was made. Contracts see it as that list.
 #[derive(Drop)]
 pub struct Token<J: Naming> {
     pub(crate) front: Front<J>,
-    pub(crate) stamp: u64,
-    pub(crate) persisted: Ts,
-    pub(crate) longs: Longs,
+    pub(crate) coverage: Coverage,
 }
 
 impl<J: Naming> Model for Token<J> {
@@ -20,13 +18,12 @@ impl<J: Naming> Model for Token<J> {
     ghost Value = { lists.Published };
 
     ghost use Rattle.std.specs.Prelude.{◌≡◌};
-    ghost use Rattle.base.specs.Published.{last_stamp};
     ghost use Rattle.board.specs.Changes.{list_of};
-    ghost use Rattle.board.specs.Lists.{last_persisted, last_longs};
+    ghost use Rattle.board.specs.Lists.{last_coverage};
 
     ghost view = { λ t. list_of t.front };
 
-    ghost invariant = { λ t. (t.stamp ≡ last_stamp (list_of t.front)) × (t.persisted ≡ last_persisted (list_of t.front)) × (t.longs ≡ last_longs (list_of t.front)) };
+    ghost invariant = { λ t. t.coverage ≡ last_coverage (list_of t.front) };
 }
 
 impl<J: Naming> Token<J> {
@@ -38,7 +35,7 @@ impl<J: Naming> Token<J> {
     pub fn stamp(&self) -> u64
         ensures { result ≡ last_stamp self.now }
     {
-        self.stamp
+        self.coverage.stamp
     }
 
     /// Whether the commit is covered: its timestamp is persisted and isn't that of a long commit. So it is just where a published
@@ -48,7 +45,7 @@ impl<J: Naming> Token<J> {
         ensures later { IsLater self.now timestamp → IsTrue result ↔ IsTrue (has_commit self.now timestamp) }
     {
         self.front.is_published();
-        timestamp <= self.persisted && !self.longs.contains(timestamp)
+        timestamp <= self.coverage.persisted && !self.coverage.longs.contains(timestamp)
     }
 
     /// Another one of the same list.
@@ -57,9 +54,7 @@ impl<J: Naming> Token<J> {
     {
         Token {
             front: self.front.again(),
-            stamp: self.stamp,
-            persisted: self.persisted,
-            longs: self.longs,
+            coverage: self.coverage,
         }
     }
 

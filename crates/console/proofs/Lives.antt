@@ -1,13 +1,11 @@
 -- From the parts of a life to the whole.
-use Rattle.std.proofs.Common.{◌≡◌, ℕ, ◌-◌, ◌^◌, Bool, true, false, nat_le, List, [], ◌∷◌, ◌++◌, refl, sym, ◌∙◌, ap, subst}
+use Rattle.std.proofs.Common.{◌≡◌, ℕ, ◌-◌, List, [], ◌∷◌, ◌++◌, refl, sym, ◌∙◌, ap, subst}
 use Rattle.std.specs.Prelude.{Option, Some, None, codes}
 use Rattle.base.specs.declared.gap.Gap.{Gap}
 use Rattle.base.specs.Commits.{Commit}
 use Rattle.base.specs.Images.{Image, layout_of}
-use Rattle.base.specs.declared.fault.Fault.TheVariants.{Failed, TimestampsOut}
 use Rattle.base.specs.Layout.{Layout, opened_layout}
-use Rattle.base.specs.Search.{first_of, some_if}
-use Rattle.machine.specs.Machine.{State, closing_fault, closing_gate}
+use Rattle.machine.specs.Machine.{State, closing_gate}
 use Rattle.machine.specs.Openings.{OpensAs}
 use Rattle.base.specs.Stands.{Stands}
 use Rattle.pmem.specs.Device.{Device, MayLeave}
@@ -29,13 +27,6 @@ pub opened-so : (q : State) (gate persisted dirty next : ℕ) (gaps : List Gap) 
     → opened_line gate persisted dirty next gaps ++ 10 ∷ [] ≡ opened_text q ++ 10 ∷ []
 opened-so q gate persisted dirty next gaps a b c d e = rw (a, b, c, d, e) refl
 
-works-so : (q : State) → closing_fault q ≡ None → q.failed ≡ false
-works-so q none = by q.failed (nat_le (2 ^ 62) (closing_gate q)) none
-  where
-    by : (failed past : Bool) → first_of (some_if failed Failed ∷ some_if past TimestampsOut ∷ []) ≡ None → failed ≡ false
-    by true past e = absurd (cc e)
-    by false past e = refl
-
 pub ends-stopped : {D : Type 0} {G : Ghosts D} (state : D → Device) (room : Room D G) (device : Device) (image : Image) (file : List ℕ) (keeps : Survivor) (q : State)
     → device ≡ device_of state room → MayLeave device image → IsFileOf image file → Shows state room q
     → Ends q (Some keeps) ((codes "stopped " ++ survivor_text keeps) ++ 10 ∷ []) file
@@ -43,7 +34,7 @@ ends-stopped state room device image file keeps q is left bytes shows =
     (image, bytes, shows.stands image (subst (λ (d : Device). MayLeave d image) is left), refl)
 
 pub ends-closed : {D : Type 0} {G : Ghosts D} (state : D → Device) (room : Room D G) (device : Device) (image : Image) (file : List ℕ) (q : State)
-    (gate persisted next : ℕ) → (q.failed ≡ false → gate ≡ closing_gate q) → persisted ≡ next - 1 → next ≡ q.next
+    (gate persisted next : ℕ) → gate ≡ closing_gate q → persisted ≡ next - 1 → next ≡ q.next
     → HasClosed state room device → MayLeave device image → IsFileOf image file → Shows state room q
     → Ends q None (closed_line gate persisted next ++ 10 ∷ []) file
 ends-closed state room device image file q gate persisted next a b c closes left bytes shows =
@@ -52,7 +43,7 @@ ends-closed state room device image file q gate persisted next a b c closes left
       bytes,
       closes.each q shows image left,
       may,
-      (λ i. closed_line (a (works-so q may) i) ((b ∙ ap (λ (n : ℕ). n - 1) c) i) (c i) ++ 10 ∷ []),
+      (λ i. closed_line (a i) ((b ∙ ap (λ (n : ℕ). n - 1) c) i) (c i) ++ 10 ∷ []),
     )
 
 pub opens-history : (image : Image) (history : List Commit) (q : State) → OpensAs image history [] q → q.history ≡ history

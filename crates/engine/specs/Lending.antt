@@ -1,5 +1,5 @@
 -- What is asked of the room under the lock.
-use Rattle.std.specs.Prelude.{◌≡◌, ◌-◌, ℕ, ◌≤◌, nat_le, nat_lt, nat_eq, Bool, true, false, not, ◌&&◌, if◌then◌else◌, List, length, slice_get, Option, Some, None, MatchOption, Result, Ok, Err}
+use Rattle.std.specs.Prelude.{◌≡◌, ◌+◌, ◌-◌, ◌^◌, ℕ, ◌≤◌, min, nat_le, nat_lt, nat_eq, Bool, true, false, not, ◌&&◌, if◌then◌else◌, List, length, slice_get, Option, Some, None, IfSome, IfNone, MatchOption, Result, Ok, Err}
 use Rattle.std.specs.List.{list_any}
 use Rattle.std.specs.Option.{option_map_or}
 use Rattle.base.specs.Records.{Record}
@@ -9,8 +9,15 @@ use Rattle.base.specs.declared.step.Step.{Step}
 use Rattle.base.specs.declared.step.Step.TheVariants.{Commit}
 use Rattle.base.specs.declared.step.Note.{Note}
 use Rattle.base.specs.declared.step.Note.TheVariants.{Refused}
+use Rattle.base.specs.declared.step.Reply.{Reply}
+use Rattle.base.specs.declared.step.Reply.TheVariants.{Refused as RefusedWith}
+use Rattle.machine.specs.Machine.{State}
+use Rattle.pmem.specs.Device.{Device}
 use Rattle.pmem.specs.declared.device.Pmem.{Ghosts}
+use Rattle.room.specs.Room.{Shows, StepsTo}
+use Rattle.audited.specs.Audit.{EndsRun, Keeps, Stays}
 use Rattle.audited.specs.declared.audited.Audited.{Audited}
+use Rattle.audited.specs.declared.receipt.Receipt.{Receipt}
 
 -- the room is there, and has made so many steps at least
 abbrev pub HasMade : {D : Type 0} → {G : Ghosts D} → ℕ → Option (Audited D G) → Type 0
@@ -25,6 +32,30 @@ is_failure _ = false
 -- it had by the last of these steps
 abbrev pub has_failed : List (Step × Note) → Bool
 has_failed entries = option_map_or (λ entry. is_failure entry.1) (slice_get entries (length entries - 1)) false
+
+-- ---- a worker's step
+
+-- Nothing but the step was made: it is kept last, with its note, and leads where its reply does; or, for want of memory, it was
+-- neither kept nor made
+pub record Makes {D : Type 0} {G : Ghosts D} (state : D → Device) (old new : Audited D G) (step : Step) (reply : Reply) (receipt : Option Receipt) : Type 0 where
+  pub opening : new.opening ≡ old.opening
+  pub kept : IfSome receipt (λ r. Keeps old.entries.items new.entries.items step reply r)
+  pub run : IfSome receipt (λ r. ∥ EndsRun r ∥₁)
+  pub leads : IfSome receipt (λ r. (q : State) → Shows state old.room q → (q' : State) × StepsTo state old.room new.room step reply q q')
+  pub refused : IfNone receipt ((reply ≡ RefusedWith OutOfMemory) × (new.entries.items ≡ old.entries.items))
+  pub stays : IfNone receipt ((q : State) → Shows state old.room q → Stays state old.room new.room step q)
+
+-- the room was there and is still, and nothing but the step was made in it
+abbrev pub MakesOnly : {D : Type 0} → {G : Ghosts D} → (D → Device) → Option (Audited D G) → Option (Audited D G) → Step → Reply → Option Receipt → Type 0
+MakesOnly state (Some old) (Some new) step reply receipt = Makes state old new step reply receipt
+MakesOnly state _ _ step reply receipt = ⊥
+
+-- How often in a row the committer was refused memory, after a step that was kept or wasn't: its own that was kept ends the row,
+-- and the collector's don't count
+abbrev pub refusals_after : ℕ → Step → Bool → ℕ
+refusals_after refusals Commit true = 0
+refusals_after refusals Commit false = min (refusals + 1) (2 ^ 64 - 1)
+refusals_after refusals _ kept = refusals
 
 -- ---- the committer's end
 

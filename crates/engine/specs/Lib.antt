@@ -6,3 +6,4 @@ pub mod Posting
 pub mod Started
 pub mod Origins
 pub mod Lending
+pub mod Due

@@ -25,8 +25,15 @@ pub enum Duty {
 }
 
 impl Duty {
+    ghost use Rattle.std.specs.Prelude.{◌≡◌};
+    ghost use Rattle.base.specs.declared.step.Step.TheVariants.{Commit, Collect};
+    ghost use Rattle.engine.specs.declared.desk.Duty.TheVariants.{Commit as OfCommitter, Collect as OfCollector};
+
     /// The step that it makes.
-    pub fn step(self) -> Step {
+    pub fn step(self) -> Step
+        ensures commit { (self ≡ OfCommitter) → result ≡ Commit }
+        ensures collect { (self ≡ OfCollector) → result ≡ Collect }
+    {
         match self {
             Duty::Commit => Step::Commit,
             Duty::Collect => Step::Collect,
@@ -57,15 +64,21 @@ pub struct Desk<D: Pmem, J: Origin> {
 }
 
 impl<D: Pmem + Drop, J: Origin> Desk<D, J> {
-    ghost use Rattle.std.specs.Prelude.{◌≡◌, ◌↔◌, ◌+◌, ◌⊎◌, IsTrue, false, nat_lt, None, IfSome, IfNone, IfErr, MatchOption, MatchResult};
+    ghost use Rattle.std.specs.Prelude.{◌≡◌, ◌↔◌, ◌+◌, ◌⊎◌, IsTrue, false, nat_lt, is_some, None, IfSome, IfNone, IfErr, MatchOption, MatchResult};
     ghost use Rattle.base.specs.declared.fault.Fault.TheVariants.{OutOfMemory};
     ghost use Rattle.base.specs.Replies.{note_of};
     ghost use Rattle.machine.specs.Machine.{State};
     ghost use Rattle.room.specs.Room.{Shows};
-    ghost use Rattle.engine.specs.Lending.{HasMade, has_failed, is_covered, halted_after, why_not, waited};
+    ghost use Rattle.engine.specs.declared.desk.Duty.TheVariants.{Commit, Collect};
+    ghost use Rattle.engine.specs.Due.{IsTold};
+    ghost use Rattle.engine.specs.Lending.{HasMade, MakesOnly, has_failed, is_covered, halted_after, refusals_after, why_not, waited};
 
     /// No room yet.
-    pub fn new() -> Desk<D, J> {
+    pub fn new() -> Desk<D, J>
+        ensures empty { result.audited ≡ None }
+        ensures handed { result.handed ≡ 0 }
+        ensures open { result.closing ≡ false }
+    {
         Desk {
             audited: None,
             handed: 0,
@@ -103,12 +116,18 @@ impl<D: Pmem + Drop, J: Origin> Desk<D, J> {
         }
     }
 
-    /// A worker's step, unless the engine is being closed. Without memory it has no receipt. What the committer is refused with
-    /// stays here.
+    /// A worker's step, unless the engine is being closed or there is no room. Without memory it has no receipt. What the
+    /// committer is refused with stays here, and how often in a row it was refused memory.
     pub fn tick(&mut self, step: &Step) -> Option<(Reply, Option<Receipt>)>
         ensures made { IfSome result (λ made. IfSome made.1 (λ receipt. (receipt.step ≡ step.now) × (receipt.note ≡ note_of made.0))) }
         ensures halted { IfSome result (λ made. MatchOption made.1 (self.new.halted ≡ self.old.halted) (λ receipt. self.new.halted ≡ halted_after self.old.halted receipt.step receipt.note)) }
-        ensures closing { IsTrue self.old.closing → result ≡ None }
+        ensures none { (result ≡ None) ↔ (IsTrue self.old.closing ⊎ (self.old.audited ≡ None)) }
+        ensures same { IfNone result ((self.new.audited ≡ self.old.audited) × (self.new.halted ≡ self.old.halted) × (self.new.refusals ≡ self.old.refusals)) }
+        ensures only { IfSome result (λ made. MakesOnly D.state self.old.audited self.new.audited step.now made.0 made.1) }
+        ensures refusals { IfSome result (λ made. self.new.refusals ≡ refusals_after self.old.refusals step.now (is_some made.1)) }
+        ensures closing { self.new.closing ≡ self.old.closing }
+        ensures handed { self.new.handed ≡ self.old.handed }
+        ensures asleep { self.new.asleep ≡ self.old.asleep }
     {
         if self.closing {
             return None;
@@ -132,7 +151,13 @@ impl<D: Pmem + Drop, J: Origin> Desk<D, J> {
     }
 
     /// Notes what a step was answered, and what it made due.
-    pub fn note(&mut self, reply: &Reply) {
+    pub fn note(&mut self, reply: &Reply)
+        ensures room { self.new.audited ≡ self.old.audited }
+        ensures handed { self.new.handed ≡ self.old.handed }
+        ensures closing { self.new.closing ≡ self.old.closing }
+        ensures refusals { self.new.refusals ≡ self.old.refusals }
+        ensures halted { self.new.halted ≡ self.old.halted }
+    {
         let Some(audited) = &self.audited else {
             return;
         };
@@ -146,7 +171,10 @@ impl<D: Pmem + Drop, J: Origin> Desk<D, J> {
     }
 
     /// Whether a worker has something to do.
-    pub fn is_due(&self, duty: Duty) -> bool {
+    pub fn is_due(&self, duty: Duty) -> bool
+        ensures commit { (duty ≡ Commit) → result ≡ self.now.due.tick }
+        ensures collect { (duty ≡ Collect) → result ≡ self.now.due.visit }
+    {
         match duty {
             Duty::Commit => self.due.has_tick(),
             Duty::Collect => self.due.has_visit(),
@@ -154,7 +182,15 @@ impl<D: Pmem + Drop, J: Origin> Desk<D, J> {
     }
 
     /// Whom to tell of what was noted since the last call.
-    pub fn take_news(&mut self) -> News {
+    pub fn take_news(&mut self) -> News
+        ensures news { result ≡ self.old.due.news }
+        ensures told { IsTold self.new.due.news }
+        ensures room { self.new.audited ≡ self.old.audited }
+        ensures handed { self.new.handed ≡ self.old.handed }
+        ensures closing { self.new.closing ≡ self.old.closing }
+        ensures refusals { self.new.refusals ≡ self.old.refusals }
+        ensures halted { self.new.halted ≡ self.old.halted }
+    {
         self.due.take_news()
     }
 
@@ -199,7 +235,7 @@ impl<D: Pmem + Drop, J: Origin> Desk<D, J> {
 ghost use Rattle.std.specs.Prelude.{◌≡◌, IfSome};
 ghost use Rattle.base.specs.declared.step.Step.TheVariants.{Commit};
 ghost use Rattle.base.specs.declared.step.Note.TheVariants.{Refused};
-ghost use Rattle.engine.specs.Lending.{first_of, has_failed, is_covered_in, halting};
+ghost use Rattle.engine.specs.Lending.{first_of, has_failed, is_covered_in, halting, refusals_after};
 
 // Whether the record covers the timestamp, where that was drawn since the opening.
 fn is_covered(status: &Status, timestamp: Ts) -> bool
@@ -240,7 +276,9 @@ fn newer(found: Option<Fault>, before: Option<Fault>) -> Option<Fault>
 }
 
 // How often in a row the committer was refused memory, after a step that was kept or wasn't.
-fn refusals_after(refusals: u64, step: &Step, kept: bool) -> u64 {
+fn refusals_after(refusals: u64, step: &Step, kept: bool) -> u64
+    ensures { result ≡ refusals_after refusals step.now kept }
+{
     match step {
         Step::Commit => if kept { 0 } else { refusals.saturating_add(1) },
         _ => refusals,

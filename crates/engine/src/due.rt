@@ -1,6 +1,10 @@
 //! What the workers have to do, so that they sleep while there is nothing. A tick that found nothing finds nothing again until
 //! another step was made: a draw that leaves few timestamps reserved, or finds none, a last stamp, the end of a sweep. A round
 //! finds something once commits were covered, or where a slot is wanted.
+ghost use Rattle.std.specs.Prelude.{◌≡◌, ◌⊎◌, ◌≤◌, IsTrue, IsFalse, true, false};
+ghost use Rattle.base.specs.declared.step.Reply.TheVariants.{Refused, SweepEnd};
+ghost use Rattle.engine.specs.Due.{tick_after, wants_visit, wakes_waiting, KeepsNews, IsTold};
+
 use base::fault::Fault;
 use base::step::Reply;
 
@@ -28,7 +32,9 @@ pub struct News {
 }
 
 impl News {
-    fn none() -> News {
+    fn none() -> News
+        ensures { IsTold result }
+    {
         News {
             committer: false,
             collector: false,
@@ -39,7 +45,10 @@ impl News {
 
 impl Due {
     /// Both: a room that is lent may have gaps to sweep, and a record may be due.
-    pub fn new() -> Due {
+    pub fn new() -> Due
+        ensures tick { result.tick ≡ true }
+        ensures visit { result.visit ≡ true }
+    {
         Due {
             tick: true,
             visit: true,
@@ -49,23 +58,41 @@ impl Due {
         }
     }
 
-    pub fn has_tick(&self) -> bool {
+    pub fn has_tick(&self) -> bool
+        ensures { result ≡ self.now.tick }
+    {
         self.tick
     }
 
-    pub fn has_visit(&self) -> bool {
+    pub fn has_visit(&self) -> bool
+        ensures { result ≡ self.now.visit }
+    {
         self.visit
     }
 
     /// Whom to tell of what was noted since the last call.
-    pub fn take_news(&mut self) -> News {
+    pub fn take_news(&mut self) -> News
+        ensures news { result ≡ self.old.news }
+        ensures told { IsTold self.new.news }
+        ensures due { (self.new.tick ≡ self.old.tick) × (self.new.visit ≡ self.old.visit) }
+        ensures counts { (self.new.covered ≡ self.old.covered) × (self.new.is_slot_wanted ≡ self.old.is_slot_wanted) }
+    {
         let news = self.news;
         self.news = News::none();
         news
     }
 
     /// Notes what a step was answered. A round is due once so many commits were covered.
-    pub fn note(&mut self, reply: &Reply, quarter: u64) {
+    pub fn note(&mut self, reply: &Reply, quarter: u64)
+        ensures tick { self.new.tick ≡ tick_after self.old.tick reply.now }
+        ensures visit { (IsTrue self.new.is_slot_wanted ⊎ (quarter ≤ self.new.covered)) → IsTrue self.new.visit }
+        ensures wanted { IsTrue (wants_visit reply.now) → IsTrue self.new.visit }
+        ensures within { IsTrue self.old.visit → IsFalse self.new.visit → reply.now ≡ SweepEnd }
+        ensures committer { IsFalse self.old.tick → IsTrue self.new.tick → IsTrue self.new.news.committer }
+        ensures collector { IsFalse self.old.visit → IsTrue self.new.visit → IsTrue self.new.news.collector }
+        ensures waiting { IsTrue (wakes_waiting reply.now) → IsTrue self.new.news.waiting }
+        ensures news { KeepsNews self.old.news self.new.news }
+    {
         match reply {
             Reply::Idle => self.tick = false,
             Reply::SweepEnd => self.visit = false,
@@ -83,7 +110,15 @@ impl Due {
     }
 
     // Notes a refusal. Where the device fails the workers are refused too, and end.
-    fn note_refusal(&mut self, fault: Fault) {
+    fn note_refusal(&mut self, fault: Fault)
+        ensures tick { self.new.tick ≡ tick_after self.old.tick (Refused fault) }
+        ensures wanted { IsTrue (wants_visit (Refused fault)) → (IsTrue self.new.visit ⊎ IsTrue self.new.is_slot_wanted) }
+        ensures visit { IsTrue self.old.visit → IsTrue self.new.visit }
+        ensures committer { IsFalse self.old.tick → IsTrue self.new.tick → IsTrue self.new.news.committer }
+        ensures collector { IsFalse self.old.visit → IsTrue self.new.visit → IsTrue self.new.news.collector }
+        ensures waiting { IsTrue (wakes_waiting (Refused fault)) → IsTrue self.new.news.waiting }
+        ensures news { KeepsNews self.old.news self.new.news }
+    {
         match fault {
             Fault::WindowFull => self.want_tick(),
             Fault::SlotsOut => self.is_slot_wanted = true,
@@ -98,7 +133,13 @@ impl Due {
     }
 
     /// A tick of the committer is due.
-    pub fn want_tick(&mut self) {
+    pub fn want_tick(&mut self)
+        ensures tick { self.new.tick ≡ true }
+        ensures committer { IsFalse self.old.tick → IsTrue self.new.news.committer }
+        ensures news { KeepsNews self.old.news self.new.news }
+        ensures visit { self.new.visit ≡ self.old.visit }
+        ensures counts { (self.new.covered ≡ self.old.covered) × (self.new.is_slot_wanted ≡ self.old.is_slot_wanted) }
+    {
         if !self.tick {
             self.tick = true;
             self.news.committer = true;
@@ -106,7 +147,13 @@ impl Due {
     }
 
     // A round of the collector is due, unless it is within one. What comes from now on makes a further one due.
-    fn want_visit(&mut self) {
+    fn want_visit(&mut self)
+        ensures visit { self.new.visit ≡ true }
+        ensures collector { IsFalse self.old.visit → IsTrue self.new.news.collector }
+        ensures news { KeepsNews self.old.news self.new.news }
+        ensures tick { self.new.tick ≡ self.old.tick }
+        ensures waiting { self.new.news.waiting ≡ self.old.news.waiting }
+    {
         if !self.visit {
             self.visit = true;
             self.covered = 0;

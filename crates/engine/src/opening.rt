@@ -8,7 +8,7 @@ ghost use Rattle.engine.specs.Started.{IsStartedOn};
 
 use audited::Audited;
 use base::fault::Fault;
-use board::{Board, History, Naming, Reader};
+use board::{Board, Coverage, History, Naming, Reader};
 use pmem::Pmem;
 use std::alloc::Global;
 use std::sync::Wait;
@@ -25,17 +25,13 @@ pub fn board_of<R: Wait + Drop, D: Pmem + Drop, J: Naming>(
     ensures fault { IfErr result (λ fault. fault ≡ OutOfMemory) }
 {
     let status = audited.status();
+    let coverage = Coverage {
+        stamp: status.gate,
+        persisted: status.persisted,
+        longs: status.longs,
+    };
     match audited.tables() {
-        Ok(rows) => Board::open(
-            rt,
-            alloc,
-            history,
-            status.gate,
-            status.persisted,
-            status.longs,
-            &rows,
-            8,
-        ),
+        Ok(rows) => Board::open(rt, alloc, history, coverage, &rows, 8),
         Err(fault) => Err(fault),
     }
 }

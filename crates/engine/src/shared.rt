@@ -115,7 +115,13 @@ impl<D: Pmem + Drop, J: Origin, B: Drop> Shared<D, J, B> {
     }
 
     /// Notes what a step was answered, and wakes whom it concerns.
-    pub fn tell(&self, desk: &mut Desk<D, J>, reply: &Reply) {
+    pub fn tell(&self, desk: &mut Desk<D, J>, reply: &Reply)
+        ensures room { desk.new.audited ≡ desk.old.audited }
+        ensures handed { desk.new.handed ≡ desk.old.handed }
+        ensures closing { desk.new.closing ≡ desk.old.closing }
+        ensures refusals { desk.new.refusals ≡ desk.old.refusals }
+        ensures halted { desk.new.halted ≡ desk.old.halted }
+    {
         desk.note(reply);
         let news = desk.take_news();
         if news.committer {

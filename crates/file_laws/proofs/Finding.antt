@@ -16,6 +16,7 @@ use Rattle.pmem.specs.Words.{Survives, Continues, LeavesOnly, image_of}
 use Rattle.pmem.specs.declared.device.Pmem as pmem
 use Rattle.pmem.proofs.Images.{continues_refl, grows, left_before, left_still}
 use Rattle.journal.specs.declared.images.Images.{Ghosts}
+use Rattle.pmem_file.specs.Devices.{state_of}
 use Rattle.pmem_file.specs.Journaled.{is_gate}
 use Rattle.pmem_file.specs.Orderly.{orderly_of}
 use Rattle.pmem_file.specs.declared.journaled.JournaledPmem.{JournaledPmem}
@@ -25,7 +26,7 @@ use Rattle.room.specs.Room.{Shows, StepsTo, device_of}
 use Rattle.room.proofs.Runs.{run-none}
 use Rattle.file_laws.specs.Found.{IsFound, ComesFrom, RunsSince}
 use Rattle.file_laws.proofs.FoundRuns.{found-now, found-within, found-closing, found-closed, comes-opened, comes-formatted}
-use Rattle.file_laws.specs.Finding.{state_of, HasPlaces}
+use Rattle.file_laws.specs.Finding.{HasPlaces}
 
 -- the superblock's words, and the first word of each place
 head : (places word : ℕ) → word < 8 → is_gate places word ≡ true

@@ -14,26 +14,22 @@ use base::{NUMBER_LIMIT, Ts};
 use dirty_table::SessionSet;
 use log_area::Record;
 use smallvec::SmallVec;
+use snapshot::Numbers;
 use std::alloc::{AllocError, Global};
 use txn::{DrawnCommit, DrawnCommits};
 
 /// Whether the committer has nothing to do: no commit is chosen, half a window of timestamps is reserved, and no swept gap
 /// stands.
 #[inline(always)]
-pub fn is_idle(
-    geometry: Geometry,
-    ruling: Record,
-    next: Ts,
-    swept: bool,
-    drawn: &DrawnCommits,
-) -> bool
-    requires { next ≤ 2 ^ 62 }
-    ensures { result ≡ is_idle geometry ruling next swept (map plain_drawn drawn.now.commits) }
+pub fn is_idle(numbers: &Numbers, swept: bool, drawn: &DrawnCommits) -> bool
+    requires { numbers.now.next ≤ 2 ^ 62 }
+    ensures { result ≡ is_idle numbers.now.geometry numbers.now.record numbers.now.next swept (map plain_drawn drawn.now.commits) }
 {
-    let reserved = ruling.dirty().saturating_sub(next);
-    let window_is_short = reserved < (geometry.window() + 1) / 2;
+    let ruling = &numbers.record;
+    let reserved = ruling.dirty().saturating_sub(numbers.next);
+    let window_is_short = reserved < (numbers.geometry.window() + 1) / 2;
     let has_swept_gaps = swept && !ruling.gaps().as_slice().is_empty();
-    let reach = reach_of(geometry, &ruling, drawn);
+    let reach = reach_of(numbers.geometry, ruling, drawn);
     !has_chosen(reach, drawn.as_slice()) && !(window_is_short || has_swept_gaps)
 }
 
@@ -68,30 +64,27 @@ pub(crate) fn is_numbered(ruling: &Record) -> bool
 
 /// The next record. It names the commits that it passes over.
 #[inline(always)]
-pub(crate) fn record_of(
-    geometry: Geometry,
-    ruling: &Record,
-    next: Ts,
-    swept: bool,
-    drawn: &DrawnCommits,
-) -> Record
-    requires numbered { ruling.now.gate < 2 ^ 62 }
-    requires countable { next ≤ 2 ^ 62 }
-    requires few { length (target_of geometry ruling.now next swept (map plain_drawn drawn.now.commits)).longs ≤ 12 }
-    ensures { result ≡ target_of geometry ruling.now next swept (map plain_drawn drawn.now.commits) }
+pub(crate) fn record_of(numbers: &Numbers, swept: bool, drawn: &DrawnCommits) -> Record
+    requires numbered { numbers.now.record.gate < 2 ^ 62 }
+    requires countable { numbers.now.next ≤ 2 ^ 62 }
+    requires few { length (target_of numbers.now.geometry numbers.now.record numbers.now.next swept (map plain_drawn drawn.now.commits)).longs ≤ 12 }
+    ensures { result ≡ target_of numbers.now.geometry numbers.now.record numbers.now.next swept (map plain_drawn drawn.now.commits) }
 {
-    let reach = reach_of(geometry, ruling, drawn);
-    let dirty = next + geometry.window();
+    let ruling = &numbers.record;
+    let reach = reach_of(numbers.geometry, ruling, drawn);
+    let dirty = numbers.next + numbers.geometry.window();
     let gaps = standing_gaps(ruling, swept);
     let longs = drawn.passed_over(reach);
     Record::new(ruling.gate() + 1, reach, dirty, gaps, longs)
 }
 
 /// The record that a close writes last: it persists all that is drawn, names no long commit, and reserves no timestamp.
-pub(crate) fn closing_record(ruling: &Record, next: Ts, swept: bool) -> Record
-    requires { ruling.now.gate < 2 ^ 62 }
-    ensures { result ≡ closing_record (ruling.now.gate + 1) ruling.now next swept }
+pub(crate) fn closing_record(numbers: &Numbers, swept: bool) -> Record
+    requires { numbers.now.record.gate < 2 ^ 62 }
+    ensures { result ≡ closing_record (numbers.now.record.gate + 1) numbers.now.record numbers.now.next swept }
 {
+    let ruling = &numbers.record;
+    let next = numbers.next;
     let gaps = standing_gaps(ruling, swept);
     let persisted = next.saturating_sub(1);
     Record::new(ruling.gate() + 1, persisted, next, gaps, Longs::none())

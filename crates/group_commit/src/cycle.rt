@@ -2,7 +2,6 @@ use crate::batch::{
     batch_of, closing_record, is_numbered, record_of, sessions_committed_by, sessions_of,
 };
 use crate::stage::CycleStage;
-use base::Ts;
 use base::actor::Actor;
 use base::batch::Batch;
 use base::fault::Fault;
@@ -11,6 +10,7 @@ use base::step::Stage;
 use dirty_table::{DirtyTable, SessionSet};
 use log_area::{Record, Writing};
 use pmem::Pmem;
+use snapshot::Numbers;
 use std::alloc::Global;
 use std::marker::Model;
 use txn::DrawnCommits;
@@ -62,58 +62,54 @@ impl Cycle {
     #[inline(always)]
     pub fn begin(
         alloc: Global,
-        geometry: Geometry,
-        ruling: Record,
-        next: Ts,
+        numbers: &Numbers,
         swept: bool,
         drawn: &DrawnCommits,
     ) -> Result<Cycle, Fault>
-        requires numbered { ruling.gate < 2 ^ 62 }
-        requires countable { next ≤ 2 ^ 62 }
-        requires few { length (target_of geometry ruling next swept (map plain_drawn drawn.now.commits)).longs ≤ 12 }
-        ensures batch { IfOk result (λ cycle. cycle.batch ≡ batch_of ruling cycle.writing.target (chosen cycle.writing.target.persisted (map plain_drawn drawn.now.commits))) }
+        requires numbered { numbers.now.record.gate < 2 ^ 62 }
+        requires countable { numbers.now.next ≤ 2 ^ 62 }
+        requires few { length (target_of numbers.now.geometry numbers.now.record numbers.now.next swept (map plain_drawn drawn.now.commits)).longs ≤ 12 }
+        ensures batch { IfOk result (λ cycle. cycle.batch ≡ batch_of numbers.now.record cycle.writing.target (chosen cycle.writing.target.persisted (map plain_drawn drawn.now.commits))) }
         ensures sessions { IfOk result (λ cycle. (n : ℕ) → has cycle.sessions n ≡ list_any (λ d. nat_eq d.session n && is_committed cycle.writing.target d.timestamp) drawn.now.commits) }
-        ensures writing { IfOk result (λ cycle. cycle.writing ≡ begun geometry (target_of geometry ruling next swept (map plain_drawn drawn.now.commits))) }
+        ensures writing { IfOk result (λ cycle. cycle.writing ≡ begun numbers.now.geometry (target_of numbers.now.geometry numbers.now.record numbers.now.next swept (map plain_drawn drawn.now.commits))) }
         ensures stage { IfOk result (λ cycle. cycle.stage ≡ FlushLines 0 0) }
-        ensures numbered { OnOk result (ruling.gate + 1 < 2 ^ 62) }
-        ensures fault { IfErr result (IsBeginFault ruling) }
+        ensures numbered { OnOk result (numbers.now.record.gate + 1 < 2 ^ 62) }
+        ensures fault { IfErr result (IsBeginFault numbers.now.record) }
     {
-        if !is_numbered(&ruling) {
+        if !is_numbered(&numbers.record) {
             return Err(Fault::TimestampsOut);
         }
         let commits = drawn.as_slice();
-        let target = record_of(geometry, &ruling, next, swept, drawn);
-        let Ok(batch) = batch_of(alloc, &ruling, &target, commits) else {
+        let target = record_of(numbers, swept, drawn);
+        let Ok(batch) = batch_of(alloc, &numbers.record, &target, commits) else {
             return Err(Fault::OutOfMemory);
         };
         let sessions = sessions_committed_by(&target, commits);
-        Ok(Cycle::new(geometry, target, batch, sessions))
+        Ok(Cycle::new(numbers.geometry, target, batch, sessions))
     }
 
     /// Takes all that is drawn, under the record that a close writes last. Nobody is told what it covers, so its batch stays
     /// empty: it takes no memory.
-    pub fn closing(
-        alloc: Global,
-        geometry: Geometry,
-        ruling: Record,
-        next: Ts,
-        swept: bool,
-        drawn: &DrawnCommits,
-    ) -> Cycle
-        requires numbered { ruling.gate < 2 ^ 62 }
+    pub fn closing(alloc: Global, numbers: &Numbers, swept: bool, drawn: &DrawnCommits) -> Cycle
+        requires numbered { numbers.now.record.gate < 2 ^ 62 }
         ensures sessions { (n : ℕ) → has result.sessions n ≡ list_any (λ d. nat_eq d.session n) drawn.now.commits }
-        ensures writing { result.writing ≡ begun geometry (closing_record (ruling.gate + 1) ruling next swept) }
+        ensures writing { result.writing ≡ begun numbers.now.geometry (closing_record (numbers.now.record.gate + 1) numbers.now.record numbers.now.next swept) }
         ensures stage { result.stage ≡ FlushLines 0 0 }
     {
-        let target = closing_record(&ruling, next, swept);
+        let target = closing_record(numbers, swept);
         let batch = Batch::new(
-            ruling.gate(),
+            numbers.record.gate(),
             target.gate(),
             target.persisted(),
             target.longs(),
             Vec::new(alloc),
         );
-        Cycle::new(geometry, target, batch, sessions_of(drawn.as_slice()))
+        Cycle::new(
+            numbers.geometry,
+            target,
+            batch,
+            sessions_of(drawn.as_slice()),
+        )
     }
 
     // No line is flushed yet.

@@ -10,3 +10,4 @@ pub mod Kept
 pub mod Files
 pub mod States
 pub mod Changes
+pub mod Images

@@ -1,4 +1,4 @@
-ghost use Rattle.std.specs.Prelude.{◌≡◌, ◌⊎◌, ℕ, List, OnOk};
+ghost use Rattle.std.specs.Prelude.{◌≡◌, ◌⊎◌, ℕ, List, OnErr, OnOk};
 ghost use Rattle.journal.specs.Changes.{DiffersIn};
 
 use std::io;
@@ -14,23 +14,29 @@ pub trait Images {
     /// This image was written last: it is found, once `finish` has succeeded.
     ghost shows: { Self → List ℕ → Type 0 };
 
+    /// An image wasn't kept, and why is noted.
+    ghost has_failed: { Self → Type 0 };
+
     /// Writes the image, which differs from the one that was written last in the lines of these numbers alone, and doesn't wait
     /// until it persists. From then on, also where it fails, one that might be found before or this one may be found.
     fn begin(&mut self, words: &Vec<u64>, lines: &[usize]) -> io::Result<()>
         requires differs { (image : List ℕ) → shows self.old image → DiffersIn lines.now words.now.items image }
         ensures whole { (image : List ℕ) → may_hold self.new image → may_hold self.old image ⊎ (image ≡ words.now.items) }
-        ensures begun { OnOk result ((image : List ℕ) → shows self.new image → image ≡ words.now.items) };
+        ensures begun { OnOk result ((image : List ℕ) → shows self.new image → image ≡ words.now.items) }
+        ensures noted { OnErr result (has_failed self.new) };
 
     /// Waits until the image persists that was written last. Once it succeeded no other is found.
     fn finish(&mut self) -> io::Result<()>
         ensures whole { (image : List ℕ) → may_hold self.new image → may_hold self.old image }
-        ensures kept { OnOk result ((image : List ℕ) → may_hold self.new image → shows self.old image) };
+        ensures kept { OnOk result ((image : List ℕ) → may_hold self.new image → shows self.old image) }
+        ensures noted { OnErr result (has_failed self.new) };
 
     /// Hands out a sync that another thread may make before `finish`, if there is one: `finish` takes no time then, once it was
     /// taken back. It changes no image, and until then nothing is written and `finish` doesn't succeed.
     fn hand_out(&mut self) -> Option<Self::Pending>
         ensures found { (image : List ℕ) → may_hold self.new image → may_hold self.old image }
-        ensures shown { (image : List ℕ) → shows self.new image → shows self.old image };
+        ensures shown { (image : List ℕ) → shows self.new image → shows self.old image }
+        ensures noted { has_failed self.old → has_failed self.new };
 
     /// Makes a sync that was handed out, and waits until it ends.
     fn sync_apart(pending: &mut Self::Pending);
@@ -38,7 +44,8 @@ pub trait Images {
     /// Takes back what was handed out, with what came of it. It changes no image.
     fn take_back(&mut self, pending: Self::Pending)
         ensures found { (image : List ℕ) → may_hold self.new image → may_hold self.old image }
-        ensures shown { (image : List ℕ) → shows self.new image → shows self.old image };
+        ensures shown { (image : List ℕ) → shows self.new image → shows self.old image }
+        ensures noted { has_failed self.old → has_failed self.new };
 
     ghost shown_is_found: { (images : Self) (image : List ℕ) → shows images image → may_hold images image };
 }
@@ -54,6 +61,8 @@ impl Images for Nowhere {
     ghost may_hold = { λ _ _. ⊥ };
 
     ghost shows = { λ _ _. ⊥ };
+
+    ghost has_failed = { λ _. ⊥ };
 
     ghost shown_is_found = { λ _ _ shown. shown };
 

@@ -1,8 +1,8 @@
-ghost use Rattle.std.specs.Prelude.{◌≡◌, ℕ, List, ◌+◌, ◌%◌, ◌<◌, ◌^◌, true, false, length, IfErr, IfOk, OnOk};
+ghost use Rattle.std.specs.Prelude.{◌≡◌, ℕ, List, ◌+◌, ◌%◌, ◌<◌, ◌^◌, true, false, length, is_some, IfErr, IfOk, IsSome, OnErr, OnOk};
 ghost use Rattle.std.proofs.Common.{inl};
 ghost use Rattle.journal.specs.Kept.{HoldsOnly};
-ghost use Rattle.journal.specs.Files.{MayBe, Opens, StandsAmong, StandsAs};
-ghost use Rattle.journal.specs.States.{IsOff, Rests};
+ghost use Rattle.journal.specs.Files.{Opens, StandsAs};
+ghost use Rattle.journal.specs.States.{Rests};
 
 use crate::appending::begin_words;
 use crate::file_image::image_in;
@@ -36,6 +36,7 @@ pub struct JournaledImages<S: Storage> {
     failure: Option<io::Error>,
     ghost whole: { length written.items % 8 ≡ 0 },
     ghost fits: { length written.items + room + 8 < 2 ^ 58 },
+    ghost noted: { is_some failure ≡ failed },
     ghost rests: { failed ≡ false → is_begun ≡ false → ∥ Rests (S.may_hold storage) (length written.items) room position.pass position.words written.items ∥₁ },
     ghost begun: { failed ≡ false → is_begun ≡ true → ∥ Rests (S.shows storage) (length written.items) room position.pass position.words written.items ∥₁ },
 }
@@ -55,6 +56,8 @@ pub struct Unclosed<S> {
 }
 
 impl<S: Storage> JournaledImages<S> {
+    ghost use Rattle.journal.specs.Images.{IsClosedIn, MayFind, StandsForOne, failure_of, last_image, room_of, storage_of};
+
     /// Opens a file that holds these words: so many of an image, a journal of so much room, and a tail. What it stands for is
     /// the image that is kept, and it is brought to rest. Fails as [`image_in`] does, and where a
     /// write fails: whichever it is, the file stands for that image.
@@ -68,9 +71,9 @@ impl<S: Storage> JournaledImages<S> {
     where
         S: Drop,
         requires holds { HoldsOnly (S.may_hold storage) (length file.now) file.now }
-        ensures stands { IfOk result (λ images. Opens words room file.now images.written.items) }
-        ensures found { IfOk result (λ images. (image : List ℕ) → MayBe (S.may_hold images.storage) images.room images.written.items image → image ≡ images.written.items) }
-        ensures room { IfOk result (λ images. images.room ≡ room) }
+        ensures stands { IfOk result (λ images. Opens words room file.now (last_image images)) }
+        ensures found { IfOk result (λ images. (image : List ℕ) → MayFind S.may_hold images image → image ≡ last_image images) }
+        ensures room { IfOk result (λ images. room_of images ≡ room) }
         ensures unopened { IfErr result (λ unopened. StandsAs (S.may_hold unopened.storage) words room file.now) }
     {
         let durable = match image_in(alloc, file, words, room) {
@@ -99,21 +102,21 @@ impl<S: Storage> JournaledImages<S> {
 
     /// The image that was written last.
     pub fn image(&self) -> &[u64]
-        ensures { result.now ≡ self.now.written.items }
+        ensures { result.now ≡ last_image self.now }
     {
         self.written.as_slice()
     }
 
     /// Why an image wasn't kept, if one wasn't. None is kept since then.
     pub fn failure(&self) -> Option<io::Error>
-        ensures { result ≡ self.now.failure }
+        ensures { result ≡ failure_of self.now }
     {
         self.failure
     }
 
     /// Hands out where it is kept, as it is: an opening reads it.
     pub fn release(self) -> S
-        ensures { result ≡ self.storage }
+        ensures { result ≡ storage_of self }
     {
         self.storage
     }
@@ -123,8 +126,8 @@ impl<S: Storage> JournaledImages<S> {
     pub fn close(self) -> Result<S, Unclosed<S>>
     where
         S: Drop,
-        ensures closed { IfOk result (λ storage. ∥ IsOff (S.may_hold storage) (length self.written.items) self.room self.written.items ∥₁) }
-        ensures unclosed { IfErr result (λ unclosed. StandsAmong (S.may_hold self.storage) (S.may_hold unclosed.storage) self.room self.written.items) }
+        ensures closed { IfOk result (λ storage. ∥ IsClosedIn S.may_hold self storage ∥₁) }
+        ensures unclosed { IfErr result (λ unclosed. StandsForOne S.may_hold self unclosed.storage) }
     {
         if self.failed || self.is_begun {
             return Err(Unclosed {
@@ -151,6 +154,7 @@ impl<S: Storage> JournaledImages<S> {
         ensures room { self.new.room ≡ self.old.room }
         ensures works { OnOk result (self.new.failed ≡ false) }
         ensures done { OnOk result (self.new.is_begun ≡ false) }
+        ensures noted { OnErr result (self.new.failed ≡ true) }
     {
         if self.failed {
             return Err(io::Error::from(ErrorKind::InvalidData));
@@ -173,12 +177,16 @@ impl<S: Storage> JournaledImages<S> {
 }
 
 impl<S: Storage> Images for JournaledImages<S> {
+    ghost use Rattle.journal.specs.Images.{MayFind, failure_of, last_image};
+
     type Pending = S::Pending;
 
     // The image that was written last, or one that a file stands for whose words may be found.
-    ghost may_hold = { λ images image. MayBe (S.may_hold images.storage) images.room images.written.items image };
+    ghost may_hold = { λ images image. MayFind S.may_hold images image };
 
-    ghost shows = { λ images image. image ≡ images.written.items };
+    ghost shows = { λ images image. image ≡ last_image images };
+
+    ghost has_failed = { λ images. IsSome (failure_of images) };
 
     ghost shown_is_found = { λ images image shown. inl shown };
 

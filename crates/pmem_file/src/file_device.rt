@@ -1,6 +1,6 @@
 ghost use Rattle.std.specs.Prelude.{IfOk};
 ghost use Rattle.pmem.specs.Words.{IsAtRest};
-ghost use Rattle.pmem_file.specs.Traces.{device_of};
+ghost use Rattle.pmem_file.specs.Devices.{state_of};
 
 use crate::journaled::JournaledPmem;
 use crate::opening::{
@@ -31,7 +31,7 @@ impl JournaledPmem<JournaledImages<FileStorage>> {
         name: &str,
         geometry: Geometry,
     ) -> Result<FileDevice, OpenError>
-        ensures rest { IfOk result (λ device. IsAtRest (device_of device.trace)) }
+        ensures rest { IfOk result (λ device. IsAtRest (state_of device)) }
     {
         let held = hold_standard_streams(rt, alloc)?;
         let file = open_alone(rt, name)?;
@@ -67,7 +67,7 @@ fn open_found(
     found: Found,
     shape: Shape,
 ) -> io::Result<FileDevice>
-    ensures { IfOk result (λ device. IsAtRest (device_of device.trace)) }
+    ensures { IfOk result (λ device. IsAtRest (state_of device)) }
 {
     let mut storage = FileStorage::new(alloc, file, held)?;
     storage.grow(found.count(), shape.whole())?;

@@ -65,6 +65,7 @@ pub struct JournaledPmem<I: Images> {
 impl<I: Images> JournaledPmem<I> {
     ghost use Rattle.pmem.specs.Device.{restarted};
     ghost use Rattle.pmem.specs.Words.{IsAtRest, Survives};
+    ghost use Rattle.pmem_file.specs.Devices.{MayFind, kept_at, places_of, state_of};
 
     /// A device at rest with these words, as the image that is kept there has them, and with this number of places for records.
     /// Where memory is refused, the images are handed back.
@@ -75,9 +76,9 @@ impl<I: Images> JournaledPmem<I> {
         places: usize,
     ) -> Result<JournaledPmem<I>, I>
         requires holds { (image : List ℕ) → I.may_hold images image → image ≡ words.items }
-        ensures rest { IfOk result (λ made. IsAtRest (device_of made.trace)) }
-        ensures device { IfOk result (λ made. device_of made.trace ≡ restarted words.items) }
-        ensures places { IfOk result (λ made. made.places ≡ places) }
+        ensures rest { IfOk result (λ made. IsAtRest (state_of made)) }
+        ensures device { IfOk result (λ made. state_of made ≡ restarted words.items) }
+        ensures places { IfOk result (λ made. places_of made ≡ places) }
         ensures images { IfErr result (λ back. back ≡ images) }
     {
         let lines = words.len() / 8;
@@ -107,7 +108,7 @@ impl<I: Images> JournaledPmem<I> {
 
     /// How many places for records it has, as it was told.
     pub fn places(&self) -> usize
-        ensures { result ≡ self.now.places }
+        ensures { result ≡ places_of self.now }
     {
         self.places
     }
@@ -115,9 +116,9 @@ impl<I: Images> JournaledPmem<I> {
     /// What is found, once the process or the machine has stopped, is an image that a crash of the device might have left
     /// since the last image was kept, and each of its gates is one that a crash may leave now.
     pub fn found_image_was_left(&self)
-        ensures images { (image : List ℕ) → I.may_hold self.now.images image → ∥ MightHaveLeft (device_of self.now.trace) (device_of self.now.kept.value).clock image ∥₁ }
-        ensures gates { (image : List ℕ) → I.may_hold self.now.images image → (word : ℕ) → is_gate self.now.places word ≡ true → word < (device_of self.now.trace).words
-            → Survives (device_of self.now.trace) word (slice_index image word) }
+        ensures images { (image : List ℕ) → MayFind I.may_hold self.now image → ∥ MightHaveLeft (state_of self.now) (kept_at self.now) image ∥₁ }
+        ensures gates { (image : List ℕ) → MayFind I.may_hold self.now image → (word : ℕ) → is_gate (places_of self.now) word ≡ true → word < (state_of self.now).words
+            → Survives (state_of self.now) word (slice_index image word) }
     {}
 
     // An operation fails.
@@ -263,9 +264,9 @@ impl<I: Images> JournaledPmem<I> {
 }
 
 impl<S: Storage> JournaledPmem<JournaledImages<S>> {
-    ghost use Rattle.journal.specs.Files.{Opens, StandsAmong, StandsAs};
-    ghost use Rattle.journal.specs.States.{IsOff};
+    ghost use Rattle.journal.specs.Files.{Opens, StandsAs};
     ghost use Rattle.pmem.specs.Words.{IsAtRest, image_of};
+    ghost use Rattle.pmem_file.specs.Devices.{IsClosedIn, StandsForOne, failure_of, places_of, state_of, storage_of};
 
     /// A device at rest with the image that a file of these words stands for: so many of an image, a journal of so much room,
     /// and a tail. It has this number of places for records. Fails as [`JournaledImages::open`] does, and the file stands for
@@ -281,9 +282,9 @@ impl<S: Storage> JournaledPmem<JournaledImages<S>> {
     where
         S: Drop,
         requires holds { HoldsOnly (S.may_hold storage) (length file.now) file.now }
-        ensures rest { IfOk result (λ device. IsAtRest (device_of device.trace)) }
-        ensures stands { IfOk result (λ device. Opens words room file.now (image_of (device_of device.trace))) }
-        ensures places { IfOk result (λ device. device.places ≡ places) }
+        ensures rest { IfOk result (λ device. IsAtRest (state_of device)) }
+        ensures stands { IfOk result (λ device. Opens words room file.now (image_of (state_of device))) }
+        ensures places { IfOk result (λ device. places_of device ≡ places) }
         ensures unopened { IfErr result (λ unopened. StandsAs (S.may_hold unopened.storage) words room file.now) }
     {
         let images = JournaledImages::open(alloc, storage, file, words, room)?;
@@ -298,14 +299,14 @@ impl<S: Storage> JournaledPmem<JournaledImages<S>> {
 
     /// Why an image wasn't kept, if one wasn't. No fence succeeds since then.
     pub fn failure(&self) -> Option<io::Error>
-        ensures { result ≡ self.now.images.failure }
+        ensures { result ≡ failure_of self.now }
     {
         self.images.failure()
     }
 
     /// Where its image is kept, as it is: what was stored since the last fence of a gate isn't there.
     pub fn release(self) -> S
-        ensures { result ≡ self.images.storage }
+        ensures { result ≡ storage_of self }
     {
         self.images.release()
     }
@@ -315,8 +316,8 @@ impl<S: Storage> JournaledPmem<JournaledImages<S>> {
     pub fn into_storage(self) -> Result<S, Unclosed<S>>
     where
         S: Drop,
-        ensures closed { IfOk result (λ storage. ∥ IsOff (S.may_hold storage) (length self.images.written.items) self.images.room self.images.written.items ∥₁) }
-        ensures unclosed { IfErr result (λ unclosed. StandsAmong (S.may_hold self.images.storage) (S.may_hold unclosed.storage) self.images.room self.images.written.items) }
+        ensures closed { IfOk result (λ storage. ∥ IsClosedIn S.may_hold self storage ∥₁) }
+        ensures unclosed { IfErr result (λ unclosed. StandsForOne S.may_hold self unclosed.storage) }
     {
         self.images.close()
     }

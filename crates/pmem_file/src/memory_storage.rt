@@ -74,7 +74,7 @@ impl JournaledPmem<JournaledImages<MemoryStorage>> {
     ghost use Rattle.std.specs.Prelude.{IfErr, IfOk};
     ghost use Rattle.journal.specs.Files.{Opens, StandsAs};
     ghost use Rattle.pmem.specs.Words.{IsAtRest, image_of};
-    ghost use Rattle.pmem_file.specs.Traces.{device_of};
+    ghost use Rattle.pmem_file.specs.Devices.{places_of, state_of};
 
     /// A device at rest with the image that the storage's words stand for, as those of a file. Fails as `over` does.
     pub fn of_storage(
@@ -84,9 +84,9 @@ impl JournaledPmem<JournaledImages<MemoryStorage>> {
         room: usize,
         places: usize,
     ) -> Result<Self, Unopened<MemoryStorage>>
-        ensures rest { IfOk result (λ device. IsAtRest (device_of device.trace)) }
-        ensures stands { IfOk result (λ device. Opens words room (stored_in storage) (image_of (device_of device.trace))) }
-        ensures places { IfOk result (λ device. device.places ≡ places) }
+        ensures rest { IfOk result (λ device. IsAtRest (state_of device)) }
+        ensures stands { IfOk result (λ device. Opens words room (stored_in storage) (image_of (state_of device))) }
+        ensures places { IfOk result (λ device. places_of device ≡ places) }
         ensures unopened { IfErr result (λ unopened. StandsAs (IsStored unopened.storage) words room (stored_in storage)) }
     {
         match storage.words.clone() {

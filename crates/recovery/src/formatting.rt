@@ -41,6 +41,7 @@ pub fn format<D: Pmem>(device: &mut D, geometry: Geometry) -> Result<(), Fault>
 pub fn format_new<D: Pmem>(device: &mut D, geometry: Geometry) -> Result<bool, Fault>
     requires at_rest { IsAtRest (D.state device.old) }
     ensures kept { value_of (D.state device.old) 0 ≢ 0 → (result ≡ Ok false) × (device.new ≡ device.old) }
+    ensures empty { (D.state device.old).words ≡ 0 → (result ≡ Ok false) × (device.new ≡ device.old) }
     ensures made { IfOk result (HasFormattedNew geometry (D.state device.old) (D.state device.new)) }
     ensures operations { result ≡ Ok true → Makes (total_words geometry + 33) (total_words geometry / 8 + 7) 6 0 (D.state device.old) (D.state device.new) }
     ensures refusal { IfErr result (IsFormatRefusal geometry (D.state device.old) (D.state device.new)) }

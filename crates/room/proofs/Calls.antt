@@ -29,10 +29,10 @@ use Rattle.room.specs.declared.volatile.VolatileState.{VolatileState}
 use Rattle.room.specs.declared.room.Room.{Room}
 use Rattle.room.specs.declared.ticks.Tick.{Tick}
 use Rattle.room.specs.declared.ticks.Tick.TheVariants as came
-use Rattle.room.specs.Ticks.{as_reply as ticked}
+use Rattle.room.specs.Ticks.{Waits, as_reply as ticked}
 use Rattle.room.specs.Committing.{ShowsIn}
 use Rattle.room.specs.Steps.{ShowsAs, ShowsSome, ShowsSomeIn, StepsToIn, reports_failure}
-use Rattle.room.specs.Room.{Leads}
+use Rattle.room.specs.Room.{Leads, left_after}
 use Rattle.room.proofs.Rooms.{step-on, shows-some}
 use Rattle.room.proofs.covers.BatchStays.{session-steps}
 use Rattle.room.proofs.closes.Stamps.{sessions-shown}
@@ -94,6 +94,40 @@ unfailing old new cycle device s r steps some = by (is_failure (as_reply r)) ref
     by : (b : Bool) → is_failure (as_reply r) ≡ b → b ≡ false
     by false is = refl
     by true is = absurd (∥∥₁_elim some (λ x y. absurd x) (λ shown. let told = (steps shown.0 shown.1.shown shown.2).1.effect.failure.cause (fails-with r is) in omega (arith, told)))
+
+-- ---- what waits to be handed out after it
+
+-- the batch that a tick covered is handed out with its reply
+pub tick-waits : (r : Result Tick Fault) (before now last : Option Batch) (answer : Reply) → Waits r before now → answer ≡ ticked r now → last ≡ left_after now answer → last ≡ left_after before answer
+tick-waits (Ok came.Idle) before now last answer waits told is = is ∙ ap (λ (o : Option Batch). left_after o answer) waits
+tick-waits (Ok (came.Reached stage)) before now last answer waits told is = is ∙ ap (λ (o : Option Batch). left_after o answer) waits
+tick-waits (Ok came.Covered) before (Some batch) last answer waits told is = is ∙ ap (λ (r : Reply). left_after (Some batch) r) told ∙ sym (ap (λ (r : Reply). left_after before r) told)
+tick-waits (Ok came.Covered) before None last answer waits told is = absurd (cc waits)
+tick-waits (Err fault) before now last answer waits told is = is ∙ ap (λ (o : Option Batch). left_after o answer) waits
+
+-- no other reply hands one out
+visit-leaves : (r : Result Visit Fault) (before : Option Batch) → left_after before (visited r) ≡ before
+visit-leaves (Ok (Slot slot)) before = refl
+visit-leaves (Ok SweepEnd) before = refl
+visit-leaves (Err fault) before = refl
+
+pub visit-waits : (r : Result Visit Fault) (before now : Option Batch) (answer : Reply) → answer ≡ visited r → now ≡ before → now ≡ left_after before answer
+visit-waits r before now answer told same = same ∙ sym (ap (λ (a : Reply). left_after before a) told ∙ visit-leaves r before)
+
+session-leaves : (r : SessionReply) (before : Option Batch) → left_after before (as_reply r) ≡ before
+session-leaves (Began n) before = refl
+session-leaves (Row row) before = refl
+session-leaves (Rows rows) before = refl
+session-leaves Done before = refl
+session-leaves (Drawn t) before = refl
+session-leaves More before = refl
+session-leaves Stamped before = refl
+session-leaves Waiting before = refl
+session-leaves (Committed t) before = refl
+session-leaves (Refused fault) before = refl
+
+pub session-waits : (r : SessionReply) (before now : Option Batch) (answer : Reply) → answer ≡ as_reply r → now ≡ before → now ≡ left_after before answer
+session-waits r before now answer told same = same ∙ sym (ap (λ (a : Reply). left_after before a) told ∙ session-leaves r before)
 
 -- ---- what it makes of a room
 

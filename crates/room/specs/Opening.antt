@@ -29,7 +29,8 @@ pub record HasLearnt (image : Image) (learnt : Learnt) : Type 0 where
   pub found : HasExamined image learnt.found
   pub entries_are : learnt.entries.items ≡ map entry_of learnt.found.live.items
 
--- the device was opened, the sessions show each state in which a life begins on it so, and nothing is in hand
+-- the device was opened, the sessions show each state in which a life begins on it so, nothing is in hand, and no batch waits to
+-- be handed out
 pub record HasBegun (old new : Device) (c : VolatileState) : Type 0 where
   pub layout : Layout
   pub ruling : Record
@@ -39,3 +40,4 @@ pub record HasBegun (old new : Device) (c : VolatileState) : Type 0 where
   pub opened : HasOpened old new layout ruling next free live
   pub shows : ShowsOpened c.sessions new layout ruling next free
   pub rests : c.cycle ≡ None
+  pub waits : c.covered ≡ None

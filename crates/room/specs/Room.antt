@@ -1,9 +1,9 @@
 -- Which plain states a room shows.
-use Rattle.std.specs.Prelude.{◌≡◌, ℕ, ◌+◌, ◌≤◌, ◌<◌, true, false, slice_index, List, Option, Contains}
+use Rattle.std.specs.Prelude.{◌≡◌, ℕ, ◌+◌, ◌≤◌, ◌<◌, true, false, slice_index, List, Option, None, Contains}
 use Rattle.base.specs.declared.fault.Fault.TheVariants.{Device as DeviceFault}
 use Rattle.base.specs.declared.step.Step.{Step}
 use Rattle.base.specs.declared.step.Reply.{Reply}
-use Rattle.base.specs.declared.step.Reply.TheVariants.{Refused}
+use Rattle.base.specs.declared.step.Reply.TheVariants.{Covered, Refused}
 use Rattle.base.specs.Batches.{Batch}
 use Rattle.base.specs.Layout.{slot_start}
 use Rattle.base.specs.Records.{is_in}
@@ -25,6 +25,11 @@ device_of state room = state room.device
 -- the batch that a tick covered last, unless it was handed out
 abbrev pub covered_by : {D : Type 0} → {G : Ghosts D} → Room D G → Option Batch
 covered_by room = room.volatile.covered
+
+-- what waits to be handed out after a reply, where this waited before: nothing once a batch is handed out
+abbrev pub left_after : Option Batch → Reply → Option Batch
+left_after waiting (Covered batch) = None
+left_after waiting _ = waiting
 
 -- the volatile state shows the state on the room's device, and the mark says whether the device failed
 pub record Agrees {D : Type 0} {G : Ghosts D} (state : D → Device) (room : Room D G) (q : State) : Type 0 where

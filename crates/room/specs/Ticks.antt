@@ -1,5 +1,5 @@
 -- What a tick that chooses a batch asks, and what it makes of a room's volatile state.
-use Rattle.std.specs.Prelude.{Bool, true, false, Option, Some, None, Result, Ok, Err}
+use Rattle.std.specs.Prelude.{◌≡◌, Bool, true, false, Option, Some, None, Result, Ok, Err, IsSome}
 use Rattle.base.specs.declared.fault.Fault.{Fault}
 use Rattle.base.specs.declared.step.Step.TheVariants.{Commit as CommitTick}
 use Rattle.base.specs.declared.step.Reply.{Reply}
@@ -34,3 +34,11 @@ as_reply (Ok (came.Reached stage)) last = Ticked stage
 as_reply (Ok came.Covered) (Some batch) = Covered batch
 as_reply (Ok came.Covered) None = Done
 as_reply (Err fault) last = Refused fault
+
+-- what waits to be handed out after a tick that came to this, where something waited before: the batch that it covered, or
+-- the same as before
+abbrev pub Waits : Result Tick Fault → Option Batch → Option Batch → Type 0
+Waits (Ok came.Covered) before now = IsSome now
+Waits (Ok came.Idle) before now = now ≡ before
+Waits (Ok (came.Reached stage)) before now = now ≡ before
+Waits (Err fault) before now = now ≡ before

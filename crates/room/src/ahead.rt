@@ -7,12 +7,13 @@ use sync_ahead::SyncAhead;
 impl<D: SyncAhead + Drop> Room<D> {
     ghost use Rattle.std.specs.Prelude.{◌≡◌};
     ghost use Rattle.machine.specs.Machine.{State};
-    ghost use Rattle.room.specs.Room.{Shows, device_of};
+    ghost use Rattle.room.specs.Room.{Shows, covered_by, device_of};
 
     /// Hands out the sync that the committer's next tick would wait for, if it can be made ahead of it.
     pub fn begin_sync(&mut self) -> Option<D::Pending>
         ensures device { device_of D.state self.new ≡ device_of D.state self.old }
         ensures shows { (q : State) → Shows D.state self.old q → Shows D.state self.new q }
+        ensures waits { covered_by self.new ≡ covered_by self.old }
     {
         self.device.begin_sync(Actor::COMMITTER)
     }
@@ -21,6 +22,7 @@ impl<D: SyncAhead + Drop> Room<D> {
     pub fn end_sync(&mut self, pending: D::Pending)
         ensures device { device_of D.state self.new ≡ device_of D.state self.old }
         ensures shows { (q : State) → Shows D.state self.old q → Shows D.state self.new q }
+        ensures waits { covered_by self.new ≡ covered_by self.old }
     {
         self.device.end_sync(pending);
     }

@@ -140,9 +140,7 @@ impl VolatileState {
         let numbers = self.sessions.numbers();
         let mut cycle = Cycle::closing(
             alloc,
-            numbers.geometry,
-            numbers.record,
-            numbers.next,
+            &numbers,
             self.sessions.has_swept(),
             self.sessions.drawn(),
         );

@@ -29,7 +29,7 @@ impl<D: Pmem + Drop + Send + Sync> Room<D> {
     ghost use Rattle.machine.specs.Machine.{State};
     ghost use Rattle.machine.specs.Openings.{OpensAs, opened_slots, updated};
     ghost use Rattle.pmem.specs.Words.{IsSettledAt, HasNoFailure};
-    ghost use Rattle.room.specs.Room.{Shows, device_of};
+    ghost use Rattle.room.specs.Room.{Shows, covered_by, device_of};
 
     /// Opens a device at rest, and returns it where that is refused. More than eight gaps are swept first.
     pub fn open<R: Threads + Sync>(rt: &R, alloc: Global, device: D) -> Result<Room<D>, (Fault, D)>
@@ -39,6 +39,9 @@ impl<D: Pmem + Drop + Send + Sync> Room<D> {
         ensures ok { IfOk result (λ room. (history drawn : List Commit) (next : ℕ) (lost : List ℕ)
             → Stands (image_of (D.state device)) history drawn next
             → (q : State) × OpensAs (image_of (D.state device)) history lost q × Shows D.state room q) }
+
+        // No batch waits to be handed out.
+        ensures waits { IfOk result (λ room. covered_by room ≡ None) }
 
         // It opens an image that has none of the faults that an opening reports, and fails with the first of them, or for
         // want of memory, or where an operation fails.

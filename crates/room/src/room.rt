@@ -26,16 +26,17 @@ pub struct Room<D: Pmem> {
 }
 
 impl<D: Pmem + Drop> Room<D> {
-    ghost use Rattle.std.specs.Prelude.{List, IfOk, IfErr, OnErr};
+    ghost use Rattle.std.specs.Prelude.{List, IfOk, IfErr, OnErr, fold};
     ghost use Rattle.base.specs.Commits.{after, Lists};
     ghost use Rattle.machine.specs.Machine.{State, closing_gate};
     ghost use Rattle.base.specs.declared.fault.Fault.TheVariants.{OutOfMemory};
-    ghost use Rattle.room.specs.Room.{Shows, Leads, RunsTo, ShowsStatus, device_of};
+    ghost use Rattle.room.specs.Room.{Shows, Leads, RunsTo, ShowsStatus, covered_by, device_of, left_after};
 
     /// One step. A crash within it leaves the history before it or after it, or with the batch in hand.
     #[inline(never)]
     pub fn step(&mut self, step: Step) -> Reply
         ensures step { Leads D.state self.old self.new step result }
+        ensures waits { covered_by self.new ≡ left_after (covered_by self.old) result }
     {
         match step {
             Step::Begin => began(self.begin()),
@@ -62,6 +63,7 @@ impl<D: Pmem + Drop> Room<D> {
     /// refusal, does nothing.
     pub fn drive(&mut self, steps: &[Step]) -> Result<Vec<Reply>, Fault>
         ensures run { IfOk result (λ replies. (q : State) → Shows D.state self.old q → (states : List State) × RunsTo D.state self.old self.new steps.now replies.items q states) }
+        ensures waits { IfOk result (λ replies. covered_by self.new ≡ fold left_after (covered_by self.old) replies.items) }
         ensures fault { IfErr result (λ fault. fault ≡ OutOfMemory) }
         ensures err { OnErr result (self.new ≡ self.old) }
     {
@@ -76,7 +78,7 @@ impl<D: Pmem + Drop> Room<D> {
 
     /// The number of the record that a close would write last.
     pub fn closing_gate(&self) -> u64
-        ensures { (q : State) → Shows D.state self.now q → q.failed ≡ false → result ≡ closing_gate q }
+        ensures { (q : State) → Shows D.state self.now q → result ≡ closing_gate q }
     {
         self.volatile.closing_gate()
     }

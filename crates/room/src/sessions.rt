@@ -18,12 +18,13 @@ impl<D: Pmem + Drop> Room<D> {
     ghost use Rattle.base.specs.Steps.{as_reply};
     ghost use Rattle.base.specs.declared.step.Step.TheVariants.{Begin, Get, Scan, Put, Delete, Draw, Stamp, Poll, Abort, End};
     ghost use Rattle.session_steps.specs.Replies.{began, read, scanned, done, drawn, stamped, polled};
-    ghost use Rattle.room.specs.Room.{Leads};
+    ghost use Rattle.room.specs.Room.{Leads, covered_by};
 
     /// Opens a session under the lowest number that is free. Its number.
     #[inline(always)]
     pub fn begin(&mut self) -> Result<u8, Fault>
         ensures step { Leads D.state self.old self.new Begin (as_reply (began result)) }
+        ensures waits { covered_by self.new ≡ covered_by self.old }
     {
         if self.failed {
             return Err(Fault::Failed);
@@ -59,6 +60,7 @@ impl<D: Pmem + Drop> Room<D> {
     #[inline(always)]
     pub fn put(&mut self, session: u8, key: Key, row: Row) -> Result<(), Fault>
         ensures step { Leads D.state self.old self.new (Put session key row) (as_reply (done result)) }
+        ensures waits { covered_by self.new ≡ covered_by self.old }
         ensures memory { IfErr result (λ fault. fault ≢ OutOfMemory) }
     {
         if self.failed {
@@ -76,6 +78,7 @@ impl<D: Pmem + Drop> Room<D> {
     #[inline(always)]
     pub fn delete(&mut self, session: u8, key: Key) -> Result<(), Fault>
         ensures step { Leads D.state self.old self.new (Delete session key) (as_reply (done result)) }
+        ensures waits { covered_by self.new ≡ covered_by self.old }
         ensures memory { IfErr result (λ fault. fault ≢ OutOfMemory) }
     {
         if self.failed {
@@ -88,6 +91,7 @@ impl<D: Pmem + Drop> Room<D> {
     #[inline(always)]
     pub fn draw(&mut self, session: u8) -> Result<Option<Ts>, Fault>
         ensures step { Leads D.state self.old self.new (Draw session) (as_reply (drawn result)) }
+        ensures waits { covered_by self.new ≡ covered_by self.old }
     {
         if self.failed {
             return Err(Fault::Failed);
@@ -99,6 +103,7 @@ impl<D: Pmem + Drop> Room<D> {
     #[inline(always)]
     pub fn stamp(&mut self, session: u8) -> Result<bool, Fault>
         ensures step { Leads D.state self.old self.new (Stamp session) (as_reply (stamped result)) }
+        ensures waits { covered_by self.new ≡ covered_by self.old }
     {
         if self.failed {
             return Err(Fault::Failed);
@@ -123,6 +128,7 @@ impl<D: Pmem + Drop> Room<D> {
     #[inline(always)]
     pub fn abort(&mut self, session: u8) -> Result<(), Fault>
         ensures step { Leads D.state self.old self.new (Abort session) (as_reply (done result)) }
+        ensures waits { covered_by self.new ≡ covered_by self.old }
     {
         if self.failed {
             return Err(Fault::Failed);
@@ -134,6 +140,7 @@ impl<D: Pmem + Drop> Room<D> {
     #[inline(always)]
     pub fn end(&mut self, session: u8) -> Result<(), Fault>
         ensures step { Leads D.state self.old self.new (End session) (as_reply (done result)) }
+        ensures waits { covered_by self.new ≡ covered_by self.old }
     {
         if self.failed {
             return Err(Fault::Failed);

@@ -17,7 +17,8 @@ impl VolatileState {
     ghost use Rattle.base.specs.declared.fault.Fault.{Fault};
     ghost use Rattle.room.specs.Steps.{ShowsSome, Steps};
     ghost use Rattle.session_steps.specs.Covering.{MayCoverSome, ShowsCovered};
-    ghost use Rattle.room.specs.Ticks.{ShowsResting, TicksQuietly, chosen_reply, as_reply};
+    ghost use Rattle.room.specs.Ticks.{ShowsResting, TicksQuietly, Waits, chosen_reply, as_reply};
+    ghost use Rattle.room.specs.Room.{left_after};
     ghost use Rattle.room.specs.Closing.{ticks_left};
 
     // One tick: the choice of a batch, or the next operation of the one in hand.
@@ -25,6 +26,7 @@ impl VolatileState {
     pub(crate) fn tick<D: Pmem>(&mut self, alloc: Global, device: &mut D) -> Result<Tick, Fault>
         requires shown { ∥ ShowsSome self.old (D.state device.old) ∥₁ }
         ensures step { Steps self.old self.new (D.state device.old) (D.state device.new) Commit (as_reply result self.new.covered) }
+        ensures waits { Waits result self.old.covered self.new.covered }
     {
         if self.cycle.is_some() {
             self.advance(device)
@@ -43,6 +45,7 @@ impl VolatileState {
         ensures reply { result ≡ as_reply returned self.old.covered }
         ensures sessions { self.new.sessions ≡ self.old.sessions }
         ensures cycle { self.new.cycle ≡ self.old.cycle }
+        ensures waits { self.new.covered ≡ left_after self.old.covered result }
     {
         match returned {
             Ok(Tick::Idle) => Reply::Idle,
@@ -62,21 +65,15 @@ impl VolatileState {
         requires rests { self.old.cycle ≡ None }
         requires shown { ∥ ShowsResting self.old.sessions ∥₁ }
         ensures step { TicksQuietly self.old.sessions self.new (chosen_reply result) }
+        ensures waits { self.new.covered ≡ self.old.covered }
     {
         let numbers = self.sessions.numbers();
         let drawn = self.sessions.drawn();
         let swept = self.sessions.has_swept();
-        if is_idle(numbers.geometry, numbers.record, numbers.next, swept, drawn) {
+        if is_idle(&numbers, swept, drawn) {
             return Ok(false);
         }
-        match Cycle::begin(
-            alloc,
-            numbers.geometry,
-            numbers.record,
-            numbers.next,
-            swept,
-            drawn,
-        ) {
+        match Cycle::begin(alloc, &numbers, swept, drawn) {
             Ok(cycle) => {
                 self.cycle = Some(cycle);
                 Ok(true)
@@ -92,6 +89,7 @@ impl VolatileState {
         requires shown { ∥ ShowsSome self.old (D.state device.old) ∥₁ }
         ensures step { Steps self.old self.new (D.state device.old) (D.state device.new) Commit (as_reply result self.new.covered) }
         ensures closer { ((fault : Fault) → result ≢ Err fault) → ticks_left self.new.sessions.dirty self.new.cycle < ticks_left self.old.sessions.dirty self.old.cycle }
+        ensures waits { Waits result self.old.covered self.new.covered }
     {
         let Some(cycle) = &mut self.cycle else {
             unreachable!()

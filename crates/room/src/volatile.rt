@@ -8,7 +8,8 @@ use base::row::Row;
 use collector::Visit;
 use group_commit::Cycle;
 use pmem::Pmem;
-use session_steps::{Numbers, Sessions};
+use session_steps::Sessions;
+use snapshot::Numbers;
 use std::alloc::Global;
 
 // What an opened device's room keeps in ordinary memory: the sessions of a life, with all that they share, the batch that is on
@@ -31,10 +32,11 @@ impl VolatileState {
     ghost use Rattle.room.specs.Committing.{Shows};
     ghost use Rattle.room.specs.Steps.{ShowsSome, Steps};
 
-    // The volatile state of a life that begins with these sessions: nothing is in hand.
+    // The volatile state of a life that begins with these sessions: nothing is in hand, and no batch waits to be handed out.
     pub(crate) fn new(sessions: Sessions) -> VolatileState
         ensures sessions { result.sessions ≡ sessions }
         ensures rests { result.cycle ≡ None }
+        ensures waits { result.covered ≡ None }
     {
         VolatileState {
             sessions,
@@ -65,6 +67,7 @@ impl VolatileState {
     pub(crate) fn collect<D: Pmem>(&mut self, device: &mut D) -> Result<Visit, Fault>
         requires shown { ∥ ShowsSome self.old (D.state device.old) ∥₁ }
         ensures step { Steps self.old self.new (D.state device.old) (D.state device.new) Collect (as_reply result) }
+        ensures waits { self.new.covered ≡ self.old.covered }
     {
         self.sessions.collect(device)
     }

@@ -15,13 +15,14 @@ impl<D: Pmem + Drop> Room<D> {
     ghost use Rattle.std.specs.Prelude.{◌≡◌, option_copied};
     ghost use Rattle.base.specs.declared.step.Step.TheVariants.{Commit, Collect};
     ghost use Rattle.session_steps.specs.Collecting.{as_reply as visited};
-    ghost use Rattle.room.specs.Ticks.{as_reply as ticked};
-    ghost use Rattle.room.specs.Room.{Leads, covered_by};
+    ghost use Rattle.room.specs.Ticks.{Waits, as_reply as ticked};
+    ghost use Rattle.room.specs.Room.{Leads, covered_by, left_after};
 
     /// A tick of the committer. The batch that it covers can be asked for.
     #[inline(always)]
     pub fn advance(&mut self) -> Result<Tick, Fault>
         ensures step { Leads D.state self.old self.new Commit (ticked result (covered_by self.new)) }
+        ensures waits { Waits result (covered_by self.old) (covered_by self.new) }
     {
         if self.failed {
             return Err(Fault::Failed);
@@ -42,6 +43,7 @@ impl<D: Pmem + Drop> Room<D> {
     #[inline(always)]
     pub fn collect(&mut self) -> Result<Visit, Fault>
         ensures step { Leads D.state self.old self.new Collect (visited result) }
+        ensures waits { covered_by self.new ≡ covered_by self.old }
     {
         if self.failed {
             return Err(Fault::Failed);
@@ -55,6 +57,7 @@ impl<D: Pmem + Drop> Room<D> {
     #[inline(always)]
     pub fn tick(&mut self) -> Reply
         ensures step { Leads D.state self.old self.new Commit result }
+        ensures waits { covered_by self.new ≡ left_after (covered_by self.old) result }
     {
         let returned = self.advance();
         self.volatile.reply_of(returned)
@@ -64,6 +67,7 @@ impl<D: Pmem + Drop> Room<D> {
     #[inline(always)]
     pub fn visit(&mut self) -> Reply
         ensures step { Leads D.state self.old self.new Collect result }
+        ensures waits { covered_by self.new ≡ left_after (covered_by self.old) result }
     {
         visited(self.collect())
     }

@@ -13,7 +13,6 @@ ghost use Rattle.pmem.specs.Words.{value_of};
 ghost use Rattle.snapshot.specs.Snapshots.{seen_by};
 ghost use Rattle.session_steps.specs.Collecting.{all_cover, each_covers, ForgetsFreed};
 
-use crate::numbers::Numbers;
 use crate::sessions::Sessions;
 use base::fault::Fault;
 use base::geometry::Geometry;
@@ -23,6 +22,7 @@ use gap_list::GapList;
 use index::Index;
 use pmem::Pmem;
 use slot_alloc::SlotAlloc;
+use snapshot::Numbers;
 use txn::{Transaction, Transactions};
 use version_slot::key;
 

@@ -1,6 +1,6 @@
-use crate::numbers::Numbers;
 use crate::sessions::Sessions;
 use dirty_table::DirtyTable;
+use snapshot::Numbers;
 use txn::DrawnCommits;
 
 impl Sessions {

@@ -13,7 +13,6 @@ mod get;
 mod giving;
 mod law;
 mod lending;
-mod numbers;
 mod opening;
 mod poll;
 mod put;
@@ -25,6 +24,5 @@ mod touching;
 mod usage;
 
 pub use law::{sessions_show_any_hand, table_has_the_lines_of_a_batch};
-pub use numbers::Numbers;
 pub use poll::CommitStatus;
 pub use sessions::Sessions;

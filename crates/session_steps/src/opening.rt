@@ -4,7 +4,6 @@ ghost use Rattle.dirty_table.specs.Touches.{is_touched};
 ghost use Rattle.pmem.specs.Words.{image_of};
 ghost use Rattle.session_steps.specs.Opening.{HasFound};
 
-use crate::numbers::Numbers;
 use crate::sessions::Sessions;
 use base::Ts;
 use base::geometry::Geometry;
@@ -13,6 +12,7 @@ use dirty_table::DirtyTable;
 use index::Index;
 use log_area::Record;
 use slot_alloc::SlotAlloc;
+use snapshot::Numbers;
 use std::alloc::Global;
 use txn::{DrawnCommits, Transactions};
 

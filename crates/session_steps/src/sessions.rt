@@ -1,8 +1,8 @@
-use crate::numbers::Numbers;
 use collector::Collector;
 use dirty_table::DirtyTable;
 use index::Index;
 use slot_alloc::SlotAlloc;
+use snapshot::Numbers;
 use std::alloc::Global;
 use txn::{DrawnCommits, Transactions};
 

@@ -1,5 +1,7 @@
-//! Which commits a reader sees.
+//! Which commits a reader sees, and the numbers of a life that say so.
 #![tactic(auto)]
+
+mod numbers;
 
 ghost use Rattle.std.specs.Prelude.{◌≡◌, IsTrue};
 ghost use Rattle.gap_list.specs.GapLists.{is_gap_list};
@@ -8,6 +10,7 @@ use base::Ts;
 use base::longs::Longs;
 use gap_list::GapList;
 use log_area::Record;
+pub use numbers::Numbers;
 use std::marker::Model;
 
 /// The commits that a record covers.

@@ -3,7 +3,7 @@ ghost use Rattle.base.specs.Images.{opening_fault};
 ghost use Rattle.base.specs.Layout.{Layout, opened_layout};
 ghost use Rattle.log_area.specs.Rulings.{IsLaidOut};
 ghost use Rattle.pmem.specs.Words.{IsAtRest, image_of};
-ghost use Rattle.pmem_file.specs.Traces.{device_of};
+ghost use Rattle.pmem_file.specs.Devices.{places_of, state_of};
 ghost use Rattle.store_file.specs.Opening.{IsFoundWith, OpensLayout, TellsLayout};
 
 use base::fault::Fault;
@@ -38,8 +38,8 @@ pub fn open_file<R: Files<File = File>>(
     name: &str,
     geometry: Geometry,
 ) -> Result<Device, Refusal>
-    ensures rest { IfOk result (λ device. IsAtRest (device_of device.trace)) }
-    ensures layout { IfOk result (λ device. (found : Layout) × IsLaidOut found (image_of (device_of device.trace)) × (opened_layout found ≡ opened_layout geometry) × (device.places ≡ found.places)) }
+    ensures rest { IfOk result (λ device. IsAtRest (state_of device)) }
+    ensures layout { IfOk result (λ device. (found : Layout) × IsLaidOut found (image_of (state_of device)) × (opened_layout found ≡ opened_layout geometry) × (places_of device ≡ found.places)) }
     ensures other { IfErr result (TellsLayout geometry) }
 {
     let device = match open_formatted(rt, alloc, name, geometry) {
@@ -67,7 +67,7 @@ fn open_formatted<R: Files<File = File>>(
     name: &str,
     geometry: Geometry,
 ) -> Result<Device, Refusal>
-    ensures ok { IfOk result (λ device. IsAtRest (device_of device.trace)) }
+    ensures ok { IfOk result (λ device. IsAtRest (state_of device)) }
     ensures err { (layout : Layout) → IfErr result (TellsLayout layout) }
 {
     let mut device = match FileDevice::open(rt, alloc, name, geometry) {
@@ -97,7 +97,7 @@ fn open_found<R: Files<File = File>>(
     name: &str,
     geometry: Geometry,
 ) -> Result<Device, Refusal>
-    ensures ok { IfOk result (λ device. IsFoundWith geometry (device_of device.trace)) }
+    ensures ok { IfOk result (λ device. IsFoundWith geometry (state_of device)) }
     ensures err { IfErr result (TellsLayout geometry) }
 {
     match open_file(rt, alloc, name, geometry) {
@@ -131,8 +131,8 @@ fn open_over<R: Threads + Wait + Copy + Drop + Send + Sync + 'static>(
     alloc: Global,
     device: Device,
 ) -> Result<Database<Device, R>, Refusal>
-    requires at_rest { IsAtRest (device_of device.trace) }
-    ensures ok { OnOk result (opening_fault (image_of (device_of device.trace)) ≡ None) }
+    requires at_rest { IsAtRest (state_of device) }
+    ensures ok { OnOk result (opening_fault (image_of (state_of device)) ≡ None) }
     ensures err { (layout : Layout) → IfErr result (TellsLayout layout) }
 {
     match Database::open(*rt, alloc, device) {

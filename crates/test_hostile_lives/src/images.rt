@@ -1,7 +1,7 @@
 use crate::judge::{Counts, opened_rows};
 use crate::life::{formatted, opened};
-use asks::Ask::{Begin, Commit, Draw, End, Poll, Put, Stamp};
-use asks::{Ask, steps};
+use asks::Ask::{Begin, End, Put};
+use asks::{Life, TWO_LINES_COVERED, steps};
 use base::fault::Fault;
 use base::key::Key;
 use base::row::Row;
@@ -163,15 +163,7 @@ const OF_WIDE_COMMIT: &[(Changes, Answer)] = &[
 ];
 
 // An update of key 7, or its first row.
-const A_COMMIT: &[Ask] = &[
-    Begin,
-    Put(2, 7, 9),
-    Draw(2),
-    Stamp(2),
-    Commit(43),
-    Poll(2),
-    End(2),
-];
+const A_COMMIT: Life = &[&[Begin, Put(2, 7, 9)], TWO_LINES_COVERED, &[End(2)]];
 
 fn change(words: &mut [u64], changes: Changes) {
     for (at, value) in changes {

@@ -1,5 +1,5 @@
 use crate::life::opened;
-use crate::stories::Table;
+use asks::Table;
 use base::fault::Fault;
 use base::key::Key;
 use base::row::Row;

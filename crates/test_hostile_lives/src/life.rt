@@ -1,5 +1,4 @@
-use crate::stories::Story;
-use asks::{Ask, steps};
+use asks::{Life, Story, steps};
 use base::fault::Fault;
 use base::geometry::Geometry;
 use base::step::{Reply, Step};
@@ -147,8 +146,8 @@ pub fn words_before<R: Threads + Sync>(
 ) -> Result<Vec<u64>, Fault> {
     let version = story.version.max(Geometry::PLAIN_VERSION);
     let mut words = formatted(alloc, version, story.slots)?;
-    for (asks, newest) in story.before {
-        words = words_after(rt, alloc, &words, asks, *newest)?;
+    for (life, newest) in story.before {
+        words = words_after(rt, alloc, &words, life, *newest)?;
     }
     if let Some(version) = words.get_mut(1) {
         *version = story.version;
@@ -161,10 +160,10 @@ fn words_after<R: Threads + Sync>(
     rt: &R,
     alloc: Global,
     words: &[u64],
-    asks: &[Ask],
+    life: Life,
     newest: bool,
 ) -> Result<Vec<u64>, Fault> {
-    let steps = steps(alloc, asks)?;
+    let steps = steps(alloc, life)?;
     let left = live(rt, alloc, words, (&steps, false), None)?;
     if left.failed {
         return Err(Fault::Failed);

@@ -14,6 +14,7 @@ mod stops;
 mod stories;
 
 use anyhow::{Error, bail};
+use asks::Story;
 use base::fault::Fault;
 use images::{change_at_random, change_each, cut_each, sound_words};
 use judge::Counts;
@@ -26,7 +27,7 @@ use std::env;
 use std::sync::Wait;
 use std::thread::Threads;
 use stops::stop_each;
-use stories::{STORIES, Story};
+use stories::STORIES;
 
 fn main(rt: HostRuntime) -> Result<(), Error> {
     let alloc = rt.alloc();
@@ -99,10 +100,10 @@ fn print_images<H: Print>(rt: &H, name: &str, counts: &Counts) -> Result<(), Err
 
 // Lets the life of each story stop everywhere.
 fn stop_stories<H: Print + Threads + Sync>(rt: &H, alloc: Global) -> Result<(), Error> {
-    for story in STORIES {
+    for told in STORIES {
         let mut counts = Counts::none();
-        stop_each(rt, alloc, story, &mut counts)?;
-        print_story(rt, story, &counts)?;
+        stop_each(rt, alloc, told, &mut counts)?;
+        print_story(rt, &told.0, &counts)?;
     }
     Ok(())
 }

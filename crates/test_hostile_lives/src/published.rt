@@ -8,7 +8,7 @@ use base::fault::Fault;
 use base::key::Key;
 use base::longs::Longs;
 use base::row::Row;
-use board::{Board, History, Naming, Reader};
+use board::{Board, Coverage, History, Naming, Reader};
 use smallvec::SmallVec;
 use std::alloc::{AllocError, Global};
 use std::marker::Brand;
@@ -41,12 +41,21 @@ fn publish_on<J: Naming, H: Print + Wait>(
 ) -> Result<bool, Error>
     requires { history ≡ J.book }
 {
-    match Board::<J, &H>::open(rt, alloc, history, 2, 0, Longs::none(), &[], 1) {
+    match Board::<J, &H>::open(rt, alloc, history, at_two(), &[], 1) {
         Ok((board, readers)) => {
             publish_two(rt, alloc, board, readers)?;
             Ok(true)
         }
         Err(_) => Ok(false),
+    }
+}
+
+// Stamp 2 covers no commit.
+fn at_two() -> Coverage {
+    Coverage {
+        stamp: 2,
+        persisted: 0,
+        longs: Longs::none(),
     }
 }
 
@@ -100,7 +109,11 @@ fn next_batch<J: Naming, H: Wait>(
     board: &Board<J, &H>,
     byte: u8,
 ) -> Result<Batch, Fault> {
-    let (stamp, persisted, longs) = board.last();
+    let Coverage {
+        stamp,
+        persisted,
+        longs,
+    } = board.last();
     if stamp > 100 || persisted > 100 {
         return Err(Fault::TimestampsOut);
     }

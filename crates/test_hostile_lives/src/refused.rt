@@ -2,7 +2,7 @@
 use crate::life::{crashed_words, fresh_words, opened};
 use crate::runs::Run;
 use anyhow::Error;
-use asks::{Ask, count_of, step_of};
+use asks::{Ask, Life, count_of, step_of};
 use base::fault::Fault;
 use base::geometry::Geometry;
 use base::key::Key;
@@ -28,9 +28,9 @@ pub fn live_run<H: Print + Threads + Sync>(
 ) -> Result<(), Error> {
     println!(rt; "run {}", run.name)?;
     let mut words = fresh_words(alloc, Geometry::new(run.slots, 2, run.window)?)?;
-    for (asks, newest) in run.lives {
+    for (life, newest) in run.lives {
         let device = device_of(alloc, &words, reserved)?;
-        let (device, failed) = live_once(rt, alloc, device, asks)?;
+        let (device, failed) = live_once(rt, alloc, device, life)?;
         words = crashed_words(&device, &choice_of(*newest))?;
         if failed {
             break;
@@ -61,13 +61,13 @@ fn live_once<H: Print + Threads + Sync>(
     rt: &H,
     alloc: Global,
     device: SimPmem,
-    asks: &[Ask],
+    life: Life,
 ) -> Result<(SimPmem, bool), Error> {
     match open_twice(rt, alloc, device)? {
         Ok(room) => {
             let mut room = room;
             say_opened(rt, &room)?;
-            let failed = make_each(rt, &mut room, asks)?;
+            let failed = make_each(rt, &mut room, life)?;
             Ok((room.into_device(), failed))
         }
         Err((fault, device)) => {
@@ -119,8 +119,8 @@ fn say_rows<H: Print>(rt: &H, rows: &[(Key, Row)]) -> Result<(), Error> {
 }
 
 // Makes what is asked for, up to what finds the device failing: did it fail?
-fn make_each<H: Print>(rt: &H, room: &mut Room<SimPmem>, asks: &[Ask]) -> Result<bool, Error> {
-    for ask in asks {
+fn make_each<H: Print>(rt: &H, room: &mut Room<SimPmem>, life: Life) -> Result<bool, Error> {
+    for ask in life.iter().copied().flatten() {
         let step = step_of(*ask)?;
         if make_often(rt, room, *ask, &step)? {
             println!(rt; "then: {:?}", room.step(Step::Begin))?;

@@ -1,7 +1,7 @@
 use crate::judge::{Allowed, Counts, judge};
 use crate::life::{Failing, crashed_words, live, operations, words_before};
-use crate::stories::Story;
-use asks::steps;
+use crate::stories::Told;
+use asks::{Table, steps};
 use base::fault::Fault;
 use base::step::Step;
 use pmem::Pmem;
@@ -20,16 +20,17 @@ const REOPENED: u64 = 10;
 pub fn stop_each<R: Threads + Sync>(
     rt: &R,
     alloc: Global,
-    story: &Story,
+    told: &Told,
     counts: &mut Counts,
 ) -> Result<(), Fault> {
+    let story = &told.0;
     let words = words_before(rt, alloc, story)?;
-    let steps = steps(alloc, story.asks)?;
+    let steps = steps(alloc, story.life)?;
     for made in 0..story.operations.saturating_add(1) {
         let failing = Failing::After(made);
-        stop_once(rt, alloc, story, (&words, &steps), (failing, made), counts)?;
+        stop_once(rt, alloc, told, (&words, &steps), (failing, made), counts)?;
         let failing = Failing::Once(made);
-        stop_once(rt, alloc, story, (&words, &steps), (failing, made), counts)?;
+        stop_once(rt, alloc, told, (&words, &steps), (failing, made), counts)?;
     }
     Ok(())
 }
@@ -38,24 +39,25 @@ pub fn stop_each<R: Threads + Sync>(
 fn stop_once<R: Threads + Sync>(
     rt: &R,
     alloc: Global,
-    story: &Story,
+    told: &Told,
     life: (&[u64], &[Step]),
     stop: (Failing, u64),
     counts: &mut Counts,
 ) -> Result<(), Fault> {
+    let (story, reopens, tables) = told;
     let (words, steps) = life;
     let (failing, made) = stop;
     let left = live(rt, alloc, words, (steps, story.closes), Some(failing))?;
     counts.stops = counts.stops.saturating_add(1);
     counts.expect(operations(&left.device) == made);
     counts.expect(left.failed == (made < story.operations));
-    let allowed = allowed_after(story, made, left.acknowledged);
+    let allowed = allowed_after(tables, story.ruling(made), left.acknowledged);
     let images = images_of(alloc, &left.device)?;
     for words in &images {
         judge(rt, alloc, words, &allowed, counts);
     }
-    for words in &opened_again(alloc, story, made, &left.device, images)? {
-        open_each(rt, alloc, words, story.opening, &allowed, counts)?;
+    for words in &opened_again(alloc, *reopens, made, &left.device, images)? {
+        open_each(rt, alloc, words, story.opening(), &allowed, counts)?;
     }
     Ok(())
 }
@@ -63,12 +65,12 @@ fn stop_once<R: Threads + Sync>(
 // The images of which the opening is stopped too: each one of these where the story asks for that, or two, or none.
 fn opened_again(
     alloc: Global,
-    story: &Story,
+    reopens: bool,
     made: u64,
     device: &SimPmem,
     images: Vec<Vec<u64>>,
 ) -> Result<Vec<Vec<u64>>, Fault> {
-    if story.reopens {
+    if reopens {
         return distinct(alloc, images);
     }
     let mut two = Vec::new(alloc);
@@ -97,19 +99,16 @@ fn push<T: Drop>(items: &mut Vec<T>, item: T) -> Result<(), Fault> {
     }
 }
 
-// The tables that the life may leave after so many operations.
-fn allowed_after(story: &Story, made: u64, acknowledged: usize) -> Allowed {
-    let kept = story.tables.get(acknowledged..).unwrap_or(&[]);
-    for (last, least, most) in story.ruled {
-        if made <= *last {
-            let now = story.tables.get(*least..most.saturating_add(1));
-            return Allowed {
-                kept,
-                now: now.unwrap_or(&[]),
-            };
-        }
+// Those of the tables that a life may leave of whose records so many rule, at least and at most. That of the opening has
+// none of its own.
+fn allowed_after(tables: &[Table], ruling: (usize, usize), acknowledged: usize) -> Allowed<'_> {
+    let (least, most) = ruling;
+    Allowed {
+        kept: tables.get(acknowledged..).unwrap_or(&[]),
+        now: tables
+            .get(least.saturating_sub(1)..most.max(1))
+            .unwrap_or(&[]),
     }
-    Allowed { kept, now: &[] }
 }
 
 // Stops an opening of the image after each number of operations, and judges what is left. Without a sweep it makes 39.

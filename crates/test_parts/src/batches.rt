@@ -10,6 +10,7 @@ use base::key::Key;
 use base::longs::Longs;
 use group_commit::{Covered, Cycle, is_idle};
 use log_area::Record;
+use snapshot::Numbers;
 use std::alloc::Global;
 use std::process::Abort;
 use std::test::Fail;
@@ -73,45 +74,36 @@ fn drawn_by(alloc: Global, commits: &[(u8, Ts, usize)]) -> Result<DrawnCommits, 
 }
 
 // Begins a cycle over what is drawn, where that is no more than a record may pass over.
-fn begin(
-    alloc: Global,
-    geometry: Geometry,
-    ruling: Record,
-    next: Ts,
-    drawn: &DrawnCommits,
-) -> Result<Cycle, Fault>
-    requires numbered { ruling.gate < 2 ^ 62 }
-    requires countable { next ≤ 2 ^ 62 }
+fn begin(alloc: Global, numbers: &Numbers, drawn: &DrawnCommits) -> Result<Cycle, Fault>
+    requires numbered { numbers.now.record.gate < 2 ^ 62 }
+    requires countable { numbers.now.next ≤ 2 ^ 62 }
 {
     if drawn.as_slice().len() > Longs::LIMIT {
         return Err(Fault::WrongState);
     }
-    Cycle::begin(alloc, geometry, ruling, next, false, drawn)
+    Cycle::begin(alloc, numbers, false, drawn)
 }
 
 // What such a cycle covers.
-fn covered_by(
-    alloc: Global,
-    geometry: Geometry,
-    ruling: Record,
-    next: Ts,
-    drawn: &DrawnCommits,
-) -> Result<Covered, Fault>
-    requires numbered { ruling.gate < 2 ^ 62 }
-    requires countable { next ≤ 2 ^ 62 }
+fn covered_by(alloc: Global, numbers: &Numbers, drawn: &DrawnCommits) -> Result<Covered, Fault>
+    requires numbered { numbers.now.record.gate < 2 ^ 62 }
+    requires countable { numbers.now.next ≤ 2 ^ 62 }
 {
-    let cycle = begin(alloc, geometry, ruling, next, drawn)?;
+    let cycle = begin(alloc, numbers, drawn)?;
     Ok(cycle.finish())
 }
 
 #[test]
 fn a_batch_takes_the_stamped_commits(rt: HostRuntime) -> Result<(), Fail> {
-    let geometry = Geometry::new(4, 2, 4)?;
-    let ruling = Record::new(1, 4, 12, Gaps::none(), Longs::none());
-    assert!(rt; is_idle(geometry, ruling, 8, false, &DrawnCommits::new(rt.alloc())));
+    let numbers = Numbers {
+        geometry: Geometry::new(4, 2, 4)?,
+        record: Record::new(1, 4, 12, Gaps::none(), Longs::none()),
+        next: 8,
+    };
+    assert!(rt; is_idle(&numbers, false, &DrawnCommits::new(rt.alloc())));
     let drawn = drawn_by(rt.alloc(), &[(2, 5, 1), (3, 6, 0), (4, 7, 0)])?;
-    assert!(rt; !is_idle(geometry, ruling, 8, false, &drawn));
-    let cycle = begin(rt.alloc(), geometry, ruling, 8, &drawn)?;
+    assert!(rt; !is_idle(&numbers, false, &drawn));
+    let cycle = begin(rt.alloc(), &numbers, &drawn)?;
     assert!(rt; !cycle.is_done());
     let covered = cycle.finish();
     assert_eq!(rt; covered.batch.commits().len(), 1);
@@ -126,10 +118,13 @@ fn a_batch_takes_the_stamped_commits(rt: HostRuntime) -> Result<(), Fail> {
 
 #[test]
 fn a_close_takes_all_that_is_drawn(rt: HostRuntime) -> Result<(), Fail> {
-    let geometry = Geometry::new(4, 2, 4)?;
-    let ruling = Record::new(1, 4, 12, Gaps::none(), Longs::none());
+    let numbers = Numbers {
+        geometry: Geometry::new(4, 2, 4)?,
+        record: Record::new(1, 4, 12, Gaps::none(), Longs::none()),
+        next: 8,
+    };
     let drawn = drawn_by(rt.alloc(), &[(2, 5, 1), (4, 7, 1)])?;
-    let closing = Cycle::closing(rt.alloc(), geometry, ruling, 8, false, &drawn).finish();
+    let closing = Cycle::closing(rt.alloc(), &numbers, false, &drawn).finish();
     assert_eq!(rt; closing.record.gate(), 2);
     assert_eq!(rt; closing.record.persisted(), 7);
     assert_eq!(rt; closing.record.dirty(), 8);
@@ -138,10 +133,13 @@ fn a_close_takes_all_that_is_drawn(rt: HostRuntime) -> Result<(), Fail> {
 
 #[test]
 fn stamped_commits_are_covered_past_one_that_is_not(rt: HostRuntime) -> Result<(), Fail> {
-    let geometry = Geometry::new(8, 2, 4)?;
-    let ruling = Record::new(3, 0, 8, Gaps::none(), Longs::none());
+    let numbers = Numbers {
+        geometry: Geometry::new(8, 2, 4)?,
+        record: Record::new(3, 0, 8, Gaps::none(), Longs::none()),
+        next: 4,
+    };
     let drawn = drawn_by(rt.alloc(), &[(2, 1, 0), (3, 2, 1), (4, 3, 1)])?;
-    let covered = covered_by(rt.alloc(), geometry, ruling, 4, &drawn)?;
+    let covered = covered_by(rt.alloc(), &numbers, &drawn)?;
     assert_eq!(rt; covered.batch.from(), 3);
     assert_eq!(rt; covered.batch.commits().len(), 2);
     assert_eq!(rt; covered.batch.longs().as_slice(), [1].as_slice());
@@ -153,8 +151,11 @@ fn stamped_commits_are_covered_past_one_that_is_not(rt: HostRuntime) -> Result<(
 
 #[test]
 fn a_commit_above_thirteen_unstamped_ones_waits(rt: HostRuntime) -> Result<(), Fail> {
-    let geometry = Geometry::new(64, 2, 64)?;
-    let ruling = Record::new(2, 0, 65, Gaps::none(), Longs::none());
+    let numbers = Numbers {
+        geometry: Geometry::new(64, 2, 64)?,
+        record: Record::new(2, 0, 65, Gaps::none(), Longs::none()),
+        next: 15,
+    };
     let mut drawn = DrawnCommits::new(rt.alloc());
     for session in 2..16 {
         push(
@@ -163,9 +164,9 @@ fn a_commit_above_thirteen_unstamped_ones_waits(rt: HostRuntime) -> Result<(), F
         )?;
     }
     drawn.stamp(14);
-    assert!(rt; is_idle(geometry, ruling, 15, false, &drawn));
+    assert!(rt; is_idle(&numbers, false, &drawn));
     drawn.stamp(13);
-    assert!(rt; !is_idle(geometry, ruling, 15, false, &drawn));
+    assert!(rt; !is_idle(&numbers, false, &drawn));
     Ok(())
 }
 
@@ -173,14 +174,14 @@ fn a_commit_above_thirteen_unstamped_ones_waits(rt: HostRuntime) -> Result<(), F
 fn assert_named_again(
     rt: &impl Abort,
     alloc: Global,
-    geometry: Geometry,
-    ruling: Record,
+    numbers: &Numbers,
     drawn: &DrawnCommits,
 ) -> Result<(), Fault>
-    requires { ruling.gate < 2 ^ 62 }
+    requires numbered { numbers.now.record.gate < 2 ^ 62 }
+    requires countable { numbers.now.next ≤ 2 ^ 62 }
 {
-    assert!(rt; is_idle(geometry, ruling, 4, false, drawn));
-    let again = covered_by(alloc, geometry, ruling, 4, drawn)?;
+    assert!(rt; is_idle(numbers, false, drawn));
+    let again = covered_by(alloc, numbers, drawn)?;
     assert_eq!(rt; again.batch.commits().len(), 0);
     assert_eq!(rt; again.record.longs().as_slice(), [1].as_slice());
     Ok(())
@@ -188,15 +189,18 @@ fn assert_named_again(
 
 #[test]
 fn a_long_commit_is_named_until_it_is_stamped(rt: HostRuntime) -> Result<(), Fail> {
-    let geometry = Geometry::new(8, 2, 4)?;
     let mut longs = Longs::none();
     longs.push(1);
-    let ruling = Record::new(4, 3, 8, Gaps::none(), longs);
+    let numbers = Numbers {
+        geometry: Geometry::new(8, 2, 4)?,
+        record: Record::new(4, 3, 8, Gaps::none(), longs),
+        next: 4,
+    };
     let mut drawn = drawn_by(rt.alloc(), &[(2, 1, 0)])?;
-    assert_named_again(&rt, rt.alloc(), geometry, ruling, &drawn)?;
+    assert_named_again(&rt, rt.alloc(), &numbers, &drawn)?;
     drawn.stamp(1);
-    assert!(rt; !is_idle(geometry, ruling, 4, false, &drawn));
-    let covered = covered_by(rt.alloc(), geometry, ruling, 4, &drawn)?;
+    assert!(rt; !is_idle(&numbers, false, &drawn));
+    let covered = covered_by(rt.alloc(), &numbers, &drawn)?;
     assert_eq!(rt; covered.batch.from(), 4);
     assert_eq!(rt; covered.batch.commits().len(), 1);
     assert!(rt; covered.batch.longs().as_slice().is_empty());

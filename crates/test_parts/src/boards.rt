@@ -7,7 +7,7 @@ use base::fault::Fault;
 use base::key::Key;
 use base::longs::Longs;
 use base::row::Row;
-use board::{Board, History, Naming, Reader, Token};
+use board::{Board, Coverage, History, Naming, Reader, Token};
 use smallvec::SmallVec;
 use std::alloc::{AllocError, Global};
 use std::marker::Brand;
@@ -36,7 +36,11 @@ fn add<J: Naming, R: Wait + Drop>(
     board: &mut Board<J, R>,
     row: Row,
 ) -> Result<(), Fault> {
-    let (stamp, persisted, longs) = board.last();
+    let Coverage {
+        stamp,
+        persisted,
+        longs,
+    } = board.last();
     if stamp > 10000 || persisted > 10000 {
         return Err(Fault::TimestampsOut);
     }
@@ -58,6 +62,19 @@ fn publish<J: Naming, R: Wait + Drop>(board: &mut Board<J, R>, batch: Batch) -> 
     }
 }
 
+fn covered_at(stamp: u64, persisted: Ts, longs: Longs) -> Coverage {
+    Coverage {
+        stamp,
+        persisted,
+        longs,
+    }
+}
+
+// Stamp 2 covers no commit.
+fn at_two() -> Coverage {
+    covered_at(2, 0, Longs::none())
+}
+
 // A board that begins at stamp 2 with no row, and its one reader.
 fn opened<'r, J: Naming, R: Wait>(
     rt: &'r R,
@@ -66,8 +83,7 @@ fn opened<'r, J: Naming, R: Wait>(
 ) -> Result<(Board<J, &'r R>, Reader<J>), Fault>
     requires { history ≡ J.book }
 {
-    let none = Longs::none();
-    let (board, mut readers) = Board::<J, &R>::open(rt, alloc, history, 2, 0, none, &[], 1)?;
+    let (board, mut readers) = Board::<J, &R>::open(rt, alloc, history, at_two(), &[], 1)?;
     Ok((board, readers.swap_remove(0)))
 }
 
@@ -202,21 +218,12 @@ fn long_commit<J: Naming, R: Wait>(
 ) -> Result<LongCommit, Fault>
     requires { history ≡ J.book }
 {
-    let (stamp, persisted, longs) = if begun {
-        (6, 7, five())
+    let first = if begun {
+        covered_at(6, 7, five())
     } else {
-        (5, 4, Longs::none())
+        covered_at(5, 4, Longs::none())
     };
-    let (mut board, _readers) = Board::<J, &R>::open(
-        rt,
-        alloc,
-        history,
-        stamp,
-        persisted,
-        longs,
-        &[],
-        1,
-    )?;
+    let (mut board, _readers) = Board::<J, &R>::open(rt, alloc, history, first, &[], 1)?;
     if !begun {
         add_to_seven(alloc, &mut board, 5, five(), &[6, 7])?;
     }
@@ -258,7 +265,7 @@ fn add_many<J: Naming, R: Wait + Drop>(
     count: u64,
 ) -> Result<(), Fault> {
     for _ in 0..count {
-        let (stamp, _, _) = board.last();
+        let stamp = board.last().stamp;
         add(alloc, board, row_of(stamp.saturating_add(1))?)?;
         let stamp = board.token().stamp();
         board.prune(stamp.saturating_sub(15))?;
@@ -395,7 +402,7 @@ fn busy<J: Naming + Send + Sync, R: Threads + Wait + Sync>(
 ) -> Result<(Result<(), Fault>, Vec<Watched>), Fault>
     requires { history ≡ J.book }
 {
-    let (board, readers) = Board::<J, &R>::open(rt, alloc, history, 2, 0, Longs::none(), &[], 7)?;
+    let (board, readers) = Board::<J, &R>::open(rt, alloc, history, at_two(), &[], 7)?;
     let over = AtomicBool::new(false);
     let ((board, added), watched) = join(
         rt,

@@ -3,7 +3,7 @@ use base::gap::Gaps;
 use base::geometry::Geometry;
 use base::longs::Longs;
 use log_area::Record;
-use session_steps::Numbers;
+use snapshot::Numbers;
 use std::test::Fail;
 
 #[test]

@@ -1,7 +1,7 @@
 //! What a covering tick tells of its batch.
 use crate::fixture::{fresh, opened};
 use asks::Ask::{Begin, Commit, Delete, Draw, Put, PutIn, Stamp};
-use asks::{Ask, steps};
+use asks::{Life, steps};
 use base::batch::Batch;
 use base::fault::Fault;
 use base::key::Key;
@@ -17,9 +17,9 @@ fn batch_after(
     rt: &impl Abort,
     alloc: Global,
     room: &mut Room<SimPmem>,
-    asks: &[Ask],
+    life: Life,
 ) -> Result<Batch, Fault> {
-    let steps = steps(alloc, asks)?;
+    let steps = steps(alloc, life)?;
     let mut replies = room.drive(steps.as_slice())?;
     assert!(rt; replies.len() == steps.len());
     match replies.pop() {
@@ -38,24 +38,17 @@ fn assert_batch(rt: &impl Abort, batch: &Batch, numbers: (u64, u64, u64), timest
 }
 
 // Three sessions draw from a window of four, and the next record has no commits.
-const DRAWN: &[Ask] = &[
-    Begin,
-    Begin,
-    Begin,
-    Put(2, 1, 1),
-    Put(3, 2, 2),
-    Put(4, 3, 3),
-    Draw(2),
-    Draw(3),
-    Draw(4),
-    Commit(41),
+const DRAWN: Life = &[
+    &[Begin, Begin, Begin],
+    &[Put(2, 1, 1), Put(3, 2, 2), Put(4, 3, 3)],
+    &[Draw(2), Draw(3), Draw(4), Commit(41)],
 ];
 
 // The other two are stamped, and covered past the first.
-const STAMPED: &[Ask] = &[Stamp(3), Stamp(4), Commit(43)];
+const STAMPED: Life = &[&[Stamp(3), Stamp(4), Commit(43)]];
 
 // The first is stamped after a tick that has nothing to do.
-const STAMPED_LAST: &[Ask] = &[Commit(1), Stamp(2), Commit(42)];
+const STAMPED_LAST: Life = &[&[Commit(1), Stamp(2), Commit(42)]];
 
 #[test]
 fn long_commit_is_covered_later(rt: HostRuntime) -> Result<(), Fault> {
@@ -83,16 +76,9 @@ fn three_writes() -> Result<[(Key, Option<Row>); 3], Fault> {
     ])
 }
 
-const THREE_WRITES: &[Ask] = &[
-    Begin,
-    PutIn(2, 2, 0, 1),
-    Put(2, 9, 2),
-    Delete(2, 8),
-    Draw(2),
-    Stamp(2),
-    Stamp(2),
-    Stamp(2),
-    Commit(43),
+const THREE_WRITES: Life = &[
+    &[Begin, PutIn(2, 2, 0, 1), Put(2, 9, 2), Delete(2, 8)],
+    &[Draw(2), Stamp(2), Stamp(2), Stamp(2), Commit(43)],
 ];
 
 #[test]

@@ -1,7 +1,7 @@
 //! How many operations of each kind a life makes.
 use crate::fixture::{device_after, formatted, lived};
 use asks::Ask::{Begin, Collect, Commit, Draw, Put, Stamp};
-use asks::{Ask, NINE_GAPS, Past};
+use asks::{Ask, Life, NINE_GAPS, Past};
 use base::fault::Fault;
 use base::geometry::Geometry;
 use pmem_model::{Operations, SimPmem};
@@ -21,11 +21,13 @@ fn format_is_counted(rt: HostRuntime) -> Result<(), Fault> {
     Ok(())
 }
 
+const STAMPED: &[Ask] = &[Begin, Put(2, 7, 1), Draw(2), Stamp(2)];
+
 // The update of a key was stamped and lost, so that the begin in its slot lies in the gap of the next opening.
-const LOST: &[Past] = &[(&[Begin, Put(2, 7, 1), Draw(2), Stamp(2)], true)];
+const LOST: &[Past] = &[(&[STAMPED], true)];
 
 /// How many slots, the lives before, the life, and its stores, flushes and fences.
-type Counted = (u64, &'static [Past], &'static [Ask], (u64, u64, u64));
+type Counted = (u64, &'static [Past], Life, (u64, u64, u64));
 
 // An opening makes 32 stores, 5 flushes and 2 fences. A sweep of four slots, of which one begins in the gap, makes 1
 // store, 4 flushes and 1 fence. Where that slot was taken before, by a put of 8 stores, 1 flush and 1 fence and a stamp
@@ -33,28 +35,16 @@ type Counted = (u64, &'static [Past], &'static [Ask], (u64, u64, u64));
 const COUNTED: &[Counted] = &[
     (4, &[], &[], (32, 5, 2)),
     (4, LOST, &[], (32, 5, 2)),
-    (4, LOST, &[Collect(5)], (33, 9, 3)),
-    (
-        4,
-        LOST,
-        &[
-            Begin,
-            Put(2, 7, 1),
-            Draw(2),
-            Stamp(2),
-            Commit(1),
-            Collect(5),
-        ],
-        (41, 10, 4),
-    ),
+    (4, LOST, &[&[Collect(5)]], (33, 9, 3)),
+    (4, LOST, &[STAMPED, &[Commit(1), Collect(5)]], (41, 10, 4)),
     (16, NINE_GAPS, &[], (34, 7, 3)),
 ];
 
 #[test]
 fn sweeps_are_counted(rt: HostRuntime) -> Result<(), Fault> {
-    for (slots, before, asks, counts) in COUNTED {
+    for (slots, before, life, counts) in COUNTED {
         let device = device_after(&rt, rt.alloc(), *slots, before)?;
-        let device = lived(&rt, rt.alloc(), device, asks)?;
+        let device = lived(&rt, rt.alloc(), device, life)?;
         let (stores, flushes, fences) = *counts;
         let want = Operations {
             stores,

@@ -1,7 +1,7 @@
 use crate::counts::operations;
-use crate::fixture::{opened, step};
-use crate::stories::{Opening, Story};
-use asks::steps;
+use crate::fixture::{device_after, opened, step};
+use crate::stories::{Opening, Shown};
+use asks::{Story, steps};
 use base::fault::Fault;
 use base::gap::Gaps;
 use base::step::{Note, Step};
@@ -16,23 +16,33 @@ use std::thread::Threads;
 pub fn assert_each_stop<R: Threads + Sync + Abort>(
     rt: &R,
     alloc: Global,
-    words: &[u64],
-    story: &Story,
+    shown: &Shown,
 ) -> Result<(), Fault> {
-    let steps = steps(alloc, story.asks)?;
-    let end = match story.gates.last() {
-        Some((last, _, _)) => *last,
-        None => panic!(rt; "no gates"),
-    };
-    for fuse in 0..end.saturating_add(1) {
-        let device = SimPmem::from_words(alloc, words)?;
+    let Shown { story, openings } = shown;
+    let words = words_before(rt, alloc, story)?;
+    let steps = steps(alloc, story.life)?;
+    for fuse in 0..story.operations.saturating_add(1) {
+        let device = SimPmem::from_words(alloc, &words)?;
         let (device, covered) = stopped(rt, alloc, device, fuse, &steps, story.closes);
         assert!(rt; operations(&device) == fuse as u128, "fuse {fuse}");
-        let gates = gates_after(rt, story, fuse);
+        let gates = gates_after(rt, shown, fuse);
         assert!(rt; covered < gates.0, "fuse {fuse}");
-        assert_each_choice(rt, alloc, &device, story.openings, gates)?;
+        assert_each_choice(rt, alloc, &device, openings, gates)?;
     }
     Ok(())
+}
+
+/// The words that the lives before the story leave.
+pub fn words_before<R: Threads + Sync + Abort>(
+    rt: &R,
+    alloc: Global,
+    story: &Story,
+) -> Result<Vec<u64>, Fault> {
+    let mut words = device_after(rt, alloc, story.slots, story.before)?.image()?;
+    if let Some(version) = words.get_mut(1) {
+        *version = story.version;
+    }
+    Ok(words)
 }
 
 // Opens what a crash may leave: of each word the oldest value, of each the newest, and of each word in turn the one while
@@ -136,14 +146,17 @@ fn run(rt: &impl Abort, room: &mut Room<SimPmem>, steps: &[Step]) -> u64 {
     covered
 }
 
-// The gates of the openings after the oldest and after the newest values.
-fn gates_after(rt: &impl Abort, story: &Story, fuse: u64) -> (u64, u64) {
-    for (last, oldest, newest) in story.gates {
-        if fuse <= *last {
-            return (*oldest, *newest);
-        }
-    }
-    panic!(rt; "fuse {fuse}")
+// The gates of the next opening after the oldest and after the newest values: one more for each record that rules.
+fn gates_after(rt: &impl Abort, shown: &Shown, fuse: u64) -> (u64, u64) {
+    let Some((first, _, _)) = shown.openings.first() else {
+        panic!(rt; "no openings")
+    };
+    let (least, most) = shown.story.ruling(fuse);
+    let gate = first.0;
+    (
+        gate.saturating_add(least as u64),
+        gate.saturating_add(most as u64),
+    )
 }
 
 /// Opens what a crash of this choice leaves. It has one of two gates, and shows what belongs to that.
@@ -160,11 +173,11 @@ pub fn assert_left<R: Threads + Sync + Abort>(
     let gate = status.gate;
     assert!(rt; gate == gates.0 || gate == gates.1, "gate {gate}");
     let numbers = (gate, status.persisted, status.dirty, status.next);
-    for opening in openings {
-        if opening.numbers.0 == gate {
-            assert!(rt; numbers == opening.numbers, "gate {gate}");
-            assert_gaps(rt, &status.gaps, opening.gaps);
-            assert_rows(rt, &mut room, opening.rows);
+    for (want, gaps, rows) in openings {
+        if want.0 == gate {
+            assert!(rt; numbers == *want, "gate {gate}");
+            assert_gaps(rt, &status.gaps, gaps);
+            assert_rows(rt, &mut room, rows);
             return Ok(());
         }
     }

@@ -1,11 +1,9 @@
 //! Lives that stop after each number of operations, and openings that stop three times.
-use crate::crashes::{assert_each_stop, assert_left, stopped};
-use crate::fixture::device_after;
+use crate::crashes::{assert_each_stop, assert_left, stopped, words_before};
 use crate::stories::{
-    ABORTS_AND_COMMITS, CLOSE, FIRST_VERSION, NINTH_GAP, OPENING, REUSED_SLOT, SECOND_UPDATE,
-    Story, THIRD_UPDATE, THREE_COMMITS, UPDATE,
+    ABORTS_SHOWN, BATCH_SHOWN, CLOSE_SHOWN, FIRST_VERSION_SHOWN, NINE_GAPS_SHOWN, OPENING_SHOWN,
+    REUSED_SLOT_SHOWN, SECOND_UPDATE_SHOWN, Shown, THIRD_UPDATE_SHOWN, UPDATE_SHOWN,
 };
-use asks::ONE_ROW;
 use base::fault::Fault;
 use pmem::Pmem;
 use pmem_model::{Choice, SimPmem};
@@ -13,68 +11,54 @@ use std::alloc::Global;
 use std::process::Abort;
 use std::thread::Threads;
 
-// Lets the story's life stop everywhere.
-fn assert_story<R: Threads + Sync + Abort>(
-    rt: &R,
-    alloc: Global,
-    story: &Story,
-) -> Result<(), Fault> {
-    let image = device_after(rt, alloc, story.slots, story.before)?.image()?;
-    assert_each_stop(rt, alloc, image.as_slice(), story)
-}
-
 #[test]
 fn group_commit_is_whole_or_lost(rt: HostRuntime) -> Result<(), Fault> {
-    assert_story(&rt, rt.alloc(), &THREE_COMMITS)
+    assert_each_stop(&rt, rt.alloc(), &BATCH_SHOWN)
 }
 
 #[test]
 fn close_is_whole_or_loses_all(rt: HostRuntime) -> Result<(), Fault> {
-    assert_story(&rt, rt.alloc(), &CLOSE)
+    assert_each_stop(&rt, rt.alloc(), &CLOSE_SHOWN)
 }
 
 #[test]
 fn update_lost_before_is_never_seen(rt: HostRuntime) -> Result<(), Fault> {
-    assert_story(&rt, rt.alloc(), &ABORTS_AND_COMMITS)
+    assert_each_stop(&rt, rt.alloc(), &ABORTS_SHOWN)
 }
 
 #[test]
 fn update_is_lost(rt: HostRuntime) -> Result<(), Fault> {
-    assert_story(&rt, rt.alloc(), &UPDATE)
+    assert_each_stop(&rt, rt.alloc(), &UPDATE_SHOWN)
 }
 
 #[test]
 fn update_is_lost_again(rt: HostRuntime) -> Result<(), Fault> {
-    assert_story(&rt, rt.alloc(), &SECOND_UPDATE)
+    assert_each_stop(&rt, rt.alloc(), &SECOND_UPDATE_SHOWN)
 }
 
 #[test]
 fn third_update_is_kept(rt: HostRuntime) -> Result<(), Fault> {
-    assert_story(&rt, rt.alloc(), &THIRD_UPDATE)
+    assert_each_stop(&rt, rt.alloc(), &THIRD_UPDATE_SHOWN)
 }
 
 #[test]
 fn reused_slot_never_shows_the_deleted_row(rt: HostRuntime) -> Result<(), Fault> {
-    assert_story(&rt, rt.alloc(), &REUSED_SLOT)
+    assert_each_stop(&rt, rt.alloc(), &REUSED_SLOT_SHOWN)
 }
 
 #[test]
 fn opening_reserves_timestamps_once(rt: HostRuntime) -> Result<(), Fault> {
-    assert_story(&rt, rt.alloc(), &OPENING)
+    assert_each_stop(&rt, rt.alloc(), &OPENING_SHOWN)
 }
 
 #[test]
 fn opening_of_the_first_version_stores_the_version_first(rt: HostRuntime) -> Result<(), Fault> {
-    let mut image = device_after(&rt, rt.alloc(), 4, &[(ONE_ROW, false)])?.image()?;
-    if let Some(version) = image.get_mut(1) {
-        *version = 1;
-    }
-    assert_each_stop(&rt, rt.alloc(), image.as_slice(), &FIRST_VERSION)
+    assert_each_stop(&rt, rt.alloc(), &FIRST_VERSION_SHOWN)
 }
 
 #[test]
 fn ninth_gap_is_swept_at_once_or_later(rt: HostRuntime) -> Result<(), Fault> {
-    assert_story(&rt, rt.alloc(), &NINTH_GAP)
+    assert_each_stop(&rt, rt.alloc(), &NINE_GAPS_SHOWN)
 }
 
 /// Three openings, each with the number of its operations and whether its gate survives alone, or all else does, and the
@@ -131,30 +115,25 @@ fn stopped_thrice<R: Threads + Sync + Abort>(
 fn assert_stops<R: Threads + Sync + Abort>(
     rt: &R,
     alloc: Global,
-    story: &Story,
+    shown: &Shown,
     table: &[Stops],
 ) -> Result<(), Fault> {
-    let image = device_after(rt, alloc, story.slots, story.before)?.image()?;
+    let Shown { story, openings } = shown;
+    let words = words_before(rt, alloc, story)?;
     for (stops, gate) in table {
-        let device = stopped_thrice(rt, alloc, image.as_slice(), stops)?;
-        assert_left(
-            rt,
-            alloc,
-            &device,
-            &Choice::Oldest,
-            story.openings,
-            (*gate, *gate),
-        )?;
+        let device = stopped_thrice(rt, alloc, &words, stops)?;
+        let gates = (*gate, *gate);
+        assert_left(rt, alloc, &device, &Choice::Oldest, openings, gates)?;
     }
     Ok(())
 }
 
 #[test]
 fn openings_stop_three_times(rt: HostRuntime) -> Result<(), Fault> {
-    assert_stops(&rt, rt.alloc(), &OPENING, STOPPED_OPENINGS)
+    assert_stops(&rt, rt.alloc(), &OPENING_SHOWN, STOPPED_OPENINGS)
 }
 
 #[test]
 fn sweeping_openings_stop_three_times(rt: HostRuntime) -> Result<(), Fault> {
-    assert_stops(&rt, rt.alloc(), &NINTH_GAP, STOPPED_SWEEPS)
+    assert_stops(&rt, rt.alloc(), &NINE_GAPS_SHOWN, STOPPED_SWEEPS)
 }

@@ -1,4 +1,4 @@
-use asks::{Ask, Past, steps};
+use asks::{Life, Past, steps};
 use base::fault::Fault;
 use base::geometry::Geometry;
 use base::step::{Note, Step};
@@ -65,9 +65,9 @@ pub fn lived<R: Threads + Sync + Abort>(
     rt: &R,
     alloc: Global,
     device: SimPmem,
-    asks: &[Ask],
+    life: Life,
 ) -> Result<SimPmem, Fault> {
-    let steps = steps(alloc, asks)?;
+    let steps = steps(alloc, life)?;
     let mut room = opened(rt, alloc, device)?;
     for made in steps.iter() {
         let note = step(&mut room, *made);
@@ -84,13 +84,13 @@ pub fn device_after<R: Threads + Sync + Abort>(
     lives: &[Past],
 ) -> Result<SimPmem, Fault> {
     let mut device = fresh(alloc, slots, 8)?;
-    for (asks, newest) in lives {
+    for (life, newest) in lives {
         let choice = if *newest {
             Choice::Newest
         } else {
             Choice::Oldest
         };
-        device = lived(rt, alloc, device, asks)?.crash(&choice)?;
+        device = lived(rt, alloc, device, life)?.crash(&choice)?;
     }
     Ok(device)
 }

@@ -2,7 +2,7 @@
 use crate::counts::operations;
 use crate::fixture::{fresh, opened, step};
 use asks::Ask::{Begin, Commit, Draw, Put, Scan, Stamp};
-use asks::{Ask, steps};
+use asks::{Life, steps};
 use base::fault::Fault;
 use base::key::Key;
 use base::row::Row;
@@ -14,17 +14,9 @@ use std::process::Abort;
 use std::thread::Threads;
 
 // Two sessions insert keys 1 and 2, one of them scans, and one record covers both.
-const TWO_COMMITS: &[Ask] = &[
-    Begin,
-    Begin,
-    Put(2, 1, 1),
-    Put(3, 2, 2),
-    Scan(3),
-    Draw(2),
-    Draw(3),
-    Stamp(2),
-    Stamp(3),
-    Commit(43),
+const TWO_COMMITS: Life = &[
+    &[Begin, Begin, Put(2, 1, 1), Put(3, 2, 2), Scan(3)],
+    &[Draw(2), Draw(3), Stamp(2), Stamp(3), Commit(43)],
 ];
 
 // Makes a step. Where it is refused for want of memory it is made again.

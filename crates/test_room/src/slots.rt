@@ -3,8 +3,8 @@ ghost use Rattle.base.specs.Layout.{layout_with, plain_version};
 ghost use Rattle.pmem_model.specs.Sim.{device_of};
 
 use crate::fixture::device_after;
-use asks::Ask::{Begin, Commit, Draw, End, Put, Stamp};
-use asks::Past;
+use asks::Ask::{Begin, End, Put};
+use asks::{ONE_LINE_COVERED, Past, THREE_LINES_COVERED};
 use base::actor::Actor;
 use base::fault::Fault;
 use base::geometry::Geometry;
@@ -53,19 +53,10 @@ fn taken_slot_is_cleared(rt: HostRuntime) -> Result<(), Fault> {
 // A version of key 7 in slot 0 that one in slot 1 replaces, with which slot 2 gets a version of key 8; slot 3 is free.
 const REPLACED: Past = (
     &[
-        Begin,
-        Put(2, 7, 1),
-        Draw(2),
-        Stamp(2),
-        Commit(42),
-        End(2),
-        Begin,
-        Put(2, 7, 2),
-        Put(2, 8, 3),
-        Draw(2),
-        Stamp(2),
-        Stamp(2),
-        Commit(44),
+        &[Begin, Put(2, 7, 1)],
+        ONE_LINE_COVERED,
+        &[End(2), Begin, Put(2, 7, 2), Put(2, 8, 3)],
+        THREE_LINES_COVERED,
     ],
     false,
 );

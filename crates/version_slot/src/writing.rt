@@ -1,9 +1,10 @@
-ghost use Rattle.std.specs.Prelude.{◌≡◌, ◌<◌, ◌≤◌, [], ◌∷◌, length, IfErr, OnErr, OnOk, Some};
-ghost use Rattle.base.specs.Layout.{row_limit, slot_words, total_words};
+ghost use Rattle.std.specs.Prelude.{ℕ, ◌≡◌, ◌+◌, ◌-◌, ◌^◌, ◌<◌, ◌≤◌, [], ◌∷◌, length, slice_index, IfErr, OnErr, OnOk, Some};
+ghost use Rattle.base.specs.Layout.{row_limit, total_words};
+ghost use Rattle.pmem.specs.Persisting.{store_operations};
 ghost use Rattle.pmem.specs.Words.{value_of};
 ghost use Rattle.pmem.specs.Trace.{store_op, Runs, StopsWithin};
 ghost use Rattle.version_slot.specs.Operations.{begin_operations, end_operations, fill_operations};
-ghost use Rattle.version_slot.specs.Words.{IsVersion, link_number, slot_at};
+ghost use Rattle.version_slot.specs.Words.{IsVersion, filled_word, link_number, slot_at};
 
 use crate::words::Version;
 use base::fault::Fault;
@@ -30,59 +31,39 @@ pub fn fill<D: Pmem>(
     ensures stopped { OnErr result (StopsWithin (fill_operations geometry slot version.now) (D.state device.old) (D.state device.new)) }
 {
     if geometry.slot_words() == 8 {
-        fill_line(device, geometry, slot, version)
+        // So few words that each store is by itself.
+        let words = version.line_words();
+        store_all(device, geometry.slot_start(slot) + 1, &words)
     } else {
-        fill_lines(device, geometry, slot, version)
+        let count = geometry.slot_words() as usize;
+        store_lines(device, geometry.slot_start(slot) + 1, version, count)
     }
 }
 
-// The same, of a slot of one line: so many words that each store is by itself.
-#[inline(always)]
-fn fill_line<D: Pmem>(
-    device: &mut D,
-    geometry: Geometry,
-    slot: u64,
-    version: &Version,
-) -> Result<(), Fault>
-    requires one { slot_words geometry.version ≡ 8 }
-    requires slot { slot < geometry.slots }
-    requires row { length version.now.row ≤ row_limit geometry.version }
-    requires previous { link_number version.now.previous ≤ geometry.slots }
-    requires device { (D.state device.old).words ≡ total_words geometry }
-    ensures version { OnOk result (IsVersion geometry (slot_at geometry slot (value_of (D.state device.new))) version.now) }
-    ensures fault { IfErr result (λ fault. fault ≡ Fault.Device) }
-    ensures size { (D.state device.new).words ≡ (D.state device.old).words }
-    ensures run { OnOk result (Runs (fill_operations geometry slot version.now) (D.state device.old) (D.state device.new)) }
-    ensures stopped { OnErr result (StopsWithin (fill_operations geometry slot version.now) (D.state device.old) (D.state device.new)) }
-{
-    let words = version.line_words();
-    store_all(device, geometry.slot_start(slot) + 1, &words)
-}
-
-// The same, of a slot of any number of lines.
+// Stores the words of a slot of so many that is filled with the version, in the words from this one on.
 #[cold]
 #[inline(never)]
-fn fill_lines<D: Pmem>(
+fn store_lines<D: Pmem>(
     device: &mut D,
-    geometry: Geometry,
-    slot: u64,
+    first: usize,
     version: &Version,
+    count: usize,
 ) -> Result<(), Fault>
-    requires slot { slot < geometry.slots }
-    requires row { length version.now.row ≤ row_limit geometry.version }
-    requires previous { link_number version.now.previous ≤ geometry.slots }
-    requires device { (D.state device.old).words ≡ total_words geometry }
-    ensures version { OnOk result (IsVersion geometry (slot_at geometry slot (value_of (D.state device.new))) version.now) }
+    requires count { (4 ≤ count) × (count ≤ 16) }
+    requires link { link_number version.now.previous < 2 ^ 32 }
+    requires fits { first + (count - 1) < 2 ^ 64 }
+    requires device { first + (count - 1) ≤ (D.state device.old).words }
+    ensures run { OnOk result (Runs (store_operations first (λ k. filled_word version.now (k + 1)) (count - 1)) (D.state device.old) (D.state device.new)) }
+    ensures stopped { OnErr result (StopsWithin (store_operations first (λ k. filled_word version.now (k + 1)) (count - 1)) (D.state device.old) (D.state device.new)) }
     ensures fault { IfErr result (λ fault. fault ≡ Fault.Device) }
     ensures size { (D.state device.new).words ≡ (D.state device.old).words }
-    ensures run { OnOk result (Runs (fill_operations geometry slot version.now) (D.state device.old) (D.state device.new)) }
-    ensures stopped { OnErr result (StopsWithin (fill_operations geometry slot version.now) (D.state device.old) (D.state device.new)) }
+    ensures table { version.now.key.table < 2 ^ 16 }
+    ensures bytes { (i : ℕ) → slice_index version.now.row i < 2 ^ 8 }
 {
-    let count = geometry.slot_words() as usize;
     // In one place, since an array is large to hand on.
     let mut words = [0; 16];
     version.put_words(count, &mut words);
-    store_all(device, geometry.slot_start(slot) + 1, &words[1..count])
+    store_all(device, first, &words[1..count])
 }
 
 /// Stores the timestamp of the commit that wrote the slot's version.

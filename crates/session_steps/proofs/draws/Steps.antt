@@ -30,7 +30,7 @@ use Rattle.dirty_table.specs.declared.sessions.SessionSet.{SessionSet}
 use Rattle.dirty_table.specs.Touches.{Touches}
 use Rattle.index.specs.declared.entry.Entry.{Entry}
 use Rattle.index.specs.Entries.{entry_at, has_room, live_of, KeepsRoom}
-use Rattle.session_steps.specs.declared.numbers.Numbers.{Numbers}
+use Rattle.snapshot.specs.declared.numbers.Numbers.{Numbers}
 use Rattle.session_steps.specs.declared.sessions.Sessions.{Sessions}
 use Rattle.session_steps.specs.Drawing.{conflict_in, own_lines, ended_lines, touched_lines, drawn_entry}
 use Rattle.session_steps.specs.Shows.{Hidden, plain_of, plain_session, plain_drawn, HoldsEntry, Agrees}

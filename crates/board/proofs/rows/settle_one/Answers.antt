@@ -12,10 +12,10 @@ returns-in_err-lay-clause-rows c list h =
     let at : slice_get c.args.batches.now.items 0 ≡ Some batch = search rules in
     let low : batch.stamp ≤ c.args.floor = search rules in
     let same : (k : Key) → is_written k batch.commits ≡ false → lookup_key c.lay.new.rows.entries k ≡ lookup_key c.args.rows.now.entries k = rw (← c.commits.ensures) c.lay.ensures.others in
-    stands_alike c.args.last.now.0 c.args.last.now.1 c.args.last.now.2 c.args.floor _ _ c.args.batches.now.items batch list at low same h
+    stands_alike c.args.last.now c.args.floor _ _ c.args.batches.now.items batch list at low same h
 
 pub returns-clause-versions : goal.returns-clause-versions
 returns-clause-versions c h =
     let at : slice_get c.args.batches.now.items 0 ≡ Some c.in-Some.batch.now = search rules in
-    rw (c.stamp-3.ensures, c.remove-batch.ensures.items)
-    (indexed_removed c.args.last.now.0 _ c.forget.new.versions.entries c.remove-batch.result c.args.batches.now.items _ at c.remove-batch.ensures.value h (rw (← c.commits-2.ensures, ← c.stamp-2.ensures) c.forget.ensures))
+    rw (c.after.ensures, c.remove-batch.ensures.items)
+    (indexed_removed c.args.last.now.stamp _ c.forget.new.versions.entries c.remove-batch.result c.args.batches.now.items _ at c.remove-batch.ensures.value h (rw (← c.commits-2.ensures, ← c.stamp-2.ensures) c.forget.ensures))

@@ -1,9 +1,8 @@
 use Rattle.std.proofs.Math.Logic.{∥∥₁_map}
 use Rattle.machine.specs.Openings.{StandsOpening}
 use Rattle.pmem.specs.Words.{image_of}
-use Rattle.pmem_file.specs.Traces.{device_of}
+use Rattle.pmem_file.specs.Devices.{kept_at, state_of}
 use Rattle.recovery.specs.Fresh.{IsFormatting}
-use Rattle.file_laws.specs.Finding.{state_of}
 use Rattle.file_laws.proofs.Finding.{left-either, left-since}
 use Rattle.file_laws.proofs.journaled.journaled_images_stand_at_an_opening.Goals as goal
 
@@ -12,14 +11,14 @@ returns-clause-opening g c = λ history next later image zero_is leaves after ma
     let device = state_of c.args.device.now in
     let found = c.args.found.now in
     ∥∥₁_map (c.found_image_was_left.ensures.images image may) (λ might.
-    leaves.each image (left-since (state_of found) later (device_of found.kept.value).clock device.clock image zero_is after might))
+    leaves.each image (left-since (state_of found) later (kept_at found) device.clock image zero_is after might))
 
 pub returns-clause-formatting : goal.returns-clause-formatting
 returns-clause-formatting g c = λ layout later image zero_is leaves after may.
     let device = state_of c.args.unformatted.now in
     let found = c.args.found.now in
     ∥∥₁_map (c.found_image_was_left.ensures.images image may) (λ might.
-    leaves.each image (left-since (state_of found) later (device_of found.kept.value).clock device.clock image zero_is after might))
+    leaves.each image (left-since (state_of found) later (kept_at found) device.clock image zero_is after might))
 
 pub returns-clause-formatted : goal.returns-clause-formatted
 returns-clause-formatted g c = λ layout history next later image zero_is formats opens after may.
@@ -28,4 +27,4 @@ returns-clause-formatted g c = λ layout history next later image zero_is format
     let found = c.args.found.now in
     ∥∥₁_map (c.found_image_was_left.ensures.images image may) (λ might.
     left-either (IsFormatting unformatted layout) (StandsOpening (image_of device) history next) unformatted device later image formats opens
-    (left-since (state_of found) later (device_of found.kept.value).clock unformatted.clock image zero_is after might))
+    (left-since (state_of found) later (kept_at found) unformatted.clock image zero_is after might))

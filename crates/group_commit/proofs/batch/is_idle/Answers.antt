@@ -19,10 +19,10 @@ tested a ruling next swept ds es r some is at same =
 pub returns-after-window_is_short : goal.returns-after-window_is_short
 returns-after-window_is_short c =
     let none : c.has_chosen.result ≡ false = search (rules, tests) in
-    let due : c.if-window_is_short.result ≡ has_other_reason_to_write c.args.geometry c.args.ruling c.args.next c.args.swept = search (rules, tests) in
-    sym (tested c.args.geometry c.args.ruling c.args.next c.args.swept _ _ _ _ c.has_chosen.ensures c.reach_of-reach.ensures c.as_slice-2.ensures.commits ∙ λ i. not (none i) && not (sym due i))
+    let due : c.if-window_is_short.result ≡ has_other_reason_to_write c.args.numbers.now.geometry c.args.numbers.now.record c.args.numbers.now.next c.args.swept = search (rules, tests) in
+    sym (tested c.args.numbers.now.geometry c.args.numbers.now.record c.args.numbers.now.next c.args.swept _ _ _ _ c.has_chosen.ensures c.reach_of-reach.ensures c.as_slice-2.ensures.commits ∙ λ i. not (none i) && not (sym due i))
 
 pub returns-else-not-has_chosen : goal.returns-else-not-has_chosen
 returns-else-not-has_chosen c =
     let some : c.has_chosen.result ≡ true = search (rules, tests) in
-    sym (tested c.args.geometry c.args.ruling c.args.next c.args.swept _ _ _ _ c.has_chosen.ensures c.reach_of-reach.ensures c.as_slice-2.ensures.commits ∙ (λ i. not (some i) && not (has_other_reason_to_write c.args.geometry c.args.ruling c.args.next c.args.swept)) ∙ ap not (sym some))
+    sym (tested c.args.numbers.now.geometry c.args.numbers.now.record c.args.numbers.now.next c.args.swept _ _ _ _ c.has_chosen.ensures c.reach_of-reach.ensures c.as_slice-2.ensures.commits ∙ (λ i. not (some i) && not (has_other_reason_to_write c.args.numbers.now.geometry c.args.numbers.now.record c.args.numbers.now.next c.args.swept)) ∙ ap not (sym some))

@@ -107,4 +107,5 @@ returns-clause-ok g c =
           subst (λ (s : Sessions). ShowsOpened s new life.geometry life.ruling life.next life.free.items) (sym c.new-3.ensures.sessions)
           (subst (λ (l : List Bool). ShowsOpened c.open-sessions.result new life.geometry life.ruling life.next l) slots shown);
       rests = c.new-3.ensures.rests;
+      waits = c.new-3.ensures.waits;
     }

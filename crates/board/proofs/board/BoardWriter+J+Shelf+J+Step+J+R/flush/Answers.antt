@@ -10,7 +10,7 @@ invariant_of-self-2 g c =
     let empty = sym c.is_some.ensures ∙ c.if-is_some.false in
     let values = done _ c.publish.result (sym c.is_err.ensures.value ∙ c.if-is_err.false) c.publish.ensures.values in
     let front = flushed_front (λ step. step.change) _ _ c.self.inside.front _ _ c.self.inside.kept inv.0 empty inv.1 values.0 values.1 in
-    (front.0, front.1, inv.2, inv.3, inv.4)
+    (front.0, front.1, inv.2)
 
 pub returns : goal.returns
 returns g c =

@@ -10,4 +10,4 @@ pub returns-in-Some : goal.returns-in-Some
 returns-in-Some g c =
     let batch = c.in-Some.batch.now in
     let last = subst (λ (xs : List Batch). Some batch ≡ slice_get xs (length xs - 1)) c.deref.ensures.value c.in-Some.ensures.value in
-    c.stamp.ensures ∙ (last_is c.self.inside.stamp c.self.inside.batches.items batch last ∙ (c.self.invariant.0.last ∙ ap (λ (l : List Change). last_stamp (list_of l)) c.self.view_is))
+    c.stamp.ensures ∙ (last_is c.self.inside.coverage.stamp c.self.inside.batches.items batch last ∙ (c.self.invariant.0.last ∙ ap (λ (l : List Change). last_stamp (list_of l)) c.self.view_is))

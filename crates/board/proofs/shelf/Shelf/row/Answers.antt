@@ -15,7 +15,7 @@ returns-in-Some g c =
     let row : Option (List ℕ) = lookup_key s.rows.entries key in
     let low = subst (λ (l : List Change). (list_of l).floor ≤ at) (sym c.self.view_is) c.requires in
     let latest = subst (λ (found : Option (Option (List ℕ))). IsLatest s.versions.entries key at found) c.in-Some.is c.latest.ensures in
-    sym (found_row s.stamp s.versions.entries s.batches.items key at row (Some c.in-Some.row) c.self.invariant.1 latest)
+    sym (found_row s.coverage.stamp s.versions.entries s.batches.items key at row (Some c.in-Some.row) c.self.invariant.1 latest)
     ∙ (c.self.invariant.0.rows_are at key low ∙ ap (λ (l : List Change). row_at (list_of l) at key) c.self.view_is)
 
 pub returns-in-None : goal.returns-in-None
@@ -26,5 +26,5 @@ returns-in-None g c =
     let row : Option (List ℕ) = lookup_key s.rows.entries key in
     let low = subst (λ (l : List Change). (list_of l).floor ≤ at) (sym c.self.view_is) c.requires in
     let latest = subst (λ (found : Option (Option (List ℕ))). IsLatest s.versions.entries key at found) c.in-None.is c.latest.ensures in
-    c.row_of.ensures ∙ (sym (found_row s.stamp s.versions.entries s.batches.items key at row None c.self.invariant.1 latest)
+    c.row_of.ensures ∙ (sym (found_row s.coverage.stamp s.versions.entries s.batches.items key at row None c.self.invariant.1 latest)
     ∙ (c.self.invariant.0.rows_are at key low ∙ ap (λ (l : List Change). row_at (list_of l) at key) c.self.view_is))

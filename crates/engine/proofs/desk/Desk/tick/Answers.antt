@@ -1,7 +1,7 @@
 use Rattle.std.proofs.Common.{refl}
 use Rattle.engine.proofs.Halting.{halted-after}
 use Rattle.engine.proofs.Rising.{some_is}
-use Rattle.engine.proofs.Staying.{from-stepped}
+use Rattle.engine.proofs.Staying.{from-stepped, makes-only}
 use Rattle.engine.proofs.desk.Desk.tick.Goals as goal
 
 pub invariant_of-self-in-Some-receipt : goal.invariant_of-self-in-Some-receipt
@@ -19,3 +19,15 @@ invariant_of-self-in-None g c = record {
   from = from-stepped g.D.Pmem.state g.J.Origin.image c.args.self.now.audited c.in-Some.audited c.step-reply.new.self c.args.self.now.from c.in-Some.is c.step-reply.ensures.audited;
   ended = c.args.self.now.ended;
 }
+
+pub returns-in-Some-receipt-clause-only : goal.returns-in-Some-receipt-clause-only
+returns-in-Some-receipt-clause-only g c =
+    let e = c.step-reply.ensures in
+    makes-only g.D.Pmem.state c.args.self.now.audited c.in-Some.audited c.step-reply.new.self c.args.step.now c.step-reply.result.0 c.step-reply.result.1 _ c.in-Some.is c.in-Some-receipt.is
+    (record { opening = e.opening; kept = e.kept; run = e.run; leads = e.step; refused = e.refused; stays = e.stays })
+
+pub returns-in-None-clause-only : goal.returns-in-None-clause-only
+returns-in-None-clause-only g c =
+    let e = c.step-reply.ensures in
+    makes-only g.D.Pmem.state c.args.self.now.audited c.in-Some.audited c.step-reply.new.self c.args.step.now c.step-reply.result.0 c.step-reply.result.1 _ c.in-Some.is c.in-None.is
+    (record { opening = e.opening; kept = e.kept; run = e.run; leads = e.step; refused = e.refused; stays = e.stays })

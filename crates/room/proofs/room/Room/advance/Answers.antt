@@ -1,4 +1,4 @@
-use Rattle.std.proofs.Common.{◌∙◌}
+use Rattle.std.proofs.Common.{refl, ◌∙◌}
 use Rattle.base.specs.declared.step.Step.TheVariants.{Commit}
 use Rattle.room.specs.Ticks.{as_reply}
 use Rattle.room.proofs.Rooms.{step-on, step-refused, shows-some, shows-then}
@@ -6,7 +6,7 @@ use Rattle.room.proofs.Calls.{tick-failure}
 use Rattle.room.proofs.room.Room.advance.Goals as goal
 
 pub returns-then-self : goal.returns-then-self
-returns-then-self g c = record { step = step-refused g.D.Pmem.state c.args.self.now Commit (g.met.D.Pmem.orderly c.args.self.now.device) c.if-self.true }
+returns-then-self g c = record { step = step-refused g.D.Pmem.state c.args.self.now Commit (g.met.D.Pmem.orderly c.args.self.now.device) c.if-self.true; waits = refl }
 
 pub tick-returned-requires : goal.tick-returned-requires
 tick-returned-requires g c = record { shown = shows-some c.args.self.now.volatile _ c.args.self.now.failed c.if-self.false c.args.self.now.shown }
@@ -18,4 +18,4 @@ invariant_of-self g c = record {
 }
 
 pub returns : goal.returns
-returns g c = record { step = step-on g.D.Pmem.state c.args.self.now _ Commit (as_reply c.tick-returned.result c.tick-returned.new.self.covered) c.if-self.false (c.reports_failure-self.ensures ∙ tick-failure c.tick-returned.result c.tick-returned.new.self.covered) c.tick-returned.ensures.step }
+returns g c = record { step = step-on g.D.Pmem.state c.args.self.now _ Commit (as_reply c.tick-returned.result c.tick-returned.new.self.covered) c.if-self.false (c.reports_failure-self.ensures ∙ tick-failure c.tick-returned.result c.tick-returned.new.self.covered) c.tick-returned.ensures.step; waits = c.tick-returned.ensures.waits }

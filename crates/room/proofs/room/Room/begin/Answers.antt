@@ -8,7 +8,7 @@ use Rattle.room.proofs.Calls.{held, shows-after-quiet, quiet-leads}
 use Rattle.room.proofs.room.Room.begin.Goals as goal
 
 pub returns-then-self : goal.returns-then-self
-returns-then-self g c = record { step = step-refused g.D.Pmem.state c.args.self.now machine.Begin (g.met.D.Pmem.orderly c.args.self.now.device) c.if-self.true }
+returns-then-self g c = record { step = step-refused g.D.Pmem.state c.args.self.now machine.Begin (g.met.D.Pmem.orderly c.args.self.now.device) c.if-self.true; waits = refl }
 
 pub begin-requires : goal.begin-requires
 begin-requires g c = record { shown = held c.args.self.now.volatile (g.D.Pmem.state c.args.self.now.device) c.args.self.now.failed c.if-self.false c.args.self.now.shown }
@@ -23,4 +23,5 @@ pub returns : goal.returns
 returns g c = record {
   step = quiet-leads g.D.Pmem.state c.args.self.now _ asked.Begin (began c.begin.result) c.if-self.false refl refl refl c.args.self.now.shown
       (steps-quietly _ _ (g.D.Pmem.state c.args.self.now.device) asked.Begin (began c.begin.result) (g.met.D.Pmem.orderly _) refl c.begin.ensures.step);
+  waits = refl;
 }

@@ -1,4 +1,4 @@
-use Rattle.std.proofs.Common.{◌∙◌}
+use Rattle.std.proofs.Common.{refl, ◌∙◌}
 use Rattle.base.specs.declared.step.Step.TheVariants.{Collect}
 use Rattle.session_steps.specs.Collecting.{as_reply}
 use Rattle.room.proofs.Rooms.{step-on, step-refused, shows-some, shows-then}
@@ -6,7 +6,7 @@ use Rattle.room.proofs.Calls.{visit-failure}
 use Rattle.room.proofs.room.Room.collect.Goals as goal
 
 pub returns-then-self : goal.returns-then-self
-returns-then-self g c = record { step = step-refused g.D.Pmem.state c.args.self.now Collect (g.met.D.Pmem.orderly c.args.self.now.device) c.if-self.true }
+returns-then-self g c = record { step = step-refused g.D.Pmem.state c.args.self.now Collect (g.met.D.Pmem.orderly c.args.self.now.device) c.if-self.true; waits = refl }
 
 pub collect-returned-requires : goal.collect-returned-requires
 collect-returned-requires g c = record { shown = shows-some c.args.self.now.volatile _ c.args.self.now.failed c.if-self.false c.args.self.now.shown }
@@ -18,4 +18,4 @@ invariant_of-self g c = record {
 }
 
 pub returns : goal.returns
-returns g c = record { step = step-on g.D.Pmem.state c.args.self.now _ Collect (as_reply c.collect-returned.result) c.if-self.false (c.reports_failure-self.ensures ∙ visit-failure c.collect-returned.result) c.collect-returned.ensures.step }
+returns g c = record { step = step-on g.D.Pmem.state c.args.self.now _ Collect (as_reply c.collect-returned.result) c.if-self.false (c.reports_failure-self.ensures ∙ visit-failure c.collect-returned.result) c.collect-returned.ensures.step; waits = c.collect-returned.ensures.waits }

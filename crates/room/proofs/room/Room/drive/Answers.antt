@@ -4,7 +4,10 @@ use Rattle.std.proofs.lemmas.List.{take_all}
 use Rattle.base.specs.declared.step.Step.{Step}
 use Rattle.base.specs.declared.step.Reply.{Reply}
 use Rattle.machine.specs.Machine.{final}
-use Rattle.room.specs.Room.{RunsTo}
+use Rattle.std.specs.Prelude.{Option, fold}
+use Rattle.std.proofs.lemmas.List.Sums.{fold-append}
+use Rattle.base.specs.Batches.{Batch}
+use Rattle.room.specs.Room.{RunsTo, covered_by, left_after}
 use Rattle.room.proofs.Runs.{run-none, run-then}
 use Rattle.room.proofs.room.Room.drive.Goals as goal
 
@@ -15,6 +18,7 @@ loop-step-init g c = record {
     subst (λ (r : List Reply). RunsTo g.D.Pmem.state c.args.self.now c.args.self.now [] r q []) (sym c.in-Ok.ensures.items)
         (run-none g.D.Pmem.state c.args.self.now q (g.met.D.Pmem.orderly c.args.self.now.device) shows),
   );
+  waits = ap (λ (r : List Reply). fold left_after (covered_by c.args.self.now) r) (sym c.in-Ok.ensures.items);
   replied = c.in-Ok.ensures.len;
   reserved = c.in-Ok.ensures.capacity;
 }
@@ -38,6 +42,9 @@ loop-step-preserved g c = record {
             (subst (λ (r : List Reply). RunsTo g.D.Pmem.state c.args.self.now c.step.new.self (take i steps ++ step ∷ []) r q (before.0 ++ one.0 ∷ [])) (sym c.push_reserved.ensures.items)
             (run-then g.D.Pmem.state c.args.self.now c.loop-step.self c.step.new.self (take i steps) c.loop-step.replies.items step reply q before.0 one.0 before.1 one.1)),
       );
+  waits =
+      c.step.ensures.waits ∙ ap (λ (o : Option Batch). left_after o c.step.result) c.loop-step.invariant.waits
+      ∙ sym (ap (λ (r : List Reply). fold left_after (covered_by c.args.self.now) r) c.push_reserved.ensures.items ∙ fold-append left_after (covered_by c.args.self.now) c.loop-step.replies.items (c.step.result ∷ []));
   replied = omega (arith, c.push_reserved.ensures.len, c.loop-step.invariant.replied);
   reserved = omega (arith, c.push_reserved.ensures.capacity, c.loop-step.invariant.reserved);
 }
@@ -48,3 +55,6 @@ returns-clause-run g c = λ q shows.
       done.0,
       subst (λ (s : List Step). RunsTo g.D.Pmem.state c.args.self.now c.loop-step.self s c.loop-step.replies.items q done.0) (take_all c.loop-step.step-index c.args.steps.now c.loop-step-test.false) done.1,
     )
+
+pub returns-clause-waits : goal.returns-clause-waits
+returns-clause-waits g c = c.loop-step.invariant.waits

@@ -16,3 +16,6 @@ returns-in-Ok-clause-no_failure g c =
 pub returns-in-Ok-clause-slots : goal.returns-in-Ok-clause-slots
 returns-in-Ok-clause-slots g c = λ word past within.
     let begun = c.in-Ok.ensures.ok in begun.opened.slots word (subst (λ (a : Layout). 8 + 32 * a.places ≤ word) (sym begun.opened.layout_is) past) within
+
+pub returns-in-Ok-clause-waits : goal.returns-in-Ok-clause-waits
+returns-in-Ok-clause-waits g c = c.in-Ok.ensures.ok.waits

@@ -8,7 +8,7 @@ use Rattle.room.proofs.Calls.{held-on, stamped-failure, shows-after-call, call-l
 use Rattle.room.proofs.room.Room.stamp.Goals as goal
 
 pub returns-then-self : goal.returns-then-self
-returns-then-self g c = record { step = step-refused g.D.Pmem.state c.args.self.now (machine.Stamp c.args.session) (g.met.D.Pmem.orderly c.args.self.now.device) c.if-self.true }
+returns-then-self g c = record { step = step-refused g.D.Pmem.state c.args.self.now (machine.Stamp c.args.session) (g.met.D.Pmem.orderly c.args.self.now.device) c.if-self.true; waits = refl }
 
 pub stamp-returned-requires : goal.stamp-returned-requires
 stamp-returned-requires g c = record { shown = held-on c.args.self.now.volatile (g.D.Pmem.state c.args.self.now.device) c.args.self.now.failed c.if-self.false c.args.self.now.shown }
@@ -23,4 +23,5 @@ pub returns : goal.returns
 returns g c = record {
   step = call-leads g.D.Pmem.state c.args.self.now _ (asked.Stamp c.args.session) (stamped c.stamp-returned.result) c.if-self.false (c.reports_failure-self.ensures ∙ stamped-failure c.stamp-returned.result) refl
       (on-device _ _ (g.D.Pmem.state c.args.self.now.device) (g.D.Pmem.state c.stamp-returned.new.device) (asked.Stamp c.args.session) (stamped c.stamp-returned.result) c.stamp-returned.ensures.step);
+  waits = refl;
 }

@@ -1,4 +1,4 @@
-use Rattle.std.proofs.Common.{◌≡◌, subst, sym, ◌∙◌, ap, length, map, arith}
+use Rattle.std.proofs.Common.{◌≡◌, refl, subst, sym, ◌∙◌, ap, length, map, arith}
 use Rattle.std.specs.Prelude.{Option, ◌&&◌, nat_eq}
 use Rattle.std.specs.List.{list_any}
 use Rattle.std.proofs.Math.Bridge.{le_prop}
@@ -12,7 +12,7 @@ use Rattle.group_commit.specs.Cycles.{Cycling, IsBeginFault}
 use Rattle.log_area.specs.Writings.{begun}
 use Rattle.txn.specs.declared.drawn.DrawnCommit.{DrawnCommit}
 use Rattle.txn.specs.DrawnCommits.{plain_drawn}
-use Rattle.session_steps.specs.declared.numbers.Numbers.{Numbers}
+use Rattle.snapshot.specs.declared.numbers.Numbers.{Numbers}
 use Rattle.room.specs.Steps.{StepsToIn}
 use Rattle.room.proofs.covers.Choices.{next_record, next-below, gate-below, few-passed, idles, takes, refuses}
 use Rattle.room.proofs.volatile.VolatileState.choose.Goals as goal
@@ -26,6 +26,7 @@ returns-then-is_idle c = record {
       subst (λ (o : Option Cycling). (q' : State) × StepsToIn c.args.self.now.sessions o device device CommitTick Idle q q') (sym c.requires.rests)
       (idles c.args.self.now.sessions device orderly q shows works
       (sym (λ i. let n = c.numbers-numbers.ensures i in is_idle n.geometry n.record n.next (c.has_swept-swept.ensures i) (map plain_drawn (c.drawn-drawn.ensures i).commits)) ∙ sym c.is_idle.ensures ∙ c.if-is_idle.true));
+  waits = refl;
 }
 
 pub begin-requires-clause-numbered : goal.begin-requires-clause-numbered
@@ -50,6 +51,7 @@ returns-in-Ok c = record {
       (c.in-Ok.ensures.batch ∙ λ i. batch_of (c.numbers-numbers.ensures i).record c.in-Ok.cycle.writing.target (chosen c.in-Ok.cycle.writing.target.persisted (map plain_drawn (c.drawn-drawn.ensures i).commits)))
       (λ n. c.in-Ok.ensures.sessions n ∙ λ i. list_any (λ (d : DrawnCommit). nat_eq d.session n && is_committed c.in-Ok.cycle.writing.target d.timestamp) (c.drawn-drawn.ensures i).commits)
       (c.in-Ok.ensures.writing ∙ λ i. let n = c.numbers-numbers.ensures i in begun n.geometry (target_of n.geometry n.record n.next (c.has_swept-swept.ensures i) (map plain_drawn (c.drawn-drawn.ensures i).commits))) c.in-Ok.ensures.stage;
+  waits = refl;
 }
 
 pub returns-in-Err : goal.returns-in-Err
@@ -59,4 +61,5 @@ returns-in-Err c = record {
       (refuses c.args.self.now.sessions device orderly q shows works
       (sym (λ i. let n = c.numbers-numbers.ensures i in is_idle n.geometry n.record n.next (c.has_swept-swept.ensures i) (map plain_drawn (c.drawn-drawn.ensures i).commits)) ∙ sym c.is_idle.ensures ∙ c.if-is_idle.false) c.in-Err.fault
       (subst (λ (n : Numbers). IsBeginFault n.record c.in-Err.fault) c.numbers-numbers.ensures c.in-Err.ensures.fault));
+  waits = refl;
 }

@@ -11,7 +11,7 @@ use Rattle.dirty_table.specs.declared.sessions.SessionSet.{SessionSet}
 use Rattle.dirty_table.specs.Touches.{lines_touched}
 use Rattle.txn.specs.InFlight.{InFlight}
 use Rattle.group_commit.specs.Cycles.{line_from, operation_in, ticked_in}
-use Rattle.session_steps.specs.declared.numbers.Numbers.{Numbers}
+use Rattle.snapshot.specs.declared.numbers.Numbers.{Numbers}
 use Rattle.room.specs.Closing.{ClosePhaseFailed}
 use Rattle.room.proofs.closes.Whole.{some-below}
 use Rattle.room.proofs.closes.Cycle.{begins, sized, line-fits, ticks, comes-closer, fails-then, ends}

@@ -25,6 +25,7 @@ returns-in-Ok-true g c = record {
       subst (λ (r : Result Bool Fault). (q' : State) × StepsToIn c.choose.new.self.sessions c.choose.new.self.cycle (g.D.Pmem.state c.args.device.now) (g.D.Pmem.state c.args.device.now) CommitTick (chosen_reply r) q q') (c.in-Ok-true.is ∙ ap (λ (b : Bool). let r : Result Bool Fault = Ok b in r) c.in-Ok-true.field-0-test)
       (c.choose.ensures.step (g.D.Pmem.state c.args.device.now) (g.met.D.Pmem.orderly _) q
       (subst (λ (o : Option Cycling). ShowsIn c.args.self.now.sessions o (g.D.Pmem.state c.args.device.now) q) (rests c.args.self.now.cycle (sym c.is_some.ensures ∙ c.if-is_some.false)) shows) works);
+  waits = c.choose.ensures.waits;
 }
 
 pub returns-in-Ok-false : goal.returns-in-Ok-false
@@ -33,6 +34,7 @@ returns-in-Ok-false g c = record {
       subst (λ (r : Result Bool Fault). (q' : State) × StepsToIn c.choose.new.self.sessions c.choose.new.self.cycle (g.D.Pmem.state c.args.device.now) (g.D.Pmem.state c.args.device.now) CommitTick (chosen_reply r) q q') (c.in-Ok-false.is ∙ ap (λ (b : Bool). let r : Result Bool Fault = Ok b in r) c.in-Ok-false.field-0-test)
       (c.choose.ensures.step (g.D.Pmem.state c.args.device.now) (g.met.D.Pmem.orderly _) q
       (subst (λ (o : Option Cycling). ShowsIn c.args.self.now.sessions o (g.D.Pmem.state c.args.device.now) q) (rests c.args.self.now.cycle (sym c.is_some.ensures ∙ c.if-is_some.false)) shows) works);
+  waits = c.choose.ensures.waits;
 }
 
 pub returns-in-Err : goal.returns-in-Err
@@ -41,4 +43,5 @@ returns-in-Err g c = record {
       subst (λ (r : Result Bool Fault). (q' : State) × StepsToIn c.choose.new.self.sessions c.choose.new.self.cycle (g.D.Pmem.state c.args.device.now) (g.D.Pmem.state c.args.device.now) CommitTick (chosen_reply r) q q') c.in-Err.is
       (c.choose.ensures.step (g.D.Pmem.state c.args.device.now) (g.met.D.Pmem.orderly _) q
       (subst (λ (o : Option Cycling). ShowsIn c.args.self.now.sessions o (g.D.Pmem.state c.args.device.now) q) (rests c.args.self.now.cycle (sym c.is_some.ensures ∙ c.if-is_some.false)) shows) works);
+  waits = c.choose.ensures.waits;
 }

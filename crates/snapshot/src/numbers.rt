@@ -2,10 +2,10 @@ ghost use Rattle.std.specs.Prelude.{◌≡◌, ◌+◌, ◌*◌, ◌^◌, ◌<�
 ghost use Rattle.gap_list.specs.GapLists.{is_gap_list};
 ghost use Rattle.snapshot.specs.Snapshots.{seen_by};
 
+use crate::{Covered, Snapshot};
 use base::geometry::Geometry;
 use base::{NUMBER_LIMIT, Ts};
 use log_area::Record;
-use snapshot::{Covered, Snapshot};
 
 /// The layout, the record that rules, and the timestamp that is drawn next.
 #[derive(Clone, Copy)]

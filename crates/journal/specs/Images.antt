@@ -1,0 +1,35 @@
+-- What a caller may say of images that are kept in a file.
+use Rattle.std.specs.Prelude.{ℕ, List, Option, length}
+use Rattle.std.specs.declared.io.Error.{Error}
+use Rattle.journal.specs.Files.{MayBe, StandsAmong}
+use Rattle.journal.specs.States.{IsOff}
+use Rattle.journal.specs.declared.journaled.JournaledImages.{JournaledImages}
+use Rattle.journal.specs.declared.storage.Storage.{Ghosts}
+
+-- the image that was written last
+abbrev pub last_image : {S P : Type 0} → {H : Ghosts S P} → JournaledImages S P H → List ℕ
+last_image images = images.written.items
+
+-- so many words the journal has
+abbrev pub room_of : {S P : Type 0} → {H : Ghosts S P} → JournaledImages S P H → ℕ
+room_of images = images.room
+
+-- where they are kept
+abbrev pub storage_of : {S P : Type 0} → {H : Ghosts S P} → JournaledImages S P H → S
+storage_of images = images.storage
+
+-- why an image wasn't kept, if one wasn't
+abbrev pub failure_of : {S P : Type 0} → {H : Ghosts S P} → JournaledImages S P H → Option Error
+failure_of images = images.failure
+
+-- the image may be found, once all has stopped
+abbrev pub MayFind : {S P : Type 0} → {H : Ghosts S P} → (S → ℕ → ℕ → Type 0) → JournaledImages S P H → List ℕ → Type 0
+MayFind may_hold images image = MayBe (may_hold images.storage) images.room images.written.items image
+
+-- the first words of this storage are the image that was written last, and the journal behind them doesn't count
+abbrev pub IsClosedIn : {S P : Type 0} → {H : Ghosts S P} → (S → ℕ → ℕ → Type 0) → JournaledImages S P H → S → Type 0
+IsClosedIn may_hold images storage = IsOff (may_hold storage) (length images.written.items) images.room images.written.items
+
+-- whatever is found in this storage stands for an image that might have been found before
+abbrev pub StandsForOne : {S P : Type 0} → {H : Ghosts S P} → (S → ℕ → ℕ → Type 0) → JournaledImages S P H → S → Type 0
+StandsForOne may_hold images storage = StandsAmong (may_hold images.storage) (may_hold storage) images.room images.written.items

@@ -1,0 +1,44 @@
+-- What a caller may say of a device whose image is kept elsewhere.
+use Rattle.std.specs.Prelude.{ℕ, List, Option}
+use Rattle.std.specs.declared.io.Error.{Error}
+use Rattle.journal.specs.Images as journal
+use Rattle.journal.specs.declared.images.Images.{Ghosts}
+use Rattle.journal.specs.declared.journaled.JournaledImages.{JournaledImages}
+use Rattle.journal.specs.declared.storage.Storage.{Ghosts as StorageGhosts}
+use Rattle.pmem.specs.Device.{Device}
+use Rattle.pmem_file.specs.Traces.{device_of}
+use Rattle.pmem_file.specs.declared.journaled.JournaledPmem.{JournaledPmem}
+
+-- all that was done to it
+abbrev pub state_of : {I P : Type 0} → {H : Ghosts I P} → JournaledPmem I P H → Device
+state_of device = device_of device.trace
+
+-- the moment of the last image that was kept
+abbrev pub kept_at : {I P : Type 0} → {H : Ghosts I P} → JournaledPmem I P H → ℕ
+kept_at device = (device_of device.kept.value).clock
+
+-- how many places for records it has
+abbrev pub places_of : {I P : Type 0} → {H : Ghosts I P} → JournaledPmem I P H → ℕ
+places_of device = device.places
+
+-- the image may be found, once all has stopped
+abbrev pub MayFind : {I P : Type 0} → {H : Ghosts I P} → (I → List ℕ → Type 0) → JournaledPmem I P H → List ℕ → Type 0
+MayFind may_hold device image = may_hold device.images image
+
+-- ---- one whose images are kept in a file
+
+-- why an image wasn't kept, if one wasn't
+abbrev pub failure_of : {S P Q : Type 0} → {G : StorageGhosts S P} → {H : Ghosts (JournaledImages S P G) Q} → JournaledPmem (JournaledImages S P G) Q H → Option Error
+failure_of device = journal.failure_of device.images
+
+-- where they are kept
+abbrev pub storage_of : {S P Q : Type 0} → {G : StorageGhosts S P} → {H : Ghosts (JournaledImages S P G) Q} → JournaledPmem (JournaledImages S P G) Q H → S
+storage_of device = journal.storage_of device.images
+
+-- the first words of this storage are the image that was written last, and the journal behind them doesn't count
+abbrev pub IsClosedIn : {S P Q : Type 0} → {G : StorageGhosts S P} → {H : Ghosts (JournaledImages S P G) Q} → (S → ℕ → ℕ → Type 0) → JournaledPmem (JournaledImages S P G) Q H → S → Type 0
+IsClosedIn may_hold device storage = journal.IsClosedIn may_hold device.images storage
+
+-- whatever is found in this storage stands for an image that might have been found before
+abbrev pub StandsForOne : {S P Q : Type 0} → {G : StorageGhosts S P} → {H : Ghosts (JournaledImages S P G) Q} → (S → ℕ → ℕ → Type 0) → JournaledPmem (JournaledImages S P G) Q H → S → Type 0
+StandsForOne may_hold device storage = journal.StandsForOne may_hold device.images storage
