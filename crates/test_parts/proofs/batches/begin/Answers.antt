@@ -10,4 +10,4 @@ pub begin-requires-clause-few : goal.begin-requires-clause-few
 begin-requires-clause-few c =
     let ds = c.args.drawn.now.commits in
     let same = ap (λ (ds : List DrawnCommit). length ds) c.as_slice.ensures.commits in
-    omega (arith, same, few-passed (reach (most_longs c.args.geometry.version) c.args.ruling.persisted (map plain_drawn ds)) ds)
+    omega (arith, same, few-passed (reach (most_longs c.args.numbers.now.geometry.version) c.args.numbers.now.record.persisted (map plain_drawn ds)) ds)
