@@ -43,7 +43,7 @@ pub struct Covered {
 }
 
 impl Cycle {
-    ghost use Rattle.std.specs.Prelude.{◌≡◌, ◌≢◌, ◌↔◌, ◌+◌, ◌*◌, ◌^◌, ◌<◌, ◌≤◌, ◌&&◌, ℕ, nat_eq, length, map, Some, None, IsTrue, IfOk, IfErr, OnOk, OnErr};
+    ghost use Rattle.std.specs.Prelude.{◌≡◌, ◌≢◌, ◌↔◌, ◌+◌, ◌*◌, ◌^◌, ◌<◌, ◌≤◌, ◌&&◌, ℕ, nat_eq, [], length, map, Some, None, IsTrue, IfOk, IfErr, OnOk, OnErr};
     ghost use Rattle.std.specs.List.{list_any};
     ghost use Rattle.base.specs.Choosing.{chosen, target_of, closing_record, batch_of};
     ghost use Rattle.base.specs.Layout.{total_words};
@@ -92,6 +92,7 @@ impl Cycle {
     /// empty: it takes no memory.
     pub fn closing(alloc: Global, numbers: &Numbers, swept: bool, drawn: &DrawnCommits) -> Cycle
         requires numbered { numbers.now.record.gate < 2 ^ 62 }
+        ensures batch { result.batch ≡ batch_of numbers.now.record result.writing.target [] }
         ensures sessions { (n : ℕ) → has result.sessions n ≡ list_any (λ d. nat_eq d.session n) drawn.now.commits }
         ensures writing { result.writing ≡ begun numbers.now.geometry (closing_record (numbers.now.record.gate + 1) numbers.now.record numbers.now.next swept) }
         ensures stage { result.stage ≡ FlushLines 0 0 }
