@@ -1,4 +1,4 @@
-ghost use Rattle.std.specs.Prelude.{◌≡◌, ℕ, List, ◌+◌, ◌%◌, ◌<◌, ◌^◌, true, false, length, is_some, IfErr, IfOk, IsSome, OnErr, OnOk};
+ghost use Rattle.std.specs.Prelude.{◌≡◌, ℕ, List, ◌+◌, ◌%◌, ◌<◌, ◌^◌, true, false, None, length, is_some, IfErr, IfOk, IsSome, OnErr, OnOk};
 ghost use Rattle.std.proofs.Common.{inl};
 ghost use Rattle.journal.specs.Kept.{HoldsOnly};
 ghost use Rattle.journal.specs.Files.{Opens, StandsAs};
@@ -74,6 +74,7 @@ impl<S: Storage> JournaledImages<S> {
         ensures stands { IfOk result (λ images. Opens words room file.now (last_image images)) }
         ensures found { IfOk result (λ images. (image : List ℕ) → MayFind S.may_hold images image → image ≡ last_image images) }
         ensures room { IfOk result (λ images. room_of images ≡ room) }
+        ensures works { IfOk result (λ images. failure_of images ≡ None) }
         ensures unopened { IfErr result (λ unopened. StandsAs (S.may_hold unopened.storage) words room file.now) }
     {
         let durable = match image_in(alloc, file, words, room) {

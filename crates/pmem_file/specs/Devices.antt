@@ -17,6 +17,14 @@ state_of device = device_of device.trace
 abbrev pub kept_at : {I P : Type 0} → {H : Ghosts I P} → JournaledPmem I P H → ℕ
 kept_at device = (device_of device.kept.value).clock
 
+-- where its image is kept
+abbrev pub images_of : {I P : Type 0} → {H : Ghosts I P} → JournaledPmem I P H → I
+images_of device = device.images
+
+-- an image wasn't kept, and why is noted there
+abbrev pub HasFailed : {I P : Type 0} → {H : Ghosts I P} → (I → Type 0) → JournaledPmem I P H → Type 0
+HasFailed has_failed device = has_failed device.images
+
 -- how many places for records it has
 abbrev pub places_of : {I P : Type 0} → {H : Ghosts I P} → JournaledPmem I P H → ℕ
 places_of device = device.places

@@ -1,6 +1,7 @@
-ghost use Rattle.std.specs.Prelude.{IfOk};
-ghost use Rattle.pmem.specs.Words.{IsAtRest};
-ghost use Rattle.pmem_file.specs.Devices.{state_of};
+ghost use Rattle.std.specs.Prelude.{◌≡◌, None, IfOk};
+ghost use Rattle.pmem.specs.Device.{restarted};
+ghost use Rattle.pmem.specs.Words.{IsAtRest, image_of};
+ghost use Rattle.pmem_file.specs.Devices.{failure_of, state_of};
 
 use crate::journaled::JournaledPmem;
 use crate::opening::{
@@ -32,6 +33,8 @@ impl JournaledPmem<JournaledImages<FileStorage>> {
         geometry: Geometry,
     ) -> Result<FileDevice, OpenError>
         ensures rest { IfOk result (λ device. IsAtRest (state_of device)) }
+        ensures device { IfOk result (λ device. state_of device ≡ restarted (image_of (state_of device))) }
+        ensures works { IfOk result (λ device. failure_of device ≡ None) }
     {
         let held = hold_standard_streams(rt, alloc)?;
         let file = open_alone(rt, name)?;
@@ -67,7 +70,9 @@ fn open_found(
     found: Found,
     shape: Shape,
 ) -> io::Result<FileDevice>
-    ensures { IfOk result (λ device. IsAtRest (state_of device)) }
+    ensures rest { IfOk result (λ device. IsAtRest (state_of device)) }
+    ensures device { IfOk result (λ device. state_of device ≡ restarted (image_of (state_of device))) }
+    ensures works { IfOk result (λ device. failure_of device ≡ None) }
 {
     let mut storage = FileStorage::new(alloc, file, held)?;
     storage.grow(found.count(), shape.whole())?;

@@ -1,4 +1,4 @@
-ghost use Rattle.std.specs.Prelude.{◌≡◌, ◌⊎◌, ◌/◌, ◌<◌, ◌≤◌, ◌*◌, ◌&&◌, ◌||◌, ℕ, List, length, true, false, slice_index, IfOk, OnOk, OnErr, IfErr};
+ghost use Rattle.std.specs.Prelude.{◌≡◌, ◌⊎◌, ◌/◌, ◌<◌, ◌≤◌, ◌*◌, ◌&&◌, ◌||◌, ℕ, List, length, true, false, None, slice_index, IfOk, OnOk, OnErr, IfErr};
 ghost use Rattle.journal.specs.Changes.{DiffersIn};
 ghost use Rattle.pmem.specs.Device.{Device, stored, fenced, failed, MightHaveLeft};
 ghost use Rattle.journal.specs.Kept.{HoldsOnly};
@@ -59,13 +59,14 @@ pub struct JournaledPmem<I: Images> {
     ghost gates: { is_gate_stored ≡ false → HoldsOnly (HoldsGate places (I.may_hold images)) (length words.items) words.items },
     ghost since_written: { failed ≡ false → IsSince (device_of trace) (device_of written.value).clock (I.shows images) },
     ghost gates_written: { failed ≡ false → is_gate_unwritten ≡ false → HoldsOnly (HoldsGate places (I.shows images)) (length words.items) words.items },
+    ghost noted: { failed ≡ true → ∥ I.has_failed images ∥₁ },
     ghost changes: { failed ≡ false → (image : List ℕ) → I.shows images image → DiffersIn changed.lines words.items image },
 }
 
 impl<I: Images> JournaledPmem<I> {
     ghost use Rattle.pmem.specs.Device.{restarted};
     ghost use Rattle.pmem.specs.Words.{IsAtRest, Survives};
-    ghost use Rattle.pmem_file.specs.Devices.{MayFind, kept_at, places_of, state_of};
+    ghost use Rattle.pmem_file.specs.Devices.{MayFind, images_of, kept_at, places_of, state_of};
 
     /// A device at rest with these words, as the image that is kept there has them, and with this number of places for records.
     /// Where memory is refused, the images are handed back.
@@ -79,6 +80,7 @@ impl<I: Images> JournaledPmem<I> {
         ensures rest { IfOk result (λ made. IsAtRest (state_of made)) }
         ensures device { IfOk result (λ made. state_of made ≡ restarted words.items) }
         ensures places { IfOk result (λ made. places_of made ≡ places) }
+        ensures keeps { IfOk result (λ made. images_of made ≡ images) }
         ensures images { IfErr result (λ back. back ≡ images) }
     {
         let lines = words.len() / 8;
@@ -124,6 +126,7 @@ impl<I: Images> JournaledPmem<I> {
     // An operation fails.
     fn refuse(&mut self) -> Fault
         ensures state { device_of self.new.trace ≡ failed (device_of self.old.trace) }
+        ensures failed { self.new.failed ≡ self.old.failed }
         ensures fault { result ≡ Fault.Device }
     {
         self.trace.note(Operation::Failure);
@@ -180,6 +183,7 @@ impl<I: Images> JournaledPmem<I> {
         ensures ok { OnOk result (device_of self.new.trace ≡ fenced actor (device_of self.old.trace)) }
         ensures err { OnErr result (device_of self.new.trace ≡ failed (device_of self.old.trace)) }
         ensures fault { IfErr result (λ fault. fault ≡ Fault.Device) }
+        ensures noted { OnErr result (self.new.failed ≡ true) }
     {
         match self.keep() {
             Ok(()) => {
@@ -197,6 +201,7 @@ impl<I: Images> JournaledPmem<I> {
     fn is_fenced(&mut self, actor: u8) -> bool
         ensures fenced { result ≡ true → device_of self.new.trace ≡ fenced actor (device_of self.old.trace) }
         ensures refused { result ≡ false → device_of self.new.trace ≡ failed (device_of self.old.trace) }
+        ensures noted { result ≡ false → self.new.failed ≡ true }
     {
         if self.failed {
             let _ = self.refuse();
@@ -214,6 +219,7 @@ impl<I: Images> JournaledPmem<I> {
         requires { self.old.failed ≡ false }
         ensures trace { self.new.trace ≡ self.old.trace }
         ensures kept { OnOk result (self.new.is_gate_stored ≡ false) }
+        ensures noted { OnErr result (self.new.failed ≡ true) }
     {
         if !self.is_gate_unwritten {
             return self.finish();
@@ -228,6 +234,7 @@ impl<I: Images> JournaledPmem<I> {
         ensures trace { self.new.trace ≡ self.old.trace }
         ensures written { OnOk result (self.new.is_gate_unwritten ≡ false) }
         ensures works { OnOk result (self.new.failed ≡ false) }
+        ensures noted { OnErr result (self.new.failed ≡ true) }
     {
         match self.images.begin(&self.words, self.changed.as_slice()) {
             Ok(()) => {
@@ -248,6 +255,7 @@ impl<I: Images> JournaledPmem<I> {
         requires { self.old.failed ≡ false }
         ensures trace { self.new.trace ≡ self.old.trace }
         ensures kept { OnOk result (self.new.is_gate_stored ≡ self.old.is_gate_unwritten) }
+        ensures noted { OnErr result (self.new.failed ≡ true) }
     {
         match self.images.finish() {
             Ok(()) => {
@@ -265,6 +273,7 @@ impl<I: Images> JournaledPmem<I> {
 
 impl<S: Storage> JournaledPmem<JournaledImages<S>> {
     ghost use Rattle.journal.specs.Files.{Opens, StandsAs};
+    ghost use Rattle.pmem.specs.Device.{restarted};
     ghost use Rattle.pmem.specs.Words.{IsAtRest, image_of};
     ghost use Rattle.pmem_file.specs.Devices.{IsClosedIn, StandsForOne, failure_of, places_of, state_of, storage_of};
 
@@ -283,8 +292,10 @@ impl<S: Storage> JournaledPmem<JournaledImages<S>> {
         S: Drop,
         requires holds { HoldsOnly (S.may_hold storage) (length file.now) file.now }
         ensures rest { IfOk result (λ device. IsAtRest (state_of device)) }
+        ensures device { IfOk result (λ device. state_of device ≡ restarted (image_of (state_of device))) }
         ensures stands { IfOk result (λ device. Opens words room file.now (image_of (state_of device))) }
         ensures places { IfOk result (λ device. places_of device ≡ places) }
+        ensures works { IfOk result (λ device. failure_of device ≡ None) }
         ensures unopened { IfErr result (λ unopened. StandsAs (S.may_hold unopened.storage) words room file.now) }
     {
         let images = JournaledImages::open(alloc, storage, file, words, room)?;
@@ -358,6 +369,7 @@ fn is_gate_flushed(places: usize, flushed: &[Flushed], actor: u8) -> bool
 }
 
 impl<I: Images> Pmem for JournaledPmem<I> {
+    ghost use Rattle.pmem_file.specs.Devices.{HasFailed, state_of};
     ghost use Rattle.pmem_file.specs.Traces.{device_of};
     ghost use Rattle.pmem_file.specs.Orderly.{orderly_of};
 
@@ -399,8 +411,13 @@ impl<I: Images> Pmem for JournaledPmem<I> {
         }
     }
 
-    // Most fences are made while no gate is stored, and order only.
-    fn fence(&mut self, actor: Actor) -> Result<(), Fault> {
+    // Most fences are made while no gate is stored, and order only. One fails only where an image wasn't kept.
+    fn fence(&mut self, actor: Actor) -> Result<(), Fault>
+        ensures ok { OnOk result (state_of self.new ≡ fenced actor.number (state_of self.old)) }
+        ensures err { OnErr result (state_of self.new ≡ failed (state_of self.old)) }
+        ensures fault { IfErr result (λ fault. fault ≡ Fault.Device) }
+        ensures noted { OnErr result (∥ HasFailed I.has_failed self.new ∥₁) }
+    {
         if !self.failed && !self.is_gate_stored {
             self.order(actor.number);
             return Ok(());

@@ -1,6 +1,6 @@
-use Rattle.std.proofs.Common.{rules, ◌≡◌, List, ℕ, [], length, sym, ◌∙◌, ap, subst}
+use Rattle.std.proofs.Common.{rules, List, ℕ, sym, subst}
 use Rattle.std.proofs.lemmas.List.{with_items_is}
-use Rattle.pmem_file.specs.Changed.{AreMarked, Changes, Unmarks}
+use Rattle.pmem_file.specs.Changed.{AreMarked, Unmarks}
 use Rattle.pmem_file.specs.declared.changed.Mark.{Mark}
 use Rattle.pmem_file.proofs.Marks.{none-left}
 use Rattle.pmem_file.proofs.changed.ChangedLines.clear.Goals as goal

@@ -1,6 +1,7 @@
 use Rattle.std.proofs.Common.{◌≡◌, ◌∙◌, ℕ, List, sym, ap, subst}
 use Rattle.journal.specs.Files.{MayBe, Opens, StandsAs}
 use Rattle.journal.proofs.Files.{only-stands}
+use Rattle.pmem.specs.Device.{restarted}
 use Rattle.pmem.specs.Words.{image_of}
 use Rattle.pmem.proofs.Restarted.{image-restarted}
 use Rattle.pmem_file.specs.Traces.{device_of}
@@ -15,6 +16,14 @@ returns-in-Ok-new-clause-stands g c =
     let is : image_of (device_of c.in-Ok-new.device.trace) ≡ c.in_ok-images.images.written.items =
     ap image_of c.in-Ok-new.ensures.device ∙ image-restarted c.in-Ok.image.items ∙ (c.in-Ok.ensures.items ∙ c.image.ensures) in
     subst P (sym is) c.in_ok-images.ensures.stands
+
+pub returns-in-Ok-new-clause-device : goal.returns-in-Ok-new-clause-device
+returns-in-Ok-new-clause-device g c =
+    let is : image_of (device_of c.in-Ok-new.device.trace) ≡ c.in-Ok.image.items = ap image_of c.in-Ok-new.ensures.device ∙ image-restarted c.in-Ok.image.items in
+    c.in-Ok-new.ensures.device ∙ sym (ap restarted is)
+
+pub returns-in-Ok-new-clause-works : goal.returns-in-Ok-new-clause-works
+returns-in-Ok-new-clause-works g c = ap (λ i. i.failure) c.in-Ok-new.ensures.keeps ∙ c.in_ok-images.ensures.works
 
 -- where the storage is the same
 moved : {S : Type 0} (may_hold : S → ℕ → ℕ → Type 0) (old new : S) (words room : ℕ) (file : List ℕ) → new ≡ old → StandsAs (may_hold old) words room file → StandsAs (may_hold new) words room file

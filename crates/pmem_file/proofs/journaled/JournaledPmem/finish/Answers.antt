@@ -1,5 +1,6 @@
-use Rattle.std.proofs.Common.{◌≡◌, false, sym, subst, List, ℕ}
+use Rattle.std.proofs.Common.{◌∙◌, sym, subst, List, ℕ}
 use Rattle.std.proofs.lemmas.Bool.{true≢false}
+use Rattle.std.proofs.lemmas.Grind.{merely}
 use Rattle.pmem_file.specs.Traces.{device_of}
 use Rattle.pmem_file.specs.Journaled.{IsSince}
 use Rattle.pmem_file.proofs.Since.{Holds, gates-within, holds-finished, holds-within, since-within}
@@ -10,7 +11,7 @@ invariant_of-self-in-Err g c =
     let old = c.args.self.now in
     let h = holds-within (device_of old.trace) old.words.items old.flushed.items old.places old.is_gate_stored (device_of old.kept.value).clock (g.I.Images.may_hold old.images) (g.I.Images.may_hold c.finish.new.self)
     c.finish.ensures.whole (record { shown = old.shown; mirrored = old.mirrored; back = old.since; gates = old.gates }) in
-    record { marked = old.marked; shown = h.shown; mirrored = h.mirrored; since = h.back; gates = h.gates; since_written = λ none. absurd (true≢false none); gates_written = λ none. absurd (true≢false none); changes = λ none. absurd (true≢false none) }
+    record { marked = old.marked; shown = h.shown; mirrored = h.mirrored; since = h.back; gates = h.gates; since_written = λ none. absurd (true≢false none); gates_written = λ none. absurd (true≢false none); noted = λ is. merely c.in-Err.ensures.noted; changes = λ none. absurd (true≢false none) }
 
 pub invariant_of-self : goal.invariant_of-self
 invariant_of-self g c =
@@ -35,5 +36,6 @@ invariant_of-self g c =
       gates = h.gates;
       since_written = λ works. s;
       gates_written = λ works none. gates-within old.places old.words.items (g.I.Images.shows old.images) shows (λ image may. kept image (found image may)) (old.gates_written c.requires none);
+      noted = λ is. absurd (true≢false (sym is ∙ c.requires));
       changes = λ works image may. old.changes c.requires image (kept image (found image may));
     }

@@ -1,4 +1,4 @@
-use Rattle.std.proofs.Common.{rules, ◌≡◌, List, ℕ, sym, subst}
+use Rattle.std.proofs.Common.{rules, sym, subst}
 use Rattle.pmem_file.specs.declared.trace.Trace.{Trace}
 use Rattle.pmem_file.specs.Journaled.{IsSince}
 use Rattle.pmem_file.specs.Shown.{IsShown}

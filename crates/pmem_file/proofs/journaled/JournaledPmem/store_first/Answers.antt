@@ -28,5 +28,6 @@ invariant_of-self g c =
       gates = h.gates;
       since_written = λ works. (w works).back;
       gates_written = λ works. (w works).gates;
+      noted = old.noted;
       changes = λ none image may. differs-stored old.changed.lines c.add.new.self.lines old.words.items image c.args.word c.args.value (old.changes none image may) (c.in-Ok.ensures.has) c.add.ensures.others;
     }

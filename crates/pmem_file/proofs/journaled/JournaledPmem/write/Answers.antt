@@ -1,5 +1,6 @@
-use Rattle.std.proofs.Common.{◌≡◌, ◌⊎◌, ◌*◌, ◌≤◌, false, sym, subst, length, List, ℕ}
+use Rattle.std.proofs.Common.{◌≡◌, ◌∙◌, ◌⊎◌, ◌*◌, ◌≤◌, false, sym, subst, length, List, ℕ}
 use Rattle.std.proofs.lemmas.Bool.{true≢false}
+use Rattle.std.proofs.lemmas.Grind.{merely}
 use Rattle.journal.specs.Changes.{DiffersIn}
 use Rattle.pmem_file.specs.Changed.{Changes}
 use Rattle.pmem_file.specs.declared.trace.Trace.{Trace}
@@ -15,7 +16,7 @@ invariant_of-self-in-Err g c =
     let whole : T old.words.items = c.begin.ensures.whole in
     let h = holds-tried (device_of old.trace) old.words.items old.flushed.items old.places old.is_gate_stored (device_of old.kept.value).clock (g.I.Images.may_hold old.images) (g.I.Images.may_hold c.begin.new.self)
     (record { shown = old.shown; mirrored = old.mirrored; back = old.since; gates = old.gates }) whole in
-    record { marked = old.marked; shown = h.shown; mirrored = h.mirrored; since = h.back; gates = h.gates; since_written = λ none. absurd (true≢false none); gates_written = λ none. absurd (true≢false none); changes = λ none. absurd (true≢false none) }
+    record { marked = old.marked; shown = h.shown; mirrored = h.mirrored; since = h.back; gates = h.gates; since_written = λ none. absurd (true≢false none); gates_written = λ none. absurd (true≢false none); noted = λ is. merely c.in-Err.ensures.noted; changes = λ none. absurd (true≢false none) }
 
 pub invariant_of-self : goal.invariant_of-self
 invariant_of-self g c =
@@ -38,6 +39,7 @@ invariant_of-self g c =
       gates = h.gates;
       since_written = λ works. w.back;
       gates_written = λ works. w.gates;
+      noted = λ is. absurd (true≢false (sym is ∙ c.requires));
       changes = λ works image may. subst (λ (changes : Changes). DiffersIn changes.lines words image) (sym c.clear.ensures) (differs-nowhere words image (begun image may));
     }
 

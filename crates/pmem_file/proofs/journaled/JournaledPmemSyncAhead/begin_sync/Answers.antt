@@ -1,4 +1,5 @@
-use Rattle.std.proofs.Common.{◌≡◌, false, sym, subst, List, ℕ}
+use Rattle.std.proofs.Common.{◌≡◌, false}
+use Rattle.std.proofs.Math.Logic.{∥∥₁_map}
 use Rattle.pmem_file.specs.Traces.{device_of}
 use Rattle.pmem_file.proofs.Since.{Written, holds-within, written-within}
 use Rattle.pmem_file.proofs.journaled.JournaledPmemSyncAhead.begin_sync.Goals as goal
@@ -18,5 +19,6 @@ invariant_of-self g c =
       gates = h.gates;
       since_written = λ works. (w works).back;
       gates_written = λ works. (w works).gates;
+      noted = λ is. ∥∥₁_map (old.noted is) c.hand_out.ensures.noted;
       changes = λ works image may. old.changes works image (c.hand_out.ensures.shown image may);
     }
