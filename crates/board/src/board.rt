@@ -251,4 +251,15 @@ impl<J: Naming, R: Wait + Drop> BoardWriter<J, Shelf<J>, Step<J>, R> {
             coverage: shelf.coverage(),
         }
     }
+
+    /// Tells what is published once what waits is. Readers don't see all of it before, so it is kept to be compared with what is
+    /// told later.
+    pub fn announced(&self) -> Token<J>
+        ensures { result ≡ whole self.now }
+    {
+        Token {
+            front: self.front.again(),
+            coverage: self.coverage,
+        }
+    }
 }

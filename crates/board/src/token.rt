@@ -27,7 +27,7 @@ impl<J: Naming> Model for Token<J> {
 }
 
 impl<J: Naming> Token<J> {
-    ghost use Rattle.std.specs.Prelude.{◌≡◌, ◌≤◌, ◌⊎◌, ◌↔◌, IsTrue, false};
+    ghost use Rattle.std.specs.Prelude.{◌≡◌, ◌≤◌, ◌⊎◌, ◌↔◌, IsTrue, MatchBool, false};
     ghost use Rattle.base.specs.Published.{last_stamp};
     ghost use Rattle.board.specs.Lists.{Begins, IsLater, has_commit, is_among, last_persisted, last_longs};
 
@@ -58,16 +58,19 @@ impl<J: Naming> Token<J> {
         }
     }
 
+    /// Whether the other one's list begins with this one's. If not, this one's begins with the other's.
+    pub fn begins(&self, other: &Token<J>) -> bool
+        ensures { MatchBool result (Begins self.now other.now) (Begins other.now self.now) }
+    {
+        self.front.begins(&other.front)
+    }
+
     /// The later of the two: its list begins with the other's.
     #[tactic(auto, using(crate::proofs::Rules::begins_self))]
     pub fn later(self, other: Token<J>) -> Token<J>
         ensures begins { Begins self result × Begins other result }
         ensures one { (result ≡ self) ⊎ (result ≡ other) }
     {
-        if self.front.begins(&other.front) {
-            other
-        } else {
-            self
-        }
+        if self.begins(&other) { other } else { self }
     }
 }
