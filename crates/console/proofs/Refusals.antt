@@ -1,6 +1,7 @@
 -- Which refusal ends a subcommand.
 use Rattle.std.proofs.Common.{◌≡◌, ◌⊎◌, ℕ, List, [], ◌∷◌, ◌++◌, length, true, sym, ◌∙◌, ap, subst, inl, inr, refl, append-nil}
-use Rattle.std.specs.Prelude.{Option, Some, None, IfSome, Result, Ok, Err, IsErrAnd, IfErr}
+use Rattle.std.specs.Prelude.{Option, Some, None, IfSome, IsSome, Result, Ok, Err, IsErrAnd, IfErr}
+use Rattle.std.proofs.lemmas.Bool.{false≢true}
 use Rattle.std.specs.Io.KnownBytes.{Appends}
 use Rattle.base.specs.declared.fault.Fault.{Fault}
 use Rattle.base.specs.declared.fault.Fault.TheVariants.{Device as DeviceFault, OutOfMemory}
@@ -25,7 +26,7 @@ use Rattle.console.specs.Input.{Reads}
 use Rattle.console.specs.Kept.{Leads}
 use Rattle.console.specs.Lives.{opened_text}
 use Rattle.console.specs.Obeyed.{ObeysLines}
-use Rattle.console.specs.Refusals.{EndsAtClose, EndsRefused, IfRefused, IsClosingFault, IsDamage, IsFaultOf, IsFileFault, IsOpeningFault, Refuses, refusal_line}
+use Rattle.console.specs.Refusals.{EndsAtClose, EndsRefused, EndsWith, IfRefused, IsClosingFault, IsDamage, IsFaultOf, IsFileFault, IsOpeningFault, Refuses, refusal_line}
 use Rattle.console.specs.declared.stop.Stop.{Stop}
 use Rattle.console.specs.declared.stop.Stop.TheVariants.{Refused, NotACommand, Broken}
 use Rattle.console.proofs.Lives.{begun-of}
@@ -107,6 +108,20 @@ refused-so order stop file input old mid new None met told = tt
 refused-so order stop file input old mid new (Some after) met told =
     fault-by after (λ (fault : Fault). IsFaultOf stop fault × Appends mid new (refusal_line fault)) (Refuses order file input old new)
     (λ fault t. refused-by order stop file input old mid new fault met t.0 t.1) told
+
+ends-with : (mid new : Option Text) (line : Text) → IsSome mid → Appends mid new line → EndsWith new line
+ends-with None new line known says = absurd (false≢true known)
+ends-with (Some before) None line known says = tt
+ends-with (Some before) (Some text) line known says = (before, says)
+
+-- the line of the refusal is the last, where all bytes are known
+pub refused-last : (stop : Stop) (mid new : Option Text) (stopped : Option Stop) → IsSome mid
+    → IfSome stopped (IfRefused (λ fault. IsFaultOf stop fault × Appends mid new (refusal_line fault)))
+    → IfSome stopped (IfRefused (λ fault. EndsWith new (refusal_line fault)))
+refused-last stop mid new None known told = tt
+refused-last stop mid new (Some after) known told =
+    fault-by after (λ (fault : Fault). IsFaultOf stop fault × Appends mid new (refusal_line fault)) (λ (fault : Fault). EndsWith new (refusal_line fault))
+    (λ fault t. ends-with mid new (refusal_line fault) known t.1) told
 
 -- ---- the faults
 

@@ -21,13 +21,13 @@ use Rattle.recovery.specs.Read.{IsReadRefusal}
 use Rattle.room.specs.Room.{Shows}
 use Rattle.room.specs.declared.room.Room.{Room}
 use Rattle.room.specs.declared.status.Status.{Status}
-use Rattle.workload.specs.Load.{HasFree, HasRunFrom, IsLoadFault, OpensTo}
-use Rattle.workload.proofs.Made.{engine-not-slots}
+use Rattle.workload.specs.Load.{HasFree, HasMadeFrom, HasNumbers, HasRunFrom, IsEngineFault, IsLoadFault, OpensTo}
+use Rattle.workload.proofs.Made.{engine-not-slots, run-of-made}
 use Rattle.command_line.specs.ImageFile.{HoldsWords, IsFileOf, is_image_length}
 use Rattle.command_line.specs.Numbers.{Text}
 use Rattle.console.specs.Kept.{Extends, IsFileWith, KeepsHistories}
 use Rattle.console.specs.Refusals.{IsClosingFault, IsFileFault}
-use Rattle.console.specs.Threads.{IsOther, IsThreadsFault}
+use Rattle.console.specs.Threads.{IsOther, IsThreadsFault, MakesTo}
 use Rattle.console.proofs.Files.{one_image}
 use Rattle.console.proofs.Grown.{Grows, grows-same, grows-stepped, grows-trans}
 use Rattle.console.proofs.KeptHistory.{keeps-closed}
@@ -64,14 +64,28 @@ keeps-run state room before words image after holds run closed bytes = ∥∥₁
       (file-of-run state room words image history h.0 h.1 after (h.2.runs history drawn next [] (subst (λ (w : Image). Stands w history drawn next) same stands)) closed bytes);
 })
 
+-- ---- what the threads made
+
+-- the run that they made comes to a state that the room shows
+pub made-to : {D : Type 0} {G : Ghosts D} (state : D → Device) (room : Room D G) (words : Image) (sessions commits : ℕ) (Is : State → Type 0) → ∥ HasMadeFrom state words sessions commits room ∥₁
+    → ((q : State) → Shows state room q → Is q) → ∥ MakesTo words sessions commits Is ∥₁
+made-to state room words sessions commits Is made is = ∥∥₁_map made (λ h. record {
+  may_open = h.2.may_open;
+  entries = h.1;
+  made = h.3;
+  runs = λ history drawn next lost stands.
+      let r = h.2.runs history drawn next lost stands in
+      (r.start, r.now, r.opens, r.run, is r.now r.shows);
+})
+
 -- ---- why it is refused
 
-pub load-fault : (file words slice : List ℕ) (sessions : ℕ) (old : Option Text) (fault : Fault) → is_image_length (length file) ≡ true → HoldsWords file words → slice ≡ words
-    → (fault ≡ OutOfMemory) ⊎ IsThreadsFault sessions slice fault
-    → (fault ≡ OutOfMemory) ⊎ (IsFileFault file (IsThreadsFault sessions) fault × Appends old old [])
-load-fault file words slice sessions old fault size holds same (inl memory) = inl memory
-load-fault file words slice sessions old fault size holds same (inr is) =
-    inr (inr (record { size = size; image = words; holds = holds; is = subst (λ (i : Image). IsThreadsFault sessions i fault) same is }), appends-none old)
+pub load-fault : (file words slice : List ℕ) (sessions commits : ℕ) (old : Option Text) (fault : Fault) → is_image_length (length file) ≡ true → HoldsWords file words → slice ≡ words
+    → (fault ≡ OutOfMemory) ⊎ IsThreadsFault sessions commits slice fault
+    → (fault ≡ OutOfMemory) ⊎ (IsFileFault file (IsThreadsFault sessions commits) fault × Appends old old [])
+load-fault file words slice sessions commits old fault size holds same (inl memory) = inl memory
+load-fault file words slice sessions commits old fault size holds same (inr is) =
+    inr (inr (record { size = size; image = words; holds = holds; is = subst (λ (i : Image). IsThreadsFault sessions commits i fault) same is }), appends-none old)
 
 told-other : (image : Image) (sessions : ℕ) (fault told : Fault) → (fault ≡ DeviceFault → told ≡ OutOfMemory) → told ≡ fault → OpensTo image (HasFree (2 * sessions)) → (fault ≡ SlotsOut → ⊥)
     → OpensTo image (λ q. HasFree (2 * sessions) q × IsOther told)
@@ -84,19 +98,22 @@ told-other image sessions fault told memory is free other = record {
 
 -- what is told of a load on a device without a fuse
 pub load-told : (image : Image) (sessions commits : ℕ) (fault told : Fault) → (fault ≡ DeviceFault → told ≡ OutOfMemory) → (told ≡ OutOfMemory) ⊎ (told ≡ fault)
-    → IsLoadFault image sessions commits fault → (told ≡ OutOfMemory) ⊎ IsThreadsFault sessions image told
+    → IsLoadFault image sessions commits fault → (told ≡ OutOfMemory) ⊎ IsThreadsFault sessions commits image told
 load-told image sessions commits fault told memory (inl is) load = inl is
 load-told image sessions commits fault told memory (inr is) (inl why) = inr (inl (why ∙ ap (λ (f : Fault). Some f) (sym is)))
 load-told image sessions commits fault told memory (inr is) (inr (inl wants)) = inl (is ∙ wants)
 load-told image sessions commits fault told memory (inr is) (inr (inr (inl (none, device)))) = inl (memory device)
 load-told image sessions commits fault told memory (inr is) (inr (inr (inr (inl (lacks, slots))))) = inr (inr (inl (lacks, is ∙ slots)))
 load-told image sessions commits fault told memory (inr is) (inr (inr (inr (inr (inl (free, lacks, numbers)))))) =
-    inr (inr (inr (told-other image sessions fault told memory is free (λ e. apart (sym numbers ∙ e)))))
+    inr (inr (inr (told-other image sessions fault told memory is free (λ e. apart (sym numbers ∙ e)), inl (lacks, is ∙ numbers))))
   where
     apart : TimestampsOut ≡ SlotsOut → ⊥
     apart h = cc h
 load-told image sessions commits fault told memory (inr is) (inr (inr (inr (inr (inr (free, has, engine)))))) =
-    inr (inr (inr (told-other image sessions fault told memory is free (engine-not-slots image fault engine))))
+    inr (inr (inr (
+      told-other image sessions fault told memory is free (engine-not-slots image fault engine),
+      inr (has, inl (subst (λ (f : Fault). IsEngineFault image f) (sym is) engine)),
+    )))
 
 -- where no state that the room shows admits it, no slots ran out, and no device failed
 not-slots : {D : Type 0} {G : Ghosts D} (state : D → Device) (room : Room D G) (words : Image) (sessions : ℕ) (fault : Fault) → OpensTo words (HasFree (2 * sessions)) → ∥ HasRunFrom state words room ∥₁
@@ -117,22 +134,6 @@ not-slots state room words sessions fault free run other = record {
       );
 }
 
-pub late-fault : {D : Type 0} {G : Ghosts D} (state : D → Device) (room : Room D G) (file words slice : List ℕ) (sessions : ℕ) (old : Option Text) (fault : Fault)
-    → is_image_length (length file) ≡ true → HoldsWords file words → slice ≡ words → OpensTo slice (HasFree (2 * sessions)) → ∥ HasRunFrom state slice room ∥₁
-    → (fault ≡ OutOfMemory) ⊎ ((q : State) → Shows state room q → IsOther fault)
-    → (fault ≡ OutOfMemory) ⊎ (IsFileFault file (IsThreadsFault sessions) fault × Appends old old [])
-late-fault state room file words slice sessions old fault size holds same free run (inl memory) = inl memory
-late-fault state room file words slice sessions old fault size holds same free run (inr other) =
-    inr (
-      inr (record {
-        size = size;
-        image = words;
-        holds = holds;
-        is = inr (inr (subst (λ (i : Image). OpensTo i (λ q. HasFree (2 * sessions) q × IsOther fault)) same (not-slots state room slice sessions fault free run other)));
-      }),
-      appends-none old,
-    )
-
 closing-other : (q : State) (fault : Fault) → IsClosingFault q fault → IsOther fault
 closing-other q fault is = record { slots = λ e. slots q.failed _ (is ∙ ap (λ (f : Fault). Some f) e); device = λ e. device q.failed _ (is ∙ ap (λ (f : Fault). Some f) e) }
   where
@@ -146,14 +147,27 @@ closing-other q fault is = record { slots = λ e. slots q.failed _ (is ∙ ap (�
     device false true h = cc h
     device false false h = cc h
 
-pub closing-fault-so : {D : Type 0} {G : Ghosts D} (state : D → Device) (room : Room D G) (fault : Fault) → (fault ≡ OutOfMemory) ⊎ ((q : State) → Shows state room q → IsClosingFault q fault)
-    → (fault ≡ OutOfMemory) ⊎ ((q : State) → Shows state room q → IsOther fault)
-closing-fault-so state room fault (inl memory) = inl memory
-closing-fault-so state room fault (inr is) = inr (λ q shows. closing-other q fault (is q shows))
+pub late-fault : {D : Type 0} {G : Ghosts D} (state : D → Device) (room : Room D G) (file words slice : List ℕ) (sessions commits : ℕ) (old : Option Text) (fault : Fault)
+    → is_image_length (length file) ≡ true → HoldsWords file words → slice ≡ words → OpensTo slice (HasFree (2 * sessions)) → OpensTo slice (HasNumbers (sessions * commits))
+    → ∥ HasMadeFrom state slice sessions commits room ∥₁ → (fault ≡ OutOfMemory) ⊎ ((q : State) → Shows state room q → IsClosingFault q fault)
+    → (fault ≡ OutOfMemory) ⊎ (IsFileFault file (IsThreadsFault sessions commits) fault × Appends old old [])
+late-fault state room file words slice sessions commits old fault size holds same free numbers made (inl memory) = inl memory
+late-fault state room file words slice sessions commits old fault size holds same free numbers made (inr closing) =
+    let other = not-slots state room slice sessions fault free (run-of-made state slice sessions commits room made) (λ q shows. closing-other q fault (closing q shows)) in
+    let later = made-to state room slice sessions commits (λ q. IsClosingFault q fault) made closing in
+    inr (
+      inr (record {
+        size = size;
+        image = words;
+        holds = holds;
+        is = subst (λ (i : Image). IsThreadsFault sessions commits i fault) same (inr (inr (other, inr (numbers, inr later))));
+      }),
+      appends-none old,
+    )
 
 -- what a close leaves is sound
 pub reading-fault-so : {D : Type 0} {G : Ghosts D} (state : D → Device) (room : Room D G) (image slice : Image) (fault : Fault) → slice ≡ image → ((q : State) → Shows state room q → StandsClosed q image)
-    → IsReadRefusal slice fault → (fault ≡ OutOfMemory) ⊎ ((q : State) → Shows state room q → IsOther fault)
+    → IsReadRefusal slice fault → (fault ≡ OutOfMemory) ⊎ ((q : State) → Shows state room q → IsClosingFault q fault)
 reading-fault-so state room image slice fault same closed (inr h) = inl h.1
 reading-fault-so state room image slice fault same closed (inl is) = inr (λ q shows.
     let none : damage image ≡ None = (closed q shows).stands.sound in

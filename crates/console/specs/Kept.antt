@@ -1,7 +1,7 @@
 -- What FILE keeps of the history that its image stands for.
 use Rattle.std.specs.Prelude.{◌≡◌, ℕ, ◌++◌, List, None, Bool, true, false, ⊤}
 use Rattle.base.specs.Commits.{Commit}
-use Rattle.base.specs.Layout.{Layout, opened_layout}
+use Rattle.base.specs.Layout.{Layout, is_in_limits, opened_layout}
 use Rattle.base.specs.Images.{Image, layout_of}
 use Rattle.base.specs.Stands.{Stands}
 use Rattle.machine.specs.Machine.{State, StandsClosed, closing_fault}
@@ -79,3 +79,19 @@ IfLives (Run name) P = ⊤
 IfLives (Check name) P = ⊤
 IfLives (Threads name sessions commits) P = ⊤
 IfLives (Lives name) P = P
+
+-- where the order reads no input, this: all but a run
+abbrev pub IfReadsNoInput : Order → Type 0 → Type 0
+IfReadsNoInput (Format name wide slots places window) P = P
+IfReadsNoInput (Run name) P = ⊤
+IfReadsNoInput (Check name) P = P
+IfReadsNoInput (Threads name sessions commits) P = P
+IfReadsNoInput (Lives name) P = P
+
+-- the numbers of a format are within their limits
+abbrev pub HasLimits : Order → Type 0
+HasLimits (Format name wide slots places window) = is_in_limits (asked_layout wide slots places window) ≡ true
+HasLimits (Run name) = ⊤
+HasLimits (Check name) = ⊤
+HasLimits (Threads name sessions commits) = ⊤
+HasLimits (Lives name) = ⊤

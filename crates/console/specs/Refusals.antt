@@ -1,5 +1,5 @@
 -- Why a subcommand is refused, and what is printed then.
-use Rattle.std.specs.Prelude.{◌≡◌, ◌⊎◌, ℕ, List, [], ◌∷◌, ◌++◌, length, Bool, true, false, Option, Some, None, ⊤}
+use Rattle.std.specs.Prelude.{◌≡◌, ◌⊎◌, ℕ, List, [], ◌∷◌, ◌++◌, length, Bool, true, false, Option, Some, None, IfSome, IsSome, ⊤}
 use Rattle.std.specs.Io.KnownBytes.{Appends}
 use Rattle.base.specs.declared.fault.Fault.{Fault}
 use Rattle.base.specs.declared.fault.Fault.TheVariants.{BadGeometry, OutOfMemory}
@@ -76,12 +76,22 @@ EndsRefused (Format name wide slots places window) file input old new fault ende
 EndsRefused (Run name) file input old new fault ended =
     (IsFileFault file IsOpeningFault fault × Appends old new ended) ⊎ EndsAtClose file input old new fault ended
 EndsRefused (Check name) file input old new fault ended = IsFileFault file IsDamage fault × Appends old new ended
-EndsRefused (Threads name sessions commits) file input old new fault ended = IsFileFault file (IsThreadsFault sessions) fault × Appends old new ended
+EndsRefused (Threads name sessions commits) file input old new fault ended = IsFileFault file (IsThreadsFault sessions commits) fault × Appends old new ended
 EndsRefused (Lives name) file input old new fault ended = (fault ≡ BadGeometry) × HasBadGeometry file × Appends old new ended
 
 -- the fault is want of memory, or the subcommand's, and then its line ends what is printed
 abbrev pub Refuses : Order → List ℕ → Option Text → Option Text → Option Text → Fault → Type 0
 Refuses order file input old new fault = (fault ≡ OutOfMemory) ⊎ EndsRefused order file input old new fault (refusal_line fault)
+
+-- ---- what is printed last
+
+-- the bytes of each writer of this kind are known
+abbrev pub AreKnown : {W : Type 0} → (W → Option Text) → Type 0
+AreKnown {W = W} contents = (writer : W) → IsSome (contents writer)
+
+-- the known bytes end with these
+abbrev pub EndsWith : Option Text → Text → Type 0
+EndsWith known ended = IfSome known (λ text. (before : Text) × (text ≡ before ++ ended))
 
 -- ---- why a subcommand ended
 

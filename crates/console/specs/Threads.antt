@@ -1,12 +1,18 @@
 -- What threads that make commits print and leave, and why they are refused.
-use Rattle.std.specs.Prelude.{◌≡◌, ◌≢◌, ◌⊎◌, ℕ, ◌*◌, ◌^◌, ◌-◌, min, Bool, ◌&&◌, nat_eq, nat_lt, List, [], ◌∷◌, ◌++◌, filter, codes, decimal, Option, Some}
+use Rattle.std.specs.Prelude.{◌≡◌, ◌≢◌, ◌⊎◌, ℕ, ◌*◌, ◌^◌, ◌-◌, min, Bool, ◌&&◌, nat_eq, nat_lt, List, [], ◌∷◌, ◌++◌, filter, codes, decimal, None, Option, Some}
 use Rattle.std.specs.Io.KnownBytes.{Appends}
 use Rattle.base.specs.declared.fault.Fault.{Fault}
-use Rattle.base.specs.declared.fault.Fault.TheVariants.{Device as DeviceFault, SlotsOut}
+use Rattle.base.specs.declared.fault.Fault.TheVariants.{Device as DeviceFault, SlotsOut, TimestampsOut}
 use Rattle.base.specs.declared.key.Key.{Key}
+use Rattle.base.specs.declared.step.Note.{Note}
+use Rattle.base.specs.declared.step.Step.{Step}
+use Rattle.base.specs.Commits.{Commit}
 use Rattle.base.specs.Images.{Image, opening_fault}
+use Rattle.base.specs.Stands.{Stands}
+use Rattle.machine.specs.Machine.{State, Noted, StandsClosed, closing_fault}
+use Rattle.machine.specs.Openings.{OpensAs}
 use Rattle.image_check.specs.Checked.{ListsTables}
-use Rattle.workload.specs.Load.{HasFree, HasMade, LacksFree, OpensTo}
+use Rattle.workload.specs.Load.{AreMade, HasFree, HasNumbers, IsEngineFault, LacksFree, LacksNumbers, OpensTo}
 use Rattle.command_line.specs.ImageFile.{IsFileOf}
 use Rattle.command_line.specs.Numbers.{Text}
 use Rattle.command_line.specs.Texts.{end_line, entries_text}
@@ -26,14 +32,25 @@ threads_text sessions commits rows =
     (((codes "committed " ++ decimal (commits_of_all sessions commits)) ++ 10 ∷ []) ++ entries_text (filter (is_of_thread sessions) rows))
     ++ ((end_line sessions ++ 10 ∷ []) ++ (codes "closed" ++ 10 ∷ []))
 
--- The file may be opened, and then two slots are free for each thread; in a run from its image each thread made its commits, and all
--- were acknowledged; the rows that are printed are those of the image that it has in the end
+-- The image opens, and in a run from there so many threads made so many commits each, all acknowledged; whatever history the image
+-- stands for, this is said of the state that the run comes to
+pub record MakesTo (image : Image) (sessions commits : ℕ) (Is : State → Type 0) : Type 0 where
+  pub may_open : opening_fault image ≡ None
+  pub entries : List (Step × Note)
+  pub made : AreMade sessions commits entries
+  pub runs : (history drawn : List Commit) (next : ℕ) (lost : List ℕ) → Stands image history drawn next
+      → (start now : State) × OpensAs image history lost start × Noted start entries now × Is now
+
+-- The file may be opened, and then two slots are free for each thread, and numbers are left for all commits; in a run from its image
+-- each thread made its commits, and all were acknowledged. The file has an image in the end as a close of the very state leaves it to
+-- which that run came, and the rows that are printed are those of this image
 pub record PrintsThreads (sessions commits : ℕ) (before : List ℕ) (old new : Option Text) (after : List ℕ) : Type 0 where
   pub opens : IsOpenable before
   pub has_slots : OpensTo opens.image (HasFree (2 * sessions))
-  pub made : HasMade opens.image sessions commits
+  pub has_numbers : OpensTo opens.image (HasNumbers (sessions * commits))
   pub image : Image
   pub of_image : IsFileOf image after
+  pub made : ∥ MakesTo opens.image sessions commits (λ q. StandsClosed q image) ∥₁
   pub rows : List (Key × List ℕ)
   pub lists : ListsTables image rows
   pub prints : Appends old new (threads_text sessions commits rows)
@@ -43,10 +60,17 @@ pub record IsOther (fault : Fault) : Type 0 where
   pub slots : fault ≢ SlotsOut
   pub device : fault ≢ DeviceFault
 
--- The image doesn't open; or two slots for each thread aren't free then; or they are, and it is something else: a thread doesn't
--- make its commits, or the room can't be closed after them
-abbrev pub IsThreadsFault : ℕ → Image → Fault → Type 0
-IsThreadsFault sessions image fault =
+-- Numbers are wanting; or they are there, and it is the engine's, or that after a run in which the threads made their commits the
+-- state can't be closed
+abbrev pub IsLaterFault : ℕ → ℕ → Image → Fault → Type 0
+IsLaterFault sessions commits image fault =
+    (OpensTo image (LacksNumbers (sessions * commits)) × (fault ≡ TimestampsOut))
+    ⊎ (OpensTo image (HasNumbers (sessions * commits))
+    × (IsEngineFault image fault ⊎ ∥ MakesTo image sessions commits (λ q. closing_fault q ≡ Some fault) ∥₁))
+
+-- The image doesn't open; or two slots for each thread aren't free then; or they are, and it is a later fault
+abbrev pub IsThreadsFault : ℕ → ℕ → Image → Fault → Type 0
+IsThreadsFault sessions commits image fault =
     (opening_fault image ≡ Some fault)
     ⊎ ((OpensTo image (LacksFree (2 * sessions)) × (fault ≡ SlotsOut))
-    ⊎ OpensTo image (λ q. HasFree (2 * sessions) q × IsOther fault))
+    ⊎ (OpensTo image (λ q. HasFree (2 * sessions) q × IsOther fault) × IsLaterFault sessions commits image fault))

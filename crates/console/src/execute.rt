@@ -5,10 +5,10 @@ ghost use Rattle.command_line.specs.ImageFile.{IsFileOf};
 ghost use Rattle.base.specs.Fresh.{fresh_image};
 ghost use Rattle.console.specs.BadLine.{BlamesNoLine, EndsAtLine, IfBadLine, IsLineOf, Tells, TellsLine};
 ghost use Rattle.console.specs.Checked.{PrintsChecked};
-ghost use Rattle.console.specs.Kept.{IfCheck, IfLives, Leaves, writes_file};
+ghost use Rattle.console.specs.Kept.{HasLimits, IfCheck, IfLives, IfReadsNoInput, Leaves, writes_file};
 ghost use Rattle.console.specs.Printed.{Prints};
 ghost use Rattle.console.specs.Scripts.{PrintsLives};
-ghost use Rattle.console.specs.Refusals.{EndsRefused, IfRefused, IsFaultOf, Refuses, WantsMemory, refusal_line, status_of};
+ghost use Rattle.console.specs.Refusals.{AreKnown, EndsRefused, EndsWith, IfRefused, IsFaultOf, Refuses, WantsMemory, refusal_line, status_of};
 ghost use Rattle.base.specs.declared.fault.Fault.TheVariants.{OutOfMemory};
 
 use crate::checking::check_file;
@@ -43,6 +43,8 @@ pub fn execute<T: Threads + Wait + Copy + Drop + Send + Sync + 'static, R: Read,
     // There is something for FILE exactly where the status is 0, but for a check and for lives.
     ensures written { IsSome result.file ↔ ((result.status ≡ 0) × IsTrue (writes_file order.now)) }
     ensures file { IfSome result.file (λ left. Leaves order.now file.now left.items) }
+    ensures limits { result.status ≡ 0 → HasLimits order.now }
+    ensures unread { IfReadsNoInput order.now (input.new ≡ input.old) }
     ensures printed { IfSome result.file (λ left. Prints order.now file.now (R.remaining input.old) (W.contents output.old) (W.contents output.new) left.items) }
     ensures checked { result.status ≡ 0 → IfCheck order.now (PrintsChecked file.now (W.contents output.old) (W.contents output.new)) }
     ensures lived { result.status ≡ 0 → IfLives order.now (PrintsLives file.now (W.contents output.old) (W.contents output.new)) }
@@ -50,6 +52,9 @@ pub fn execute<T: Threads + Wait + Copy + Drop + Send + Sync + 'static, R: Read,
     // Exactly the line of the refusal, or of the bad line, is printed after what was printed before it.
     ensures bad_line { IfSome result.stopped (IfBadLine (TellsLine order.now file.now (R.remaining input.old) (W.contents output.old) (W.contents output.new))) }
     ensures refused { IfSome result.stopped (IfRefused (Refuses order.now file.now (R.remaining input.old) (W.contents output.old) (W.contents output.new))) }
+
+    // The line of a refusal is the last that is printed, for want of memory too.
+    ensures last { AreKnown W.contents → IfSome result.stopped (IfRefused (λ fault. EndsWith (W.contents output.new) (refusal_line fault))) }
 {
     match obey(rt, alloc, order, file, input, output) {
         Ok(file) => Ended {
@@ -72,6 +77,8 @@ fn obey<T: Threads + Wait + Copy + Drop + Send + Sync + 'static, R: Read, W: Wri
 ) -> Result<Option<Vec<u8>>, Stop>
     ensures written { IfOk result (λ kept. is_some kept ≡ writes_file order.now) }
     ensures file { IfOk result (λ kept. IfSome kept (λ left. Leaves order.now file.now left.items)) }
+    ensures limits { OnOk result (HasLimits order.now) }
+    ensures unread { IfReadsNoInput order.now (input.new ≡ input.old) }
     ensures printed { IfOk result (λ kept. IfSome kept (λ left. Prints order.now file.now (R.remaining input.old) (W.contents output.old) (W.contents output.new) left.items)) }
     ensures checked { OnOk result (IfCheck order.now (PrintsChecked file.now (W.contents output.old) (W.contents output.new))) }
     ensures lived { OnOk result (IfLives order.now (PrintsLives file.now (W.contents output.old) (W.contents output.new))) }

@@ -4,7 +4,7 @@ ghost use Rattle.machine.specs.Machine.{State, StandsClosed};
 ghost use Rattle.base.specs.declared.fault.Fault.TheVariants.{OutOfMemory};
 ghost use Rattle.pmem_model.specs.Sim.{device_of};
 ghost use Rattle.room.specs.Room.{Shows};
-ghost use Rattle.workload.specs.Load.{HasFree, HasMadeFrom, OpensTo};
+ghost use Rattle.workload.specs.Load.{HasFree, HasMadeFrom, HasNumbers, OpensTo};
 ghost use Rattle.console.specs.BadLine.{BlamesNoLine};
 ghost use Rattle.console.specs.Kept.{KeepsHistories};
 ghost use Rattle.console.specs.Refusals.{IfRefused, IsClosingFault, IsFileFault};
@@ -42,7 +42,7 @@ pub fn run_threads<T: Threads + Wait + Copy + Drop + Send + Sync + 'static, W: W
     ensures keeps { IfOk result (λ left. ∥ KeepsHistories file.now left.items ∥₁) }
     ensures blames { IfErr result BlamesNoLine }
     ensures refused { IfErr result (IfRefused (λ fault. (fault ≡ OutOfMemory)
-        ⊎ (IsFileFault file.now (IsThreadsFault load.sessions) fault × Appends (W.contents output.old) (W.contents output.new) []))) }
+        ⊎ (IsFileFault file.now (IsThreadsFault load.sessions load.commits) fault × Appends (W.contents output.old) (W.contents output.new) []))) }
 {
     let words = words_of_file(alloc, file)?;
     let room = worked_on(rt, alloc, words.as_slice(), load)?;
@@ -62,7 +62,8 @@ fn worked_on<T: Threads + Wait + Copy + Drop + Send + Sync + 'static>(
 ) -> Result<Room<SimPmem>, Fault>
     ensures made { IfOk result (λ room. ∥ HasMadeFrom device_of words.now load.sessions load.commits room ∥₁) }
     ensures has_slots { OnOk result (OpensTo words.now (HasFree (2 * load.sessions))) }
-    ensures fault { IfErr result (λ fault. (fault ≡ OutOfMemory) ⊎ IsThreadsFault load.sessions words.now fault) }
+    ensures has_numbers { OnOk result (OpensTo words.now (HasNumbers (load.sessions * load.commits))) }
+    ensures fault { IfErr result (λ fault. (fault ≡ OutOfMemory) ⊎ IsThreadsFault load.sessions load.commits words.now fault) }
 {
     let device = SimPmem::from_words(alloc, words)?;
     match run_load(rt, alloc, device, load) {

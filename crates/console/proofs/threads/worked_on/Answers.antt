@@ -3,7 +3,7 @@ use Rattle.base.specs.Images.{Image}
 use Rattle.pmem.specs.Words.{IsAtRest, image_of}
 use Rattle.pmem.proofs.Restarted.{restarted-rests, image-restarted}
 use Rattle.pmem_model.specs.Sim.{device_of}
-use Rattle.workload.specs.Load.{HasFree, HasMadeFrom, IsLoadFault, OpensTo}
+use Rattle.workload.specs.Load.{HasFree, HasMadeFrom, HasNumbers, IsLoadFault, OpensTo}
 use Rattle.console.proofs.Working.{load-told}
 use Rattle.console.proofs.threads.worked_on.Goals as goal
 
@@ -18,6 +18,11 @@ pub returns-in-Ok-clause-has_slots : goal.returns-in-Ok-clause-has_slots
 returns-in-Ok-clause-has_slots g c =
     subst (λ (i : Image). OpensTo i (HasFree (2 * c.args.load.sessions))) (ap image_of c.in_ok-device.ensures.device ∙ image-restarted c.args.words.now)
     c.in-Ok.ensures.has_slots
+
+pub returns-in-Ok-clause-has_numbers : goal.returns-in-Ok-clause-has_numbers
+returns-in-Ok-clause-has_numbers g c =
+    subst (λ (i : Image). OpensTo i (HasNumbers (c.args.load.sessions * c.args.load.commits))) (ap image_of c.in_ok-device.ensures.device ∙ image-restarted c.args.words.now)
+    c.in-Ok.ensures.has_numbers
 
 pub returns-in-Err-clause-fault : goal.returns-in-Err-clause-fault
 returns-in-Err-clause-fault g c =
