@@ -1,6 +1,6 @@
 -- What the steps of a commit come to.
 use Rattle.std.proofs.Common.{◌≡◌, ℕ, ◌+◌, Bool, true, false, cond, List, [], ◌∷◌, ◌++◌, Option, Some, None, refl, sym, ◌∙◌, ap, subst}
-use Rattle.std.specs.Prelude.{⊤, replicate, Result, Ok, Err}
+use Rattle.std.specs.Prelude.{⊤, replicate, Result, Ok, Err, IsTrue, is_some}
 use Rattle.std.proofs.lemmas.List.{replicate_more}
 use Rattle.base.specs.declared.fault.Fault.{Fault}
 use Rattle.base.specs.declared.step.Step.{Step}
@@ -17,12 +17,19 @@ use Rattle.room.specs.declared.room.Room.{Room}
 use Rattle.room.specs.Room.{Shows, RunsTo, Leads}
 use Rattle.room.proofs.Runs.{run-none, run-then}
 use Rattle.database.specs.Replies.{committed_of, drawn_of}
-use Rattle.database.specs.Obeys.{Obeys, Repeats, StampsAll, Covers, DrawsNothing}
+use Rattle.database.specs.declared.opened.OpenedRoom.{OpenedRoom}
+use Rattle.database.specs.Obeys.{Obeys, InRoom, Repeats, StampsAll, Covers, DrawsNothing}
 
 -- ---- one step after another
 
 pub repeats-none : {D : Type 0} → {G : Ghosts D} → (state : D → Device) (room : Room D G) (step : Step) → IsOrderly (state room.device) → Repeats state room room step
 repeats-none state room step orderly = (0, [], λ q shows. ([], run-none state room q orderly shows))
+
+-- of a room that is there
+pub stays-in : {D : Type 0} → {G : Ghosts D} → (state : D → Device) (room : Option (OpenedRoom D G)) (step : Step) → ((device : D) → IsOrderly (state device)) → IsTrue (is_some room)
+    → InRoom (λ old new. Repeats state old new step) room room
+stays-in state (Some there) step orderly is = (there, there, refl, refl, repeats-none state there.room step (orderly there.room.device))
+stays-in state None step orderly is = absurd (cc is)
 
 -- one more
 pub repeats-then : {D : Type 0} → {G : Ghosts D} → (state : D → Device) (old mid new : Room D G) (step : Step) (reply : Reply)

@@ -1,9 +1,9 @@
 -- What the error of a commit tells.
 use Rattle.std.proofs.Common.{◌≡◌, ◌≢◌, ◌⊎◌, inl, inr, ℕ, Bool, true, false, [], ◌∷◌, refl, sym, subst}
 use mathlib.Core.HLevel.{⊥_prop}
-use Rattle.std.specs.Prelude.{⊤, Option, Some, None, IfSome, Result, Ok, Err}
+use Rattle.std.specs.Prelude.{⊤, Option, Some, None, IfSome, is_some, IsTrue, Result, Ok, Err}
 use Rattle.std.specs.Result.{ForOk, ForErr}
-use Rattle.std.specs.Option.{option_or}
+use Rattle.std.specs.Option.{ForSome, option_or}
 use Rattle.std.proofs.Math.Logic.{∥∥₁_elim, ∥∥₁_prop}
 use Rattle.base.specs.declared.fault.Fault.{Fault}
 use Rattle.base.specs.declared.fault.Fault.TheVariants.{Conflict, OutOfMemory, TimestampsOut, Failed, Device as DeviceFault}
@@ -26,7 +26,7 @@ use Rattle.database.specs.Replies.{committed_of}
 use Rattle.room.specs.Room.{Leads}
 use Rattle.database.specs.Runs.{HasRun, IsRunFrom}
 use Rattle.database.specs.Obeys.{Finishes, AnswersStep}
-use Rattle.database.specs.Committing.{IsAcknowledged, IsLast, HasEnded, StopsAfter, StopsAtEnd, GivesUp, IsAnswered, IsAnsweredAt, AnswersTo, TellsError, TellsRefusal}
+use Rattle.database.specs.Committing.{IsAcknowledged, IsLast, HasEnded, HasLackedMemory, IsSettledUpTo, StopsAfter, StopsAtEnd, GivesUp, IsAnswered, IsAnsweredAt, AnswersTo, TellsError, TellsRefusal}
 use Rattle.database.proofs.Runs.{leads-one, ends-run, answers-step}
 use Rattle.database.proofs.Telling.{polled_so}
 
@@ -58,6 +58,12 @@ has-ended state old new fault run leads other =
     ∥∥₁_elim run ∥∥₁_prop (λ r.
     ends-run state old new (CommitTick ∷ []) (RefusedWith fault ∷ []) _ run (leads-one state old new CommitTick (RefusedWith fault) leads) (refl, refl, last_from state old new fault r.0 r.1 leads other))
 
+-- want of memory is no end
+pub has-lacked : {D : Type 0} {G : Ghosts D} (state : D → Device) (old new : Room D G) → ∥ HasRun state old ∥₁
+    → Leads state old new CommitTick (RefusedWith OutOfMemory) → HasLackedMemory
+has-lacked state old new run leads =
+    ends-run state old new (CommitTick ∷ []) (RefusedWith OutOfMemory ∷ []) _ run (leads-one state old new CommitTick (RefusedWith OutOfMemory) leads) (refl, refl)
+
 -- ---- a commit that is waited for
 
 -- its poll told that it isn't covered
@@ -88,6 +94,11 @@ finish-refused state old new session fault run (inr (mid, t, polls, last)) = pol
 
 -- ---- a conflict
 
+-- nothing more is covered once the committer has ended
+pub settled-ended : (t : ℕ) (ended : Option Fault) → ForSome ended HasEnded → IsTrue (is_some ended) → IsSettledUpTo t
+settled-ended t (Some fault) so is = inr (inl (fault, so fault refl))
+settled-ended t None so is = absurd (cc is)
+
 not-last : (fault : Fault) (key : Key) → fault ≡ Conflict key → IsLast fault → ⊥
 not-last fault key e (inl out) = absurd (cc (sym e, out))
 not-last fault key e (inr (inl device)) = absurd (cc (sym e, device))
@@ -100,7 +111,12 @@ not-given-up session fault key e (inr never) = absurd never
 -- a conflict is told where the draw was refused so
 pub tells-refusal : (session : ℕ) (error : CommitError) → TellsError session error → TellsRefusal session error
 tells-refusal session (Open fault) tells key e = absurd (cc e)
-tells-refusal session (Refused fault) (inl (inl (prepared, other), back)) key e = prepared
-tells-refusal session (Refused fault) (inl (inr (inl ended), back)) key e = let is : fault ≡ Conflict key = cc e in absurd (∥∥₁_elim ended ⊥_prop (λ t. not-last fault key is t.7.2))
-tells-refusal session (Refused fault) (inl (inr (inr memory), back)) key e = absurd (cc (sym memory, e))
+tells-refusal session (Refused fault) (inl (inl (prepared, other), back, late)) key e = (prepared, late key e)
+tells-refusal session (Refused fault) (inl (inr (inl (out, ended)), back, late)) key e = absurd (cc (sym out, e))
+tells-refusal session (Refused fault) (inl (inr (inr (memory, lacks, full)), back, late)) key e = absurd (cc (sym memory, e))
 tells-refusal session (Refused fault) (inr (t, prepared, gives)) key e = let is : fault ≡ Conflict key = cc e in absurd (∥∥₁_elim gives ⊥_prop (λ why. not-given-up session fault key is why))
+
+-- a commit that is waited for doesn't meet one
+pub no-conflict-waited : (session : ℕ) (error : CommitError) (key : Key) → GivesUp session error → error ≡ Refused (Conflict key) → ⊥
+no-conflict-waited session (Open fault) key gives e = absurd (cc e)
+no-conflict-waited session (Refused fault) key gives e = let is : fault ≡ Conflict key = cc e in ∥∥₁_elim gives ⊥_prop (λ why. not-given-up session fault key is why)

@@ -1,5 +1,5 @@
 -- Numbers are those of a state that a run comes to.
-use Rattle.std.proofs.Common.{inl, inr}
+use Rattle.std.proofs.Common.{inl, inr, List, ◌++◌}
 use Rattle.std.proofs.Math.Logic.{∥∥₁_map}
 use Rattle.machine.specs.Machine.{State, final}
 use Rattle.pmem.specs.Device.{Device}
@@ -7,7 +7,10 @@ use Rattle.pmem.specs.declared.device.Pmem.{Ghosts}
 use Rattle.pmem.proofs.Images.{leaves_trans, leaves_weaken}
 use Rattle.room.specs.declared.room.Room.{Room}
 use Rattle.room.specs.Room.{Shows, device_of}
-use Rattle.database.specs.Runs.{HasRun, IsRunFrom}
+use Rattle.base.specs.declared.step.Step.{Step}
+use Rattle.base.specs.declared.step.Reply.{Reply}
+use Rattle.database.specs.Runs.{HasRun, IsRunFrom, LeadsAlong}
+use Rattle.database.proofs.Runs.{led_from}
 use Rattle.database.specs.Numbers.{LeadsTo, ComesTo}
 
 leads-to : {D : Type 0} {G : Ghosts D} (state : D → Device) (room : Room D G) (Fact : State → Type 0) (opened : Device) → (r : IsRunFrom state opened room) → ((q : State) → Shows state room q → Fact q)
@@ -46,3 +49,12 @@ comes-weaken Fact Other weaker comes = ∥∥₁_map comes (λ l. (
     runs = λ history drawn next lost stands. let r = l.4.runs history drawn next lost stands in (r.0, weaker (final r.0.start r.0.states) r.1);
   },
 ))
+
+-- the steps that the room makes end a run that comes to such a state
+pub ends-run-at : {D : Type 0} {G : Ghosts D} (state : D → Device) (old new : Room D G) (steps : List Step) (replies : List Reply) (Fact : List Step → List Reply → Type 0) (At : State → Type 0)
+    → ∥ HasRun state old ∥₁ → LeadsAlong state old new steps replies → Fact steps replies → ((q : State) → Shows state new q → At q)
+    → ∥ ((opened now : Device) × (before steps : List Step) × (earlier replies : List Reply) × LeadsTo opened now (before ++ steps) (earlier ++ replies) At × Fact steps replies) ∥₁
+unfolding led_from
+ends-run-at state old new steps replies Fact At run leads fact at =
+    ∥∥₁_map run (λ r.
+    (r.0, device_of state new, r.1.steps, steps, r.1.replies, replies, leads-to state new At r.0 (led_from state old new steps replies r.0 r.1 leads) at, fact))

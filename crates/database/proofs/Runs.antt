@@ -85,7 +85,7 @@ leads-one state old new step reply leads q shows =
 pub run-opened : {D : Type 0} {G : Ghosts D} (state : D → Device) (room : Room D G) → IsOrderly (state room.device) → IsFresh state room → ∥ HasRun state room ∥₁
 run-opened state room orderly fresh = ∣ (fresh.0, record { first = room; is_opened = fresh.1; steps = []; replies = []; leads = leads-none state room orderly }) ∣₁
 
-led_from : {D : Type 0} {G : Ghosts D} (state : D → Device) (old new : Room D G) (steps : List Step) (replies : List Reply) (opened : Device)
+unfoldable pub led_from : {D : Type 0} {G : Ghosts D} (state : D → Device) (old new : Room D G) (steps : List Step) (replies : List Reply) (opened : Device)
     → IsRunFrom state opened old → LeadsAlong state old new steps replies → IsRunFrom state opened new
 led_from state old new steps replies opened r leads = record {
   first = r.first;

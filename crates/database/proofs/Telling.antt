@@ -1,9 +1,9 @@
 -- What a put and a commit make of a run from an opening.
-use Rattle.std.proofs.Common.{inl, inr, ℕ, List, [], ◌∷◌, ◌++◌, refl, sym, ◌∙◌, ap, subst, ◌≡◌}
+use Rattle.std.proofs.Common.{inl, inr, ℕ, ◌-◌, List, [], ◌∷◌, ◌++◌, refl, sym, ◌∙◌, ap, subst, ◌≡◌}
 use Rattle.std.specs.Prelude.{⊤, Option, Some, None, Result, Ok, Err, IfOk, IfErr, replicate}
 use Rattle.std.proofs.lemmas.List.{append-nil, append_assoc}
 use Rattle.base.specs.declared.fault.Fault.{Fault}
-use Rattle.base.specs.declared.fault.Fault.TheVariants.{WindowFull}
+use Rattle.base.specs.declared.fault.Fault.TheVariants.{Conflict, WindowFull}
 use Rattle.base.specs.declared.key.Key.{Key}
 use Rattle.base.specs.declared.step.Step.{Step}
 use Rattle.base.specs.declared.step.Step.TheVariants.{Begin, Put, Delete, Draw, Stamp, Poll, Abort, End, Collect}
@@ -11,13 +11,16 @@ use Rattle.base.specs.declared.step.Reply.{Reply}
 use Rattle.pmem.specs.Device.{Device}
 use Rattle.pmem.specs.declared.device.Pmem.{Ghosts}
 use Rattle.room.specs.declared.room.Room.{Room}
+use Rattle.room.specs.Room.{Shows}
+use Rattle.machine.specs.Machine.{State}
 use Rattle.database.specs.declared.error.CommitError.{CommitError}
 use Rattle.database.specs.declared.error.CommitError.TheVariants.{Refused, Open}
 use Rattle.database.specs.Replies.{began_of, done_of, drawn_of, stamped_of, committed_of}
 use Rattle.database.specs.Runs.{HasRun, LeadsAlong, EndsSomeRun}
 use Rattle.database.specs.Obeys.{Obeys, Repeats, PutsCollecting, MakesWrite, StampsAll, Prepares, Finishes}
-use Rattle.database.specs.Committing.{IsPut, AnswersPut, IsWrite, AreWrites, LeadsByWrites, BeginsWith, DrawsAndStamps, DrawsAndEnds, PollsAndEnds, IsPrepared, IsAcknowledged, TellsUnprepared}
+use Rattle.database.specs.Committing.{IsPut, AnswersPut, IsWrite, AreWrites, LeadsByWrites, BeginsWith, DrawsAndStamps, DrawsAndEnds, PollsAndEnds, IsPreparation, IsPrepared, IsAcknowledged, TellsUnprepared, ConflictsAt}
 use Rattle.database.proofs.Runs.{leads-one, leads-run, leads-join, ends-run}
+use Rattle.database.proofs.Numbers.{ends-run-at}
 
 -- one step, others like each other, and a last one
 leads_through : {D A B : Type 0} {G : Ghosts D} (state : D → Device) (old first mid new : Room D G) (step : Step) (read : Reply → Result A Fault) (result : Result A Fault) (again last : Step) (tells : Reply → Result B Fault) (told : Result B Fault)
@@ -177,3 +180,14 @@ pub prepared-err : {D : Type 0} {G : Ghosts D} (state : D → Device) (old new :
     → ∥ HasRun state old ∥₁ → Prepares state old new session result → (result ≡ Err (Refused WindowFull) → ⊥) → IfErr result (TellsUnprepared session)
 prepared-err state old new session (Ok drawn) run prepares other = tt
 prepared-err state old new session (Err error) run prepares other = inl (is-prepared state old new session (Err error) run prepares, λ is. other (ap Err is))
+
+-- it was refused for a conflict, where this was the last timestamp that was drawn
+pub conflicts-at : {D : Type 0} {G : Ghosts D} (state : D → Device) (old new : Room D G) (session : ℕ) (key : Key) (last : ℕ)
+    → ∥ HasRun state old ∥₁ → Prepares state old new session (Err (Refused (Conflict key))) → ((q : State) → Shows state new q → last ≡ q.next - 1) → ConflictsAt session key last
+conflicts-at state old new session key last run (inl one) at =
+    ends-run-at state old new (Draw session ∷ []) (one.0 ∷ []) (IsPreparation session (Err (Refused (Conflict key)))) (λ q. last ≡ q.next - 1) run
+    (leads-one state old new (Draw session) one.0 one.1) (inl (one.0, refl, refl, one.2)) at
+conflicts-at state old new session key last run (inr (drawn, draws, end)) at =
+    ends-run-at state old new (Draw session ∷ End session ∷ []) (draws.0 ∷ end.0 ∷ []) (IsPreparation session (Err (Refused (Conflict key)))) (λ q. last ≡ q.next - 1) run
+    (leads_two state old drawn new (Draw session) drawn_of _ (End session) done_of _ draws end)
+    (inr (record { drawn = draws.0; last = end.0; steps_are = refl; replies_are = refl; drew = draws.2; tells = end.2 })) at

@@ -1,5 +1,5 @@
 -- What a put and a commit make of a run.
-use Rattle.std.specs.Prelude.{◌≡◌, ◌≢◌, ◌⊎◌, ℕ, List, [], ◌∷◌, ◌++◌, replicate, ⊤, Option, Some, None, Result, Ok, Err, MatchResult}
+use Rattle.std.specs.Prelude.{◌≡◌, ◌≢◌, ◌⊎◌, ◌≤◌, ◌-◌, ℕ, List, [], ◌∷◌, ◌++◌, replicate, ⊤, Option, Some, None, Result, Ok, Err, MatchResult}
 use Rattle.base.specs.declared.fault.Fault.{Fault}
 use Rattle.base.specs.declared.fault.Fault.TheVariants.{SlotsOut, Conflict, WindowFull, OutOfMemory, TimestampsOut, Failed, Device as DeviceFault}
 use Rattle.base.specs.declared.key.Key.{Key}
@@ -14,6 +14,7 @@ use Rattle.pmem.specs.Device.{Device}
 use Rattle.pmem.specs.declared.device.Pmem.{Ghosts}
 use Rattle.room.specs.declared.room.Room.{Room}
 use Rattle.database.specs.Runs.{LeadsAlong, EndsSomeRun}
+use Rattle.database.specs.Numbers.{LeadsTo, ComesTo}
 use Rattle.database.specs.Obeys.{IsStep, AnswersStep, all_stamped}
 
 -- ---- a put
@@ -122,16 +123,30 @@ IsLast fault = (fault ≡ TimestampsOut) ⊎ ((fault ≡ DeviceFault) ⊎ (fault
 abbrev pub HasEnded : Fault → Type 0
 HasEnded fault = EndsSomeRun (λ steps replies. (steps ≡ CommitTick ∷ []) × (replies ≡ RefusedWith fault ∷ []) × IsLast fault)
 
--- Why a commit isn't drawn whose draw wasn't refused: the committer had ended, or found no memory for the record that a full window waits for
-abbrev pub StopsBefore : CommitError → Type 0
-StopsBefore (Refused fault) = HasEnded fault ⊎ (fault ≡ OutOfMemory)
-StopsBefore (Open fault) = ⊥
+-- a tick of the committer was refused memory
+abbrev pub HasLackedMemory : Type 0
+HasLackedMemory = EndsSomeRun (λ steps replies. (steps ≡ CommitTick ∷ []) × (replies ≡ RefusedWith OutOfMemory ∷ []))
 
--- Why what isn't covered won't be in this life: the committer has ended, or finds no memory. Without a record number more it won't be in a later one,
+-- Why a commit isn't drawn for another reason than its steps gave: no record number was left before its draw; or its draw found the window full,
+-- and the committer was refused memory for the record that makes room in it
+abbrev pub StopsBefore : ℕ → CommitError → Type 0
+StopsBefore session (Refused fault) =
+    ((fault ≡ TimestampsOut) × HasEnded fault) ⊎ ((fault ≡ OutOfMemory) × HasLackedMemory × IsPrepared session (Err (Refused WindowFull)))
+StopsBefore session (Open fault) = ⊥
+
+-- Why what isn't covered won't be in this life: the committer has ended, or was refused memory. Without a record number more it won't be in a later one,
 -- so it is told as refused there, and nowhere else
 abbrev pub StopsAfter : CommitError → Type 0
 StopsAfter (Refused fault) = (fault ≡ TimestampsOut) × HasEnded fault
-StopsAfter (Open fault) = ((fault ≢ TimestampsOut) × HasEnded fault) ⊎ (fault ≡ OutOfMemory)
+StopsAfter (Open fault) = ((fault ≢ TimestampsOut) × HasEnded fault) ⊎ ((fault ≡ OutOfMemory) × HasLackedMemory)
+
+-- how often in a row the committer may be refused memory while somebody waits for it
+abbrev pub most_refusals : ℕ
+most_refusals = 100
+
+-- A commit is waited for still: its own poll told that it isn't covered, the committer hasn't ended, and wasn't refused memory too often
+abbrev pub IsLeftWaiting : ℕ → Option Fault → ℕ → Type 0
+IsLeftWaiting session ended refusals = AnswersStep (Poll session) committed_of (Ok None) × (ended ≡ None) × (refusals ≤ most_refusals)
 
 -- the session's poll was refused so, or it told the timestamp and the end was refused so
 abbrev pub StopsAtEnd : ℕ → CommitError → Type 0
@@ -160,19 +175,38 @@ AnswersAnother t answer = (told : ℕ) × (answer ≡ Ok told) × (told ≢ t)
 
 -- why one isn't drawn and stamped: its steps gave this reason, though no full window, which is waited for; or it stopped before them
 abbrev pub TellsUnprepared : ℕ → CommitError → Type 0
-TellsUnprepared session error = (IsPrepared session (Err error) × (error ≢ Refused WindowFull)) ⊎ StopsBefore error
+TellsUnprepared session error = (IsPrepared session (Err error) × (error ≢ Refused WindowFull)) ⊎ StopsBefore session error
 
 -- the session's abort was asked for: where its draw was refused it is over, and its slots are free
 abbrev pub IsGivenBack : ℕ → Type 0
 IsGivenBack session = (result : Result ⊤ Fault) × AnswersStep (Abort session) done_of result
 
+-- the session's draw was refused for a conflict on the key, and this was the last timestamp that was drawn then
+abbrev pub ConflictsAt : ℕ → Key → ℕ → Type 0
+ConflictsAt session key last =
+    ∥ ((opened now : Device) × (before steps : List Step) × (earlier replies : List Reply)
+    × LeadsTo opened now (before ++ steps) (earlier ++ replies) (λ q. last ≡ q.next - 1) × IsPreparation session (Err (Refused (Conflict key))) steps replies) ∥₁
+
+-- the ruling record has come to the timestamp; or nothing more is covered, since the committer has ended, or was refused memory
+abbrev pub IsSettledUpTo : ℕ → Type 0
+IsSettledUpTo t = ComesTo (λ q. t ≤ q.ruling.persisted) ⊎ (((fault : Fault) × HasEnded fault) ⊎ HasLackedMemory)
+
+-- the session's draw met the conflict, and what was drawn by then has come to its end: a commit that was in the way is covered, or given up
+abbrev pub MeetsConflictOn : ℕ → Key → Type 0
+MeetsConflictOn session key = (last : ℕ) × ConflictsAt session key last × IsSettledUpTo last
+
+-- a conflict is told only after that
+abbrev pub TellsLate : ℕ → CommitError → Type 0
+TellsLate session error = (key : Key) → error ≡ Refused (Conflict key) → MeetsConflictOn session key
+
 -- What an error tells: that the commit wasn't drawn and stamped, for the reason that its steps gave, or before them; or that it was, and why it isn't acknowledged
 abbrev pub TellsError : ℕ → CommitError → Type 0
-TellsError session error = (TellsUnprepared session error × IsGivenBack session) ⊎ ((t : ℕ) × IsPrepared session (Ok (Some t)) × GivesUp session error)
+TellsError session error =
+    (TellsUnprepared session error × IsGivenBack session × TellsLate session error) ⊎ ((t : ℕ) × IsPrepared session (Ok (Some t)) × GivesUp session error)
 
--- A conflict is told only where the session's draw was refused so
+-- A conflict is told only where the session's draw was refused so, and late
 abbrev pub TellsRefusal : ℕ → CommitError → Type 0
-TellsRefusal session error = (key : Key) → error ≡ Refused (Conflict key) → IsPrepared session (Err error)
+TellsRefusal session error = (key : Key) → error ≡ Refused (Conflict key) → IsPrepared session (Err error) × MeetsConflictOn session key
 
 -- ---- writes in a transaction of their own
 

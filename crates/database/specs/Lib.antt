@@ -3,5 +3,6 @@ pub mod Opening
 pub mod Runs
 pub mod Obeys
 pub mod Committing
+pub mod Ticking
 pub mod Closing
 pub mod Numbers

@@ -1,5 +1,6 @@
+ghost use Rattle.std.specs.Prelude.{◌<◌};
 ghost use Rattle.std.specs.Option.{ForSome};
-ghost use Rattle.database.specs.Committing.{HasEnded};
+ghost use Rattle.database.specs.Committing.{HasEnded, HasLackedMemory};
 
 use crate::answers::{Answers, answer_to};
 use crate::committing::{begin_with, finish};
@@ -60,14 +61,16 @@ pub struct Desk<D: Pmem> {
     /// Why nothing more will be covered: what the committer was refused with.
     pub ended: Option<Fault>,
     ghost ended_so: { ForSome ended HasEnded },
+    ghost lacked_so: { 0 < refusals → HasLackedMemory },
 }
 
 impl<D: Pmem + Drop> Desk<D> {
-    ghost use Rattle.std.specs.Prelude.{◌≡◌, IsTrue, is_some, IfSome};
+    ghost use Rattle.std.specs.Prelude.{◌≡◌, ◌<◌, ◌≤◌, ◌↔◌, None, IsTrue, is_some, IfSome, IfNone};
+    ghost use Rattle.base.specs.declared.fault.Fault.TheVariants.{TimestampsOut};
     ghost use Rattle.base.specs.declared.step.Step.TheVariants.{Begin, Abort};
     ghost use Rattle.database.specs.Replies.{began_of, done_of};
     ghost use Rattle.database.specs.Obeys.{Obeys, InRoom, AnswersStep};
-    ghost use Rattle.database.specs.Committing.{BeginsWith, AnswersBegunWith, IsAnswered, IsAnsweredAt, StopsAfter};
+    ghost use Rattle.database.specs.Committing.{BeginsWith, AnswersBegunWith, IsAnswered, IsAnsweredAt, StopsAfter, HasEnded, HasLackedMemory, IsLeftWaiting, IsSettledUpTo, most_refusals};
 
     /// Opens a transaction. The number of its session.
     pub fn begin(&mut self) -> Result<u8, Fault>
@@ -122,7 +125,8 @@ impl<D: Pmem + Drop> Desk<D> {
 
     /// The answer to the session's commit, once there is one.
     pub fn answer(&mut self, session: u8) -> Option<Result<Ts, CommitError>>
-        ensures { IfSome result (IsAnswered session) }
+        ensures some { IfSome result (IsAnswered session) }
+        ensures none { IsTrue (is_some self.old.room) → IfNone result (IsLeftWaiting session self.new.ended self.new.refusals) }
     {
         let Some(room) = &mut self.room else {
             return None;
@@ -149,7 +153,8 @@ impl<D: Pmem + Drop> Desk<D> {
 
     // Why a commit that isn't covered is waited for no longer.
     fn given_up(&self) -> Option<CommitError>
-        ensures { IfSome result StopsAfter }
+        ensures some { IfSome result StopsAfter }
+        ensures none { IfNone result ((self.now.ended ≡ None) × (self.now.refusals ≤ most_refusals)) }
     {
         match self.ended {
             Some(Fault::TimestampsOut) => Some(CommitError::Refused(Fault::TimestampsOut)),
@@ -170,8 +175,18 @@ impl<D: Pmem + Drop> Desk<D> {
     }
 
     /// Whether the committer was refused memory too often.
-    pub fn lacks_memory(&self) -> bool {
+    pub fn lacks_memory(&self) -> bool
+        ensures often { IsTrue result ↔ (most_refusals < self.now.refusals) }
+        ensures so { IsTrue result → HasLackedMemory }
+    {
         REFUSALS < self.refusals
+    }
+
+    /// Whether the committer has ended since no record number is left, so that what is drawn from then on is never covered.
+    pub fn lacks_numbers(&self) -> bool
+        ensures so { IsTrue result → HasEnded TimestampsOut }
+    {
+        matches!(self.ended, Some(Fault::TimestampsOut))
     }
 
     /// Answers those who wait for a commit that is covered, or won't be, but for the one that leads.
@@ -193,19 +208,16 @@ impl<D: Pmem + Drop> Desk<D> {
         }
     }
 
-    /// The greatest timestamp that is drawn, or 0.
-    pub fn last_drawn(&self) -> Ts {
-        match &self.room {
-            Some(room) => room.status().next.saturating_sub(1),
-            None => 0,
-        }
-    }
-
     /// Whether each commit up to this timestamp is covered or given up.
-    pub fn is_settled(&self, timestamp: Ts) -> bool {
+    pub fn is_settled(&self, timestamp: Ts) -> bool
+        ensures { IsTrue result → IsSettledUpTo timestamp }
+    {
+        if self.ended.is_some() {
+            return true;
+        }
         match &self.room {
-            Some(room) => self.ended.is_some() || timestamp <= room.status().persisted,
-            None => true,
+            Some(room) => timestamp <= room.status().persisted,
+            None => false,
         }
     }
 

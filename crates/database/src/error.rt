@@ -13,8 +13,13 @@ pub enum CommitError {
 }
 
 impl CommitError {
+    ghost use Rattle.std.specs.Prelude.{◌≡◌, ◌⊎◌};
+    ghost use Rattle.database.specs.declared.error.CommitError.TheVariants.{Refused, Open};
+
     /// What was refused.
-    pub fn fault(&self) -> Fault {
+    pub fn fault(&self) -> Fault
+        ensures { (self.now ≡ Refused result) ⊎ (self.now ≡ Open result) }
+    {
         match self {
             CommitError::Refused(fault) | CommitError::Open(fault) => *fault,
         }
@@ -23,6 +28,11 @@ impl CommitError {
 
 /// For a caller that begins again after a conflict and ends at any other fault.
 impl From<CommitError> for Fault {
+    ghost use Rattle.std.specs.Prelude.{◌≡◌, ◌⊎◌};
+    ghost use Rattle.database.specs.declared.error.CommitError.TheVariants.{Refused, Open};
+
+    ghost from_gives = { λ error fault. (error ≡ Refused fault) ⊎ (error ≡ Open fault) };
+
     fn from(error: CommitError) -> Fault {
         error.fault()
     }

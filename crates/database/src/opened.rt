@@ -1,5 +1,6 @@
 ghost use Rattle.database.specs.Runs.{HasRun};
 
+use base::Ts;
 use base::geometry::Geometry;
 use base::step::Reply;
 use pmem::Pmem;
@@ -15,9 +16,10 @@ pub struct OpenedRoom<D: Pmem> {
 }
 
 impl<D: Pmem + Drop> OpenedRoom<D> {
-    ghost use Rattle.std.specs.Prelude.{◌≡◌};
+    ghost use Rattle.std.specs.Prelude.{◌≡◌, ◌-◌};
     ghost use Rattle.base.specs.declared.step.Step.TheVariants.{Commit, Collect};
-    ghost use Rattle.room.specs.Room.{Leads, ShowsStatus};
+    ghost use Rattle.machine.specs.Machine.{State};
+    ghost use Rattle.room.specs.Room.{Leads, Shows, ShowsStatus};
     ghost use Rattle.room.specs.Usage.{ShowsUsage};
     ghost use Rattle.database.specs.Numbers.{ComesTo};
     ghost use Rattle.database.specs.Opening.{IsFresh};
@@ -56,6 +58,13 @@ impl<D: Pmem + Drop> OpenedRoom<D> {
         ensures { ComesTo (λ q. ShowsStatus q result) }
     {
         self.room.status()
+    }
+
+    /// The greatest timestamp that is drawn, or 0.
+    pub fn last_drawn(&self) -> Ts
+        ensures { (q : State) → Shows D.state self.now.room q → result ≡ q.next - 1 }
+    {
+        self.room.status().next.saturating_sub(1)
     }
 
     /// How the slots are used.

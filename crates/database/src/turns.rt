@@ -1,4 +1,11 @@
+ghost use Rattle.std.specs.Prelude.{◌≡◌, IsTrue, is_some};
+ghost use Rattle.base.specs.declared.step.Step.TheVariants.{Collect};
+ghost use Rattle.database.specs.declared.turns.Turn.TheVariants.{Stopped};
+ghost use Rattle.database.specs.Obeys.{InRoom, Repeats};
+ghost use Rattle.database.specs.Ticking.{TicksOnce};
+
 use crate::desk::{Desk, Shared};
+use crate::opened::OpenedRoom;
 use base::batch::Batch;
 use base::fault::Fault;
 use base::step::{Reply, Stage};
@@ -36,7 +43,10 @@ pub enum Turn {
 }
 
 // A tick of the committer.
-fn tick<D: Pmem + Drop>(desk: &mut Desk<D>) -> Turn {
+fn tick<D: Pmem + Drop>(desk: &mut Desk<D>) -> Turn
+    ensures once { IsTrue (is_some desk.old.room) → TicksOnce D.state desk.old desk.new }
+    ensures stopped { result ≡ Stopped → IsTrue (is_some desk.new.ended) }
+{
     let Some(room) = &mut desk.room else {
         return Turn::Idle;
     };
@@ -44,16 +54,7 @@ fn tick<D: Pmem + Drop>(desk: &mut Desk<D>) -> Turn {
     if let Reply::Refused(fault) = reply {
         return desk.after_refusal(fault);
     }
-    desk.refusals = 0;
-    match reply {
-        Reply::Idle => Turn::Idle,
-        Reply::Covered(batch) => {
-            desk.covered = desk.covered.saturating_add(rows_of(&batch));
-            Turn::Finished
-        }
-        Reply::Ticked(Stage::GateFlushed) => Turn::Flushed,
-        _ => Turn::Unfinished,
-    }
+    desk.after_tick(&reply)
 }
 
 // How many rows the commits of a batch have written or deleted.
@@ -66,20 +67,31 @@ fn rows_of(batch: &Batch) -> u64 {
 }
 
 /// Visits of the collector, up to the end of a round.
-pub fn collect<D: Pmem + Drop>(desk: &mut Desk<D>) -> Turn {
+pub fn collect<D: Pmem + Drop>(desk: &mut Desk<D>) -> Turn
+    ensures visits { IsTrue (is_some desk.old.room) → InRoom (λ old new. Repeats D.state old new Collect) desk.old.room desk.new.room }
+    ensures ended { desk.new.ended ≡ desk.old.ended }
+{
     if !desk.is_round_due() {
         return Turn::Idle;
     }
     let Some(room) = &mut desk.room else {
         return Turn::Idle;
     };
+    let turn = visit_some(room);
+    if matches!(turn, Turn::Finished) {
+        desk.covered = 0;
+    }
+    turn
+}
+
+// A part of a round's visits, or up to its end.
+fn visit_some<D: Pmem + Drop>(room: &mut OpenedRoom<D>) -> Turn
+    ensures { Repeats D.state room.old.room room.new.room Collect }
+{
     let visits = (room.geometry().slots() / 4).clamp(LEAST_VISITS, MOST_VISITS);
     for _ in 0..visits {
         match room.visit() {
-            Reply::SweepEnd => {
-                desk.covered = 0;
-                return Turn::Finished;
-            }
+            Reply::SweepEnd => return Turn::Finished,
             Reply::Refused(_) => return Turn::Stopped,
             _ => {}
         }
@@ -88,13 +100,38 @@ pub fn collect<D: Pmem + Drop>(desk: &mut Desk<D>) -> Turn {
 }
 
 impl<D: Pmem> Desk<D> {
-    ghost use Rattle.std.specs.Prelude.{◌≢◌};
+    ghost use Rattle.std.specs.Prelude.{◌≡◌, ◌≢◌, ◌<◌, Some, IsTrue, is_some};
     ghost use Rattle.base.specs.declared.fault.Fault.TheVariants.{OutOfMemory};
-    ghost use Rattle.database.specs.Committing.{HasEnded};
+    ghost use Rattle.database.specs.declared.turns.Turn.TheVariants.{Stopped};
+    ghost use Rattle.database.specs.Committing.{HasEnded, HasLackedMemory};
+
+    // What a tick comes to that isn't refused.
+    fn after_tick(&mut self, reply: &Reply) -> Turn
+        ensures ended { self.new.ended ≡ self.old.ended }
+        ensures room { self.new.room ≡ self.old.room }
+        ensures goes_on { result ≢ Stopped }
+    {
+        self.refusals = 0;
+        match reply {
+            Reply::Idle => Turn::Idle,
+            Reply::Covered(batch) => {
+                self.covered = self.covered.saturating_add(rows_of(batch));
+                Turn::Finished
+            }
+            Reply::Ticked(Stage::GateFlushed) => Turn::Flushed,
+            _ => Turn::Unfinished,
+        }
+    }
 
     // What a refusal of a tick comes to: want of memory passes, and nothing else does.
     fn after_refusal(&mut self, fault: Fault) -> Turn
-        requires { fault ≢ OutOfMemory → HasEnded fault }
+        requires ended { fault ≢ OutOfMemory → HasEnded fault }
+        requires lacked { fault ≡ OutOfMemory → HasLackedMemory }
+        ensures ended { fault ≢ OutOfMemory → self.new.ended ≡ Some fault }
+        ensures goes_on { fault ≡ OutOfMemory → self.new.ended ≡ self.old.ended }
+        ensures counted { fault ≡ OutOfMemory → 0 < self.new.refusals }
+        ensures room { self.new.room ≡ self.old.room }
+        ensures stopped { result ≡ Stopped → IsTrue (is_some self.new.ended) }
     {
         match fault {
             Fault::OutOfMemory => {
@@ -128,13 +165,19 @@ impl<D: Pmem + Drop> Shared<D> {
 }
 
 impl<D: SyncAhead + Drop> Shared<D> {
+    ghost use Rattle.std.specs.Prelude.{◌≡◌, IsTrue, is_some};
+    ghost use Rattle.std.specs.Sync.Mutex.{mutex_guard_value};
+    ghost use Rattle.database.specs.declared.turns.Turn.TheVariants.{Stopped};
+
     /// A turn of the committer: ticks up to the one that covers a batch. What one of them would sync is synced before it, without the
     /// lock, so that others read, write and stamp meanwhile. What they stamp is of the next batch.
     pub fn take_ticks<'a, R: Wait>(
         &'a self,
         rt: &R,
         desk: MutexGuard<'a, Desk<D>>,
-    ) -> (MutexGuard<'a, Desk<D>>, Turn) {
+    ) -> (MutexGuard<'a, Desk<D>>, Turn)
+        ensures stopped { result.1 ≡ Stopped → IsTrue (is_some (mutex_guard_value result.0).ended) }
+    {
         let mut desk = desk;
         if desk.is_syncing {
             return (desk, Turn::Busy);

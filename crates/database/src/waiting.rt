@@ -16,7 +16,9 @@ use sync_ahead::SyncAhead;
 
 impl<D: SyncAhead + Drop> Shared<D> {
     ghost use Rattle.std.specs.Prelude.{Ok, IfOk, IfErr};
-    ghost use Rattle.database.specs.Committing.{IsPrepared, IsGivenBack, TellsCommit, TellsUnprepared, TellsError, TellsWritten, TellsUnwritten};
+    ghost use Rattle.base.specs.declared.key.Key.{Key};
+    ghost use Rattle.base.specs.declared.fault.Fault.TheVariants.{Conflict};
+    ghost use Rattle.database.specs.Committing.{IsPrepared, IsGivenBack, ConflictsAt, IsSettledUpTo, TellsCommit, TellsUnprepared, TellsError, TellsWritten, TellsUnwritten};
 
     /// Makes these writes in a transaction of their own and commits it. Up to its last stamp that is one turn of the lock.
     pub fn write<R: Wait>(
@@ -44,9 +46,9 @@ impl<D: SyncAhead + Drop> Shared<D> {
         ensures ok { IfOk result (TellsCommit session) }
         ensures err { IfErr result (TellsError session) }
     {
-        let (desk, prepared) = self.prepare(rt, desk, session);
+        let (desk, prepared, drawn) = self.prepare(rt, desk, session);
         match prepared {
-            Ok(drawn) => match drawn {
+            Ok(timestamp) => match timestamp {
                 Some(timestamp) => match self.wait(rt, desk, session, timestamp) {
                     Ok(()) => Ok(Some(timestamp)),
                     Err(error) => Err(error),
@@ -60,64 +62,85 @@ impl<D: SyncAhead + Drop> Shared<D> {
             },
             Err(error) => {
                 drop(desk);
-                self.give_way(rt, session, error);
+                self.give_way(rt, session, error, drawn);
                 Err(error)
             }
         }
     }
 
-    // Draws and stamps, once the committer has reserved timestamps. The timestamp, if something was written.
+    // Draws and stamps, once the committer has reserved timestamps. The timestamp, if something was written. Beside it the greatest one that
+    // is drawn then, whatever session drew it.
     fn prepare<'a, R: Wait>(
         &'a self,
         rt: &R,
         desk: MutexGuard<'a, Desk<D>>,
         session: u8,
-    ) -> (MutexGuard<'a, Desk<D>>, Result<Option<Ts>, CommitError>)
+    ) -> (MutexGuard<'a, Desk<D>>, Result<Option<Ts>, CommitError>, Ts)
         ensures ok { IfOk result.1 (λ drawn. IsPrepared session (Ok drawn)) }
         ensures err { IfErr result.1 (TellsUnprepared session) }
+        ensures conflict { (key : Key) → result.1 ≡ Err (Refused (Conflict key)) → ConflictsAt session key result.2 }
     {
         let mut desk = desk;
         for _ in rt.forever() {
-            if let Some(fault) = desk.ended {
-                return (desk, Err(CommitError::Refused(fault)));
+            if desk.lacks_numbers() {
+                return (desk, Err(CommitError::Refused(Fault::TimestampsOut)), 0);
             }
             if let Some(room) = &mut desk.room {
                 let prepared = prepare(rt, room, session);
+                let drawn = room.last_drawn();
                 if !is_full(&prepared) {
-                    return (desk, prepared);
+                    return (desk, prepared, drawn);
                 }
-            }
-            desk = self.take_turn(rt, desk);
-            if desk.lacks_memory() {
-                return (desk, Err(CommitError::Refused(Fault::OutOfMemory)));
+                desk = self.take_turn(rt, desk);
+                if desk.lacks_memory() {
+                    return (desk, Err(CommitError::Refused(Fault::OutOfMemory)), 0);
+                }
+            } else {
+                desk = self.moved.wait(rt, desk);
             }
         }
         unreachable!()
     }
 
-    // Ends a transaction whose commit was refused. A conflict is told once whatever is drawn is covered or given up: a
+    // Ends a transaction whose commit was refused. A conflict is told once whatever was drawn by then is covered or given up: a
     // transaction that is begun then sees the commit that was in the way.
-    fn give_way<R: Wait>(&self, rt: &R, session: u8, error: CommitError)
-        ensures { IsGivenBack session }
+    fn give_way<R: Wait>(&self, rt: &R, session: u8, error: CommitError, drawn: Ts)
+        ensures given { IsGivenBack session }
+        ensures late { (key : Key) → error ≡ Refused (Conflict key) → IsSettledUpTo drawn }
     {
         let mut desk = self.desk(rt);
         let _ = desk.abort(session);
-        let waits = matches!(error, CommitError::Refused(Fault::Conflict(_)));
-        if waits {
-            desk.group.excuse();
-            self.urge(&desk);
+        match error {
+            CommitError::Refused(Fault::Conflict(_)) => {
+                desk.group.excuse();
+                self.urge(&desk);
+                let mut desk = self.settle(rt, desk, drawn);
+                desk.leave();
+            }
+            _ => desk.leave(),
         }
-        let drawn = desk.last_drawn();
+    }
+
+    // Waits until each commit up to this timestamp is covered or given up, or the committer finds no memory.
+    fn settle<'a, R: Wait>(
+        &'a self,
+        rt: &R,
+        desk: MutexGuard<'a, Desk<D>>,
+        timestamp: Ts,
+    ) -> MutexGuard<'a, Desk<D>>
+        ensures { IsSettledUpTo timestamp }
+    {
+        let mut desk = desk;
         for _ in rt.forever() {
-            if !waits || desk.is_settled(drawn) {
-                break;
+            if desk.is_settled(timestamp) {
+                return desk;
             }
             desk = self.take_turn(rt, desk);
             if desk.lacks_memory() {
-                break;
+                return desk;
             }
         }
-        desk.leave();
+        unreachable!()
     }
 
     // Waits for a turn of the committer, which whoever leads a group takes for it. Where no other transaction is open it is taken here, and

@@ -1,23 +1,31 @@
-use Rattle.std.proofs.Common.{inl, inr, subst, Ok}
+use Rattle.std.proofs.Common.{inl, inr, subst, Ok, rules}
 use Rattle.database.specs.Obeys.{Finishes}
 use Rattle.database.proofs.Telling.{is-acknowledged}
 use Rattle.database.proofs.Errors.{finish-waits, finish-refused}
 use Rattle.database.proofs.desk.Desk.answer.Goals as goal
 
-pub returns-in-Ok-Some : goal.returns-in-Ok-Some
-returns-in-Ok-Some g c =
+pub returns-in-Ok-Some-clause-some : goal.returns-in-Ok-Some-clause-some
+returns-in-Ok-Some-clause-some g c =
     is-acknowledged g.D.Pmem.state c.in-Some.room.room c.finish.new.room.room c.args.session c.in-Ok-Some.timestamp c.in-Some.room.run
     (subst (λ o. Finishes g.D.Pmem.state c.in-Some.room.room c.finish.new.room.room c.args.session (Ok o)) c.in-Ok-Some.field-0-is c.in-Ok-Some.ensures.steps)
 
-pub returns-in-Some-given_up : goal.returns-in-Some-given_up
-returns-in-Some-given_up g c =
+pub returns-in-Some-given_up-clause-some : goal.returns-in-Some-given_up-clause-some
+returns-in-Some-given_up-clause-some g c =
     ∣ inl (
       finish-waits g.D.Pmem.state c.in-Some.room.room c.finish.new.room.room c.args.session c.in-Some.room.run
           (subst (λ o. Finishes g.D.Pmem.state c.in-Some.room.room c.finish.new.room.room c.args.session (Ok o)) c.in-Ok-None.field-0-is c.in-Ok-None.ensures.steps),
-      c.in-Some-given_up.ensures,
+      c.in-Some-given_up.ensures.some,
     ) ∣₁
 
-pub returns-in-Err : goal.returns-in-Err
-returns-in-Err g c =
+pub returns-in-None-clause-none : goal.returns-in-None-clause-none
+returns-in-None-clause-none g c there = (
+  finish-waits g.D.Pmem.state c.in-Some.room.room c.finish.new.room.room c.args.session c.in-Some.room.run
+      (subst (λ o. Finishes g.D.Pmem.state c.in-Some.room.room c.finish.new.room.room c.args.session (Ok o)) c.in-Ok-None.field-0-is c.in-Ok-None.ensures.steps),
+  search rules,
+  search rules,
+)
+
+pub returns-in-Err-clause-some : goal.returns-in-Err-clause-some
+returns-in-Err-clause-some g c =
     ∣ inr (finish-refused g.D.Pmem.state c.in-Some.room.room c.finish.new.room.room c.args.session c.in-Err.fault c.in-Some.room.run
     (subst (λ r. Finishes g.D.Pmem.state c.in-Some.room.room c.finish.new.room.room c.args.session r) c.in-Err.is c.finish.ensures.steps)) ∣₁
