@@ -1,26 +1,58 @@
 -- A prepare, its polls and its end.
 use Rattle.std.proofs.Common.{◌≡◌, ℕ, ◌≤◌, List, [], ◌∷◌, ◌++◌, length, refl, sym, ap, subst, ◌∙◌, inl, inr, arith, append_assoc, append-nil}
 use Rattle.std.specs.Prelude.{All, Option, ◌≢◌}
-use Rattle.std.proofs.lemmas.List.Elements.{All-nil, All-cons, All-tail}
+use Rattle.std.proofs.lemmas.List.Elements.{All-nil, All-cons, All-tail, All-append}
 use Rattle.base.specs.declared.fault.Fault.{Fault}
 use Rattle.base.specs.declared.fault.Fault.TheVariants.{NoSession}
-use Rattle.base.specs.declared.step.Step.TheVariants.{Poll, End}
-use Rattle.base.specs.declared.step.Note.TheVariants.{Done, Refused}
+use Rattle.base.specs.declared.step.Step.TheVariants.{Draw, Stamp, Poll, End}
+use Rattle.base.specs.declared.step.Note.TheVariants.{Done, Refused, Waiting}
 use Rattle.audited.specs.declared.receipt.Receipt.{Receipt}
 use Rattle.engine.specs.declared.phase.Phase.{Phase}
 use Rattle.engine.specs.declared.phase.Phase.TheVariants.{Idle, Active, Drawn, Stamped, Covered}
 use Rattle.engine.specs.Phases.{number_of, IsOpenAs}
 use Rattle.engine.specs.Receipts.{Asks, Refuses}
-use Rattle.engine.specs.Calls.{Called, AskPrepare, AskCommit, ArePolls, TellsCommit, TellsLast, TellsFault, TellsEnd, DeclinesCall, note_of_commit}
+use Rattle.engine.specs.Calls.{Called, AskPrepare, AskCommit, ArePolls, TellsCommit, TellsLast, TellsFault, TellsEnd, AreUncovered, DeclinesPrepare, DeclinesCall, note_of_commit}
 use Rattle.engine.proofs.Calls.{Called-none, Called-append, Called-weaken, Called-more}
 
 TellsFault-append : (one two : List Receipt) (fault : Fault) → TellsFault two fault → TellsFault (one ++ two) fault
 TellsFault-append one two fault (inl none) = inl none
 TellsFault-append one two fault (inr (before, r, is, told)) = inr (one ++ before, r, ap (λ (rs : List Receipt). one ++ rs) is ∙ sym (append_assoc one before (r ∷ [])), told)
 
-TellsEnd-append : (E : Fault → Type 0) (one two : List Receipt) (fault : Fault) → TellsEnd E two fault → TellsEnd E (one ++ two) fault
-TellsEnd-append E one two fault (inl tells) = inl (TellsFault-append one two fault tells)
-TellsEnd-append E one two fault (inr ended) = inr ended
+TellsEnd-append : (E : Fault → Type 0) (one two : List Receipt) (fault : Fault) → AreUncovered one → TellsEnd E two fault → TellsEnd E (one ++ two) fault
+TellsEnd-append E one two fault before (inl tells) = inl (TellsFault-append one two fault tells)
+TellsEnd-append E one two fault before (inr (ended, waiting)) = inr (ended, All-append (λ r. (n : ℕ) → r.step ≡ Poll n → r.note ≡ Waiting) one two before waiting)
+
+no_draw_polls : (n k : ℕ) → Draw n ≡ Poll k → ⊥
+no_draw_polls n k e = cc
+
+no_stamp_polls : (n k : ℕ) → Stamp n ≡ Poll k → ⊥
+no_stamp_polls n k e = cc
+
+none_uncovered : (added : List Receipt) → added ≡ [] → AreUncovered added
+none_uncovered added none = subst AreUncovered (sym none) (All-nil (λ (r : Receipt). (n : ℕ) → r.step ≡ Poll n → r.note ≡ Waiting))
+
+stamps_uncovered : (n : ℕ) (added : List Receipt) → All (λ s. s.step ≡ Stamp n) added → AreUncovered added
+stamps_uncovered n added stamps = λ place r less k polls. absurd (no_stamp_polls n k (sym (stamps place r less) ∙ polls))
+
+-- a prepare doesn't poll
+prepared_uncovered : (phase : Phase) (added : List Receipt) → AskPrepare phase added → AreUncovered added
+prepared_uncovered Idle added none = none_uncovered added none
+prepared_uncovered (Active n) added (inl none) = none_uncovered added none
+prepared_uncovered (Active n) added (inr (r, rest, is, drew, stamps)) =
+    subst AreUncovered (sym is)
+    (All-cons (λ (s : Receipt). (k : ℕ) → s.step ≡ Poll k → s.note ≡ Waiting) r rest (λ k polls. absurd (no_draw_polls n k (sym drew ∙ polls))) (stamps_uncovered n rest stamps))
+prepared_uncovered (Drawn n t) added stamps = stamps_uncovered n added stamps
+prepared_uncovered (Stamped n t) added none = none_uncovered added none
+prepared_uncovered (Covered n) added none = none_uncovered added none
+
+-- a prepare that is refused is why a commit is
+prepare_declined : (E : Fault → Type 0) (phase : Phase) (added : List Receipt) (fault : Fault) → DeclinesPrepare E phase added fault → DeclinesCall E phase added fault
+prepare_declined E Idle added fault told = told
+prepare_declined E (Active n) added fault (inl told) = inl told
+prepare_declined E (Active n) added fault (inr (ended, none)) = inr (ended, none_uncovered added none)
+prepare_declined E (Drawn n t) added fault told = inl told
+prepare_declined E (Stamped n t) added fault told = absurd told
+prepare_declined E (Covered n) added fault told = absurd told
 
 asks_some : (phase : Phase) (n : ℕ) (one two three : List Receipt) → n ≡ number_of phase → AskPrepare phase one → ArePolls n two → All (λ r. r.step ≡ End n) three → length three ≤ 1
     → AskCommit phase (one ++ (two ++ three))
@@ -51,11 +83,11 @@ commit_idle E old phase is = Called-none old _ (subst (λ (p : Phase). AskCommit
     none = record { prepare = []; polls = []; end = []; is = refl; asks = refl; all_polls = All-nil (λ (r : Receipt). r.step ≡ Poll 0); ends = All-nil (λ (r : Receipt). r.step ≡ End 0); one_end = omega arith }
 
 -- the prepare failed
-pub commit_only_prepared : (E : Fault → Type 0) (old new : List Receipt) (phase : Phase) (fault : Fault) → Called old new (λ added. AskPrepare phase added × DeclinesCall E phase added fault)
+pub commit_only_prepared : (E : Fault → Type 0) (old new : List Receipt) (phase : Phase) (fault : Fault) → Called old new (λ added. AskPrepare phase added × DeclinesPrepare E phase added fault)
     → Called old new (λ added. AskCommit phase added × DeclinesCall E phase added fault)
 commit_only_prepared E old new phase fault c = Called-weaken _ _ _ _ c (λ added tells. (
   subst (AskCommit phase) (append-nil added) (asks_some phase (number_of phase) added [] [] refl tells.0 (All-nil (λ (r : Receipt). r.step ≡ Poll (number_of phase))) (All-nil (λ (r : Receipt). r.step ≡ End (number_of phase))) (omega arith)),
-  tells.1,
+  prepare_declined E phase added fault tells.1,
 ))
 
 -- a poll failed
@@ -63,7 +95,7 @@ pub commit_polled : (E : Fault → Type 0) (old mid new : List Receipt) (phase :
     → Called mid new (λ two. ArePolls n two × TellsEnd E two fault) → Called old new (λ added. AskCommit phase added × DeclinesCall E phase added fault)
 commit_polled E old mid new phase n fault R is c d = Called-append _ _ _ _ _ _ c d (λ one two prepared polled. (
   subst (λ (rs : List Receipt). AskCommit phase (one ++ rs)) (append-nil two) (asks_some phase n one two [] is.number prepared.0 polled.0 (All-nil (λ (r : Receipt). r.step ≡ End n)) (omega arith)),
-  declines E phase _ fault is.is_open (TellsEnd-append E one two fault polled.1),
+  declines E phase _ fault is.is_open (TellsEnd-append E one two fault (prepared_uncovered phase one prepared.0) polled.1),
 ))
 
 -- it ended

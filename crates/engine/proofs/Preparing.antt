@@ -10,14 +10,14 @@ use Rattle.audited.specs.declared.receipt.Receipt.{Receipt}
 use Rattle.engine.specs.declared.phase.Phase.{Phase}
 use Rattle.engine.specs.declared.phase.Phase.TheVariants.{Active}
 use Rattle.engine.specs.Receipts.{Asks, Refuses}
-use Rattle.engine.specs.Calls.{Called, AskPrepare, TellsPrepare, TellsLast, TellsFault, TellsEnd, DeclinesCall, note_of_draw}
+use Rattle.engine.specs.Calls.{Called, AskPrepare, TellsPrepare, TellsLast, TellsFault, DeclinesPrepare, note_of_draw}
 use Rattle.std.proofs.lemmas.List.Elements.{All-nil}
 use Rattle.engine.proofs.Calls.{Called-none, Called-one, Called-append}
 
--- why nothing will be covered is why a call ends
-pub ends_so : (E : Fault → Type 0) (added : List Receipt) (fault : Fault) → (fault ≡ OutOfMemory) ⊎ E fault → TellsEnd E added fault
-ends_so E added fault (inl none) = inl (inl none)
-ends_so E added fault (inr ended) = inr ended
+-- why nothing will be covered is why nothing is drawn
+not_drawn : (E : Fault → Type 0) (n : ℕ) (fault : Fault) → (fault ≡ OutOfMemory) ⊎ E fault → DeclinesPrepare E (Active n) [] fault
+not_drawn E n fault (inl none) = inl (inl none)
+not_drawn E n fault (inr ended) = inr (ended, refl)
 
 drawn_first : (old mid new : List Receipt) (n : ℕ) (note : Note) (F G : List Receipt → Type 0)
     → Asks old mid (Draw n) note → Called mid new F
@@ -31,18 +31,18 @@ drawn_first old mid new n note F G a c both =
 
 -- nothing is drawn, since nothing will be covered
 pub not_asked : (E : Fault → Type 0) (old : List Receipt) (phase : Phase) (n : ℕ) (fault : Fault) → phase ≡ Active n → (fault ≡ OutOfMemory) ⊎ E fault
-    → Called old old (λ added. AskPrepare phase added × DeclinesCall E phase added fault)
+    → Called old old (λ added. AskPrepare phase added × DeclinesPrepare E phase added fault)
 not_asked E old phase n fault is why =
-    Called-none old _ (subst (λ (p : Phase). AskPrepare p [] × DeclinesCall E p [] fault) (sym is) (inl refl, ends_so E [] fault why))
+    Called-none old _ (subst (λ (p : Phase). AskPrepare p [] × DeclinesPrepare E p [] fault) (sym is) (inl refl, not_drawn E n fault why))
 
 -- the draw is refused, or there is no memory for it
 pub draw_refused : (E : Fault → Type 0) (old new : List Receipt) (phase : Phase) (n : ℕ) (fault : Fault) → phase ≡ Active n → Refuses old new (Draw n) fault
-    → Called old new (λ added. AskPrepare phase added × DeclinesCall E phase added fault)
+    → Called old new (λ added. AskPrepare phase added × DeclinesPrepare E phase added fault)
 draw_refused E old new phase n fault is (inl (same, none)) =
-    subst (λ (rs : List Receipt). Called old rs (λ added. AskPrepare phase added × DeclinesCall E phase added fault)) (sym same) (not_asked E old phase n fault is (inl none))
+    subst (λ (rs : List Receipt). Called old rs (λ added. AskPrepare phase added × DeclinesPrepare E phase added fault)) (sym same) (not_asked E old phase n fault is (inl none))
 draw_refused E old new phase n fault is (inr a) =
     Called-one old new (Draw n) (Refused fault) _ a (λ r step told.
-    subst (λ (p : Phase). AskPrepare p (r ∷ []) × DeclinesCall E p (r ∷ []) fault) (sym is)
+    subst (λ (p : Phase). AskPrepare p (r ∷ []) × DeclinesPrepare E p (r ∷ []) fault) (sym is)
     (inr (r, [], refl, step, All-nil (λ (s : Receipt). s.step ≡ Stamp n)), inl (inr ([], r, refl, told))))
 
 one_before : (note : Note) (r : Receipt) (rest : List Receipt) → TellsLast rest note → TellsLast (r ∷ rest) note
@@ -50,11 +50,11 @@ one_before note r rest (before, last, same, told) = (r ∷ before, last, ap (λ 
 
 pub broken_off : (E : Fault → Type 0) (old mid new : List Receipt) (phase : Phase) (n : ℕ) (note : Note) (fault : Fault) → phase ≡ Active n
     → Asks old mid (Draw n) note → Called mid new (λ added. All (λ r. r.step ≡ Stamp n) added × TellsFault added fault)
-    → Called old new (λ added. AskPrepare phase added × DeclinesCall E phase added fault)
+    → Called old new (λ added. AskPrepare phase added × DeclinesPrepare E phase added fault)
 broken_off E old mid new phase n note fault is a c =
     drawn_first old mid new n note _ _ a c (λ r rest step told stamps. (
       subst (λ (p : Phase). AskPrepare p (r ∷ rest)) (sym is) (inr (r, rest, refl, step, stamps.0)),
-      subst (λ (p : Phase). DeclinesCall E p (r ∷ rest) fault) (sym is) (inl (longer r rest stamps.1)),
+      subst (λ (p : Phase). DeclinesPrepare E p (r ∷ rest) fault) (sym is) (inl (longer r rest stamps.1)),
     ))
   where
     longer : (r : Receipt) (rest : List Receipt) → TellsFault rest fault → TellsFault (r ∷ rest) fault

@@ -28,9 +28,13 @@ TellsLast added note = (before : List Receipt) × (r : Receipt) × (added ≡ be
 abbrev pub TellsFault : List Receipt → Fault → Type 0
 TellsFault added fault = (fault ≡ OutOfMemory) ⊎ TellsLast added (Refused fault)
 
--- so it is, or the fault is what ended the committer
+-- whichever of them polled was told that the commit isn't covered
+abbrev pub AreUncovered : List Receipt → Type 0
+AreUncovered added = All (λ r. (n : ℕ) → r.step ≡ Poll n → r.note ≡ Waiting) added
+
+-- so it is, or the fault is what ended the committer, and no poll told that the commit is covered
 abbrev pub TellsEnd : (Fault → Type 0) → List Receipt → Fault → Type 0
-TellsEnd Ended added fault = TellsFault added fault ⊎ Ended fault
+TellsEnd Ended added fault = TellsFault added fault ⊎ (Ended fault × AreUncovered added)
 
 -- so it is where a transaction is open, and else the fault is NoSession and no step was made
 abbrev pub DeclinesCall : (Fault → Type 0) → Phase → List Receipt → Fault → Type 0
@@ -44,6 +48,14 @@ abbrev pub AskPrepare : Phase → List Receipt → Type 0
 AskPrepare (Active n) added = (added ≡ []) ⊎ ((r : Receipt) × (rest : List Receipt) × (added ≡ r ∷ rest) × (r.step ≡ Draw n) × All (λ s. s.step ≡ Stamp n) rest)
 AskPrepare (Drawn n t) added = All (λ s. s.step ≡ Stamp n) added
 AskPrepare _ added = added ≡ []
+
+-- why it is refused: the last note tells it; or, where nothing is drawn yet, the fault is what ended the committer, and no step was
+-- made. So it is NoSession where no transaction is open; and where all is stamped, or nothing was written, it isn't refused
+abbrev pub DeclinesPrepare : (Fault → Type 0) → Phase → List Receipt → Fault → Type 0
+DeclinesPrepare Ended Idle added fault = (fault ≡ NoSession) × (added ≡ [])
+DeclinesPrepare Ended (Active n) added fault = TellsFault added fault ⊎ (Ended fault × (added ≡ []))
+DeclinesPrepare Ended (Drawn n t) added fault = TellsFault added fault
+DeclinesPrepare Ended _ added fault = ⊥
 
 -- what a draw is answered
 abbrev pub note_of_draw : Option ℕ → Note

@@ -1,8 +1,11 @@
 -- What is due for the workers after a step, and who is to be told.
-use Rattle.std.specs.Prelude.{◌≡◌, Bool, true, false, IsTrue}
+use Rattle.std.specs.Prelude.{◌≡◌, ◌≢◌, ℕ, ◌+◌, ◌*◌, ◌-◌, ◌^◌, ◌<◌, min, Bool, true, false, IsTrue, IsFalse, List, [], length}
+use Rattle.base.specs.Records.{Record}
+use Rattle.base.specs.declared.gap.Gap.{Gap}
 use Rattle.base.specs.declared.fault.Fault.TheVariants.{Device as DeviceFault, Failed, OutOfMemory, SlotsOut, TimestampsOut, WindowFull}
 use Rattle.base.specs.declared.step.Reply.{Reply}
-use Rattle.base.specs.declared.step.Reply.TheVariants.{Covered, Idle, Refused, Stamped}
+use Rattle.base.specs.declared.step.Reply.TheVariants.{Covered, Drawn, Idle, Refused, Stamped, SweepEnd}
+use Rattle.engine.specs.declared.due.Due.{Due}
 use Rattle.engine.specs.declared.due.News.{News}
 
 -- A tick is due once all keys of a commit are stamped, where a step waits for timestamps, and where the device fails, since the
@@ -40,3 +43,32 @@ pub record KeepsNews (old new : News) : Type 0 where
 -- nobody is to be told
 abbrev pub IsTold : News → Type 0
 IsTold news = (news.committer ≡ false) × (news.collector ≡ false) × (news.waiting ≡ false)
+
+-- ---- what a step leaves due
+
+-- a tick and a visit are due where the reply makes them so, and a visit stays due until a sweep ends
+pub record MakesDue (old new : Due) (reply : Reply) : Type 0 where
+  pub tick : IsTrue (tick_after old.tick reply) → IsTrue new.tick
+  pub visit : IsTrue (wants_visit reply) → IsTrue new.visit
+  pub within : IsTrue old.visit → IsFalse new.visit → reply ≡ SweepEnd
+
+-- who sleeps is to be told of what is due then, whoever waits for a commit of what was covered, or that nothing may be, and nobody is forgotten
+pub record TellsDue (old new : Due) (reply : Reply) : Type 0 where
+  pub committer : IsFalse old.tick → IsTrue new.tick → IsTrue new.news.committer
+  pub collector : IsFalse old.visit → IsTrue new.visit → IsTrue new.news.collector
+  pub waiting : IsTrue (wakes_waiting reply) → IsTrue new.news.waiting
+  pub kept : KeepsNews old.news new.news
+
+-- how many commits were covered then, of which enough make a round due
+abbrev pub covered_after : ℕ → Reply → ℕ
+covered_after covered (Covered batch) = min (covered + length batch.commits) (2 ^ 64 - 1)
+covered_after covered _ = covered
+
+-- a record is due though no commit was stamped: a draw left less than half a window of the reserved timestamps, or a sweep ended, whose gaps are to be dropped
+abbrev pub WantsRecordOf : Reply → ℕ → List Gap → ℕ → ℕ → Type 0
+WantsRecordOf (Drawn timestamp) dirty gaps next window = 2 * (dirty - next) < window
+WantsRecordOf SweepEnd dirty gaps next window = gaps ≢ []
+WantsRecordOf _ dirty gaps next window = ⊥
+
+abbrev pub WantsRecord : Reply → Record → ℕ → ℕ → Type 0
+WantsRecord reply ruling next window = WantsRecordOf reply ruling.dirty ruling.gaps next window

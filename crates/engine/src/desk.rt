@@ -64,13 +64,16 @@ pub struct Desk<D: Pmem, J: Origin> {
 }
 
 impl<D: Pmem + Drop, J: Origin> Desk<D, J> {
-    ghost use Rattle.std.specs.Prelude.{◌≡◌, ◌↔◌, ◌+◌, ◌⊎◌, IsTrue, false, nat_lt, is_some, None, IfSome, IfNone, IfErr, MatchOption, MatchResult};
+    ghost use Rattle.std.specs.Prelude.{◌≡◌, ◌↔◌, ◌+◌, ◌⊎◌, ◌^◌, IsTrue, true, false, nat_lt, is_some, None, IfSome, IfNone, IfErr, OnErr, MatchOption, MatchResult};
+    ghost use Rattle.base.specs.Batches.{Batch};
     ghost use Rattle.base.specs.declared.fault.Fault.TheVariants.{OutOfMemory};
+    ghost use Rattle.base.specs.declared.step.Reply.TheVariants.{Covered};
     ghost use Rattle.base.specs.Replies.{note_of};
     ghost use Rattle.machine.specs.Machine.{State};
     ghost use Rattle.room.specs.Room.{Shows};
+    ghost use Rattle.engine.specs.Origins.{HasCovered};
     ghost use Rattle.engine.specs.declared.desk.Duty.TheVariants.{Commit, Collect};
-    ghost use Rattle.engine.specs.Due.{IsTold};
+    ghost use Rattle.engine.specs.Due.{IsTold, MakesDue, TellsDue, WantsRecord};
     ghost use Rattle.engine.specs.Lending.{HasMade, MakesOnly, has_failed, is_covered, halted_after, refusals_after, why_not, waited};
 
     /// No room yet.
@@ -78,6 +81,8 @@ impl<D: Pmem + Drop, J: Origin> Desk<D, J> {
         ensures empty { result.audited ≡ None }
         ensures handed { result.handed ≡ 0 }
         ensures open { result.closing ≡ false }
+        ensures calm { (result.refusals ≡ 0) × (result.halted ≡ None) × (result.asleep ≡ false) }
+        ensures due { (result.due.tick ≡ true) × (result.due.visit ≡ true) }
     {
         Desk {
             audited: None,
@@ -104,8 +109,11 @@ impl<D: Pmem + Drop, J: Origin> Desk<D, J> {
     /// Counts one more session that is handed out.
     pub fn hand_out(&mut self) -> Result<(), Fault>
         ensures handed { MatchResult result (λ _. self.new.handed ≡ self.old.handed + 1) (λ fault. (fault ≡ OutOfMemory) × (self.new.handed ≡ self.old.handed)) }
+        ensures full { OnErr result (self.old.handed + 1 ≡ 2 ^ 64) }
         ensures closing { self.new.closing ≡ self.old.closing }
         ensures room { self.new.audited ≡ self.old.audited }
+        ensures halted { (self.new.halted ≡ self.old.halted) × (self.new.refusals ≡ self.old.refusals) }
+        ensures due { (self.new.due ≡ self.old.due) × (self.new.asleep ≡ self.old.asleep) }
     {
         match self.handed.checked_add(1) {
             Some(handed) => {
@@ -124,10 +132,12 @@ impl<D: Pmem + Drop, J: Origin> Desk<D, J> {
         ensures none { (result ≡ None) ↔ (IsTrue self.old.closing ⊎ (self.old.audited ≡ None)) }
         ensures same { IfNone result ((self.new.audited ≡ self.old.audited) × (self.new.halted ≡ self.old.halted) × (self.new.refusals ≡ self.old.refusals)) }
         ensures only { IfSome result (λ made. MakesOnly D.state self.old.audited self.new.audited step.now made.0 made.1) }
+        ensures covered { IfSome result (λ made. (batch : Batch) → made.0 ≡ Covered batch → HasCovered J.image batch) }
         ensures refusals { IfSome result (λ made. self.new.refusals ≡ refusals_after self.old.refusals step.now (is_some made.1)) }
         ensures closing { self.new.closing ≡ self.old.closing }
         ensures handed { self.new.handed ≡ self.old.handed }
         ensures asleep { self.new.asleep ≡ self.old.asleep }
+        ensures due { self.new.due ≡ self.old.due }
     {
         if self.closing {
             return None;
@@ -152,6 +162,10 @@ impl<D: Pmem + Drop, J: Origin> Desk<D, J> {
 
     /// Notes what a step was answered, and what it made due.
     pub fn note(&mut self, reply: &Reply)
+        ensures due { IfSome self.old.audited (λ audited. MakesDue self.old.due self.new.due reply.now) }
+        ensures news { IfSome self.old.audited (λ audited. TellsDue self.old.due self.new.due reply.now) }
+        ensures record { IfSome self.old.audited (λ audited. (q : State) → Shows D.state audited.room q → WantsRecord reply.now q.ruling q.next q.layout.window → IsTrue self.new.due.tick) }
+        ensures asleep { self.new.asleep ≡ self.old.asleep }
         ensures room { self.new.audited ≡ self.old.audited }
         ensures handed { self.new.handed ≡ self.old.handed }
         ensures closing { self.new.closing ≡ self.old.closing }
@@ -185,6 +199,9 @@ impl<D: Pmem + Drop, J: Origin> Desk<D, J> {
     pub fn take_news(&mut self) -> News
         ensures news { result ≡ self.old.due.news }
         ensures told { IsTold self.new.due.news }
+        ensures due { (self.new.due.tick ≡ self.old.due.tick) × (self.new.due.visit ≡ self.old.due.visit) }
+        ensures counts { (self.new.due.covered ≡ self.old.due.covered) × (self.new.due.is_slot_wanted ≡ self.old.due.is_slot_wanted) }
+        ensures asleep { self.new.asleep ≡ self.old.asleep }
         ensures room { self.new.audited ≡ self.old.audited }
         ensures handed { self.new.handed ≡ self.old.handed }
         ensures closing { self.new.closing ≡ self.old.closing }
@@ -232,9 +249,10 @@ impl<D: Pmem + Drop, J: Origin> Desk<D, J> {
     }
 }
 
-ghost use Rattle.std.specs.Prelude.{◌≡◌, IfSome};
+ghost use Rattle.std.specs.Prelude.{◌≡◌, ◌↔◌, IfSome, IsTrue};
 ghost use Rattle.base.specs.declared.step.Step.TheVariants.{Commit};
 ghost use Rattle.base.specs.declared.step.Note.TheVariants.{Refused};
+ghost use Rattle.engine.specs.Due.{WantsRecordOf};
 ghost use Rattle.engine.specs.Lending.{first_of, has_failed, is_covered_in, halting, refusals_after};
 
 // Whether the record covers the timestamp, where that was drawn since the opening.
@@ -286,7 +304,9 @@ fn refusals_after(refusals: u64, step: &Step, kept: bool) -> u64
 }
 
 // Whether a record is due after the step though it stamped nothing: few timestamps are left, or swept gaps are to be dropped.
-fn makes_record_due(reply: &Reply, status: &Status, window: u64) -> bool {
+fn makes_record_due(reply: &Reply, status: &Status, window: u64) -> bool
+    ensures { IsTrue result ↔ WantsRecordOf reply.now status.now.dirty status.now.gaps status.now.next window }
+{
     match reply {
         Reply::Drawn(_) => {
             let left = status.dirty.saturating_sub(status.next);

@@ -3,7 +3,7 @@
 //! finds something once commits were covered, or where a slot is wanted.
 ghost use Rattle.std.specs.Prelude.{◌≡◌, ◌⊎◌, ◌≤◌, IsTrue, IsFalse, true, false};
 ghost use Rattle.base.specs.declared.step.Reply.TheVariants.{Refused, SweepEnd};
-ghost use Rattle.engine.specs.Due.{tick_after, wants_visit, wakes_waiting, KeepsNews, IsTold};
+ghost use Rattle.engine.specs.Due.{covered_after, tick_after, wants_visit, wakes_waiting, KeepsNews, IsTold};
 
 use base::fault::Fault;
 use base::step::Reply;
@@ -48,6 +48,7 @@ impl Due {
     pub fn new() -> Due
         ensures tick { result.tick ≡ true }
         ensures visit { result.visit ≡ true }
+        ensures told { IsTold result.news }
     {
         Due {
             tick: true,
@@ -88,6 +89,8 @@ impl Due {
         ensures visit { (IsTrue self.new.is_slot_wanted ⊎ (quarter ≤ self.new.covered)) → IsTrue self.new.visit }
         ensures wanted { IsTrue (wants_visit reply.now) → IsTrue self.new.visit }
         ensures within { IsTrue self.old.visit → IsFalse self.new.visit → reply.now ≡ SweepEnd }
+        ensures needed { IsFalse self.old.visit → IsTrue self.new.visit → IsTrue (wants_visit reply.now) ⊎ (IsTrue self.old.is_slot_wanted ⊎ (quarter ≤ covered_after self.old.covered reply.now)) }
+        ensures covered { (self.new.covered ≡ covered_after self.old.covered reply.now) ⊎ ((self.new.covered ≡ 0) × IsTrue self.new.visit) }
         ensures committer { IsFalse self.old.tick → IsTrue self.new.tick → IsTrue self.new.news.committer }
         ensures collector { IsFalse self.old.visit → IsTrue self.new.visit → IsTrue self.new.news.collector }
         ensures waiting { IsTrue (wakes_waiting reply.now) → IsTrue self.new.news.waiting }
@@ -114,6 +117,8 @@ impl Due {
         ensures tick { self.new.tick ≡ tick_after self.old.tick (Refused fault) }
         ensures wanted { IsTrue (wants_visit (Refused fault)) → (IsTrue self.new.visit ⊎ IsTrue self.new.is_slot_wanted) }
         ensures visit { IsTrue self.old.visit → IsTrue self.new.visit }
+        ensures needed { (IsTrue self.new.visit ⊎ IsTrue self.new.is_slot_wanted) → IsTrue (wants_visit (Refused fault)) ⊎ (IsTrue self.old.visit ⊎ IsTrue self.old.is_slot_wanted) }
+        ensures covered { (self.new.covered ≡ self.old.covered) ⊎ ((self.new.covered ≡ 0) × IsTrue self.new.visit) }
         ensures committer { IsFalse self.old.tick → IsTrue self.new.tick → IsTrue self.new.news.committer }
         ensures collector { IsFalse self.old.visit → IsTrue self.new.visit → IsTrue self.new.news.collector }
         ensures waiting { IsTrue (wakes_waiting (Refused fault)) → IsTrue self.new.news.waiting }
@@ -153,6 +158,7 @@ impl Due {
         ensures news { KeepsNews self.old.news self.new.news }
         ensures tick { self.new.tick ≡ self.old.tick }
         ensures waiting { self.new.news.waiting ≡ self.old.news.waiting }
+        ensures covered { (self.new.covered ≡ self.old.covered) ⊎ (self.new.covered ≡ 0) }
     {
         if !self.visit {
             self.visit = true;

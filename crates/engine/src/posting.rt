@@ -1,5 +1,6 @@
 //! A batch that is covered has to be published also where memory is wanting, since the next one wouldn't go on from the list:
-//! so the committer tries it again before its next tick.
+//! so the committer tries it again before its next tick. In between the lock is free, so what waits on the board is known by what
+//! was announced there.
 
 use crate::origin::Origin;
 use crate::shared::Shared;
@@ -20,13 +21,22 @@ pub enum Posting {
     Unfit,
 }
 
-ghost use Rattle.std.specs.Prelude.{◌≡◌, ◌⊎◌, ◌≤◌, ◌<◌, ◌+◌, ◌-◌, IfSome, MatchResult, Ok};
+/// What is still to be published.
+#[derive(Drop)]
+pub enum Left<J: Naming> {
+    OfBatch(Batch),
+    /// The batch waits on the board: what is published once it is.
+    Announced(Token<J>),
+}
+
+ghost use Rattle.std.specs.Prelude.{◌≡◌, ◌⊎◌, ◌≤◌, ◌<◌, ◌+◌, ◌-◌, IfSome, IfOk, IfErr, MatchOption, MatchResult, Ok};
 ghost use Rattle.base.specs.declared.fault.Fault.TheVariants.{OutOfMemory};
+ghost use Rattle.base.specs.Batches.{Batch as BatchOf};
 ghost use Rattle.base.specs.Published.{last_stamp};
 ghost use Rattle.board.specs.declared.change.Change.TheVariants.{Raise};
-ghost use Rattle.board.specs.Shown.{shown, waiting};
-ghost use Rattle.engine.specs.declared.posting.Posting.TheVariants.{Done};
-ghost use Rattle.engine.specs.Posting.{Tries};
+ghost use Rattle.board.specs.Lists.{Begins, Fits};
+ghost use Rattle.board.specs.Shown.{whole, shown, waiting};
+ghost use Rattle.engine.specs.Posting.{EndsIn, IsLeftOf, IsShort, Posts, Tries};
 
 /// Publishes the batch, and keeps sixteen stamps readable. For want of memory it rests and tries again, until the engine is being
 /// closed. `None` then, and where the batch doesn't go on from what was published.
@@ -35,17 +45,18 @@ pub fn post<R: Wait + Drop, D: Pmem + Drop, J: Origin>(
     shared: &Arc<Shared<D, J, Board<J, R>>, Global>,
     batch: Batch,
 ) -> Option<Token<J>>
-    ensures { IfSome result (λ list. (last_stamp list ≡ batch.stamp) × (last_stamp list ≤ list.floor + 15)) }
+    ensures { IfSome result (λ list. EndsIn list batch × IsShort list) }
 {
-    let stamp = batch.stamp();
     let mut refusals = 0u64;
-    let mut left = Some(batch);
+    let mut left = Left::OfBatch(batch);
     for _ in rt.forever() {
         let mut board = shared.board.lock(rt);
-        match publish_and_prune(&mut board, left) {
-            Posting::Done => return told_at(&board, stamp),
-            Posting::Again(rest) => left = rest,
-            Posting::Unfit => return None,
+        match post_left(&mut board, left) {
+            Ok(told) => return Some(told),
+            Err(rest) => match rest {
+                Some(rest) => left = rest,
+                None => return None,
+            },
         }
         drop(board);
         if shared.is_closing(rt) {
@@ -58,31 +69,75 @@ pub fn post<R: Wait + Drop, D: Pmem + Drop, J: Origin>(
     unreachable!()
 }
 
-// What is published, where it ends at the stamp.
-fn told_at<R: Wait + Drop, J: Naming>(board: &Board<J, R>, stamp: u64) -> Option<Token<J>>
-    ensures { IfSome result (λ list. (list ≡ board.now.list) × (last_stamp list ≡ stamp)) }
+// Publishes what is left, and tells what is published then. For want of memory something is left again, and `None` is where it
+// can't be published.
+fn post_left<R: Wait + Drop, J: Naming>(
+    board: &mut Board<J, R>,
+    left: Left<J>,
+) -> Result<Token<J>, Option<Left<J>>>
+    ensures told { IfOk result (λ list. list ≡ board.new.list) }
+    ensures left { (batch : BatchOf) → IsLeftOf batch left → MatchResult result (λ list. EndsIn list batch × IsShort list) (λ rest. IfSome rest (IsLeftOf batch)) }
 {
-    let told = board.token();
-    if told.stamp() == stamp {
-        Some(told)
-    } else {
-        None
+    match left {
+        Left::OfBatch(batch) => post_batch(board, batch),
+        Left::Announced(due) => post_announced(board, due),
     }
 }
 
-// Publishes the batch, or what waits, and prunes then. At Done sixteen stamps may be read at most.
+// Publishes the batch. `None` is left exactly where it may not come next.
+fn post_batch<R: Wait + Drop, J: Naming>(
+    board: &mut Board<J, R>,
+    batch: Batch,
+) -> Result<Token<J>, Option<Left<J>>>
+    ensures told { IfOk result (λ list. (list ≡ board.new.list) × EndsIn list batch × IsShort list) }
+    ensures left { IfErr result (λ rest. MatchOption rest ((Fits (whole board.old) batch → ⊥) × (board.new ≡ board.old)) (IsLeftOf batch)) }
+{
+    match publish_and_prune(board, Some(batch)) {
+        Posting::Done => Ok(board.token()),
+        Posting::Again(rest) => match rest {
+            Some(batch) => Err(Some(Left::OfBatch(batch))),
+            None => Err(Some(Left::Announced(board.announced()))),
+        },
+        Posting::Unfit => Err(None),
+    }
+}
+
+// Publishes what waits, where that is what was announced.
+fn post_announced<R: Wait + Drop, J: Naming>(
+    board: &mut Board<J, R>,
+    due: Token<J>,
+) -> Result<Token<J>, Option<Left<J>>>
+    ensures told { IfOk result (λ list. (list ≡ board.new.list) × Begins due list × (last_stamp list ≡ last_stamp due) × IsShort list) }
+    ensures left { IfErr result (λ rest. IfSome rest (λ left. (batch : BatchOf) → EndsIn due batch → IsLeftOf batch left)) }
+{
+    match publish_and_prune(board, None) {
+        Posting::Done => {
+            let told = board.token();
+            if due.begins(&told) && told.stamp() == due.stamp() {
+                Ok(told)
+            } else {
+                Err(None)
+            }
+        }
+        Posting::Again(_) => Err(Some(Left::Announced(due))),
+        Posting::Unfit => Err(None),
+    }
+}
+
+// Publishes the batch, or what waits, and prunes then.
 fn publish_and_prune<R: Wait + Drop, J: Naming>(
     board: &mut Board<J, R>,
     left: Option<Batch>,
 ) -> Posting
-    ensures { (result ≡ Done) → last_stamp board.new.list ≤ board.new.list.floor + 15 }
+    ensures { Posts board.old board.new left result }
 {
     match publish(board, left) {
         Posting::Done => match prune(board) {
             Ok(()) => Posting::Done,
             Err(_) => Posting::Again(None),
         },
-        other => other,
+        Posting::Again(rest) => Posting::Again(rest),
+        Posting::Unfit => Posting::Unfit,
     }
 }
 

@@ -19,12 +19,12 @@ impl<D: Pmem + Drop, J: Origin, B: Drop> Session<D, J, B> {
     ghost use Rattle.engine.specs.Phases.{number_of, timestamp_of, phase_after, phase_after_step, added_since, prepared};
     ghost use Rattle.engine.specs.Origins.{HasHalted};
     ghost use Rattle.engine.specs.Receipts.{Asks, Refuses};
-    ghost use Rattle.engine.specs.Calls.{Called, TellsLast, TellsFault, TellsEnd, DeclinesCall, AskPrepare, TellsPrepare, note_of_draw, AskCommit, TellsCommit, ArePolls, note_of_commit};
+    ghost use Rattle.engine.specs.Calls.{Called, TellsLast, TellsFault, TellsEnd, DeclinesCall, AskPrepare, TellsPrepare, DeclinesPrepare, note_of_draw, AskCommit, TellsCommit, ArePolls, note_of_commit};
 
     /// Draws a timestamp and stamps all keys, or goes on from where an earlier call left that. `None` if nothing was written. Where
     /// the committer has ended, nothing is drawn any more, and it fails with the fault that ended that.
     pub fn prepare<R: Wait>(&mut self, rt: &R) -> Result<Option<Ts>, Fault>
-        ensures steps { Called self.old.receipts.items self.new.receipts.items (λ added. AskPrepare self.old.phase added × MatchResult result (TellsPrepare self.old.phase added) (DeclinesCall (HasHalted J.image) self.old.phase added)) }
+        ensures steps { Called self.old.receipts.items self.new.receipts.items (λ added. AskPrepare self.old.phase added × MatchResult result (TellsPrepare self.old.phase added) (DeclinesPrepare (HasHalted J.image) self.old.phase added)) }
         ensures ok { IfOk result (λ answer. self.new.phase ≡ prepared (number_of self.old.phase) answer) }
         ensures phase { self.new.phase ≡ phase_after self.old.phase (added_since self.old.receipts.items self.new.receipts.items) }
     {

@@ -34,10 +34,11 @@ pub struct Turn<J: Naming> {
     pub told: Option<Token<J>>,
 }
 
-ghost use Rattle.std.specs.Prelude.{◌≡◌, ◌⊎◌, IfSome, IfOk, IfErr};
+ghost use Rattle.std.specs.Prelude.{◌≡◌, ◌⊎◌, IfSome, IfOk, IfErr, MatchResult};
+ghost use Rattle.std.specs.Option.{ForSome};
 ghost use Rattle.base.specs.declared.fault.Fault.TheVariants.{OutOfMemory, NoThread};
 ghost use Rattle.base.specs.Replies.{note_of};
-ghost use Rattle.engine.specs.Posting.{IsPosted};
+ghost use Rattle.engine.specs.Posting.{IsPosted, IsTurn, IsTurnOf, Misses};
 
 /// Starts a worker that has this duty.
 pub fn spawn_worker<
@@ -109,9 +110,23 @@ fn take_turn<R: Wait + Drop, D: Pmem + Drop, J: Origin>(
     shared: &Arc<Shared<D, J, Board<J, R>>, Global>,
     step: &Step,
 ) -> Result<Turn<J>, Missed>
-    ensures { IfOk result (λ made. IsPosted made.note made.told) }
+    ensures { IfOk result (λ turn. IsPosted J.image turn.note turn.told) }
 {
-    let Some((reply, receipt)) = tick(rt, shared, step) else {
+    let made = tick(rt, shared, step);
+    finish_turn(rt, shared, made)
+}
+
+// Publishes what was made of a tick, where that covered a batch.
+fn finish_turn<R: Wait + Drop, D: Pmem + Drop, J: Origin>(
+    rt: &R,
+    shared: &Arc<Shared<D, J, Board<J, R>>, Global>,
+    made: Option<(Reply, Option<Receipt>)>,
+) -> Result<Turn<J>, Missed>
+    requires { ForSome made (IsTurn J.image) }
+    ensures posted { IfOk result (λ turn. IsPosted J.image turn.note turn.told) }
+    ensures why { MatchResult result (λ turn. IsTurnOf made turn.note) (Misses made) }
+{
+    let Some((reply, receipt)) = made else {
         return Err(Missed::Over);
     };
     let Some(receipt) = receipt else {
@@ -138,7 +153,8 @@ fn tick<R: Wait, D: Pmem + Drop, J: Origin, B: Drop>(
     shared: &Arc<Shared<D, J, B>, Global>,
     step: &Step,
 ) -> Option<(Reply, Option<Receipt>)>
-    ensures { IfSome result (λ made. IfSome made.1 (λ receipt. (receipt.step ≡ step.now) × (receipt.note ≡ note_of made.0))) }
+    ensures made { IfSome result (λ made. IfSome made.1 (λ receipt. (receipt.step ≡ step.now) × (receipt.note ≡ note_of made.0))) }
+    ensures turn { ForSome result (IsTurn J.image) }
 {
     let mut desk = shared.desk.lock(rt);
     let made = desk.tick(step);

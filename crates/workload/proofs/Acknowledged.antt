@@ -84,7 +84,7 @@ tells-more old added new note is (before, r, last, told) = (old ++ before, r, is
 ended-more : (Halted : Fault → Type 0) (old added new : List Receipt) (fault : Fault) → new ≡ old ++ added → TellsEnd Halted added fault → (fault ≡ OutOfMemory) ⊎ IsRefusedWith Halted new fault
 ended-more Halted old added new fault is (inl (inl memory)) = inl memory
 ended-more Halted old added new fault is (inl (inr last)) = inr (inl (tells-more old added new (Refused fault) is last))
-ended-more Halted old added new fault is (inr halted) = inr (inr halted)
+ended-more Halted old added new fault is (inr (halted, waiting)) = inr (inr halted)
 
 declined-there : (Halted : Fault → Type 0) (phase : Phase) (added : List Receipt) (fault : Fault) → phase ≢ Idle → DeclinesCall Halted phase added fault → TellsEnd Halted added fault
 declined-there Halted Idle added fault there declined = absurd (there refl)

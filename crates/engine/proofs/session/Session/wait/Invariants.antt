@@ -1,6 +1,8 @@
+use Rattle.std.proofs.Common.{◌≡◌, All}
+use Rattle.base.specs.declared.step.Note.TheVariants.{Waiting}
 use Rattle.engine.specs.Calls.{Called, ArePolls}
 use Rattle.engine.proofs.session.Session.wait.Given as goal
 
--- polls were made so far
+-- polls were made so far, and each told that the commit isn't covered
 abbrev pub invariant-loop : goal.invariant-loop
-invariant-loop g l = Called l.fn.self.receipts.items l.self.receipts.items (ArePolls l.number)
+invariant-loop g l = Called l.fn.self.receipts.items l.self.receipts.items (λ added. ArePolls l.number added × All (λ r. r.note ≡ Waiting) added)

@@ -1,0 +1,94 @@
+-- Which batches a run covered.
+use Rattle.std.proofs.Common.{◌≡◌, ◌∙◌, refl, sym, ap, subst}
+use Rattle.std.proofs.Math.Logic.{∥∥₁_map}
+use Rattle.std.specs.Option.{ForSome}
+use Rattle.std.specs.Prelude.{Option, Some, None, IfSome}
+use Rattle.base.specs.declared.fault.Fault.TheVariants.{OutOfMemory}
+use Rattle.base.specs.declared.step.Step.{Step}
+use Rattle.base.specs.declared.step.Note.{Note}
+use Rattle.base.specs.declared.step.Reply.{Reply}
+use Rattle.base.specs.declared.step.Reply.TheVariants.{Began, Row, Rows, Done, Drawn, More, Stamped, Waiting, Committed, Idle, Ticked, Covered, Visited, SweepEnd, Refused}
+use Rattle.base.specs.Published.{Published}
+use Rattle.base.specs.Batches.{Batch}
+use Rattle.base.specs.Images.{Image}
+use Rattle.base.specs.Replies.{note_of}
+use Rattle.machine.specs.Machine.{State, Stepped}
+use Rattle.pmem.specs.Device.{Device}
+use Rattle.pmem.specs.declared.device.Pmem.{Ghosts}
+use Rattle.room.specs.Room.{Shows, StepsTo}
+use Rattle.audited.specs.declared.audited.Audited.{Audited}
+use Rattle.audited.specs.declared.receipt.Receipt.{Receipt}
+use Rattle.engine.specs.Origins.{IsFrom, HasCovered}
+use Rattle.engine.specs.Posting.{EndsIn, IsPosted, IsTurn}
+use Rattle.engine.proofs.Rising.{some_is}
+
+-- where the step that the room made covered a batch, a run from its image ends in that step
+pub covered-by : {D : Type 0} {G : Ghosts D} (state : D → Device) (image : Image) (lent : Option (Audited D G)) (old new : Audited D G) (step : Step) (reply : Reply)
+    → ForSome lent (IsFrom state image) → lent ≡ Some old
+    → ((q : State) → Shows state old.room q → (q' : State) × StepsTo state old.room new.room step reply q q')
+    → (batch : Batch) → reply ≡ Covered batch → HasCovered image batch
+covered-by state image lent old new step reply from is leads batch covers =
+    ∥∥₁_map (from old is) (λ a. (
+      old.entries.items,
+      step,
+      record {
+        may_open = a.may_open;
+        covers = λ history drawn next lost stands.
+            let r = a.runs history drawn next lost stands in
+            let s = leads r.now r.shows in
+            (r.start, r.now, s.0, r.opens, r.run, subst (λ (told : Reply). Stepped r.now step told s.0) covers s.1.stepped);
+      },
+    ))
+
+-- a step that wanted memory covered none
+pub memory-covers : (image : Image) (reply : Reply) → reply ≡ Refused OutOfMemory → (batch : Batch) → reply ≡ Covered batch → HasCovered image batch
+memory-covers image reply is batch covers = absurd (not_both batch (sym is ∙ covers))
+  where
+    not_both : (b : Batch) → ◌≡◌ {A = Reply} (Refused OutOfMemory) (Covered b) → ⊥
+    not_both b e = cc
+
+-- what a tick was answered
+pub turn-is : (image : Image) (step : Step) (made : Option (Reply × Option Receipt)) → IfSome made (λ m. IfSome m.1 (λ r. (r.step ≡ step) × (r.note ≡ note_of m.0)))
+    → IfSome made (λ m. (batch : Batch) → m.0 ≡ Covered batch → HasCovered image batch) → ForSome made (IsTurn image)
+turn-is image step None receipts covered turn is = absurd (cc is)
+turn-is image step (Some (reply, receipt)) receipts covered turn is = subst (IsTurn image) (same is) (record { note = note_is receipt receipts; covered = covered })
+  where
+    note_is : (o : Option Receipt) → IfSome o (λ r. (r.step ≡ step) × (r.note ≡ note_of reply)) → IfSome o (λ r. r.note ≡ note_of reply)
+    note_is None h = tt
+    note_is (Some r) h = h.1
+
+    same : ◌≡◌ {A = Option (Reply × Option Receipt)} (Some (reply, receipt)) (Some turn) → (reply, receipt) ≡ turn
+    same e = cc e
+
+note-kept : (image : Image) (made : Option (Reply × Option Receipt)) (reply : Reply) (kept : Option Receipt) (receipt : Receipt) → ForSome made (IsTurn image) → made ≡ Some (reply, kept) → kept ≡ Some receipt → receipt.note ≡ note_of reply
+note-kept image made reply kept receipt turn is has = some_is (λ (r : Receipt). r.note ≡ note_of reply) kept receipt (turn (reply, kept) is).note has
+
+-- a batch that was covered is published
+pub turn-posted : (image : Image) (made : Option (Reply × Option Receipt)) (reply : Reply) (kept : Option Receipt) (receipt : Receipt) (batch : Batch) (list : Published)
+    → ForSome made (IsTurn image) → made ≡ Some (reply, kept) → kept ≡ Some receipt → reply ≡ Covered batch → EndsIn list batch → IsPosted image receipt.note (Some list)
+turn-posted image made reply kept receipt batch list turn is has covers ends =
+    subst (λ (n : Note). IsPosted image n (Some list)) (sym (note-kept image made reply kept receipt turn is has ∙ ap note_of covers))
+    (batch, refl, (turn (reply, kept) is).covered batch covers, ends)
+
+unposted : (image : Image) (reply : Reply) → ((batch : Batch) → reply ≡ Covered batch → ⊥) → IsPosted image (note_of reply) None
+unposted image (Began n) other = tt
+unposted image (Row row) other = tt
+unposted image (Rows rows) other = tt
+unposted image Done other = tt
+unposted image (Drawn t) other = tt
+unposted image More other = tt
+unposted image Stamped other = tt
+unposted image Waiting other = tt
+unposted image (Committed t) other = tt
+unposted image Idle other = tt
+unposted image (Ticked stage) other = tt
+unposted image (Covered batch) other = other batch refl
+unposted image (Visited slot) other = tt
+unposted image SweepEnd other = tt
+unposted image (Refused fault) other = tt
+
+-- none was
+pub turn-unposted : (image : Image) (made : Option (Reply × Option Receipt)) (reply : Reply) (kept : Option Receipt) (receipt : Receipt)
+    → ForSome made (IsTurn image) → made ≡ Some (reply, kept) → kept ≡ Some receipt → ((batch : Batch) → reply ≡ Covered batch → ⊥) → IsPosted image receipt.note None
+turn-unposted image made reply kept receipt turn is has other =
+    subst (λ (n : Note). IsPosted image n None) (sym (note-kept image made reply kept receipt turn is has)) (unposted image reply other)
