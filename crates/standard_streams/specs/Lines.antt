@@ -1,5 +1,5 @@
 -- Lines that are written, as bytes.
-use Rattle.std.specs.Prelude.{◌≡◌, ℕ, ◌+◌, ◌<◌, Bool, ◌||◌, List, [], ◌∷◌, length, get_or, eqb, codes}
+use Rattle.std.specs.Prelude.{◌≡◌, ◌⊎◌, ℕ, ◌+◌, ◌<◌, ◌≤◌, Bool, true, false, ◌||◌, List, [], ◌∷◌, ◌++◌, length, get_or, eqb, codes, if◌then◌else◌}
 use Rattle.std.specs.List.{starts_with, ends_with}
 
 -- a line feed stands nowhere but at the end
@@ -13,3 +13,27 @@ is_ended bytes = ends_with eqb bytes (10 ∷ [])
 -- the line says that the work was done, so none follows it
 abbrev pub ends_work : List ℕ → Bool
 ends_work line = (starts_with eqb line (codes "closed") || starts_with eqb line (codes "formatted")) || starts_with eqb line (codes "stopped")
+
+-- the line that isn't ended yet, of what is held
+abbrev pub unfinished : List ℕ → List ℕ
+unfinished held = if is_ended held then [] else held
+
+-- the line is one to hold back: it isn't ended yet, or says that the work was done
+abbrev pub IsHeldBack : List ℕ → Type 0
+IsHeldBack line = (is_ended line ≡ false) ⊎ (ends_work line ≡ true)
+
+-- the first line of some bytes: they begin with it, and it goes up to a line feed, or is all of them
+pub record IsFirstLine (bytes line : List ℕ) : Type 0 where
+  pub rest : List ℕ
+  pub is : bytes ≡ line ++ rest
+  pub one_line : IsOneLine line
+  pub whole : is_ended line ≡ false → rest ≡ []
+
+-- No more than the first line of the bytes is taken. With what was held of its beginning, all of it is held where it is one to hold
+-- back; and nothing is where it is another, whole line
+pub record TakesLine (old new bytes : List ℕ) (count : ℕ) : Type 0 where
+  pub line : List ℕ
+  pub first : IsFirstLine bytes line
+  pub most : count ≤ length line
+  pub holds : IsHeldBack (unfinished old ++ line) → (count ≡ length line) × (new ≡ unfinished old ++ line)
+  pub passes : unfinished old ≡ [] → is_ended line ≡ true → ends_work line ≡ false → new ≡ []

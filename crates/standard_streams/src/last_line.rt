@@ -1,7 +1,7 @@
 ghost use Rattle.std.specs.Prelude.{◌≡◌, ◌≤◌, [], drop, false, length, take, IfOk, IsTrue, OnOk};
 ghost use Rattle.std.specs.Io.{WritesAtMost};
 ghost use Rattle.std.specs.Io.KnownBytes.{Keeps, WriteAppends, append_known};
-ghost use Rattle.standard_streams.specs.Lines.{IsOneLine, ends_work, is_ended};
+ghost use Rattle.standard_streams.specs.Lines.{IsOneLine, TakesLine, ends_work, is_ended};
 
 use std::alloc::{AllocError, Global};
 use std::io;
@@ -21,11 +21,13 @@ pub struct LastLine<W> {
 }
 
 impl<W: Write> LastLine<W> {
+    ghost use Rattle.standard_streams.specs.Held.{held_in, output_of};
+
     pub fn new(alloc: Global, output: W) -> Result<LastLine<W>, AllocError>
     where
         W: Drop,
-        ensures output { IfOk result (λ made. made.output ≡ output) }
-        ensures held { IfOk result (λ made. made.held.items ≡ []) }
+        ensures output { IfOk result (λ made. output_of made ≡ output) }
+        ensures held { IfOk result (λ made. held_in made ≡ []) }
     {
         let held = Vec::with_capacity(alloc, ROOM)?;
         Ok(LastLine { output, held })
@@ -33,7 +35,7 @@ impl<W: Write> LastLine<W> {
 
     /// What it passes lines on to.
     pub fn output(&self) -> &W
-        ensures output { result.now ≡ self.now.output }
+        ensures output { result.now ≡ output_of self.now }
     {
         &self.output
     }
@@ -42,7 +44,7 @@ impl<W: Write> LastLine<W> {
     pub fn finish(self) -> io::Result<W>
     where
         W: Drop,
-        ensures whole { IfOk result (λ output. Keeps (append_known (W.contents self.output) self.held.items) (W.contents output)) }
+        ensures whole { IfOk result (λ output. Keeps (append_known (W.contents (output_of self)) (held_in self)) (W.contents output)) }
     {
         let LastLine { mut output, held } = self;
         output.write_all(held.as_slice())?;
@@ -51,7 +53,7 @@ impl<W: Write> LastLine<W> {
 
     /// Drops what is held.
     pub fn give_up(self) -> W
-        ensures output { result ≡ self.output }
+        ensures output { result ≡ output_of self }
     {
         let LastLine { output, held: _ } = self;
         output
@@ -73,14 +75,17 @@ impl<W: Write> LastLine<W> {
 }
 
 impl<W: Write> Write for LastLine<W> {
+    ghost use Rattle.standard_streams.specs.Held.{held_in, output_of};
+
     ghost contents = { λ line. append_known (W.contents line.output) line.held.items };
 
     // Takes what belongs to one line.
     fn write(&mut self, buf: &[u8]) -> io::Result<usize>
         ensures bound { WritesAtMost result buf.now }
-        ensures bytes { WriteAppends (append_known (W.contents self.old.output) self.old.held.items) (append_known (W.contents self.new.output) self.new.held.items) result buf.now }
-        ensures held { self.old.held.items ≡ [] → IsOneLine buf.now → IsTrue (ends_work buf.now) → self.new.output ≡ self.old.output }
-        ensures passed { self.old.held.items ≡ [] → IsOneLine buf.now → IsTrue (is_ended buf.now) → ends_work buf.now ≡ false → self.new.held.items ≡ [] }
+        ensures bytes { WriteAppends (append_known (W.contents (output_of self.old)) (held_in self.old)) (append_known (W.contents (output_of self.new)) (held_in self.new)) result buf.now }
+        ensures line { IfOk result (TakesLine (held_in self.old) (held_in self.new) buf.now) }
+        ensures held { held_in self.old ≡ [] → IsOneLine buf.now → IsTrue (ends_work buf.now) → output_of self.new ≡ output_of self.old }
+        ensures passed { held_in self.old ≡ [] → IsOneLine buf.now → IsTrue (is_ended buf.now) → ends_work buf.now ≡ false → held_in self.new ≡ [] }
     {
         if is_ended(self.held.as_slice()) {
             self.pass_on()?;
@@ -93,7 +98,11 @@ impl<W: Write> Write for LastLine<W> {
         Ok(line.len())
     }
 
-    fn flush(&mut self) -> io::Result<()> {
+    // What is held stays held.
+    fn flush(&mut self) -> io::Result<()>
+        ensures bytes { Keeps (append_known (W.contents (output_of self.old)) (held_in self.old)) (append_known (W.contents (output_of self.new)) (held_in self.new)) }
+        ensures held { held_in self.new ≡ held_in self.old }
+    {
         self.output.flush()
     }
 }
@@ -102,6 +111,7 @@ impl<W: Write> Write for LastLine<W> {
 fn first_line(bytes: &[u8]) -> &[u8]
     ensures front { result.now ≡ take (length result.now) bytes.now }
     ensures one_line { IsOneLine result.now }
+    ensures ended { is_ended result.now ≡ false → result.now ≡ bytes.now }
     ensures whole { IsOneLine bytes.now → result.now ≡ bytes.now }
 {
     match bytes.iter().position(|byte| *byte == b'\n') {
