@@ -1,10 +1,13 @@
 -- What a database is opened over.
-use Rattle.std.specs.Prelude.{◌≡◌, ◌≢◌, None}
+use Rattle.std.specs.Prelude.{◌≡◌, ◌≢◌, ◌⊎◌, None, Some}
+use Rattle.base.specs.declared.fault.Fault.{Fault}
 use Rattle.base.specs.Images.{opening_fault}
 use Rattle.base.specs.Layout.{Layout, opened_layout}
-use Rattle.log_area.specs.Rulings.{IsLaidOut}
+use Rattle.database.specs.Opening.{IsOpeningRefusal}
+use Rattle.log_area.specs.Rulings.{IsLaidOut, layout_damage}
 use Rattle.pmem.specs.Device.{Device}
 use Rattle.pmem.specs.Words.{IsAtRest, image_of}
+use Rattle.recovery.specs.Fresh.{IsFormatRefusal}
 use Rattle.store_file.specs.declared.opening.Refusal.{Refusal}
 
 -- The device is at rest, and its image has the layout that was asked for, but for version 1, which is opened as 2
@@ -22,3 +25,16 @@ OpensLayout layout = (device : Device) × IsFoundWith layout device × (opening_
 abbrev pub TellsLayout : Layout → Refusal → Type 0
 TellsLayout layout (Refusal.OtherLayout found) = opened_layout found ≢ opened_layout layout
 TellsLayout layout _ = Unit {0}
+
+-- Why a device at rest isn't opened: it isn't formatted with this layout, for this fault; or its superblock is wrong, so; or it has the layout that
+-- was asked for, and its opening as a database is refused so
+abbrev pub IsUnopened : Layout → Fault → Type 0
+IsUnopened layout fault =
+    ((device now : Device) × IsAtRest device × IsFormatRefusal layout device now fault)
+    ⊎ (((device : Device) × IsAtRest device × (layout_damage (image_of device) ≡ Some fault))
+    ⊎ ((device now : Device) × IsFoundWith layout device × IsOpeningRefusal device now fault))
+
+-- a fault is told only where it is the reason
+abbrev pub TellsFault : Layout → Refusal → Type 0
+TellsFault layout (Refusal.Fault fault) = IsUnopened layout fault
+TellsFault layout _ = Unit {0}

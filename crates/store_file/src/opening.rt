@@ -1,10 +1,11 @@
-ghost use Rattle.std.specs.Prelude.{◌≡◌, ◌↔◌, None, IfOk, IfErr, OnOk, IsTrue};
+ghost use Rattle.std.specs.Prelude.{◌≡◌, ◌↔◌, None, IfOk, IfErr, IfSome, IfNone, OnOk, IsTrue};
 ghost use Rattle.base.specs.Images.{opening_fault};
 ghost use Rattle.base.specs.Layout.{Layout, opened_layout};
 ghost use Rattle.log_area.specs.Rulings.{IsLaidOut};
 ghost use Rattle.pmem.specs.Words.{IsAtRest, image_of};
-ghost use Rattle.pmem_file.specs.Devices.{places_of, state_of};
-ghost use Rattle.store_file.specs.Opening.{IsFoundWith, OpensLayout, TellsLayout};
+ghost use Rattle.pmem_file.specs.Devices.{failure_of, places_of, state_of};
+ghost use Rattle.store_file.specs.declared.opening.Refusal.{Refusal};
+ghost use Rattle.store_file.specs.Opening.{IsFoundWith, IsUnopened, OpensLayout, TellsFault, TellsLayout};
 
 use base::fault::Fault;
 use base::geometry::Geometry;
@@ -41,6 +42,7 @@ pub fn open_file<R: Files<File = File>>(
     ensures rest { IfOk result (λ device. IsAtRest (state_of device)) }
     ensures layout { IfOk result (λ device. (found : Layout) × IsLaidOut found (image_of (state_of device)) × (opened_layout found ≡ opened_layout geometry) × (places_of device ≡ found.places)) }
     ensures other { IfErr result (TellsLayout geometry) }
+    ensures fault { IfErr result (TellsFault geometry) }
 {
     let device = match open_formatted(rt, alloc, name, geometry) {
         Ok(device) => device,
@@ -55,7 +57,8 @@ pub fn open_file<R: Files<File = File>>(
         return Err(Refusal::OtherLayout(found));
     }
     if device.places() as u64 != found.places() {
-        return Err(refusal_of(device, Fault::WrongState));
+        let _ = device.close();
+        return Err(Refusal::File(OpenError::Image(Fault::BadGeometry)));
     }
     Ok(device)
 }
@@ -69,6 +72,7 @@ fn open_formatted<R: Files<File = File>>(
 ) -> Result<Device, Refusal>
     ensures ok { IfOk result (λ device. IsAtRest (state_of device)) }
     ensures err { (layout : Layout) → IfErr result (TellsLayout layout) }
+    ensures fault { IfErr result (TellsFault geometry) }
 {
     let mut device = match FileDevice::open(rt, alloc, name, geometry) {
         Ok(device) => device,
@@ -99,6 +103,7 @@ fn open_found<R: Files<File = File>>(
 ) -> Result<Device, Refusal>
     ensures ok { IfOk result (λ device. IsFoundWith geometry (state_of device)) }
     ensures err { IfErr result (TellsLayout geometry) }
+    ensures fault { IfErr result (TellsFault geometry) }
 {
     match open_file(rt, alloc, name, geometry) {
         Ok(device) => Ok(device),
@@ -115,6 +120,7 @@ pub fn open_database<R: Files<File = File> + Threads + Wait + Copy + Drop + Send
 ) -> Result<Database<Device, R>, Refusal>
     ensures ok { OnOk result (OpensLayout geometry) }
     ensures err { IfErr result (TellsLayout geometry) }
+    ensures fault { IfErr result (TellsFault geometry) }
 {
     match open_found(rt, alloc, name, geometry) {
         Ok(device) => match open_over(rt, alloc, device) {
@@ -134,6 +140,7 @@ fn open_over<R: Threads + Wait + Copy + Drop + Send + Sync + 'static>(
     requires at_rest { IsAtRest (state_of device) }
     ensures ok { OnOk result (opening_fault (image_of (state_of device)) ≡ None) }
     ensures err { (layout : Layout) → IfErr result (TellsLayout layout) }
+    ensures fault { (layout : Layout) → IsFoundWith layout (state_of device) → IfErr result (TellsFault layout) }
 {
     match Database::open(*rt, alloc, device) {
         Ok(database) => Ok(database),
@@ -143,7 +150,10 @@ fn open_over<R: Threads + Wait + Copy + Drop + Send + Sync + 'static>(
 
 // Why the file failed, where a write or a sync of it did; else why it is refused, and then it is closed.
 fn refusal_of(device: Device, fault: Fault) -> Refusal
-    ensures { (layout : Layout) → TellsLayout layout result }
+    ensures layout { (layout : Layout) → TellsLayout layout result }
+    ensures lost { IfSome (failure_of device) (λ cause. result ≡ Refusal.Lost cause) }
+    ensures fault { IfNone (failure_of device) (result ≡ Refusal.Fault fault) }
+    ensures why { (layout : Layout) → IsUnopened layout fault → TellsFault layout result }
 {
     match device.failure() {
         Some(cause) => Refusal::Lost(cause),
