@@ -1,3 +1,7 @@
+ghost use Rattle.std.specs.Prelude.{◌≡◌, IfOk, is_some, true};
+ghost use Rattle.console.specs.Kept.{writes_file};
+ghost use Rattle.program.specs.Exits.{file_of};
+
 use crate::image::{MOST_BYTES, image_bytes};
 use command_line::orders::Order;
 use std::alloc::Global;
@@ -32,7 +36,9 @@ pub struct Found {
 }
 
 /// The file that an order names.
-pub fn name_of<'a>(order: &Order<'a>) -> &'a str {
+pub fn name_of<'a>(order: &Order<'a>) -> &'a str
+    ensures { result.now ≡ file_of order.now }
+{
     match *order {
         Order::Format { file, .. } => file,
         Order::Run { file } => file,
@@ -43,7 +49,9 @@ pub fn name_of<'a>(order: &Order<'a>) -> &'a str {
 }
 
 /// Finds the order's file, and locks it where the order is to replace it.
-pub fn find<R: Files<File = File>>(rt: &R, alloc: Global, order: &Order) -> io::Result<Found> {
+pub fn find<R: Files<File = File>>(rt: &R, alloc: Global, order: &Order) -> io::Result<Found>
+    ensures target { IfOk result (λ found. is_some found.target ≡ writes_file order.now) }
+{
     match *order {
         Order::Format { file, .. } => Ok(Found {
             bytes: Vec::new(alloc),
@@ -61,7 +69,9 @@ pub fn find<R: Files<File = File>>(rt: &R, alloc: Global, order: &Order) -> io::
     }
 }
 
-fn find_image<R: Files<File = File>>(rt: &R, alloc: Global, name: &str) -> io::Result<Found> {
+fn find_image<R: Files<File = File>>(rt: &R, alloc: Global, name: &str) -> io::Result<Found>
+    ensures target { IfOk result (λ found. is_some found.target ≡ true) }
+{
     let name = without_link(rt, alloc, name)?;
     let file = open_locked(rt, name.as_str())?;
     let bytes = read_image(alloc, &file)?;

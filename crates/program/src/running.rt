@@ -1,3 +1,12 @@
+ghost use Rattle.std.specs.Prelude.{◌≡◌, ◌≢◌, [], true, None, IfSome};
+ghost use Rattle.std.specs.Io.KnownBytes.{Appends};
+ghost use Rattle.command_line.specs.Help.{GetsHelp, MayGetHelp};
+ghost use Rattle.command_line.specs.Lines.{texts};
+ghost use Rattle.command_line.specs.Words.{GivesNothing};
+ghost use Rattle.console.specs.Kept.{writes_file};
+ghost use Rattle.console.specs.Refusals.{status_of};
+ghost use Rattle.program.specs.Exits.{HasStatus, IfBadWords, IfFileFault, IsBadWords, IsHelp, NameFile, NameWritten, file_of};
+
 use crate::files::{Target, find, name_of};
 use crate::heard::Heard;
 use base::fault::Fault;
@@ -51,7 +60,20 @@ pub fn run_words<
     H: Files<File = File> + Threads + Wait + Copy + Drop + Send + Sync + 'static,
     R: Read,
     W: Write,
->(rt: &H, alloc: Global, words: &'a [&'a str], input: &mut R, output: &mut W) -> Exit<'a> {
+>(rt: &H, alloc: Global, words: &'a [&'a str], input: &mut R, output: &mut W) -> Exit<'a>
+    ensures status { HasStatus result.told result.status }
+    ensures written { result.status ≡ 0 → result.unwritten ≡ None }
+
+    // The file that is told to have failed is the one that the words name, and so is the one that stays as it was.
+    ensures file { IfFileFault (NameFile (texts words.now)) result.told }
+    ensures unwritten { IfSome result.unwritten (λ name. NameWritten (texts words.now) name.now) }
+
+    // Words that give an order, and no words, are never bad. Bad ones touch neither input nor output, and don't ask for help alone.
+    ensures bad_words { IfBadWords ((texts words.now ≢ []) × GivesNothing (texts words.now) × (GetsHelp (texts words.now) → ⊥) × (input.new ≡ input.old) × (output.new ≡ output.old)) result.told }
+
+    // Words that give no order end with 0 only where help was asked for.
+    ensures help { texts words.now ≢ [] → GivesNothing (texts words.now) → result.status ≡ 0 → MayGetHelp (texts words.now) }
+{
     if words.is_empty() {
         return run_fresh(rt, alloc, input, output);
     }
@@ -66,7 +88,12 @@ fn run_fresh<'a, H: Threads + Wait + Copy + Drop + Send + Sync + 'static, R: Rea
     alloc: Global,
     input: &mut R,
     output: &mut W,
-) -> Exit<'a> {
+) -> Exit<'a>
+    ensures status { HasStatus result.told result.status }
+    ensures unwritten { result.unwritten ≡ None }
+    ensures file { IfFileFault (λ _. ⊥) result.told }
+    ensures bad_words { IfBadWords ⊥ result.told }
+{
     let file = match Geometry::new(4, 2, 8).and_then(|geometry| fresh_file(alloc, geometry)) {
         Ok(file) => file,
         Err(fault) => return refuse(alloc, fault, output),
@@ -89,7 +116,13 @@ fn obey<
     H: Files<File = File> + Threads + Wait + Copy + Drop + Send + Sync + 'static,
     R: Read,
     W: Write,
->(rt: &H, alloc: Global, order: &Order<'a>, input: &mut R, output: &mut W) -> Exit<'a> {
+>(rt: &H, alloc: Global, order: &Order<'a>, input: &mut R, output: &mut W) -> Exit<'a>
+    ensures status { HasStatus result.told result.status }
+    ensures written { result.status ≡ 0 → result.unwritten ≡ None }
+    ensures file { IfFileFault (λ name. file_of order.now ≡ name) result.told }
+    ensures unwritten { IfSome result.unwritten (λ name. (file_of order.now ≡ name.now) × (writes_file order.now ≡ true)) }
+    ensures bad_words { IfBadWords ⊥ result.told }
+{
     let name = name_of(order);
     let found = match find(rt, alloc, order) {
         Ok(found) => found,
@@ -134,7 +167,13 @@ fn put<'a, H: Files<File = File>, W: Write + Drop>(
     target: &Target,
     bytes: &[u8],
     held: LastLine<W>,
-) -> Exit<'a> {
+) -> Exit<'a>
+    ensures status { HasStatus result.told result.status }
+    ensures written { result.status ≡ 0 → result.unwritten ≡ None }
+    ensures file { IfFileFault (λ at. at ≡ name.now) result.told }
+    ensures unwritten { IfSome result.unwritten (λ at. at.now ≡ name.now) }
+    ensures bad_words { IfBadWords ⊥ result.told }
+{
     let folder = match target.replace(rt, alloc, bytes) {
         Ok(folder) => folder,
         Err(reason) => {
@@ -152,7 +191,12 @@ fn put<'a, H: Files<File = File>, W: Write + Drop>(
     }
 }
 
-fn say<'a, W: Write + Drop>(held: LastLine<W>) -> Exit<'a> {
+fn say<'a, W: Write + Drop>(held: LastLine<W>) -> Exit<'a>
+    ensures status { HasStatus result.told result.status }
+    ensures unwritten { result.unwritten ≡ None }
+    ensures file { IfFileFault (λ _. ⊥) result.told }
+    ensures bad_words { IfBadWords ⊥ result.told }
+{
     match held.finish() {
         Ok(_) => Exit {
             status: 0,
@@ -168,7 +212,11 @@ fn say<'a, W: Write + Drop>(held: LastLine<W>) -> Exit<'a> {
 }
 
 // A refusal and a line that is no command are told by the output.
-fn told_of<'a>(stopped: Option<Stop>, failure: Option<io::Error>) -> Told<'a> {
+fn told_of<'a>(stopped: Option<Stop>, failure: Option<io::Error>) -> Told<'a>
+    ensures status { HasStatus result (status_of stopped) }
+    ensures file { IfFileFault (λ _. ⊥) result }
+    ensures bad_words { IfBadWords ⊥ result }
+{
     match (stopped, failure) {
         (Some(Stop::Broken(kind)), Some(error)) if error.kind() == kind => Told::Broken(error),
         (Some(Stop::Broken(kind)), _) => Told::Broken(io::Error::from(kind)),
@@ -176,7 +224,13 @@ fn told_of<'a>(stopped: Option<Stop>, failure: Option<io::Error>) -> Told<'a> {
     }
 }
 
-fn refuse<'a, W: Write>(alloc: Global, fault: Fault, output: &mut W) -> Exit<'a> {
+fn refuse<'a, W: Write>(alloc: Global, fault: Fault, output: &mut W) -> Exit<'a>
+    ensures status { HasStatus result.told result.status }
+    ensures failed { result.status ≡ 1 }
+    ensures unwritten { result.unwritten ≡ None }
+    ensures file { IfFileFault (λ _. ⊥) result.told }
+    ensures bad_words { IfBadWords ⊥ result.told }
+{
     let told = match print(alloc, output, &Printed::Refused(fault)) {
         Ok(()) => Told::Nothing,
         Err(error) => Told::Broken(error),
@@ -189,7 +243,13 @@ fn refuse<'a, W: Write>(alloc: Global, fault: Fault, output: &mut W) -> Exit<'a>
 }
 
 // Says that a file failed. Where the output fails too, the file is what is told.
-fn fail<'a, W: Write>(alloc: Global, file: &'a str, reason: io::Error, output: &mut W) -> Exit<'a> {
+fn fail<'a, W: Write>(alloc: Global, file: &'a str, reason: io::Error, output: &mut W) -> Exit<'a>
+    ensures status { HasStatus result.told result.status }
+    ensures failed { result.status ≡ 1 }
+    ensures unwritten { result.unwritten ≡ None }
+    ensures file { IfFileFault (λ at. at ≡ file.now) result.told }
+    ensures bad_words { IfBadWords ⊥ result.told }
+{
     let _ = print(alloc, output, &Printed::FileFault);
     Exit {
         status: FAILED,
@@ -199,7 +259,13 @@ fn fail<'a, W: Write>(alloc: Global, file: &'a str, reason: io::Error, output: &
 }
 
 // Prints the help that was asked for, or tells what is wrong with the words.
-fn tell<'a, W: Write>(fault: WordFault, output: &mut W) -> Exit<'a> {
+fn tell<'a, W: Write>(fault: WordFault, output: &mut W) -> Exit<'a>
+    ensures status { HasStatus result.told result.status }
+    ensures unwritten { result.unwritten ≡ None }
+    ensures file { IfFileFault (λ _. ⊥) result.told }
+    ensures bad_words { IfBadWords (IsBadWords fault × (output.new ≡ output.old)) result.told }
+    ensures help { result.status ≡ 0 → IsHelp fault }
+{
     match fault {
         WordFault::Help(text) => show_help(text.as_str(), output),
         WordFault::BadWords(text) => Exit {
@@ -215,7 +281,13 @@ fn tell<'a, W: Write>(fault: WordFault, output: &mut W) -> Exit<'a> {
     }
 }
 
-fn show_help<'a, W: Write>(text: &str, output: &mut W) -> Exit<'a> {
+fn show_help<'a, W: Write>(text: &str, output: &mut W) -> Exit<'a>
+    ensures status { HasStatus result.told result.status }
+    ensures unwritten { result.unwritten ≡ None }
+    ensures file { IfFileFault (λ _. ⊥) result.told }
+    ensures bad_words { IfBadWords ⊥ result.told }
+    ensures shown { result.status ≡ 0 → Appends (W.contents output.old) (W.contents output.new) text.now }
+{
     match output.write_all(text.as_bytes()) {
         Ok(()) => Exit {
             status: 0,

@@ -1,0 +1,61 @@
+-- What the program's end says of the words that it was given.
+use Rattle.std.specs.Prelude.{◌≡◌, ℕ, ◌≤◌, true, List, ⊤}
+use Rattle.command_line.specs.Numbers.{Text}
+use Rattle.command_line.specs.Words.{Gives}
+use Rattle.command_line.specs.declared.orders.Order.{Order}
+use Rattle.command_line.specs.declared.orders.Order.TheVariants.{Format, Run, Check, Lives, Threads}
+use Rattle.command_line.specs.declared.orders.WordFault.{WordFault}
+use Rattle.command_line.specs.declared.orders.WordFault.TheVariants.{Help, OutOfMemory}
+use Rattle.command_line.specs.declared.orders.WordFault.TheVariants as wrong
+use Rattle.console.specs.Kept.{writes_file}
+use Rattle.program.specs.declared.running.Told.{Told}
+use Rattle.program.specs.declared.running.Told.TheVariants.{Nothing, BadWords, Broken, FileFault}
+
+-- the file that an order names
+abbrev pub file_of : Order → Text
+file_of (Format name wide slots places window) = name.now
+file_of (Run name) = name.now
+file_of (Check name) = name.now
+file_of (Lives name) = name.now
+file_of (Threads name sessions commits) = name.now
+
+-- the words give an order of this file
+abbrev pub NameFile : List Text → Text → Type 0
+NameFile words name = (order : Order) × Gives words order × (file_of order ≡ name)
+
+-- the words give an order that writes this file
+abbrev pub NameWritten : List Text → Text → Type 0
+NameWritten words name = (order : Order) × Gives words order × (file_of order ≡ name) × (writes_file order ≡ true)
+
+-- the exit status where this is told: 2 of bad words, 1 where a file, the input or the output failed
+abbrev pub HasStatus : Told → ℕ → Type 0
+HasStatus Nothing status = status ≤ 2
+HasStatus (BadWords text) status = status ≡ 2
+HasStatus (Broken reason) status = status ≡ 1
+HasStatus (FileFault name reason) status = status ≡ 1
+
+-- where a file failed, this of its name
+abbrev pub IfFileFault : (Text → Type 0) → Told → Type 0
+IfFileFault P Nothing = ⊤
+IfFileFault P (BadWords text) = ⊤
+IfFileFault P (Broken reason) = ⊤
+IfFileFault P (FileFault name reason) = P name.now
+
+-- where the words are bad, this
+abbrev pub IfBadWords : Type 0 → Told → Type 0
+IfBadWords P Nothing = ⊤
+IfBadWords P (BadWords text) = P
+IfBadWords P (Broken reason) = ⊤
+IfBadWords P (FileFault name reason) = ⊤
+
+-- help was asked for, and this is its text
+abbrev pub IsHelp : WordFault → Type 0
+IsHelp (Help text) = ⊤
+IsHelp (wrong.BadWords text) = ⊥
+IsHelp (OutOfMemory error) = ⊥
+
+-- the words are bad, and this is the text that says so
+abbrev pub IsBadWords : WordFault → Type 0
+IsBadWords (Help text) = ⊥
+IsBadWords (wrong.BadWords text) = ⊤
+IsBadWords (OutOfMemory error) = ⊥
