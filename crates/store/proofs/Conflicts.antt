@@ -19,4 +19,4 @@ pub conflict-told : (session : ℕ) (refused : CommitError) → TellsRefusal ses
 conflict-told session (Open fault) tells key e = absurd (cc e)
 conflict-told session (Refused fault) tells key e =
     let is : fault ≡ Conflict key = conflict-fault fault key e in
-    subst (λ f. IsPrepared session (Err (Refused f))) is (tells key (ap Refused is))
+    let told = tells key (ap Refused is) in (subst (λ f. IsPrepared session (Err (Refused f))) is told.0, told.1)

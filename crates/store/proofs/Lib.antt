@@ -1,3 +1,4 @@
 pub mod Sharing
 pub mod Conflicts
 pub mod Trying
+pub mod Opening

@@ -12,7 +12,7 @@ use Rattle.database.specs.Replies.{row_of, rows_of}
 use Rattle.database.specs.Obeys.{AnswersStep}
 use Rattle.database.specs.declared.error.CommitError.{CommitError}
 use Rattle.database.specs.declared.error.CommitError.TheVariants.{Refused}
-use Rattle.database.specs.Committing.{AnswersPut, AnswersWrites, IsPrepared, TellsError}
+use Rattle.database.specs.Committing.{AnswersPut, AnswersWrites, IsPrepared, MeetsConflictOn, TellsError}
 use Rattle.store.specs.declared.error.StoreError.{StoreError}
 use Rattle.store.specs.Errors.{error_of, commit_error}
 
@@ -71,9 +71,9 @@ TellsNumber session key (Err error) =
 
 -- ---- a commit
 
--- a conflict is told only where the session's draw was refused so
+-- a conflict is told only where the session's draw was refused so, and once what was drawn by then is covered, or given up
 abbrev pub TellsConflict : ℕ → StoreError → Type 0
-TellsConflict session error = (key : Key) → error ≡ StoreError.Conflict key → IsPrepared session (Err (Refused (Conflict key)))
+TellsConflict session error = (key : Key) → error ≡ StoreError.Conflict key → IsPrepared session (Err (Refused (Conflict key))) × MeetsConflictOn session key
 
 -- what a commit that isn't acknowledged returns
 pub record IsCommitRefusal (session : ℕ) (error : StoreError) : Type 0 where

@@ -6,7 +6,7 @@ use Rattle.base.specs.declared.step.Step.TheVariants.{Begin, Abort}
 use Rattle.database.specs.declared.error.CommitError.TheVariants.{Refused}
 use Rattle.database.specs.Replies.{began_of, done_of}
 use Rattle.database.specs.Obeys.{AnswersStep}
-use Rattle.database.specs.Committing.{IsPrepared, TellsCommit}
+use Rattle.database.specs.Committing.{IsPrepared, MeetsConflictOn, TellsCommit}
 use Rattle.store.specs.declared.error.StoreError.{StoreError}
 use Rattle.store.specs.declared.store.Attempt.{Attempt}
 use Rattle.store.specs.Answers.{Answers, IsCommitRefusal}
@@ -19,12 +19,14 @@ pub record CallsOn {F X A : Type 0} (step : F → X → A → X → F → Type 0
   pub called : step old lent returned left new
   pub leaves : session_of left ≡ session
 
--- a try in vain: the changes returned Ok, and the draw of their transaction was refused for a conflict on this key
+-- a try in vain: the changes returned Ok, and the draw of their transaction was refused for a conflict on this key; what was drawn by then is
+-- covered, or given up
 pub record MeetsConflict {F X T : Type 0} (step : F → X → Result T StoreError → X → F → Type 0) (session_of : X → ℕ) (old : F) (key : Key) (new : F) : Type 0 where
   pub value : T
   pub session : ℕ
   pub calls : CallsOn step session_of old (Ok value) session new
   pub refused : IsPrepared session (Err (Refused (Conflict key)))
+  pub settled : MeetsConflictOn session key
 
 -- so many tries in vain, one after the other
 abbrev pub TriesInVain : {F X T : Type 0} → (F → X → Result T StoreError → X → F → Type 0) → (X → ℕ) → ℕ → F → F → Type 0

@@ -1,7 +1,9 @@
-ghost use Rattle.std.specs.Prelude.{◌≡◌, ℕ};
+ghost use Rattle.std.specs.Prelude.{◌≡◌, ℕ, IfSome, IfNone};
 ghost use Rattle.std.specs.String.{string_bytes};
 ghost use Rattle.base.specs.declared.fault.Fault.TheVariants.{Damaged};
-ghost use Rattle.store_file.specs.Opening.{TellsLayout};
+ghost use Rattle.pmem_file.specs.Devices.{failure_of, state_of};
+ghost use Rattle.database.specs.Closing.{HasLived, IsClosingRefused};
+ghost use Rattle.store_file.specs.Opening.{IsUnopened, TellsFault, TellsLayout};
 ghost use Rattle.store.specs.declared.error.StoreError.{StoreError};
 ghost use Rattle.store.specs.Errors.{part_of};
 ghost use Rattle.store.specs.Opening.{IsOpeningError, IsClosingError};
@@ -75,6 +77,7 @@ impl<R: Files<File = File> + Threads + Wait + Copy + Drop + Send + Sync + 'stati
 // The error that names the file, and the layout that was asked for.
 fn not_opened(name: String, geometry: Geometry, refusal: Refusal) -> StoreError
     requires layout { TellsLayout geometry refusal }
+    requires fault { TellsFault geometry refusal }
     ensures { IsOpeningError (string_bytes name) geometry result }
 {
     match refusal {
@@ -91,6 +94,7 @@ fn not_opened(name: String, geometry: Geometry, refusal: Refusal) -> StoreError
 
 // What is damaged, or why else the opening is refused.
 fn refused(name: String, geometry: Geometry, fault: Fault) -> StoreError
+    requires why { IsUnopened geometry fault }
     ensures names { IsOpeningError (string_bytes name) geometry result }
     ensures part { (number : ℕ) → fault ≡ Damaged number → result ≡ StoreError.Damaged name (part_of geometry number) }
 {
@@ -242,7 +246,10 @@ impl<R: Wait + Drop> Store<R> {
 
 // Why the file failed, where a write or a sync of it did; else why the close is refused, and then the file is closed.
 fn not_closed(name: String, device: Device, fault: Fault) -> StoreError
-    ensures { IsClosingError (string_bytes name) result }
+    requires refused { ∥ HasLived (state_of device) (IsClosingRefused (state_of device) fault) ∥₁ }
+    ensures names { IsClosingError (string_bytes name) result }
+    ensures lost { IfSome (failure_of device) (λ cause. result ≡ StoreError.Lost name cause) }
+    ensures fault { IfNone (failure_of device) (result ≡ StoreError.NotClosed name fault) }
 {
     match device.failure() {
         Some(cause) => StoreError::Lost { name, cause },

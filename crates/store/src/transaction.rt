@@ -22,7 +22,11 @@ pub struct Transaction<'a, R: Wait + Drop> {
 
 // It reads as a snapshot does.
 impl<'a, R: Wait + Drop> Deref for Transaction<'a, R> {
+    ghost use Rattle.std.specs.Prelude.{◌≡◌};
+
     type Target = Snapshot<'a, R>;
+
+    ghost deref_gives = { λ transaction snapshot. snapshot ≡ transaction.snapshot };
 
     fn deref(&self) -> &Snapshot<'a, R> {
         &self.snapshot

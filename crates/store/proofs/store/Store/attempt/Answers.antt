@@ -13,7 +13,8 @@ returns-in-Conflict-clause-ok g c = record {
   value = c.in-Ok.value;
   session = c.changes.new.arg2.snapshot.reads.session;
   calls = record { lent = _; left = _; begun = c.in_ok-transaction.ensures.ok; called = c.in-Ok.ensures; leaves = refl };
-  refused = c.in-Err-commit.ensures.err.conflict c.in-Conflict.key c.in-Conflict.is;
+  refused = (c.in-Err-commit.ensures.err.conflict c.in-Conflict.key c.in-Conflict.is).0;
+  settled = (c.in-Err-commit.ensures.err.conflict c.in-Conflict.key c.in-Conflict.is).1;
 }
 
 pub returns-in-Ok : goal.returns-in-Ok
