@@ -7,14 +7,10 @@ use Rattle.base.specs.Images.{Image}
 use Rattle.pmem.specs.Device.{Device}
 use Rattle.pmem.specs.declared.device.Pmem.{Ghosts}
 use Rattle.room.specs.declared.room.Room.{Room}
-use Rattle.workload.specs.Load.{HasMade, HasMadeFrom, HasRunFrom, IsEngineFault, may_pass}
-use Rattle.workload.proofs.Agreed.{run-from}
+use Rattle.workload.specs.Load.{HasMadeFrom, HasRunFrom, IsEngineFault, may_pass}
 
 pub run-of-made : {D : Type 0} {G : Ghosts D} (state : D → Device) (image : Image) (sessions commits : ℕ) (room : Room D G) → ∥ HasMadeFrom state image sessions commits room ∥₁ → ∥ HasRunFrom state image room ∥₁
 run-of-made state image sessions commits room made = ∥∥₁_map made (λ h. (h.0, h.1, h.2))
-
-pub has-made : {D : Type 0} {G : Ghosts D} (state : D → Device) (image : Image) (sessions commits : ℕ) (room : Room D G) → ∥ HasMadeFrom state image sessions commits room ∥₁ → HasMade image sessions commits
-has-made state image sessions commits room made = ∥∥₁_map made (λ h. (h.1, run-from state room image h.0 h.1 h.2, h.3))
 
 -- a load that was begun isn't refused for want of slots
 pub engine-not-slots : (image : Image) (fault : Fault) → IsEngineFault image fault → fault ≡ SlotsOut → ⊥

@@ -108,10 +108,6 @@ abbrev pub HasMadeFrom : {D : Type 0} → {G : Ghosts D} → (D → Device) → 
 HasMadeFrom state image sessions commits room =
     (opening : Status) × (entries : List (Step × Note)) × IsAudited state room image opening entries × AreMade sessions commits entries
 
--- a run from the image is one of so many threads that made so many commits each
-abbrev pub HasMade : Image → ℕ → ℕ → Type 0
-HasMade image sessions commits = ∥ ((entries : List (Step × Note)) × IsRunFrom image entries × AreMade sessions commits entries) ∥₁
-
 -- ---- why it is refused
 
 -- a run from the image has an entry that was refused with this fault
