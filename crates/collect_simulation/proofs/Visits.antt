@@ -1,6 +1,6 @@
 -- Where a visit leads.
-use Rattle.std.proofs.Common.{◌≡◌, ◌≢◌, ◌⊎◌, inl, inr, ℕ, suc, zero, ◌+◌, ◌*◌, ◌/◌, ◌<◌, ◌≤◌, Bool, true, false, cond, not, ◌&&◌, List, [], ◌∷◌, ◌++◌, take, refl, sym, ◌∙◌, ap, subst, arith, true≢false}
-use Rattle.std.specs.Prelude.{nat_eq, Option, Some, None}
+use Rattle.std.proofs.Common.{◌≡◌, ◌≢◌, ◌⊎◌, inl, inr, ℕ, suc, zero, ◌+◌, ◌/◌, ◌<◌, ◌≤◌, Bool, true, false, cond, not, List, [], ◌∷◌, ◌++◌, take, refl, sym, ◌∙◌, ap, subst, arith, true≢false}
+use Rattle.std.specs.Prelude.{Option, Some, None}
 use Rattle.std.proofs.lemmas.Bool.{cases_eq, and_parts, ltb-true, ltb-false, not-true}
 use Rattle.base.specs.declared.gap.Gap.{Gap}
 use Rattle.base.specs.Actors.{collector}
@@ -9,7 +9,7 @@ use Rattle.base.specs.Records.{is_in}
 use Rattle.base.specs.Lists.{is_nil}
 use Rattle.machine.specs.Machine.{State, Hand}
 use Rattle.machine.specs.Collecting.{is_at_slot, is_sweeping, held_after_visit, slot_visited, sweep_ended, visited}
-use Rattle.pmem.specs.Device.{Entry, Device, IsOrderly, IsAmong, survivors_in, newest, IsReadyIn, stored, flushed, fenced}
+use Rattle.pmem.specs.Device.{Device, IsOrderly, IsReadyIn, stored, flushed, fenced}
 use Rattle.pmem.specs.Words.{Survives, value_of, IsReady}
 use Rattle.pmem.specs.Trace.{Operation, store_op, flush_op, fence_op, failure, after, Along, Runs, StopsWithin}
 use Rattle.pmem.proofs.Words.{ready-marked}
@@ -37,12 +37,7 @@ use Rattle.collect_simulation.proofs.WithoutOperations.{upholds-moved}
 
 -- no gap stands, or they are swept
 not-sweeping : (q : State) → is_sweeping q ≡ false → (q.swept ≡ true) ⊎ (q.ruling.gaps ≡ [])
-not-sweeping q is = by q.swept refl q.ruling.gaps refl is
-  where
-    by : (b : Bool) → q.swept ≡ b → (gaps : List Gap) → q.ruling.gaps ≡ gaps → (not b && not (is_nil gaps)) ≡ false → (q.swept ≡ true) ⊎ (q.ruling.gaps ≡ [])
-    by true swept gaps same e = inl swept
-    by false swept [] same e = inr same
-    by false swept (gap ∷ gaps) same e = absurd (true≢false e)
+not-sweeping q is = grind (arith) steps 800000
 
 unswept-of : (q : State) → is_sweeping q ≡ true → q.swept ≡ false
 unswept-of q is = not-true q.swept (and_parts (not q.swept) (not (is_nil q.ruling.gaps)) is).0
@@ -120,21 +115,11 @@ value-survives o q device u orderly slot w lt low =
     orderly.some (word_of q.layout slot w) (omega (arith, word-within q.layout slot w lt (within-slot q.layout.version w (omega (arith, low))), hand-size q device q.hand u.holds.log))
 
 survives-stored : (device : Device) (word value other : ℕ) → Survives device other (value_of device other) → Survives (stored word value device) other (value_of (stored word value device) other)
-survives-stored device word value other there = by (cases_eq other word)
-  where
-    by : (other ≡ word) ⊎ (other ≢ word) → Survives (stored word value device) other (value_of (stored word value device) other)
-    by (inl same) =
-        subst (λ (k : ℕ). Survives (stored word value device) k (value_of (stored word value device) k)) (sym same)
-        (subst (λ (h : List Entry). IsAmong (survivors_in h) (newest h)) (sym (history-stored_same word value device)) (inl refl))
-    by (inr apart) = subst (λ (h : List Entry). IsAmong (survivors_in h) (newest h)) (sym (history-stored_other word value device other apart)) there
+survives-stored device word value other there = grind (arith, cases_eq, history-stored_same, history-stored_other) steps 800000
 
 -- the first line of a slot has its begin and its end
 same-line : (a : Layout) (slot w : ℕ) → w < 2 → word_of a slot w / 8 ≡ slot_start a slot / 8
-same-line a slot w low = by (nat_eq a.version 3)
-  where
-    by : (b : Bool) → (8 + 32 * a.places + cond b 16 8 * slot + w) / 8 ≡ (8 + 32 * a.places + cond b 16 8 * slot) / 8
-    by true = omega (arith, low)
-    by false = omega (arith, low)
+same-line a slot w low = grind (arith) steps 800000
 
 -- ---- a slot is swept
 

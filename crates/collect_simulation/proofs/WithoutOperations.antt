@@ -1,5 +1,5 @@
 -- Slots are freed, the collector goes on, and a sweep ends, while the device does nothing.
-use Rattle.std.proofs.Common.{◌≡◌, inl, inr, ℕ, ◌<◌, Bool, true}
+use Rattle.std.proofs.Common.{◌≡◌, inl, inr, ℕ, ◌<◌, Bool, true, arith}
 use Rattle.std.specs.Prelude.{Option, Some, None}
 use Rattle.machine.specs.Machine.{State, Hand, Version}
 use Rattle.pmem.specs.Device.{Device}
@@ -36,16 +36,7 @@ module _ (o : Origin) (q : State) (device : Device) (held : ℕ → Option Versi
 
   -- and nothing else that the slots and the log go by
   slot-moved : (slot : ℕ) → SlotHolds half device slot → SlotHolds then device slot
-  slot-moved slot h = record {
-    begin_before = h.begin_before;
-    end_before = h.end_before;
-    free = h.free;
-    own = h.own;
-    drawn = h.drawn;
-    unstamped = h.unstamped;
-    newest = λ key held_by. let live = h.newest key held_by in record { begin = live.begin; counted = live.counted; end = live.end; settled = live.settled };
-    replaced = h.replaced;
-  }
+  slot-moved slot h = grind (arith) steps 800000
 
   hand-moved : (hand : Option Hand) → HoldsHand half device hand → HoldsHand then device hand
   hand-moved None holds = holds

@@ -1,5 +1,5 @@
 -- Sets of sessions as bits.
-use Rattle.std.proofs.Common.{◌≡◌, inl, inr, ℕ, zero, suc, ◌+◌, ◌-◌, ◌*◌, ◌%◌, ◌^◌, ◌<◌, Bool, true, false, ◌||◌, ◌&&◌, not, nat_eq, bit_and, bit_or, refl, sym, ◌∙◌, ap, arith}
+use Rattle.std.proofs.Common.{◌≡◌, inl, inr, ℕ, zero, suc, ◌-◌, ◌*◌, ◌%◌, ◌^◌, ◌<◌, Bool, true, false, ◌||◌, ◌&&◌, not, nat_eq, bit_and, bit_or, refl, sym, ◌∙◌, ap, arith}
 use Rattle.std.specs.Prelude.{min, bit_xor}
 use Rattle.std.specs.Int.{bit_at, w64}
 use Rattle.std.proofs.lemmas.Bool.{cases_lt, eqb-true, eqb-false}
@@ -34,18 +34,7 @@ without-session bits session n small lt = by (nat_eq n session) refl
     ]
 
 pub without-sessions : (bits others n : ℕ) → has_bit (bit_xor bits (bit_and bits others)) n ≡ (has_bit bits n && not (has_bit others n))
-without-sessions bits others n =
-    ap (λ (x : ℕ). nat_eq x 1) (bit_at_xor bits (bit_and bits others) n ∙ ap (λ (x : ℕ). (bit_at bits n + x) % 2) (bit_at_and bits others n))
-    ∙ tests (bit_at bits n) (bit_at others n) (bit_at-lt bits n) (bit_at-lt others n)
-  where
-    tests : (x y : ℕ) → x < 2 → y < 2 → nat_eq ((x + min x y) % 2) 1 ≡ (nat_eq x 1 && not (nat_eq y 1))
-    tests zero zero few few' = refl
-    tests zero (suc zero) few few' = refl
-    tests zero (suc (suc y)) few few' = absurd (omega (arith, few'))
-    tests (suc zero) zero few few' = refl
-    tests (suc zero) (suc zero) few few' = refl
-    tests (suc zero) (suc (suc y)) few few' = absurd (omega (arith, few'))
-    tests (suc (suc x)) y few few' = absurd (omega (arith, few))
+without-sessions bits others n = grind (arith, bit_at_xor, bit_at_and, bit_at-lt) steps 800000
 
 -- ---- two sets
 

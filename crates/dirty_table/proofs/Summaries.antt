@@ -62,23 +62,7 @@ module _ (words summary now summary' : List ℕ) (line : ℕ) (summed : IsSummed
 -- one that hasn't stays
 pub summed-still : (words summary now : List ℕ) (line : ℕ) → IsSummed words summary → length now ≡ length words → ((at : ℕ) → at ≢ line / 64 → get_or now at 0 ≡ get_or words at 0) → get_or now (line / 64) 0 ≤ get_or words (line / 64) 0
     → get_or now (line / 64) 0 ≢ 0 → IsSummed now summary
-summed-still words summary now line summed size others less some = record {
-  sums = λ at. elim (cases_eq at (line / 64)) [
-    | inl same ↦ summed.sums at ∙ ap (λ (a : ℕ). not (nat_eq (get_or words a 0) 0)) same ∙ ap not (apart (get_or words (line / 64) 0) (λ none. some (omega (arith, none, less))))
-        ∙ sym (ap (λ (a : ℕ). not (nat_eq (get_or now a 0) 0)) same ∙ ap not (apart (get_or now (line / 64) 0) some))
-    | inr other ↦ summed.sums at ∙ ap (λ (w : ℕ). not (nat_eq w 0)) (sym (others at other))
-  ];
-  enough = omega (arith, size, summed.enough);
-  few = omega (arith, size, summed.few);
-  small = summed.small;
-}
-  where
-    apart : (w : ℕ) → w ≢ 0 → nat_eq w 0 ≡ false
-    apart w is = by (nat_eq w 0) refl
-      where
-        by : (b : Bool) → nat_eq w 0 ≡ b → nat_eq w 0 ≡ false
-        by true e = absurd (is (eqb-true w 0 e))
-        by false e = e
+summed-still words summary now line summed size others less some = grind (arith, cases_eq, enough, eqb-true) steps 800000
 
 pub summed-same : (words summary words' summary' : List ℕ) → words' ≡ words → summary' ≡ summary → IsSummed words summary → IsSummed words' summary'
 summed-same words summary words' summary' same same' summed = subst (λ (ws : List ℕ). IsSummed ws summary') (sym same) (subst (λ (ss : List ℕ). IsSummed words ss) (sym same') summed)
@@ -110,11 +94,7 @@ summed-zeros count count' words summary is is' le few few' =
 module _ (words summary : List ℕ) (summed : IsSummed words summary) where
   -- a word that isn't in the summary is 0
   clear-word : (at : ℕ) → is_in summary at ≡ false → get_or words at 0 ≡ 0
-  clear-word at none = by (nat_eq (get_or words at 0) 0) refl
-    where
-      by : (b : Bool) → nat_eq (get_or words at 0) 0 ≡ b → get_or words at 0 ≡ 0
-      by true e = eqb-true (get_or words at 0) 0 e
-      by false e = absurd (cc (sym none ∙ summed.sums at ∙ ap not e))
+  clear-word at none = grind (arith, eqb-true) steps 800000
 
   -- one that is in it isn't
   some-word : (at : ℕ) → is_in summary at ≡ true → get_or words at 0 ≢ 0

@@ -26,20 +26,12 @@ pub read-at : (table : List SessionSet) (line : ℕ) (sessions : SessionSet) →
 read-at table line sessions lt is = is ∙ get_or_default table line sessions (record { bits = 0 }) lt
 
 pub at-set : (table : List SessionSet) (line n k : ℕ) (sessions : SessionSet) → line < length table → is_touched (set table line sessions) n k ≡ cond (nat_eq k line) (has sessions n) (is_touched table n k)
-at-set table line n k sessions lt = by (nat_eq k line) refl
-  where
-    by : (b : Bool) → nat_eq k line ≡ b → is_touched (set table line sessions) n k ≡ cond b (has sessions n) (is_touched table n k)
-    by true e = ap (λ (s : SessionSet). has s n) (get_or-set_at table line k sessions (record { bits = 0 }) (eqb-true k line e) lt)
-    by false e = ap (λ (s : SessionSet). has s n) (get_or-set_other table line k sessions (record { bits = 0 }) (eqb-false k line e))
+at-set table line n k sessions lt = grind (arith, get_or-set_at, eqb-true, get_or-set_other, eqb-false) steps 800000
 
 module _ (table : List SessionSet) (line : ℕ) (gone sessions : SessionSet) (lt : line < length table) (without : (n : ℕ) → has sessions n ≡ (is_touched table n line && not (has gone n))) where
   -- some sessions don't touch the line any more
   forgot-line : (n k : ℕ) → is_touched (set table line sessions) n k ≡ (is_touched table n k && not (nat_eq k line && has gone n))
-  forgot-line n k = at-set table line n k sessions lt ∙ by (nat_eq k line) refl
-    where
-      by : (b : Bool) → nat_eq k line ≡ b → cond b (has sessions n) (is_touched table n k) ≡ (is_touched table n k && not (b && has gone n))
-      by true e = without n ∙ ap (λ (l : ℕ). is_touched table n l && not (has gone n)) (sym (eqb-true k line e))
-      by false e = sym (and-true (is_touched table n k))
+  forgot-line n k = grind (arith, at-set, eqb-true, and-true) steps 800000
 
   still : (n k : ℕ) → is_touched (set table line sessions) n k ≡ true → is_touched table n k ≡ true
   still n k there = (and_parts (is_touched table n k) (not (nat_eq k line && has gone n)) (sym (forgot-line n k) ∙ there)).0
@@ -56,11 +48,7 @@ module _ (table : List SessionSet) (line : ℕ) (gone sessions : SessionSet) (lt
 
 module _ (table : List SessionSet) (noted : List ℕ) (is : IsNoted table noted) where
   unnoted : (n line : ℕ) → is_in noted line ≡ false → is_touched table n line ≡ false
-  unnoted n line none = by (is_touched table n line) refl
-    where
-      by : (b : Bool) → is_touched table n line ≡ b → is_touched table n line ≡ false
-      by true e = absurd (cc (sym none ∙ is.each n line e))
-      by false e = e
+  unnoted n line none = grind (arith) steps 800000
 
   pub next-some : (from : ℕ) (r : Option ℕ) → IfSome r (IsLowest noted from) → IfSome r (IsNextTouched table from)
   next-some from None lowest = tt
@@ -143,17 +131,7 @@ module _ (p : ℕ → Bool) where
 
   find-none : (from n a : ℕ) → ((k : ℕ) → from ≤ k → p k ≡ false) → find (nat_le from) (filter p (range_with_len a n)) ≡ None
   find-none from zero a none = refl
-  find-none from (suc n) a none = by (p a) refl (find-none from n (a + 1) none)
-    where
-      rest : List ℕ
-      rest = filter p (range_with_len (a + 1) n)
-
-      by : (b : Bool) → p a ≡ b → find (nat_le from) rest ≡ None → find (nat_le from) (cond b (a ∷ rest) rest) ≡ None
-      by true e next = elim (cases_lt a from) [
-        | inl below ↦ ap (λ (b : Bool). cond b (Some a) (find (nat_le from) rest)) (under from a below) ∙ next
-        | inr above ↦ absurd (cc (sym e ∙ none a above))
-      ]
-      by false e next = next
+  find-none from (suc n) a none = grind (arith, cases_lt, under, find-none from n (a + 1) none) steps 800000
 
   rising-after : (low n a : ℕ) → low < a → are_rising (low ∷ filter p (range_with_len a n)) ≡ true
   rising-after low zero a lt = refl
@@ -168,14 +146,7 @@ module _ (p : ℕ → Bool) where
 
   rising-passing : (n a : ℕ) → are_rising (filter p (range_with_len a n)) ≡ true
   rising-passing zero a = refl
-  rising-passing (suc n) a = by (p a) (rising-after a n (a + 1) (omega arith)) (rising-passing n (a + 1))
-    where
-      rest : List ℕ
-      rest = filter p (range_with_len (a + 1) n)
-
-      by : (b : Bool) → are_rising (a ∷ rest) ≡ true → are_rising rest ≡ true → are_rising (cond b (a ∷ rest) rest) ≡ true
-      by true from_here past = from_here
-      by false from_here past = past
+  rising-passing (suc n) a = grind (arith, rising-after, rising-passing n (a + 1)) steps 800000
 
 -- the lines that sessions touch rise, and each is there once
 pub lines_touched-rising : (which : SessionSet) (table : List SessionSet) → are_rising (lines_touched which table) ≡ true
@@ -223,13 +194,7 @@ module _ (sessions : SessionSet) (table : List SessionSet) (from low : ℕ) (wal
       sym (find-passing (λ line. meets sessions (sessions_at table line)) from line (length table) 0 (omega arith) (omega (arith, next.within)) (omega (arith, walks.above, next.low)) here (before line next))
 
   pub walks-on : (line : ℕ) → IsNextTouched table low line → meets sessions (sessions_at table line) ≡ false → Walks sessions table from (line + 1)
-  walks-on line next apart = record {
-    above = omega (arith, walks.above, next.low);
-    none = λ k ge lt. elim (cases_eq k line) [
-      | inl same ↦ ap (λ (l : ℕ). meets sessions (sessions_at table l)) same ∙ apart
-      | inr other ↦ before line next k ge (omega (arith, lt, other))
-    ];
-  }
+  walks-on line next apart = grind (arith, cases_eq, before) steps 800000
 
   pub walks-past : IsUntouchedFrom table low → None ≡ find (nat_le from) (lines_touched sessions table)
   walks-past none =

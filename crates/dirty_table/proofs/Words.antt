@@ -7,7 +7,7 @@ use Rattle.std.proofs.lemmas.Nat.{and_le_l}
 use Rattle.std.proofs.lemmas.Nat.Bits.{bit_at-zero, bit_at-lt, bit_at_above, bit_at_and, bit_at_mask_inside, bit_at_mask_below, ones_shl, bit_at-trailing_zeros, bit_at_set_same, bit_at_set_other, bit_at_clear_same, bit_at_clear_other}
 use Rattle.std.proofs.lemmas.List.{get_or_past, get_or-set_other}
 use Rattle.std.proofs.lemmas.Grind.{get_or-set_at}
-use Rattle.dirty_table.specs.Bits.{has_bit, is_in, IsLowestBit, IsLowest, IsClearFrom}
+use Rattle.dirty_table.specs.Bits.{has_bit, is_in, IsLowestBit, IsClearFrom}
 
 -- ---- one word
 
@@ -19,11 +19,7 @@ past-bit word i small past = ap (λ (b : ℕ). nat_eq b 1) (bit_at_above word 64
 
 -- a word with a bit isn't 0
 pub nonzero : (word i : ℕ) → has_bit word i ≡ true → nat_eq word 0 ≡ false
-nonzero word i here = by (nat_eq word 0) refl
-  where
-    by : (b : Bool) → nat_eq word 0 ≡ b → nat_eq word 0 ≡ false
-    by true e = absurd (cc (sym here ∙ zero-bit word i (eqb-true word 0 e)))
-    by false e = e
+nonzero word i here = grind (arith, zero-bit, eqb-true) steps 800000
 
 module _ (word low : ℕ) (small : word < 2 ^ 64) (lt : low < 64) where
   -- the word without the bits below
@@ -80,13 +76,7 @@ module _ (words : List ℕ) (k word : ℕ) (b : Bool) (within : k / 64 < length 
   at-place = ap (λ (w : ℕ). nat_eq (bit_at w (k % 64)) 1) (get_or-set_at words (k / 64) (k / 64) word 0 refl within) ∙ here
 
   elsewhere : (i : ℕ) → i ≢ k → is_in (set words (k / 64) word) i ≡ is_in words i
-  elsewhere i apart = elim (cases_eq (i / 64) (k / 64)) [
-    | inl same ↦
-        ap (λ (w : ℕ). nat_eq (bit_at w (i % 64)) 1) (get_or-set_at words (k / 64) (i / 64) word 0 same within)
-        ∙ ap (λ (x : ℕ). nat_eq x 1) (others (i % 64) (omega arith) (λ is. apart (omega (arith, is, same))))
-        ∙ ap (λ (at : ℕ). nat_eq (bit_at (get_or words at 0) (i % 64)) 1) (sym same)
-    | inr other ↦ ap (λ (w : ℕ). nat_eq (bit_at w (i % 64)) 1) (get_or-set_other words (k / 64) (i / 64) word 0 other)
-  ]
+  elsewhere i apart = grind (arith, cases_eq, get_or-set_at, get_or-set_other) steps 800000
 
 pub and-true : (x : Bool) → x ≡ (x && true)
 and-true true = refl
@@ -137,13 +127,7 @@ module _ (words : List ℕ) (k : ℕ) (within : k / 64 < length words) where
 
   -- no word becomes greater
   pub removed-less : (at : ℕ) → get_or (set words (k / 64) without_bit) at 0 ≤ get_or words at 0
-  removed-less at = elim (cases_eq at (k / 64)) [
-    | inl same ↦
-        let now : get_or (set words (k / 64) without_bit) at 0 ≡ without_bit = get_or-set_at words (k / 64) at without_bit 0 same within in
-        let was : get_or words at 0 ≡ word = ap (λ (a : ℕ). get_or words a 0) same in
-        omega (arith, now, was, and_le_l word (2 ^ 64 - 1 - 1 * 2 ^ (k % 64) % 2 ^ 64))
-    | inr other ↦ let same : get_or (set words (k / 64) without_bit) at 0 ≡ get_or words at 0 = other-words without_bit at other in omega (arith, same)
-  ]
+  removed-less at = grind (arith, cases_eq, get_or-set_at, and_le_l, other-words) steps 800000
 
 -- ---- the walk over words
 
@@ -166,17 +150,6 @@ pub looks-first : (words : List ℕ) (from : ℕ) → Looks words from (from / 6
 looks-first words from = record { fits = omega arith; place = omega arith; none = λ i ge lt. absurd (omega (arith, ge, lt)) }
 
 module _ (words : List ℕ) (from at low : ℕ) (looks : Looks words from at low) where
-  pub looks-found : (bit : ℕ) → at < length words → IsLowestBit (get_or words at 0) low bit → IsLowest words from (64 * at + bit)
-  looks-found bit within found = record {
-    low = omega (arith, looks.place, found.above);
-    within = omega (arith, within, found.within);
-    here = at-word words at (64 * at + bit) bit found.within refl ∙ found.here;
-    before = λ i ge lt. elim (cases_lt i (64 * at + low)) [
-      | inl earlier ↦ looks.none i ge earlier
-      | inr later ↦ at-word words at i (i - 64 * at) (omega (arith, lt, later, found.within)) (omega (arith, later)) ∙ found.before (i - 64 * at) (omega (arith, later)) (omega (arith, lt, later))
-    ];
-  }
-
   pub looks-past : length words ≤ at → IsClearFrom words from
   looks-past past i ge = elim (cases_lt i (64 * at + low)) [
     | inl earlier ↦ looks.none i ge earlier

@@ -53,18 +53,7 @@ later-above (x ∷ xs) (suc i) (suc j) a b rising less at_i at_j = later-above x
 
 -- the next line is flushed
 pub cut-next : (lines : List ℕ) (flushed from line : ℕ) → are_rising lines ≡ true → IsCut lines flushed from → slice_get lines flushed ≡ Some line → IsCut lines (flushed + 1) (line + 1)
-cut-next lines flushed from line rising cut at = record {
-  within = omega (arith, slice_get_within lines flushed line at);
-  below = λ i other less there. elim (cases_lt i flushed) [
-    | inl earlier ↦ omega (arith, later-above lines i flushed other line rising earlier there at)
-    | inr last ↦
-        let same : i ≡ flushed = omega (arith, less, last) in
-        let both : Some other ≡ Some line = sym there ∙ ap (slice_get lines) same ∙ at in
-        let one : other ≡ line = cc both in
-        omega (arith, one)
-  ];
-  others = λ i other le there. omega (arith, later-above lines flushed i line other rising (omega (arith, le)) at there);
-}
+cut-next lines flushed from line rising cut at = grind (arith, slice_get_within, cases_lt, later-above) steps 800000
 
 -- none is left
 pub cut-whole : (lines : List ℕ) (flushed from : ℕ) → IsCut lines flushed from → slice_get lines flushed ≡ None → flushed ≡ length lines

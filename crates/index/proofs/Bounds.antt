@@ -38,16 +38,8 @@ pub none-yet : (tables : Tables) (all : Places) (has : Key → Option (List ℕ)
 none-yet tables all has none = record { done = []; split = refl; rows = none }
 
 looked-more : (es : Places) (e : Key × ℕ) (key : Key) → is_some (lookup_key (es ++ e ∷ []) key) ≡ (is_some (lookup_key es key) || key_eq e.0 key)
-looked-more [] e key = by (key_eq e.0 key)
-  where
-    by : (b : Bool) → is_some (cond b (Some e.1) None) ≡ b
-    by true = refl
-    by false = refl
-looked-more (x ∷ es) e key = by (key_eq x.0 key) (looked-more es e key)
-  where
-    by : (b : Bool) → is_some (lookup_key (es ++ e ∷ []) key) ≡ (is_some (lookup_key es key) || key_eq e.0 key) → is_some (cond b (Some x.1) (lookup_key (es ++ e ∷ []) key)) ≡ (is_some (cond b (Some x.1) (lookup_key es key)) || key_eq e.0 key)
-    by true rest = refl
-    by false rest = rest
+looked-more [] e key = grind (arith) steps 800000
+looked-more (x ∷ es) e key = grind (arith, looked-more es e key) steps 800000
 
 module _ (tables : Tables) (all : Places) (e : Key × ℕ) (rest : Places) (has : Key → Option (List ℕ)) (h : HasUpTo tables all (e ∷ rest) has) where
   one-more : (has' : Key → Option (List ℕ)) → ((key : Key) → has' key ≡ cond (is_some (lookup_key h.done key) || key_eq e.0 key) (tables key) None) → HasUpTo tables all rest has'
@@ -59,12 +51,7 @@ module _ (tables : Tables) (all : Places) (e : Key × ℕ) (rest : Places) (has 
 
   -- the tables have no row at its key
   pub passed-over : tables e.0 ≡ None → HasUpTo tables all rest has
-  passed-over none = one-more has (λ key. h.rows key ∙ by key (is_some (lookup_key h.done key)) (key_eq e.0 key) refl)
-    where
-      by : (key : Key) (a b : Bool) → key_eq e.0 key ≡ b → cond a (tables key) None ≡ cond (a || b) (tables key) None
-      by key true b is = refl
-      by key false true is = sym (ap tables (sym (key_eq-true e.0 key is)) ∙ none)
-      by key false false is = refl
+  passed-over none = grind (arith, one-more, key_eq-true) steps 800000
 
   -- its row was put in
   pub put-in : (has' : Key → Option (List ℕ)) (row : List ℕ) → tables e.0 ≡ Some row → ((key : Key) → has' key ≡ cond (key_eq e.0 key) (Some row) (has key)) → HasUpTo tables all rest has'
@@ -107,16 +94,7 @@ between-is (Within table lo hi) key = grind (arith, nat_tests)
 -- none are left, and at a key that the index doesn't have the tables have none
 pub all-there : (tables : Tables) (range : KeyRange) (index all : Places) (has : Key → Option (List ℕ)) → HasUpTo tables all [] has → all ≡ entries_between key_cmp (bounds_of range).0 (bounds_of range).1 index
     → ((key : Key) → lookup_key index key ≡ None → tables key ≡ None) → (key : Key) → has key ≡ ranged range tables key
-all-there tables range index all has h between absent key =
-    h.rows key
-    ∙ ap (λ (es : Places). cond (is_some (lookup_key es key)) (tables key) None) (sym (append-nil h.done) ∙ sym h.split ∙ between)
-    ∙ ap (λ (o : Option ℕ). cond (is_some o) (tables key) None) (looked-between (bounds_of range).0 (bounds_of range).1 index key ∙ ap (λ (b : Bool). cond b (lookup_key index key) None) (between-is range key))
-    ∙ by (contains range key) (lookup_key index key) refl
-  where
-    by : (b : Bool) (o : Option ℕ) → lookup_key index key ≡ o → cond (is_some (cond b o None)) (tables key) None ≡ cond b (tables key) None
-    by true (Some place) is = refl
-    by true None is = sym (absent key is)
-    by false o is = refl
+all-there tables range index all has h between absent key = grind (arith, append-nil, looked-between, between-is) steps 800000
 
 -- at such a key nothing is seen
 pub absent-none : (counts : ℕ → Bool) (s : Seen) (a : Layout) (image : Image) (tables : Tables) (index : Entries) → CountsAs counts s a image → ShowsTables counts a image tables → AreLinked s image index

@@ -1,5 +1,5 @@
 -- Changes of one entry, and places of entries.
-use Rattle.std.proofs.Common.{◌≡◌, ◌⊎◌, inl, inr, ℕ, zero, suc, ◌<◌, ◌≤◌, Bool, true, false, cond, ◌||◌, List, [], ◌∷◌, ◌++◌, length, refl, sym, ◌∙◌, ap, arith, is_some, set}
+use Rattle.std.proofs.Common.{◌≡◌, ◌⊎◌, inl, inr, ℕ, zero, suc, ◌<◌, Bool, true, false, cond, List, [], ◌∷◌, ◌++◌, length, refl, sym, ◌∙◌, ap, arith, is_some, set}
 use Rattle.std.specs.Prelude.{Option, Some, None, unwrap_or, slice_get}
 use Rattle.std.specs.BTreeMap.{is_at}
 use Rattle.std.specs.Map.{lookup}
@@ -20,12 +20,7 @@ abbrev Places : Type 0
 Places = List (Key × ℕ)
 
 same_or_not : (p q : ℕ) → (p ≡ q) ⊎ (p ≡ q → ⊥)
-same_or_not p q = by (cases_lt p q) (cases_lt q p)
-  where
-    by : (p < q) ⊎ (q ≤ p) → (q < p) ⊎ (p ≤ q) → (p ≡ q) ⊎ (p ≡ q → ⊥)
-    by (inl lt) either = inr (λ same. omega (arith, lt, same))
-    by (inr le) (inl lt) = inr (λ same. omega (arith, lt, same))
-    by (inr le) (inr ge) = inl (omega (arith, le, ge))
+same_or_not p q = grind (arith, cases_lt) steps 800000
 
 -- ---- lists of pairs
 
@@ -43,30 +38,14 @@ stands (e ∷ entries) key entry found = by (key_eq e.0 key) refl (stands entrie
 
 -- and what stands somewhere is there
 pub there-some : (entries : Entries) (key : Key) (entry : Entry) (place : ℕ) → slice_get entries place ≡ Some (key, entry) → is_some (lookup_key entries key) ≡ true
-there-some [] key entry place at = absurd (cc at)
-there-some (e ∷ entries) key entry zero at =
-    let same : e ≡ (key, entry) = cc at in
-    ap (λ (b : Bool). is_some (cond b (Some e.1) (lookup_key entries key))) (ap (λ (x : Key × Entry). key_eq x.0 key) same ∙ key_eq-same key)
-there-some (e ∷ entries) key entry (suc place) at = by (key_eq e.0 key) (there-some entries key entry place at)
-  where
-    by : (b : Bool) → is_some (lookup_key entries key) ≡ true → is_some (cond b (Some e.1) (lookup_key entries key)) ≡ true
-    by true rest = refl
-    by false rest = rest
+there-some [] key entry place at = grind (arith) steps 800000
+there-some (e ∷ entries) key entry zero at = grind (arith, key_eq-same) steps 800000
+there-some (e ∷ entries) key entry (suc place) at = grind (arith, there-some entries key entry place at) steps 800000
 
 -- a pair of a further key comes last
 looked-last : (entries : Entries) (key : Key) (entry : Entry) → lookup_key entries key ≡ None → (k : Key) → lookup_key (entries ++ (key, entry) ∷ []) k ≡ cond (key_eq key k) (Some entry) (lookup_key entries k)
 looked-last [] key entry none k = refl
-looked-last (e ∷ entries) key entry none k = by (key_eq e.0 key) refl (key_eq e.0 k) refl (key_eq key k) refl (looked-last entries key entry) none
-  where
-    by : (b : Bool) → key_eq e.0 key ≡ b → (c : Bool) → key_eq e.0 k ≡ c → (d : Bool) → key_eq key k ≡ d
-        → (lookup_key entries key ≡ None → (j : Key) → lookup_key (entries ++ (key, entry) ∷ []) j ≡ cond (key_eq key j) (Some entry) (lookup_key entries j))
-        → cond b (Some e.1) (lookup_key entries key) ≡ None → cond c (Some e.1) (lookup_key (entries ++ (key, entry) ∷ []) k) ≡ cond d (Some entry) (cond c (Some e.1) (lookup_key entries k))
-    by true is c is' d is'' rest none = absurd (cc none)
-    by false is true is' true is'' rest none =
-        let same : e.0 ≡ key = key_eq-true e.0 k is' ∙ sym (key_eq-true key k is'') in
-        absurd (cc (sym is ∙ ap (λ (j : Key). key_eq j key) same ∙ key_eq-same key))
-    by false is true is' false is'' rest none = refl
-    by false is false is' d is'' rest none = rest none k ∙ ap (λ (b : Bool). cond b (Some entry) (lookup_key entries k)) is''
+looked-last (e ∷ entries) key entry none k = grind (arith, key_eq-true, key_eq-same, looked-last entries key entry) steps 800000
 
 -- where no other pair is of its key, the pair at a place may be changed
 looked-set : (entries : Entries) (key : Key) (old entry : Entry) (place : ℕ) → slice_get entries place ≡ Some (key, old) → ((p : ℕ) (e : Entry) → slice_get entries p ≡ Some (key, e) → p ≡ place)
@@ -126,17 +105,7 @@ get-either (y ∷ entries) e x (suc p) at = elim (get-either entries e x p at) [
 module _ (places : Places) (entries : Entries) (placed : ArePlaced places entries) where
   -- the entry at a place is that of its key
   pub is-at : (key : Key) (place : ℕ) (entry : Entry) → slice_get entries place ≡ Some (key, entry) → lookup_key entries key ≡ Some entry
-  is-at key place entry at = by (lookup_key entries key) refl (there-some entries key entry place at)
-    where
-      by : (o : Option Entry) → lookup_key entries key ≡ o → is_some o ≡ true → lookup_key entries key ≡ Some entry
-      by None is some = absurd (cc some)
-      by (Some other) is some =
-          let found = stands entries key other is in
-          let one : Some found.0 ≡ Some place = sym (placed.once key found.0 other found.1) ∙ placed.once key place entry at in
-          let same : found.0 ≡ place = cc one in
-          let pair : Some (key, other) ≡ Some (key, entry) = sym found.1 ∙ ap (slice_get entries) same ∙ at in
-          let equal : other ≡ entry = ap (λ (o : Option (Key × Entry)). (unwrap_or o (key, entry)).1) pair in
-          is ∙ (λ i. Some (equal i))
+  is-at key place entry at = grind (arith, there-some, stands) steps 800000
 
   pub at-place : (key : Key) (place : ℕ) (entry : Entry) → slice_get entries place ≡ Some (key, entry) → IsAt entries place key
   at-place key place entry at = at ∙ (λ i. Some (key, unwrap_or (sym (is-at key place entry at) i) blank))
@@ -146,19 +115,7 @@ module _ (places : Places) (entries : Entries) (placed : ArePlaced places entrie
   found-at key place found = let at = placed.there key place found in at-place key place at.0 at.1
 
   pub none-at : (key : Key) → lookup_key places key ≡ None → lookup_key entries key ≡ None
-  none-at key none = by (lookup_key entries key) refl
-    where
-      by : (o : Option Entry) → lookup_key entries key ≡ o → lookup_key entries key ≡ None
-      by None is = is
-      by (Some entry) is = let found = stands entries key entry is in absurd (cc (sym none ∙ placed.once key found.0 entry found.1))
-
-  -- a key that has no place has no entry, and the other way round
-  pub alike : (key : Key) → is_some (lookup_key places key) ≡ is_some (lookup_key entries key)
-  alike key = by (lookup_key places key) refl
-    where
-      by : (o : Option ℕ) → lookup_key places key ≡ o → is_some o ≡ is_some (lookup_key entries key)
-      by None is = sym (ap is_some (none-at key is))
-      by (Some place) is = let at = placed.there key place is in sym (there-some entries key at.0 place at.1)
+  none-at key none = grind (arith, stands) steps 800000
 
   room-at : (key : Key) (place : ℕ) → IsAt entries place key → has_room entries key ≡ true
   room-at key place at = there-some entries key (entry_at entries key) place at
@@ -171,18 +128,10 @@ module _ (places : Places) (entries : Entries) (placed : ArePlaced places entrie
     looked = looked-set entries key (entry_at entries key) entry place at (only key place at)
 
     pub set-sets : Sets entries (set entries place (key, entry)) key entry
-    set-sets k = ap (λ (o : Option Entry). unwrap_or o blank) (looked k) ∙ by (key_eq key k)
-      where
-        by : (b : Bool) → unwrap_or (cond b (Some entry) (lookup_key entries k)) blank ≡ cond b entry (unwrap_or (lookup_key entries k) blank)
-        by true = refl
-        by false = refl
+    set-sets k = grind (arith, looked) steps 800000
 
     pub set-keeps : KeepsRoom entries (set entries place (key, entry))
-    set-keeps k = ap is_some (looked k) ∙ by (key_eq key k) refl
-      where
-        by : (b : Bool) → key_eq key k ≡ b → is_some (cond b (Some entry) (lookup_key entries k)) ≡ is_some (lookup_key entries k)
-        by true is = sym (ap (has_room entries) (sym (key_eq-true key k is)) ∙ room-at key place at)
-        by false is = refl
+    set-keeps k = grind (arith, looked, key_eq-true, room-at) steps 800000
 
     pub set-placed : ArePlaced places (set entries place (key, entry))
     set-placed = record { there = there; once = once }
@@ -249,18 +198,10 @@ module _ (entries : Entries) (key : Key) (none : has_room entries key ≡ false)
   looked-more = looked-last entries key entry absent
 
   pub add-sets : Sets entries (entries ++ (key, entry) ∷ []) key entry
-  add-sets k = ap (λ (o : Option Entry). unwrap_or o blank) (looked-more k) ∙ by (key_eq key k)
-    where
-      by : (b : Bool) → unwrap_or (cond b (Some entry) (lookup_key entries k)) blank ≡ cond b entry (unwrap_or (lookup_key entries k) blank)
-      by true = refl
-      by false = refl
+  add-sets k = grind (arith, looked-more) steps 800000
 
   pub add-gains : GainsRoom entries (entries ++ (key, entry) ∷ []) key
-  add-gains k = ap is_some (looked-more k) ∙ by (key_eq key k)
-    where
-      by : (b : Bool) → is_some (cond b (Some entry) (lookup_key entries k)) ≡ (b || is_some (lookup_key entries k))
-      by true = refl
-      by false = refl
+  add-gains k = grind (arith, looked-more) steps 800000
 
 -- what a map of places has once a further key was put in
 pub updated : (old new : Places) (key : Key) (place : ℕ) → ((k : Key) → lookup (is_at (key_cmp k)) new ≡ cond (is_at (key_cmp key) k) (Some place) (lookup (is_at (key_cmp k)) old))
@@ -269,11 +210,7 @@ updated old new key place updates k = looked-up new k ∙ updates k ∙ (λ i. c
 
 -- a key that has room gains none
 pub kept : (entries : Entries) (key : Key) → has_room entries key ≡ true → GainsRoom entries entries key
-kept entries key has k = by (key_eq key k) refl
-  where
-    by : (b : Bool) → key_eq key k ≡ b → has_room entries k ≡ (b || has_room entries k)
-    by true is = ap (has_room entries) (sym (key_eq-true key k is)) ∙ has
-    by false is = refl
+kept entries key has k = grind (arith, key_eq-true) steps 800000
 
 -- an entry that is set to what it was
 pub same : (old new : Entries) (key : Key) → Sets old new key (entry_at old key) → (k : Key) → entry_at new k ≡ entry_at old k
@@ -282,7 +219,3 @@ same old new key sets k = sets k ∙ by (key_eq key k) refl
     by : (b : Bool) → key_eq key k ≡ b → cond b (entry_at old key) (entry_at old k) ≡ entry_at old k
     by true is = ap (entry_at old) (key_eq-true key k is)
     by false is = refl
-
--- a key without room has a blank entry
-pub blank-at : (entries : Entries) (key : Key) → has_room entries key ≡ false → entry_at entries key ≡ blank
-blank-at entries key none = ap (λ (o : Option Entry). unwrap_or o blank) (is_some-none (lookup_key entries key) none)

@@ -1,6 +1,6 @@
 -- The keys of entries that have a covered row, each once.
-use Rattle.std.proofs.Common.{◌≡◌, ℕ, zero, suc, Bool, true, false, cond, ◌||◌, List, [], ◌∷◌, map, length, refl, sym, ◌∙◌, ap, arith, is_some}
-use Rattle.std.specs.Prelude.{Some, None, unwrap_or, slice_get, filter, count_by}
+use Rattle.std.proofs.Common.{◌≡◌, ℕ, suc, Bool, true, false, cond, ◌||◌, List, [], ◌∷◌, map, length, refl, sym, ◌∙◌, ap, arith, is_some}
+use Rattle.std.specs.Prelude.{Some, unwrap_or, slice_get, filter, count_by}
 use Rattle.std.specs.List.{IsDistinct, AllByRecursion, list_any}
 use Rattle.std.specs.Cmp.{IsEquivalence}
 use Rattle.std.proofs.lemmas.List.{length-map}
@@ -24,11 +24,7 @@ abbrev keys_of : Entries → List Key
 keys_of entries = map (λ (e : Key × Entry). e.0) entries
 
 laws : IsEquivalence key_eq
-laws = record {
-  refl = key_eq-same;
-  symm = key_eq-swap;
-  congr = λ x y z same. ap (λ (k : Key). key_eq k z) (key_eq-true x y same);
-}
+laws = grind (arith, key_eq-same, key_eq-swap, key_eq-true) steps 800000
 
 -- ---- no two entries are of one key
 
@@ -65,11 +61,7 @@ once-placed places entries placed i j key a b p q =
 
 still-nowhere : (key : Key) (entries : Entries) → IsNowhere key (keys_of entries) → IsNowhere key (keys_of (filter is_live entries))
 still-nowhere key [] apart = tt
-still-nowhere key (e ∷ entries) apart = by (is_live e) (still-nowhere key entries apart.1)
-  where
-    by : (b : Bool) → IsNowhere key (keys_of (filter is_live entries)) → IsNowhere key (keys_of (cond b (e ∷ filter is_live entries) (filter is_live entries)))
-    by true rest = (apart.0, rest)
-    by false rest = rest
+still-nowhere key (e ∷ entries) apart = grind (arith, still-nowhere key entries apart.1) steps 800000
 
 live-distinct : (entries : Entries) → IsDistinct key_eq (keys_of entries) → IsDistinct key_eq (keys_of (filter is_live entries))
 unfolding IsDistinct

@@ -1,6 +1,6 @@
 -- What is found of a key.
-use Rattle.std.proofs.Common.{◌≡◌, ℕ, Bool, List, refl, ap, arith}
-use Rattle.std.specs.Prelude.{Option, Some, None}
+use Rattle.std.proofs.Common.{◌≡◌, ℕ, Bool, List, ap, arith}
+use Rattle.std.specs.Prelude.{Some, None}
 use Rattle.base.specs.declared.key.Key.{Key}
 use Rattle.base.specs.Commits.{Tables}
 use Rattle.base.specs.Layout.{Layout}
@@ -20,8 +20,4 @@ module _ (counts : ℕ → Bool) (snapshot : Seen) (a : Layout) (image : Image) 
       (shown.0, record { within = shown.1; live = shown.2; fits = shows.fits shown.0 (omega (arith, shown.1, ap (λ (l : Layout). l.slots) agree.laid_out)) shown.2; at = shown.3; is = shown.4 })
 
   pub none-seen : (key : Key) → ((slot : ℕ) (row : List ℕ) → HasSeen counts image slot key row → ⊥) → tables key ≡ None
-  none-seen key none = by (tables key) refl
-    where
-      by : (o : Option (List ℕ)) → tables key ≡ o → tables key ≡ None
-      by (Some row) is = let seen = row-seen key row is in absurd (none seen.0 row seen.1)
-      by None is = is
+  none-seen key none = grind (arith, row-seen) steps 800000

@@ -1,5 +1,5 @@
 -- What a slot of a device holds in its image.
-use Rattle.std.proofs.Common.{◌≡◌, ◌⊎◌, inl, inr, ℕ, ◌+◌, ◌*◌, ◌^◌, ◌<◌, ◌≤◌, false, length, get_or, refl, sym, ◌∙◌, ap, subst, arith, lit<}
+use Rattle.std.proofs.Common.{◌≡◌, ℕ, ◌+◌, ◌*◌, ◌^◌, ◌<◌, ◌≤◌, false, length, get_or, refl, sym, ◌∙◌, ap, subst, arith}
 use Rattle.std.proofs.Math.Nat.{mul-le-mul_left}
 use Rattle.std.proofs.lemmas.Bool.{cases_lt}
 use Rattle.std.proofs.lemmas.List.{get_or_past}
@@ -41,19 +41,10 @@ module _ (device : Device) (a : Layout) (slot : ℕ) (size : device.words ≡ to
   whole = omega (arith, length-image, size, ap total_words laid)
 
   held : (s : Slot) → IsSlot a (slot_at a slot (value_of device)) s → IsVersion (layout_of (image_of device)) (slot_word (image_of device) slot) s.version
-  held s is = record {
-    each = λ w low high.
-        let lt : w < slot_words a.version = omega (arith, high, same-width) in
-        word-same w lt ∙ is.version.each w low lt;
-    fits = subst (λ (l : Layout). Fits l s.version) (sym laid) is.version.fits;
-  }
+  held s is = grind (arith, same-width, word-same) steps 800000
 
   fits-words : IsOrderly device → (w : ℕ) → get_or (image_of device) w 0 < 2 ^ 64
-  fits-words orderly w = by (cases_lt w device.words)
-    where
-      by : (w < device.words) ⊎ (device.words ≤ w) → get_or (image_of device) w 0 < 2 ^ 64
-      by (inl lt) = subst (λ (n : ℕ). n < 2 ^ 64) (sym (word-at w lt)) (orderly.fits w (value_of device w) (orderly.some w lt))
-      by (inr ge) = subst (λ (n : ℕ). n < 2 ^ 64) (sym (get_or_past (image_of device) w 0 (omega (arith, ge, length-image)))) (lit< tt)
+  fits-words orderly w = grind (arith, cases_lt, word-at, get_or_past, length-image) steps 800000
 
   -- words that are no misfit hold something
   pub no-slot : IsOrderly device → ((s : Slot) → IsSlot a (slot_at a slot (value_of device)) s → ⊥) → is_misfit (image_of device) slot ≡ false → ⊥

@@ -99,11 +99,6 @@ abbrev pub Comes : Seen → Image → Key → ℕ → ℕ → Option ℕ → Typ
 Comes s image key target bound at = (slot : ℕ) × (at ≡ Some slot) × Leads s image key target bound slot
 
 module _ (s : Seen) (image : Image) (key : Key) where
-  pub on : (bound slot begin : ℕ) (at previous : Option ℕ) (row : List ℕ) → at ≡ Some slot → Looks s image key bound slot row (Earlier begin previous) → (target : ℕ) → IsSeenAt s image key target → Comes s image key target bound at
-      → Comes s image key target begin previous
-  on bound slot begin at previous row is looks target seen comes =
-      looks target seen (subst (λ (n : ℕ). Leads s image key target bound n) (same_Some comes.0 slot (sym comes.1 ∙ is)) comes.2)
-
   pub over : (bound slot : ℕ) (at : Option ℕ) (row : List ℕ) → at ≡ Some slot → Looks s image key bound slot row Over → (target : ℕ) → IsSeenAt s image key target → Comes s image key target bound at → ⊥
   over bound slot at row is looks target seen comes = looks target seen (subst (λ (n : ℕ). Leads s image key target bound n) (same_Some comes.0 slot (sym comes.1 ∙ is)) comes.2)
 

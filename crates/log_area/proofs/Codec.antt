@@ -1,31 +1,17 @@
 -- What the words of a place say of the record in it.
-use Rattle.std.proofs.Common.{◌≡◌, ◌⊎◌, inl, inr, ℕ, ◌+◌, ◌-◌, ◌*◌, ◌/◌, ◌%◌, ◌^◌, ◌<◌, ◌≤◌, Bool, true, ◌&&◌, List, [], ◌∷◌, length, get_or, drop, refl, sym, ◌∙◌, ap, arith, lit<, nat_lt, unwrap_or, slice_get}
-use Rattle.std.specs.Prelude.{None}
-use Rattle.std.proofs.lemmas.Bool.Decides.{nat_tests}
+use Rattle.std.proofs.Common.{◌≡◌, ◌⊎◌, inl, inr, ℕ, ◌+◌, ◌*◌, ◌/◌, ◌%◌, ◌^◌, ◌<◌, ◌≤◌, Bool, true, ◌&&◌, List, [], ◌∷◌, length, get_or, drop, refl, sym, ◌∙◌, ap, arith, lit<, nat_lt}
 use Rattle.std.proofs.lemmas.List.{ext_get_or, length-drop, drop_more}
-use Rattle.std.proofs.lemmas.Option.{unwrap_or-slice_get}
 use Rattle.base.specs.declared.gap.Gap.{Gap}
-use Rattle.base.specs.Records.{Record, IsRecord, record_word, no_gap, are_apart, are_rising}
+use Rattle.base.specs.Records.{Record, IsRecord, no_gap, are_apart, are_rising}
 use Rattle.base.proofs.Spelling.{record_word-first, record_word-last, same_gap, record_word-long, same_record, few_gaps}
 use Rattle.base.proofs.Layouts.{few_longs}
 use Rattle.log_area.specs.Codec.{IsReadFrom}
-
--- ---- words of a record
-
-pub gap_none : (r : Record) (w : ℕ) → 4 ≤ w → w < 20 → slice_get r.gaps ((w - 4) / 2) ≡ None → 0 ≡ record_word r w
-gap_none r w low high none =
-    let past : get_or r.gaps ((w - 4) / 2) no_gap ≡ no_gap = sym (unwrap_or-slice_get r.gaps ((w - 4) / 2) no_gap) ∙ ap (λ o. unwrap_or o no_gap) none in
-    grind (arith, nat_tests, ap (λ (g : Gap). g.first) past, ap (λ (g : Gap). g.last) past)
 
 -- ---- the order of gaps
 
 apart_step : (gaps : List Gap) (i j : ℕ) → i ≡ j + 1 → i < length gaps
     → are_apart (drop j gaps) ≡ (nat_lt ((get_or gaps j no_gap).last + 1) (get_or gaps i no_gap).first && are_apart (drop i gaps))
-apart_step gaps i j is h =
-    let here : drop j gaps ≡ get_or gaps j no_gap ∷ drop i gaps = drop_more gaps j no_gap (omega arith) ∙ ap (λ (n : ℕ). get_or gaps j no_gap ∷ drop n gaps) (sym is) in
-    let next : drop i gaps ≡ get_or gaps i no_gap ∷ drop (i + 1) gaps = drop_more gaps i no_gap h in
-    ap are_apart here ∙ ap (λ (l : List Gap). are_apart (get_or gaps j no_gap ∷ l)) next
-    ∙ ap (λ (l : List Gap). nat_lt ((get_or gaps j no_gap).last + 1) (get_or gaps i no_gap).first && are_apart l) (sym next)
+apart_step gaps i j is h = grind (arith, drop_more)
 
 -- a test between two gaps decides, or leaves the rest to
 pub apart_next : (gaps : List Gap) (i j : ℕ) (test : Bool) → i ≡ j + 1 → i < length gaps → test ≡ nat_lt ((get_or gaps j no_gap).last + 1) (get_or gaps i no_gap).first
@@ -35,11 +21,7 @@ apart_next gaps i j test is h t = apart_step gaps i j is h ∙ ap (λ (b : Bool)
 -- ---- the order of long commits
 
 rising_step : (ts : List ℕ) (i j : ℕ) → i ≡ j + 1 → i < length ts → are_rising (drop j ts) ≡ (nat_lt (get_or ts j 0) (get_or ts i 0) && are_rising (drop i ts))
-rising_step ts i j is h =
-    let here : drop j ts ≡ get_or ts j 0 ∷ drop i ts = drop_more ts j 0 (omega arith) ∙ ap (λ (n : ℕ). get_or ts j 0 ∷ drop n ts) (sym is) in
-    let next : drop i ts ≡ get_or ts i 0 ∷ drop (i + 1) ts = drop_more ts i 0 h in
-    ap are_rising here ∙ ap (λ (l : List ℕ). are_rising (get_or ts j 0 ∷ l)) next
-    ∙ ap (λ (l : List ℕ). nat_lt (get_or ts j 0) (get_or ts i 0) && are_rising l) (sym next)
+rising_step ts i j is h = grind (arith, drop_more)
 
 -- a test between two decides, or leaves the rest to
 pub rising_next : (ts : List ℕ) (i j : ℕ) (test : Bool) → i ≡ j + 1 → i < length ts → test ≡ nat_lt (get_or ts j 0) (get_or ts i 0) → are_rising (drop j ts) ≡ (test && are_rising (drop i ts))

@@ -7,7 +7,7 @@ use Rattle.std.proofs.lemmas.Bool.{cases_eq, cases_lt}
 use Rattle.std.proofs.lemmas.List.Elements.{All-head, All-tail, All-take, All-weaker, All-nil, All-cons, All-append}
 use Rattle.std.proofs.lemmas.List.{append_assoc, length-append, length-take-le, take-append-le}
 use Rattle.pmem.specs.Device.{Device, IsOrderly, stored, flushed, fenced, failed, MayLeave}
-use Rattle.pmem.specs.Words.{Survives, value_of, IsReady, IsSettledAt, Each, Keeps, Makes, OldOr, OnlyShrinks, Spares, HasOldWords, IsWithin, HasOneFailure, operations_of, LeavesOnly}
+use Rattle.pmem.specs.Words.{value_of, IsReady, IsSettledAt, Each, Keeps, Makes, OldOr, OnlyShrinks, Spares, HasOneFailure, operations_of, LeavesOnly}
 use Rattle.pmem.specs.Trace.{Operation, store_op, flush_op, fence_op, failure, applied, after, Along, Runs, StopsWithin}
 use Rattle.pmem.proofs.Changes.{shrinks_refl, shrinks_trans, stored-shrinks, flushed-shrinks, fenced-shrinks, failed-shrinks, fenced-settled_at}
 use Rattle.pmem.proofs.Images.{leaves_weaken, leaves-stored, leaves-flushed, leaves-fenced, leaves-failed}
@@ -29,11 +29,7 @@ pub record IsInTwo (xs ys : List Operation) (old new : Device) : Type 0 where
   pub then : Runs ys between new
 
 pub runs-in_two : (xs ys : List Operation) {old new : Device} → Runs (xs ++ ys) old new → IsInTwo xs ys old new
-runs-in_two xs ys {old} run = record {
-  between = after xs old;
-  first = record { made = refl; orderly = (along-parts IsOrderly xs ys old run.orderly).0 };
-  then = record { made = run.made ∙ after-append xs ys old; orderly = (along-parts IsOrderly xs ys old run.orderly).1 };
-}
+runs-in_two xs ys {old} run = grind (arith, along-parts, after-append) steps 800000
 
 -- the operations before the one that failed
 pub record HasStopped (ops : List Operation) (old new : Device) : Type 0 where
@@ -140,14 +136,7 @@ module _ (These : ℕ → ℕ → Type 0) (spared : ℕ → Type 0) (apart : (wo
   elsewhere other s ops all = store-weaker (λ word x this same. apart word x this (subst spared same s)) ops all
 
   from_keeps : {old new : Device} → Keeps old new (OldOr old These) → ((word : ℕ) → spared word → OnlyShrinks old new word) → Spares spared old new
-  from_keeps {old} keeps kept = record {
-    kept = kept;
-    left = leaves_weaken {P = IsWithin old.words (OldOr old These)} {Q = HasOldWords spared old} (λ image within word lt s. old-one word (get_or image word 0) s (within word lt)) keeps.images;
-  }
-    where
-      old-one : (word x : ℕ) → spared word → OldOr old These word x → Survives old word x
-      old-one word x s (inl there) = there
-      old-one word x s (inr this) = absurd (apart word x this s)
+  from_keeps {old} keeps kept = grind (arith, leaves_weaken) steps 800000
 
   pub spares-run : {ops : List Operation} {old new : Device} → StoreOnly These ops → Runs ops old new → Spares spared old new
   spares-run {ops} {old} all run =
@@ -242,12 +231,7 @@ pub makes_none : (device : Device) → Makes 0 0 0 0 device device
 makes_none device = record { stores_made = omega arith; flushes_made = omega arith; fences_made = omega arith; failures_made = omega arith }
 
 pub makes_trans : {a b c d a' b' c' d' : ℕ} {old mid new : Device} → Makes a b c d old mid → Makes a' b' c' d' mid new → Makes (a + a') (b + b') (c + c') (d + d') old new
-makes_trans m n = record {
-  stores_made = omega (arith, m.stores_made, n.stores_made);
-  flushes_made = omega (arith, m.flushes_made, n.flushes_made);
-  fences_made = omega (arith, m.fences_made, n.fences_made);
-  failures_made = omega (arith, m.failures_made, n.failures_made);
-}
+makes_trans m n = grind (arith) steps 800000
 
 module _ (Q : ℕ → ℕ → Type 0) where
   makes-on : (ops : List Operation) (device : Device) → StoreOnly Q ops → Makes (count_of one_store ops) (count_of one_flush ops) (count_of one_fence ops) 0 device (after ops device)

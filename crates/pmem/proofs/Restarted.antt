@@ -1,28 +1,16 @@
 -- A device that begins with these words.
-use Rattle.std.proofs.Common.{◌≡◌, ℕ, ◌<◌, Bool, true, false, cond, List, [], ◌∷◌, Some, nat_lt, length, get_or, refl, ◌∙◌, arith, sym, ap, subst}
+use Rattle.std.proofs.Common.{◌≡◌, ℕ, ◌<◌, List, length, get_or, ◌∙◌, arith, sym, ap, subst}
 use Rattle.std.proofs.lemmas.Bool.{lt-ltb}
 use Rattle.std.proofs.lemmas.List.{ext_get_or}
 use Rattle.std.proofs.lemmas.List.FromFn.{length-map-range_with_len, get_or-map-range_with_len}
-use Rattle.pmem.specs.Device.{Entry, newest, survivors_in, restarted, Device}
+use Rattle.pmem.specs.Device.{restarted, Device}
 use Rattle.pmem.specs.Words.{IsAtRest, image_of, value_of}
 
--- the one entry of a word
-abbrev first : ℕ → Entry
-first value = record { value = value; born = 0; flushed = λ actor. false; kept = Some 0 }
-
 pub restarted-rests : (words : List ℕ) → IsAtRest (restarted words)
-restarted-rests words word lt = by (nat_lt word (length words)) (lt-ltb word (length words) lt)
-  where
-    by : (b : Bool) → b ≡ true → survivors_in (cond b (first (get_or words word 0) ∷ []) []) ≡ newest (cond b (first (get_or words word 0) ∷ []) []) ∷ []
-    by true is = refl
-    by false is = cc
+restarted-rests words word lt = grind (arith, lt-ltb) steps 800000
 
 value-restarted : (words : List ℕ) (word : ℕ) → word < length words → value_of (restarted words) word ≡ get_or words word 0
-value-restarted words word lt = by (nat_lt word (length words)) (lt-ltb word (length words) lt)
-  where
-    by : (b : Bool) → b ≡ true → newest (cond b (first (get_or words word 0) ∷ []) []) ≡ get_or words word 0
-    by true is = refl
-    by false is = cc
+value-restarted words word lt = grind (arith, lt-ltb) steps 800000
 
 pub image-restarted : (words : List ℕ) → image_of (restarted words) ≡ words
 image-restarted words =

@@ -33,12 +33,7 @@ pub runs_none : (device : Device) → IsOrderly device → Runs [] device device
 runs_none device orderly = record { made = refl; orderly = orderly }
 
 pub runs-more : (ops : List Operation) (op : Operation) (old mid new : Device) → IsOrderly new → new ≡ applied op mid → Runs ops old mid → Runs (ops ++ op ∷ []) old new
-runs-more ops op old mid new orderly is run =
-    let made : new ≡ applied op (after ops old) = is ∙ ap (applied op) run.made in
-    record {
-      made = made ∙ sym (after-append ops (op ∷ []) old);
-      orderly = along-more IsOrderly ops op old run.orderly (subst IsOrderly made orderly);
-    }
+runs-more ops op old mid new orderly is run = grind (arith, after-append, along-more) steps 800000
 
 -- one run and then another
 pub runs-then : {xs ys : List Operation} {old mid new : Device} → Runs xs old mid → Runs ys mid new → Runs (xs ++ ys) old new

@@ -1,6 +1,6 @@
 -- What the code's tests say.
-use Rattle.std.proofs.Common.{◌≡◌, ◌≢◌, ◌↔◌, ℕ, zero, suc, ◌<◌, Bool, true, false, cond, not, List, [], ◌∷◌, ◌++◌, map, refl, sym, arith, nat_lt, IsTrue, length}
-use Rattle.std.specs.Prelude.{Option, Some, None, is_some, is_none, find, slice_get, All}
+use Rattle.std.proofs.Common.{◌≡◌, ◌≢◌, ◌↔◌, ℕ, zero, suc, ◌<◌, Bool, true, false, List, [], ◌∷◌, ◌++◌, map, refl, sym, arith, nat_lt, IsTrue, length}
+use Rattle.std.specs.Prelude.{Option, Some, None, find, slice_get, All}
 use Rattle.std.proofs.lemmas.Bool.Decides.{nat_tests}
 use Rattle.txn.specs.declared.drawn.DrawnCommit.{DrawnCommit}
 use Rattle.snapshot.specs.Snapshots.{Seen}
@@ -12,18 +12,10 @@ use Rattle.session_steps.specs.Steps.{IsBarred, is_one_of, bar_of, is_over, is_o
 use Rattle.std.proofs.lemmas.List.{append-nil}
 use Rattle.std.proofs.lemmas.List.Elements.{All-nil, All-cons}
 
-pub none-some : {X : Type 0} (o : Option X) → is_none o ≡ not (is_some o)
-none-some None = refl
-none-some (Some x) = refl
-
 -- nothing that a search doesn't find passes its test
 pub unfound : {X : Type 0} (test : X → Bool) (xs : List X) → find test xs ≡ None → All (λ x. test x ≡ false) xs
-unfound test [] none = All-nil (λ x. test x ≡ false)
-unfound {X} test (x ∷ xs) none = by (test x) refl none (unfound test xs)
-  where
-    by : (b : Bool) → test x ≡ b → cond b (Some x) (find test xs) ≡ None → (find test xs ≡ None → All (λ x. test x ≡ false) xs) → All (λ x. test x ≡ false) (x ∷ xs)
-    by true is none rest = absurd (cc none)
-    by false is none rest = All-cons (λ x. test x ≡ false) x xs is (rest none)
+unfound test [] none = grind (arith, All-nil) steps 800000
+unfound {X} test (x ∷ xs) none = grind (arith, All-cons, unfound test xs) steps 800000
 
 -- what bars a session whose transaction isn't one of these
 pub barred : (lets : Transaction → Bool) (o : Option Transaction) (fault : Fault) → is_one_of lets o ≡ false → fault ≡ bar_of o → IsBarred lets o fault

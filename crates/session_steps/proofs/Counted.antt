@@ -1,5 +1,5 @@
 -- Free slots and covered rows, counted.
-use Rattle.std.proofs.Common.{◌≡◌, inl, ℕ, zero, suc, ◌+◌, ◌<◌, Bool, true, false, cond, ◌||◌, List, [], ◌∷◌, map, length, take, refl, sym, ◌∙◌, ap, arith, is_some, get_or}
+use Rattle.std.proofs.Common.{◌≡◌, inl, ℕ, zero, suc, ◌+◌, ◌<◌, Bool, true, false, cond, List, [], ◌∷◌, map, length, take, refl, sym, ◌∙◌, ap, arith, is_some, get_or}
 use Rattle.std.specs.Prelude.{Option, Some, None, is_none, slice_get}
 use Rattle.std.specs.List.{IsDistinct, AllByRecursion, list_any}
 use Rattle.std.proofs.lemmas.Bool.{and_parts}
@@ -64,11 +64,7 @@ rising-distinct (a ∷ b ∷ keys) rising =
 
 member-looked : (rows : List Row) (key : Key) → list_any (key_eq key) (map (λ (row : Row). row.0) rows) ≡ is_some (lookup_key rows key)
 member-looked [] key = refl
-member-looked (row ∷ rows) key = ap (λ (b : Bool). b || list_any (key_eq key) (map (λ (row : Row). row.0) rows)) (key_eq-swap key row.0) ∙ by (member-looked rows key) (key_eq row.0 key)
-  where
-    by : list_any (key_eq key) (map (λ (row : Row). row.0) rows) ≡ is_some (lookup_key rows key) → (b : Bool) → (b || list_any (key_eq key) (map (λ (row : Row). row.0) rows)) ≡ is_some (cond b (Some row.1) (lookup_key rows key))
-    by rest true = refl
-    by rest false = rest
+member-looked (row ∷ rows) key = grind (arith, key_eq-swap, member-looked rows key) steps 800000
 
 -- the slot of a key's newest covered version is there exactly where the key has a covered row
 live-row : (o : Origin) (q : State) → Keeps o q → (key : Key) (slot : Option ℕ) → IsSlotOf q (newest_of q key) slot → is_some slot ≡ is_some (after q.history key)

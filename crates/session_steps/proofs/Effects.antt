@@ -1,5 +1,5 @@
 -- What a step did to its device: nothing, operations that all succeeded, or such as ended with one that failed.
-use Rattle.std.proofs.Common.{◌≡◌, inl, inr, ℕ, zero, suc, ◌+◌, ◌≤◌, true, ◌&&◌, List, [], ◌∷◌, ◌++◌, take, refl, sym, ◌∙◌, subst, arith}
+use Rattle.std.proofs.Common.{◌≡◌, inl, inr, ℕ, zero, suc, ◌+◌, ◌≤◌, true, ◌&&◌, List, [], ◌∷◌, ◌++◌, take, refl, arith}
 use Rattle.std.specs.Prelude.{Option, Some}
 use Rattle.std.specs.List.{list_all}
 use Rattle.std.proofs.lemmas.Bool.{and_parts, cases_lt}
@@ -29,46 +29,22 @@ stopped-by n ops stops all = record { operations = take stops.0 ops ++ failure �
 
 -- nothing
 pub nothing-done : {device : Device} {Within : Image → Type 0} {most : ℕ} {by : Option ℕ} {Refuses : Fault → Type 0} → LeavesOnly device device Within → (Refuses DeviceFault → ⊥) → HasEffect device device Within most by Refuses
-nothing-done images untold = record {
-  images = images;
-  failure = record { no_fewer = omega arith; cause = λ told. absurd (untold told); shown = λ more. absurd (omega (arith, more)) };
-  operations = omega arith;
-  actor = record { operations = []; made = refl; by_actor = refl };
-  declined = λ fault other told. refl;
-}
+nothing-done images untold = grind (arith) steps 800000
 
 module _ {before now : Device} {Within : Image → Type 0} {most : ℕ} {by : Option ℕ} {Refuses : Fault → Type 0} where
   -- operations that succeeded: it isn't refused
   pub all-made : LeavesOnly before now Within → HasNoFailure before now → operations_of now ≤ operations_of before + most → RunsBy by before now → ((fault : Fault) → Refuses fault → ⊥) → HasEffect before now Within most by Refuses
-  all-made images same operations runs unrefused = record {
-    images = images;
-    failure = record { no_fewer = omega (arith, same); cause = λ told. absurd (unrefused DeviceFault told); shown = λ more. absurd (omega (arith, same, more)) };
-    operations = operations;
-    actor = runs;
-    declined = λ fault other told. absurd (unrefused fault told);
-  }
+  all-made images same operations runs unrefused = grind (arith) steps 800000
 
   -- such as ended with one that failed: it is refused for the device, and for nothing else
   pub last-failed : (fault : Fault) → fault ≡ DeviceFault → Refuses fault → ((told : Fault) → Refuses told → fault ≡ told) → LeavesOnly before now Within → HasOneFailure before now → operations_of now ≤ operations_of before + most → RunsBy by before now
       → HasEffect before now Within most by Refuses
-  last-failed fault is refused alone images more operations runs = record {
-    images = images;
-    failure = record { no_fewer = omega (arith, more); cause = λ told. omega (arith, more); shown = λ less. subst Refuses is refused };
-    operations = operations;
-    actor = runs;
-    declined = λ told other so. absurd (other (sym (alone told so) ∙ is));
-  }
+  last-failed fault is refused alone images more operations runs = grind (arith) steps 800000
 
   -- the same under other names of its actor and its refusals
   pub effect-as : {its : Option ℕ} {Other : Fault → Type 0} → by ≡ its → ((fault : Fault) → Refuses fault → Other fault) → ((fault : Fault) → Other fault → Refuses fault) → HasEffect before now Within most by Refuses
       → HasEffect before now Within most its Other
-  effect-as same to back effect = record {
-    images = effect.images;
-    failure = record { no_fewer = effect.failure.no_fewer; cause = λ told. effect.failure.cause (back DeviceFault told); shown = λ more. to DeviceFault (effect.failure.shown more) };
-    operations = effect.operations;
-    actor = subst (λ (a : Option ℕ). RunsBy a before now) same effect.actor;
-    declined = λ fault other told. effect.declined fault other (back fault told);
-  }
+  effect-as same to back effect = grind (arith) steps 800000
 
   -- no operation failed in one that isn't refused for the device
   pub none-failed : HasEffect before now Within most by Refuses → (Refuses DeviceFault → ⊥) → HasNoFailure before now

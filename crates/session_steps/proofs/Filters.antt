@@ -1,5 +1,5 @@
 -- The elements of a list that pass a test.
-use Rattle.std.proofs.Common.{◌≡◌, ℕ, zero, suc, ◌<◌, Bool, true, false, ◌&&◌, ◌||◌, not, cond, List, [], ◌∷◌, length, filter, refl, sym, ◌∙◌, ap, arith}
+use Rattle.std.proofs.Common.{◌≡◌, ℕ, zero, suc, ◌<◌, Bool, true, false, ◌&&◌, ◌||◌, not, cond, List, [], ◌∷◌, length, filter, refl, ap, arith}
 use Rattle.std.specs.Prelude.{slice_index_or}
 use Rattle.std.specs.List.{list_any}
 
@@ -21,29 +21,9 @@ filter-at p (x ∷ xs) k d lt = by (p x) refl (filter-at p xs) k lt
 
 pub any-filter : {X : Type 0} (p r : X → Bool) (xs : List X) → list_any (λ x. p x && r x) xs ≡ list_any p (filter r xs)
 any-filter p r [] = refl
-any-filter p r (x ∷ xs) = by (p x) (r x) refl (any-filter p r xs)
-  where
-    by : (a b : Bool) → p x ≡ a → list_any (λ x. p x && r x) xs ≡ list_any p (filter r xs) → ((a && b) || list_any (λ x. p x && r x) xs) ≡ list_any p (cond b (x ∷ filter r xs) (filter r xs))
-    by true true is rest = sym (ap (λ (c : Bool). c || list_any p (filter r xs)) is)
-    by true false is rest = rest
-    by false true is rest = rest ∙ sym (ap (λ (c : Bool). c || list_any p (filter r xs)) is)
-    by false false is rest = rest
+any-filter p r (x ∷ xs) = grind (arith, any-filter p r xs) steps 800000
 
 -- one has it exactly if one of those that pass has it, or one of the others
 pub any-split : {X : Type 0} (p r : X → Bool) (xs : List X) → list_any p xs ≡ (list_any p (filter r xs) || list_any p (filter (λ x. not (r x)) xs))
 any-split p r [] = refl
-any-split p r (x ∷ xs) = by (r x) (any-split p r xs)
-  where
-    first : (c l f g : Bool) → l ≡ (f || g) → (c || l) ≡ ((c || f) || g)
-    first true l f g e = refl
-    first false l f g e = e
-
-    second : (c l f g : Bool) → l ≡ (f || g) → (c || l) ≡ (f || (c || g))
-    second true l true g e = refl
-    second true l false g e = refl
-    second false l f g e = e
-
-    by : (b : Bool) → list_any p xs ≡ (list_any p (filter r xs) || list_any p (filter (λ x. not (r x)) xs))
-        → (p x || list_any p xs) ≡ (list_any p (cond b (x ∷ filter r xs) (filter r xs)) || list_any p (cond (not b) (x ∷ filter (λ x. not (r x)) xs) (filter (λ x. not (r x)) xs)))
-    by true rest = first (p x) (list_any p xs) (list_any p (filter r xs)) (list_any p (filter (λ x. not (r x)) xs)) rest
-    by false rest = second (p x) (list_any p xs) (list_any p (filter r xs)) (list_any p (filter (λ x. not (r x)) xs)) rest
+any-split p r (x ∷ xs) = grind (arith, any-split p r xs) steps 800000

@@ -1,9 +1,9 @@
 -- From what is hidden to the plain states that are shown.
-use Rattle.std.proofs.Common.{◌≡◌, true, false, refl, sym, ◌∙◌, ap, subst}
+use Rattle.std.proofs.Common.{◌≡◌, true, false, refl, sym, ◌∙◌, ap, subst, arith}
 use Rattle.std.specs.Prelude.{Some}
 use Rattle.std.proofs.Math.Logic.{∥∥₁_map}
 use Rattle.base.specs.declared.fault.Fault.{Fault}
-use Rattle.base.specs.declared.fault.Fault.TheVariants.{OutOfMemory, Device as DeviceFault}
+use Rattle.base.specs.declared.fault.Fault.TheVariants.{Device as DeviceFault}
 use Rattle.base.specs.declared.step.Step.{Step}
 use Rattle.base.specs.declared.step.Reply.{Reply}
 use Rattle.base.specs.declared.step.Reply.TheVariants as reply
@@ -56,15 +56,10 @@ quiet-idle q (End n) quiet = refl
 
 -- a step that makes no operation doesn't tell of the device
 never-told : (q q' : State) (s : SessionStep) (r : SessionReply) → is_quiet (as_step s) ≡ true → SessionStepped q s r q' → r ≡ Refused DeviceFault → ⊥
-never-told q q' s r quiet (refused fault is replied same) told =
-    let both : reply.Refused fault ≡ reply.Refused DeviceFault = sym replied ∙ ap as_reply told in
-    let fault-is : fault ≡ DeviceFault = cc both in
-    undevice q (as_step s) (is ∙ ap (λ (f : Fault). Some f) fault-is)
-never-told q q' s r quiet (answered nothing answers same) told = answered-apart q s (as_reply r) answers (ap as_reply told)
-never-told q q' s r quiet (memory_refused nothing takes replied same) told =
-    let both : reply.Refused OutOfMemory ≡ reply.Refused DeviceFault = sym replied ∙ ap as_reply told in
-    absurd (cc both)
-never-told q q' s r quiet (device_failed nothing operates replied same) told = absurd (cc (operates, quiet-idle q s quiet))
+never-told q q' s r quiet (refused fault is replied same) told = grind (arith, undevice) steps 800000
+never-told q q' s r quiet (answered nothing answers same) told = grind (arith, answered-apart) steps 800000
+never-told q q' s r quiet (memory_refused nothing takes replied same) told = grind (arith) steps 800000
+never-told q q' s r quiet (device_failed nothing operates replied same) told = grind (arith, quiet-idle) steps 800000
 
 -- ---- steps
 
@@ -125,11 +120,7 @@ quietly law old new device s r orderly quiet takes = λ h holds. goes-quietly la
 
 -- what holds where a state is shown
 holds-of : (s : Sessions) (device : Device) (q : State) (shown : Shows s device q) → q.failed ≡ false → HoldsOn s shown.hidden device
-holds-of s device q shown works = record {
-  works = sym (ap (λ (p : State). p.failed) shown.plain) ∙ works;
-  upholds = subst (λ (p : State). Upholds shown.hidden.origin p device) shown.plain shown.upholds;
-  agrees = subst (λ (p : State). Agrees s shown.hidden.origin shown.hidden.seen p) shown.plain shown.agrees;
-}
+holds-of s device q shown works = grind (arith) steps 800000
 
 pub shown-held-on : (s : Sessions) (device : Device) → ∥ ShowsSome s device ∥₁ → ∥ HoldsSomeOn s device ∥₁
 shown-held-on s device some = ∥∥₁_map some (λ shown. (shown.1.hidden, holds-of s device shown.0 shown.1 shown.2))

@@ -1,25 +1,14 @@
 -- Lines that are touched one after another.
-use Rattle.std.proofs.Common.{◌≡◌, ℕ, ◌+◌, ◌<◌, Bool, true, false, ◌&&◌, ◌||◌, List, [], ◌∷◌, ◌++◌, length, take, get_or, refl, sym, ◌∙◌, ap, subst, nat_eq}
-use Rattle.std.specs.List.{list_any, flat_map}
+use Rattle.std.proofs.Common.{◌≡◌, ℕ, ◌+◌, ◌<◌, List, [], ◌∷◌, ◌++◌, length, take, get_or, refl, sym, ◌∙◌, ap, subst, arith}
+use Rattle.std.specs.List.{flat_map}
 use Rattle.std.proofs.lemmas.List.{take_more}
 use Rattle.std.proofs.lemmas.List.Folds.{list_any-append}
 use Rattle.std.proofs.lemmas.Grind.{flat_map-append}
 use Rattle.dirty_table.specs.declared.sessions.SessionSet.{SessionSet}
-use Rattle.dirty_table.specs.Touches.{Touches, is_touched}
+use Rattle.dirty_table.specs.Touches.{Touches}
 
 pub touches-then : (n : ℕ) (one two : List ℕ) (old mid new : List SessionSet) → Touches n one old mid → Touches n two mid new → Touches n (one ++ two) old new
-touches-then n one two old mid new first second = record {
-  touched = λ m line.
-      second.touched m line ∙ ap (λ (b : Bool). b || (nat_eq n m && list_any (λ l. nat_eq l line) two)) (first.touched m line)
-      ∙ by (is_touched old m line) (nat_eq n m) (list_any (λ l. nat_eq l line) one) (list_any (λ l. nat_eq l line) two)
-      ∙ ap (λ (b : Bool). is_touched old m line || (nat_eq n m && b)) (sym (list_any-append (λ l. nat_eq l line) one two));
-  size = second.size ∙ first.size;
-}
-  where
-    by : (x s a b : Bool) → ((x || (s && a)) || (s && b)) ≡ (x || (s && (a || b)))
-    by true s a b = refl
-    by false true a b = refl
-    by false false a b = refl
+touches-then n one two old mid new first second = grind (arith, list_any-append) steps 800000
 
 -- the lines of one write more
 pub touches-more : {X : Type 0} (lines : X → List ℕ) (n i : ℕ) (writes : List X) (write : X) (own ended : List ℕ) (before old mid new : List SessionSet) → i < length writes → write ≡ get_or writes i write → lines write ≡ own ++ ended

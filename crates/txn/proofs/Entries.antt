@@ -19,25 +19,11 @@ entry_at-listed slab places n = by (nat_lt n 2)
     by false = get_or-map (found slab) places (n - 2) None
 
 get_or-set_is : {X : Type 0} (xs : List X) (i j : ℕ) (x d : X) → i < length xs → get_or (set xs i x) j d ≡ cond (nat_eq j i) x (get_or xs j d)
-get_or-set_is xs i j x d h = by (nat_eq j i) refl
-  where
-    by : (b : Bool) → nat_eq j i ≡ b → get_or (set xs i x) j d ≡ cond b x (get_or xs j d)
-    by true is = let same : j ≡ i = grind (arith, nat_tests) in get_or-set_at xs i j x d same h
-    by false apart = let ne : j ≢ i = grind (arith, nat_tests) in get_or-set_other xs i j x d ne
+get_or-set_is xs i j x d h = grind (arith, nat_tests, get_or-set_at, get_or-set_other) steps 800000
 
 -- one entry is set
 pub entry_at-set : {T : Type 0} (entries : List (Option T)) (n : ℕ) (x : Option T) → length entries ≡ 62 → 2 ≤ n → n < 64 → (m : ℕ) → entry_at (slice_set entries (n - 2) x) m ≡ replaced n x (entry_at entries) m
-entry_at-set entries n x size lo hi m = by (nat_lt m 2) (nat_eq m n) (nat_eq (m - 2) (n - 2)) refl refl refl (get_or-set_is entries (n - 2) (m - 2) x None (omega arith))
-  where
-    by : (low same there : Bool) → nat_lt m 2 ≡ low → nat_eq m n ≡ same → nat_eq (m - 2) (n - 2) ≡ there
-        → get_or (set entries (n - 2) x) (m - 2) None ≡ cond there x (get_or entries (m - 2) None)
-        → cond low None (get_or (set entries (n - 2) x) (m - 2) None) ≡ cond same x (cond low None (get_or entries (m - 2) None))
-    by true true there below is at e = absurd (grind (arith, nat_tests))
-    by true false there below is at e = refl
-    by false true true below is at e = e
-    by false true false below is at e = absurd (grind (arith, nat_tests))
-    by false false true below is at e = absurd (grind (arith, nat_tests))
-    by false false false below is at e = e
+entry_at-set entries n x size lo hi m = grind (arith, nat_tests, get_or-set_is) steps 800000
 
 -- what the table and the slab keep when they change at one number
 pub record Changed {T : Type 0} (slab slab' : Slab T) (places places' : List (Option ℕ)) (n : ℕ) (x : Option T) : Type 0 where
@@ -118,15 +104,7 @@ changed {T} slab slab' places places' n key p x table updates is size new apart 
 
 -- a number with a place is one that sessions have
 pub number-of : {T : Type 0} (entries : List (Option T)) (n : ℕ) (x : T) → length entries ≡ 62 → entry_at entries n ≡ Some x → (2 ≤ n) × (n < 64)
-number-of entries n x size at = by (nat_lt n 2) refl at
-  where
-    by : (b : Bool) → nat_lt n 2 ≡ b → cond b None (get_or entries (n - 2) None) ≡ Some x → (2 ≤ n) × (n < 64)
-    by true low at = absurd (cc at)
-    by false high at = (grind (arith, nat_tests), within (nat_lt n 64) refl at)
-      where
-        within : (b : Bool) → nat_lt n 64 ≡ b → get_or entries (n - 2) None ≡ Some x → n < 64
-        within true lt at = grind (arith, nat_tests)
-        within false ge at = absurd (cc (at, get_or_past entries (n - 2) None (grind (arith, nat_tests))))
+number-of entries n x size at = grind (arith, nat_tests, get_or_past) steps 800000
 
 blank-at : {T : Type 0} (xs : List (Option T)) (i : ℕ) → list_all is_none xs ≡ true → get_or xs i None ≡ None
 blank-at [] i h = refl
@@ -136,11 +114,7 @@ blank-at (Some x ∷ xs) i h = absurd (cc h)
 
 -- a table of places without a value
 pub blank-entry : {T : Type 0} (xs : List (Option T)) (n : ℕ) → list_all is_none xs ≡ true → entry_at xs n ≡ None
-blank-entry xs n h = by (nat_lt n 2)
-  where
-    by : (b : Bool) → cond b None (get_or xs (n - 2) None) ≡ None
-    by true = refl
-    by false = blank-at xs (n - 2) h
+blank-entry xs n h = grind (arith, blank-at) steps 800000
 
 -- ---- what the calls of a table do to it
 
@@ -242,8 +216,4 @@ taken-put_in slab places n key size lo hi before k low lt = ap (λ (o : Option �
 
 -- once one is free
 pub taken-taken_out : (places : List (Option ℕ)) (n first lower : ℕ) → length places ≡ 62 → 2 ≤ n → n < 64 → AreTaken first places → lower ≤ first → lower ≤ n → AreTaken lower (slice_set places (n - 2) None)
-taken-taken_out places n first lower size lo hi taken le below k low lt = ap (λ (o : Option ℕ). is_none o) (entry_at-set places n None size lo hi k) ∙ by (nat_eq k n) refl
-  where
-    by : (b : Bool) → nat_eq k n ≡ b → is_none (cond b None (entry_at places k)) ≡ false
-    by true is = absurd (let same : k ≡ n = grind (arith, nat_tests) in omega (arith, same, below, lt))
-    by false is = taken k low (omega (arith, lt, le))
+taken-taken_out places n first lower size lo hi taken le below k low lt = grind (arith, nat_tests, entry_at-set) steps 800000

@@ -1,5 +1,5 @@
 -- Drawn commits in the order of their timestamps.
-use Rattle.std.proofs.Common.{◌≡◌, ◌≢◌, ℕ, zero, suc, ◌+◌, ◌-◌, ◌<◌, ◌≤◌, Bool, true, false, cond, ◌&&◌, not, nat_eq, nat_le, nat_lt, List, [], ◌∷◌, ◌++◌, map, filter, length, set, get_or, Option, Some, None, refl, sym, ◌∙◌, ap, subst, arith}
+use Rattle.std.proofs.Common.{◌≡◌, ◌≢◌, ℕ, zero, suc, ◌+◌, ◌-◌, ◌<◌, ◌≤◌, Bool, true, false, cond, ◌&&◌, nat_eq, nat_le, nat_lt, List, [], ◌∷◌, ◌++◌, map, filter, length, set, get_or, Option, Some, None, refl, sym, ◌∙◌, ap, subst, arith}
 use Rattle.std.specs.List.{list_all, slice_get}
 use Rattle.std.specs.List.Sorted.{IsNonDecreasingBy, IsPartitionPoint}
 use Rattle.std.proofs.lemmas.Bool.{and_parts, and_from, ltb-true, lt-ltb, eq-eqb, ne_eqb}
@@ -58,11 +58,7 @@ order-filtered p (d ∷ ds) o = by (p d) (order-filtered p ds (rest d ds o))
     by false o' = o'
 
 same_timestamp : (t : ℕ) (d : DrawnCommit) → (with_stamp t d).timestamp ≡ d.timestamp
-same_timestamp t d = by (nat_eq d.timestamp t && nat_lt d.stamped (length d.writes))
-  where
-    by : (b : Bool) → (let e : DrawnCommit = cond b (record d { stamped = d.stamped + 1 }) d in e.timestamp) ≡ d.timestamp
-    by true = refl
-    by false = refl
+same_timestamp t d = grind (arith) steps 800000
 
 same_timestamps : (t : ℕ) (ds : List DrawnCommit) → map (λ (d : DrawnCommit). d.timestamp) (map (with_stamp t) ds) ≡ map (λ (d : DrawnCommit). d.timestamp) ds
 same_timestamps t [] = refl
@@ -74,11 +70,7 @@ order-stamped t ds o = ap (λ (ts : List ℕ). are_rising ts) (same_timestamps t
 -- ---- a commit is at its place
 
 at_step : (t : ℕ) (d : DrawnCommit) (ds : List DrawnCommit) → place_of t (d ∷ ds) ≡ cond (nat_le t d.timestamp) 0 (suc (place_of t ds))
-at_step t d ds = by (nat_le t d.timestamp)
-  where
-    by : (b : Bool) → cond (not b) (1 + place_of t ds) 0 ≡ cond b 0 (suc (place_of t ds))
-    by true = refl
-    by false = omega arith
+at_step t d ds = grind (arith) steps 800000
 
 none_later : (t : ℕ) (ds : List DrawnCommit) → are_later t ds ≡ true → drawn_at t ds ≡ None
 none_later t [] all = refl
@@ -148,13 +140,7 @@ stamped-at t (e ∷ ds) d o lt =
 
 pub stamped-nowhere : (t : ℕ) (ds : List DrawnCommit) → length ds ≤ place_of t ds → map (with_stamp t) ds ≡ ds
 stamped-nowhere t [] le = refl
-stamped-nowhere t (e ∷ ds) le = by (nat_le t e.timestamp) refl (stamped-nowhere t ds) (subst (λ (n : ℕ). length (e ∷ ds) ≤ n) (at_step t e ds) le)
-  where
-    by : (b : Bool) → nat_le t e.timestamp ≡ b → (length ds ≤ place_of t ds → map (with_stamp t) ds ≡ ds) → length (e ∷ ds) ≤ cond b 0 (suc (place_of t ds)) → map (with_stamp t) (e ∷ ds) ≡ e ∷ ds
-    by true is further le = absurd (omega (arith, le))
-    by false is further le =
-        let other : nat_eq e.timestamp t ≡ false = grind (arith, nat_tests) in
-        λ i. unstamped t e other i ∷ further (omega (arith, le)) i
+stamped-nowhere t (e ∷ ds) le = grind (arith, nat_tests, at_step, unstamped, stamped-nowhere t ds) steps 800000
 
 -- ---- where a search ends
 
@@ -170,11 +156,7 @@ apart_pair (e ∷ ds) o zero (suc j) d below lt = later_at e.timestamp ds (later
 apart_pair (e ∷ ds) o (suc i) (suc j) d below lt = apart_pair ds (rest e ds o) i j d (omega (arith, below)) (omega (arith, lt))
 
 pub rising : (ds : List DrawnCommit) → are_in_order ds ≡ true → IsNonDecreasingBy (λ (d : DrawnCommit). d.timestamp) ds
-rising ds o i j d le lt = by (nat_eq i j) refl
-  where
-    by : (b : Bool) → nat_eq i j ≡ b → (get_or ds i d).timestamp ≤ (get_or ds j d).timestamp
-    by true is = let same : i ≡ j = grind (arith, nat_tests) in subst (λ (n : ℕ). (get_or ds i d).timestamp ≤ (get_or ds n d).timestamp) same (omega arith)
-    by false is = let below : i < j = grind (arith, nat_tests) in let less = apart_pair ds o i j d below lt in omega (arith, less)
+rising ds o i j d le lt = grind (arith, nat_tests, apart_pair) steps 800000
 
 -- where a search by halving ends
 pub halved : (t : ℕ) (ds : List DrawnCommit) (at : ℕ) (none : DrawnCommit) → at ≤ length ds → IsPartitionPoint (λ (d : DrawnCommit). nat_lt d.timestamp t ≡ true) (λ (d : DrawnCommit). nat_lt d.timestamp t ≡ false) ds at → at ≡ place_of t ds

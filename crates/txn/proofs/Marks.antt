@@ -2,9 +2,9 @@
 use Rattle.std.proofs.Common.{◌≡◌, ℕ, Bool, true, false, cond, ◌||◌, ◌&&◌, not, nat_eq, List, Option, refl, sym, ◌∙◌, ap}
 use Rattle.std.proofs.lemmas.Bool.{eqb-true}
 use Rattle.dirty_table.specs.declared.sessions.SessionSet.{SessionSet}
-use Rattle.dirty_table.specs.Touches.{has, IsNextIn}
+use Rattle.dirty_table.specs.Touches.{has}
 use Rattle.txn.specs.declared.transaction.Transaction.{Transaction}
-use Rattle.txn.specs.Transactions.{transaction_at, is_active, Sets, AreMarked, IsNextActive}
+use Rattle.txn.specs.Transactions.{transaction_at, is_active, Sets, AreMarked}
 
 -- one transaction is set, and its number noted or not
 pub marked : (old new : SessionSet) (was now : List (Option Transaction)) (n : ℕ) (x : Option Transaction) → AreMarked old was → Sets was now n x
@@ -42,12 +42,3 @@ kept numbers was now n x active before marks sets = marked numbers numbers was n
     by : (m : ℕ) (b : Bool) → nat_eq m n ≡ b → has numbers m ≡ cond b (is_active x) (has numbers m)
     by m true same = ap (has numbers) (eqb-true m n same) ∙ marks n ∙ before ∙ sym active
     by m false apart = refl
-
--- the next of the set is the next that is Active
-pub next-is : (numbers : SessionSet) (entries : List (Option Transaction)) (from n : ℕ) → AreMarked numbers entries → IsNextIn numbers from n → IsNextActive entries from n
-next-is numbers entries from n marks next = record {
-  above = next.above;
-  last = next.within;
-  here = sym (marks n) ∙ next.here;
-  before = λ k le lt. sym (marks k) ∙ next.before k le lt;
-}

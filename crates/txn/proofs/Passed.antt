@@ -7,11 +7,7 @@ use Rattle.txn.specs.DrawnCommits.{plain_drawn}
 
 pub filter-map : {X Y : Type 0} (f : X → Y) (p : Y → Bool) (xs : List X) → filter p (map f xs) ≡ map f (filter (λ x. p (f x)) xs)
 filter-map f p [] = refl
-filter-map f p (x ∷ xs) = by (p (f x)) (filter-map f p xs)
-  where
-    by : (b : Bool) → filter p (map f xs) ≡ map f (filter (λ x. p (f x)) xs) → cond b (f x ∷ filter p (map f xs)) (filter p (map f xs)) ≡ map f (cond b (x ∷ filter (λ x. p (f x)) xs) (filter (λ x. p (f x)) xs))
-    by true rest = ap (λ ys. f x ∷ ys) rest
-    by false rest = rest
+filter-map f p (x ∷ xs) = grind (arith, filter-map f p xs) steps 800000
 
 -- how many commits a record passes over
 pub length-passed : (reach : ℕ) (ds : List DrawnCommit) → length (passed_over reach (map plain_drawn ds)) ≡ length (filter (λ (d : DrawnCommit). is_passed reach (plain_drawn d)) ds)
@@ -33,12 +29,8 @@ fewer-before p (y ∷ ys) (suc i) x within at passes = by (p y) (fewer-before p 
 
 -- no more elements pass a test than there are
 pub few-filtered : {X : Type 0} (p : X → Bool) (xs : List X) → length (filter p xs) ≤ length xs
-few-filtered p [] = omega arith
-few-filtered p (x ∷ xs) = by (p x) (few-filtered p xs)
-  where
-    by : (b : Bool) → length (filter p xs) ≤ length xs → length (cond b (x ∷ filter p xs) (filter p xs)) ≤ length (x ∷ xs)
-    by true le = omega (arith, le)
-    by false le = omega (arith, le)
+few-filtered p [] = grind (arith) steps 800000
+few-filtered p (x ∷ xs) = grind (arith, few-filtered p xs) steps 800000
 
 -- nor does a record pass over more commits
 pub few-passed : (reach : ℕ) (ds : List DrawnCommit) → length (passed_over reach (map plain_drawn ds)) ≤ length ds

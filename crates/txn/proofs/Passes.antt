@@ -64,8 +64,4 @@ walk most all r n (d ∷ ds) o left =
     by false l on left = on r (n + 1) left
 
 pub walk-reaches : (most persisted : ℕ) (ds : List DrawnCommit) → are_in_order ds ≡ true → reach most persisted (map plain_drawn ds) ≡ (walk_over most persisted ds).reached
-walk-reaches most persisted ds o = walk most ds persisted 0 ds o (all-left ds)
-  where
-    all-left : (ds : List DrawnCommit) → IsLeft ds 0 ds
-    all-left [] = tt
-    all-left (d ∷ ds) = λ t le. refl
+walk-reaches most persisted ds o = grind (arith, walk) steps 800000

@@ -7,22 +7,13 @@ use Rattle.std.proofs.lemmas.List.{get_or-drop, get_or-take, get_or_past, get_or
 use Rattle.std.proofs.lemmas.List.FromFn.{get_or-map-range_with_len, length-map-range_with_len}
 use Rattle.std.proofs.lemmas.Nat.{le_bytes_8, mod_below, from_le_bytes-to_le_bytes_8}
 use Rattle.base.specs.Layout.{Layout, slot_words, row_limit}
-use Rattle.base.proofs.Layouts.{line-words, two-lines, row-fills}
+use Rattle.base.proofs.Layouts.{two-lines, row-fills}
 use Rattle.version_slot.specs.declared.words.Version.{Version}
 use Rattle.version_slot.specs.Words.{link_number, row_word, slot_byte, version_word, IsVersion}
 
 -- eight bytes make the number
 pub same_word : (xs ys : List ℕ) → ((i : ℕ) → i < 8 → get_or xs i 0 ≡ get_or ys i 0) → from_le_bytes w64 xs ≡ from_le_bytes w64 ys
-same_word xs ys same =
-    let e0 = same 0 (lit< tt) in
-    let e1 = same 1 (lit< tt) in
-    let e2 = same 2 (lit< tt) in
-    let e3 = same 3 (lit< tt) in
-    let e4 = same 4 (lit< tt) in
-    let e5 = same 5 (lit< tt) in
-    let e6 = same 6 (lit< tt) in
-    let e7 = same 7 (lit< tt) in
-    cc
+same_word xs ys same = grind (arith) steps 800000
 
 -- what eight bytes make gives them back
 bytes_back : (n : ℕ) (f : ℕ → ℕ) → ((i : ℕ) → f i < 256) → n ≡ from_le_bytes w64 (map f (range_with_len 0 8)) → (i : ℕ) → i < 8 → get_or (to_le_bytes w64 n) i 0 ≡ f i
@@ -83,12 +74,6 @@ module _ (layout : Layout) (words : ℕ → ℕ) (bytes : List ℕ) (n : ℕ) (s
   fills : row_limit layout.version ≡ 8 * (slot_words layout.version - 4)
   fills = row-fills layout.version
 
-  -- what a version leaves after its row is 0
-  pub zero_after : (v : Version) → IsVersion layout words v → n ≡ length v.row → (i : ℕ) → i < length (drop n bytes) → get_or (drop n bytes) i 0 ≡ 0
-  zero_after v is n_is i lt =
-      let within : n + i < row_limit layout.version = omega (arith, length-drop {A = ℕ}, lt, size) in
-      get_or-drop n bytes i 0 ∙ read (n + i) within ∙ byte_is layout words v is (line-words layout.version) (n + i) (omega (arith, within, fills)) ∙ get_or_past v.row (n + i) 0 (omega arith)
-
   module _ (v : Version) (fit : (w : ℕ) → words w < 2 ^ 64) (small : (i : ℕ) → get_or bytes i 0 < 2 ^ 8)
       (n_is : n ≡ words 3 / 2 ^ 16 % 2 ^ 16) (short : n ≤ row_limit layout.version) (zeros : (i : ℕ) → i < length (drop n bytes) → get_or (drop n bytes) i 0 ≡ 0)
       (key : v.key.key ≡ words 2) (table : v.key.table ≡ words 3 % 2 ^ 16) (row : v.row ≡ take n bytes) (link : link_number v.previous ≡ words 3 / 2 ^ 32) (linked : words 3 / 2 ^ 32 ≤ layout.slots) where
@@ -132,15 +117,7 @@ module _ (layout : Layout) (words : ℕ → ℕ) (bytes : List ℕ) (n : ℕ) (s
     ]
 
     pub holds : IsVersion layout words v
-    holds = record {
-      each = each;
-      fits = record {
-        table = omega (arith, table);
-        row = omega (arith, row_size, short);
-        bytes = row_small;
-        previous = omega (arith, link, linked);
-      };
-    }
+    holds = grind (arith, each, row_size, row_small) steps 800000
 
 -- ---- bytes are small
 

@@ -1,5 +1,5 @@
 -- What the words of a slot hold, in the words of the definition of a sound image.
-use Rattle.std.proofs.Common.{◌≡◌, ℕ, zero, suc, ◌+◌, ◌-◌, ◌*◌, ◌/◌, ◌%◌, ◌^◌, ◌<◌, ◌≤◌, Bool, true, false, cond, eqb, ◌&&◌, ◌||◌, not, nat_eq, nat_lt, Option, Some, None, List, [], ◌∷◌, length, get_or, take, drop, refl, sym, ◌∙◌, ap, arith}
+use Rattle.std.proofs.Common.{◌≡◌, ℕ, zero, suc, ◌+◌, ◌-◌, ◌*◌, ◌/◌, ◌%◌, ◌^◌, ◌<◌, ◌≤◌, true, false, ◌&&◌, ◌||◌, not, nat_eq, nat_lt, Option, Some, None, List, [], ◌∷◌, length, get_or, take, drop, refl, sym, ◌∙◌, ap, arith}
 use Rattle.std.proofs.Math.Nat.{mul-le-mul_left}
 use Rattle.std.specs.Int.{to_le_bytes, w64}
 use Rattle.std.specs.List.{list_all, flat_map, slice_range}
@@ -31,12 +31,7 @@ module _ (image : Image) (slot : ℕ) (within : slot < (layout_of image).slots) 
 
   range_word : (k : ℕ) → k < slot_words (layout_of image).version - 4
       → get_or (slice_range image (slot_start (layout_of image) slot + 4) (slot_start (layout_of image) (slot + 1))) k 0 ≡ slot_word image slot (4 + k)
-  range_word k lt =
-      let from = slot_start (layout_of image) slot + 4 in
-      let to = slot_start (layout_of image) (slot + 1) in
-      let count : k < to - from = omega arith in
-      let place : from + k ≡ slot_start (layout_of image) slot + (4 + k) = omega arith in
-      get_or-take (to - from) (drop from image) k 0 count ∙ get_or-drop from image k 0 ∙ ap (λ (i : ℕ). get_or image i 0) place
+  range_word k lt = grind (arith, get_or-take, get_or-drop) steps 800000
 
   range_length : length (slice_range image (slot_start (layout_of image) slot + 4) (slot_start (layout_of image) (slot + 1))) ≡ slot_words (layout_of image).version - 4
   range_length =
@@ -54,11 +49,7 @@ module _ (image : Image) (slot : ℕ) (within : slot < (layout_of image).slots) 
 -- ---- the words of a version
 
 limits_of : (version : ℕ) → (row_limit version ≤ 96) × (row_limit version ≤ 8 * (slot_words version - 4))
-limits_of version = by_test (eqb version 3)
-  where
-    by_test : (b : Bool) → (cond b 96 32 ≤ 96) × (cond b 96 32 ≤ 8 * (cond b 16 8 - 4))
-    by_test true = (omega arith, omega arith)
-    by_test false = (omega arith, omega arith)
+limits_of version = grind (arith) steps 800000
 
 all_zero : (xs : List ℕ) → ((i : ℕ) → i < length xs → get_or xs i 0 ≡ 0) → list_all (nat_eq 0) xs ≡ true
 all_zero [] each = refl
@@ -133,11 +124,7 @@ module _ (image : Image) (slot : ℕ) (within : slot < (layout_of image).slots) 
     (fit : (w : ℕ) → get_or image w 0 < 2 ^ 64) (well : is_misfit image slot ≡ false) where
   parts : (is_misfit image slot ≡ false) × (nat_lt (row_limit (layout_of image).version) (len_of image slot) ≡ false) × (not (nat_eq (slot_word image slot 3 / 2 ^ 24 % 2 ^ 8) 0) ≡ false)
       × (not (list_all (nat_eq 0) (drop (len_of image slot) (bytes_of image slot))) ≡ false) × (nat_lt (layout_of image).slots (link_of image slot) ≡ false)
-  parts =
-      let linked = or_parts _ _ well in
-      let padding = or_parts _ _ linked.0 in
-      let unused = or_parts _ _ padding.0 in
-      (well, unused.0, unused.1, padding.1, linked.1)
+  parts = grind (arith, or_parts) steps 800000
 
   pub holds_version : IsVersion (layout_of image) (slot_word image slot) (version_of image slot)
   holds_version =

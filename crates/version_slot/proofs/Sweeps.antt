@@ -1,5 +1,5 @@
 -- The operations of a sweep, from those of its parts.
-use Rattle.std.proofs.Common.{◌≡◌, ◌≢◌, ℕ, ◌+◌, ◌/◌, Bool, true, false, cond, List, [], ◌∷◌, ◌++◌, sym, ◌∙◌, ap, subst, arith}
+use Rattle.std.proofs.Common.{◌≡◌, ◌≢◌, ℕ, ◌+◌, ◌/◌, Bool, true, cond, List, [], ◌∷◌, ◌++◌, sym, ◌∙◌, ap, subst, arith}
 use Rattle.base.specs.declared.gap.Gap.{Gap}
 use Rattle.base.specs.Layout.{Layout, slot_start}
 use Rattle.base.specs.Records.{is_in}
@@ -16,11 +16,7 @@ zero-stops gaps word value old new gap orderly orderly' is =
 
 -- the other words keep their values
 zero-others : (gaps : List Gap) (word value other : ℕ) (old new : Device) → other ≢ word → Runs (zero_operations gaps word value) old new → value_of new other ≡ value_of old other
-zero-others gaps word value other old new apart run = by (is_in gaps value) run
-  where
-    by : (b : Bool) → Runs (cond b (store_op word 0 ∷ []) []) old new → value_of new other ≡ value_of old other
-    by true r = ap (λ (d : Device). value_of d other) r.made ∙ value-stored_other word 0 old other apart
-    by false r = ap (λ (d : Device). value_of d other) r.made
+zero-others gaps word value other old new apart run = grind (arith, value-stored_other) steps 800000
 
 pub stops-begin : (a : Layout) (actor : ℕ) (gaps : List Gap) (slot start : ℕ) (old new : Device) → start ≡ slot_start a slot → StopsWithin (zero_operations gaps start (value_of old start)) old new → StopsWithin (sweep_operations a actor gaps (value_of old) slot) old new
 stops-begin a actor gaps slot start old new at stop =

@@ -39,20 +39,11 @@ pub record IsBegun (old now : Device) (layout : Layout) : Type 0 where
 
 module _ (old now : Device) (layout : Layout) (keeps : Keeps old now (OldOr old (IsStore 0 0))) (some : 0 < old.words) where
   by_word : (image : List ℕ) → length image ≡ old.words → ((word : ℕ) → word < old.words → OldOr old (IsStore 0 0) word (get_or image word 0)) → OldOr old (IsStore 0 0) 0 (get_or image 0 0) → IsFormatting old layout image
-  by_word image size within (inl s) = inl (record { size = size; each = λ word lt. each word (within word lt) })
-    where
-      each : (word : ℕ) → OldOr old (IsStore 0 0) word (get_or image word 0) → Survives old word (get_or image word 0)
-      each word (inl t) = t
-      each word (inr e) = subst (λ (k : ℕ). Survives old k (get_or image k 0)) (sym e.0) s
-  by_word image size within (inr e) = inr (inl (unformatted image e.1))
+  by_word image size within (inl s) = grind (arith) steps 800000
+  by_word image size within (inr e) = grind (arith, unformatted) steps 800000
 
   pub first-images : LeavesOnly old now (IsFormatting old layout)
-  first-images = record {
-    continues = keeps.images.continues;
-    each = λ image might.
-        let within = keeps.images.each image might in
-        by_word image (might.left.size ∙ keeps.images.continues.same_words) within (within 0 some);
-  }
+  first-images = grind (arith, by_word) steps 800000
 
 pub begun-on : (spared : ℕ → Type 0) (old mid new : Device) (layout : Layout) → IsBegun old mid layout → Spares spared mid new → spared 0 → 0 < mid.words → IsBegun old new layout
 begun-on spared old mid new layout u spares here some =

@@ -76,11 +76,7 @@ module _ (layout : Layout) (r : Record) (image : Image) (rules : IsRuledBy layou
   under = (rules.laid_out, rules.by_record)
 
   pub window-small : layout.window ≤ 1024
-  window-small =
-      let a = and_parts (is_known_version layout.version) _ layout-good in
-      let b = and_parts (is_between 1 65536 layout.slots) _ a.1 in
-      let c = and_parts (is_between 2 64 layout.places) _ b.1 in
-      leb-true layout.window 1024 (and_parts (nat_le 4 layout.window) _ c.1).1
+  window-small = grind (arith, and_parts, layout-good, leb-true) steps 800000
 
   pub refuses-slots : (fault : Fault) → IsSlotsFault layout image fault → Refuses image fault
   unfolding Refuses IsSlotsFault bad_below
@@ -98,13 +94,7 @@ module _ (layout : Layout) (r : Record) (image : Image) (rules : IsRuledBy layou
   pub examined : bad_below image layout.slots ≡ None → (nat_le (2 ^ 62) (r.dirty + 2 * layout.window) || nat_le (2 ^ 62) (r.gate + 1)) ≡ false
       → (gaps : Option (List Gap)) → gaps ≡ few_gaps r → (free : List Bool) → free ≡ free_below image layout.slots → (live : List LiveSlot) → live ≡ live_below image layout.slots → Examined image layout r gaps free live
   unfolding Examined
-  examined none near gaps gaps-are free free-are live live-are = record {
-    opens = no-fault layout r image rules (undamaged none) near;
-    rules = rules;
-    gaps_are = gaps-are;
-    free_are = free-are;
-    live_are = live-are;
-  }
+  examined none near gaps gaps-are free free-are live live-are = grind (arith, no-fault, undamaged) steps 800000
 
   pub refuses-memory : Refuses image OutOfMemory
   unfolding Refuses

@@ -1,5 +1,5 @@
 -- When an image opens.
-use Rattle.std.proofs.Common.{◌≡◌, ℕ, ◌+◌, ◌*◌, ◌^◌, true, false, not, ◌||◌, sym, ◌∙◌, ap, subst, nat_le}
+use Rattle.std.proofs.Common.{◌≡◌, ℕ, ◌+◌, ◌*◌, ◌^◌, true, false, not, ◌||◌, sym, ◌∙◌, ap, subst, nat_le, arith}
 use Rattle.std.specs.Prelude.{Option, Some, None}
 use Rattle.std.specs.Option.{option_or, option_map}
 use Rattle.base.specs.declared.fault.Fault.{Fault}
@@ -41,26 +41,10 @@ module _ (layout : Layout) (r : Record) (image : Image) (rules : IsRuledBy layou
   gates-none = subst (λ (n : ℕ). first_below n (is_wrong_gate image) ≡ None) (sym (ap (λ (l : Layout). l.places) rules.laid_out)) rules.gates
 
   pub fault-slots : (fault : Fault) → option_map (λ slot. Damaged (layout.places + slot)) (first_below layout.slots (is_bad_slot (ruling image) image)) ≡ Some fault → opening_fault image ≡ Some fault
-  fault-slots fault is =
-      let here : option_map (λ slot. Damaged ((layout_of image).places + slot)) (first_below (layout_of image).slots (is_bad_slot (ruling image) image)) ≡ Some fault =
-      ap (λ (l : Layout). option_map (λ slot. Damaged (l.places + slot)) (first_below l.slots (is_bad_slot (ruling image) image))) rules.laid_out ∙ is in
-      λ i. option_or (option_or (some_if (not (rules.formatted i)) NotFormatted)
-      (option_or (some_if (not (known-good image rules.geometry i)) (Version (layout_of image).version))
-      (option_or (some_if (not (rules.geometry i)) BadGeometry)
-      (option_or (option_map Damaged (gates-none i))
-      (option_or (some_if (not (rules.well_ruled i)) (Damaged (ruling_place image)))
-      (option_or (here i) None))))))
-      (option_or (some_if (is_near_limit image) TimestampsOut) None)
+  fault-slots fault is = grind (arith, known-good, gates-none) steps 800000
 
   pub no-damage : first_below layout.slots (is_bad_slot (ruling image) image) ≡ None → damage image ≡ None
-  no-damage none = sound-faultless image (record {
-    formatted = rules.formatted;
-    known = known-good image rules.geometry;
-    geometry = rules.geometry;
-    gates = gates-none;
-    well_ruled = rules.well_ruled;
-    slots = subst (λ (l : Layout). first_below l.slots (is_bad_slot (ruling image) image) ≡ None) (sym rules.laid_out) none;
-  })
+  no-damage none = grind (arith, sound-faultless, known-good, gates-none) steps 800000
 
   near-is : is_near_limit image ≡ (nat_le (2 ^ 62) (r.dirty + 2 * layout.window) || nat_le (2 ^ 62) (r.gate + 1))
   near-is = λ i. nat_le (2 ^ 62) ((rules.by_record i).dirty + 2 * (rules.laid_out i).window) || nat_le (2 ^ 62) ((rules.by_record i).gate + 1)

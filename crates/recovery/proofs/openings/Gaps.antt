@@ -293,19 +293,7 @@ module _ (r : Record) (may : MayRule r) where
       long-full up under full = too-many gaps last (point here) added.has (omega arith) up (no-other under) here-lies full
 
       pub long-passed : (last < here → here < below → ⊥) → Added r above below gaps last (k + 1)
-      long-passed not_between = record {
-        has = added.has;
-        low = added.low;
-        high = added.high;
-        done = λ j lt down. elim (cases_lt j k) [
-          | inl before ↦ added.done j before down
-          | inr from ↦ (let is : j ≡ k = omega (arith, from, lt) in by (ap (λ (i : ℕ). get_or r.longs i 0) is ∙ sym at) down (cases_lt last here))
-        ];
-      }
-        where
-          by : {x : ℕ} → x ≡ here → x < below → (last < here) ⊎ (here ≤ last) → x ≤ last
-          by is down (inl up) = absurd (not_between up (omega (arith, is, down)))
-          by is down (inr low) = omega (arith, is, low)
+      long-passed not_between = grind (arith, cases_lt, up) steps 800000
 
   -- ---- the record's own gaps
 
@@ -313,11 +301,7 @@ module _ (r : Record) (may : MayRule r) where
   own-tidy = tidy-list r.gaps own-list
 
   own-under : (i : ℕ) → i < length r.gaps → (1 ≤ (get_or r.gaps i no_gap).first) × ((get_or r.gaps i no_gap).first ≤ (get_or r.gaps i no_gap).last) × ((get_or r.gaps i no_gap).last ≤ r.persisted)
-  own-under i h =
-      let gap = get_or r.gaps i no_gap in
-      let each = and_parts _ _ (all-at (λ (g : Gap). nat_le 1 g.first && nat_le g.first g.last && nat_le g.last r.persisted) r.gaps i (well_formed-parts may.0 r may.1).each h) in
-      let firsts = and_parts (nat_le 1 gap.first) (nat_le gap.first gap.last) each.0 in
-      (leb-true 1 gap.first firsts.0, leb-true gap.first gap.last firsts.1, leb-true gap.last r.persisted each.1)
+  own-under i h = grind (arith, and_parts, all-at, well_formed-parts, leb-true) steps 800000
 
   long-under : (t : ℕ) → list_any (nat_eq t) r.longs ≡ true → (1 ≤ t) × (t ≤ r.persisted)
   long-under t is = by r.longs (well_formed-parts may.0 r may.1).within is

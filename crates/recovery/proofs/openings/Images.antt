@@ -1,15 +1,13 @@
 -- What an image stands for under the record that an opening writes.
-use Rattle.std.proofs.Common.{◌≡◌, ◌⊎◌, inl, inr, ℕ, ◌+◌, ◌<◌, ◌≤◌, true, false, not, List, [], ◌∷◌, get_or, refl, sym, ◌∙◌, ap, subst, arith}
+use Rattle.std.proofs.Common.{◌≡◌, ◌⊎◌, inl, inr, ℕ, ◌+◌, ◌<◌, ◌≤◌, true, false, List, [], ◌∷◌, get_or, refl, sym, ◌∙◌, ap, subst, arith}
 use Rattle.std.specs.Prelude.{None, ◌↔◌}
-use Rattle.std.specs.Option.{option_or, option_map}
 use Rattle.std.specs.List.{list_all}
 use Rattle.std.proofs.lemmas.Bool.{and_parts, and_from, leb-true}
-use Rattle.base.specs.declared.fault.Fault.TheVariants.{BadGeometry, NotFormatted, Damaged, Version}
-use Rattle.base.specs.Search.{first_below, some_if}
+use Rattle.base.specs.Search.{first_below}
 use Rattle.base.specs.Commits.{Commit}
 use Rattle.base.specs.Layout.{Layout, slot_start, slot_words, is_known_version}
 use Rattle.base.specs.Records.{Record, is_committed, opened_gaps}
-use Rattle.base.specs.Images.{Image, IsSound, layout_of, is_formatted, has_good_geometry, is_wrong_gate, is_ruled, ruling, ruling_place, slot_word, is_bad_slot, ShownUnder, IsRuledBy}
+use Rattle.base.specs.Images.{Image, IsSound, layout_of, is_formatted, has_good_geometry, is_wrong_gate, is_ruled, ruling, slot_word, is_bad_slot, ShownUnder, IsRuledBy}
 use Rattle.base.proofs.Histories.{no_bad_slot}
 use Rattle.base.proofs.Alike.{HasRowsOf, CountsAlike, good-same, tables-same}
 use Rattle.machine.proofs.openings.Records.{still-committed}
@@ -31,13 +29,7 @@ pub record IsFaultless (image : Image) : Type 0 where
   pub slots : first_below (layout_of image).slots (is_bad_slot (ruling image) image) ≡ None
 
 pub sound-faultless : (image : Image) → IsFaultless image → IsSound image
-sound-faultless image is =
-    λ i. option_or (some_if (not (is.formatted i)) NotFormatted)
-    (option_or (some_if (not (is.known i)) (Version (layout_of image).version))
-    (option_or (some_if (not (is.geometry i)) BadGeometry)
-    (option_or (option_map Damaged (is.gates i))
-    (option_or (some_if (not (is.well_ruled i)) (Damaged (ruling_place image)))
-    (option_or (option_map (λ slot. Damaged ((layout_of image).places + slot)) (is.slots i)) None)))))
+sound-faultless image is = grind (arith) steps 800000
 
 pub known-good : (image : Image) → has_good_geometry image ≡ true → is_known_version (layout_of image).version ≡ true
 known-good image good = (and_parts _ _ (and_parts _ _ (and_parts _ _ (and_parts _ _ (and_parts _ _ good).0).0).0).0).0
@@ -56,19 +48,10 @@ module _ (before middle image : Image) (like : HasSlotsOf middle image) (rows : 
       slot_word-by l slot w = get_or image (slot_start l slot + w) 0
 
   pub rows-like : HasRowsOf before image
-  rows-like = record {
-    size = like.size ∙ rows.size;
-    laid_out = like.laid_out ∙ rows.laid_out;
-    same = λ slot w h low high. word-same slot w ∙ rows.same slot w h low high;
-  }
+  rows-like = grind (arith, word-same) steps 800000
 
   pub counts-like : (r r' : Record) → CountsAlike r before r' middle → CountsAlike r before r' image
-  counts-like r r' alike = record {
-    begin = λ slot h. ap (is_committed r') (word-same slot 0) ∙ alike.begin slot h;
-    end = λ slot h. ap (is_committed r') (word-same slot 1) ∙ alike.end slot h;
-    begin_below = λ slot h. subst (λ (t : ℕ). t < r'.dirty) (sym (word-same slot 0)) (alike.begin_below slot h);
-    end_below = λ slot h. subst (λ (t : ℕ). t < r'.dirty) (sym (word-same slot 1)) (alike.end_below slot h);
-  }
+  counts-like r r' alike = grind (arith, word-same) steps 800000
 
 -- the image of a record under which its rows count the same stands for the same
 pub stands-same : (before image : Image) (history drawn : List Commit) (next : ℕ) (r : Record) → Stands before history drawn next → HasRowsOf before image → CountsAlike (ruling before) before r image → IsRuledBy (layout_of before) r image

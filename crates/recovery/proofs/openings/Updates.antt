@@ -1,5 +1,5 @@
 -- An image that an opening gives the version of today.
-use Rattle.std.proofs.Common.{◌≡◌, ◌≢◌, ◌⊎◌, inl, inr, ℕ, ◌+◌, ◌<◌, ◌≤◌, Bool, true, false, cond, not, ◌&&◌, List, [], ◌∷◌, length, get_or, map, flat_map, refl, sym, ◌∙◌, ap, subst, arith, nat_eq, true≢false}
+use Rattle.std.proofs.Common.{◌≡◌, ◌≢◌, ◌⊎◌, inl, inr, ℕ, ◌+◌, ◌<◌, ◌≤◌, Bool, true, false, cond, not, ◌&&◌, List, [], ◌∷◌, length, get_or, map, flat_map, refl, sym, ◌∙◌, ap, subst, arith, true≢false}
 use Rattle.std.specs.Prelude.{Option, None}
 use Rattle.std.specs.List.{range_with_len}
 use Rattle.std.proofs.lemmas.Bool.{cases_eq, cases_lt}
@@ -11,8 +11,7 @@ use Rattle.base.specs.Commits.{Commit}
 use Rattle.base.specs.Layout.{Layout, opened_layout, opened_version, total_words}
 use Rattle.machine.specs.Laws.{OpensUpdated}
 use Rattle.base.specs.Records.{Record, opened_gaps}
-use Rattle.base.specs.Images.{Image, layout_of, ruling, is_shown, opening_fault, needs_sweep, is_wrong_gate, IsRuledBy}
-use Rattle.base.specs.Search.{first_below}
+use Rattle.base.specs.Images.{Image, layout_of, ruling, is_shown, opening_fault, needs_sweep, IsRuledBy}
 use Rattle.base.specs.Stands.{Stands}
 use Rattle.machine.specs.Openings.{Counts, opening_record, gaps_kept, opened_slots, record_counts, update_counts, StandsOpening, updated, updates}
 use Rattle.base.proofs.Histories.{history_in, sound-stands, opens-sound}
@@ -21,9 +20,9 @@ use Rattle.machine.proofs.openings.Updates.{updated-open}
 use Rattle.pmem.specs.Device.{Device}
 use Rattle.pmem.specs.Persisting.{set_operations}
 use Rattle.pmem.specs.Trace.{Operation, Runs, StopsWithin}
-use Rattle.pmem.specs.Words.{value_of, IsAtRest, IsSettled, IsSettledAt, IsStore, IsWithin, LeavesOnly, image_of, Keeps, Makes, OldOr, Spares}
+use Rattle.pmem.specs.Words.{value_of, IsAtRest, IsSettledAt, IsStore, IsWithin, LeavesOnly, image_of, Keeps, Makes, OldOr, Spares}
 use Rattle.pmem.proofs.Images.{leaves_trans, leaves_weaken}
-use Rattle.pmem.proofs.Lists.{StoresOnly, StoreOnly, keeps-run, keeps-stopped, spares-run, store-weaker, makes_none, makes_trans, count_of, one_store, one_flush, one_fence, few-stopped, one_failure-stopped, set-only, set-made, set-settles}
+use Rattle.pmem.proofs.Lists.{StoreOnly, keeps-run, keeps-stopped, spares-run, store-weaker, makes_none, makes_trans, count_of, one_store, one_flush, one_fence, few-stopped, one_failure-stopped, set-only, set-made, set-settles}
 use Rattle.pmem.proofs.Traces.{words-run}
 use Rattle.pmem.proofs.Spares.{spares_fewer, spares_trans}
 use Rattle.pmem.proofs.OperationEffects.{only-settled}
@@ -59,17 +58,7 @@ module _ (image : Image) (up : OpensUpdated image) where
       ∙ (λ i. flat_map (λ slot. cond (up.shown (ruling image) slot i) ((let l : LiveSlot = record { key = up.keys slot i; slot = slot; begin = up.begins slot i } in l) ∷ []) []) (range_with_len 0 n))
 
   rules-updated : (layout : Layout) (r : Record) → IsRuledBy layout r image → IsRuledBy (opened_layout layout) r (updated image)
-  rules-updated layout r rules =
-      let whole = whole-of (updated image) (opens-sound (updated image) up.opens) in
-      record {
-        formatted = whole.formatted;
-        geometry = whole.geometry;
-        laid_out = up.laid_out ∙ ap opened_layout rules.laid_out;
-        gates = subst (λ (l : Layout). first_below l.places (is_wrong_gate (updated image)) ≡ None) (up.laid_out ∙ ap opened_layout rules.laid_out) whole.gates;
-        well_ruled = whole.ruled;
-        by_record = up.ruled ∙ rules.by_record;
-        at_place = up.place ∙ rules.at_place;
-      }
+  rules-updated layout r rules = grind (arith, whole-of, opens-sound) steps 800000
 
   pub examined-updated : (layout : Layout) (r : Record) (gaps : Option (List Gap)) (free : List Bool) (live : List LiveSlot) → Examined image layout r gaps free live
       → Examined (updated image) (opened_layout layout) r gaps free live
@@ -128,11 +117,7 @@ module _ (old : Device) (rest : IsAtRest old) (opens : opening_fault (image_of o
       by (inr short) = inl (whole (get_or_past other 1 0 (omega (arith, short, size)) ∙ sym (get_or_past image 1 0 (omega (arith, short, image_size old)))))
 
   stands-now : (history drawn : List Commit) (next : ℕ) → Stands image history drawn next → StandsOpening image history next image
-  stands-now history drawn next s = record {
-    stands = record { sound = s.sound; tables = s.tables; covered = s.covered; left_out = refl; reserved = s.reserved };
-    ruled = inl refl;
-    laid_out = inl refl;
-  }
+  stands-now history drawn next s = grind (arith) steps 800000
 
   stands-updated : (history drawn : List Commit) (next : ℕ) → Stands image history drawn next → StandsOpening image history next (updated image)
   stands-updated history drawn next s =
@@ -167,11 +152,7 @@ module _ (old : Device) (rest : IsAtRest old) (opens : opening_fault (image_of o
   -- and once it is settled
   module _ (new : Device) (same-words : new.words ≡ old.words) (holds : IsSettledAt new 1 (opened_version (layout_of image).version)) (spares : Spares (λ word. word ≢ 1) old new) where
     pub rest-updated : IsAtRest new
-    rest-updated word lt = by (cases_eq word 1)
-      where
-        by : (word ≡ 1) ⊎ (word ≢ 1) → IsSettled new word
-        by (inl one) = subst (λ (w : ℕ). IsSettled new w) (sym one) holds.settled
-        by (inr far) = (spares.kept word far).settled (rest word (omega (arith, lt, same-words)))
+    rest-updated word lt = grind (arith, cases_eq) steps 800000
 
     value-updated : (word : ℕ) → word < new.words → value_of new word ≡ get_or (updated image) word 0
     value-updated word lt = by (cases_eq word 1)
@@ -204,11 +185,7 @@ module _ (old : Device) where
   IsNewVersion word x = IsStore 1 version word x × (is_updated old word ≡ true)
 
   update-only : StoreOnly IsNewVersion (update_operations (image_of old))
-  update-only = by (updates (image_of old)) refl
-    where
-      by : (b : Bool) → updates (image_of old) ≡ b → StoreOnly IsNewVersion (cond b (set_operations committer 1 version) [])
-      by true some = set-only committer 1 version IsNewVersion ((refl, refl), ap (λ (b : Bool). b && nat_eq 1 1) some)
-      by false none = All-nil (StoresOnly IsNewVersion)
+  update-only = grind (arith, set-only, All-nil) steps 800000
 
   update-keeps : StoreOnly (OldOr old (IsStore 1 version)) (update_operations (image_of old))
   update-keeps = store-weaker (λ word x this. inr this.0) (update_operations (image_of old)) update-only
@@ -294,12 +271,7 @@ module _ (old mid new : Device) (opens : opening_fault (image_of old) ≡ None) 
 
   -- an opening that is cut short after the update is cut short
   pub cut-after : IsCutBefore (total (record_counts (image_of mid))) mid new → IsCutShort old new
-  cut-after cut =
-      let c = subst (λ (c : Counts). IsCutBefore (total c) mid new) same-counts cut in
-      record {
-        failed = omega (arith, c.failed, made-update.failures_made);
-        few = omega (arith, c.few, made-update.stores_made, made-update.flushes_made, made-update.fences_made);
-      }
+  cut-after cut = grind (arith, same-counts) steps 800000
 
   pub images-after : (history drawn : List Commit) (next : ℕ) → Stands before history drawn next → LeavesOnly old mid (StandsOpening before history next)
       → ((history drawn : List Commit) (next : ℕ) → Stands (image_of mid) history drawn next → LeavesOnly mid new (StandsOpening (image_of mid) history next))

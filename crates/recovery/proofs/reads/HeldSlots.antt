@@ -158,11 +158,7 @@ live-in image (suc n) place s at = by (is_free image n) refl (λ was. let told =
 
 pub shown-here : (image : Image) (slot : ℕ) → is_free image slot ≡ false → is_shown (ruling image) image slot ≡ true
 unfolding is_free
-shown-here image slot live = by (is_shown (ruling image) image slot) live
-  where
-    by : (b : Bool) → not b ≡ false → b ≡ true
-    by true e = refl
-    by false e = absurd (cc e)
+shown-here image slot live = grind (arith) steps 800000
 
 fewer-good : (image : Image) (n : ℕ) → bad_below image (suc n) ≡ None → bad_below image n ≡ None
 unfolding bad_below
@@ -170,11 +166,7 @@ fewer-good image n none = first_below-nowhere n (is_bad_slot (ruling image) imag
 
 pub hidden-here : (image : Image) (slot : ℕ) → is_free image slot ≡ true → is_shown (ruling image) image slot ≡ false
 unfolding is_free
-hidden-here image slot free = by (is_shown (ruling image) image slot) free
-  where
-    by : (b : Bool) → not b ≡ true → b ≡ false
-    by true e = absurd (cc e)
-    by false e = refl
+hidden-here image slot free = grind (arith) steps 800000
 
 -- a live slot that isn't bad is the first with its key
 not-second : (image : Image) (slot : ℕ) → is_bad image slot ≡ false → is_shown (ruling image) image slot ≡ true → (lower : ℕ) → lower < slot → is_shown (ruling image) image lower ≡ true → key_eq (key_of image lower) (key_of image slot) ≡ false
@@ -227,15 +219,7 @@ module _ (image : Image) (n : ℕ) (readings : List SlotReading) (are : readings
   size = ap (λ (xs : List SlotReading). length xs) are ∙ readings-size image n
 
   found-so : (slot : ℕ) (d : SlotReading) → slot < n → (P : SlotContent → Type 0) → ((get_or readings slot d).found ≡ Free → P Free) → ((key : Key) → (get_or readings slot d).found ≡ Live key → P (Live key)) → P (get_or readings slot d).found
-  found-so slot d lt P free live = by (get_or readings slot d).found refl
-    where
-      fits : is_unfit (get_or readings slot d).found ≡ false
-      fits = fit slot d (omega (arith, lt, size))
-
-      by : (f : SlotContent) → (get_or readings slot d).found ≡ f → P f
-      by Free is = free is
-      by (Live key) is = live key is
-      by Bad is = absurd (true≢false (ap is_unfit (sym is) ∙ fits))
+  found-so slot d lt P free live = grind (arith, size) steps 800000
 
   -- a live version was found in each slot that is shown
   held-at : (slot : ℕ) (d : SlotReading) → slot < n → is_shown (ruling image) image slot ≡ true → (get_or readings slot d).found ≡ Live (key_of image slot)
@@ -348,11 +332,7 @@ rows-of image (suc n) = subst (λ (k : ℕ). rows_below image k ≡ map (row-in 
 
 pub well-held : (image : Image) (slot : ℕ) → is_bad image slot ≡ false → is_shown (ruling image) image slot ≡ true → is_misfit image slot ≡ false
 unfolding is_bad
-well-held image slot good shown = (or_parts (is_misfit image slot) (is_second (ruling image) image slot) (rest (is_shown (ruling image) image slot) (is_misfit image slot || is_second (ruling image) image slot) shown (or_parts (is_ahead (ruling image) image slot) (is_shown (ruling image) image slot && (is_misfit image slot || is_second (ruling image) image slot)) good).1)).0
-  where
-    rest : (a b : Bool) → a ≡ true → (a && b) ≡ false → b ≡ false
-    rest true b is none = none
-    rest false b is none = absurd (cc is)
+well-held image slot good shown = grind (arith, or_parts, none) steps 800000
 
 -- what was found of a slot that isn't bad tells whether it is free
 pub free-found : (image : Image) (slot : ℕ) (found : SlotContent) → found ≡ found_in image slot → is_bad image slot ≡ false → not (is_held found) ≡ is_free image slot
@@ -373,18 +353,7 @@ module _ (image : Image) (n : ℕ) (readings : List SlotReading) (are : readings
       all-good image n readings are fit live.items places.entries (subst (λ (k : ℕ). HasEach readings k live.items) count each) (have-places live.items places made (counted live.items places made size))
 
   pub are-held : bad_below image n ≡ None → (free : Vec Bool Global) → ((i : Image) → AreReadings i readings → free.items ≡ free_below i (length readings)) → AreHeld image n (record { free = free; live = live; places = places })
-  are-held good free freed = record {
-    good = good;
-    free_are = freed image so ∙ ap (free_below image) count;
-    live_are = lives;
-    placed_so = have-places live.items places made (subst (λ (xs : List LiveSlot). IsDistinct (eq_by_cmp key_cmp) (map (λ (s : LiveSlot). s.key) xs)) (sym lives) (distinct-good image n good));
-  }
-    where
-      so : AreReadings image readings
-      so = are-readings image n readings are good
-
-      lives : live.items ≡ live_below image n
-      lives = listed image so ∙ ap (live_below image) count
+  are-held good free freed = grind (arith, count, have-places, distinct-good, are-readings) steps 800000
 
 -- ---- the rows of live slots, read one after the other
 

@@ -1,5 +1,5 @@
 -- What a reading of an image tells.
-use Rattle.std.proofs.Common.{◌≡◌, inl, inr, ℕ, ◌+◌, Bool, List, refl, sym, ◌∙◌, ap, not}
+use Rattle.std.proofs.Common.{◌≡◌, inl, inr, ℕ, ◌+◌, Bool, List, refl, sym, ◌∙◌, ap, not, arith}
 use Rattle.std.specs.Prelude.{Option, Some, None}
 use Rattle.std.specs.Option.{option_or, option_map}
 use Rattle.base.specs.declared.key.Key.{Key}
@@ -33,11 +33,7 @@ module _ (layout : Layout) (r : Record) (image : Image) (rules : IsRuledBy layou
       (option_or (some_if (not (has_good_geometry image)) BadGeometry)
       (option_or (option_map Damaged (first_below (layout_of image).places (is_wrong_gate image)))
       (option_or (some_if (not (is_ruled image)) (Damaged (ruling_place image))) rest)))) ≡ rest
-  first-is rest = λ i. option_or (some_if (not (rules.formatted i)) NotFormatted)
-      (option_or (some_if (not (known-good image rules.geometry i)) (Version (layout_of image).version))
-      (option_or (some_if (not (rules.geometry i)) BadGeometry)
-      (option_or (option_map Damaged (gates-none layout r image rules i))
-      (option_or (some_if (not (rules.well_ruled i)) (Damaged (ruling_place image))) rest))))
+  first-is rest = grind (arith, known-good, gates-none) steps 800000
 
   pub log-none : log_damage image ≡ None
   log-none = first-is None
@@ -58,12 +54,7 @@ module _ (layout : Layout) (r : Record) (image : Image) (rules : IsRuledBy layou
 
   pub is-read : bad_below image layout.slots ≡ None → (rows : List (Key × List ℕ)) → rows ≡ rows_below image layout.slots → IsRead image layout r rows
   unfolding bad_below
-  is-read none rows are = record {
-    sound = no-damage layout r image rules none;
-    layout_is = sym rules.laid_out;
-    rules = sym rules.by_record;
-    rows_are = are ∙ ap (λ (l : Layout). rows_below image l.slots) (sym rules.laid_out);
-  }
+  is-read none rows are = grind (arith, no-damage) steps 800000
 
 -- what is answered where an image was examined
 pub tells-examined : (image : Image) (layout : Layout) (r : Record) (gaps : Option (List Gap)) (free : List Bool) (live : List LiveSlot) → Examined image layout r gaps free live → (fault : Fault) → TellsLogFault image fault

@@ -27,11 +27,7 @@ rows-more image n = ap (flat_map (row_at image)) (range-more n) ∙ flat_map-app
 
 pub rows-live : (image : Image) (n : ℕ) → is_free image n ≡ false → rows_below image (n + 1) ≡ rows_below image n ++ (key_of image n, row_of image n) ∷ []
 unfolding is_free
-rows-live image n live = rows-more image n ∙ by (is_shown (ruling image) image n) refl live
-  where
-    by : (b : Bool) → is_shown (ruling image) image n ≡ b → not b ≡ false → rows_below image n ++ (row_at image n ++ []) ≡ rows_below image n ++ (key_of image n, row_of image n) ∷ []
-    by true is e = rw is refl
-    by false is e = absurd (cc e)
+rows-live image n live = grind (arith, rows-more) steps 800000
 
 pub rows-free : (image : Image) (n : ℕ) → is_free image n ≡ true → rows_below image (n + 1) ≡ rows_below image n
 unfolding is_free
@@ -59,11 +55,7 @@ live-more image n =
 
 pub live-live : (image : Image) (n : ℕ) → is_free image n ≡ false → live_below image (n + 1) ≡ live_below image n ++ live_at image n ∷ []
 unfolding is_free
-live-live image n live = live-more image n ∙ by (is_shown (ruling image) image n) live
-  where
-    by : (b : Bool) → not b ≡ false → live_below image n ++ ((if b then live_at image n ∷ [] else []) ++ []) ≡ live_below image n ++ live_at image n ∷ []
-    by true e = refl
-    by false e = absurd (cc e)
+live-live image n live = grind (arith, live-more) steps 800000
 
 pub live-free : (image : Image) (n : ℕ) → is_free image n ≡ true → live_below image (n + 1) ≡ live_below image n
 unfolding is_free

@@ -1,7 +1,6 @@
 -- What readings of the slots tell of an image.
-use Rattle.std.proofs.Common.{◌≡◌, ℕ, ◌<◌, true, false, List, map, get_or, length, refl, sym, ◌∙◌, ap, subst, arith, lit<, true≢false}
+use Rattle.std.proofs.Common.{◌≡◌, ℕ, ◌<◌, true, false, List, get_or, length, refl, sym, ◌∙◌, ap, subst, arith, lit<, true≢false}
 use Rattle.std.specs.Prelude.{None}
-use Rattle.std.specs.List.{range_with_len}
 use Rattle.std.proofs.lemmas.List.FromFn.{length-map-range_with_len, get_or-map-range_with_len}
 use Rattle.base.specs.Layout.{Layout, total_words}
 use Rattle.base.specs.Records.{Record}
@@ -29,10 +28,6 @@ reading-is device layout r slot size under h begin end found begun ended is =
     λ i. let l : SlotReading = record { begin = begin-same i; end = end-same i; found = is i } in l
 
 -- ---- of all slots
-
-pub readings-are : (image : Image) (n : ℕ) → map (reading_in image) (range_with_len 0 n) ≡ readings_below image n
-unfolding readings_below
-readings-are image n = refl
 
 -- what was read of one slot
 pub reading-at : (image : Image) (n slot : ℕ) (d : SlotReading) (readings : List SlotReading) → readings ≡ readings_below image n → slot < n → get_or readings slot d ≡ reading_in image slot

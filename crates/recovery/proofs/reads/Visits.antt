@@ -167,9 +167,6 @@ module _ (device : Device) (layout : Layout) (r : Record) (slot : ℕ) (size : d
   pub word-same : (w : ℕ) → w < 8 → slot_word (image_of device) slot w ≡ slot_at layout slot (value_of device) w
   word-same w lt = each-word w (omega (arith, lt, line-words layout.version))
 
-  abbrev of_image : ℕ → ℕ
-  of_image = slot_word (image_of device) slot
-
   same-width : slot_words (layout_of (image_of device)).version ≡ slot_words layout.version
   same-width = ap (λ (l : Layout). slot_words l.version) laid-out
 
@@ -181,23 +178,14 @@ module _ (device : Device) (layout : Layout) (r : Record) (slot : ℕ) (size : d
 
   -- a version that the device's words hold is one that the image's words hold
   pub held : (v : Version) → IsVersion layout (slot_at layout slot (value_of device)) v → IsVersion (layout_of (image_of device)) (slot_word (image_of device) slot) v
-  held v is = record {
-    each = λ w low high.
-        let lt : w < slot_words layout.version = omega (arith, high, same-width) in
-        each-word w lt ∙ is.each w low lt;
-    fits = subst (λ (l : Layout). Fits l v) (sym laid-out) is.fits;
-  }
+  held v is = grind (arith, same-width, each-word, laid-out) steps 800000
 
   -- its row
   pub row-held : (s : Slot) → IsSlot layout (slot_at layout slot (value_of device)) s → row_of (image_of device) slot ≡ s.version.row
   row-held s is = row_is_of (image_of device) slot within whole s.version (held s.version is.version)
 
   fits-words : IsOrderly device → (w : ℕ) → get_or (image_of device) w 0 < 2 ^ 64
-  fits-words orderly w = by (cases_lt w device.words)
-    where
-      by : (w < device.words) ⊎ (device.words ≤ w) → get_or (image_of device) w 0 < 2 ^ 64
-      by (inl lt) = subst (λ (n : ℕ). n < 2 ^ 64) (sym (word-at w lt)) (orderly.fits w (value_of device w) (orderly.some w lt))
-      by (inr ge) = subst (λ (n : ℕ). n < 2 ^ 64) (sym (get_or_past (image_of device) w 0 (omega (arith, ge, length-image)))) (lit< tt)
+  fits-words orderly w = grind (arith, cases_lt, word-at, get_or_past, length-image) steps 800000
 
   -- where nothing can be read, the words hold no version
   pub none-held : IsOrderly device → ((v : Version) → IsVersion layout (slot_at layout slot (value_of device)) v → ⊥) → is_misfit (image_of device) slot ≡ true

@@ -1,5 +1,5 @@
 -- What a crash leaves while the gaps are swept: the record that ruled, and rows that count the same.
-use Rattle.std.proofs.Common.{◌≡◌, ◌⊎◌, inl, inr, ℕ, ◌+◌, ◌*◌, ◌<◌, ◌≤◌, false, List, length, get_or, sym, ◌∙◌, ap, subst, arith, true≢false}
+use Rattle.std.proofs.Common.{◌≡◌, ◌⊎◌, inl, inr, ℕ, ◌+◌, ◌*◌, ◌<◌, ◌≤◌, false, List, length, get_or, sym, ◌∙◌, ap, subst, arith}
 use Rattle.std.proofs.Math.Nat.{mul-le-mul_left}
 use Rattle.std.proofs.lemmas.Bool.{and_parts, le-ltb}
 use Rattle.std.proofs.lemmas.List.FromFn.{length-map-range_with_len, get_or-map-range_with_len}
@@ -48,11 +48,7 @@ module _ (a : Layout) (r : Record) (old : Device) (rest : IsAtRest old) (rules :
 
   module _ (image : Image) (long : length image ≡ old.words) (within : IsWithin old.words (OldOr old (IsSwept a r old)) image) where
     unswept : (word : ℕ) → word < old.words → is_mark a word ≡ false → Survives old word (get_or image word 0)
-    unswept word lt none = by (within word lt)
-      where
-        by : OldOr old (IsSwept a r old) word (get_or image word 0) → Survives old word (get_or image word 0)
-        by (inl there) = there
-        by (inr one) = absurd (true≢false (sym (and_parts _ _ one.hit).0 ∙ none))
+    unswept word lt none = grind (arith, and_parts) steps 800000
 
     pub ruled-sweeping : IsRuledBy a r image
     ruled-sweeping = ruled-like a r old image (rest_holds a r old rest rules) long (λ word low. unswept word (omega (arith, low, size-old, log_within a)) (unmarked-low a word low))
@@ -61,13 +57,7 @@ module _ (a : Layout) (r : Record) (old : Device) (rest : IsAtRest old) (rules :
     value-old word lt = get_or-map-range_with_len (value_of old) 0 old.words word word 0 lt (omega arith)
 
     slot-in : (slot w : ℕ) → slot < a.slots → w < slot_words a.version → slot_start a slot + w < old.words
-    slot-in slot w h lt = omega (arith, size-old, upto (8 + 32 * a.places) (slot_words a.version) slot a.slots h, lt)
-      where
-        upto : (base width slot slots : ℕ) → slot < slots → base + width * slot + width ≤ base + width * slots
-        upto base width slot slots less =
-            let grows : width * (slot + 1) ≤ width * slots = mul-le-mul_left {m = slot + 1} {n = slots} width (omega (arith, less)) in
-            let product : width * (slot + 1) ≡ width * slot + width = omega arith in
-            omega (arith, grows, product)
+    slot-in slot w h lt = grind (arith, size-old, mul-le-mul_left) steps 800000
 
     rows-sweeping : HasRowsOf (image_of old) image
     rows-sweeping = record {

@@ -1,11 +1,11 @@
 -- Which slots a sweep stores in, and that it leaves the others as they are.
-use Rattle.std.proofs.Common.{◌≡◌, ℕ, ◌+◌, ◌*◌, ◌<◌, nat_eq, Bool, true, false, cond, ◌||◌, List, map, get_or, length, refl, sym, ◌∙◌, ap, subst, arith}
+use Rattle.std.proofs.Common.{◌≡◌, ℕ, ◌+◌, ◌*◌, ◌<◌, Bool, ◌||◌, List, map, get_or, length, sym, ◌∙◌, ap, subst, arith}
 use Rattle.std.specs.Prelude.{Option, None}
 use Rattle.std.specs.List.{range_with_len}
 use Rattle.std.proofs.lemmas.List.FromFn.{length-map-range_with_len, get_or-map-range_with_len}
 use Rattle.std.proofs.lemmas.Simd.{map-map}
 use Rattle.base.specs.declared.gap.Gap.{Gap}
-use Rattle.base.specs.Layout.{Layout, slot_start, slot_words, plain_version, opened_version, opened_layout}
+use Rattle.base.specs.Layout.{Layout, slot_start, slot_words, opened_version, opened_layout}
 use Rattle.machine.specs.Laws.{OpensUpdated}
 use Rattle.base.specs.Records.{Record, is_in, opened_gaps}
 use Rattle.base.specs.Images.{Image, layout_of, ruling, slot_word, begin_of, end_of}
@@ -44,11 +44,7 @@ hit-at image n slot d hits are h = ap (λ (xs : List Bool). get_or xs slot d) ar
 -- ---- an image that is updated first
 
 same-width : (version : ℕ) → slot_words (opened_version version) ≡ slot_words version
-same-width version = by (nat_eq version 3)
-  where
-    by : (b : Bool) → slot_words (cond b 3 plain_version) ≡ cond b 16 8
-    by true = refl
-    by false = refl
+same-width version = grind (arith) steps 800000
 
 module _ (image : Image) (up : OpensUpdated image) where
   word-updated : (slot w : ℕ) → slot_word (updated image) slot w ≡ slot_word image slot w

@@ -98,19 +98,7 @@ module _ (a : Layout) (r : Record) (start : Device) where
     ended = lies r (value (at + 1))
 
     slot-stores : (Q : ℕ → ℕ → Type 0) → (begun ≡ true → Q at 0) → (ended ≡ true → Q (at + 1) 0) → StoreOnly Q (ops slot)
-    slot-stores Q first second = by begun ended refl refl
-      where
-        one : (op : Operation) → StoresOnly Q op → StoreOnly Q (op ∷ [])
-        one op this = All-cons (StoresOnly Q) op [] this (All-nil (StoresOnly Q))
-
-        flush : StoreOnly Q (flush_op committer (at / 8) ∷ [])
-        flush = one (flush_op committer (at / 8)) tt
-
-        by : (b e : Bool) → begun ≡ b → ended ≡ e → StoreOnly Q (ops_by b e)
-        by true true is is' = All-cons (StoresOnly Q) (store_op at 0) (store_op (at + 1) 0 ∷ flush_op committer (at / 8) ∷ []) (first is) (All-cons (StoresOnly Q) (store_op (at + 1) 0) (flush_op committer (at / 8) ∷ []) (second is') flush)
-        by true false is is' = All-cons (StoresOnly Q) (store_op at 0) (flush_op committer (at / 8) ∷ []) (first is) flush
-        by false true is is' = All-cons (StoresOnly Q) (store_op (at + 1) 0) (flush_op committer (at / 8) ∷ []) (second is') flush
-        by false false is is' = All-nil (StoresOnly Q)
+    slot-stores Q first second = grind (arith, All-cons, All-nil) steps 800000
 
     slot-elsewhere : (word : ℕ) → (word < at) ⊎ (at + 2 ≤ word) → StoreOnly (IsElsewhere word) (ops slot)
     slot-elsewhere word apart = slot-stores (IsElsewhere word) (λ is e. far 0 (omega arith) (omega (arith, e))) (λ is. far 1 (omega arith))
@@ -239,22 +227,10 @@ module _ (a : Layout) (r : Record) (start : Device) where
           ∙ sym (append_assoc (sweep_below a r value slot) zeros rest)
 
       there : Contains zeros (store_op word 0)
-      there = elim (which slot w two lying) [
-        | inl first ↦
-            let at : slot_start a slot ≡ word = omega (arith, first.0) in
-            subst (λ (b : Bool). Contains (zeros_by slot b (ended slot)) (store_op word 0)) (sym first.1) (0, omega arith, ap (λ (n : ℕ). store_op n 0) at)
-        | inr second ↦
-            let at : slot_start a slot + 1 ≡ word = omega (arith, second.0) in
-            subst (λ (b : Bool). Contains (zeros_by slot (begun slot) b) (store_op word 0)) (sym second.1)
-            (Contains-append_right (cond (begun slot) (store_op (slot_start a slot) 0 ∷ []) []) (store_op (slot_start a slot + 1) 0 ∷ []) (store_op word 0) (0, omega arith, ap (λ (n : ℕ). store_op n 0) at))
-      ]
+      there = grind (arith, which, Contains-append_right) steps 800000
 
       zeros-same : (b e : Bool) → StoreOnly (IsThereAlone word 0) (zeros_by slot b e)
-      zeros-same b e = All-append (StoresOnly (IsThereAlone word 0)) (cond b (store_op (slot_start a slot) 0 ∷ []) []) (cond e (store_op (slot_start a slot + 1) 0 ∷ []) []) (one b (slot_start a slot)) (one e (slot_start a slot + 1))
-        where
-          one : (b : Bool) (n : ℕ) → StoreOnly (IsThereAlone word 0) (cond b (store_op n 0 ∷ []) [])
-          one true n = All-cons (StoresOnly (IsThereAlone word 0)) (store_op n 0) [] (λ same. refl) (All-nil (StoresOnly (IsThereAlone word 0)))
-          one false n = All-nil (StoresOnly (IsThereAlone word 0))
+      zeros-same b e = grind (arith, All-append, All-cons, All-nil) steps 800000
 
       -- it is 0 after the sweep, whatever a crash leaves
       settled-zero : {new : Device} → Runs (whole_sweep a r value) start new → IsSettledAt new word 0
@@ -426,11 +402,7 @@ module _ (layout : Layout) (r : Record) {old new : Device} (rules : IsRuledBy la
 -- ---- how many operations
 
 pub gaps-only : (layout : Layout) (r : Record) (old : Device) → StoreOnly (λ word x. Unit {0}) (gap_operations layout r old)
-gaps-only layout r old = by (needs_sweep (image_of old))
-  where
-    by : (b : Bool) → StoreOnly (λ word x. Unit {0}) (cond b (whole_sweep layout r (value_of old)) [])
-    by true = store-weaker (λ word x this. tt) (whole_sweep layout r (value_of old)) (whole-only layout r old)
-    by false = All-nil (StoresOnly (λ word x. Unit {0}))
+gaps-only layout r old = grind (arith, store-weaker, whole-only, All-nil) steps 800000
 
 abbrev counts_at : Image → Bool → Counts
 counts_at image b = cond b (record { stores = 32 + words_swept image; flushes = 5 + lines_swept image; fences = 3 }) (record { stores = 32; flushes = 5; fences = 2 })

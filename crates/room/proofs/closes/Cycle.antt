@@ -1,5 +1,5 @@
 -- The cycle of a close: the lines of all that is drawn are flushed, the committer fences, and the last record is written.
-use Rattle.std.proofs.Common.{◌≡◌, ◌≢◌, ℕ, ◌+◌, ◌-◌, ◌*◌, ◌/◌, ◌^◌, ◌<◌, Bool, true, false, ◌&&◌, List, length, refl, sym, ◌∙◌, ap, subst, arith}
+use Rattle.std.proofs.Common.{◌≡◌, ◌≢◌, ℕ, ◌+◌, ◌*◌, ◌/◌, ◌^◌, ◌<◌, Bool, true, false, ◌&&◌, List, length, refl, sym, ◌∙◌, ap, subst, arith}
 use Rattle.std.proofs.Math.Bridge.{le_prop}
 use Rattle.std.proofs.Math.Logic.{∥∥₁_elim}
 use Rattle.std.proofs.Math.Nat.{ℕ_set}
@@ -22,7 +22,7 @@ use Rattle.pmem.specs.Trace.{applied}
 use Rattle.pmem.specs.Words.{LeavesOnly, HasNoFailure, Spares}
 use Rattle.pmem.proofs.Images.{leaves_refl, leaves_trans}
 use Rattle.log_area.specs.declared.stage.WritingStage.TheVariants.{StoreBody, Done}
-use Rattle.log_area.specs.Stages.{IsStage, next_stage, operations_before}
+use Rattle.log_area.specs.Stages.{IsStage}
 use Rattle.log_area.specs.Rulings.{HoldsRecord}
 use Rattle.log_area.specs.Writings.{Progress, begun, advanced, operation_of, IsOutside, IsNextRecord, IsRuledByEither}
 use Rattle.log_area.proofs.Ticks.{none_failed, same_words}
@@ -35,7 +35,7 @@ use Rattle.device_invariant.specs.Log.{Line, lines_in, line_number}
 use Rattle.device_invariant.specs.Upholds.{Upholds}
 use Rattle.group_commit.specs.declared.stage.CycleStage.{CycleStage}
 use Rattle.group_commit.specs.declared.stage.CycleStage.TheVariants.{FlushLines, WriteRecord}
-use Rattle.group_commit.specs.Cycles.{Cycling, line_from, flush_or_fence, operation_at, operation_in, next_at, ticked_at, ticked_in}
+use Rattle.group_commit.specs.Cycles.{Cycling, line_from, flush_or_fence, operation_in, next_at, ticked_in}
 use Rattle.group_commit.specs.Laws.{IsCut}
 use Rattle.group_commit.proofs.Counting.{find-cut, cut-next, cut-whole}
 use Rattle.cycle_simulation.specs.Batches.{line_numbers}
@@ -49,7 +49,7 @@ use Rattle.session_steps.proofs.reads.Rows.{words-are}
 use Rattle.room.specs.declared.volatile.VolatileState.{VolatileState}
 use Rattle.room.specs.Committing.{HoldsCycle, Shows}
 use Rattle.room.specs.Steps.{ShowsSome}
-use Rattle.room.specs.Closing.{ClosePhaseFailed, CloseCovered, left_at, ticks_left}
+use Rattle.room.specs.Closing.{ClosePhaseFailed, CloseCovered, ticks_left}
 use Rattle.room.proofs.covers.Ticks.{found-any, any-has}
 use Rattle.room.proofs.closes.Whole.{gate-is}
 use Rattle.room.proofs.closes.Parts.{stands-closing}
@@ -68,12 +68,7 @@ no-hand q drawn None holds = refl
 no-hand q drawn (Some hand) holds = absurd holds
 
 is-closing : (c : VolatileState) (device : Device) (q : State) (shown : Shows c device q) → q.failed ≡ false → c.cycle ≡ None → list_all is_stamped (map plain_drawn c.sessions.drawn.commits) ≡ true → IsClosing shown.shown.hidden.origin q device
-is-closing c device q shown works rests stamped = record {
-  works = works;
-  rests = no-hand q c.sessions.drawn.commits q.hand (subst (HoldsCycle q c.sessions.drawn.commits q.hand) rests shown.cycle_is);
-  stamped = ap (λ (p : State). list_all is_stamped p.drawn) shown.shown.plain ∙ stamped;
-  upholds = shown.shown.upholds;
-}
+is-closing c device q shown works rests stamped = grind (arith, no-hand) steps 800000
 
 -- the size of the device
 words-of : (c : VolatileState) (device : Device) → ∥ ShowsSome c device ∥₁ → IsOrderly device → device.words ≡ total_words c.sessions.numbers.geometry
@@ -280,28 +275,11 @@ module _ (c : VolatileState) (before now : Device) (cycle : Cycling) (so_far : I
           }
 
       pub ticks : (after : Cycling) → after ≡ ticked_in lines cycle → IsCovering c before new after
-      ticks after is = subst (IsCovering c before new) (sym is) (by cycle.stage refl so_far.come made)
-        where
-          by : (stage : CycleStage) → cycle.stage ≡ stage → HasCome c lines before now cycle.writing stage → new ≡ applied (operation_at lines cycle.writing stage) now → IsCovering c before new (ticked_at lines cycle stage)
-          by (FlushLines count from) at come done = flushes-on count from (rising count from at) come (find (nat_le from) lines) refl done
-          by WriteRecord at come done = subst (λ (s : CycleStage). IsCovering c before new (record cycle { writing = advanced cycle.writing; stage = s })) (sym at) (writes-on come done)
+      ticks after is = grind (arith, flushes-on, writes-on) steps 800000
 
       -- fewer are left
       pub comes-closer : (after : Cycling) → after ≡ ticked_in lines cycle → ticks_left c.sessions.dirty (Some after) < ticks_left c.sessions.dirty (Some cycle)
-      comes-closer after is =
-          subst (λ (a : Cycling). ticks_left c.sessions.dirty (Some a) < ticks_left c.sessions.dirty (Some cycle)) (sym is)
-          (by cycle.stage refl so_far.come)
-        where
-          by : (stage : CycleStage) → cycle.stage ≡ stage → HasCome c lines before now cycle.writing stage → ticks_left c.sessions.dirty (Some (ticked_at lines cycle stage)) < left_at (length lines) cycle.writing.stage stage
-          by (FlushLines count from) at come = flushes (find (nat_le from) lines) refl
-            where
-              flushes : (o : Option ℕ) → find (nat_le from) lines ≡ o → left_at (length lines) cycle.writing.stage (next_at count o) < 41 + (length lines - count)
-              flushes (Some line) found = omega (arith, slice_get_within lines count line (sym (find-cut lines count from come.0) ∙ found))
-              flushes None none = omega arith
-          by WriteRecord at come =
-              let less = fewer_left cycle.writing.stage come.staged unfinished in
-              let left : left_at (length lines) (next_stage cycle.writing.stage) cycle.stage ≡ 40 - operations_before (next_stage cycle.writing.stage) = ap (left_at (length lines) (next_stage cycle.writing.stage)) at in
-              omega (arith, less, left)
+      comes-closer after is = grind (arith, slice_get_within, find-cut, fewer_left) steps 800000
 
     -- ---- a tick that fails
 

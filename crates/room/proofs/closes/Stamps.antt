@@ -1,5 +1,5 @@
 -- A stamp, as a part of a close.
-use Rattle.std.proofs.Common.{◌≡◌, ◌≢◌, inl, inr, ℕ, ◌+◌, ◌-◌, ◌<◌, ◌≤◌, Bool, true, false, cond, ◌&&◌, not, List, [], ◌∷◌, length, map, refl, sym, ◌∙◌, ap, subst, arith}
+use Rattle.std.proofs.Common.{◌≡◌, ◌≢◌, ℕ, ◌-◌, ◌<◌, ◌≤◌, Bool, true, false, cond, ◌&&◌, not, List, [], ◌∷◌, length, map, refl, sym, ◌∙◌, ap, subst, arith}
 use Rattle.std.proofs.Math.Bridge.{le_prop}
 use Rattle.std.proofs.Math.Logic.{∥∥₁_elim, ∥∥₁_map}
 use Rattle.std.proofs.Math.Nat.{ℕ_set}
@@ -17,7 +17,7 @@ use Rattle.base.specs.declared.step.SessionReply.{SessionReply}
 use Rattle.base.specs.declared.step.SessionReply.TheVariants.{Refused}
 use Rattle.base.specs.Steps.{as_reply}
 use Rattle.base.specs.Stands.{has_timestamp}
-use Rattle.machine.specs.Machine.{State, Drawn as PlainDrawn, Drew, IsCovered, IsStamped, IsDrawn, Hand, Stepped, refused, answered, memory_refused, device_failed, refusal, next_state, allows, standing_of, is_stamped, is_last_stamp, timestamp_of, counted, drawn_at, StandsWithin}
+use Rattle.machine.specs.Machine.{State, Drawn as PlainDrawn, Drew, IsCovered, IsStamped, IsDrawn, Hand, Stepped, refusal, next_state, allows, standing_of, is_stamped, timestamp_of, counted, drawn_at, StandsWithin}
 use Rattle.pmem.specs.Device.{Device}
 use Rattle.pmem.proofs.Images.{leaves_weaken}
 use Rattle.txn.specs.declared.drawn.DrawnCommit.{DrawnCommit}
@@ -52,11 +52,7 @@ abbrev pub left_in : List PlainDrawn → ℕ
 left_in ds = sum_by left_of ds
 
 no-more : (t : ℕ) (d : PlainDrawn) → left_of (counted t d) ≤ left_of d
-no-more t d = by (nat_eq d.commit.timestamp t)
-  where
-    by : (b : Bool) → left_of (cond b (record { commit = d.commit; stamped = d.stamped + 1 }) d) ≤ left_of d
-    by true = omega arith
-    by false = omega arith
+no-more t d = grind (arith) steps 800000
 
 no-more_in : (t : ℕ) (ds : List PlainDrawn) → left_in (map (counted t) ds) ≤ left_in ds
 no-more_in t [] = omega arith
@@ -68,19 +64,7 @@ counts d = nat_le d.stamped (length d.commit.writes)
 
 -- one that isn't stamped whole has one left less
 fewer-at : (t : ℕ) (d : PlainDrawn) → counts d ≡ true → is_stamped d ≡ false → d.commit.timestamp ≡ t → left_of (counted t d) < left_of d
-fewer-at t d counted_so unstamped is = by (nat_eq d.commit.timestamp t) (eq-eqb d.commit.timestamp t is)
-  where
-    less : d.stamped < length d.commit.writes
-    less = elim (cases_lt d.stamped (length d.commit.writes)) [
-      | inl under ↦ under
-      | inr over ↦
-          let same : d.stamped ≡ length d.commit.writes = omega (arith, over, leb-true d.stamped (length d.commit.writes) counted_so) in
-          absurd (cc (unstamped, eq-eqb d.stamped (length d.commit.writes) same))
-    ]
-
-    by : (b : Bool) → b ≡ true → left_of (cond b (record { commit = d.commit; stamped = d.stamped + 1 }) d) < left_of d
-    by true e = omega (arith, less)
-    by false e = absurd (cc e)
+fewer-at t d counted_so unstamped is = grind (arith, eq-eqb, cases_lt, leb-true) steps 800000
 
 fewer-in : (t : ℕ) (ds : List PlainDrawn) (d : PlainDrawn) → list_all counts ds ≡ true → find (λ e. not (is_stamped e)) ds ≡ Some d → d.commit.timestamp ≡ t → left_in (map (counted t) ds) < left_in ds
 fewer-in t [] d all at is = absurd (cc at)
@@ -105,11 +89,7 @@ pub record IsNext (old : Sessions) (n : ℕ) : Type 0 where
   pub session : commit.session ≡ n
 
 next-of : (old : Sessions) (n : ℕ) → unstamped_session old.drawn.commits ≡ Some n → IsNext old n
-next-of old n is = by (find (λ d. not (is_stamped (plain_drawn d))) old.drawn.commits) refl is
-  where
-    by : (o : Option DrawnCommit) → find (λ d. not (is_stamped (plain_drawn d))) old.drawn.commits ≡ o → option_map (λ (d : DrawnCommit). d.session) o ≡ Some n → IsNext old n
-    by None at is = absurd (cc is)
-    by (Some d) at is = record { commit = d; first = at; session = cc is }
+next-of old n is = grind (arith) steps 800000
 
 module _ (old : Sessions) (before : Device) (q : State) (n : ℕ) (shown : SessionsShow old before q) (works : q.failed ≡ false) (next : IsNext old n) where
   abbrev d : DrawnCommit
@@ -164,13 +144,7 @@ module _ (q q' : State) (n : ℕ) (r : SessionReply) (un : refusal q (step.Stamp
   answers false fault told = cc told
 
   fails : (fault : Fault) → r ≡ Refused fault → (fault ≡ DeviceFault) × (q' ≡ record q { failed = true })
-  fails fault is = by stepped
-    where
-      by : Stepped q (step.Stamp n) (as_reply r) q' → (fault ≡ DeviceFault) × (q' ≡ record q { failed = true })
-      by (refused other why told same) = absurd (cc (un, why))
-      by (answered none told same) = absurd (answers (is_last_stamp q n) fault (sym told ∙ ap as_reply is))
-      by (memory_refused none takes told same) = absurd (cc takes)
-      by (device_failed none operating told same) = (let e : reply.Refused fault ≡ reply.Refused DeviceFault = sym (ap as_reply is) ∙ told in cc e, same)
+  fails fault is = grind (arith, answers) steps 800000
 
   -- a reply that isn't a refusal
   as-refused : (r : SessionReply) (fault : Fault) → as_reply r ≡ reply.Refused fault → r ≡ Refused fault
@@ -178,13 +152,7 @@ module _ (q q' : State) (n : ℕ) (r : SessionReply) (un : refusal q (step.Stamp
   as-refused _ fault told = absurd (cc told)
 
   stamps : ((fault : Fault) → r ≢ Refused fault) → q' ≡ next_state q (step.Stamp n)
-  stamps unrefused_so = by stepped
-    where
-      by : Stepped q (step.Stamp n) (as_reply r) q' → q' ≡ next_state q (step.Stamp n)
-      by (refused other why told same) = absurd (cc (un, why))
-      by (answered none told same) = same
-      by (memory_refused none takes told same) = absurd (cc takes)
-      by (device_failed none operating told same) = absurd (unrefused_so DeviceFault (as-refused r DeviceFault told))
+  stamps unrefused_so = grind (arith, as-refused) steps 800000
 
 -- it is refused where the call returns a fault
 pub stamped-told : (r : Result Bool Fault) (fault : Fault) → stamped r ≡ Refused fault → r ≡ Err fault
@@ -264,9 +232,4 @@ module _ (old : VolatileState) (new : Sessions) (before now : Device) (n : ℕ) 
 
 pub none-left : (ds : List DrawnCommit) → unstamped_session ds ≡ None → list_all is_stamped (map plain_drawn ds) ≡ true
 none-left [] none = refl
-none-left (d ∷ ds) none = by (is_stamped (plain_drawn d)) none (none-left ds)
-  where
-    by : (b : Bool) → option_map (λ (d : DrawnCommit). d.session) (cond (not b) (Some d) (find (λ d. not (is_stamped (plain_drawn d))) ds)) ≡ None → (unstamped_session ds ≡ None → list_all is_stamped (map plain_drawn ds) ≡ true)
-        → (b && list_all is_stamped (map plain_drawn ds)) ≡ true
-    by true none rest = rest none
-    by false none rest = absurd (cc none)
+none-left (d ∷ ds) none = grind (arith, none-left ds) steps 800000

@@ -1,17 +1,16 @@
 -- A tick for the batch in hand, as a part of a close.
-use Rattle.std.proofs.Common.{◌≡◌, ◌≢◌, true, false, ◌&&◌, not, refl, sym, ◌∙◌, ap, subst, true≢false}
+use Rattle.std.proofs.Common.{◌≡◌, ◌≢◌, true, false, ◌&&◌, not, refl, sym, ◌∙◌, ap, subst, true≢false, arith}
 use Rattle.std.proofs.Math.Bridge.{le_prop}
 use Rattle.std.proofs.Math.Logic.{∥∥₁_elim}
 use Rattle.std.proofs.Math.Nat.{ℕ_set}
 use Rattle.std.specs.Prelude.{Option, Some, None, Result, Ok, Err, is_none, is_some, IsTrue}
 use Rattle.base.specs.declared.fault.Fault.{Fault}
-use Rattle.base.specs.declared.fault.Fault.TheVariants.{Device as DeviceFault, OutOfMemory}
+use Rattle.base.specs.declared.fault.Fault.TheVariants.{Device as DeviceFault}
 use Rattle.base.specs.Batches.{Batch}
-use Rattle.base.specs.declared.step.Stage.{Stage}
 use Rattle.base.specs.declared.step.Step.TheVariants.{Commit as CommitTick}
 use Rattle.base.specs.declared.step.Reply.{Reply}
 use Rattle.base.specs.declared.step.Reply.TheVariants.{Refused}
-use Rattle.machine.specs.Machine.{State, Hand, Stepped, refused, answered, memory_refused, device_failed, refusal, is_idle, ticked, ticked_on, state_ticked, state_ticked_on, next_stage, StandsClosing}
+use Rattle.machine.specs.Machine.{State, Hand, Stepped, refusal, is_idle, StandsClosing}
 use Rattle.pmem.specs.Device.{Device}
 use Rattle.pmem.specs.Words.{LeavesOnly}
 use Rattle.pmem.proofs.Images.{leaves_weaken}
@@ -40,31 +39,11 @@ module _ (q q' : State) (hand : Hand) (reply : Reply) (in_hand : q.hand ≡ Some
 
   -- it fails with the device alone
   fails : (fault : Fault) → reply ≡ Refused fault → fault ≡ DeviceFault
-  fails fault is = by stepped
-    where
-      answers : (o : Option Stage) → ticked_on q hand o ≡ Refused fault → ⊥
-      answers (Some stage) told = cc told
-      answers None told = cc told
-
-      by : Stepped q CommitTick reply q' → fault ≡ DeviceFault
-      by (refused other why told same) = absurd (unrefused other why)
-      by (answered none told same) = absurd (answers (next_stage q hand) (sym (told ∙ ap (ticked q) in_hand) ∙ is))
-      by (memory_refused none takes told same) = absurd (takes-none takes)
-      by (device_failed none operating told same) = let e : Refused fault ≡ Refused DeviceFault = sym is ∙ told in cc e
+  fails fault is = grind (arith, unrefused, takes-none) steps 800000
 
   -- and otherwise the state works on
   works-on : ((fault : Fault) → reply ≢ Refused fault) → q'.failed ≡ false
-  works-on un = by stepped
-    where
-      after : (o : Option Stage) → (state_ticked_on q hand o).failed ≡ false
-      after (Some stage) = up
-      after None = up
-
-      by : Stepped q CommitTick reply q' → q'.failed ≡ false
-      by (refused other why told same) = absurd (un other told)
-      by (answered none told same) = ap (λ (p : State). p.failed) (same ∙ ap (state_ticked q) in_hand) ∙ after (next_stage q hand)
-      by (memory_refused none takes told same) = absurd (un OutOfMemory told)
-      by (device_failed none operating told same) = absurd (un DeviceFault told)
+  works-on un = grind (arith) steps 800000
 
 -- ---- the cycle in hand
 

@@ -1,5 +1,5 @@
 -- The number of the last record of a close, why one is refused, and the close as a whole.
-use Rattle.std.proofs.Common.{◌≡◌, inl, inr, ℕ, ◌+◌, ◌^◌, ◌<◌, Bool, true, false, cond, refl, ◌∙◌, ap, subst, arith}
+use Rattle.std.proofs.Common.{◌≡◌, inr, ℕ, ◌+◌, ◌^◌, ◌<◌, Bool, true, false, cond, refl, ◌∙◌, ap, arith}
 use Rattle.std.proofs.Math.Bridge.{le_prop}
 use Rattle.std.proofs.Math.Logic.{∥∥₁_elim}
 use Rattle.std.proofs.lemmas.Bool.{leb-true}
@@ -7,13 +7,11 @@ use Rattle.std.specs.Prelude.{Option, Some, None, Result, Ok, Err, IfErr, OnOk, 
 use Rattle.std.specs.Option.{option_or}
 use Rattle.base.specs.declared.fault.Fault.{Fault}
 use Rattle.base.specs.declared.fault.Fault.TheVariants.{Failed, TimestampsOut}
-use Rattle.base.specs.Records.{Record}
 use Rattle.base.specs.Search.{some_if}
 use Rattle.machine.specs.Machine.{State, Hand, closing_gate, closing_fault, StandsClosing}
 use Rattle.pmem.specs.Device.{Device, IsOrderly}
 use Rattle.pmem.specs.Words.{LeavesOnly}
 use Rattle.pmem.proofs.Images.{leaves_refl}
-use Rattle.device_invariant.specs.Log.{HoldsHand}
 use Rattle.group_commit.specs.Cycles.{Cycling}
 use Rattle.room.specs.declared.volatile.VolatileState.{VolatileState}
 use Rattle.room.specs.Committing.{HoldsCycle, Shows}
@@ -37,12 +35,7 @@ gate-is c device q shown =
 
 -- there are numbers after that of the record that rules
 pub ruling-below : (c : VolatileState) (device : Device) (q : State) → Shows c device q → c.sessions.numbers.record.gate < 2 ^ 62
-ruling-below c device q shown = subst (λ (r : Record). r.gate < 2 ^ 62) (ap (λ (p : State). p.ruling) shown.shown.plain) (by q.hand shown.shown.upholds.holds.log)
-  where
-    by : (h : Option Hand) → HoldsHand q device h → q.ruling.gate < 2 ^ 62
-    by None holds = holds.stands.fits.in_range
-    by (Some hand) (inl flushing) = flushing.follows.holds.stands.fits.in_range
-    by (Some hand) (inr recording) = recording.replaces.stands.fits.in_range
+ruling-below c device q shown = grind (arith) steps 800000
 
 pub some-below : (c : VolatileState) (device : Device) → ∥ ShowsSome c device ∥₁ → c.sessions.numbers.record.gate < 2 ^ 62
 some-below c device some = ∥∥₁_elim some le_prop (λ shown. ruling-below c device shown.0 shown.1)
@@ -55,11 +48,7 @@ fault-of false true works = refl
 fault-of false false works = refl
 
 not-past : (n : ℕ) → n < 2 ^ 62 → nat_le (2 ^ 62) n ≡ false
-not-past n less = by_test (nat_le (2 ^ 62) n) refl
-  where
-    by_test : (b : Bool) → nat_le (2 ^ 62) n ≡ b → b ≡ false
-    by_test true is = absurd (omega (arith, less, leb-true (2 ^ 62) n is))
-    by_test false is = refl
+not-past n less = grind (arith, leb-true) steps 800000
 
 fault-none : (q : State) → q.failed ≡ false → closing_gate q < 2 ^ 62 → closing_fault q ≡ None
 fault-none q works below = fault-of q.failed (nat_le (2 ^ 62) (closing_gate q)) works ∙ ap (λ (b : Bool). cond b (Some TimestampsOut) None) (not-past (closing_gate q) below)

@@ -37,11 +37,7 @@ use Rattle.room.specs.Steps.{StepsToIn}
 
 -- without a cycle nothing is in hand
 pub rests-of : (q : State) (drawn : List DrawnCommit) → HoldsCycle q drawn q.hand None → q.hand ≡ None
-rests-of q drawn holds = by q.hand holds
-  where
-    by : (hand : Option Hand) → HoldsCycle q drawn hand None → hand ≡ None
-    by None holds = refl
-    by (Some hand) holds = absurd holds
+rests-of q drawn holds = grind (arith) steps 800000
 
 -- whether no record is due, and the one that is next
 abbrev pub has_rest : Sessions → Bool

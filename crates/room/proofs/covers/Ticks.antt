@@ -1,5 +1,5 @@
 -- A tick of the batch in hand, by the stage that its cycle is in.
-use Rattle.std.proofs.Common.{◌≡◌, ◌≢◌, inl, inr, ℕ, ◌+◌, ◌-◌, ◌*◌, ◌/◌, ◌<◌, Bool, true, false, cond, ◌&&◌, ◌||◌, List, [], ◌∷◌, length, map, filter, get_or, refl, sym, ◌∙◌, ap, subst, arith, nat_eq, nat_lt, nat_le, true≢false}
+use Rattle.std.proofs.Common.{◌≡◌, ◌≢◌, inl, inr, ℕ, ◌+◌, ◌*◌, ◌/◌, ◌<◌, Bool, true, false, cond, ◌&&◌, ◌||◌, List, [], ◌∷◌, length, map, filter, get_or, refl, sym, ◌∙◌, ap, subst, arith, nat_eq, nat_lt, nat_le}
 use Rattle.std.specs.Prelude.{Option, Some, None, slice_get, find}
 use Rattle.std.specs.List.{list_any, list_all}
 use Rattle.std.specs.Option.{option_map}
@@ -31,10 +31,10 @@ use Rattle.dirty_table.specs.declared.sessions.SessionSet.{SessionSet}
 use Rattle.dirty_table.specs.Touches.{has, lines_touched}
 use Rattle.group_commit.specs.declared.stage.CycleStage.{CycleStage}
 use Rattle.group_commit.specs.declared.stage.CycleStage.TheVariants.{FlushLines, WriteRecord}
-use Rattle.group_commit.specs.Cycles.{Cycling, line_from, flush_or_fence, operation_at, operation_in, reached_at, reached_in, flushed_or_fenced, ticked_at, ticked_in}
+use Rattle.group_commit.specs.Cycles.{Cycling, line_from, operation_at, operation_in, reached_at, reached_in, flushed_or_fenced, ticked_at, ticked_in}
 use Rattle.group_commit.specs.Laws.{IsAt, IsAfter}
 use Rattle.group_commit.proofs.Counting.{ticks-are_counted}
-use Rattle.state_invariant.specs.Kept.{Origin, Keeps}
+use Rattle.state_invariant.specs.Kept.{Origin}
 use Rattle.device_invariant.specs.Log.{Line, lines_in, line_number, writing_at}
 use Rattle.device_invariant.specs.Laws.{one_tick_on}
 use Rattle.device_invariant.specs.Upholds.{Upholds}
@@ -45,7 +45,7 @@ use Rattle.cycle_simulation.proofs.covers.Stages.{more_left}
 use Rattle.cycle_simulation.proofs.covers.Ticks.{line-ticks, fence-ticks, operation-ticks, covering-ticks, failing-ticks}
 use Rattle.session_laws.proofs.Batches.{covers-batch}
 use Rattle.session_steps.specs.declared.sessions.Sessions.{Sessions}
-use Rattle.session_steps.specs.Shows.{plain_drawn, line_numbers, Agrees}
+use Rattle.session_steps.specs.Shows.{plain_drawn, line_numbers}
 use Rattle.session_steps.specs.Steps.{is_by_actor, RunsBy}
 use Rattle.session_steps.specs.Covering.{IsOf, MayCoverSome, ShowsCovered}
 use Rattle.session_steps.proofs.covers.Lines.{member, table-lines}
@@ -65,11 +65,7 @@ pub record Held (q : State) (drawn : List DrawnCommit) (cycle : Cycling) : Type 
   pub holds : HoldsHand q drawn hand cycle
 
 pub held : (q : State) (drawn : List DrawnCommit) (cycle : Cycling) → HoldsCycle q drawn q.hand (Some cycle) → Held q drawn cycle
-held q drawn cycle holds = by q.hand refl holds
-  where
-    by : (o : Option Hand) → q.hand ≡ o → HoldsCycle q drawn o (Some cycle) → Held q drawn cycle
-    by None is holds = absurd holds
-    by (Some hand) is holds = record { hand = hand; in_hand = is; holds = holds }
+held q drawn cycle holds = grind (arith) steps 800000
 
 -- ---- lists
 
@@ -82,25 +78,14 @@ found-any p x (y ∷ ys) found = by (p y) found (found-any p x ys)
     by false is rest = or_right (nat_eq y x) (list_any (λ z. nat_eq z x) ys) (rest is)
 
 pub any-has : (p : ℕ → Bool) (x : ℕ) (xs : List ℕ) → list_any (λ y. nat_eq y x) xs ≡ true → list_all p xs ≡ true → p x ≡ true
-any-has p x [] any all = absurd (true≢false (sym any))
-any-has p x (y ∷ ys) any all = by (nat_eq y x) refl any (and_parts (p y) (list_all p ys) all) (any-has p x ys)
-  where
-    by : (b : Bool) → nat_eq y x ≡ b → (b || list_any (λ z. nat_eq z x) ys) ≡ true → (p y ≡ true) × (list_all p ys ≡ true) → (list_any (λ z. nat_eq z x) ys ≡ true → list_all p ys ≡ true → p x ≡ true) → p x ≡ true
-    by true is any both rest = subst (λ (z : ℕ). p z ≡ true) (eqb-true y x is) both.0
-    by false is any both rest = rest any both.1
+any-has p x [] any all = grind (arith) steps 800000
+any-has p x (y ∷ ys) any all = grind (arith, and_parts, eqb-true, any-has p x ys) steps 800000
 
 -- ---- how many ticks are left
 
 -- with those that were made they are as many as the whole cycle has, and one more
 left-is : (lines : List ℕ) (ticks : ℕ) (cycle : Cycling) → IsAfter lines ticks cycle → ticks < length lines + 41 → left_at (length lines) cycle.writing.stage cycle.stage + ticks ≡ length lines + 42
-left-is lines ticks cycle at low = by cycle.stage at
-  where
-    by : (stage : CycleStage) → IsAt lines ticks cycle.writing stage → left_at (length lines) cycle.writing.stage stage + ticks ≡ length lines + 42
-    by (FlushLines done from) at = omega (arith, at.0, at.1.within)
-    by WriteRecord at = writes (operations_before cycle.writing.stage) at.0
-      where
-        writes : (made : ℕ) → ticks ≡ 2 + length lines + made → 40 - made + ticks ≡ length lines + 42
-        writes made is = omega (arith, is, low)
+left-is lines ticks cycle at low = grind (arith) steps 800000
 
 -- ---- the last stage
 
@@ -126,33 +111,12 @@ record LeavesCycle (cycle new : Cycling) : Type 0 where
   pub target : new.writing.target ≡ cycle.writing.target
 
 ticked-leaves : (lines : List ℕ) (cycle : Cycling) → LeavesCycle cycle (ticked_in lines cycle)
-ticked-leaves lines cycle = by cycle.stage
-  where
-    by : (stage : CycleStage) → LeavesCycle cycle (ticked_at lines cycle stage)
-    by (FlushLines done from) = record { batch = refl; sessions = refl; layout = refl; target = refl }
-    by WriteRecord = record { batch = refl; sessions = refl; layout = refl; target = refl }
+ticked-leaves lines cycle = grind (arith) steps 800000
 
 -- ---- whose operation it is
 
 pub by-committer : (lines : List ℕ) (cycle : Cycling) → is_by_actor (Some committer) (operation_in lines cycle) ≡ true
-by-committer lines cycle = by cycle.stage
-  where
-    by_line : (o : Option ℕ) → is_by_actor (Some committer) (flush_or_fence o) ≡ true
-    by_line None = refl
-    by_line (Some line) = refl
-
-    by_writing : (stage : WritingStage) → is_by_actor (Some committer) (operation_of (record { layout = cycle.writing.layout; target = cycle.writing.target; stage = stage })) ≡ true
-    by_writing (StoreBody word) = refl
-    by_writing (FlushBody line) = refl
-    by_writing FenceBody = refl
-    by_writing StoreGate = refl
-    by_writing FlushGate = refl
-    by_writing FenceGate = refl
-    by_writing Done = refl
-
-    by : (stage : CycleStage) → is_by_actor (Some committer) (operation_at lines cycle.writing stage) ≡ true
-    by (FlushLines done from) = by_line (find (nat_le from) lines)
-    by WriteRecord = by_writing cycle.writing.stage
+by-committer lines cycle = grind (arith) steps 800000
 
 module _ (s : Sessions) (cycle : Cycling) (before : Device) (orderly : IsOrderly before) (q : State) (shows : ShowsIn s (Some cycle) before q) where
   abbrev ds : List DrawnCommit
@@ -228,23 +192,7 @@ module _ (s : Sessions) (cycle : Cycling) (before : Device) (orderly : IsOrderly
 
   module _ (rising : (done from : ℕ) → cycle.stage ≡ FlushLines done from → are_rising table ≡ true) where
     same : IsSame
-    same = by cycle.stage refl
-      where
-        by : (stage : CycleStage) → cycle.stage ≡ stage → IsSame
-        by (FlushLines done from) is =
-            let e : table ≡ numbers = table-is (rising done from is) in
-            record {
-              operation = ap (λ (ls : List ℕ). operation_in ls cycle) e;
-              reached = ap (λ (ls : List ℕ). reached_in ls cycle) e;
-              ticked = ap (λ (ls : List ℕ). ticked_in ls cycle) e;
-              left = ap (λ (ls : List ℕ). left_at (length ls) cycle.writing.stage cycle.stage) e;
-            }
-        by WriteRecord is = record {
-          operation = ap (operation_at table cycle.writing) is ∙ sym (ap (operation_at numbers cycle.writing) is);
-          reached = ap (reached_at table cycle.writing) is ∙ sym (ap (reached_at numbers cycle.writing) is);
-          ticked = ap (ticked_at table cycle) is ∙ sym (ap (ticked_at numbers cycle) is);
-          left = ap (left_at (length table) cycle.writing.stage) is ∙ sym (ap (left_at (length numbers) cycle.writing.stage) is);
-        }
+    same = grind (arith, table-is) steps 800000
 
     module _ (now : Device) (orderly' : IsOrderly now) (works : q.failed ≡ false) (made : now ≡ applied (operation_in table cycle) before) where
       made-on : (op : Operation) → operation_in numbers cycle ≡ op → now ≡ applied op before
@@ -327,13 +275,7 @@ module _ (s : Sessions) (cycle : Cycling) (before : Device) (orderly : IsOrderly
           )
 
           new-left : left_at (length (lines_touched new.sessions s.dirty)) new.writing.stage new.stage ≡ left_at (length numbers) new.writing.stage new.stage
-          new-left = ap (λ (xs : SessionSet). left_at (length (lines_touched xs s.dirty)) new.writing.stage new.stage) kept.sessions ∙ by cycle.stage refl
-            where
-              by : (at : CycleStage) → cycle.stage ≡ at → left_at (length table) new.writing.stage new.stage ≡ left_at (length numbers) new.writing.stage new.stage
-              by (FlushLines done from) is = ap (λ (ls : List ℕ). left_at (length ls) new.writing.stage new.stage) (table-is (rising done from is))
-              by WriteRecord is =
-                  let e : new.stage ≡ WriteRecord = ap (λ (c : Cycling). c.stage) (next ∙ ap (ticked_at table cycle) is) ∙ is in
-                  ap (left_at (length table) new.writing.stage) e ∙ sym (ap (left_at (length numbers) new.writing.stage) e)
+          new-left = grind (arith, kept, table-is) steps 800000
 
           -- fewer ticks are left
           pub comes-closer : left_at (length (lines_touched new.sessions s.dirty)) new.writing.stage new.stage < left_at (length table) cycle.writing.stage cycle.stage
@@ -360,15 +302,7 @@ module _ (s : Sessions) (cycle : Cycling) (before : Device) (orderly : IsOrderly
         of-batch = record { in_hand = in-hand.in_hand; target = sym (ruling-is ∙ left-cycle.target ∙ h.target) }
 
         pub may-cover : MayCoverSome s ruling
-        may-cover = (
-          shows.shown.hidden,
-          hand,
-          record {
-            keeps = subst (Keeps o) shows.shown.plain upholds.keeps;
-            agrees = subst (λ (p : State). Agrees s o shows.shown.hidden.seen p) shows.shown.plain shows.shown.agrees;
-            batch = subst (λ (p : State). IsOf p hand ruling) shows.shown.plain of-batch;
-          },
-        )
+        may-cover = grind (arith, upholds, of-batch) steps 800000
 
         ends : (cycle.stage ≡ WriteRecord) × (cycle.writing.stage ≡ FenceGate)
         ends = by cycle.stage refl (last ∙ same.reached)

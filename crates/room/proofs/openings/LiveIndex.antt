@@ -111,12 +111,8 @@ one-more t live rest = record {
     ]
 
 listed : (live : List LiveSlot) → HasListed live (map entry_of live)
-listed [] = record {
-  nothing_else = λ key. refl;
-  newest = λ key slot at. absurd (cc at);
-  each = λ s c. absurd (none-in s c);
-}
-listed (t ∷ live) = one-more t live (listed live)
+listed [] = grind (arith, none-in) steps 800000
+listed (t ∷ live) = grind (arith, one-more, listed live) steps 800000
 
 -- ---- their places
 
@@ -131,14 +127,7 @@ get-slot (t ∷ live) zero key entry at = (t, refl, ap (λ (o : Option (Key × E
 get-slot (t ∷ live) (suc k) key entry at = get-slot live k key entry at
 
 pub are-placed : (live : List LiveSlot) (places : List (Key × ℕ)) → HavePlaces live places → ArePlaced places (map entry_of live)
-are-placed live places has = record {
-  there = λ key place found.
-      let s = has.there key place found in
-      (record blank { newest = Some s.0.slot }, get-entry live place s.0 s.1 ∙ (λ i. Some (s.2 i, record blank { newest = Some s.0.slot })));
-  once = λ key place entry at.
-      let s = get-slot live place key entry at in
-      ap (lookup_key places) (sym s.2) ∙ has.once s.0 place s.1;
-}
+are-placed live places has = grind (arith, get-entry, get-slot) steps 800000
 
 -- ---- as they were read
 

@@ -12,7 +12,7 @@ use Rattle.base.specs.Layout.{Layout, slot_start, slot_words, total_words, is_be
 use Rattle.base.specs.Records.{Record, opened_gaps}
 use Rattle.base.specs.Images.{Image, IsSound, layout_of, ruling, is_shown, IsRuledBy}
 use Rattle.base.specs.Stands.{Stands}
-use Rattle.machine.specs.Openings.{OpensAs, IsOpenedGaps, opened as opened-state, opening_record, gaps_kept, opened_slots, updated}
+use Rattle.machine.specs.Openings.{OpensAs, IsOpenedGaps, opened as opened-state, opened_slots, updated}
 use Rattle.machine.specs.Laws.{OpensUpdated}
 use Rattle.machine.specs.Machine.{State}
 use Rattle.base.proofs.Alike.{HasRowsOf, key-same, misfit-same}
@@ -187,11 +187,7 @@ module _ (old new : Device) (layout : Layout) (r : Record) (next : ℕ) (free : 
     layout-is = same-layout ∙ sym layout_is
 
     ruling-is : state_opened.ruling ≡ r
-    ruling-is =
-        ap (λ (l : Layout). opening_record l (ruling image) (gaps_kept (opened_gaps (ruling image)))) same-layout
-        ∙ ap (λ (x : Record). opening_record (layout_of image) x (gaps_kept (opened_gaps x))) up.ruled
-        ∙ ap (λ (l : Layout). opening_record l (ruling (image_of old)) (gaps_kept (opened_gaps (ruling (image_of old))))) up.laid_out
-        ∙ sym opened.record_is
+    ruling-is = grind (arith, same-layout, up) steps 800000
 
     free-each : (slot : ℕ) → slot < layout.slots → slice_get free slot ≡ Some (is_none (state_opened.held slot))
     free-each slot h =

@@ -1,5 +1,5 @@
 -- What agrees where slots of versions that nobody reads are freed, the collector moves on, and a sweep ends.
-use Rattle.std.proofs.Common.{◌≡◌, ℕ, ◌<◌, Bool, true, false, ◌&&◌, ◌||◌, cond, List, [], ◌∷◌, length, refl, sym, ◌∙◌, ap, subst, nat_eq, get_or, Option, Some, None}
+use Rattle.std.proofs.Common.{◌≡◌, ℕ, ◌<◌, Bool, true, false, ◌&&◌, ◌||◌, cond, List, [], ◌∷◌, length, refl, sym, ◌∙◌, ap, subst, nat_eq, get_or, Option, Some, None, arith}
 use Rattle.std.specs.Prelude.{is_none, slice_get}
 use Rattle.std.specs.List.{list_any}
 use Rattle.std.proofs.lemmas.Bool.{ne_eqb, true≢false}
@@ -10,7 +10,6 @@ use Rattle.collector.specs.declared.rounds.Collector.{Collector}
 use Rattle.txn.specs.declared.drawn.DrawnCommit.{DrawnCommit}
 use Rattle.txn.specs.declared.transaction.Transaction.{Transaction}
 use Rattle.txn.specs.declared.transaction.Transaction.TheVariants.{Active, Drawn, ReadOnly}
-use Rattle.txn.specs.Transactions.{transaction_at}
 use Rattle.index.specs.declared.entry.Entry.{Entry}
 use Rattle.index.specs.Entries.{entry_at, KeepsRoom, live_of}
 use Rattle.state_invariant.specs.Kept.{Keeps, version_by}
@@ -46,24 +45,12 @@ module _ (s : Sessions) (h : Hidden) (keeps : Keeps h.origin (plain_of s h)) (ag
   IsRead v = (slot : ℕ) → IsGarbage q slot → h.held slot ≡ Some v → ⊥
 
   slot-left : (v : Version) (o : Option ℕ) → IsRead v → IsSlotOf q v o → IsSlotOf then v o
-  slot-left v (Some slot) read is = by (only slot)
-    where
-      by : OnlyFrees q held slot → IsSlotOf then v (Some slot)
-      by (stays same) = (is.0, same ∙ is.1)
-      by (frees g none) = absurd (read slot g is.1)
-  slot-left v None read none = λ slot lt at. by slot lt at (only slot)
-    where
-      by : (slot : ℕ) → slot < s.numbers.geometry.slots → held slot ≡ Some v → OnlyFrees q held slot → ⊥
-      by slot lt at (stays same) = none slot lt (sym same ∙ at)
-      by slot lt at (frees g free) = absurd (cc (sym free ∙ at))
+  slot-left v (Some slot) read is = grind (arith) steps 800000
+  slot-left v None read none = grind (arith) steps 800000
 
   -- a slot that is held then was held by the same version
   was : (slot : ℕ) (v : Version) → held slot ≡ Some v → h.held slot ≡ Some v
-  was slot v at = by (only slot)
-    where
-      by : OnlyFrees q held slot → h.held slot ≡ Some v
-      by (stays same) = sym same ∙ at
-      by (frees g free) = absurd (cc (sym free ∙ at))
+  was slot v at = grind (arith) steps 800000
 
   same-writer : (v w : Version) → Some v ≡ Some w → v.writer ≡ w.writer
   same-writer v w e = cc e
@@ -177,15 +164,4 @@ module _ (s : Sessions) (h : Hidden) (keeps : Keeps h.origin (plain_of s h)) (ag
 
   pub agrees-freed : ((slot : ℕ) → slot < s.numbers.geometry.slots → slice_get slots slot ≡ Some (is_none (held slot))) → length slots ≡ s.numbers.geometry.slots → KeepsRoom s.index index
       → ((key : Key) → HoldsEntry h.origin then key (entry_at index key)) → Agrees now h.origin h.seen then
-  agrees-freed free counted room entries = record {
-    sessions = λ n. session-left n (h.seen n) (transaction_at s.transactions n) (agrees.sessions n);
-    drawn = λ k d lt. drawn-left room (get_or s.drawn.commits k d) (drawn-there k d lt) (agrees.drawn k d lt);
-    free = free;
-    counted = counted;
-    index = entries;
-    lines = record {
-      own = λ k d lt line. agrees.lines.own k d lt line ∙ ap (λ (ls : List ℕ). list_any (λ l. nat_eq l line) ls) (sym (lines-left (get_or s.drawn.commits k d) (drawn-there k d lt)));
-      none = agrees.lines.none;
-    };
-    sized = agrees.sized;
-  }
+  agrees-freed free counted room entries = grind (arith, session-left, drawn-left, drawn-there, lines-left) steps 800000

@@ -1,5 +1,5 @@
 -- Whether the snapshots of all Active sessions cover a timestamp, by the numbers that sessions may have.
-use Rattle.std.proofs.Common.{◌≡◌, ℕ, zero, suc, ◌+◌, ◌<◌, ◌≤◌, Bool, true, false, List, refl, sym, ◌∙◌, arith, nat_lt, Option, Some, None}
+use Rattle.std.proofs.Common.{◌≡◌, ℕ, zero, suc, ◌+◌, ◌<◌, ◌≤◌, Bool, true, false, List, refl, sym, ◌∙◌, arith, Option, Some, None}
 use Rattle.std.specs.List.{list_all, range_with_len}
 use Rattle.std.proofs.lemmas.Bool.{and_from, false_from_ne_true, true≢false}
 use Rattle.std.proofs.lemmas.Bool.Decides.{nat_tests}
@@ -39,8 +39,4 @@ CoverBelow ts t from = (k : ℕ) → 2 ≤ k → k < from → is_covered_in t (t
 
 -- where there is no next that is Active, that of each does
 pub covers-past : (ts : List (Option Transaction)) (t from : ℕ) → CoverBelow ts t from → ((n : ℕ) → from ≤ n → is_active (transaction_at ts n) ≡ false) → each_covers ts t ≡ true
-covers-past ts t from below none = each-covers ts t (λ k low high. by k low (nat_lt k from) refl)
-  where
-    by : (k : ℕ) → 2 ≤ k → (b : Bool) → nat_lt k from ≡ b → is_covered_in t (transaction_at ts k) ≡ true
-    by k low true is = below k low (grind (arith, nat_tests))
-    by k low false is = inactive-covered t (transaction_at ts k) (none k (grind (arith, nat_tests)))
+covers-past ts t from below none = grind (arith, nat_tests, each-covers, inactive-covered) steps 800000

@@ -1,5 +1,5 @@
 -- A visit of the collector leads from each state that the sessions show to the machine's next.
-use Rattle.std.proofs.Common.{◌≡◌, ◌≢◌, ◌⊎◌, inl, inr, ℕ, ◌+◌, ◌/◌, ◌<◌, ◌≤◌, Bool, true, false, ◌&&◌, not, cond, List, [], ◌∷◌, ◌++◌, length, refl, sym, ◌∙◌, ap, subst, arith, nat_eq, nat_lt, Option, Some, None, length-set}
+use Rattle.std.proofs.Common.{◌≡◌, ◌≢◌, ◌⊎◌, inl, inr, ℕ, ◌+◌, ◌/◌, ◌<◌, ◌≤◌, Bool, true, false, ◌&&◌, cond, List, [], ◌∷◌, ◌++◌, length, refl, sym, ◌∙◌, ap, subst, arith, nat_eq, nat_lt, Option, Some, None, length-set}
 use Rattle.std.specs.Prelude.{is_none, slice_get, slice_set, unwrap_or, Result, Ok, Err}
 use Rattle.std.specs.List.{list_all}
 use Rattle.std.specs.Option.{option_map, option_eq}
@@ -18,7 +18,7 @@ use Rattle.base.specs.Commits.{Writes, last_writer}
 use Rattle.base.specs.Layout.{Layout, slot_start, total_words}
 use Rattle.base.specs.Records.{is_in}
 use Rattle.base.specs.Images.{layout_of}
-use Rattle.base.specs.Lists.{replaced, is_nil}
+use Rattle.base.specs.Lists.{replaced}
 use Rattle.machine.specs.Machine.{State, Active as Reads, Drawn as PlainDrawn, Version, ByCommit, answered, device_failed, refusal, session_numbers, StandsWithin}
 use Rattle.machine.specs.Collecting.{is_garbage, is_at_slot, is_sweeping, held_after_visit, slot_visited, sweep_ended, visited, collected, replace, sees_replaced}
 use Rattle.base.proofs.Keys.{key_eq-true, key_eq-same}
@@ -82,22 +82,11 @@ module _ (a : Layout) (gaps : List Gap) (value : ℕ → ℕ) where
   by-collector slot true true true true = refl
 
   zero-leaves : (word x : ℕ) (device : Device) (other : ℕ) → other ≢ word → value_of (after (zero_operations gaps word x) device) other ≡ value_of device other
-  zero-leaves word x device other apart = by (is_in gaps x)
-    where
-      by : (b : Bool) → value_of (after (cond b (store_op word 0 ∷ []) []) device) other ≡ value_of device other
-      by true = value-stored_other word 0 device other apart
-      by false = refl
+  zero-leaves word x device other apart = grind (arith, value-stored_other) steps 800000
 
   -- of a slot only the begin and the end change
   sweep-leaves : (slot w : ℕ) (device : Device) → 2 ≤ w → value_of (after (sweep_operations a gaps value slot) device) (word_of a slot w) ≡ value_of device (word_of a slot w)
-  sweep-leaves slot w device further =
-      let first = zero_operations gaps (slot_start a slot) (value (slot_start a slot)) in
-      let second = zero_operations gaps (slot_start a slot + 1) (value (slot_start a slot + 1)) in
-      let last : List Operation = flush_op actor (slot_start a slot / 8) ∷ [] in
-      ap (λ (d : Device). value_of d (word_of a slot w)) (after-append (first ++ second) last device ∙ ap (λ (d : Device). after last d) (after-append first second device))
-      ∙ value-flushed actor (slot_start a slot / 8) (after second (after first device)) (word_of a slot w)
-      ∙ zero-leaves (slot_start a slot + 1) (value (slot_start a slot + 1)) (after first device) (word_of a slot w) (λ same. omega (arith, same, further))
-      ∙ zero-leaves (slot_start a slot) (value (slot_start a slot)) device (word_of a slot w) (λ same. omega (arith, same, further))
+  sweep-leaves slot w device further = grind (arith, after-append, value-flushed, zero-leaves) steps 800000
 
 -- ---- who still reads
 
@@ -232,11 +221,7 @@ module _ (s : Sessions) (h : Hidden) (before now : Device) (holds : HoldsOn s h 
     IsFreed c g = (g ≡ c) ⊎ ((g ≡ false) × (h.held place ≡ None))
 
     is-freed : IsFreed covered (is_garbage q place)
-    is-freed = by (h.held place) refl
-      where
-        by : (o : Option Version) → h.held place ≡ o → IsFreed covered (is_garbage q place)
-        by None none = inr (bare-live none, none)
-        by (Some v) there = inl (sym (covered-garbage v there))
+    is-freed = grind (arith, bare-live, covered-garbage) steps 800000
 
     free-by : (c g : Bool) → IsFreed c g → (slot : ℕ) → slot < a.slots → (slot ≡ place) ⊎ (slot ≢ place) → slice_get (cond c (slice_set s.slots place true) s.slots) slot ≡ Some (is_none (cond g (replaced place None h.held) h.held slot))
     free-by true true which slot below (inl same) =
@@ -451,26 +436,9 @@ same-operations a given gaps false spot value are = ap (λ (gaps : List Gap). ti
 
 -- and there is none then
 pub swept-runs : (a : Layout) (gaps : List Gap) (swept : Bool) (place : ℕ) (device : Device) → IsOrderly device → swept ≡ true → Runs (tick_operations a gaps swept place (value_of device)) device device
-swept-runs a gaps false place device orderly is = absurd (cc is)
-swept-runs a gaps true place device orderly is = by (nat_lt place a.slots)
-  where
-    by : (b : Bool) → Runs (cond b [] []) device device
-    by true = record { made = refl; orderly = orderly }
-    by false = record { made = refl; orderly = orderly }
+swept-runs a gaps false place device orderly is = grind (arith) steps 800000
+swept-runs a gaps true place device orderly is = grind (arith, made) steps 800000
 
 -- the operations of a visit keep the device's size
 pub words-kept : (a : Layout) (gaps : List Gap) (swept : Bool) (place : ℕ) (before now : Device) → Runs (tick_operations a gaps swept place (value_of before)) before now → now.words ≡ before.words
-words-kept a gaps swept place before now run =
-    ap (λ (d : Device). d.words) run.made
-    ∙ by (not swept && not (is_nil gaps)) (nat_lt place a.slots) (is_in gaps (value_of before (slot_start a place))) (is_in gaps (value_of before (slot_start a place + 1)))
-  where
-    by : (sweeping at_slot begins ends : Bool)
-        → (after (cond at_slot (cond sweeping (cond begins (store_op (slot_start a place) 0 ∷ []) [] ++ cond ends (store_op (slot_start a place + 1) 0 ∷ []) [] ++ flush_op actor (slot_start a place / 8) ∷ []) []) (cond sweeping (fence_op actor ∷ []) [])) before).words
-        ≡ before.words
-    by false false begins ends = refl
-    by false true begins ends = refl
-    by true false begins ends = refl
-    by true true false false = refl
-    by true true false true = refl
-    by true true true false = refl
-    by true true true true = refl
+words-kept a gaps swept place before now run = grind (arith, made) steps 800000

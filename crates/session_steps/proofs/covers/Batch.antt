@@ -248,11 +248,7 @@ module _ (s : Sessions) (ruling : Record) (h : Hidden) (hand : Hand) (may : MayC
 
     -- no commit of the batch has its timestamp
     apart : (t : ℕ) → is_committed ruling t ≡ true → t ≡ left.timestamp → ⊥
-    apart t is same = clash (is_committed ruling left.timestamp) (sym (ap (is_committed ruling) same) ∙ is) place.3
-      where
-        clash : (b : Bool) → b ≡ true → not b ≡ true → ⊥
-        clash true is un = cc un
-        clash false is un = cc is
+    apart t is same = grind (arith, place) steps 800000
 
     -- its keys are written by none of the batch
     unwritten : (key : Key) → writes_key key (plain_drawn left).commit ≡ true → list_any (writes_key key) hand.commits ≡ false
@@ -271,15 +267,7 @@ module _ (s : Sessions) (ruling : Record) (h : Hidden) (hand : Hand) (may : MayC
 
     ended-same : (o : Option Version) → is_ended q' ((plain_drawn left).commit ∷ []) o ≡ is_ended q ((plain_drawn left).commit ∷ []) o
     ended-same None = refl
-    ended-same (Some v) = by v.writer
-      where
-        by : (w : Writer) → is_ended q' ((plain_drawn left).commit ∷ []) (Some (version_by v.key w)) ≡ is_ended q ((plain_drawn left).commit ∷ []) (Some (version_by v.key w))
-        by (BySession n) = refl
-        by (ByCommit t) = written (writes_key v.key (plain_drawn left).commit) refl
-          where
-            written : (b : Bool) → writes_key v.key (plain_drawn left).commit ≡ b → (nat_eq (last_writer q'.history v.key) t && (b || false)) ≡ (nat_eq (last_writer q.history v.key) t && (b || false))
-            written true is = ap (λ (u : ℕ). nat_eq u t && true) (last-same v.key is)
-            written false is = and-false (nat_eq (last_writer q'.history v.key) t) ∙ sym (and-false (nat_eq (last_writer q.history v.key) t))
+    ended-same (Some v) = grind (arith, last-same, and-false) steps 800000
 
     numbers-same : line_numbers q' ((plain_drawn left).commit ∷ []) ≡ line_numbers q ((plain_drawn left).commit ∷ [])
     numbers-same = numbers-by-tests q q' ((plain_drawn left).commit ∷ []) refl (λ slot. refl) (λ slot. ended-same (q.held slot))

@@ -1,5 +1,5 @@
 -- What the index has of a key once commits are covered.
-use Rattle.std.proofs.Common.{◌≡◌, ◌⊎◌, inl, inr, ℕ, ◌<◌, Bool, true, false, ◌||◌, cond, List, [], ◌∷◌, ◌++◌, map, refl, sym, ◌∙◌, ap, subst}
+use Rattle.std.proofs.Common.{◌≡◌, ◌⊎◌, inl, inr, ℕ, ◌<◌, Bool, true, false, ◌||◌, cond, List, [], ◌∷◌, ◌++◌, map, refl, sym, ◌∙◌, ap, subst, arith}
 use Rattle.std.specs.Prelude.{Option, Some, None, is_some, unwrap_or, fold, slice_index_or, All}
 use Rattle.std.specs.List.{list_any}
 use Rattle.std.proofs.lemmas.List.Sums.{fold-append}
@@ -28,11 +28,7 @@ has_key key writes = list_any (λ w. key_eq w.key key) writes
 
 pub written-plain : (key : Key) (writes : List Write) → is_some (lookup_key (plain_writes writes) key) ≡ has_key key writes
 written-plain key [] = refl
-written-plain key (w ∷ writes) = by (key_eq w.key key) (written-plain key writes)
-  where
-    by : (b : Bool) → is_some (lookup_key (plain_writes writes) key) ≡ has_key key writes → is_some (cond b (Some w.row) (lookup_key (plain_writes writes) key)) ≡ (b || has_key key writes)
-    by true rest = refl
-    by false rest = rest
+written-plain key (w ∷ writes) = grind (arith, written-plain key writes) steps 800000
 
 -- one of the commits writes the key
 pub written-commits : (key : Key) (ds : List DrawnCommit) → list_any (writes_key key) (map (λ (d : PlainDrawn). d.commit) (map plain_drawn ds)) ≡ list_any (λ (d : DrawnCommit). has_key key d.writes) ds
@@ -61,11 +57,7 @@ module _ (q : State) (v : Version) (key : Key) (last : Option ℕ) (t : ℕ) (wr
   within-covered None e is within = record { last_is = within.last_is; only = within.only; drawn = λ other at. absurd (cc at) }
 
   within-one : (w : Write) (e : Entry) → IsOwn q v key w → Within q key last e → Within q key last (covered_by key e w)
-  within-one w e own within = by (key_eq w.key key) refl
-    where
-      by : (b : Bool) → key_eq w.key key ≡ b → Within q key last (cond b (covered w.slot e) e)
-      by true is = within-covered w.slot e (own is) within
-      by false is = within
+  within-one w e own within = grind (arith, within-covered) steps 800000
 
   within-writes : (writes : List Write) (e : Entry) → All (IsOwn q v key) writes → Within q key last e → Within q key last (covered_by_all key e writes)
   within-writes [] e own within = within
@@ -85,11 +77,7 @@ module _ (q : State) (v : Version) (key : Key) (last : Option ℕ) (t : ℕ) (wr
   IsLiveOr e written = IsSlotOf q v (live_of e) ⊎ (written ≡ true)
 
   live-one : (w : Write) (e : Entry) (rest : Bool) → IsOwn q v key w → IsLiveOr e (key_eq w.key key || rest) → IsLiveOr (covered_by key e w) rest
-  live-one w e rest own either = by (key_eq w.key key) refl either
-    where
-      by : (b : Bool) → key_eq w.key key ≡ b → IsLiveOr e (b || rest) → IsLiveOr (cond b (covered w.slot e) e) rest
-      by true is either = inl (live-covered w.slot e (own is))
-      by false is either = either
+  live-one w e rest own either = grind (arith, live-covered) steps 800000
 
   live-writes : (writes : List Write) (e : Entry) (rest : Bool) → All (IsOwn q v key) writes → IsLiveOr e (has_key key writes || rest) → IsLiveOr (covered_by_all key e writes) rest
   live-writes [] e rest own either = either
@@ -135,20 +123,11 @@ none-commits key (d ∷ ds) e either = none-commits key ds (covered_by_all key e
 -- where none of them is under the key, the entry stays
 stays-all : (key : Key) (writes : List Write) (e : Entry) → has_key key writes ≡ false → covered_by_all key e writes ≡ e
 stays-all key [] e none = refl
-stays-all key (w ∷ writes) e none = by (key_eq w.key key) refl none (stays-all key writes e)
-  where
-    by : (b : Bool) → key_eq w.key key ≡ b → (b || has_key key writes) ≡ false → (has_key key writes ≡ false → covered_by_all key e writes ≡ e) → covered_by_all key (covered_by key e w) writes ≡ e
-    by true is none rest = absurd (cc none)
-    by false is none rest = ap (λ (b : Bool). covered_by_all key (cond b (covered w.slot e) e) writes) is ∙ rest none
+stays-all key (w ∷ writes) e none = grind (arith, stays-all key writes e) steps 800000
 
 pub stays-commits : (key : Key) (ds : List DrawnCommit) (e : Entry) → list_any (λ (d : DrawnCommit). has_key key d.writes) ds ≡ false → covered_by_commits key e ds ≡ e
 stays-commits key [] e none = refl
-stays-commits key (d ∷ ds) e none = by (has_key key d.writes) refl none (stays-commits key ds e)
-  where
-    by : (b : Bool) → has_key key d.writes ≡ b → (b || list_any (λ (d : DrawnCommit). has_key key d.writes) ds) ≡ false → (list_any (λ (d : DrawnCommit). has_key key d.writes) ds ≡ false → covered_by_commits key e ds ≡ e)
-        → covered_by_commits key (covered_by_all key e d.writes) ds ≡ e
-    by true is none rest = absurd (cc none)
-    by false is none rest = ap (λ (x : Entry). covered_by_commits key x ds) (stays-all key d.writes e is) ∙ rest none
+stays-commits key (d ∷ ds) e none = grind (arith, stays-all, stays-commits key ds e) steps 800000
 
 -- ---- the newest row version
 

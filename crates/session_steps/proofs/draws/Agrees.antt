@@ -2,7 +2,7 @@
 use Rattle.std.proofs.Common.{◌≡◌, ◌⊎◌, inl, inr, ℕ, ◌+◌, ◌/◌, ◌<◌, ◌≤◌, Bool, true, false, ◌&&◌, ◌||◌, cond, not, List, [], ◌∷◌, ◌++◌, map, length, take, drop, refl, sym, ◌∙◌, ap, subst, arith, nat_eq, nat_lt, append_assoc, Contains, get_or}
 use Rattle.std.specs.Prelude.{Option, Some, None, is_some, is_none, find, All}
 use Rattle.std.specs.List.{list_any, list_all, flat_map, range_with_len}
-use Rattle.std.specs.Option.{option_map, option_map_or, option_or, option_and_then}
+use Rattle.std.specs.Option.{option_map_or, option_or, option_and_then}
 use Rattle.std.proofs.lemmas.Bool.{and_parts, or_right, or_left}
 use Rattle.std.proofs.lemmas.Bool.Decides.{nat_tests}
 use Rattle.std.proofs.lemmas.List.Elements.{All-append, All-cons, All-nil, All-head, All-tail, All-contains, All-contains_itself}
@@ -75,11 +75,7 @@ none-by n (d ∷ ds) all = (λ i. All-head (λ (d : DrawnCommit). nat_eq d.sessi
 
 -- whether the commit writes the key
 pub writes-plain : (key : Key) (t : ℕ) (writes : List Write) → writes_key key (record { timestamp = t; writes = plain_writes writes }) ≡ is_some (write_of key writes)
-writes-plain key t writes = ap (λ (o : Option (Option (List ℕ))). is_some o) (lookup_key-plain_writes writes key) ∙ by (write_of key writes)
-  where
-    by : (o : Option Write) → is_some (option_map (λ (w : Write). w.row) o) ≡ is_some o
-    by None = refl
-    by (Some w) = refl
+writes-plain key t writes = grind (arith, lookup_key-plain_writes) steps 800000
 
 plus-none : (n : ℕ) → n + 0 ≡ n
 plus-none n = omega arith
@@ -491,14 +487,7 @@ module _ (s : Sessions) (h : Hidden) (n : ℕ) (snapshot : Seen) (writes : List 
     -- ---- all of it
 
     apart-sessions : All (λ (d : DrawnCommit). nat_eq d.session n ≡ false) s.drawn.commits
-    apart-sessions = λ k d lt. by _ (holds.agrees.drawn k d lt)
-      where
-        by : (d : DrawnCommit) → HoldsDrawn s old d → nat_eq d.session n ≡ false
-        by d has = which (nat_eq d.session n) refl
-          where
-            which : (b : Bool) → nat_eq d.session n ≡ b → b ≡ false
-            which false is = refl
-            which true is = let e : d.session ≡ n = grind (arith, nat_tests) in absurd (cc (subst (λ (k : ℕ). transaction_at s.transactions k ≡ Some (Drawn d.timestamp)) e has.session, at))
+    apart-sessions = grind (arith, nat_tests, session) steps 800000
 
     early-commits : All (λ (d : DrawnCommit). d.timestamp < t) s.drawn.commits
     early-commits = all-early (is_committed s.numbers.record) t s.drawn.commits holds.keeps.numbers.drawn

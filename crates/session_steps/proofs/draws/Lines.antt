@@ -1,5 +1,5 @@
 -- The lines that a draw puts into the dirty table are those that its commit touches.
-use Rattle.std.proofs.Common.{◌≡◌, ℕ, zero, suc, ◌+◌, ◌<◌, ◌≤◌, Bool, true, false, ◌||◌, List, [], ◌∷◌, refl, ◌∙◌, ap, arith, nat_eq, Contains, length, get_or}
+use Rattle.std.proofs.Common.{◌≡◌, ℕ, zero, suc, ◌+◌, ◌<◌, ◌≤◌, Bool, true, ◌||◌, List, [], ◌∷◌, refl, ◌∙◌, ap, arith, Contains, length, get_or}
 use Rattle.std.specs.Prelude.{All}
 use Rattle.std.specs.List.{list_any, flat_map, range_with_len}
 use Rattle.std.proofs.lemmas.Bool.Decides.{nat_tests}
@@ -15,12 +15,8 @@ any-flat_map p f (x ∷ xs) = list_any-append p (f x) (flat_map f xs) ∙ ap (λ
 
 -- one that passes, of those that have P
 pub any-each : {X : Type 0} (P : X → Type 0) (p : X → Bool) (xs : List X) (goal : Bool) → All P xs → ((x : X) → P x → p x ≡ true → goal ≡ true) → list_any p xs ≡ true → goal ≡ true
-any-each P p [] goal all each some = absurd (cc some)
-any-each P p (x ∷ xs) goal all each some = by (p x) refl some (any-each P p xs goal (All-tail P x xs all) each)
-  where
-    by : (b : Bool) → p x ≡ b → (b || list_any p xs) ≡ true → (list_any p xs ≡ true → goal ≡ true) → goal ≡ true
-    by true is some rest = each x (All-head P x xs all) is
-    by false is some rest = rest some
+any-each P p [] goal all each some = grind (arith) steps 800000
+any-each P p (x ∷ xs) goal all each some = grind (arith, All-tail, All-head, any-each P p xs goal (All-tail P x xs all) each) steps 800000
 
 -- one that is there passes
 any-from : {X : Type 0} (p : X → Bool) (xs : List X) (x : X) (k : ℕ) → k < length xs → get_or xs k x ≡ x → p x ≡ true → list_any p xs ≡ true
@@ -33,17 +29,9 @@ any-at p xs x there is = any-from p xs x there.0 there.1 there.2 is
 
 -- of the numbers from a on
 pub any-range : (p : ℕ → Bool) (a n k : ℕ) → a ≤ k → k < a + n → p k ≡ true → list_any p (range_with_len a n) ≡ true
-any-range p a zero k lo hi is = absurd (omega (arith, lo, hi))
-any-range p a (suc n) k lo hi is = by (nat_eq a k) refl (any-range p (a + 1) n k)
-  where
-    by : (b : Bool) → nat_eq a k ≡ b → (a + 1 ≤ k → k < (a + 1) + n → p k ≡ true → list_any p (range_with_len (a + 1) n) ≡ true) → list_any p (range_with_len a (suc n)) ≡ true
-    by true same rest = let e : a ≡ k = grind (arith, nat_tests) in or_left (p a) (list_any p (range_with_len (a + 1) n)) (ap p e ∙ is)
-    by false apart rest = let lt : a + 1 ≤ k = grind (arith, nat_tests) in or_right (p a) (list_any p (range_with_len (a + 1) n)) (rest lt (omega (arith, hi)) is)
+any-range p a zero k lo hi is = grind (arith) steps 800000
+any-range p a (suc n) k lo hi is = grind (arith, nat_tests, or_left, or_right, any-range p (a + 1) n k) steps 800000
 
 pub range-any : (p : ℕ → Bool) (a n : ℕ) → list_any p (range_with_len a n) ≡ true → (k : ℕ) × (a ≤ k) × (k < a + n) × (p k ≡ true)
-range-any p a zero some = absurd (cc some)
-range-any p a (suc n) some = by (p a) refl some (range-any p (a + 1) n)
-  where
-    by : (b : Bool) → p a ≡ b → (b || list_any p (range_with_len (a + 1) n)) ≡ true → (list_any p (range_with_len (a + 1) n) ≡ true → (k : ℕ) × (a + 1 ≤ k) × (k < (a + 1) + n) × (p k ≡ true)) → (k : ℕ) × (a ≤ k) × (k < a + suc n) × (p k ≡ true)
-    by true is some rest = (a, omega arith, omega arith, is)
-    by false is some rest = let found = rest some in (found.0, omega (arith, found.1), omega (arith, found.2), found.3)
+range-any p a zero some = grind (arith) steps 800000
+range-any p a (suc n) some = grind (arith, range-any p (a + 1) n) steps 800000

@@ -1,5 +1,5 @@
 -- Draw.
-use Rattle.std.proofs.Common.{◌≡◌, ◌≢◌, inl, ℕ, ◌+◌, ◌*◌, ◌^◌, Bool, true, false, ◌&&◌, ◌||◌, cond, not, List, [], ◌∷◌, ◌++◌, map, refl, sym, ◌∙◌, ap, subst, nat_eq, nat_le, nat_lt}
+use Rattle.std.proofs.Common.{◌≡◌, ◌≢◌, inl, ℕ, ◌+◌, ◌*◌, ◌^◌, Bool, true, false, ◌&&◌, ◌||◌, cond, not, List, [], ◌∷◌, ◌++◌, map, refl, sym, ◌∙◌, ap, subst, nat_eq, nat_le, nat_lt, arith}
 use Rattle.std.specs.Prelude.{Option, Some, None, All}
 use Rattle.std.specs.List.{flat_map, list_all}
 use Rattle.std.specs.Option.{option_map, option_map_or}
@@ -7,7 +7,7 @@ use Rattle.std.proofs.lemmas.Bool.{and_from, and_parts}
 use Rattle.std.proofs.lemmas.List.{map-append}
 use Rattle.base.specs.declared.key.Key.{Key}
 use Rattle.base.specs.declared.fault.Fault.{Fault}
-use Rattle.base.specs.declared.fault.Fault.TheVariants.{TooLong, WriteSetFull, SlotsOut, Conflict, WindowFull, TimestampsOut, OutOfMemory}
+use Rattle.base.specs.declared.fault.Fault.TheVariants.{Conflict, WindowFull, TimestampsOut, OutOfMemory}
 use Rattle.base.specs.declared.step.Step.TheVariants as step
 use Rattle.base.specs.declared.step.Reply.TheVariants as reply
 use Rattle.base.specs.declared.step.SessionStep.TheVariants.{Draw}
@@ -16,7 +16,7 @@ use Rattle.base.specs.Commits.{Writes}
 use Rattle.base.specs.Records.{Record, is_committed}
 use Rattle.base.specs.Search.{first_of as first_there, some_if}
 use Rattle.base.specs.Lists.{is_nil}
-use Rattle.machine.specs.Machine.{State, Session, Drawn as PlainDrawn, Active as Reads, answered, memory_refused, refusal, conflict_of, writes_of, state_drawn, is_too_long, overfills, lacks_slot, chooses, by_commit}
+use Rattle.machine.specs.Machine.{State, Session, Drawn as PlainDrawn, Active as Reads, answered, memory_refused, refusal, conflict_of, writes_of, state_drawn, by_commit}
 use Rattle.snapshot.specs.Snapshots.{Seen}
 use Rattle.txn.specs.InFlight.{InFlight}
 use Rattle.txn.specs.declared.drawn.DrawnCommit.{DrawnCommit}
@@ -56,16 +56,7 @@ all-early ruling next (d ∷ ds) all =
 asks : (q : State) (n begun : ℕ) (write : Key × Option (List ℕ)) (writes : Writes) (conflict : Option Key) (full late : Bool) → q.failed ≡ false → q.sessions n ≡ Some (Reads begun (write ∷ writes))
     → conflict_of q n ≡ conflict → nat_eq q.next q.ruling.dirty ≡ full → nat_le (2 ^ 62) (q.next + 2 * q.layout.window) ≡ late
     → refusal q (step.Draw n) ≡ first_there (option_map Conflict conflict ∷ some_if full WindowFull ∷ some_if (late || false) TimestampsOut ∷ [])
-asks q n begun write writes conflict full late works found is_conflict is_full is_late =
-    passes q (step.Draw n) n (Reads begun (write ∷ writes)) works refl found refl
-    ∙ (λ i. first_there (
-    some_if (is_too_long q (step.Draw n)) TooLong
-    ∷ some_if (overfills q (step.Draw n)) WriteSetFull
-    ∷ some_if (lacks_slot q (step.Draw n)) SlotsOut
-    ∷ option_map Conflict (is_conflict i)
-    ∷ some_if (not (is_nil (writes_of (found i))) && is_full i) WindowFull
-    ∷ some_if (not (is_nil (writes_of (found i))) && is_late i || chooses q (step.Draw n) && nat_le (2 ^ 62) (q.ruling.gate + 1)) TimestampsOut
-    ∷ []))
+asks q n begun write writes conflict full late works found is_conflict is_full is_late = grind (arith, passes) steps 800000
 
 -- a draw of a session that has written is refused for the first of these
 pub draw-asks : (s : Sessions) (h : Hidden) (n : ℕ) (snapshot : Seen) (writes : List Write) (conflict : Option Key) (full late : Bool) → writes ≢ [] → transaction_at s.transactions n ≡ Some (Active snapshot writes) → Holds s h

@@ -1,6 +1,6 @@
 -- Put.
-use Rattle.std.proofs.Common.{◌≡◌, ◌≢◌, ◌⊎◌, inl, inr, ℕ, ◌+◌, ◌-◌, ◌<◌, ◌≤◌, Bool, true, false, ◌&&◌, not, cond, List, [], ◌∷◌, ◌++◌, length, map, set, refl, sym, ◌∙◌, ap, subst, arith, nat_eq, nat_le, length-set}
-use Rattle.std.specs.Prelude.{Option, Some, None, is_none, is_some, slice_get, slice_set}
+use Rattle.std.proofs.Common.{◌≡◌, ◌≢◌, ◌⊎◌, inl, inr, ℕ, ◌+◌, ◌-◌, ◌<◌, ◌≤◌, Bool, true, false, ◌&&◌, cond, List, [], ◌∷◌, ◌++◌, length, map, set, refl, sym, ◌∙◌, ap, subst, arith, nat_eq, nat_le, length-set}
+use Rattle.std.specs.Prelude.{Option, Some, None, is_none, slice_get, slice_set}
 use Rattle.std.specs.List.{list_all, range_with_len}
 use Rattle.std.specs.Option.{option_map, option_or}
 use Rattle.std.proofs.lemmas.Bool.Decides.{nat_tests}
@@ -19,7 +19,7 @@ use Rattle.base.specs.Keys.{key_eq, lookup_key}
 use Rattle.base.specs.Layout.{Layout, row_limit, slot_start, slot_words}
 use Rattle.base.specs.Search.{first_below, first_of as first_there, some_if}
 use Rattle.base.specs.Lists.{replaced}
-use Rattle.machine.specs.Machine.{State, Session, Active as Reads, Version, BySession, answered, device_failed, refusal, next_state, begun_of, writes_of, held_at, held_with, held_after_put, own_slot, free_slot, lacks_slot, overfills, most_writes, StandsWithin}
+use Rattle.machine.specs.Machine.{State, Session, Active as Reads, Version, BySession, answered, device_failed, refusal, next_state, begun_of, writes_of, held_at, held_with, held_after_put, own_slot, free_slot, lacks_slot, most_writes, StandsWithin}
 use Rattle.base.proofs.Search.{first_below-same}
 use Rattle.pmem.specs.Device.{Device, IsOrderly}
 use Rattle.pmem.specs.Trace.{Operation, store_op, Runs, StopsWithin}
@@ -66,14 +66,7 @@ use Rattle.session_steps.proofs.CodeTests.{same-drawers}
 asks : (q : State) (n begun : ℕ) (key : Key) (row : List ℕ) (writes : Writes) (full lacks : Bool) → q.failed ≡ false → q.sessions n ≡ Some (Reads begun writes) → length row ≤ row_limit q.layout.version
     → (is_none (lookup_key writes key) && nat_le most_writes (length writes)) ≡ full → lacks_slot q (step.Put n key row) ≡ lacks
     → refusal q (step.Put n key row) ≡ first_there (some_if full WriteSetFull ∷ some_if lacks SlotsOut ∷ [])
-asks q n begun key row writes full lacks works found le is_full is_lacks =
-    passes q (step.Put n key row) n (Reads begun writes) works refl found refl
-    ∙ (λ i. first_there (
-    some_if (le-ltb (row_limit q.layout.version) (length row) le i) TooLong
-    ∷ some_if (is_none (lookup_key (writes_of (found i)) key) && nat_le most_writes (length (writes_of (found i)))) WriteSetFull
-    ∷ some_if (is_lacks i) SlotsOut
-    ∷ []))
-    ∙ (λ i. first_there (some_if (is_full i) WriteSetFull ∷ some_if lacks SlotsOut ∷ []))
+asks q n begun key row writes full lacks works found le is_full is_lacks = grind (arith, passes, found, le-ltb) steps 800000
 
 pub put-asks : (s : Sessions) (h : Hidden) (n : ℕ) (key : Key) (row : List ℕ) (snapshot : Seen) (writes : List Write) (full lacks : Bool) → Holds s h → transaction_at s.transactions n ≡ Some (Active snapshot writes)
     → length row ≤ row_limit s.numbers.geometry.version → is_full_of key writes ≡ full → lacks_slot (plain_of s h) (step.Put n key row) ≡ lacks
@@ -89,13 +82,7 @@ full-refusal s h n key row snapshot writes holds at le full = put-asks s h n key
 -- the row is longer than a slot holds
 pub long-refusal : (s : Sessions) (h : Hidden) (n : ℕ) (key : Key) (row : List ℕ) (snapshot : Seen) (writes : List Write) → Holds s h → transaction_at s.transactions n ≡ Some (Active snapshot writes)
     → row_limit s.numbers.geometry.version < length row → refusal (plain_of s h) (step.Put n key row) ≡ Some TooLong
-long-refusal s h n key row snapshot writes holds at lt =
-    passes (plain_of s h) (step.Put n key row) n (Reads (h.seen n) (plain_writes writes)) holds.works refl (ap (λ (t : Option Transaction). option_map (plain_session (h.seen n)) t) at) refl
-    ∙ (λ i. first_there (
-    some_if (lt-ltb (row_limit s.numbers.geometry.version) (length row) lt i) TooLong
-    ∷ some_if (overfills (plain_of s h) (step.Put n key row)) WriteSetFull
-    ∷ some_if (lacks_slot (plain_of s h) (step.Put n key row)) SlotsOut
-    ∷ []))
+long-refusal s h n key row snapshot writes holds at lt = grind (arith, passes, lt-ltb) steps 800000
 
 -- ---- the slot
 
@@ -362,26 +349,6 @@ pub given-again : (free : List Bool) (slot : ℕ) → lowest_free free ≡ Some 
 given-again free slot lowest =
     let there = first_below-some (length free) (is_free free) slot lowest in
     set-set free slot false true ∙ ap (λ (b : Bool). set free slot b) (sym there.1) ∙ set-get_or free slot false
-
--- a slot is wanting where none is free
-lacks-is : (s : Sessions) (h : Hidden) (n : ℕ) (key : Key) (row : List ℕ) (snapshot : Seen) (writes : List Write) → Holds s h → transaction_at s.transactions n ≡ Some (Active snapshot writes) → own_of key writes ≡ None
-    → lacks_slot (plain_of s h) (step.Put n key row) ≡ is_none (lowest_free s.slots)
-lacks-is s h n key row snapshot writes holds at none = λ i. is_none (own i) && is_none (sym (free-is s h holds) i)
-  where
-    own : own_slot (plain_of s h) n key ≡ None
-    own =
-        own_slot-is h.origin (plain_of s h) n key (own_of key writes) holds.keeps
-        (own-is h.origin (plain_of s h) n (h.seen n) writes holds.keeps (found s h n _ at) (subst (HoldsSession h.origin (plain_of s h) n (h.seen n)) at (holds.agrees.sessions n)).1 key) ∙ none
-
--- what is asked of a put where the session has no slot for the key
-pub new-asks : (s : Sessions) (h : Hidden) (n : ℕ) (key : Key) (row : List ℕ) (snapshot : Seen) (writes : List Write) (free : Bool) → Holds s h → transaction_at s.transactions n ≡ Some (Active snapshot writes)
-    → is_full_of key writes ≡ false → length row ≤ row_limit s.numbers.geometry.version → own_of key writes ≡ None → free ≡ is_some (lowest_free s.slots) → refusal (plain_of s h) (step.Put n key row) ≡ first_there (some_if (not free) SlotsOut ∷ [])
-new-asks s h n key row snapshot writes free holds at room short-row none is =
-    put-asks s h n key row snapshot writes false (not free) holds at short-row room (lacks-is s h n key row snapshot writes holds at none ∙ by (lowest_free s.slots) ∙ ap not (sym is))
-  where
-    by : (o : Option ℕ) → is_none o ≡ not (is_some o)
-    by None = refl
-    by (Some slot) = refl
 
 -- none is free, or the device stopped
 pub puts-untaken : (s : Sessions) (h : Hidden) (n : ℕ) (snapshot : Seen) (writes : List Write) (v : Content) (slots : List Bool) (before now : Device) (fault : Fault) → IsOrderly before → HoldsOn s h before → transaction_at s.transactions n ≡ Some (Active snapshot writes)

@@ -1,5 +1,5 @@
 -- Get: the row of the session's snapshot on the device.
-use Rattle.std.proofs.Common.{◌≡◌, inr, ℕ, Bool, List, take, refl, sym, ◌∙◌, ap, subst}
+use Rattle.std.proofs.Common.{◌≡◌, inr, ℕ, Bool, List, take, refl, sym, ◌∙◌, ap, subst, arith}
 use Rattle.std.specs.Prelude.{Option, Some, None, unwrap_or}
 use Rattle.std.specs.Option.{option_map}
 use Rattle.base.specs.declared.key.Key.{Key}
@@ -55,15 +55,7 @@ words-are o q device orderly upholds =
 -- the session's own write
 pub gets-own : (s : Sessions) (n : ℕ) (key : Key) (row : Option (List ℕ)) (snapshot : Seen) (writes : List Write) (write : Write) (h : Hidden) → transaction_at s.transactions n ≡ Some (Active snapshot writes)
     → write_of key writes ≡ Some write → row ≡ write.row → Holds s h → Goes s s (Get n key) (Row row) h
-gets-own s n key row snapshot writes write h at wrote is holds = record {
-  next = h;
-  origin = refl;
-  drawers = same-drawers s.drawn.commits;
-  agrees = holds.agrees;
-  stepped = answered (passes (plain_of s h) (step.Get n key) n _ holds.works refl (found s h n _ at) refl)
-      (ap (λ (r : Option (List ℕ)). reply.Row r) (is ∙ sym (ap (λ (o : Option (Option (List ℕ))). unwrap_or o (after (take (h.seen n) h.history) key)) (lookup_key-plain_writes writes key ∙ ap (option_map (λ (w : Write). w.row)) wrote)))
-      ∙ sym (ap (λ (t : Option Transaction). reply.Row (unwrap_or (lookup_key (writes_of (option_map (plain_session (h.seen n)) t)) key) (after (take (begun_of (option_map (plain_session (h.seen n)) t)) h.history) key))) at)) refl;
-}
+gets-own s n key row snapshot writes write h at wrote is holds = grind (arith, same-drawers, passes, found, lookup_key-plain_writes) steps 800000
 
 -- the row of its snapshot
 pub gets-seen : (s : Sessions) (device : Device) (n : ℕ) (key : Key) (row : Option (List ℕ)) (snapshot : Seen) (writes : List Write) (h : Hidden) → IsOrderly device → transaction_at s.transactions n ≡ Some (Active snapshot writes)

@@ -1,5 +1,5 @@
 -- Scan: the rows of the session's snapshot on the device, with its own writes laid over.
-use Rattle.std.proofs.Common.{◌≡◌, inr, ℕ, zero, suc, ◌+◌, Bool, true, false, cond, List, [], ◌∷◌, take, refl, sym, ◌∙◌, ap, subst, add-one}
+use Rattle.std.proofs.Common.{◌≡◌, inr, ℕ, zero, suc, ◌+◌, Bool, true, false, cond, List, [], ◌∷◌, take, refl, sym, ◌∙◌, ap, subst, add-one, arith}
 use Rattle.std.specs.Prelude.{Option, Some, None, unwrap_or, slice_get}
 use Rattle.std.specs.Option.{option_map}
 use Rattle.std.specs.BTreeMap.{BTreeMap, get}
@@ -10,7 +10,7 @@ use Rattle.base.specs.declared.step.SessionStep.TheVariants.{Scan}
 use Rattle.base.specs.declared.step.SessionReply.TheVariants.{Rows, Refused}
 use Rattle.base.specs.Keys.{key_eq, lookup_key}
 use Rattle.base.specs.Commits.{Tables, Lists, after, overlaid, in_range}
-use Rattle.machine.specs.Machine.{answered, memory_refused, begun_of, writes_of}
+use Rattle.machine.specs.Machine.{answered, begun_of, writes_of}
 use Rattle.base.proofs.Keys.{key_eq-true, key_lt-apart}
 use Rattle.pmem.specs.Device.{Device, IsOrderly}
 use Rattle.pmem.specs.Words.{image_of}
@@ -103,13 +103,7 @@ passed-over range rows writes i write tables rising at outside has =
 -- it found no memory
 pub scans-nothing : (s : Sessions) (n table lo hi : ℕ) (snapshot : Seen) (writes : List Write) (h : Hidden) → transaction_at s.transactions n ≡ Some (Active snapshot writes)
     → Holds s h → Goes s s (Scan n table lo hi) (Refused OutOfMemory) h
-scans-nothing s n table lo hi snapshot writes h at holds = record {
-  next = h;
-  origin = refl;
-  drawers = same-drawers s.drawn.commits;
-  agrees = holds.agrees;
-  stepped = memory_refused (passes (plain_of s h) (step.Scan n table lo hi) n _ holds.works refl (found s h n _ at) refl) refl refl refl;
-}
+scans-nothing s n table lo hi snapshot writes h at holds = grind (arith, same-drawers, passes, found) steps 800000
 
 -- the rows that the session sees
 pub scans-seen : (s : Sessions) (device : Device) (n table lo hi : ℕ) (rows : List (Key × List ℕ)) (snapshot : Seen) (writes : List Write) (h : Hidden) → IsOrderly device → transaction_at s.transactions n ≡ Some (Active snapshot writes)

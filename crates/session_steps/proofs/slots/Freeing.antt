@@ -115,20 +115,12 @@ deletion key place = record { key = key; row = None; slot = None; place = place 
 
 -- the writes are full as the machine says
 pub full-plain : (key : Key) (writes : List Write) → (is_none (lookup_key (plain_writes writes) key) && nat_le most_writes (length (plain_writes writes))) ≡ is_full_of key writes
-full-plain key writes = (λ i. is_none (lookup_key-plain_writes writes key i) && nat_le most_writes (length-plain_writes writes i)) ∙ by (write_of key writes)
-  where
-    by : (o : Option Write) → (is_none (option_map (λ (w : Write). w.row) o) && nat_le 32 (length writes)) ≡ (is_none o && nat_le 32 (length writes))
-    by None = refl
-    by (Some w) = refl
+full-plain key writes = grind (arith, lookup_key-plain_writes, length-plain_writes) steps 800000
 
 -- what is asked of a delete that its session allows
 pub delete-asks : (s : Sessions) (h : Hidden) (n : ℕ) (key : Key) (snapshot : Seen) (writes : List Write) (full : Bool) → Holds s h → transaction_at s.transactions n ≡ Some (Active snapshot writes) → is_full_of key writes ≡ full
     → refusal (plain_of s h) (step.Delete n key) ≡ first_there (some_if full WriteSetFull ∷ [])
-delete-asks s h n key snapshot writes full holds at is_full =
-    let has : (plain_of s h).sessions n ≡ Some (Reads (h.seen n) (plain_writes writes)) = ap (λ (t : Option Transaction). option_map (plain_session (h.seen n)) t) at in
-    passes (plain_of s h) (step.Delete n key) n (Reads (h.seen n) (plain_writes writes)) holds.works refl has refl
-    ∙ (λ i. first_there (some_if (is_none (lookup_key (writes_of (has i)) key) && nat_le most_writes (length (writes_of (has i)))) WriteSetFull ∷ []))
-    ∙ ap (λ (b : Bool). first_there (some_if b WriteSetFull ∷ [])) (full-plain key writes ∙ is_full)
+delete-asks s h n key snapshot writes full holds at is_full = grind (arith, passes, full-plain) steps 800000
 
 -- another key's version is another
 other-version : (n : ℕ) (key other : Key) (o : Option Version) → key_eq key other ≡ false → o ≡ Some (version_by other (BySession n)) → is_own_at n key o ≡ true → ⊥

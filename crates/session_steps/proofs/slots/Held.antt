@@ -1,11 +1,11 @@
 -- What the holders of slots say stays, where one session takes slots and gives them back.
-use Rattle.std.proofs.Common.{◌≡◌, ◌⊎◌, inl, inr, ℕ, ◌<◌, Bool, true, false, ◌&&◌, cond, List, [], ◌∷◌, map, refl, sym, ◌∙◌, ap, subst, nat_eq, get_or}
+use Rattle.std.proofs.Common.{◌≡◌, ◌⊎◌, ℕ, Bool, true, false, cond, List, [], ◌∷◌, map, refl, sym, ◌∙◌, ap, nat_eq, get_or, arith}
 use Rattle.std.specs.Prelude.{Option, Some, None, All}
 use Rattle.std.specs.List.{list_any, range_with_len, flat_map}
 use Rattle.base.specs.declared.key.Key.{Key}
-use Rattle.base.specs.Commits.{Commit, last_writer, writes_key}
-use Rattle.base.specs.Layout.{Layout, version_lines}
-use Rattle.machine.specs.Machine.{State, Version, Writer, BySession, ByCommit, is_by}
+use Rattle.base.specs.Commits.{Commit}
+use Rattle.base.specs.Layout.{version_lines}
+use Rattle.machine.specs.Machine.{State, Version, Writer, ByCommit, is_by}
 use Rattle.txn.specs.declared.drawn.DrawnCommit.{DrawnCommit}
 use Rattle.txn.specs.declared.write.Write.{Write}
 use Rattle.dirty_table.specs.declared.sessions.SessionSet.{SessionSet}
@@ -34,16 +34,8 @@ by-other n o v at own other = absurd (cc (sym (ap (is_nobodys_or n) at) ∙ own,
 
 -- a version that isn't of the session keeps its slot
 pub slot-kept : (n : ℕ) (q q' : State) (v : Version) (o : Option ℕ) → SameBut n q q' → is_by n v.writer ≡ false → IsSlotOf q v o → IsSlotOf q' v o
-slot-kept n q q' v (Some slot) same other is = (subst (λ (a : Layout). slot < a.slots) (sym same.layout) is.0, by (same.held slot))
-  where
-    by : (q'.held slot ≡ q.held slot) ⊎ ((is_nobodys_or n (q.held slot) ≡ true) × (is_nobodys_or n (q'.held slot) ≡ true)) → q'.held slot ≡ Some v
-    by (inl stays) = stays ∙ is.1
-    by (inr own) = absurd (by-other n (q.held slot) v is.1 own.0 other)
-slot-kept n q q' v None same other is = λ slot lt at. by slot (subst (λ (a : Layout). slot < a.slots) same.layout lt) at (same.held slot)
-  where
-    by : (slot : ℕ) → slot < q.layout.slots → q'.held slot ≡ Some v → (q'.held slot ≡ q.held slot) ⊎ ((is_nobodys_or n (q.held slot) ≡ true) × (is_nobodys_or n (q'.held slot) ≡ true)) → ⊥
-    by slot lt at (inl stays) = is slot lt (sym stays ∙ at)
-    by slot lt at (inr own) = by-other n (q'.held slot) v at own.1 other
+slot-kept n q q' v (Some slot) same other is = grind (arith, by-other) steps 800000
+slot-kept n q q' v None same other is = grind (arith, by-other) steps 800000
 
 -- a commit's version stays in its slot
 pub version-kept : (n : ℕ) (q q' : State) (key : Key) (slot : ℕ) → SameBut n q q' → HasVersionOf q key slot → HasVersionOf q' key slot
@@ -53,11 +45,7 @@ version-kept n q q' key slot same has =
 
 -- and was in it before
 pub version-before : (n : ℕ) (q q' : State) (key : Key) (slot t : ℕ) → SameBut n q q' → q'.held slot ≡ Some (version_by key (ByCommit t)) → q.held slot ≡ Some (version_by key (ByCommit t))
-version-before n q q' key slot t same at = by (same.held slot)
-  where
-    by : (q'.held slot ≡ q.held slot) ⊎ ((is_nobodys_or n (q.held slot) ≡ true) × (is_nobodys_or n (q'.held slot) ≡ true)) → q.held slot ≡ Some (version_by key (ByCommit t))
-    by (inl stays) = sym stays ∙ at
-    by (inr own) = absurd (by-other n (q'.held slot) (version_by key (ByCommit t)) at own.1 refl)
+version-before n q q' key slot t same at = grind (arith, by-other) steps 800000
 
 pub write-kept : (n : ℕ) (q q' : State) (writer : Writer) (write : Write) → SameBut n q q' → is_by n writer ≡ false → HasItsSlot q writer write → HasItsSlot q' writer write
 write-kept n q q' writer write same other has = record { slot = slot-kept n q q' (version_by write.key writer) write.slot same other has.slot; row = has.row }
@@ -69,19 +57,11 @@ writes-kept n q q' writer writes same other all = λ k d lt. write-kept n q q' w
 
 own-no-batch : (n : ℕ) (commits : List Commit) (o : Option Version) → is_nobodys_or n o ≡ true → is_own commits o ≡ false
 own-no-batch n commits None own = refl
-own-no-batch n commits (Some v) own = by v.writer own
-  where
-    by : (w : Writer) → is_by n w ≡ true → is_own commits (Some (version_by v.key w)) ≡ false
-    by (BySession m) own = refl
-    by (ByCommit t) own = absurd (cc own)
+own-no-batch n commits (Some v) own = grind (arith) steps 800000
 
 own-not-ended : (n : ℕ) (q : State) (commits : List Commit) (o : Option Version) → is_nobodys_or n o ≡ true → is_ended q commits o ≡ false
 own-not-ended n q commits None own = refl
-own-not-ended n q commits (Some v) own = by v.writer own
-  where
-    by : (w : Writer) → is_by n w ≡ true → is_ended q commits (Some (version_by v.key w)) ≡ false
-    by (BySession m) own = refl
-    by (ByCommit t) own = absurd (cc own)
+own-not-ended n q commits (Some v) own = grind (arith) steps 800000
 
 -- where the tests of each slot are the same, so are the lines
 pub lines-by-tests : (q q' : State) (commits : List Commit) → q'.layout ≡ q.layout → ((slot : ℕ) → is_own commits (q'.held slot) ≡ is_own commits (q.held slot))
@@ -93,23 +73,7 @@ pub numbers-by-tests : (q q' : State) (commits : List Commit) → q'.layout ≡ 
 numbers-by-tests q q' commits layout own ended = λ i. map (line_number (layout i)) (lines-by-tests q q' commits layout own ended i)
 
 pub lines-kept : (n : ℕ) (q q' : State) (commits : List Commit) → SameBut n q q' → line_numbers q' commits ≡ line_numbers q commits
-lines-kept n q q' commits same = numbers-by-tests q q' commits same.layout (λ slot. own slot (same.held slot)) (λ slot. ended slot (same.held slot))
-  where
-    own : (slot : ℕ) → (q'.held slot ≡ q.held slot) ⊎ ((is_nobodys_or n (q.held slot) ≡ true) × (is_nobodys_or n (q'.held slot) ≡ true)) → is_own commits (q'.held slot) ≡ is_own commits (q.held slot)
-    own slot (inl stays) = ap (is_own commits) stays
-    own slot (inr both) = own-no-batch n commits (q'.held slot) both.1 ∙ sym (own-no-batch n commits (q.held slot) both.0)
-
-    ended : (slot : ℕ) → (q'.held slot ≡ q.held slot) ⊎ ((is_nobodys_or n (q.held slot) ≡ true) × (is_nobodys_or n (q'.held slot) ≡ true)) → is_ended q' commits (q'.held slot) ≡ is_ended q commits (q.held slot)
-    ended slot (inl stays) = by-history (q'.held slot) ∙ ap (is_ended q commits) stays
-      where
-        by-history : (o : Option Version) → is_ended q' commits o ≡ is_ended q commits o
-        by-history None = refl
-        by-history (Some v) = by v.writer
-          where
-            by : (w : Writer) → is_ended q' commits (Some (version_by v.key w)) ≡ is_ended q commits (Some (version_by v.key w))
-            by (BySession m) = refl
-            by (ByCommit t) = λ i. nat_eq (last_writer (same.history i) v.key) t && list_any (writes_key v.key) commits
-    ended slot (inr both) = own-not-ended n q' commits (q'.held slot) both.1 ∙ sym (own-not-ended n q commits (q.held slot) both.0)
+lines-kept n q q' commits same = grind (arith, numbers-by-tests, own-no-batch, own-not-ended) steps 800000
 
 pub table-kept : (n : ℕ) (q q' : State) (drawn : List DrawnCommit) (dirty : List SessionSet) → SameBut n q q' → HoldsLines q drawn dirty → HoldsLines q' drawn dirty
 table-kept n q q' drawn dirty same holds = record {

@@ -31,7 +31,7 @@ use Rattle.txn.specs.declared.transaction.Transaction.{Transaction}
 use Rattle.txn.specs.declared.transaction.Transaction.TheVariants.{Active, Drawn, ReadOnly}
 use Rattle.txn.specs.declared.write.Write.{Write}
 use Rattle.txn.specs.Transactions.{transaction_at}
-use Rattle.txn.specs.WriteSets.{plain_write, plain_writes}
+use Rattle.txn.specs.WriteSets.{plain_write}
 use Rattle.txn.proofs.Plain.{length-plain_writes, slice_get-plain_writes}
 use Rattle.dirty_table.specs.Touches.{is_touched}
 use Rattle.index.specs.Entries.{entry_at, live_of}
@@ -62,18 +62,10 @@ use Rattle.session_steps.proofs.CodeTests.{same-drawers}
 -- ---- a stamp changes nothing but the count
 
 same-commit : (t : ℕ) (d : DrawnCommit) → (plain_drawn (with_stamp t d)).commit ≡ (plain_drawn d).commit
-same-commit t d = by (nat_eq d.timestamp t && nat_lt d.stamped (length d.writes))
-  where
-    by : (b : Bool) → (plain_drawn (cond b (record d { stamped = d.stamped + 1 }) d)).commit ≡ (plain_drawn d).commit
-    by true = refl
-    by false = refl
+same-commit t d = grind (arith) steps 800000
 
 same-session : (t : ℕ) (d : DrawnCommit) → (with_stamp t d).session ≡ d.session
-same-session t d = by (nat_eq d.timestamp t && nat_lt d.stamped (length d.writes))
-  where
-    by : (b : Bool) → (let e : DrawnCommit = cond b (record d { stamped = d.stamped + 1 }) d in e.session) ≡ d.session
-    by true = refl
-    by false = refl
+same-session t d = grind (arith) steps 800000
 
 commits-stamped : (t : ℕ) (ds : List DrawnCommit) → map (λ (e : PlainDrawn). e.commit) (map plain_drawn (map (with_stamp t) ds)) ≡ map (λ (e : PlainDrawn). e.commit) (map plain_drawn ds)
 commits-stamped t [] = refl
@@ -118,11 +110,7 @@ module _ (s : Sessions) (h : Hidden) (t spare : ℕ) where
   session-stamped n seen (Some ReadOnly) has = tt
 
   drawn-stamped : (d : DrawnCommit) → HoldsDrawn s (plain_of s h) d → HoldsDrawn stamped (plain_of stamped h) (with_stamp t d)
-  drawn-stamped d has = by (nat_eq d.timestamp t && nat_lt d.stamped (length d.writes))
-    where
-      by : (b : Bool) → HoldsDrawn stamped (plain_of stamped h) (cond b (record d { stamped = d.stamped + 1 }) d)
-      by true = record { session = has.session; writes = λ k w lt. record { slot = (has.writes k w lt).slot; row = (has.writes k w lt).row }; room = has.room }
-      by false = record { session = has.session; writes = λ k w lt. record { slot = (has.writes k w lt).slot; row = (has.writes k w lt).row }; room = has.room }
+  drawn-stamped d has = grind (arith) steps 800000
 
   pub agrees-stamped : Agrees s h.origin h.seen (plain_of s h) → Agrees stamped h.origin h.seen (plain_of stamped h)
   agrees-stamped agrees = record {
@@ -215,21 +203,7 @@ stamps-refusal s n fault h barred holds = barred-refusal s (Stamp n) n (is_unsta
 counted-is : (t : ℕ) (ds : List DrawnCommit) → list_all (λ (d : PlainDrawn). nat_le d.stamped (length d.commit.writes)) (map plain_drawn ds) ≡ true → list_any (λ (d : PlainDrawn). nat_eq d.commit.timestamp t && is_stamped d) (map plain_drawn ds) ≡ false
     → map plain_drawn (map (with_stamp t) ds) ≡ map (counted t) (map plain_drawn ds)
 counted-is t [] all left = refl
-counted-is t (d ∷ ds) all left =
-    by (nat_eq d.timestamp t) (nat_lt d.stamped (length d.writes)) refl (nat_eq d.stamped (length (plain_writes d.writes))) refl (nat_le d.stamped (length (plain_writes d.writes))) refl all left (counted-is t ds)
-  where
-    len : length (plain_writes d.writes) ≡ length d.writes
-    len = length-plain_writes d.writes
-
-    by : (a b : Bool) → nat_lt d.stamped (length d.writes) ≡ b → (c : Bool) → nat_eq d.stamped (length (plain_writes d.writes)) ≡ c → (e : Bool) → nat_le d.stamped (length (plain_writes d.writes)) ≡ e
-        → (e && list_all (λ (d : PlainDrawn). nat_le d.stamped (length d.commit.writes)) (map plain_drawn ds)) ≡ true → ((a && c) || list_any (λ (d : PlainDrawn). nat_eq d.commit.timestamp t && is_stamped d) (map plain_drawn ds)) ≡ false
-        → (list_all (λ (d : PlainDrawn). nat_le d.stamped (length d.commit.writes)) (map plain_drawn ds) ≡ true → list_any (λ (d : PlainDrawn). nat_eq d.commit.timestamp t && is_stamped d) (map plain_drawn ds) ≡ false → map plain_drawn (map (with_stamp t) ds) ≡ map (counted t) (map plain_drawn ds))
-        → plain_drawn (cond (a && b) (record d { stamped = d.stamped + 1 }) d) ∷ map plain_drawn (map (with_stamp t) ds) ≡ cond a (record { commit = (plain_drawn d).commit; stamped = d.stamped + 1 }) (plain_drawn d) ∷ map (counted t) (map plain_drawn ds)
-    by a b lt c eq false le all left rest = absurd (cc all)
-    by true b lt true eq true le all left rest = absurd (cc left)
-    by true true lt false eq true le all left rest = ap (λ (xs : List PlainDrawn). record { commit = (plain_drawn d).commit; stamped = d.stamped + 1 } ∷ xs) (rest all left)
-    by true false lt false eq true le all left rest = let same : length (plain_writes d.writes) ≡ length d.writes = length-plain_writes d.writes in absurd (grind (arith, nat_tests))
-    by false b lt c eq true le all left rest = ap (λ (xs : List PlainDrawn). plain_drawn d ∷ xs) (rest all left)
+counted-is t (d ∷ ds) all left = grind (arith, nat_tests, length-plain_writes, counted-is t ds) steps 800000
 
 -- ---- the step
 

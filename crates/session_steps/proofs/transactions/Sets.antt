@@ -1,5 +1,5 @@
 -- The sessions of the plain state, where one transaction changes.
-use Rattle.std.proofs.Common.{◌≡◌, ◌≢◌, ℕ, zero, suc, ◌+◌, ◌<◌, ◌≤◌, Bool, true, false, cond, List, refl, sym, ◌∙◌, ap, subst, nat_eq, arith}
+use Rattle.std.proofs.Common.{◌≡◌, ℕ, zero, suc, ◌+◌, ◌<◌, ◌≤◌, Bool, true, false, cond, List, refl, ◌∙◌, ap, nat_eq, arith}
 use Rattle.std.specs.Prelude.{Option, Some, None, is_none, find}
 use Rattle.std.specs.Option.{option_map}
 use Rattle.std.specs.List.{range_with_len}
@@ -14,18 +14,8 @@ use Rattle.session_steps.specs.Shows.{Hidden, plain_of, plain_session}
 -- ---- the lowest number that is free
 
 find-at : (test : ℕ → Bool) (a len n : ℕ) → a ≤ n → n < a + len → test n ≡ true → ((k : ℕ) → a ≤ k → k < n → test k ≡ false) → find test (range_with_len a len) ≡ Some n
-find-at test a zero n lo hi is before = absurd (omega arith)
-find-at test a (suc len) n lo hi is before = by (find-at test (a + 1) len n) (nat_eq a n) refl
-  where
-    by : (a + 1 ≤ n → n < (a + 1) + len → test n ≡ true → ((k : ℕ) → a + 1 ≤ k → k < n → test k ≡ false) → find test (range_with_len (a + 1) len) ≡ Some n) → (b : Bool) → nat_eq a n ≡ b → find test (range_with_len a (suc len)) ≡ Some n
-    by rest true same =
-        let e : a ≡ n = grind (arith, nat_tests) in
-        let here : test a ≡ true = ap test e ∙ is in
-        rw here (ap (λ (k : ℕ). Some k) e)
-    by rest false apart =
-        let ne : a ≢ n = grind (arith, nat_tests) in
-        let here : test a ≡ false = before a (omega arith) (omega arith) in
-        rw here (rest (omega arith) (omega arith) is (λ k h l. before k (omega arith) l))
+find-at test a zero n lo hi is before = grind (arith) steps 800000
+find-at test a (suc len) n lo hi is before = grind (arith, nat_tests, find-at test (a + 1) len n) steps 800000
 
 find-none : (test : ℕ → Bool) (a len : ℕ) → ((k : ℕ) → a ≤ k → k < a + len → test k ≡ false) → find test (range_with_len a len) ≡ None
 find-none test a zero before = refl
@@ -44,29 +34,17 @@ replaced-other n m x f apart = ap (λ (b : Bool). cond b x (f m)) apart
 -- what holds of the transaction that is set, and of all others, holds of each
 pub each-set : (P : ℕ → Option Transaction → Type 0) (old new : List (Option Transaction)) (n : ℕ) (x : Option Transaction) → Sets old new n x → P n x
     → ((m : ℕ) → nat_eq m n ≡ false → P m (transaction_at old m)) → (m : ℕ) → P m (transaction_at new m)
-each-set P old new n x sets here others m = subst (λ (t : Option Transaction). P m t) (sym (sets m)) (by (nat_eq m n) refl)
-  where
-    by : (b : Bool) → nat_eq m n ≡ b → P m (cond b x (transaction_at old m))
-    by true is = let e : n ≡ m = grind (arith, nat_tests) in subst (λ (k : ℕ). P k x) e here
-    by false apart = others m apart
+each-set P old new n x sets here others m = grind (arith, nat_tests) steps 800000
 
 -- the plain sessions, where the snapshots are as they were
 pub sessions-kept : (old new : List (Option Transaction)) (seen : ℕ → ℕ) (n : ℕ) (x : Option Transaction) → Sets old new n x → (m : ℕ)
     → option_map (plain_session (seen m)) (transaction_at new m) ≡ replaced n (option_map (plain_session (seen n)) x) (λ k. option_map (plain_session (seen k)) (transaction_at old k)) m
-sessions-kept old new seen n x sets m = ap (λ (t : Option Transaction). option_map (plain_session (seen m)) t) (sets m) ∙ by (nat_eq m n) refl
-  where
-    by : (b : Bool) → nat_eq m n ≡ b → option_map (plain_session (seen m)) (cond b x (transaction_at old m)) ≡ cond b (option_map (plain_session (seen n)) x) (option_map (plain_session (seen m)) (transaction_at old m))
-    by true is = let e : m ≡ n = grind (arith, nat_tests) in ap (λ (k : ℕ). option_map (plain_session (seen k)) x) e
-    by false apart = refl
+sessions-kept old new seen n x sets m = grind (arith, nat_tests) steps 800000
 
 -- the plain sessions, where one snapshot is new
 pub sessions-begun : (old new : List (Option Transaction)) (seen : ℕ → ℕ) (n begun : ℕ) (x : Option Transaction) → Sets old new n x → (m : ℕ)
     → option_map (plain_session (replaced n begun seen m)) (transaction_at new m) ≡ replaced n (option_map (plain_session begun) x) (λ k. option_map (plain_session (seen k)) (transaction_at old k)) m
-sessions-begun old new seen n begun x sets m = ap (λ (t : Option Transaction). option_map (plain_session (replaced n begun seen m)) t) (sets m) ∙ by (nat_eq m n)
-  where
-    by : (b : Bool) → option_map (plain_session (cond b begun (seen m))) (cond b x (transaction_at old m)) ≡ cond b (option_map (plain_session begun) x) (option_map (plain_session (seen m)) (transaction_at old m))
-    by true = refl
-    by false = refl
+sessions-begun old new seen n begun x sets m = grind (arith) steps 800000
 
 -- the plain session of a number is there exactly if its transaction is
 pub none-where : (seen : ℕ) (t : Option Transaction) → is_none (option_map (plain_session seen) t) ≡ is_none t

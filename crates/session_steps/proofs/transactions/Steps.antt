@@ -18,7 +18,7 @@ use Rattle.base.specs.Steps.{as_step, as_reply}
 use Rattle.base.specs.Stands.{has_timestamp}
 use Rattle.base.specs.Records.{is_committed}
 use Rattle.base.specs.Lists.{replaced}
-use Rattle.machine.specs.Machine.{State, Session, Drawn as PlainDrawn, Active as Reads, IsDrawn, IsStamped, IsCovered, refused, answered, memory_refused, refusal, session_of, allows, standing_of, with_session, drawn_at, polled}
+use Rattle.machine.specs.Machine.{State, Drawn as PlainDrawn, Active as Reads, IsDrawn, IsStamped, IsCovered, refused, answered, refusal, session_of, allows, standing_of, with_session, drawn_at, polled}
 use Rattle.base.proofs.Lists.{find-passes}
 use Rattle.snapshot.specs.Snapshots.{Seen, seen_by}
 use Rattle.txn.specs.declared.drawn.DrawnCommit.{DrawnCommit}
@@ -140,14 +140,8 @@ begins s ts n snapshot h lowest is sets holds = record {
 -- a begin that finds no number, or no memory
 pub begins-not : (s : Sessions) (fault : Fault) (h : Hidden) → (fault ≡ SessionsFull) × IsFull s.transactions ⊎ (fault ≡ OutOfMemory) × ((n : ℕ) × IsLowestFree s.transactions n) → Holds s h
     → Goes s s Begin (Refused fault) h
-begins-not s fault h (inl full) holds = refuses s Begin fault h holds (refusal-begin (plain_of s h) true holds.works (ap (λ (o : Option ℕ). is_none o) (free-none s h full.1)) ∙ ap (λ (f : Fault). Some f) (sym full.0))
-begins-not s fault h (inr short) holds = record {
-  next = h;
-  origin = refl;
-  drawers = same-drawers s.drawn.commits;
-  stepped = memory_refused (refusal-begin (plain_of s h) false holds.works (ap (λ (o : Option ℕ). is_none o) (free-at s h short.1.0 short.1.1))) refl (ap (λ (f : Fault). reply.Refused f) short.0) refl;
-  agrees = holds.agrees;
-}
+begins-not s fault h (inl full) holds = grind (arith, refuses, refusal-begin, free-none) steps 800000
+begins-not s fault h (inr short) holds = grind (arith, same-drawers, refusal-begin, free-at) steps 800000
 
 -- ---- End
 
@@ -155,14 +149,7 @@ begins-not s fault h (inr short) holds = record {
 over-allows : (s : Sessions) (n : ℕ) (h : Hidden) (t : Transaction) → Holds s h → transaction_at s.transactions n ≡ Some t → allows (step.End n) (standing_of (plain_of s h) (plain_session (h.seen n) t)) ≡ is_over s.drawn.commits t
 over-allows s n h (Active snapshot writes) holds at = refl
 over-allows s n h ReadOnly holds at = refl
-over-allows s n h (Drawn t) holds at = by (is_none (commit_at t s.drawn.commits)) (has_timestamp h.history t) _ (covered-or-drawn s h n t holds at)
-  where
-    by : (a b c : Bool) → b ≡ a → allows (step.End n) (cond b IsCovered (cond c IsStamped IsDrawn)) ≡ a
-    by true true c e = refl
-    by true false c e = absurd (cc e)
-    by false true c e = absurd (cc e)
-    by false false true e = refl
-    by false false false e = refl
+over-allows s n h (Drawn t) holds at = grind (arith, covered-or-drawn) steps 800000
 
 pub ends : (s : Sessions) (ts : List (Option Transaction)) (n : ℕ) (h : Hidden) → is_over_at s.drawn.commits (transaction_at s.transactions n) ≡ true → Sets s.transactions ts n None → Holds s h
     → Goes s (record s { transactions = ts }) (End n) Done h
@@ -199,13 +186,7 @@ ends-not s n fault h barred holds = bars s (End n) n (is_over s.drawn.commits) f
 
 asks : (s : Sessions) (n : ℕ) (t : Transaction) (answer : SessionReply) (h : Hidden) → transaction_at s.transactions n ≡ Some t → allows (step.Poll n) (standing_of (plain_of s h) (plain_session (h.seen n) t)) ≡ true
     → as_reply answer ≡ polled (plain_of s h) (Some (plain_session (h.seen n) t)) → Holds s h → Goes s s (Poll n) answer h
-asks s n t answer h at lets is holds = record {
-  next = h;
-  origin = refl;
-  drawers = same-drawers s.drawn.commits;
-  agrees = holds.agrees;
-  stepped = answered (passes (plain_of s h) (step.Poll n) n _ holds.works refl (found s h n _ at) lets) (is ∙ sym (ap (λ (o : Option Session). polled (plain_of s h) o) (found s h n _ at))) refl;
-}
+asks s n t answer h at lets is holds = grind (arith, same-drawers, passes, found) steps 800000
 
 lets-poll : (n : ℕ) (a b : Bool) → allows (step.Poll n) (cond a IsCovered (cond b IsStamped IsDrawn)) ≡ true
 lets-poll n true b = refl
@@ -231,9 +212,4 @@ polls-committed s n t h at is holds = asks s n (Drawn t) (Committed t) h at (let
     by (Some d) is b e = absurd (cc is)
 
 pub polls-not : (s : Sessions) (n : ℕ) (fault : Fault) (h : Hidden) (t : Option Transaction) → transaction_at s.transactions n ≡ t → IsBarred (λ t. not (is_active t)) t fault → Holds s h → Goes s s (Poll n) (Refused fault) h
-polls-not s n fault h t at barred holds = bars s (Poll n) n (λ t. not (is_active t)) fault h t refl at (λ t at lets. by t lets) holds barred
-  where
-    by : (t : Transaction) → not (is_active t) ≡ false → allows (step.Poll n) (standing_of (plain_of s h) (plain_session (h.seen n) t)) ≡ false
-    by (Active snapshot writes) lets = refl
-    by (Drawn t) lets = absurd (cc lets)
-    by ReadOnly lets = absurd (cc lets)
+polls-not s n fault h t at barred holds = grind (arith, bars) steps 800000

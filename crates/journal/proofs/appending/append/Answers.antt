@@ -2,7 +2,6 @@ use Rattle.std.proofs.Common.{◌≡◌, ℕ, ◌+◌, List, length, sym, ◌∙
 use Rattle.std.proofs.Math.Logic.{∥∥₁_map}
 use Rattle.journal.specs.States.{Rests}
 use Rattle.journal.proofs.Changes.{numbers-below, entry_size}
-use Rattle.journal.proofs.Files.{Puts, Keeps}
 use Rattle.journal.proofs.Within.{rests_within}
 use Rattle.journal.proofs.Appended.{rests-either, append-either, append-kept}
 use Rattle.journal.proofs.appending.append.Goals as goal
@@ -23,11 +22,10 @@ returns-in_err-write-clause-either g c =
     let changed = c.requires.changed in
     let old = g.S.Storage.may_hold c.args.storage.now in
     let new = g.S.Storage.may_hold c.write.new.self in
-    let P : List ℕ → Type 0 = λ l. Puts old new (length durable + c.args.position.words) l in
     let is = c.as_slice.ensures.value ∙ c.in_ok-entry.ensures in
     append-either old new (length durable) c.args.room c.args.position.pass c.args.position.words durable c.args.words.now lines c.requires.known changed.lines_are
     (omega (arith, entry_size c.args.position.pass lines changed.lines_are, c.requires.within)) c.requires.same (λ word lt. changed.makes word (omega (arith, lt, c.requires.same)))
-    (subst P is c.write.ensures.found)
+    (rw is at c.write.ensures.found)
 
 pub returns-clause-either : goal.returns-clause-either
 returns-clause-either g c =
@@ -36,11 +34,10 @@ returns-clause-either g c =
     let changed = c.requires.changed in
     let old = g.S.Storage.may_hold c.args.storage.now in
     let new = g.S.Storage.may_hold c.write.new.self in
-    let P : List ℕ → Type 0 = λ l. Puts old new (length durable + c.args.position.words) l in
     let is = c.as_slice.ensures.value ∙ c.in_ok-entry.ensures in
     append-either old new (length durable) c.args.room c.args.position.pass c.args.position.words durable c.args.words.now lines c.requires.known changed.lines_are
     (omega (arith, entry_size c.args.position.pass lines changed.lines_are, c.requires.within)) c.requires.same (λ word lt. changed.makes word (omega (arith, lt, c.requires.same)))
-    (subst P is c.write.ensures.found)
+    (rw is at c.write.ensures.found)
 
 pub returns-clause-rests : goal.returns-clause-rests
 returns-clause-rests g c =
@@ -52,8 +49,6 @@ returns-clause-rests g c =
     let old = g.S.Storage.shows c.args.storage.now in
     let new = g.S.Storage.shows c.write.new.self in
     let start : ℕ = length durable + c.args.position.words in
-    let P : List ℕ → Type 0 = λ l. Puts old new start l in
-    let K : List ℕ → Type 0 = λ l. Keeps new start l in
     let R : List ℕ → Type 0 = λ l. ∥ Rests new (length durable) c.args.room c.args.position.pass (c.args.position.words + length l) words ∥₁ in
     let made = c.in_ok-entry.ensures in
     let is = c.as_slice.ensures.value ∙ made in
@@ -63,4 +58,4 @@ returns-clause-rests g c =
     subst N (sym count) (subst R (sym made) (∥∥₁_map known (λ r.
     append-kept old new (length durable) c.args.room c.args.position.pass c.args.position.words durable words lines r changed.lines_are
     (omega (arith, entry_size c.args.position.pass lines changed.lines_are, c.requires.within)) c.requires.same (λ word lt. changed.makes word (omega (arith, lt, c.requires.same)))
-    (subst P is c.write.ensures.others) (subst K is c.in_ok-write.ensures.written))))
+    (rw is at c.write.ensures.others) (rw is at c.in_ok-write.ensures.written))))

@@ -1,4 +1,4 @@
-use Rattle.std.proofs.Common.{◌≡◌, ◌∙◌, ℕ, ◌<◌, List, length, sym, subst, arith}
+use Rattle.std.proofs.Common.{◌≡◌, ◌∙◌, ◌<◌, List, length, sym, subst, arith}
 use Rattle.std.proofs.lemmas.List.{ext_get_or}
 use Rattle.journal.specs.declared.line.Line.{Line}
 use Rattle.journal.specs.Changes.{AreChanged}
@@ -17,9 +17,8 @@ returns-clause-durable g c =
     let lines : List Line = c.as_slice-4.result.now in
     let now = c.put_each.new.image.items in
     let is : lines ≡ c.in_ok-changed.changed.items = c.as_slice-4.ensures.value in
-    let D : List ℕ → Type 0 = λ l. AreChanged c.in_ok-changed.changed.items l words in
     let L : List Line → Type 0 = λ l. AreChanged l durable words in
-    let changed : L lines = subst L (sym is) (subst D c.as_slice.ensures.value c.in_ok-changed.ensures) in
+    let changed : L lines = subst L (sym is) (rw c.as_slice.ensures.value at c.in_ok-changed.ensures) in
     let size : length now ≡ length words = c.put_each.ensures.size ∙ c.requires.differs.size in
     ext_get_or 0 now words size (λ word lt.
     let below : word < length words = omega (arith, lt, size) in

@@ -1,14 +1,12 @@
-use Rattle.std.proofs.Common.{◌≡◌, ℕ, suc, ◌+◌, List, [], length, take, sym, subst, arith}
+use Rattle.std.proofs.Common.{◌≡◌, ℕ, suc, ◌+◌, List, length, take, sym, subst, arith}
 use Rattle.std.proofs.Math.Seq.{take-suc, take-length}
-use Rattle.journal.specs.declared.line.Line.{Line}
 use Rattle.journal.specs.Changes.{AreFound}
 use Rattle.journal.proofs.Changes.{found-none, found-changed}
 use Rattle.journal.proofs.appending.changed_lines.Goals as goal
 
 pub loop-number-init : goal.loop-number-init
 loop-number-init c =
-    let P : List Line → Type 0 = λ l. AreFound l c.args.durable.now c.args.words.now [] in
-    subst P (sym c.in_ok-lines.ensures.items) (found-none c.args.durable.now c.args.words.now)
+    rw (← c.in_ok-lines.ensures.items) at (found-none c.args.durable.now c.args.words.now)
 
 pub loop-number-preserved : goal.loop-number-preserved
 loop-number-preserved c =

@@ -3,7 +3,6 @@ use Rattle.std.proofs.Math.Logic.{∥∥₁_elim}
 use Rattle.std.proofs.Math.Nat.{ℕ_set}
 use Rattle.std.proofs.lemmas.Bool.{eqb-true}
 use Rattle.journal.specs.declared.line.Line.{Line}
-use Rattle.journal.specs.Changes.{AreChanged}
 use Rattle.journal.specs.States.{Rests}
 use Rattle.journal.proofs.Changes.{unchanged}
 use Rattle.journal.proofs.Within.{rests_within}
@@ -24,11 +23,10 @@ returns-then-is_empty-clause-rests g c =
     let durable = c.args.durable.now in
     let words = c.args.words.now in
     let empty : length c.args.changed.now ≡ 0 = eqb-true _ _ (sym c.is_empty.ensures ∙ c.if-is_empty.true) in
-    let P : List Line → Type 0 = λ l. AreChanged l durable words in
     let held = g.S.Storage.may_hold c.args.storage.now in
     let shown = g.S.Storage.shows c.args.storage.now in
     let R : List ℕ → Type 0 = λ l. ∥ Rests shown (length durable) c.args.room c.args.position.pass c.args.position.words l ∥₁ in
-    subst R (sym (unchanged durable words (subst P (none c.args.changed.now empty) c.requires.changed) c.requires.same))
+    subst R (sym (unchanged durable words (rw (none c.args.changed.now empty) at c.requires.changed) c.requires.same))
     (rests_within held shown (length durable) c.args.room c.args.position.pass c.args.position.words durable (g.met.S.Storage.shown_is_found c.args.storage.now) c.requires.known)
 
 pub returns-then-size-room-clause-either : goal.returns-then-size-room-clause-either

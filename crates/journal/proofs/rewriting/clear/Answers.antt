@@ -1,7 +1,6 @@
-use Rattle.std.proofs.Common.{inl, ◌≡◌, ◌++◌, ◌∙◌, List, ℕ, length, subst}
-use Rattle.std.specs.Prelude.{OnOk}
+use Rattle.std.proofs.Common.{inl, ◌≡◌, ◌++◌, ◌∙◌, length}
 use Rattle.std.proofs.Math.Logic.{∥∥₁_map}
-use Rattle.journal.proofs.Files.{Puts, Keeps, clear as cleared, clear-opens, clear-kept, merely-opens, on_ok}
+use Rattle.journal.proofs.Files.{clear as cleared, clear-opens, clear-kept, merely-opens, on_ok}
 use Rattle.journal.proofs.rewriting.clear.Goals as goal
 
 pub returns-in_err-rest-clause-opens : goal.returns-in_err-rest-clause-opens
@@ -22,9 +21,8 @@ returns-clause-opens g c =
     let words = length image in
     let old = g.S.Storage.may_hold c.args.storage.now in
     let new = g.S.Storage.may_hold c.put.new.storage in
-    let P : List ℕ → Type 0 = λ l. Puts old new words l in
     let is : c.as_slice.result.now ≡ cleared words c.args.room = c.as_slice.ensures.value ∙ c.in_ok-extend_from_slice.ensures.items ∙ (λ i. c.in_ok-rest.ensures.items_if_clones_equal (λ y e. e) i ++ c.tail.ensures i) in
-    merely-opens new words c.args.room image c.requires.known (λ known. clear-opens old new words c.args.room image known (subst P is c.put.ensures.puts))
+    merely-opens new words c.args.room image c.requires.known (λ known. clear-opens old new words c.args.room image known (rw is at c.put.ensures.puts))
 
 pub returns-clause-done : goal.returns-clause-done
 returns-clause-done g c =
@@ -32,7 +30,5 @@ returns-clause-done g c =
     let words = length image in
     let old = g.S.Storage.may_hold c.args.storage.now in
     let new = g.S.Storage.may_hold c.put.new.storage in
-    let P : List ℕ → Type 0 = λ l. Puts old new words l in
-    let K : List ℕ → Type 0 = λ l. OnOk c.put.result (Keeps new words l) in
     let is : c.as_slice.result.now ≡ cleared words c.args.room = c.as_slice.ensures.value ∙ c.in_ok-extend_from_slice.ensures.items ∙ (λ i. c.in_ok-rest.ensures.items_if_clones_equal (λ y e. e) i ++ c.tail.ensures i) in
-    on_ok c.put.result (λ kept. ∥∥₁_map c.requires.known (λ known. clear-kept old new words c.args.room image known (subst P is c.put.ensures.puts) kept)) (subst K is c.put.ensures.kept)
+    on_ok c.put.result (λ kept. ∥∥₁_map c.requires.known (λ known. clear-kept old new words c.args.room image known (rw is at c.put.ensures.puts) kept)) (rw is at c.put.ensures.kept)

@@ -1,6 +1,6 @@
-use Rattle.std.proofs.Common.{◌≡◌, ◌∙◌, inl, inr, ◌+◌, ◌-◌, List, ℕ, length, replicate, ap, subst}
+use Rattle.std.proofs.Common.{◌≡◌, ◌∙◌, inl, inr, ◌-◌, ℕ, length, replicate, ap}
 use Rattle.std.proofs.Math.Logic.{∥∥₁_map}
-use Rattle.journal.proofs.Files.{Puts, Keeps, known-opens, merely-opens}
+use Rattle.journal.proofs.Files.{known-opens, merely-opens}
 use Rattle.journal.proofs.Within.{both_ok}
 use Rattle.journal.proofs.Turned.{fillings, fill-opens, fill-kept}
 use Rattle.journal.proofs.rewriting.fill.Goals as goal
@@ -19,11 +19,10 @@ returns-in_err-write-clause-opens g c =
     let position = c.args.position in
     let old = g.S.Storage.may_hold c.args.storage.now in
     let new = g.S.Storage.may_hold c.write.new.self in
-    let P : List ℕ → Type 0 = λ l. Puts old new (words + position.words) l in
     let is : c.as_slice.result.now ≡ fillings position.pass (room - position.words) =
     c.as_slice.ensures.value ∙ c.in_ok-rest.ensures.items_if_clones_equal (λ y e. e) ∙ ap (λ (v : ℕ). replicate (room - position.words) v) c.bit_of.ensures in
     merely-opens new words room image c.requires.known (λ known.
-    fill-opens old new words room position.pass position.words image c.requires.within known (λ word x h. inl (subst P is c.write.ensures.found word x h)))
+    fill-opens old new words room position.pass position.words image c.requires.within known (λ word x h. inl (rw is at c.write.ensures.found word x h)))
 
 pub returns-clause-opens : goal.returns-clause-opens
 returns-clause-opens g c =
@@ -34,10 +33,9 @@ returns-clause-opens g c =
     let old = g.S.Storage.may_hold c.args.storage.now in
     let mid = g.S.Storage.may_hold c.write.new.self in
     let new = g.S.Storage.may_hold c.put.new.storage in
-    let P : List ℕ → Type 0 = λ l. Puts old mid (words + position.words) l in
     let is : c.as_slice.result.now ≡ fillings position.pass (room - position.words) =
     c.as_slice.ensures.value ∙ c.in_ok-rest.ensures.items_if_clones_equal (λ y e. e) ∙ ap (λ (v : ℕ). replicate (room - position.words) v) c.bit_of.ensures in
-    let first = subst P is c.write.ensures.found in
+    let first = rw is at c.write.ensures.found in
     merely-opens new words room image c.requires.known (λ known.
     fill-opens old new words room position.pass position.words image c.requires.within known (λ word x h. elim (c.put.ensures.puts word x h) [
       | inl held ↦ inl (first word x held)
@@ -54,11 +52,9 @@ returns-clause-done g c =
     let shown = g.S.Storage.shows c.args.storage.now in
     let mid = g.S.Storage.shows c.write.new.self in
     let new = g.S.Storage.may_hold c.put.new.storage in
-    let P : List ℕ → Type 0 = λ l. Puts shown mid (words + position.words) l in
-    let K : List ℕ → Type 0 = λ l. Keeps mid (words + position.words) l in
     let is : c.as_slice.result.now ≡ fillings position.pass (room - position.words) =
     c.as_slice.ensures.value ∙ c.in_ok-rest.ensures.items_if_clones_equal (λ y e. e) ∙ ap (λ (v : ℕ). replicate (room - position.words) v) c.bit_of.ensures in
-    let puts = subst P is c.write.ensures.others in
-    let keeps = subst K is c.in_ok-write.ensures.written in
+    let puts = rw is at c.write.ensures.others in
+    let keeps = rw is at c.in_ok-write.ensures.written in
     both_ok c.put.result (λ kept before. ∥∥₁_map c.requires.known (λ known.
     fill-kept old shown mid new words room position.pass position.words image c.requires.within (g.met.S.Storage.shown_is_found c.args.storage.now) known puts keeps before kept)) c.put.ensures.kept c.put.ensures.shown

@@ -1,7 +1,6 @@
-use Rattle.std.proofs.Common.{◌+◌, List, ℕ, length, subst}
-use Rattle.std.specs.Prelude.{OnOk}
+use Rattle.std.proofs.Common.{length}
 use Rattle.std.proofs.Math.Logic.{∥∥₁_map}
-use Rattle.journal.proofs.Files.{Puts, Keeps, merely-opens, on_ok}
+use Rattle.journal.proofs.Files.{merely-opens, on_ok}
 use Rattle.journal.proofs.Turned.{turn-opens, turn-kept}
 use Rattle.journal.proofs.rewriting.turn.Goals as goal
 
@@ -11,8 +10,7 @@ returns-clause-opens g c =
     let words = length image in
     let old = g.S.Storage.may_hold c.args.storage.now in
     let new = g.S.Storage.may_hold c.put.new.storage in
-    let P : List ℕ → Type 0 = λ l. Puts old new (words + c.args.room) l in
-    merely-opens new words c.args.room image c.requires.known (λ known. turn-opens old new words c.args.room c.args.pass image known (subst P c.tail.ensures c.put.ensures.puts))
+    merely-opens new words c.args.room image c.requires.known (λ known. turn-opens old new words c.args.room c.args.pass image known (rw c.tail.ensures at c.put.ensures.puts))
 
 pub returns-clause-done : goal.returns-clause-done
 returns-clause-done g c =
@@ -20,6 +18,4 @@ returns-clause-done g c =
     let words = length image in
     let old = g.S.Storage.may_hold c.args.storage.now in
     let new = g.S.Storage.may_hold c.put.new.storage in
-    let P : List ℕ → Type 0 = λ l. Puts old new (words + c.args.room) l in
-    let K : List ℕ → Type 0 = λ l. OnOk c.put.result (Keeps new (words + c.args.room) l) in
-    on_ok c.put.result (λ kept. ∥∥₁_map c.requires.known (λ known. turn-kept old new words c.args.room c.args.pass image known (subst P c.tail.ensures c.put.ensures.puts) kept)) (subst K c.tail.ensures c.put.ensures.kept)
+    on_ok c.put.result (λ kept. ∥∥₁_map c.requires.known (λ known. turn-kept old new words c.args.room c.args.pass image known (rw c.tail.ensures at c.put.ensures.puts) kept)) (rw c.tail.ensures at c.put.ensures.kept)

@@ -4,11 +4,8 @@ use Rattle.base.proofs.Results.{on_err}
 use Rattle.base.specs.Layout.{total_words}
 use Rattle.pmem.proofs.Traces.{words-run}
 use Rattle.log_area.specs.Writings.{Progress}
-use Rattle.log_area.proofs.Whole.{written-none, written-more, written-stops, written-whole}
+use Rattle.log_area.proofs.Whole.{written-more, written-stops, written-whole}
 use Rattle.log_area.proofs.write.write_record.Goals as goal
-
-pub loop-writing-init : goal.loop-writing-init
-loop-writing-init g c = written-none c.args.geometry c.args.target c.new-writing.result (g.met.D.Pmem.orderly c.args.device.now) c.new-writing.ensures
 
 pub tick-requires-clause-size : goal.tick-requires-clause-size
 tick-requires-clause-size g c = words-run c.loop-writing.invariant.run ∙ c.requires ∙ ap (λ (p : Progress). total_words p.layout) (sym c.loop-writing.invariant.same)

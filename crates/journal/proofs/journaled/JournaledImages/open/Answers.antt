@@ -1,7 +1,7 @@
 use Rattle.std.proofs.Common.{ℕ, ◌+◌, Bool, true, List, length, get_or, refl, sym, subst}
 use Rattle.std.proofs.lemmas.Grind.{merely}
-use Rattle.journal.specs.Files.{pass_of, FoundOpens}
-use Rattle.journal.specs.States.{Knows, Rests}
+use Rattle.journal.specs.Files.{pass_of}
+use Rattle.journal.specs.States.{Knows}
 use Rattle.journal.proofs.Appended.{found-knows, may-kept}
 use Rattle.journal.proofs.Files.{file-stands, opened-stands}
 use Rattle.journal.proofs.journaled.JournaledImages.open.Goals as goal
@@ -21,8 +21,7 @@ pub returns-in-Ok-rewrite-clause-found : goal.returns-in-Ok-rewrite-clause-found
 returns-in-Ok-rewrite-clause-found g c image may =
     let durable = c.in-Ok.durable.items in
     let hold = g.S.Storage.may_hold c.rewrite.new.storage in
-    let P : List ℕ → Type 0 = λ l. ∥ Rests hold (length l) c.args.room true 0 l ∥₁ in
-    may-kept hold (length durable) c.args.room true 0 durable image (subst P c.as_slice.ensures.value c.in-Ok-rewrite.ensures.rests) refl may
+    may-kept hold (length durable) c.args.room true 0 durable image (rw c.as_slice.ensures.value at c.in-Ok-rewrite.ensures.rests) refl may
 
 pub returns-in-Err-clause-unopened : goal.returns-in-Err-clause-unopened
 returns-in-Err-clause-unopened g c = file-stands (g.S.Storage.may_hold c.args.storage) c.args.words c.args.room c.args.file.now c.requires.holds
@@ -32,6 +31,4 @@ returns-in-Err-rewrite-clause-unopened g c =
     let durable = c.in-Ok.durable.items in
     let hold = g.S.Storage.may_hold c.rewrite.new.storage in
     let opens = c.in-Ok.ensures.stands in
-    let P : List ℕ → Type 0 = λ l. FoundOpens hold (length l) c.args.room l in
-    let N : ℕ → Type 0 = λ n. FoundOpens hold n c.args.room durable in
-    opened-stands hold c.args.words c.args.room c.args.file.now durable opens (subst N opens.size (subst P c.as_slice.ensures.value c.rewrite.ensures.opens))
+    opened-stands hold c.args.words c.args.room c.args.file.now durable opens (rw opens.size at (rw c.as_slice.ensures.value at c.rewrite.ensures.opens))
