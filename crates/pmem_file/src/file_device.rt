@@ -1,7 +1,9 @@
-ghost use Rattle.std.specs.Prelude.{◌≡◌, None, IfOk};
+ghost use Rattle.std.specs.Prelude.{◌≡◌, ◌≤◌, ◌<◌, ◌^◌, length, None, IfOk};
+ghost use Rattle.journal.specs.Files.{Opens};
 ghost use Rattle.pmem.specs.Device.{restarted};
 ghost use Rattle.pmem.specs.Words.{IsAtRest, image_of};
-ghost use Rattle.pmem_file.specs.Devices.{failure_of, state_of};
+ghost use Rattle.pmem_file.specs.Devices.{failure_of, places_of, state_of};
+ghost use Rattle.pmem_file.specs.Shapes.{HasItsPlaces, padded, whole};
 
 use crate::journaled::JournaledPmem;
 use crate::opening::{
@@ -26,6 +28,7 @@ impl JournaledPmem<JournaledImages<FileStorage>> {
     /// its word 0 is 0 then, as that of a new one. It gets a journal behind it, where none is there; one that is there is
     /// read, whatever stopped who wrote it. To any other file nothing is written. What the file holds is written back and
     /// synced before it is taken for persistent: a process that was killed may have left words that no disk has yet.
+    #[tactic(auto, using(crate::proofs::Shapes::begun))]
     pub fn open<R: Files<File = File>>(
         rt: &R,
         alloc: Global,
@@ -35,6 +38,7 @@ impl JournaledPmem<JournaledImages<FileStorage>> {
         ensures rest { IfOk result (λ device. IsAtRest (state_of device)) }
         ensures device { IfOk result (λ device. state_of device ≡ restarted (image_of (state_of device))) }
         ensures works { IfOk result (λ device. failure_of device ≡ None) }
+        ensures layout { IfOk result (λ device. HasItsPlaces geometry (image_of (state_of device)) (places_of device)) }
     {
         let held = hold_standard_streams(rt, alloc)?;
         let file = open_alone(rt, name)?;
@@ -70,9 +74,13 @@ fn open_found(
     found: Found,
     shape: Shape,
 ) -> io::Result<FileDevice>
+    requires fits { whole shape < 2 ^ 58 }
+    requires within { length found.words.items ≤ whole shape }
     ensures rest { IfOk result (λ device. IsAtRest (state_of device)) }
     ensures device { IfOk result (λ device. state_of device ≡ restarted (image_of (state_of device))) }
     ensures works { IfOk result (λ device. failure_of device ≡ None) }
+    ensures stands { IfOk result (λ device. Opens shape.words shape.room (padded shape found.words.items) (image_of (state_of device))) }
+    ensures places { IfOk result (λ device. places_of device ≡ shape.places) }
 {
     let mut storage = FileStorage::new(alloc, file, held)?;
     storage.grow(found.count(), shape.whole())?;

@@ -1,3 +1,8 @@
+ghost use Rattle.std.specs.Prelude.{◌≡◌, ◌+◌, ◌<◌, ◌≤◌, ◌^◌, ℕ, length, slice_index, IfOk, IfSome, IsTrue};
+ghost use Rattle.journal.specs.Files.{IsFile};
+ghost use Rattle.log_area.specs.Rulings.{IsLaidOut};
+ghost use Rattle.pmem_file.specs.Shapes.{HasShape, IsBlank, IsImageOf, whole};
+
 use crate::journaled::JournaledPmem;
 use crate::opening::OpenError;
 use base::fault::Fault;
@@ -29,8 +34,13 @@ pub(crate) struct Shape {
 }
 
 impl Shape {
+    ghost use Rattle.std.specs.Prelude.{◌≡◌, ◌<◌, ◌^◌};
+    ghost use Rattle.pmem_file.specs.Shapes.{IsMadeFor, whole};
+
     // Of an image of this geometry, with a journal as it is made.
-    fn new(geometry: Geometry) -> Shape {
+    fn new(geometry: Geometry) -> Shape
+        ensures { IsMadeFor geometry result }
+    {
         let words = geometry.words() as usize;
         Shape {
             words,
@@ -40,7 +50,9 @@ impl Shape {
     }
 
     // The same, with a journal as older programs made it.
-    fn older(geometry: Geometry) -> Shape {
+    fn older(geometry: Geometry) -> Shape
+        ensures { IsMadeFor geometry result }
+    {
         let shape = Shape::new(geometry);
         Shape {
             words: shape.words,
@@ -50,20 +62,27 @@ impl Shape {
     }
 
     /// How many words the file has, with its journal and its tail.
-    pub(crate) fn whole(&self) -> usize {
+    pub(crate) fn whole(&self) -> usize
+        ensures { whole self.now < 2 ^ 58 → result ≡ whole self.now }
+    {
         self.words.saturating_add(self.room).saturating_add(8)
     }
 }
 
 // How much room a journal is made with: for three entries of all lines, so that the image is written in place once for so many words
 // of entries, if an ample one has as much; and at least for one.
-fn room_behind(words: usize) -> usize {
+fn room_behind(words: usize) -> usize
+    requires { words < 2 ^ 32 }
+    ensures { result < 2 ^ 40 }
+{
     let least = least_room(words);
     let several = least.saturating_mul(3).min(AMPLE_ROOM);
     least.max(several).max(LEAST_ROOM)
 }
 
-fn least_room(words: usize) -> usize {
+fn least_room(words: usize) -> usize
+    ensures { words < 2 ^ 32 → result < 2 ^ 40 }
+{
     let lines = words / 8;
     lines.saturating_mul(9).saturating_add(23) / 8 * 8
 }
@@ -79,6 +98,9 @@ pub(crate) struct Found {
 }
 
 impl Found {
+    ghost use Rattle.std.specs.Prelude.{◌≡◌, ◌<◌, ◌≤◌, ◌^◌, length, IfOk, IsTrue};
+    ghost use Rattle.pmem_file.specs.Shapes.{HasShape, padded, whole};
+
     pub(crate) fn read(alloc: Global, file: &File) -> io::Result<Found> {
         let length = file.metadata()?.len();
         let mut bytes = Vec::new(alloc);
@@ -89,8 +111,10 @@ impl Found {
         Ok(Found { words, length })
     }
 
-    pub(crate) fn is_empty(&self) -> bool {
-        self.length == 0
+    pub(crate) fn is_empty(&self) -> bool
+        ensures { IsTrue result → length self.now.words.items ≡ 0 }
+    {
+        self.length == 0 && self.words.is_empty()
     }
 
     /// How many words there are.
@@ -99,7 +123,11 @@ impl Found {
     }
 
     /// Its words, and 0 for those that are missing of a file of this shape.
-    pub(crate) fn into_words(self, shape: Shape) -> io::Result<Vec<u64>> {
+    pub(crate) fn into_words(self, shape: Shape) -> io::Result<Vec<u64>>
+        requires fits { whole shape < 2 ^ 58 }
+        requires within { length self.words.items ≤ whole shape }
+        ensures { IfOk result (λ words. words.items ≡ padded shape self.words.items) }
+    {
         let mut words = self.words;
         words.resize(shape.whole(), 0)?;
         Ok(words)
@@ -107,7 +135,10 @@ impl Found {
 
     /// What the file holds. A file that is empty, or in which nothing was ever kept, is one of this geometry. Any file is
     /// refused that is no image of ours, or has more or less than one.
-    pub(crate) fn shape(&self, alloc: Global, geometry: Geometry) -> Result<Shape, OpenError> {
+    #[tactic(auto, using(crate::proofs::Shapes::nothing))]
+    pub(crate) fn shape(&self, alloc: Global, geometry: Geometry) -> Result<Shape, OpenError>
+        ensures { IfOk result (HasShape geometry self.now.words.items) }
+    {
         if self.is_empty() {
             return Ok(Shape::new(geometry));
         }
@@ -184,7 +215,9 @@ fn begins_entry(file: &[u64], words: usize) -> bool {
 
 // What the file of these words holds, if it is one of ours: an image alone, as a close leaves it, one with a journal, or one
 // that was being made longer.
-fn shape_in(alloc: Global, file: &[u64], geometry: Geometry) -> Result<Option<Shape>, OpenError> {
+fn shape_in(alloc: Global, file: &[u64], geometry: Geometry) -> Result<Option<Shape>, OpenError>
+    ensures { IfOk result (λ found. IfSome found (HasShape geometry file.now)) }
+{
     if let Some(own) = layout_of(alloc, file, geometry)? {
         return Ok(Some(Shape::new(own)));
     }
@@ -195,13 +228,17 @@ fn shape_in(alloc: Global, file: &[u64], geometry: Geometry) -> Result<Option<Sh
 }
 
 // The shape of a file with a tail. `None` where what it stands for is no image, or an entry of all lines doesn't fit.
+#[tactic(auto, using(crate::proofs::Shapes::journaled))]
 fn journaled_shape(
     alloc: Global,
     file: &[u64],
     words: usize,
     room: usize,
     geometry: Geometry,
-) -> Result<Option<Shape>, OpenError> {
+) -> Result<Option<Shape>, OpenError>
+    requires { IsFile words room (length file.now) }
+    ensures { IfOk result (λ found. IfSome found (HasShape geometry file.now)) }
+{
     if room < least_room(words) {
         return Ok(None);
     }
@@ -221,7 +258,9 @@ fn growing_shape(
     alloc: Global,
     file: &[u64],
     geometry: Geometry,
-) -> Result<Option<Shape>, OpenError> {
+) -> Result<Option<Shape>, OpenError>
+    ensures { IfOk result (λ found. IfSome found (HasShape geometry file.now)) }
+{
     let own = own_geometry(file).unwrap_or(geometry);
     match grown_shape(alloc, file, geometry, Shape::new(own))? {
         Some(shape) => Ok(Some(shape)),
@@ -230,34 +269,50 @@ fn growing_shape(
 }
 
 // This shape, if the file was being made as long: behind its image there is nothing yet, but for words of the first tail.
+#[tactic(auto, using(crate::proofs::Shapes::growing))]
 fn grown_shape(
     alloc: Global,
     file: &[u64],
     geometry: Geometry,
     shape: Shape,
-) -> Result<Option<Shape>, OpenError> {
-    let (Some(image), Some(behind)) = (file.get(..shape.words), file.get(shape.words..)) else {
-        return Ok(None);
-    };
-    if file.len() != shape.whole() || !is_first_behind(behind, shape) {
+) -> Result<Option<Shape>, OpenError>
+    requires { whole shape < 2 ^ 58 }
+    ensures { IfOk result (λ found. IfSome found (HasShape geometry file.now)) }
+{
+    if file.len() != shape.whole() || !is_first_behind(&file[shape.words..], shape) {
         return Ok(None);
     }
-    let layout = layout_of(alloc, image, geometry)?;
-    Ok(layout.is_some().then_some(shape))
+    match layout_of(alloc, &file[..shape.words], geometry)? {
+        Some(own) => Ok(Some(Shape {
+            words: shape.words,
+            room: shape.room,
+            places: own.places() as usize,
+        })),
+        None => Ok(None),
+    }
 }
 
 // Whether there is nothing behind an image but some words of a tail that doesn't count.
-fn is_first_behind(behind: &[u64], shape: Shape) -> bool {
-    match (behind.get(..shape.room), behind.get(shape.room..)) {
-        (Some(journal), Some(tail)) => {
-            journal.iter().all(|word| *word == 0) && is_first_tail(tail, shape)
-        }
-        _ => false,
-    }
+fn is_first_behind(behind: &[u64], shape: Shape) -> bool
+    requires { shape.room + 8 ≤ length behind.now }
+    ensures { IsTrue result → slice_index behind.now shape.room ≡ 0 }
+{
+    are_zero(&behind[..shape.room]) && is_first_tail(&behind[shape.room..], shape)
+}
+
+fn are_zero(words: &[u64]) -> bool
+    ensures { IsTrue result → (word : ℕ) → word < length words.now → slice_index words.now word ≡ 0 }
+{
+    words.iter().all(|word| *word == 0)
 }
 
 // Whether some of these words are those of a tail that doesn't count, and the others 0.
-fn is_first_tail(tail: &[u64], shape: Shape) -> bool {
+fn is_first_tail(tail: &[u64], shape: Shape) -> bool
+    ensures { IsTrue result → slice_index tail.now 0 ≡ 0 }
+{
+    if tail.is_empty() || tail[0] != 0 {
+        return false;
+    }
     let names = [0, shape.words as u64, shape.room as u64, 0, 0, 0, 0, 0];
     tail.iter()
         .zip(names.iter())
@@ -265,15 +320,22 @@ fn is_first_tail(tail: &[u64], shape: Shape) -> bool {
 }
 
 // The layout of an image of these words. Where nothing was ever kept in it that is the one that is asked for.
-fn layout_of(alloc: Global, image: &[u64], geometry: Geometry) -> io::Result<Option<Geometry>> {
+fn layout_of(alloc: Global, image: &[u64], geometry: Geometry) -> io::Result<Option<Geometry>>
+    ensures { IfOk result (λ found. IfSome found (λ own. IsImageOf geometry own image.now)) }
+{
     if is_blank(image, geometry) {
         return Ok(Some(geometry));
     }
-    Ok(geometry_in(alloc, image)?.ok())
+    match geometry_in(alloc, image)? {
+        Ok(own) => Ok(Some(own)),
+        Err(_) => Ok(None),
+    }
 }
 
 // What the superblock of these words says.
-fn geometry_in(alloc: Global, image: &[u64]) -> io::Result<Result<Geometry, Fault>> {
+fn geometry_in(alloc: Global, image: &[u64]) -> io::Result<Result<Geometry, Fault>>
+    ensures { IfOk result (λ found. IfOk found (λ own. IsLaidOut own image.now)) }
+{
     let words = Vec::from_slice(alloc, image)?;
     match JournaledPmem::new(alloc, words, Nowhere, 0) {
         Ok(device) => Ok(read_geometry(&device)),
@@ -282,14 +344,13 @@ fn geometry_in(alloc: Global, image: &[u64]) -> io::Result<Result<Geometry, Faul
 }
 
 // Whether nothing was ever kept: it has the length of a new image, and word 0 and those of all slots are 0.
-fn is_blank(image: &[u64], geometry: Geometry) -> bool {
-    let count = image.len();
-    if count as u64 != geometry.words() || image.first() != Some(&0) {
+fn is_blank(image: &[u64], geometry: Geometry) -> bool
+    ensures { IsTrue result → IsBlank geometry image.now }
+{
+    if image.len() as u64 != geometry.words() || geometry.slots() == 0 || image[0] != 0 {
         return false;
     }
-    let in_slots = geometry.slot_words().saturating_mul(geometry.slots());
-    let slots = &image[count.saturating_sub(in_slots as usize)..];
-    slots.iter().all(|word| *word == 0)
+    are_zero(&image[geometry.slot_start(0)..])
 }
 
 // The geometry that a superblock names.
