@@ -11,7 +11,7 @@ use Rattle.engine.specs.declared.phase.Phase.{Phase}
 use Rattle.engine.specs.declared.phase.Phase.TheVariants.{Idle, Active, Drawn, Stamped, Covered}
 use Rattle.engine.specs.Phases.{number_of, IsOpenAs}
 use Rattle.engine.specs.Receipts.{Asks, Refuses}
-use Rattle.engine.specs.Calls.{Called, AskPrepare, AskCommit, ArePolls, TellsCommit, TellsLast, TellsFault, TellsEnd, AreUncovered, DeclinesPrepare, DeclinesCall, note_of_commit}
+use Rattle.engine.specs.Calls.{Called, AskPrepare, AskCommit, ArePolls, TellsCommit, TellsLast, TellsFault, TellsEnd, AreUncovered, AreUnended, DeclinesPrepare, DeclinesCall, note_of_commit}
 use Rattle.engine.proofs.Calls.{Called-none, Called-append, Called-weaken, Called-more}
 
 TellsFault-append : (one two : List Receipt) (fault : Fault) → TellsFault two fault → TellsFault (one ++ two) fault
@@ -45,14 +45,49 @@ prepared_uncovered (Drawn n t) added stamps = stamps_uncovered n added stamps
 prepared_uncovered (Stamped n t) added none = none_uncovered added none
 prepared_uncovered (Covered n) added none = none_uncovered added none
 
+no_draw_ends : (n k : ℕ) → Draw n ≡ End k → ⊥
+no_draw_ends n k e = cc
+
+no_stamp_ends : (n k : ℕ) → Stamp n ≡ End k → ⊥
+no_stamp_ends n k e = cc
+
+no_poll_ends : (n k : ℕ) → Poll n ≡ End k → ⊥
+no_poll_ends n k e = cc
+
+no_refusal_done : (fault : Fault) → Refused fault ≡ Done → ⊥
+no_refusal_done fault e = cc
+
+none_unended : (added : List Receipt) → added ≡ [] → AreUnended added
+none_unended added none = subst AreUnended (sym none) (All-nil (λ (r : Receipt). (n : ℕ) → r.step ≡ End n → r.note ≢ Done))
+
+both_unended : (one two : List Receipt) → AreUnended one → AreUnended two → AreUnended (one ++ two)
+both_unended one two first second = All-append (λ r. (n : ℕ) → r.step ≡ End n → r.note ≢ Done) one two first second
+
+stamps_unended : (n : ℕ) (added : List Receipt) → All (λ s. s.step ≡ Stamp n) added → AreUnended added
+stamps_unended n added stamps = λ place r less k ends. absurd (no_stamp_ends n k (sym (stamps place r less) ∙ ends))
+
+polls_unended : (n : ℕ) (added : List Receipt) → ArePolls n added → AreUnended added
+polls_unended n added polls = λ place r less k ends. absurd (no_poll_ends n k (sym (polls place r less) ∙ ends))
+
+-- a prepare doesn't end
+prepared_unended : (phase : Phase) (added : List Receipt) → AskPrepare phase added → AreUnended added
+prepared_unended Idle added none = none_unended added none
+prepared_unended (Active n) added (inl none) = none_unended added none
+prepared_unended (Active n) added (inr (r, rest, is, drew, stamps)) =
+    subst AreUnended (sym is)
+    (All-cons (λ (s : Receipt). (k : ℕ) → s.step ≡ End k → s.note ≢ Done) r rest (λ k ends. absurd (no_draw_ends n k (sym drew ∙ ends))) (stamps_unended n rest stamps))
+prepared_unended (Drawn n t) added stamps = stamps_unended n added stamps
+prepared_unended (Stamped n t) added none = none_unended added none
+prepared_unended (Covered n) added none = none_unended added none
+
 -- a prepare that is refused is why a commit is
-prepare_declined : (E : Fault → Type 0) (phase : Phase) (added : List Receipt) (fault : Fault) → DeclinesPrepare E phase added fault → DeclinesCall E phase added fault
-prepare_declined E Idle added fault told = told
-prepare_declined E (Active n) added fault (inl told) = inl told
-prepare_declined E (Active n) added fault (inr (ended, none)) = inr (ended, none_uncovered added none)
-prepare_declined E (Drawn n t) added fault told = inl told
-prepare_declined E (Stamped n t) added fault told = absurd told
-prepare_declined E (Covered n) added fault told = absurd told
+prepare_declined : (E : Fault → Type 0) (phase : Phase) (added : List Receipt) (fault : Fault) → AskPrepare phase added → DeclinesPrepare E phase added fault → DeclinesCall E phase added fault
+prepare_declined E Idle added fault asks told = told
+prepare_declined E (Active n) added fault asks (inl told) = (inl told, prepared_unended (Active n) added asks)
+prepare_declined E (Active n) added fault asks (inr (ended, none)) = (inr (ended, none_uncovered added none), none_unended added none)
+prepare_declined E (Drawn n t) added fault asks told = (inl told, prepared_unended (Drawn n t) added asks)
+prepare_declined E (Stamped n t) added fault asks told = absurd told
+prepare_declined E (Covered n) added fault asks told = absurd told
 
 asks_some : (phase : Phase) (n : ℕ) (one two three : List Receipt) → n ≡ number_of phase → AskPrepare phase one → ArePolls n two → All (λ r. r.step ≡ End n) three → length three ≤ 1
     → AskCommit phase (one ++ (two ++ three))
@@ -68,12 +103,12 @@ asks_some phase n one two three is asks polls ends short = record {
 }
 
 -- where a transaction is open, a call is declined as its steps tell
-pub declines : (E : Fault → Type 0) (phase : Phase) (added : List Receipt) (fault : Fault) → phase ≢ Idle → TellsEnd E added fault → DeclinesCall E phase added fault
-declines E Idle added fault is_open tells = absurd (is_open refl)
-declines E (Active n) added fault is_open tells = tells
-declines E (Drawn n t) added fault is_open tells = tells
-declines E (Stamped n t) added fault is_open tells = tells
-declines E (Covered n) added fault is_open tells = tells
+pub declines : (E : Fault → Type 0) (phase : Phase) (added : List Receipt) (fault : Fault) → phase ≢ Idle → TellsEnd E added fault → AreUnended added → DeclinesCall E phase added fault
+declines E Idle added fault is_open tells unended = absurd (is_open refl)
+declines E (Active n) added fault is_open tells unended = (tells, unended)
+declines E (Drawn n t) added fault is_open tells unended = (tells, unended)
+declines E (Stamped n t) added fault is_open tells unended = (tells, unended)
+declines E (Covered n) added fault is_open tells unended = (tells, unended)
 
 -- none is open
 pub commit_idle : (E : Fault → Type 0) (old : List Receipt) (phase : Phase) → phase ≡ Idle → Called old old (λ added. AskCommit phase added × DeclinesCall E phase added NoSession)
@@ -87,7 +122,7 @@ pub commit_only_prepared : (E : Fault → Type 0) (old new : List Receipt) (phas
     → Called old new (λ added. AskCommit phase added × DeclinesCall E phase added fault)
 commit_only_prepared E old new phase fault c = Called-weaken _ _ _ _ c (λ added tells. (
   subst (AskCommit phase) (append-nil added) (asks_some phase (number_of phase) added [] [] refl tells.0 (All-nil (λ (r : Receipt). r.step ≡ Poll (number_of phase))) (All-nil (λ (r : Receipt). r.step ≡ End (number_of phase))) (omega arith)),
-  prepare_declined E phase added fault tells.1,
+  prepare_declined E phase added fault tells.0 tells.1,
 ))
 
 -- a poll failed
@@ -95,7 +130,7 @@ pub commit_polled : (E : Fault → Type 0) (old mid new : List Receipt) (phase :
     → Called mid new (λ two. ArePolls n two × TellsEnd E two fault) → Called old new (λ added. AskCommit phase added × DeclinesCall E phase added fault)
 commit_polled E old mid new phase n fault R is c d = Called-append _ _ _ _ _ _ c d (λ one two prepared polled. (
   subst (λ (rs : List Receipt). AskCommit phase (one ++ rs)) (append-nil two) (asks_some phase n one two [] is.number prepared.0 polled.0 (All-nil (λ (r : Receipt). r.step ≡ End n)) (omega arith)),
-  declines E phase _ fault is.is_open (TellsEnd-append E one two fault (prepared_uncovered phase one prepared.0) polled.1),
+  declines E phase _ fault is.is_open (TellsEnd-append E one two fault (prepared_uncovered phase one prepared.0) polled.1) (both_unended one two (prepared_unended phase one prepared.0) (polls_unended n two polled.0)),
 ))
 
 -- it ended
@@ -145,5 +180,9 @@ commit_end_failed E old mid mid' new phase n fault R S is c d (inr a) =
     join one three prepared (two, r, same, polls, step, told) = (
       subst (λ (rs : List Receipt). AskCommit phase (one ++ rs)) (sym same)
           (asks_some phase n one two (r ∷ []) is.number prepared.0 polls (All-cons (λ (s : Receipt). s.step ≡ End n) r [] step (All-nil (λ (s : Receipt). s.step ≡ End n))) (omega arith)),
-      declines E phase _ fault is.is_open (inl (TellsFault-append one three fault (inr (two, r, same, told)))),
+      declines E phase _ fault is.is_open (inl (TellsFault-append one three fault (inr (two, r, same, told))))
+          (both_unended one three (prepared_unended phase one prepared.0)
+          (subst AreUnended (sym same)
+          (both_unended two (r ∷ []) (polls_unended n two polls)
+          (All-cons (λ (s : Receipt). (k : ℕ) → s.step ≡ End k → s.note ≢ Done) r [] (λ k ends done. no_refusal_done fault (sym told ∙ done)) (All-nil (λ (s : Receipt). (k : ℕ) → s.step ≡ End k → s.note ≢ Done)))))),
     )

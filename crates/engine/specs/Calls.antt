@@ -36,10 +36,14 @@ AreUncovered added = All (λ r. (n : ℕ) → r.step ≡ Poll n → r.note ≡ W
 abbrev pub TellsEnd : (Fault → Type 0) → List Receipt → Fault → Type 0
 TellsEnd Ended added fault = TellsFault added fault ⊎ (Ended fault × AreUncovered added)
 
--- so it is where a transaction is open, and else the fault is NoSession and no step was made
+-- whichever of them is an end wasn't done
+abbrev pub AreUnended : List Receipt → Type 0
+AreUnended added = All (λ r. (n : ℕ) → r.step ≡ End n → r.note ≢ Done) added
+
+-- so it is where a transaction is open, which stays so; and else the fault is NoSession and no step was made
 abbrev pub DeclinesCall : (Fault → Type 0) → Phase → List Receipt → Fault → Type 0
 DeclinesCall Ended Idle added fault = (fault ≡ NoSession) × (added ≡ [])
-DeclinesCall Ended _ added fault = TellsEnd Ended added fault
+DeclinesCall Ended _ added fault = TellsEnd Ended added fault × AreUnended added
 
 -- ---- a prepare
 

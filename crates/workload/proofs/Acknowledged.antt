@@ -1,80 +1,366 @@
--- How receipts grow, and which of them tell of acknowledged commits.
-use Rattle.std.proofs.Common.{◌≡◌, ◌⊎◌, ℕ, ◌+◌, suc, zero, true, false, List, [], ◌∷◌, ◌++◌, Option, Some, None, inl, inr, refl, sym, ap, ◌∙◌, subst, append_assoc}
-use Rattle.std.specs.Prelude.{◌≢◌, IsTrue, is_some}
+-- What calls of a session add to what was acknowledged and drawn, and why a thread gives up.
+use Rattle.std.proofs.Common.{◌≡◌, ◌⊎◌, ℕ, ◌+◌, ◌≤◌, Bool, true, false, List, [], ◌∷◌, ◌++◌, Option, Some, None, length, drop, inl, inr, refl, sym, ap, ◌∙◌, subst, append_assoc, arith}
+use Rattle.std.specs.Prelude.{◌≢◌, All, Err, IfErr, IfOk, Ok, Result, if◌then◌else◌, is_some, slice_index_or, ⊤}
+use Rattle.std.proofs.Math.Seq.{drop-append_seam}
 use Rattle.std.proofs.lemmas.Bool.{false≢true}
-use Rattle.std.proofs.Math.Numerals.{suc-eq-add-one}
+use Rattle.std.proofs.lemmas.List.Elements.{All-append, All-head, All-tail}
 use Rattle.base.specs.declared.fault.Fault.{Fault}
-use Rattle.base.specs.declared.fault.Fault.TheVariants.{OutOfMemory}
+use Rattle.base.specs.declared.fault.Fault.TheVariants.{OutOfMemory, WrongState}
+use Rattle.base.specs.declared.key.Key.{Key}
+use Rattle.base.specs.declared.step.Step.{Step}
+use Rattle.base.specs.declared.step.Step.TheVariants.{Abort, Begin, Collect, Commit as Tick, Delete, Draw, End, Get, Poll, Put, Scan, Stamp}
 use Rattle.base.specs.declared.step.Note.{Note}
-use Rattle.base.specs.declared.step.Note.TheVariants.{Refused}
+use Rattle.base.specs.declared.step.Note.TheVariants.{Began, Committed, Covered as CoveredBy, Done, Drawn as DrewAs, Idle as IsIdle, More, Refused, Row, Rows, Stamped as AllStamped, SweepEnd, Ticked, Visited, Waiting}
 use Rattle.audited.specs.declared.receipt.Receipt.{Receipt}
 use Rattle.engine.specs.declared.phase.Phase.{Phase}
 use Rattle.engine.specs.declared.phase.Phase.TheVariants.{Idle, Active, Drawn, Stamped, Covered}
-use Rattle.engine.specs.Calls.{Called, DeclinesCall, TellsCommit, TellsEnd, TellsLast}
-use Rattle.engine.specs.Phases.{number_of}
-use Rattle.engine.specs.Receipts.{Declines}
-use Rattle.workload.specs.Load.{Acknowledges, Adds, AddsCommit, GivesUp, IsRefusedWith, may_pass}
+use Rattle.engine.specs.Calls.{ArePolls, AreUnended, AskCommit, AskPrepare, Called, DeclinesCall, TellsCommit, TellsEnd, TellsLast}
+use Rattle.engine.specs.Phases.{added_since, number_of, phase_after, phase_after_step}
+use Rattle.engine.specs.Receipts.{Answers, Asks, Declines, Refuses}
+use Rattle.engine.proofs.Phasing.{phase_after-append}
+use Rattle.workload.specs.Load.{GivesUp, IsRefusedWith, Makes, MakesNone, MakesOne, acknowledged, draws, ended_of, has_drawn, may_pass, pending, told_to}
+use Rattle.workload.proofs.Counted.{acknowledged-none, acknowledged-one, count-one, draws-append, draws-cons, ends, ends-append, ends-cons, ends-short, none-counted}
 
--- ---- receipts are added
+-- ---- one after the other
 
-pub adds-trans : (old mid new : List Receipt) → Adds old mid → Adds mid new → Adds old new
-adds-trans old mid new (one, is) (two, so) = (one ++ two, so ∙ (ap (λ (rs : List Receipt). rs ++ two) is ∙ append_assoc old one two))
+pub none-yet : (phase : Phase) (receipts : List Receipt) → MakesNone phase receipts phase receipts
+none-yet phase receipts = record { told = refl; drawn = omega arith }
 
--- ---- commits are acknowledged
+pub none-then : (p q s : Phase) (old mid new : List Receipt) → MakesNone p old q mid → MakesNone q mid s new → MakesNone p old s new
+none-then p q s old mid new one two = record { told = two.told ∙ one.told; drawn = omega (arith, one.drawn, two.drawn) }
 
-acknowledges-more : (made : ℕ) (old added : List Receipt) → Acknowledges made old → Acknowledges made (old ++ added)
-acknowledges-more zero old added h = tt
-acknowledges-more (suc made) old added (before, earlier, last) = (
-  before,
-  earlier,
-  record {
-    poll = last.poll;
-    end = last.end;
-    rest = last.rest ++ added;
-    session = last.session;
-    timestamp = last.timestamp;
-    is = ap (λ (rs : List Receipt). rs ++ added) last.is ∙ append_assoc before (last.poll ∷ last.end ∷ last.rest) added;
-    polled = last.polled;
-    told = last.told;
-    ended = last.ended;
-    done = last.done;
-  },
-)
+pub none-then-one : (p q : Phase) (old mid new : List Receipt) → MakesNone p old q mid → MakesOne q mid new → MakesOne p old new
+none-then-one p q old mid new one two = record { told = two.told ∙ ap (λ (n : ℕ). n + 1) one.told; drawn = omega (arith, one.drawn, two.drawn) }
 
 -- one more
-pub acknowledges-one : (made : ℕ) (old new : List Receipt) → Acknowledges made old → AddsCommit old new → Acknowledges (made + 1) new
-acknowledges-one made old new earlier (before, (added, is), last) =
-    subst (λ (n : ℕ). Acknowledges n new) (suc-eq-add-one made)
-    (before, subst (Acknowledges made) (sym is) (acknowledges-more made old added earlier), last)
+pub makes-one : (made : ℕ) (phase : Phase) (old new : List Receipt) → Makes made old → MakesOne phase old new → Makes (made + 1) new
+makes-one made phase old new earlier last = record { told = last.told ∙ ap (λ (n : ℕ). n + 1) earlier.told; drawn = omega (arith, earlier.drawn, last.drawn) }
 
-pub adds-commit-after : (old mid new : List Receipt) → Adds old mid → AddsCommit mid new → AddsCommit old new
-adds-commit-after old mid new grows (before, more, last) = (before, adds-trans old mid before grows more, last)
+pub makes-zero : (receipts : List Receipt) → receipts ≡ [] → Makes 0 receipts
+makes-zero receipts none = subst (Makes 0) (sym none) (record { told = refl; drawn = omega arith })
 
--- what a commit that answered a timestamp says
-pub commit-adds : (old new : List Receipt) (phase : Phase) (t : ℕ) (Asked : List Receipt → Type 0) → Called old new (λ added. Asked added × TellsCommit phase added (Some t)) → AddsCommit old new
-commit-adds old new phase t Asked called =
-    let tells = called.tells.1 in (
-      old ++ tells.before,
-      (tells.before, refl),
-      record {
-        poll = tells.poll;
-        end = tells.end;
-        rest = [];
-        session = number_of phase;
-        timestamp = t;
-        is = called.is ∙ (ap (λ (rs : List Receipt). old ++ rs) (tells.is ∙ append_assoc tells.before (tells.poll ∷ []) (tells.end ∷ []))
-            ∙ sym (append_assoc old tells.before (tells.poll ∷ tells.end ∷ [])));
-        polled = tells.polled;
-        told = tells.told;
-        ended = tells.ended;
-        done = tells.done;
-      },
+-- ---- a step that neither draws nor ends
+
+-- such a step
+record IsPlain (step : Step) : Type 0 where
+  ends : (note : Note) → ended_of step note ≡ None
+  draws : (note : Note) → has_drawn step note ≡ false
+
+begin-plain : IsPlain Begin
+begin-plain = record { ends = λ note. refl; draws = λ note. refl }
+
+put-plain : (n : ℕ) (key : Key) (row : List ℕ) → IsPlain (Put n key row)
+put-plain n key row = record { ends = λ note. refl; draws = λ note. refl }
+
+abort-plain : (n : ℕ) → IsPlain (Abort n)
+abort-plain n = record { ends = λ note. refl; draws = λ note. refl }
+
+-- what it leaves
+record LeavesAll (old new : List Receipt) : Type 0 where
+  told : acknowledged new ≡ acknowledged old
+  drawn : draws new ≡ draws old
+
+leaves-same : (old new : List Receipt) → new ≡ old → LeavesAll old new
+leaves-same old new is = record { told = ap acknowledged is; drawn = ap draws is }
+
+asked-plain : (old new : List Receipt) (step : Step) (note : Note) → IsPlain step → Asks old new step note → LeavesAll old new
+asked-plain old new step note plain a =
+    let ended : ended_of a.receipt.step a.receipt.note ≡ None = ap (λ (s : Step). ended_of s a.receipt.note) a.asked ∙ plain.ends a.receipt.note in
+    let drew : has_drawn a.receipt.step a.receipt.note ≡ false = ap (λ (s : Step). has_drawn s a.receipt.note) a.asked ∙ plain.draws a.receipt.note in
+    let none : ends (a.receipt ∷ []) ≡ 0 = count-one (λ r. is_some (ended_of r.step r.note)) a.receipt ∙ ap (λ (o : Option ℕ). if is_some o then 1 else 0) ended in
+    let nothing : draws (a.receipt ∷ []) ≡ 0 = count-one (λ r. has_drawn r.step r.note) a.receipt ∙ ap (λ (b : Bool). if b then 1 else 0) drew in
+    record {
+      told = ap acknowledged a.added ∙ acknowledged-none old (a.receipt ∷ []) none;
+      drawn = ap draws a.added ∙ omega (arith, draws-append old (a.receipt ∷ []), nothing);
+    }
+
+refused-plain : (old new : List Receipt) (step : Step) (fault : Fault) → IsPlain step → Refuses old new step fault → LeavesAll old new
+refused-plain old new step fault plain (inl (same, memory)) = leaves-same old new same
+refused-plain old new step fault plain (inr asks) = asked-plain old new step (Refused fault) plain asks
+
+declined-plain : (phase : Phase) (old new : List Receipt) (step : Step) (fault : Fault) → IsPlain step → Declines phase old new step fault → LeavesAll old new
+declined-plain phase old new step fault plain (inl (there, refuses)) = refused-plain old new step fault plain refuses
+declined-plain phase old new step fault plain (inr (idle, none, same)) = leaves-same old new same
+
+leaves-none : (p q : Phase) (old new : List Receipt) → pending p ≤ pending q → LeavesAll old new → MakesNone p old q new
+leaves-none p q old new less all = record { told = all.told; drawn = omega (arith, less, all.drawn) }
+
+same-pending : (p q : Phase) → q ≡ p → pending p ≤ pending q
+same-pending p q is = omega (arith, ap pending is)
+
+none-pending : (p q : Phase) → pending p ≡ 0 → pending p ≤ pending q
+none-pending p q none = omega (arith, none)
+
+-- a begin
+pub begun-none : (p q : Phase) (old new : List Receipt) (n : ℕ) → p ≡ Idle → Asks old new Begin (Began n) → MakesNone p old q new
+begun-none p q old new n idle asks = leaves-none p q old new (none-pending p q (ap pending idle)) (asked-plain old new Begin (Began n) begin-plain asks)
+
+pub not-begun-none : (p q : Phase) (old new : List Receipt) (fault : Fault) → q ≡ p
+    → ((p ≡ Idle) × Refuses old new Begin fault) ⊎ ((p ≢ Idle) × (fault ≡ WrongState) × (new ≡ old)) → MakesNone p old q new
+not-begun-none p q old new fault is (inl (idle, refuses)) = leaves-none p q old new (same-pending p q is) (refused-plain old new Begin fault begin-plain refuses)
+not-begun-none p q old new fault is (inr (there, wrong, same)) = leaves-none p q old new (same-pending p q is) (leaves-same old new same)
+
+-- a put
+pub put-none : (p q : Phase) (old new : List Receipt) (n : ℕ) (key : Key) (row : List ℕ) (result : Result ⊤ Fault) → q ≡ p
+    → IfOk result (λ done. Answers p old new (Put n key row) Done) → IfErr result (λ fault. Declines p old new (Put n key row) fault) → MakesNone p old q new
+put-none p q old new n key row (Ok done) is ok err = leaves-none p q old new (same-pending p q is) (asked-plain old new (Put n key row) Done (put-plain n key row) ok.1)
+put-none p q old new n key row (Err fault) is ok err = leaves-none p q old new (same-pending p q is) (declined-plain p old new (Put n key row) fault (put-plain n key row) err)
+
+-- an abort
+pub aborted-none : (p q : Phase) (old new : List Receipt) (n : ℕ) → pending p ≡ 0 → Answers p old new (Abort n) Done → MakesNone p old q new
+aborted-none p q old new n none answers = leaves-none p q old new (none-pending p q none) (asked-plain old new (Abort n) Done (abort-plain n) answers.1)
+
+pub not-aborted-none : (p q : Phase) (old new : List Receipt) (n : ℕ) (fault : Fault) → q ≡ p → Declines p old new (Abort n) fault → MakesNone p old q new
+not-aborted-none p q old new n fault is declines = leaves-none p q old new (same-pending p q is) (declined-plain p old new (Abort n) fault (abort-plain n) declines)
+
+-- ---- the receipts of a commit
+
+stamps-ends : (n : ℕ) (xs : List Receipt) → All (λ r. r.step ≡ Stamp n) xs → ends xs ≡ 0
+stamps-ends n xs all = none-counted (λ r. is_some (ended_of r.step r.note)) xs (λ k d less. ap (λ (s : Step). is_some (ended_of s (slice_index_or xs k d).note)) (all k d less))
+
+stamps-draws : (n : ℕ) (xs : List Receipt) → All (λ r. r.step ≡ Stamp n) xs → draws xs ≡ 0
+stamps-draws n xs all = none-counted (λ r. has_drawn r.step r.note) xs (λ k d less. ap (λ (s : Step). has_drawn s (slice_index_or xs k d).note) (all k d less))
+
+polls-ends : (n : ℕ) (xs : List Receipt) → ArePolls n xs → ends xs ≡ 0
+polls-ends n xs all = none-counted (λ r. is_some (ended_of r.step r.note)) xs (λ k d less. ap (λ (s : Step). is_some (ended_of s (slice_index_or xs k d).note)) (all k d less))
+
+polls-draws : (n : ℕ) (xs : List Receipt) → ArePolls n xs → draws xs ≡ 0
+polls-draws n xs all = none-counted (λ r. has_drawn r.step r.note) xs (λ k d less. ap (λ (s : Step). has_drawn s (slice_index_or xs k d).note) (all k d less))
+
+ends-draws : (n : ℕ) (xs : List Receipt) → All (λ r. r.step ≡ End n) xs → draws xs ≡ 0
+ends-draws n xs all = none-counted (λ r. has_drawn r.step r.note) xs (λ k d less. ap (λ (s : Step). has_drawn s (slice_index_or xs k d).note) (all k d less))
+
+draw-ends : (n : ℕ) (r : Receipt) → r.step ≡ Draw n → ended_of r.step r.note ≡ None
+draw-ends n r is = ap (λ (s : Step). ended_of s r.note) is
+
+-- a prepare ends nothing, and draws where nothing was drawn before
+prepare-ends : (phase : Phase) (xs : List Receipt) → AskPrepare phase xs → ends xs ≡ 0
+prepare-ends Idle xs none = ap ends none
+prepare-ends (Active n) xs (inl none) = ap ends none
+prepare-ends (Active n) xs (inr (r, rest, is, drew, stamps)) =
+    let first : ◌≡◌ {A = ℕ} (if is_some (ended_of r.step r.note) then 1 else 0) 0 = ap {B = ℕ} (λ (o : Option ℕ). if is_some o then 1 else 0) (draw-ends n r drew) in
+    omega (arith, ap ends is, ends-cons r rest, first, stamps-ends n rest stamps)
+prepare-ends (Drawn n t) xs stamps = stamps-ends n xs stamps
+prepare-ends (Stamped n t) xs none = ap ends none
+prepare-ends (Covered n) xs none = ap ends none
+
+one-at-most : (b : Bool) → (if b then 1 else 0) ≤ 1
+one-at-most true = omega arith
+one-at-most false = omega arith
+
+prepare-draws : (phase : Phase) (xs : List Receipt) → AskPrepare phase xs → draws xs + pending phase ≤ 1
+prepare-draws Idle xs none = omega (arith, ap draws none)
+prepare-draws (Active n) xs (inl none) = omega (arith, ap draws none)
+prepare-draws (Active n) xs (inr (r, rest, is, drew, stamps)) = omega (arith, ap draws is, draws-cons r rest, stamps-draws n rest stamps, one-at-most (has_drawn r.step r.note))
+prepare-draws (Drawn n t) xs stamps = omega (arith, stamps-draws n xs stamps)
+prepare-draws (Stamped n t) xs none = omega (arith, ap draws none)
+prepare-draws (Covered n) xs none = omega (arith, ap draws none)
+
+asked-draws : (phase : Phase) (added : List Receipt) (asks : AskCommit phase added) → draws added ≡ draws asks.prepare
+asked-draws phase added asks =
+    ap draws asks.is
+    ∙ omega (arith, draws-append asks.prepare (asks.polls ++ asks.end), draws-append asks.polls asks.end, polls-draws (number_of phase) asks.polls asks.all_polls, ends-draws (number_of phase) asks.end asks.ends)
+
+asked-ends : (phase : Phase) (added : List Receipt) (asks : AskCommit phase added) → ends added ≤ 1
+asked-ends phase added asks =
+    omega (
+      arith,
+      ap ends asks.is,
+      ends-append asks.prepare (asks.polls ++ asks.end),
+      ends-append asks.polls asks.end,
+      prepare-ends phase asks.prepare asks.asks,
+      polls-ends (number_of phase) asks.polls asks.all_polls,
+      ends-short asks.end,
+      asks.one_end,
     )
 
-pub commit-some : (first old new : List Receipt) (phase : Phase) (answer : Option ℕ) (Asked : List Receipt → Type 0) → Adds first old → Called old new (λ added. Asked added × TellsCommit phase added answer)
-    → IsTrue (is_some answer) → AddsCommit first new
-commit-some first old new phase None Asked grows called is = absurd (false≢true is)
-commit-some first old new phase (Some t) Asked grows called is = adds-commit-after first old new grows (commit-adds old new phase t Asked called)
+-- ---- a commit that answers a timestamp
+
+poll-told : (n t : ℕ) (r : Receipt) → r.step ≡ Poll n → r.note ≡ Committed t → told_to r.step r.note ≡ Some n
+poll-told n t r is told = ap (λ (s : Step). told_to s r.note) is ∙ ap (told_to (Poll n)) told
+
+end-done : (n : ℕ) (r : Receipt) → r.step ≡ End n → r.note ≡ Done → ended_of r.step r.note ≡ Some n
+end-done n r is done = ap (λ (s : Step). ended_of s r.note) is ∙ ap (ended_of (End n)) done
+
+pub commit-one : (old new : List Receipt) (phase : Phase) (t : ℕ) → Called old new (λ added. AskCommit phase added × TellsCommit phase added (Some t)) → MakesOne phase old new
+commit-one old new phase t called =
+    let asks = called.tells.0 in
+    let tells = called.tells.1 in
+    let poll = tells.poll in
+    let end = tells.end in
+    let front : List Receipt = tells.before ++ poll ∷ [] in
+    let done : ended_of end.step end.note ≡ Some (number_of phase) = end-done (number_of phase) end tells.ended tells.done in
+    let one : ends (end ∷ []) ≡ 1 = count-one (λ r. is_some (ended_of r.step r.note)) end ∙ ap (λ (o : Option ℕ). if is_some o then 1 else 0) done in
+    let none : ends front ≡ 0 = omega (arith, asked-ends phase called.added asks, ap ends tells.is, ends-append front (end ∷ []), one) in
+    let whole : new ≡ (old ++ tells.before) ++ poll ∷ end ∷ [] =
+    called.is ∙ (ap (λ (rs : List Receipt). old ++ rs) (tells.is ∙ append_assoc tells.before (poll ∷ []) (end ∷ [])) ∙ sym (append_assoc old tells.before (poll ∷ end ∷ []))) in
+    let earlier : acknowledged ((old ++ tells.before) ++ poll ∷ []) ≡ acknowledged old = ap acknowledged (append_assoc old tells.before (poll ∷ [])) ∙ acknowledged-none old front none in
+    record {
+      told = ap acknowledged whole
+          ∙ (acknowledged-one (old ++ tells.before) poll end (number_of phase) (poll-told (number_of phase) t poll tells.polled tells.told) done ∙ ap (λ (n : ℕ). n + 1) earlier);
+      drawn = omega (arith, ap draws called.is, draws-append old called.added, asked-draws phase called.added asks, prepare-draws phase asks.prepare asks.asks);
+    }
+
+pub commit-some : (p q : Phase) (first old new : List Receipt) (answer : Option ℕ) → MakesNone p first q old → Called old new (λ added. AskCommit q added × TellsCommit q added answer)
+    → is_some answer ≡ true → MakesOne p first new
+commit-some p q first old new None earlier called is = absurd (false≢true is)
+commit-some p q first old new (Some t) earlier called is = none-then-one p q first old new earlier (commit-one old new q t called)
+
+-- ---- a commit that fails
+
+undone : (s : Step) (note : Note) → ((n : ℕ) → s ≡ End n → note ≢ Done) → is_some (ended_of s note) ≡ false
+undone (End n) Done still = absurd (still n refl refl)
+undone (End n) (Began k) still = refl
+undone (End n) (Row k) still = refl
+undone (End n) (Rows k) still = refl
+undone (End n) (DrewAs k) still = refl
+undone (End n) More still = refl
+undone (End n) AllStamped still = refl
+undone (End n) Waiting still = refl
+undone (End n) (Committed k) still = refl
+undone (End n) IsIdle still = refl
+undone (End n) (Ticked k) still = refl
+undone (End n) (CoveredBy k) still = refl
+undone (End n) (Visited k) still = refl
+undone (End n) SweepEnd still = refl
+undone (End n) (Refused k) still = refl
+undone Begin note still = refl
+undone (Get n k) note still = refl
+undone (Scan n t k l) note still = refl
+undone (Put n k r) note still = refl
+undone (Delete n k) note still = refl
+undone (Draw n) note still = refl
+undone (Stamp n) note still = refl
+undone (Poll n) note still = refl
+undone (Abort n) note still = refl
+undone Tick note still = refl
+undone Collect note still = refl
+
+unended-ends : (xs : List Receipt) → AreUnended xs → ends xs ≡ 0
+unended-ends xs all = none-counted (λ r. is_some (ended_of r.step r.note)) xs (λ k d less. undone (slice_index_or xs k d).step (slice_index_or xs k d).note (all k d less))
+
+-- a transaction that drew stays so
+record Keeps (r : Receipt) : Type 0 where
+  stays : (phase : Phase) → pending phase ≤ pending (phase_after_step phase r.step r.note)
+
+all-keep : (phase : Phase) (xs : List Receipt) → All Keeps xs → pending phase ≤ pending (phase_after phase xs)
+all-keep phase [] all = omega arith
+all-keep phase (r ∷ rs) all =
+    omega (arith, (All-head Keeps r rs all).stays phase, all-keep (phase_after_step phase r.step r.note) rs (All-tail Keeps r rs all))
+
+pending-at-most : (phase : Phase) → pending phase ≤ 1
+pending-at-most Idle = omega arith
+pending-at-most (Active n) = omega arith
+pending-at-most (Drawn n t) = omega arith
+pending-at-most (Stamped n t) = omega arith
+pending-at-most (Covered n) = omega arith
+
+stamp-keeps : (n : ℕ) (phase : Phase) (note : Note) → pending phase ≤ pending (phase_after_step phase (Stamp n) note)
+stamp-keeps n phase AllStamped = pending-at-most phase
+stamp-keeps n phase Done = omega arith
+stamp-keeps n phase (Began k) = omega arith
+stamp-keeps n phase (Row k) = omega arith
+stamp-keeps n phase (Rows k) = omega arith
+stamp-keeps n phase (DrewAs k) = omega arith
+stamp-keeps n phase More = omega arith
+stamp-keeps n phase Waiting = omega arith
+stamp-keeps n phase (Committed k) = omega arith
+stamp-keeps n phase IsIdle = omega arith
+stamp-keeps n phase (Ticked k) = omega arith
+stamp-keeps n phase (CoveredBy k) = omega arith
+stamp-keeps n phase (Visited k) = omega arith
+stamp-keeps n phase SweepEnd = omega arith
+stamp-keeps n phase (Refused k) = omega arith
+
+end-keeps : (n : ℕ) (phase : Phase) (note : Note) → note ≢ Done → pending phase ≤ pending (phase_after_step phase (End n) note)
+end-keeps n phase Done still = absurd (still refl)
+end-keeps n phase AllStamped still = omega arith
+end-keeps n phase (Began k) still = omega arith
+end-keeps n phase (Row k) still = omega arith
+end-keeps n phase (Rows k) still = omega arith
+end-keeps n phase (DrewAs k) still = omega arith
+end-keeps n phase More still = omega arith
+end-keeps n phase Waiting still = omega arith
+end-keeps n phase (Committed k) still = omega arith
+end-keeps n phase IsIdle still = omega arith
+end-keeps n phase (Ticked k) still = omega arith
+end-keeps n phase (CoveredBy k) still = omega arith
+end-keeps n phase (Visited k) still = omega arith
+end-keeps n phase SweepEnd still = omega arith
+end-keeps n phase (Refused k) still = omega arith
+
+draw-keeps : (n k : ℕ) (note : Note) → (if has_drawn (Draw k) note then 1 else 0) ≤ pending (phase_after_step (Active n) (Draw k) note)
+draw-keeps n k (DrewAs t) = omega arith
+draw-keeps n k Done = omega arith
+draw-keeps n k AllStamped = omega arith
+draw-keeps n k (Began t) = omega arith
+draw-keeps n k (Row t) = omega arith
+draw-keeps n k (Rows t) = omega arith
+draw-keeps n k More = omega arith
+draw-keeps n k Waiting = omega arith
+draw-keeps n k (Committed t) = omega arith
+draw-keeps n k IsIdle = omega arith
+draw-keeps n k (Ticked t) = omega arith
+draw-keeps n k (CoveredBy t) = omega arith
+draw-keeps n k (Visited t) = omega arith
+draw-keeps n k SweepEnd = omega arith
+draw-keeps n k (Refused t) = omega arith
+
+keeps-as : (step : Step) (r : Receipt) → r.step ≡ step → ((phase : Phase) → pending phase ≤ pending (phase_after_step phase step r.note)) → Keeps r
+keeps-as step r is keeps = record { stays = λ phase. subst (λ (s : Step). pending phase ≤ pending (phase_after_step phase s r.note)) (sym is) (keeps phase) }
+
+stamps-keep : (n : ℕ) (xs : List Receipt) → All (λ r. r.step ≡ Stamp n) xs → All Keeps xs
+stamps-keep n xs all = λ k d less. keeps-as (Stamp n) (slice_index_or xs k d) (all k d less) (λ phase. stamp-keeps n phase (slice_index_or xs k d).note)
+
+polls-keep : (n : ℕ) (xs : List Receipt) → ArePolls n xs → All Keeps xs
+polls-keep n xs all = λ k d less. keeps-as (Poll n) (slice_index_or xs k d) (all k d less) (λ phase. omega arith)
+
+ends-keep : (n : ℕ) (xs : List Receipt) → All (λ r. r.step ≡ End n) xs → AreUnended xs → All Keeps xs
+ends-keep n xs all still =
+    λ k d less. keeps-as (End n) (slice_index_or xs k d) (all k d less) (λ phase. end-keeps n phase (slice_index_or xs k d).note (still k d less n (all k d less)))
+
+prepare-keeps : (phase : Phase) (xs : List Receipt) → AskPrepare phase xs → draws xs + pending phase ≤ pending (phase_after phase xs)
+prepare-keeps Idle xs none = omega (arith, ap draws none)
+prepare-keeps (Active n) xs (inl none) = omega (arith, ap draws none)
+prepare-keeps (Active n) xs (inr (r, rest, is, drew, stamps)) =
+    let drawn : (if has_drawn r.step r.note then 1 else 0) ≤ pending (phase_after_step (Active n) r.step r.note) =
+    subst (λ (s : Step). (if has_drawn s r.note then 1 else 0) ≤ pending (phase_after_step (Active n) s r.note)) (sym drew) (draw-keeps n n r.note) in
+    let later : pending (phase_after_step (Active n) r.step r.note) ≤ pending (phase_after (phase_after_step (Active n) r.step r.note) rest) =
+    all-keep (phase_after_step (Active n) r.step r.note) rest (stamps-keep n rest stamps) in
+    omega (arith, ap draws is, draws-cons r rest, stamps-draws n rest stamps, drawn, later, ap (λ (rs : List Receipt). pending (phase_after (Active n) rs)) is)
+prepare-keeps (Drawn n t) xs stamps = omega (arith, stamps-draws n xs stamps, all-keep (Drawn n t) xs (stamps-keep n xs stamps))
+prepare-keeps (Stamped n t) xs none = omega (arith, ap draws none, ap (λ (rs : List Receipt). pending (phase_after (Stamped n t) rs)) none)
+prepare-keeps (Covered n) xs none = omega (arith, ap draws none)
+
+All-right : {X : Type 0} (P : X → Type 0) (xs ys : List X) → All P (xs ++ ys) → All P ys
+All-right P [] ys all = all
+All-right P (x ∷ xs) ys all = All-right P xs ys (All-tail P x (xs ++ ys) all)
+
+asked-keeps : (phase : Phase) (added : List Receipt) → AskCommit phase added → AreUnended added → draws added + pending phase ≤ pending (phase_after phase added)
+asked-keeps phase added asks still =
+    let later : List Receipt = asks.polls ++ asks.end in
+    let parts : AreUnended later = All-right (λ r. (n : ℕ) → r.step ≡ End n → r.note ≢ Done) asks.prepare later (subst AreUnended asks.is still) in
+    let last : AreUnended asks.end = All-right (λ r. (n : ℕ) → r.step ≡ End n → r.note ≢ Done) asks.polls asks.end parts in
+    let keep : All Keeps later = All-append Keeps asks.polls asks.end (polls-keep (number_of phase) asks.polls asks.all_polls) (ends-keep (number_of phase) asks.end asks.ends last) in
+    let there : phase_after phase added ≡ phase_after (phase_after phase asks.prepare) later = ap (phase_after phase) asks.is ∙ phase_after-append phase asks.prepare later in
+    omega (arith, asked-draws phase added asks, prepare-keeps phase asks.prepare asks.asks, all-keep (phase_after phase asks.prepare) later keep, ap pending there)
+
+declined-there : (Halted : Fault → Type 0) (phase : Phase) (added : List Receipt) (fault : Fault) → phase ≢ Idle → DeclinesCall Halted phase added fault → TellsEnd Halted added fault × AreUnended added
+declined-there Halted Idle added fault there declined = absurd (there refl)
+declined-there Halted (Active n) added fault there declined = declined
+declined-there Halted (Drawn n t) added fault there declined = declined
+declined-there Halted (Stamped n t) added fault there declined = declined
+declined-there Halted (Covered n) added fault there declined = declined
+
+pub commit-none : (Halted : Fault → Type 0) (p q : Phase) (old new : List Receipt) (fault : Fault) → p ≢ Idle → Called old new (λ added. AskCommit p added × DeclinesCall Halted p added fault)
+    → q ≡ phase_after p (added_since old new) → MakesNone p old q new
+commit-none Halted p q old new fault there called is =
+    let still = (declined-there Halted p called.added fault there called.tells.1).1 in
+    let since : added_since old new ≡ called.added = ap (drop (length old)) called.is ∙ drop-append_seam old called.added in
+    record {
+      told = ap acknowledged called.is ∙ acknowledged-none old called.added (unended-ends called.added still);
+      drawn = omega (arith, ap draws called.is, draws-append old called.added, asked-keeps p called.added called.tells.0 still, ap pending (is ∙ ap (phase_after p) since));
+    }
 
 -- ---- a call is refused
 
@@ -86,16 +372,13 @@ ended-more Halted old added new fault is (inl (inl memory)) = inl memory
 ended-more Halted old added new fault is (inl (inr last)) = inr (inl (tells-more old added new (Refused fault) is last))
 ended-more Halted old added new fault is (inr (halted, waiting)) = inr (inr halted)
 
-declined-there : (Halted : Fault → Type 0) (phase : Phase) (added : List Receipt) (fault : Fault) → phase ≢ Idle → DeclinesCall Halted phase added fault → TellsEnd Halted added fault
-declined-there Halted Idle added fault there declined = absurd (there refl)
-declined-there Halted (Active n) added fault there declined = declined
-declined-there Halted (Drawn n t) added fault there declined = declined
-declined-there Halted (Stamped n t) added fault there declined = declined
-declined-there Halted (Covered n) added fault there declined = declined
-
 pub refused-called : (Halted : Fault → Type 0) (phase : Phase) (old new : List Receipt) (fault : Fault) (Asked : List Receipt → Type 0) → phase ≢ Idle
-    → Called old new (λ added. Asked added × DeclinesCall Halted phase added fault) → (fault ≡ OutOfMemory) ⊎ IsRefusedWith Halted new fault
-refused-called Halted phase old new fault Asked there called = ended-more Halted old called.added new fault called.is (declined-there Halted phase called.added fault there called.tells.1)
+    → Called old new (λ added. Asked added × DeclinesCall Halted phase added fault) → (fault ≡ OutOfMemory) ⊎ ((fault ≡ WrongState) ⊎ IsRefusedWith Halted new fault)
+refused-called Halted phase old new fault Asked there called = either (ended-more Halted old called.added new fault called.is (declined-there Halted phase called.added fault there called.tells.1).0)
+  where
+    either : (fault ≡ OutOfMemory) ⊎ IsRefusedWith Halted new fault → (fault ≡ OutOfMemory) ⊎ ((fault ≡ WrongState) ⊎ IsRefusedWith Halted new fault)
+    either (inl memory) = inl memory
+    either (inr refused) = inr (inr refused)
 
 -- ---- a thread gives up
 
@@ -110,11 +393,12 @@ final-refused R fault final (inl memory) = absurd (no-memory fault final memory)
 final-refused R fault final (inr is) = is
 
 -- after a step back that failed
-pub gives-up : (Halted : Fault → Type 0) (mid new : List Receipt) (fault why : Fault) → (fault ≡ OutOfMemory) ⊎ IsRefusedWith Halted mid fault
+pub gives-up : (Halted : Fault → Type 0) (mid new : List Receipt) (fault why : Fault) → (fault ≡ OutOfMemory) ⊎ ((fault ≡ WrongState) ⊎ IsRefusedWith Halted mid fault)
     → (may_pass why ≡ false) × (((why ≡ fault) × (new ≡ mid)) ⊎ TellsLast new (Refused why)) → GivesUp Halted new why
-gives-up Halted mid new fault why is (final, inr last) = record { is_final = final; why = inl last }
+gives-up Halted mid new fault why is (final, inr last) = record { is_final = final; why = inr (inl last) }
 gives-up Halted mid new fault why is (final, inl (same, kept)) = record {
   is_final = final;
-  why = subst (λ (f : Fault). IsRefusedWith Halted new f) (sym same)
-      (subst (λ (rs : List Receipt). IsRefusedWith Halted rs fault) (sym kept) (final-refused (IsRefusedWith Halted mid fault) fault (ap may_pass (sym same) ∙ final) is));
+  why = subst (λ (f : Fault). (f ≡ WrongState) ⊎ IsRefusedWith Halted new f) (sym same)
+      (subst (λ (rs : List Receipt). (fault ≡ WrongState) ⊎ IsRefusedWith Halted rs fault) (sym kept)
+      (final-refused ((fault ≡ WrongState) ⊎ IsRefusedWith Halted mid fault) fault (ap may_pass (sym same) ∙ final) is));
 }

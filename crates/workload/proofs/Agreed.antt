@@ -1,5 +1,5 @@
 -- What the threads' receipts say of the room's history, once the close has compared them.
-use Rattle.std.proofs.Common.{◌≡◌, ℕ, false, List, [], ◌∷◌, ◌++◌, length, Option, Some, None, inl, inr, refl, sym, ap, ◌∙◌, subst, map}
+use Rattle.std.proofs.Common.{◌≡◌, ◌⊎◌, ℕ, false, List, [], ◌∷◌, ◌++◌, length, Option, Some, None, inl, inr, refl, sym, ap, ◌∙◌, subst, map}
 use Rattle.std.proofs.Math.Logic.{∥∥₁_map}
 use Rattle.std.proofs.lemmas.List.{length-map}
 use Rattle.std.proofs.lemmas.List.Folds.{flat_map-map}
@@ -7,6 +7,7 @@ use Rattle.std.proofs.lemmas.List.Elements.{All-cons, All-head, All-map, All-nil
 use Rattle.std.specs.Prelude.{All, flat_map, slice_get, slice_index_or}
 use Rattle.std.specs.List.{Any}
 use Rattle.base.specs.declared.fault.Fault.{Fault}
+use Rattle.base.specs.declared.fault.Fault.TheVariants.{WrongState}
 use Rattle.base.specs.declared.step.Step.{Step}
 use Rattle.base.specs.declared.step.Step.TheVariants.{Commit as Tick}
 use Rattle.base.specs.declared.step.Note.{Note}
@@ -21,7 +22,7 @@ use Rattle.room.specs.declared.status.Status.{Status}
 use Rattle.engine.specs.Agreement.{Agrees, IsEntry}
 use Rattle.engine.specs.Calls.{TellsLast}
 use Rattle.engine.specs.Origins.{HasHalted, IsRunFrom}
-use Rattle.workload.specs.Load.{Acknowledges, AreMade, GivesUp, HasRefusal, IsRefusedWith, Works, may_pass}
+use Rattle.workload.specs.Load.{AreMade, GivesUp, HasRefusal, IsRefusedWith, Makes, Works, may_pass}
 
 -- ---- parts of a list
 
@@ -51,11 +52,11 @@ pub are-made : {T : Type 0} (f : T → List Receipt) (fault : T → Option Fault
 are-made f fault Halted sessions commits tasks entries first receipts count begins works none are agrees = record {
   threads = map f tasks;
   count = length-map tasks f ∙ count;
-  each = All-map (Acknowledges commits) f tasks (λ k d less. made (fault (slice_index_or tasks k d)) (f (slice_index_or tasks k d)) (none k d less) (works k d less));
+  each = All-map (Makes commits) f tasks (λ k d less. made (fault (slice_index_or tasks k d)) (f (slice_index_or tasks k d)) (none k d less) (works k d less));
   agrees = subst (λ (rs : List Receipt). Agrees entries 0 rs) (are ∙ sym (flat_map-map (λ (rs : List Receipt). rs) f tasks)) (subst (λ (n : ℕ). Agrees entries n receipts) begins agrees);
 }
   where
-    made : (fault : Option Fault) (receipts : List Receipt) → fault ≡ None → Works Halted commits receipts fault → Acknowledges commits receipts
+    made : (fault : Option Fault) (receipts : List Receipt) → fault ≡ None → Works Halted commits receipts fault → Makes commits receipts
     made None receipts is works = works
     made (Some fault) receipts is works = absurd (cc is)
 
@@ -92,15 +93,24 @@ refusal : {D : Type 0} {G : Ghosts D} (state : D → Device) (room : Room D G) (
 refusal state room image opening entries first receipts fault all from (inl last) = ∥∥₁_map from (last-refusal state room image opening entries first receipts fault all last)
 refusal state room image opening entries first receipts fault all from (inr halted) = halted-refusal image fault halted
 
--- the fault of some thread is a final one, which a run was refused with
+given-up : {D : Type 0} {G : Ghosts D} (state : D → Device) (room : Room D G) (image : Image) (opening : Status) (entries : List (Step × Note)) (first : ℕ) (receipts : List Receipt) (fault : Fault)
+    → All (IsEntry entries first) receipts → ∥ IsAudited state room image opening entries ∥₁ → GivesUp (HasHalted image) receipts fault
+    → (fault ≡ WrongState) ⊎ ((may_pass fault ≡ false) × ∥ HasRefusal image fault ∥₁)
+given-up state room image opening entries first receipts fault all from gives = of gives.why
+  where
+    of : (fault ≡ WrongState) ⊎ IsRefusedWith (HasHalted image) receipts fault → (fault ≡ WrongState) ⊎ ((may_pass fault ≡ false) × ∥ HasRefusal image fault ∥₁)
+    of (inl wrong) = inl wrong
+    of (inr refused) = inr (gives.is_final, refusal state room image opening entries first receipts fault all from refused)
+
+-- the fault of some thread is WrongState, or a final one, which a run was refused with
 pub some-refusal : {D T : Type 0} {G : Ghosts D} (state : D → Device) (room : Room D G) (image : Image) (opening : Status) (entries : List (Step × Note)) (first commits : ℕ) (receipts : List Receipt)
     (f : T → List Receipt) (fault : T → Option Fault) (tasks : List T) (why : Fault)
     → All (λ t. Works (HasHalted image) commits (f t) (fault t)) tasks → Any (λ t. fault t ≡ Some why) tasks → receipts ≡ flat_map f tasks → Agrees entries first receipts
-    → ∥ IsAudited state room image opening entries ∥₁ → (may_pass why ≡ false) × ∥ HasRefusal image why ∥₁
+    → ∥ IsAudited state room image opening entries ∥₁ → (why ≡ WrongState) ⊎ ((may_pass why ≡ false) × ∥ HasRefusal image why ∥₁)
 some-refusal state room image opening entries first commits receipts f fault tasks why works (k, task, less, is, met) are agrees from =
     let gives = gave (fault (slice_index_or tasks k task)) (f (slice_index_or tasks k task)) (ap fault is ∙ met) (works k task less) in
     let pieces = All-pieces (IsEntry entries first) f tasks (subst (All (IsEntry entries first)) are agrees.each) in
-    (gives.is_final, refusal state room image opening entries first (f (slice_index_or tasks k task)) why (pieces k task less) from gives.why)
+    given-up state room image opening entries first (f (slice_index_or tasks k task)) why (pieces k task less) from gives
   where
     some-inj : (a b : Fault) → Some a ≡ Some b → a ≡ b
     some-inj a b h = cc h

@@ -1,4 +1,5 @@
 pub mod Slots
+pub mod Counted
 pub mod Acknowledged
 pub mod Agreed
 pub mod Opens

@@ -1,12 +1,12 @@
 -- What a load of commits needs, what its threads make, and what it leaves.
-use Rattle.std.specs.Prelude.{◌≡◌, ◌⊎◌, ℕ, suc, zero, ◌+◌, ◌*◌, ◌^◌, ◌<◌, ◌≤◌, Bool, true, false, List, [], ◌∷◌, ◌++◌, length, slice_get, Option, Some, None, All, flat_map}
+use Rattle.std.specs.Prelude.{◌≡◌, ◌⊎◌, ℕ, ◌+◌, ◌*◌, ◌^◌, ◌<◌, ◌≤◌, nat_eq, Bool, true, false, if◌then◌else◌, List, [], ◌∷◌, length, slice_get, Option, Some, None, All, flat_map, count_by}
 use Rattle.base.specs.declared.fault.Fault.{Fault}
 use Rattle.base.specs.declared.fault.Fault.TheVariants.{Conflict, Device as DeviceFault, NoThread, OutOfMemory, SlotsOut, TimestampsOut, WindowFull, WrongState}
 use Rattle.base.specs.declared.key.Key.{Key}
 use Rattle.base.specs.declared.step.Note.{Note}
-use Rattle.base.specs.declared.step.Note.TheVariants.{Committed, Done, Refused}
+use Rattle.base.specs.declared.step.Note.TheVariants.{Committed, Done, Drawn as DrewAs, Refused}
 use Rattle.base.specs.declared.step.Step.{Step}
-use Rattle.base.specs.declared.step.Step.TheVariants.{End, Poll}
+use Rattle.base.specs.declared.step.Step.TheVariants.{Draw, End, Poll}
 use Rattle.base.specs.Commits.{Commit, Lists, after}
 use Rattle.base.specs.Images.{Image, opening_fault}
 use Rattle.machine.specs.Machine.{State}
@@ -17,6 +17,8 @@ use Rattle.pmem.specs.declared.device.Pmem.{Ghosts}
 use Rattle.audited.specs.Audit.{IsAudited}
 use Rattle.audited.specs.declared.receipt.Receipt.{Receipt}
 use Rattle.engine.specs.Agreement.{Agrees}
+use Rattle.engine.specs.declared.phase.Phase.{Phase}
+use Rattle.engine.specs.declared.phase.Phase.TheVariants.{Drawn, Stamped}
 use Rattle.engine.specs.Calls.{TellsLast}
 use Rattle.engine.specs.Origins.{IsRunFrom}
 use Rattle.room.specs.declared.room.Room.{Room}
@@ -52,51 +54,79 @@ may_pass WindowFull = true
 may_pass OutOfMemory = true
 may_pass _ = false
 
--- after these receipts a poll was told a timestamp, and the end of its transaction was done next
-pub record IsAcknowledged (before receipts : List Receipt) : Type 0 where
-  pub poll : Receipt
-  pub end : Receipt
-  pub rest : List Receipt
-  pub session : ℕ
-  pub timestamp : ℕ
-  pub is : receipts ≡ before ++ poll ∷ end ∷ rest
-  pub polled : poll.step ≡ Poll session
-  pub told : poll.note ≡ Committed timestamp
-  pub ended : end.step ≡ End session
-  pub done : end.note ≡ Done
+-- the step drew a timestamp, so that a commit came to be
+abbrev pub has_drawn : Step → Note → Bool
+has_drawn (Draw session) (DrewAs timestamp) = true
+has_drawn _ _ = false
 
--- receipts were added
-abbrev pub Adds : List Receipt → List Receipt → Type 0
-Adds old new = (added : List Receipt) × (new ≡ old ++ added)
+-- the session whose poll was told a timestamp
+abbrev pub told_to : Step → Note → Option ℕ
+told_to (Poll session) (Committed timestamp) = Some session
+told_to _ _ = None
 
--- receipts were added, and an acknowledged commit is among them
-abbrev pub AddsCommit : List Receipt → List Receipt → Type 0
-AddsCommit old new = (before : List Receipt) × Adds old before × IsAcknowledged before new
+-- the session whose end was done
+abbrev pub ended_of : Step → Note → Option ℕ
+ended_of (End session) Done = Some session
+ended_of _ _ = None
 
--- so many commits were acknowledged and their transactions ended, one after the other
-abbrev pub Acknowledges : ℕ → List Receipt → Type 0
-Acknowledges zero receipts = Unit {0}
-Acknowledges (suc made) receipts = (before : List Receipt) × Acknowledges made before × IsAcknowledged before receipts
+-- it is the same one
+abbrev pub is_same : Option ℕ → Option ℕ → Bool
+is_same (Some one) (Some other) = nat_eq one other
+is_same _ _ = false
+
+-- a poll was told a timestamp, and the first step after it ended its transaction
+abbrev pub is_acknowledged : Receipt → List Receipt → Bool
+is_acknowledged poll [] = false
+is_acknowledged poll (end ∷ rest) = is_same (told_to poll.step poll.note) (ended_of end.step end.note)
+
+-- how many timestamps were drawn, and how many commits were acknowledged
+abbrev pub draws : List Receipt → ℕ
+draws receipts = count_by (λ r. has_drawn r.step r.note) receipts
+
+abbrev pub acknowledged : List Receipt → ℕ
+acknowledged [] = 0
+acknowledged (r ∷ rest) = (if is_acknowledged r rest then 1 else 0) + acknowledged rest
+
+-- Exactly so many commits were made: so many were acknowledged, and no timestamp was drawn beyond
+pub record Makes (commits : ℕ) (receipts : List Receipt) : Type 0 where
+  pub told : acknowledged receipts ≡ commits
+  pub drawn : draws receipts ≤ commits
+
+-- whether the transaction has drawn a timestamp, as a number
+abbrev pub pending : Phase → ℕ
+pending (Drawn session timestamp) = 1
+pending (Stamped session timestamp) = 1
+pending _ = 0
+
+-- No commit was acknowledged between the two, and no timestamp was drawn but one that is to be acknowledged still
+pub record MakesNone (phase : Phase) (old : List Receipt) (phase' : Phase) (new : List Receipt) : Type 0 where
+  pub told : acknowledged new ≡ acknowledged old
+  pub drawn : draws new + pending phase ≤ draws old + pending phase'
+
+-- One was acknowledged, and it alone was drawn, or had been
+pub record MakesOne (phase : Phase) (old new : List Receipt) : Type 0 where
+  pub told : acknowledged new ≡ acknowledged old + 1
+  pub drawn : draws new + pending phase ≤ draws old + 1
 
 -- the last receipt's step was refused with this fault, or it is what ended the committer
 abbrev pub IsRefusedWith : (Fault → Type 0) → List Receipt → Fault → Type 0
 IsRefusedWith Halted receipts fault = TellsLast receipts (Refused fault) ⊎ Halted fault
 
--- so it is, and a thread that meets the fault gives up
+-- So it is, and a thread that meets the fault gives up; or a commit told that nothing was written, which no step of a run does after a put
 pub record GivesUp (Halted : Fault → Type 0) (receipts : List Receipt) (fault : Fault) : Type 0 where
   pub is_final : may_pass fault ≡ false
-  pub why : IsRefusedWith Halted receipts fault
+  pub why : (fault ≡ WrongState) ⊎ IsRefusedWith Halted receipts fault
 
 -- the thread made its commits, or met such a fault
 abbrev pub Works : (Fault → Type 0) → ℕ → List Receipt → Option Fault → Type 0
-Works Halted commits receipts None = Acknowledges commits receipts
+Works Halted commits receipts None = Makes commits receipts
 Works Halted commits receipts (Some fault) = GivesUp Halted receipts fault
 
--- The sessions' steps among the entries are those of so many threads, each of which made so many commits
+-- The sessions' steps among the entries are those of so many threads, each of which made exactly so many commits
 pub record AreMade (sessions commits : ℕ) (entries : List (Step × Note)) : Type 0 where
   pub threads : List (List Receipt)
   pub count : length threads ≡ sessions
-  pub each : All (Acknowledges commits) threads
+  pub each : All (Makes commits) threads
   pub agrees : Agrees entries 0 (flat_map (λ receipts. receipts) threads)
 
 -- the room has made a run of steps from the image
@@ -119,8 +149,8 @@ pub record HasRefusal (image : Image) (fault : Fault) : Type 0 where
   pub refused : slice_get entries place ≡ Some (step, Refused fault)
 
 -- Why a load that was begun ended before its commits were made. Memory is wanting; a thread of the engine can't be started; the
--- engine finds in its close that its room isn't the one that it was lent, or that its steps aren't those of the sessions; or a
--- step, of a session or of the committer, was refused with a fault that doesn't pass
+-- engine finds in its close that its room isn't the one that it was lent, or that its steps aren't those of the sessions, or a commit
+-- was told that nothing was written; or a step, of a session or of the committer, was refused with a fault that doesn't pass
 abbrev pub IsEngineFault : Image → Fault → Type 0
 IsEngineFault image fault =
     (fault ≡ OutOfMemory) ⊎ ((fault ≡ NoThread) ⊎ ((fault ≡ WrongState) ⊎ ((may_pass fault ≡ false) × ∥ HasRefusal image fault ∥₁)))

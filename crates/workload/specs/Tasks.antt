@@ -1,5 +1,5 @@
 -- What the threads are given.
-use Rattle.std.specs.Prelude.{ℕ, List, map, All}
+use Rattle.std.specs.Prelude.{◌≡◌, ℕ, List, [], map, All}
 use Rattle.base.specs.declared.fault.Fault.{Fault}
 use Rattle.pmem.specs.declared.device.Pmem.{Ghosts}
 use Rattle.board.specs.declared.history.Naming.{Ghosts as Names}
@@ -11,6 +11,10 @@ use Rattle.workload.specs.Load.{Works}
 -- their sessions
 abbrev pub sessions_in : {D J B : Type 0} → {G : Ghosts D} → {N : Origins J} → {M : Names J} → List (Task D J B G N M) → List (Session D J B G N M)
 sessions_in tasks = map (λ task. task.session) tasks
+
+-- nothing is made yet
+abbrev pub AreFresh : {D J B : Type 0} → {G : Ghosts D} → {N : Origins J} → {M : Names J} → List (Task D J B G N M) → Type 0
+AreFresh tasks = All (λ task. task.session.receipts.items ≡ []) tasks
 
 -- each made its commits, or met a fault at which it gave up
 abbrev pub AllWork : {D J B : Type 0} → {G : Ghosts D} → {N : Origins J} → {M : Names J} → (Fault → Type 0) → ℕ → List (Task D J B G N M) → Type 0

@@ -1,14 +1,13 @@
-ghost use Rattle.std.specs.Prelude.{◌≡◌, ◌≢◌, ◌⊎◌, false, IfErr, IfOk, IsTrue, OnOk, is_some};
-ghost use Rattle.base.specs.declared.fault.Fault.TheVariants.{OutOfMemory};
+ghost use Rattle.std.specs.Prelude.{◌≡◌, ◌≢◌, ◌⊎◌, [], true, false, All, IfErr, IfOk, MatchBool, OnOk};
+ghost use Rattle.base.specs.declared.fault.Fault.TheVariants.{OutOfMemory, WrongState};
 ghost use Rattle.base.specs.declared.step.Note.TheVariants.{Refused};
 ghost use Rattle.engine.specs.declared.phase.Phase.TheVariants.{Idle};
 ghost use Rattle.engine.specs.Calls.{TellsLast};
 ghost use Rattle.engine.specs.Origins.{HasHalted};
-ghost use Rattle.workload.specs.Load.{Acknowledges, Adds, AddsCommit, GivesUp, IsRefusedWith, Works, may_pass};
-ghost use Rattle.workload.specs.Tasks.{AllWork};
+ghost use Rattle.workload.specs.Load.{GivesUp, IsRefusedWith, Makes, MakesNone, MakesOne, Works, may_pass};
+ghost use Rattle.workload.specs.Tasks.{AllWork, AreFresh};
 
 use crate::task::Task;
-use base::Ts;
 use base::fault::Fault;
 use base::key::Key;
 use base::row::Row;
@@ -24,15 +23,15 @@ pub fn commit_all<
     J: Origin + Send + Sync,
     B: Drop + Send,
 >(rt: &T, tasks: &mut [Task<D, J, B>], commits: u64)
+    requires fresh { AreFresh tasks.old }
     ensures { AllWork (HasHalted J.image) commits tasks.new }
 {
     let threads = tasks.len().max(1);
-    for_each_mut(
-        rt,
-        tasks,
-        threads,
-        &|key: usize, task: &mut Task<D, J, B>| work(rt, task, key as u64, commits),
-    );
+    let make = |key: usize, task: &mut Task<D, J, B>|
+        requires { task.now.session.receipts.items ≡ [] }
+        ensures { Works (HasHalted J.image) commits task.exit.now.session.receipts.items task.exit.now.fault }
+    { work(rt, task, key as u64, commits) };
+    for_each_mut(rt, tasks, threads, &make);
 }
 
 // Makes the commits of one thread, and keeps the fault that ended it.
@@ -42,6 +41,7 @@ fn work<T: Wait, D: Pmem + Drop, J: Origin, B: Drop>(
     key: u64,
     commits: u64,
 )
+    requires fresh { task.old.session.receipts.items ≡ [] }
     ensures { Works (HasHalted J.image) commits task.new.session.receipts.items task.new.fault }
 {
     task.fault = match make_commits(rt, &mut task.session, key, commits) {
@@ -57,7 +57,8 @@ fn make_commits<T: Wait, D: Pmem + Drop, J: Origin, B: Drop>(
     key: u64,
     commits: u64,
 ) -> Result<(), Fault>
-    ensures ok { OnOk result (Acknowledges commits session.new.receipts.items) }
+    requires fresh { session.old.receipts.items ≡ [] }
+    ensures ok { OnOk result (Makes commits session.new.receipts.items) }
     ensures err { IfErr result (GivesUp (HasHalted J.image) session.new.receipts.items) }
 {
     let key = Key { table: 1, key };
@@ -86,7 +87,7 @@ fn make_commit<T: Wait, D: Pmem + Drop, J: Origin, B: Drop>(
     key: Key,
     row: Row,
 ) -> Result<(), Fault>
-    ensures ok { OnOk result (AddsCommit session.old.receipts.items session.new.receipts.items) }
+    ensures ok { OnOk result (MakesOne session.old.phase session.old.receipts.items session.new.receipts.items) }
     ensures err { IfErr result (GivesUp (HasHalted J.image) session.new.receipts.items) }
 {
     for _ in rt.forever() {
@@ -110,12 +111,12 @@ fn attempt<T: Wait, D: Pmem + Drop, J: Origin, B: Drop>(
     key: Key,
     row: Row,
 ) -> Result<bool, Fault>
-    ensures grows { Adds session.old.receipts.items session.new.receipts.items }
-    ensures ok { IfOk result (λ made. IsTrue made → AddsCommit session.old.receipts.items session.new.receipts.items) }
+    ensures ok { IfOk result (λ made. MatchBool made (MakesOne session.old.phase session.old.receipts.items session.new.receipts.items)
+        (MakesNone session.old.phase session.old.receipts.items session.new.phase session.new.receipts.items)) }
     ensures err { IfErr result (GivesUp (HasHalted J.image) session.new.receipts.items) }
 {
     match try_commit(rt, session, key, row) {
-        Ok(committed) => Ok(committed.is_some()),
+        Ok(()) => Ok(true),
         Err(fault) => match step_back(rt, session, fault) {
             Ok(()) => Ok(false),
             Err(why) => Err(why),
@@ -123,20 +124,23 @@ fn attempt<T: Wait, D: Pmem + Drop, J: Origin, B: Drop>(
     }
 }
 
-// Puts the row, unless an earlier try did, and asks for the commit. `None` if nothing was written.
+// Puts the row, unless an earlier try did, and asks for the commit. Fails with `WrongState` if that told that nothing was written.
 fn try_commit<T: Wait, D: Pmem + Drop, J: Origin, B: Drop>(
     rt: &T,
     session: &mut Session<D, J, B>,
     key: Key,
     row: Row,
-) -> Result<Option<Ts>, Fault>
-    ensures grows { Adds session.old.receipts.items session.new.receipts.items }
-    ensures ok { IfOk result (λ committed. IsTrue (is_some committed) → AddsCommit session.old.receipts.items session.new.receipts.items) }
-    ensures err { IfErr result (λ fault. (fault ≡ OutOfMemory) ⊎ IsRefusedWith (HasHalted J.image) session.new.receipts.items fault) }
+) -> Result<(), Fault>
+    ensures ok { OnOk result (MakesOne session.old.phase session.old.receipts.items session.new.receipts.items) }
+    ensures none { IfErr result (λ fault. may_pass fault ≡ true → MakesNone session.old.phase session.old.receipts.items session.new.phase session.new.receipts.items) }
+    ensures err { IfErr result (λ fault. (fault ≡ OutOfMemory) ⊎ ((fault ≡ WrongState) ⊎ IsRefusedWith (HasHalted J.image) session.new.receipts.items fault)) }
 {
     match begin_once(rt, session, key, row) {
         Ok(()) => match session.commit(rt) {
-            Ok(committed) => Ok(committed),
+            Ok(committed) => match committed {
+                Some(_) => Ok(()),
+                None => Err(Fault::WrongState),
+            },
             Err(fault) => Err(fault),
         },
         Err(fault) => Err(fault),
@@ -150,7 +154,7 @@ fn begin_once<T: Wait, D: Pmem + Drop, J: Origin, B: Drop>(
     key: Key,
     row: Row,
 ) -> Result<(), Fault>
-    ensures grows { Adds session.old.receipts.items session.new.receipts.items }
+    ensures none { MakesNone session.old.phase session.old.receipts.items session.new.phase session.new.receipts.items }
     ensures is_open { OnOk result (session.new.phase ≢ Idle) }
     ensures err { IfErr result (λ fault. (fault ≡ OutOfMemory) ⊎ TellsLast session.new.receipts.items (Refused fault)) }
 {
@@ -169,7 +173,7 @@ fn begin_with<T: Wait, D: Pmem + Drop, J: Origin, B: Drop>(
     row: Row,
 ) -> Result<(), Fault>
     requires { session.old.phase ≡ Idle }
-    ensures grows { Adds session.old.receipts.items session.new.receipts.items }
+    ensures none { MakesNone session.old.phase session.old.receipts.items session.new.phase session.new.receipts.items }
     ensures is_open { OnOk result (session.new.phase ≢ Idle) }
     ensures err { IfErr result (λ fault. (fault ≡ OutOfMemory) ⊎ TellsLast session.new.receipts.items (Refused fault)) }
 {
@@ -186,7 +190,7 @@ fn step_back<T: Wait, D: Pmem + Drop, J: Origin, B: Drop>(
     session: &mut Session<D, J, B>,
     fault: Fault,
 ) -> Result<(), Fault>
-    ensures grows { Adds session.old.receipts.items session.new.receipts.items }
+    ensures ok { OnOk result ((may_pass fault ≡ true) × MakesNone session.old.phase session.old.receipts.items session.new.phase session.new.receipts.items) }
     ensures err { IfErr result (λ why. (may_pass why ≡ false) × (((why ≡ fault) × (session.new.receipts.items ≡ session.old.receipts.items)) ⊎ TellsLast session.new.receipts.items (Refused why))) }
 {
     if !may_pass(fault) {
@@ -203,20 +207,20 @@ fn give_up<T: Wait, D: Pmem + Drop, J: Origin, B: Drop>(
     rt: &T,
     session: &mut Session<D, J, B>,
 ) -> Result<(), Fault>
-    ensures grows { Adds session.old.receipts.items session.new.receipts.items }
+    ensures ok { OnOk result (MakesNone session.old.phase session.old.receipts.items session.new.phase session.new.receipts.items) }
     ensures err { IfErr result (λ why. (may_pass why ≡ false) × TellsLast session.new.receipts.items (Refused why)) }
 {
     for _ in rt.forever() {
-        if !matches!(session.phase(), Phase::Active(_)) {
-            return Ok(());
-        }
-        match session.abort(rt) {
-            Ok(()) => return Ok(()),
-            Err(fault) => {
-                if !may_pass(fault) {
-                    return Err(fault);
+        match session.phase() {
+            Phase::Active(_) => match session.abort(rt) {
+                Ok(()) => return Ok(()),
+                Err(fault) => {
+                    if !may_pass(fault) {
+                        return Err(fault);
+                    }
                 }
-            }
+            },
+            _ => return Ok(()),
         }
         yield_now();
     }

@@ -5,7 +5,7 @@ ghost use Rattle.base.specs.declared.fault.Fault.TheVariants.{OutOfMemory};
 ghost use Rattle.pmem.specs.Words.{IsAtRest, image_of};
 ghost use Rattle.engine.specs.Origins.{HasHalted, IsFrom};
 ghost use Rattle.workload.specs.Load.{AreMade, HasFree, HasMadeFrom, HasNumbers, IsEngineFault, IsLoadFault, OpensTo};
-ghost use Rattle.workload.specs.Tasks.{AllWork};
+ghost use Rattle.workload.specs.Tasks.{AllWork, AreFresh};
 
 use crate::committing::commit_all;
 use crate::gate::Always;
@@ -132,6 +132,7 @@ fn run_tasks<
     J: Origin + Send + Sync,
     B: Drop + Send,
 >(rt: &T, tasks: &mut Vec<Task<D, J, B>>, commits: u64) -> Option<Fault>
+    requires fresh { AreFresh tasks.old.items }
     ensures len { vec_len tasks.new ≡ vec_len tasks.old }
     ensures works { AllWork (HasHalted J.image) commits tasks.new.items }
     ensures some { IfSome result (λ fault. Any (λ task. task.fault ≡ Some fault) tasks.new.items) }
@@ -151,6 +152,7 @@ fn add_tasks<T: Wait, D: Pmem + Drop, J: Origin, B: Drop>(
     requires empty { tasks.old.items ≡ [] }
     requires room { count ≤ vec_capacity tasks.old }
     ensures ok { OnOk result (vec_len tasks.new ≡ count) }
+    ensures fresh { AreFresh tasks.new.items }
     ensures len { vec_len tasks.new ≤ count }
     ensures err { IfErr result (λ fault. fault ≡ OutOfMemory) }
 {

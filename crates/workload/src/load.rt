@@ -30,7 +30,7 @@ pub fn run_load<
 >(rt: &T, alloc: Global, device: D, load: Load) -> Result<Room<D>, Fault>
     requires at_rest { IsAtRest (D.state device) }
 
-    // The history is a run from the image of this very device, in which each session made its commits, and all were acknowledged.
+    // The history is a run from the image of this very device, in which each session made exactly its commits, and all were acknowledged.
     ensures made { IfOk result (λ room. ∥ HasMadeFrom D.state (image_of (D.state device)) load.sessions load.commits room ∥₁) }
 
     // It is done only where two slots for each session are free, and numbers are left: `SlotsOut` and `TimestampsOut` say that

@@ -1,6 +1,6 @@
-use Rattle.workload.specs.Load.{Adds}
+use Rattle.workload.specs.Load.{MakesNone}
 use Rattle.workload.proofs.committing.give_up.Given as goal
 
--- receipts were added so far
+-- nothing is made so far
 abbrev pub invariant-loop : goal.invariant-loop
-invariant-loop g l = Adds l.fn.session.receipts.items l.session.receipts.items
+invariant-loop g l = MakesNone l.fn.session.phase l.fn.session.receipts.items l.session.phase l.session.receipts.items

@@ -1,5 +1,8 @@
-use Rattle.workload.proofs.Acknowledged.{acknowledges-one}
+use Rattle.workload.proofs.Acknowledged.{makes-one, makes-zero}
 use Rattle.workload.proofs.committing.make_commits.Goals as goal
 
+pub loop-made-init : goal.loop-made-init
+loop-made-init g c = makes-zero _ c.requires.fresh
+
 pub loop-made-preserved : goal.loop-made-preserved
-loop-made-preserved g c = acknowledges-one _ _ _ c.loop-made.invariant c.in-Ok.ensures.ok
+loop-made-preserved g c = makes-one _ _ _ _ c.loop-made.invariant c.in-Ok.ensures.ok

@@ -1,9 +1,15 @@
+use Rattle.std.proofs.Common.{ap}
+use Rattle.std.specs.Prelude.{is_some}
 use Rattle.engine.specs.Origins.{HasHalted}
-use Rattle.workload.proofs.Acknowledged.{commit-some, refused-called}
+use Rattle.workload.proofs.Acknowledged.{commit-none, commit-some, none-then, refused-called}
 use Rattle.workload.proofs.committing.try_commit.Goals as goal
 
-pub returns-in-Ok-commit-clause-ok : goal.returns-in-Ok-commit-clause-ok
-returns-in-Ok-commit-clause-ok g c = commit-some _ _ _ _ c.in-Ok-commit.committed _ c.in-Ok.ensures.grows c.in-Ok-commit.ensures.steps
+pub returns-in-Some-clause-ok : goal.returns-in-Some-clause-ok
+returns-in-Some-clause-ok g c = commit-some _ _ _ _ _ c.in-Ok-commit.committed c.in-Ok.ensures.none c.in-Ok-commit.ensures.steps (ap is_some c.in-Some.is)
+
+pub returns-in-Err-commit-clause-none : goal.returns-in-Err-commit-clause-none
+returns-in-Err-commit-clause-none g c passes =
+    none-then _ _ _ _ _ _ c.in-Ok.ensures.none (commit-none (HasHalted g.J.Origin.image) _ _ _ _ c.in-Err-commit.fault c.in-Ok.ensures.is_open c.in-Err-commit.ensures.steps c.in-Err-commit.ensures.phase)
 
 pub returns-in-Err-commit-clause-err : goal.returns-in-Err-commit-clause-err
 returns-in-Err-commit-clause-err g c = refused-called (HasHalted g.J.Origin.image) _ _ _ _ _ c.in-Ok.ensures.is_open c.in-Err-commit.ensures.steps
