@@ -1,5 +1,6 @@
 -- Numbers are those of a state that a run comes to.
-use Rattle.std.proofs.Common.{inl, inr, List, ◌++◌}
+use Rattle.std.proofs.Common.{inl, inr, List, ◌++◌, Option}
+use Rattle.base.specs.declared.fault.Fault.{Fault}
 use Rattle.std.proofs.Math.Logic.{∥∥₁_map}
 use Rattle.machine.specs.Machine.{State, final}
 use Rattle.pmem.specs.Device.{Device}
@@ -33,8 +34,8 @@ leads-to state room Fact opened r fact = record {
 }
 
 -- what each state has that the room shows
-pub comes-to : {D : Type 0} {G : Ghosts D} (state : D → Device) (room : Room D G) (Fact : State → Type 0) → ∥ HasRun state room ∥₁ → ((q : State) → Shows state room q → Fact q) → ComesTo Fact
-comes-to state room Fact run fact = ∥∥₁_map run (λ r. (r.0, device_of state room, r.1.steps, r.1.replies, leads-to state room Fact r.0 r.1 fact))
+pub comes-to : {D : Type 0} {G : Ghosts D} {ended : Option Fault} (state : D → Device) (room : Room D G) (Fact : State → Type 0) → ∥ HasRun state room ended ∥₁ → ((q : State) → Shows state room q → Fact q) → ComesTo Fact
+comes-to state room Fact run fact = ∥∥₁_map run (λ r. (r.opened, device_of state room, r.run.steps, r.run.replies, leads-to state room Fact r.opened r.run fact))
 
 -- of what follows from it
 pub comes-weaken : (Fact Other : State → Type 0) → ((q : State) → Fact q → Other q) → ComesTo Fact → ComesTo Other
@@ -51,10 +52,10 @@ comes-weaken Fact Other weaker comes = ∥∥₁_map comes (λ l. (
 ))
 
 -- the steps that the room makes end a run that comes to such a state
-pub ends-run-at : {D : Type 0} {G : Ghosts D} (state : D → Device) (old new : Room D G) (steps : List Step) (replies : List Reply) (Fact : List Step → List Reply → Type 0) (At : State → Type 0)
-    → ∥ HasRun state old ∥₁ → LeadsAlong state old new steps replies → Fact steps replies → ((q : State) → Shows state new q → At q)
+pub ends-run-at : {D : Type 0} {G : Ghosts D} {ended : Option Fault} (state : D → Device) (old new : Room D G) (steps : List Step) (replies : List Reply) (Fact : List Step → List Reply → Type 0) (At : State → Type 0)
+    → ∥ HasRun state old ended ∥₁ → LeadsAlong state old new steps replies → Fact steps replies → ((q : State) → Shows state new q → At q)
     → ∥ ((opened now : Device) × (before steps : List Step) × (earlier replies : List Reply) × LeadsTo opened now (before ++ steps) (earlier ++ replies) At × Fact steps replies) ∥₁
 unfolding led_from
 ends-run-at state old new steps replies Fact At run leads fact at =
     ∥∥₁_map run (λ r.
-    (r.0, device_of state new, r.1.steps, steps, r.1.replies, replies, leads-to state new At r.0 (led_from state old new steps replies r.0 r.1 leads) at, fact))
+    (r.opened, device_of state new, r.run.steps, steps, r.run.replies, replies, leads-to state new At r.opened (led_from state old new steps replies r.opened r.run leads) at, fact))

@@ -1,10 +1,12 @@
 -- Runs from an opening.
-use Rattle.std.proofs.Common.{◌≡◌, inl, inr, ℕ, List, [], ◌∷◌, ◌++◌, refl, ap, sym, subst}
+use Rattle.std.proofs.Common.{◌≡◌, inl, inr, ℕ, List, [], ◌∷◌, ◌++◌, Option, Some, None, refl, ap, sym, subst, ◌∙◌, append_assoc}
 use Rattle.std.specs.Prelude.{Result}
 use Rattle.std.proofs.Math.Logic.{∥∥₁_map}
 use Rattle.base.specs.declared.fault.Fault.{Fault}
 use Rattle.base.specs.declared.step.Step.{Step}
+use Rattle.base.specs.declared.step.Step.TheVariants.{Commit as CommitTick}
 use Rattle.base.specs.declared.step.Reply.{Reply}
+use Rattle.base.specs.declared.step.Reply.TheVariants.{Refused as RefusedWith}
 use Rattle.base.specs.Commits.{Commit}
 use Rattle.base.specs.Images.{Image}
 use Rattle.machine.specs.Machine.{State, Run, final, StandsAt, StandsAlong, StandsClosing}
@@ -18,7 +20,7 @@ use Rattle.pmem.specs.declared.device.Pmem.{Ghosts}
 use Rattle.room.specs.declared.room.Room.{Room}
 use Rattle.room.specs.Room.{Shows, RunsTo, device_of, Leads}
 use Rattle.database.specs.Opening.{IsFresh}
-use Rattle.database.specs.Runs.{LeadsAlong, IsRunFrom, HasRun, IsRunOf, EndsSomeRun}
+use Rattle.database.specs.Runs.{LeadsAlong, IsRunFrom, HasRun, IsRunOf, EndsSomeRun, EndsOnceEnded, EndedAlong}
 use Rattle.database.specs.Obeys.{Obeys, IsStep, AnswersStep}
 use Rattle.database.specs.Closing.{HasLived}
 
@@ -82,8 +84,9 @@ leads-one state old new step reply leads q shows =
 -- ---- from an opening
 
 -- no step was made yet
-pub run-opened : {D : Type 0} {G : Ghosts D} (state : D → Device) (room : Room D G) → IsOrderly (state room.device) → IsFresh state room → ∥ HasRun state room ∥₁
-run-opened state room orderly fresh = ∣ (fresh.0, record { first = room; is_opened = fresh.1; steps = []; replies = []; leads = leads-none state room orderly }) ∣₁
+pub run-opened : {D : Type 0} {G : Ghosts D} (state : D → Device) (room : Room D G) → IsOrderly (state room.device) → IsFresh state room → ∥ HasRun state room None ∥₁
+run-opened state room orderly fresh =
+    ∣ record { opened = fresh.0; run = record { first = room; is_opened = fresh.1; steps = []; replies = []; leads = leads-none state room orderly }; along = tt } ∣₁
 
 unfoldable pub led_from : {D : Type 0} {G : Ghosts D} (state : D → Device) (old new : Room D G) (steps : List Step) (replies : List Reply) (opened : Device)
     → IsRunFrom state opened old → LeadsAlong state old new steps replies → IsRunFrom state opened new
@@ -95,10 +98,30 @@ led_from state old new steps replies opened r leads = record {
   leads = leads-join state r.first old new r.steps r.replies steps replies r.leads leads;
 }
 
+-- where the committer has ended, it has so in a longer run
+ended-more : (ended : Option Fault) (steps more : List Step) (replies later : List Reply) → EndedAlong ended steps replies → EndedAlong ended (steps ++ more) (replies ++ later)
+ended-more None steps more replies later along = tt
+ended-more (Some fault) steps more replies later (tick, ended) = (
+  record {
+    first = tick.first;
+    more = tick.more ++ more;
+    told = tick.told;
+    later = tick.later ++ later;
+    steps_are = ap (λ (ss : List Step). ss ++ more) tick.steps_are ∙ append_assoc tick.first (CommitTick ∷ tick.more) more;
+    replies_are = ap (λ (rs : List Reply). rs ++ later) tick.replies_are ∙ append_assoc tick.told (RefusedWith fault ∷ tick.later) later;
+    beside = tick.beside;
+  },
+  ended,
+)
+
 -- one step more
-pub run-led : {D : Type 0} {G : Ghosts D} (state : D → Device) (old new : Room D G) (step : Step) (reply : Reply) → ∥ HasRun state old ∥₁ → Leads state old new step reply → ∥ HasRun state new ∥₁
-run-led state old new step reply run leads =
-    ∥∥₁_map run (λ r. (r.0, led_from state old new (step ∷ []) (reply ∷ []) r.0 r.1 (leads-one state old new step reply leads)))
+pub run-led : {D : Type 0} {G : Ghosts D} {ended : Option Fault} (state : D → Device) (old new : Room D G) (step : Step) (reply : Reply) → ∥ HasRun state old ended ∥₁ → Leads state old new step reply → ∥ HasRun state new ended ∥₁
+unfolding led_from
+run-led {D} {G} {ended} state old new step reply run leads = ∥∥₁_map run (λ r. record {
+  opened = r.opened;
+  run = led_from state old new (step ∷ []) (reply ∷ []) r.opened r.run (leads-one state old new step reply leads);
+  along = ended-more ended r.run.steps (step ∷ []) r.run.replies (reply ∷ []) r.along;
+})
 
 -- of the device alone
 run_of : {D : Type 0} {G : Ghosts D} (state : D → Device) (room : Room D G) (opened : Device) (r : IsRunFrom state opened room) → IsRunOf opened (device_of state room) r.steps r.replies
@@ -118,15 +141,23 @@ run_of state room opened r = record {
 }
 
 -- the steps that the room makes end a run
-pub ends-run : {D : Type 0} {G : Ghosts D} (state : D → Device) (old new : Room D G) (steps : List Step) (replies : List Reply) (Fact : List Step → List Reply → Type 0)
-    → ∥ HasRun state old ∥₁ → LeadsAlong state old new steps replies → Fact steps replies → EndsSomeRun Fact
+pub ends-run : {D : Type 0} {G : Ghosts D} {ended : Option Fault} (state : D → Device) (old new : Room D G) (steps : List Step) (replies : List Reply) (Fact : List Step → List Reply → Type 0)
+    → ∥ HasRun state old ended ∥₁ → LeadsAlong state old new steps replies → Fact steps replies → EndsSomeRun Fact
 unfolding led_from
 ends-run state old new steps replies Fact run leads fact =
     ∥∥₁_map run (λ r.
-    (r.0, device_of state new, r.1.steps, steps, r.1.replies, replies, run_of state new r.0 (led_from state old new steps replies r.0 r.1 leads), fact))
+    (r.opened, device_of state new, r.run.steps, steps, r.run.replies, replies, run_of state new r.opened (led_from state old new steps replies r.opened r.run leads), fact))
 
-pub answers-step : {D A : Type 0} {G : Ghosts D} (state : D → Device) (old new : Room D G) (step : Step) (read : Reply → Result A Fault) (result : Result A Fault)
-    → ∥ HasRun state old ∥₁ → Obeys state old new step read result → AnswersStep step read result
+-- so they do after the committer has ended
+pub ends-once-ended : {D : Type 0} {G : Ghosts D} (state : D → Device) (old new : Room D G) (fault : Fault) (steps : List Step) (replies : List Reply) (Fact : List Step → List Reply → Type 0)
+    → ∥ HasRun state old (Some fault) ∥₁ → LeadsAlong state old new steps replies → Fact steps replies → EndsOnceEnded fault Fact
+unfolding led_from
+ends-once-ended state old new fault steps replies Fact run leads fact =
+    ∥∥₁_map run (λ r.
+    (r.opened, device_of state new, r.run.steps, steps, r.run.replies, replies, run_of state new r.opened (led_from state old new steps replies r.opened r.run leads), r.along, fact))
+
+pub answers-step : {D A : Type 0} {G : Ghosts D} {ended : Option Fault} (state : D → Device) (old new : Room D G) (step : Step) (read : Reply → Result A Fault) (result : Result A Fault)
+    → ∥ HasRun state old ended ∥₁ → Obeys state old new step read result → AnswersStep step read result
 answers-step state old new step read result run obeys =
     ends-run state old new (step ∷ []) (obeys.0 ∷ []) (IsStep step read result) run (leads-one state old new step obeys.0 obeys.1) (obeys.0, refl, refl, obeys.2)
 
@@ -159,27 +190,28 @@ lived_from state room now opened Ends r images ends = record {
 }
 
 -- the room was closed, or that was refused, and so it ends in whatever state it showed
-pub lived : {D : Type 0} {G : Ghosts D} (state : D → Device) (room : Room D G) (now : Device) (Ends : State → Type 0) → ∥ HasRun state room ∥₁
+pub lived : {D : Type 0} {G : Ghosts D} {ended : Option Fault} (state : D → Device) (room : Room D G) (now : Device) (Ends : State → Type 0) → ∥ HasRun state room ended ∥₁
     → ((q : State) → Shows state room q → LeavesOnly (device_of state room) now (StandsClosing q)) → ((q : State) → Shows state room q → Ends q) → ∥ HasLived now Ends ∥₁
-lived state room now Ends run images ends = ∥∥₁_map run (λ r. lived_from state room now r.0 Ends r.1 images ends)
+lived state room now Ends run images ends = ∥∥₁_map run (λ r. lived_from state room now r.opened Ends r.run images ends)
 
 -- of a room to which nothing was done
-pub run-same : {D : Type 0} {G : Ghosts D} (state : D → Device) (old new : Room D G) → device_of state new ≡ device_of state old → ((q : State) → Shows state old q → Shows state new q)
-    → ∥ HasRun state old ∥₁ → ∥ HasRun state new ∥₁
-run-same state old new is shows some = ∥∥₁_map some (λ has. (
-  has.0,
-  record {
-    first = has.1.first;
-    is_opened = has.1.is_opened;
-    steps = has.1.steps;
-    replies = has.1.replies;
-    leads = λ q first. let a = has.1.leads q first in (
+pub run-same : {D : Type 0} {G : Ghosts D} {ended : Option Fault} (state : D → Device) (old new : Room D G) → device_of state new ≡ device_of state old → ((q : State) → Shows state old q → Shows state new q)
+    → ∥ HasRun state old ended ∥₁ → ∥ HasRun state new ended ∥₁
+run-same state old new is shows some = ∥∥₁_map some (λ has. record {
+  opened = has.opened;
+  run = record {
+    first = has.run.first;
+    is_opened = has.run.is_opened;
+    steps = has.run.steps;
+    replies = has.run.replies;
+    leads = λ q first. let a = has.run.leads q first in (
       a.0,
       record {
         run = a.1.run;
         shows = shows (final q a.0) a.1.shows;
-        images = subst (λ (d : Device). LeavesOnly (device_of state has.1.first) d (StandsAlong q a.0)) (sym is) a.1.images;
+        images = subst (λ (d : Device). LeavesOnly (device_of state has.run.first) d (StandsAlong q a.0)) (sym is) a.1.images;
       },
     );
-  },
-))
+  };
+  along = has.along;
+})

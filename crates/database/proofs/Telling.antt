@@ -51,8 +51,8 @@ put-along state old new session key row result (inr (refused, collected, first, 
   inr (record { count = visits.0; first = first.0; visits = visits.1; last = last.0; steps_are = refl; replies_are = refl; found_none = first.2; tells = last.2 }),
 )
 
-pub answers-put : {D : Type 0} {G : Ghosts D} (state : D → Device) (old new : Room D G) (session : ℕ) (key : Key) (row : List ℕ) (result : Result ⊤ Fault)
-    → ∥ HasRun state old ∥₁ → PutsCollecting state old new session key row result → AnswersPut session key row result
+pub answers-put : {D : Type 0} {G : Ghosts D} {ended : Option Fault} (state : D → Device) (old new : Room D G) (session : ℕ) (key : Key) (row : List ℕ) (result : Result ⊤ Fault)
+    → ∥ HasRun state old ended ∥₁ → PutsCollecting state old new session key row result → AnswersPut session key row result
 answers-put state old new session key row result run puts =
     let a = put-along state old new session key row result puts in ends-run state old new a.0 a.1 (IsPut session key row result) run a.2 a.3
 
@@ -135,29 +135,29 @@ begun-given-up state old mid tried new session writes fault read result one (ste
 
 -- ---- a commit
 
-stamped_so : {D : Type 0} {G : Ghosts D} (state : D → Device) (old new : Room D G) (session t : ℕ) (result : Result ⊤ Fault) (Fact : List Step → List Reply → Type 0)
+stamped_so : {D : Type 0} {G : Ghosts D} {ended : Option Fault} (state : D → Device) (old new : Room D G) (session t : ℕ) (result : Result ⊤ Fault) (Fact : List Step → List Reply → Type 0)
     → ((steps : List Step) (replies : List Reply) → DrawsAndStamps session t result steps replies → Fact steps replies)
-    → ∥ HasRun state old ∥₁ → (drawn : Room D G) → Obeys state old drawn (Draw session) drawn_of (Ok (Some t)) → StampsAll state drawn new session result → EndsSomeRun Fact
+    → ∥ HasRun state old ended ∥₁ → (drawn : Room D G) → Obeys state old drawn (Draw session) drawn_of (Ok (Some t)) → StampsAll state drawn new session result → EndsSomeRun Fact
 stamped_so state old new session t result Fact so run drawn draws (mid, stamps, last) =
     ends-run state old new _ _ Fact run (leads_through state old drawn mid new (Draw session) drawn_of _ (Stamp session) (Stamp session) stamped_of _ draws stamps last)
     (so _ _ (record { count = stamps.0; drawn = draws.0; stamps = stamps.1; last = last.0; steps_are = refl; replies_are = refl; drew = draws.2; tells = last.2 }))
 
-ended_so : {D : Type 0} {G : Ghosts D} (state : D → Device) (old new : Room D G) (session : ℕ) (result : Result ⊤ Fault) (Fact : List Step → List Reply → Type 0)
+ended_so : {D : Type 0} {G : Ghosts D} {ended : Option Fault} (state : D → Device) (old new : Room D G) (session : ℕ) (result : Result ⊤ Fault) (Fact : List Step → List Reply → Type 0)
     → ((steps : List Step) (replies : List Reply) → DrawsAndEnds session result steps replies → Fact steps replies)
-    → ∥ HasRun state old ∥₁ → (drawn : Room D G) → Obeys state old drawn (Draw session) drawn_of (Ok None) → Obeys state drawn new (End session) done_of result → EndsSomeRun Fact
+    → ∥ HasRun state old ended ∥₁ → (drawn : Room D G) → Obeys state old drawn (Draw session) drawn_of (Ok None) → Obeys state drawn new (End session) done_of result → EndsSomeRun Fact
 ended_so state old new session result Fact so run drawn draws last =
     ends-run state old new _ _ Fact run (leads_two state old drawn new (Draw session) drawn_of _ (End session) done_of result draws last)
     (so _ _ (record { drawn = draws.0; last = last.0; steps_are = refl; replies_are = refl; drew = draws.2; tells = last.2 }))
 
-pub polled_so : {D : Type 0} {G : Ghosts D} (state : D → Device) (old new : Room D G) (session t : ℕ) (result : Result ⊤ Fault) (Fact : List Step → List Reply → Type 0)
+pub polled_so : {D : Type 0} {G : Ghosts D} {ended : Option Fault} (state : D → Device) (old new : Room D G) (session t : ℕ) (result : Result ⊤ Fault) (Fact : List Step → List Reply → Type 0)
     → ((steps : List Step) (replies : List Reply) → PollsAndEnds session t result steps replies → Fact steps replies)
-    → ∥ HasRun state old ∥₁ → (mid : Room D G) → Obeys state old mid (Poll session) committed_of (Ok (Some t)) → Obeys state mid new (End session) done_of result → EndsSomeRun Fact
+    → ∥ HasRun state old ended ∥₁ → (mid : Room D G) → Obeys state old mid (Poll session) committed_of (Ok (Some t)) → Obeys state mid new (End session) done_of result → EndsSomeRun Fact
 polled_so state old new session t result Fact so run mid polls last =
     ends-run state old new _ _ Fact run (leads_two state old mid new (Poll session) committed_of _ (End session) done_of result polls last)
     (so _ _ (record { polled = polls.0; last = last.0; steps_are = refl; replies_are = refl; told = polls.2; tells = last.2 }))
 
-pub is-prepared : {D : Type 0} {G : Ghosts D} (state : D → Device) (old new : Room D G) (session : ℕ) (result : Result (Option ℕ) CommitError)
-    → ∥ HasRun state old ∥₁ → Prepares state old new session result → IsPrepared session result
+pub is-prepared : {D : Type 0} {G : Ghosts D} {ended : Option Fault} (state : D → Device) (old new : Room D G) (session : ℕ) (result : Result (Option ℕ) CommitError)
+    → ∥ HasRun state old ended ∥₁ → Prepares state old new session result → IsPrepared session result
 is-prepared state old new session (Ok (Some t)) run (drawn, draws, stamps) = stamped_so state old new session t (Ok tt) _ (λ steps replies is. is) run drawn draws stamps
 is-prepared state old new session (Ok None) run (drawn, draws, last) = ended_so state old new session (Ok tt) _ (λ steps replies is. is) run drawn draws last
 is-prepared state old new session (Err (Open fault)) run (t, (drawn, draws, stamps)) = stamped_so state old new session t (Err fault) _ (λ steps replies is. (t, is)) run drawn draws stamps
@@ -165,25 +165,25 @@ is-prepared state old new session (Err (Refused fault)) run (inl one) =
     ends-run state old new (Draw session ∷ []) (one.0 ∷ []) _ run (leads-one state old new (Draw session) one.0 one.1) (inl (one.0, refl, refl, one.2))
 is-prepared state old new session (Err (Refused fault)) run (inr (drawn, draws, last)) = ended_so state old new session (Err fault) _ (λ steps replies is. inr is) run drawn draws last
 
-pub is-acknowledged : {D : Type 0} {G : Ghosts D} (state : D → Device) (old new : Room D G) (session t : ℕ)
-    → ∥ HasRun state old ∥₁ → Finishes state old new session (Ok (Some t)) → IsAcknowledged session t
+pub is-acknowledged : {D : Type 0} {G : Ghosts D} {ended : Option Fault} (state : D → Device) (old new : Room D G) (session t : ℕ)
+    → ∥ HasRun state old ended ∥₁ → Finishes state old new session (Ok (Some t)) → IsAcknowledged session t
 is-acknowledged state old new session t run (mid, polls, last) = polled_so state old new session t (Ok tt) _ (λ steps replies is. is) run mid polls last
 
 -- where it returns the timestamp, or that nothing was written
-pub prepared-ok : {D : Type 0} {G : Ghosts D} (state : D → Device) (old new : Room D G) (session : ℕ) (result : Result (Option ℕ) CommitError)
-    → ∥ HasRun state old ∥₁ → Prepares state old new session result → IfOk result (λ drawn. IsPrepared session (Ok drawn))
+pub prepared-ok : {D : Type 0} {G : Ghosts D} {ended : Option Fault} (state : D → Device) (old new : Room D G) (session : ℕ) (result : Result (Option ℕ) CommitError)
+    → ∥ HasRun state old ended ∥₁ → Prepares state old new session result → IfOk result (λ drawn. IsPrepared session (Ok drawn))
 prepared-ok state old new session (Ok drawn) run prepares = is-prepared state old new session (Ok drawn) run prepares
 prepared-ok state old new session (Err error) run prepares = tt
 
 -- where it returns why it isn't
-pub prepared-err : {D : Type 0} {G : Ghosts D} (state : D → Device) (old new : Room D G) (session : ℕ) (result : Result (Option ℕ) CommitError)
-    → ∥ HasRun state old ∥₁ → Prepares state old new session result → (result ≡ Err (Refused WindowFull) → ⊥) → IfErr result (TellsUnprepared session)
+pub prepared-err : {D : Type 0} {G : Ghosts D} {ended : Option Fault} (state : D → Device) (old new : Room D G) (session : ℕ) (result : Result (Option ℕ) CommitError)
+    → ∥ HasRun state old ended ∥₁ → Prepares state old new session result → (result ≡ Err (Refused WindowFull) → ⊥) → IfErr result (TellsUnprepared session)
 prepared-err state old new session (Ok drawn) run prepares other = tt
 prepared-err state old new session (Err error) run prepares other = inl (is-prepared state old new session (Err error) run prepares, λ is. other (ap Err is))
 
 -- it was refused for a conflict, where this was the last timestamp that was drawn
-pub conflicts-at : {D : Type 0} {G : Ghosts D} (state : D → Device) (old new : Room D G) (session : ℕ) (key : Key) (last : ℕ)
-    → ∥ HasRun state old ∥₁ → Prepares state old new session (Err (Refused (Conflict key))) → ((q : State) → Shows state new q → last ≡ q.next - 1) → ConflictsAt session key last
+pub conflicts-at : {D : Type 0} {G : Ghosts D} {ended : Option Fault} (state : D → Device) (old new : Room D G) (session : ℕ) (key : Key) (last : ℕ)
+    → ∥ HasRun state old ended ∥₁ → Prepares state old new session (Err (Refused (Conflict key))) → ((q : State) → Shows state new q → last ≡ q.next - 1) → ConflictsAt session key last
 conflicts-at state old new session key last run (inl one) at =
     ends-run-at state old new (Draw session ∷ []) (one.0 ∷ []) (IsPreparation session (Err (Refused (Conflict key)))) (λ q. last ≡ q.next - 1) run
     (leads-one state old new (Draw session) one.0 one.1) (inl (one.0, refl, refl, one.2)) at

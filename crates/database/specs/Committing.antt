@@ -1,7 +1,7 @@
 -- What a put and a commit make of a run.
 use Rattle.std.specs.Prelude.{◌≡◌, ◌≢◌, ◌⊎◌, ◌≤◌, ◌-◌, ℕ, List, [], ◌∷◌, ◌++◌, replicate, ⊤, Option, Some, None, Result, Ok, Err, MatchResult}
 use Rattle.base.specs.declared.fault.Fault.{Fault}
-use Rattle.base.specs.declared.fault.Fault.TheVariants.{SlotsOut, Conflict, WindowFull, OutOfMemory, TimestampsOut, Failed, Device as DeviceFault}
+use Rattle.base.specs.declared.fault.Fault.TheVariants.{SlotsOut, Conflict, WindowFull, OutOfMemory, TimestampsOut}
 use Rattle.base.specs.declared.key.Key.{Key}
 use Rattle.base.specs.declared.step.Step.{Step}
 use Rattle.base.specs.declared.step.Step.TheVariants.{Begin, Put, Delete, Draw, Stamp, Poll, Abort, End, Commit as CommitTick, Collect}
@@ -13,7 +13,7 @@ use Rattle.database.specs.Replies.{began_of, done_of, drawn_of, stamped_of, comm
 use Rattle.pmem.specs.Device.{Device}
 use Rattle.pmem.specs.declared.device.Pmem.{Ghosts}
 use Rattle.room.specs.declared.room.Room.{Room}
-use Rattle.database.specs.Runs.{LeadsAlong, EndsSomeRun}
+use Rattle.database.specs.Runs.{LeadsAlong, EndsSomeRun, EndsOnceEnded, HasEnded}
 use Rattle.database.specs.Numbers.{LeadsTo, ComesTo}
 use Rattle.database.specs.Obeys.{IsStep, AnswersStep, all_stamped}
 
@@ -115,14 +115,6 @@ TellsCommit session (Some t) = IsPrepared session (Ok (Some t)) × IsAcknowledge
 
 -- ---- a commit that isn't acknowledged
 
--- with such a fault the committer ends; after want of memory it goes on
-abbrev pub IsLast : Fault → Type 0
-IsLast fault = (fault ≡ TimestampsOut) ⊎ ((fault ≡ DeviceFault) ⊎ (fault ≡ Failed))
-
--- a tick of the committer was refused with this fault, and it ended
-abbrev pub HasEnded : Fault → Type 0
-HasEnded fault = EndsSomeRun (λ steps replies. (steps ≡ CommitTick ∷ []) × (replies ≡ RefusedWith fault ∷ []) × IsLast fault)
-
 -- a tick of the committer was refused memory
 abbrev pub HasLackedMemory : Type 0
 HasLackedMemory = EndsSomeRun (λ steps replies. (steps ≡ CommitTick ∷ []) × (replies ≡ RefusedWith OutOfMemory ∷ []))
@@ -134,11 +126,21 @@ StopsBefore session (Refused fault) =
     ((fault ≡ TimestampsOut) × HasEnded fault) ⊎ ((fault ≡ OutOfMemory) × HasLackedMemory × IsPrepared session (Err (Refused WindowFull)))
 StopsBefore session (Open fault) = ⊥
 
--- Why what isn't covered won't be in this life: the committer has ended, or was refused memory. Without a record number more it won't be in a later one,
--- so it is told as refused there, and nowhere else
-abbrev pub StopsAfter : CommitError → Type 0
-StopsAfter (Refused fault) = (fault ≡ TimestampsOut) × HasEnded fault
-StopsAfter (Open fault) = ((fault ≢ TimestampsOut) × HasEnded fault) ⊎ ((fault ≡ OutOfMemory) × HasLackedMemory)
+-- The session's own poll, with which a run from an opening ends, told that its commit isn't covered; and earlier in that very run a tick of the
+-- committer was refused with this fault, and it ended
+abbrev pub WaitsInVain : ℕ → Fault → Type 0
+WaitsInVain session fault = EndsOnceEnded fault (IsStep (Poll session) committed_of (Ok None))
+
+-- Why a commit that isn't covered won't be in this life: the committer has ended by the time of its poll, or was refused memory. Without a record number
+-- more it won't be in a later one, so it is told as refused there, and nowhere else
+abbrev pub StopsAfter : ℕ → CommitError → Type 0
+StopsAfter session (Refused fault) = (fault ≡ TimestampsOut) × WaitsInVain session fault
+StopsAfter session (Open fault) = ((fault ≢ TimestampsOut) × WaitsInVain session fault) ⊎ ((fault ≡ OutOfMemory) × HasLackedMemory × AnswersStep (Poll session) committed_of (Ok None))
+
+-- so a commit that isn't covered is waited for no longer, where the committer has ended so, if it has
+abbrev pub IsGivenUp : Option Fault → CommitError → Type 0
+IsGivenUp ended (Refused fault) = (fault ≡ TimestampsOut) × (ended ≡ Some fault)
+IsGivenUp ended (Open fault) = ((fault ≢ TimestampsOut) × (ended ≡ Some fault)) ⊎ ((fault ≡ OutOfMemory) × HasLackedMemory)
 
 -- how often in a row the committer may be refused memory while somebody waits for it
 abbrev pub most_refusals : ℕ
@@ -153,9 +155,9 @@ abbrev pub StopsAtEnd : ℕ → CommitError → Type 0
 StopsAtEnd session (Refused fault) = ⊥
 StopsAtEnd session (Open fault) = EndsSomeRun (λ steps replies. IsStep (Poll session) committed_of (Err fault) steps replies ⊎ ((t : ℕ) × PollsAndEnds session t (Err fault) steps replies))
 
--- why a commit that is drawn and stamped isn't acknowledged: its own poll told that it isn't covered, and nothing more will be; or that poll, or its end, was refused
+-- why a commit that is drawn and stamped isn't acknowledged: its own poll told that it isn't covered, and it won't be; or that poll, or its end, was refused
 abbrev pub GivesUp : ℕ → CommitError → Type 0
-GivesUp session error = ∥ ((AnswersStep (Poll session) committed_of (Ok None) × StopsAfter error) ⊎ StopsAtEnd session error) ∥₁
+GivesUp session error = ∥ (StopsAfter session error ⊎ StopsAtEnd session error) ∥₁
 
 -- what becomes of such a commit
 abbrev pub IsAnswered : ℕ → Result ℕ CommitError → Type 0
@@ -164,6 +166,10 @@ IsAnswered session result = MatchResult result (IsAcknowledged session) (GivesUp
 -- so it is of the one that drew this timestamp
 abbrev pub IsAnsweredAt : ℕ → ℕ → Result ⊤ CommitError → Type 0
 IsAnsweredAt session t result = MatchResult result (λ done. IsAcknowledged session t) (GivesUp session)
+
+-- there is no answer for the commit that drew the timestamp: it is waited for still, or its session acknowledged another one
+abbrev pub IsWithoutAnswer : ℕ → ℕ → Option Fault → ℕ → Type 0
+IsWithoutAnswer session t ended refusals = IsLeftWaiting session ended refusals ⊎ ((told : ℕ) × IsAcknowledged session told × (told ≢ t))
 
 -- an answer says this of the commit that drew the timestamp
 abbrev pub AnswersTo : ℕ → Result ℕ CommitError → Result ⊤ CommitError → Type 0

@@ -18,6 +18,11 @@ use Rattle.database.specs.Replies.{done_of, drawn_of, stamped_of, committed_of}
 use Rattle.database.specs.declared.opened.OpenedRoom.{OpenedRoom}
 use Rattle.database.specs.Runs.{EndsSomeRun}
 
+-- with what the committer of the room that is there has ended, where it has
+abbrev pub ended_of : {D : Type 0} → {G : Ghosts D} → Option (OpenedRoom D G) → Option Fault
+ended_of (Some room) = room.ended
+ended_of None = None
+
 -- the room makes this step, and what is returned is read off its reply
 abbrev pub Obeys : {D A : Type 0} → {G : Ghosts D} → (D → Device) → Room D G → Room D G → Step → (Reply → Result A Fault) → Result A Fault → Type 0
 Obeys state old new step read result = (reply : Reply) × Leads state old new step reply × (result ≡ read reply)

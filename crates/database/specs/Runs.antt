@@ -1,7 +1,11 @@
 -- What a database's room has to do with the device that was opened.
-use Rattle.std.specs.Prelude.{◌≡◌, ◌⊎◌, ℕ, List, ◌++◌, None}
+use Rattle.std.specs.Prelude.{◌≡◌, ◌⊎◌, ℕ, List, [], ◌∷◌, ◌++◌, length, Option, Some, None}
+use Rattle.base.specs.declared.fault.Fault.{Fault}
+use Rattle.base.specs.declared.fault.Fault.TheVariants.{TimestampsOut, Failed, Device as DeviceFault}
 use Rattle.base.specs.declared.step.Step.{Step}
+use Rattle.base.specs.declared.step.Step.TheVariants.{Commit as CommitTick}
 use Rattle.base.specs.declared.step.Reply.{Reply}
+use Rattle.base.specs.declared.step.Reply.TheVariants.{Refused as RefusedWith}
 use Rattle.base.specs.Commits.{Commit}
 use Rattle.base.specs.Images.{Image, opening_fault}
 use Rattle.base.specs.Stands.{Stands}
@@ -34,10 +38,6 @@ pub record IsRunFrom {D : Type 0} {G : Ghosts D} (state : D → Device) (opened 
   pub replies : List Reply
   pub leads : LeadsAlong state first room steps replies
 
--- so it is for some device
-abbrev pub HasRun : {D : Type 0} → {G : Ghosts D} → (D → Device) → Room D G → Type 0
-HasRun state room = (opened : Device) × IsRunFrom state opened room
-
 -- ---- of a device alone
 
 -- what a crash leaves since the opening: in it, or in one of the steps
@@ -63,3 +63,40 @@ pub record IsRunOf (opened now : Device) (steps : List Step) (replies : List Rep
 abbrev pub EndsSomeRun : (List Step → List Reply → Type 0) → Type 0
 EndsSomeRun Fact =
     ∥ ((opened now : Device) × (before steps : List Step) × (earlier replies : List Reply) × IsRunOf opened now (before ++ steps) (earlier ++ replies) × Fact steps replies) ∥₁
+
+-- ---- the committer's end
+
+-- with such a fault the committer ends; after want of memory it goes on
+abbrev pub IsLast : Fault → Type 0
+IsLast fault = (fault ≡ TimestampsOut) ⊎ ((fault ≡ DeviceFault) ⊎ (fault ≡ Failed))
+
+-- a tick of the committer was refused with this fault, and it ended
+abbrev pub HasEnded : Fault → Type 0
+HasEnded fault = EndsSomeRun (λ steps replies. (steps ≡ CommitTick ∷ []) × (replies ≡ RefusedWith fault ∷ []) × IsLast fault)
+
+-- one of these steps is a tick of the committer, which was refused with this fault
+pub record RefusesTick (fault : Fault) (steps : List Step) (replies : List Reply) : Type 0 where
+  pub first : List Step
+  pub more : List Step
+  pub told : List Reply
+  pub later : List Reply
+  pub steps_are : steps ≡ first ++ CommitTick ∷ more
+  pub replies_are : replies ≡ told ++ RefusedWith fault ∷ later
+  pub beside : length first ≡ length told
+
+-- where the committer has ended, it was among these steps
+abbrev pub EndedAlong : Option Fault → List Step → List Reply → Type 0
+EndedAlong (Some fault) steps replies = RefusesTick fault steps replies × HasEnded fault
+EndedAlong None steps replies = Unit {0}
+
+-- such a run ends in steps and replies of which this holds, and earlier in it the committer has ended with this fault
+abbrev pub EndsOnceEnded : Fault → (List Step → List Reply → Type 0) → Type 0
+EndsOnceEnded fault Fact =
+    ∥ ((opened now : Device) × (before steps : List Step) × (earlier replies : List Reply) × IsRunOf opened now (before ++ steps) (earlier ++ replies)
+    × EndedAlong (Some fault) before earlier × Fact steps replies) ∥₁
+
+-- the room has made a run from the opening of some device, in which the committer has ended so, where it has
+pub record HasRun {D : Type 0} {G : Ghosts D} (state : D → Device) (room : Room D G) (ended : Option Fault) : Type 0 where
+  pub opened : Device
+  pub run : IsRunFrom state opened room
+  pub along : EndedAlong ended run.steps run.replies

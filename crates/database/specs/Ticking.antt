@@ -9,7 +9,7 @@ use Rattle.pmem.specs.Device.{Device}
 use Rattle.pmem.specs.declared.device.Pmem.{Ghosts}
 use Rattle.room.specs.Room.{Leads}
 use Rattle.database.specs.declared.desk.Desk.{Desk}
-use Rattle.database.specs.Obeys.{InRoom}
+use Rattle.database.specs.Obeys.{InRoom, ended_of}
 
 -- the tick wasn't refused, or for want of memory, which passes
 abbrev pub GoesOn : Reply → Type 0
@@ -20,6 +20,6 @@ GoesOn reply = (fault : Fault) → reply ≡ Refused fault → fault ≡ OutOfMe
 pub record TicksOnce {D : Type 0} {G : Ghosts D} (state : D → Device) (old new : Desk D G) : Type 0 where
   pub reply : Reply
   pub ticks : InRoom (λ before after. Leads state before after CommitTick reply) old.room new.room
-  pub ended : (fault : Fault) → reply ≡ Refused fault → fault ≢ OutOfMemory → new.ended ≡ Some fault
-  pub goes_on : GoesOn reply → new.ended ≡ old.ended
+  pub ended : (fault : Fault) → reply ≡ Refused fault → fault ≢ OutOfMemory → ended_of new.room ≡ Some fault
+  pub goes_on : GoesOn reply → ended_of new.room ≡ ended_of old.room
   pub counted : reply ≡ Refused OutOfMemory → 0 < new.refusals

@@ -1,4 +1,4 @@
-ghost use Rattle.std.specs.Prelude.{IfErr, IfOk, IfSome};
+ghost use Rattle.std.specs.Prelude.{◌≡◌, IfErr, IfOk, IfSome};
 ghost use Rattle.database.specs.Obeys.{PutsCollecting, MakesWrite, StampsAll, Prepares, IsRefusedWhole, Finishes, Covers};
 ghost use Rattle.database.specs.Committing.{LeadsByWrites, BeginsWith};
 
@@ -133,6 +133,7 @@ pub fn stamp_all<D: Pmem + Drop, R: Wait>(
 /// Ends the transaction once its commit is covered: its timestamp, or `None` where it isn't covered yet.
 pub fn finish<D: Pmem + Drop>(room: &mut OpenedRoom<D>, session: u8) -> Result<Option<Ts>, Fault>
     ensures steps { Finishes D.state room.old.room room.new.room session result }
+    ensures ended { room.new.ended ≡ room.old.ended }
 
     // A timestamp that is answered is of a commit that each crash from then on leaves.
     ensures covers { IfOk result (λ answer. IfSome answer (λ timestamp. Covers D.state room.old.room room.new.room timestamp)) }

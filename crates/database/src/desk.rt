@@ -1,6 +1,5 @@
 ghost use Rattle.std.specs.Prelude.{◌<◌};
-ghost use Rattle.std.specs.Option.{ForSome};
-ghost use Rattle.database.specs.Committing.{HasEnded, HasLackedMemory};
+ghost use Rattle.database.specs.Committing.{HasLackedMemory};
 
 use crate::answers::{Answers, answer_to};
 use crate::committing::{begin_with, finish};
@@ -58,19 +57,18 @@ pub struct Desk<D: Pmem> {
     pub refusals: u64,
     /// There from the opening to the close.
     pub room: Option<OpenedRoom<D>>,
-    /// Why nothing more will be covered: what the committer was refused with.
-    pub ended: Option<Fault>,
-    ghost ended_so: { ForSome ended HasEnded },
     ghost lacked_so: { 0 < refusals → HasLackedMemory },
 }
 
 impl<D: Pmem + Drop> Desk<D> {
-    ghost use Rattle.std.specs.Prelude.{◌≡◌, ◌<◌, ◌≤◌, ◌↔◌, None, IsTrue, is_some, IfSome, IfNone};
+    ghost use Rattle.std.specs.Prelude.{◌≡◌, ◌<◌, ◌≤◌, ◌-◌, ◌↔◌, None, Some, IsTrue, is_some, IfSome, IfNone};
     ghost use Rattle.base.specs.declared.fault.Fault.TheVariants.{TimestampsOut};
     ghost use Rattle.base.specs.declared.step.Step.TheVariants.{Begin, Abort};
     ghost use Rattle.database.specs.Replies.{began_of, done_of};
-    ghost use Rattle.database.specs.Obeys.{Obeys, InRoom, AnswersStep};
-    ghost use Rattle.database.specs.Committing.{BeginsWith, AnswersBegunWith, IsAnswered, IsAnsweredAt, StopsAfter, HasEnded, HasLackedMemory, IsLeftWaiting, IsSettledUpTo, most_refusals};
+    ghost use Rattle.std.specs.Option.{ForSome};
+    ghost use Rattle.database.specs.Runs.{HasEnded};
+    ghost use Rattle.database.specs.Obeys.{Obeys, InRoom, AnswersStep, ended_of};
+    ghost use Rattle.database.specs.Committing.{BeginsWith, AnswersBegunWith, IsAnswered, IsAnsweredAt, IsGivenUp, HasLackedMemory, IsLeftWaiting, IsWithoutAnswer, IsSettledUpTo, most_refusals};
 
     /// Opens a transaction. The number of its session.
     pub fn begin(&mut self) -> Result<u8, Fault>
@@ -106,7 +104,8 @@ impl<D: Pmem + Drop> Desk<D> {
 
     /// A transaction is over. It is no step.
     pub fn leave(&mut self)
-        ensures { self.new.room ≡ self.old.room }
+        ensures room { self.new.room ≡ self.old.room }
+        ensures open { self.new.open ≡ self.old.open - 1 }
     {
         self.open = self.open.saturating_sub(1);
     }
@@ -126,7 +125,7 @@ impl<D: Pmem + Drop> Desk<D> {
     /// The answer to the session's commit, once there is one.
     pub fn answer(&mut self, session: u8) -> Option<Result<Ts, CommitError>>
         ensures some { IfSome result (IsAnswered session) }
-        ensures none { IsTrue (is_some self.old.room) → IfNone result (IsLeftWaiting session self.new.ended self.new.refusals) }
+        ensures none { IsTrue (is_some self.old.room) → IfNone result (IsLeftWaiting session (ended_of self.new.room) self.new.refusals) }
     {
         let Some(room) = &mut self.room else {
             return None;
@@ -143,7 +142,8 @@ impl<D: Pmem + Drop> Desk<D> {
 
     /// The answer to the session's commit with this timestamp, once there is one.
     pub fn answer_to(&mut self, session: u8, timestamp: Ts) -> Option<Result<(), CommitError>>
-        ensures { IfSome result (IsAnsweredAt session timestamp) }
+        ensures some { IfSome result (IsAnsweredAt session timestamp) }
+        ensures none { IsTrue (is_some self.old.room) → IfNone result (IsWithoutAnswer session timestamp (ended_of self.new.room) self.new.refusals) }
     {
         match self.answer(session) {
             Some(answer) => answer_to(timestamp, answer),
@@ -151,12 +151,23 @@ impl<D: Pmem + Drop> Desk<D> {
         }
     }
 
+    // With what the committer has ended, in the run of the room that is there.
+    fn ended(&self) -> Option<Fault>
+        ensures ended { result ≡ ended_of self.now.room }
+        ensures so { ForSome result HasEnded }
+    {
+        match &self.room {
+            Some(room) => room.ended,
+            None => None,
+        }
+    }
+
     // Why a commit that isn't covered is waited for no longer.
     fn given_up(&self) -> Option<CommitError>
-        ensures some { IfSome result StopsAfter }
-        ensures none { IfNone result ((self.now.ended ≡ None) × (self.now.refusals ≤ most_refusals)) }
+        ensures some { IfSome result (IsGivenUp (ended_of self.now.room)) }
+        ensures none { IfNone result ((ended_of self.now.room ≡ None) × (self.now.refusals ≤ most_refusals)) }
     {
-        match self.ended {
+        match self.ended() {
             Some(Fault::TimestampsOut) => Some(CommitError::Refused(Fault::TimestampsOut)),
             Some(fault) => Some(CommitError::Open(fault)),
             None if self.lacks_memory() => Some(CommitError::Open(Fault::OutOfMemory)),
@@ -184,9 +195,10 @@ impl<D: Pmem + Drop> Desk<D> {
 
     /// Whether the committer has ended since no record number is left, so that what is drawn from then on is never covered.
     pub fn lacks_numbers(&self) -> bool
+        ensures ended { IsTrue result ↔ (ended_of self.now.room ≡ Some TimestampsOut) }
         ensures so { IsTrue result → HasEnded TimestampsOut }
     {
-        matches!(self.ended, Some(Fault::TimestampsOut))
+        matches!(self.ended(), Some(Fault::TimestampsOut))
     }
 
     /// Answers those who wait for a commit that is covered, or won't be, but for the one that leads.
@@ -210,9 +222,10 @@ impl<D: Pmem + Drop> Desk<D> {
 
     /// Whether each commit up to this timestamp is covered or given up.
     pub fn is_settled(&self, timestamp: Ts) -> bool
-        ensures { IsTrue result → IsSettledUpTo timestamp }
+        ensures so { IsTrue result → IsSettledUpTo timestamp }
+        ensures ended { IsTrue (is_some (ended_of self.now.room)) → IsTrue result }
     {
-        if self.ended.is_some() {
+        if self.ended().is_some() {
             return true;
         }
         match &self.room {
@@ -306,7 +319,6 @@ impl<D: Pmem + Drop> Shared<D> {
                 covered: u64::MAX,
                 refusals: 0,
                 room: None,
-                ended: None,
             }),
             commits: Condvar::new(),
             rounds: Condvar::new(),

@@ -1,6 +1,7 @@
 ghost use Rattle.database.specs.Runs.{HasRun};
 
 use base::Ts;
+use base::fault::Fault;
 use base::geometry::Geometry;
 use base::step::Reply;
 use pmem::Pmem;
@@ -12,11 +13,15 @@ use sync_ahead::SyncAhead;
 #[derive(Drop)]
 pub struct OpenedRoom<D: Pmem> {
     pub(crate) room: Room<D>,
-    ghost run: { ∥ HasRun D.state room ∥₁ },
+    /// Why nothing more will be covered: what the committer was refused with, in this very run.
+    pub(crate) ended: Option<Fault>,
+    ghost run: { ∥ HasRun D.state room ended ∥₁ },
 }
 
 impl<D: Pmem + Drop> OpenedRoom<D> {
-    ghost use Rattle.std.specs.Prelude.{◌≡◌, ◌-◌};
+    ghost use Rattle.std.specs.Prelude.{◌≡◌, ◌≢◌, ◌-◌, None, Some};
+    ghost use Rattle.base.specs.declared.fault.Fault.TheVariants.{OutOfMemory};
+    ghost use Rattle.base.specs.declared.step.Reply.TheVariants.{Refused};
     ghost use Rattle.base.specs.declared.step.Step.TheVariants.{Commit, Collect};
     ghost use Rattle.machine.specs.Machine.{State};
     ghost use Rattle.room.specs.Room.{Leads, Shows, ShowsStatus};
@@ -27,21 +32,27 @@ impl<D: Pmem + Drop> OpenedRoom<D> {
     /// The room as its opening left it.
     pub fn new(room: Room<D>) -> OpenedRoom<D>
         requires opened { IsFresh D.state room }
-        ensures { result.room ≡ room }
+        ensures room { result.room ≡ room }
+        ensures ended { result.ended ≡ None }
     {
-        OpenedRoom { room }
+        OpenedRoom { room, ended: None }
     }
 
-    /// A tick of the committer.
+    /// A tick of the committer. What it is refused with is kept, but for want of memory, which passes.
     pub fn tick(&mut self) -> Reply
         ensures step { Leads D.state self.old.room self.new.room Commit result }
+        ensures ended { (fault : Fault) → result ≡ Refused fault → fault ≢ OutOfMemory → self.new.ended ≡ Some fault }
+        ensures goes_on { ((fault : Fault) → result ≡ Refused fault → fault ≡ OutOfMemory) → self.new.ended ≡ self.old.ended }
     {
-        self.room.tick()
+        let reply = self.room.tick();
+        self.ended = ended_by(&reply, self.ended);
+        reply
     }
 
     /// A visit of the collector.
     pub fn visit(&mut self) -> Reply
         ensures step { Leads D.state self.old.room self.new.room Collect result }
+        ensures ended { self.new.ended ≡ self.old.ended }
     {
         self.room.visit()
     }
@@ -77,9 +88,26 @@ impl<D: Pmem + Drop> OpenedRoom<D> {
     /// The room, to be closed.
     pub fn into_room(self) -> Room<D>
         ensures room { result ≡ self.room }
-        ensures run { ∥ HasRun D.state result ∥₁ }
+        ensures run { ∥ HasRun D.state result self.ended ∥₁ }
     {
         self.room
+    }
+}
+
+ghost use Rattle.std.specs.Prelude.{◌≡◌, ◌≢◌, ◌⊎◌, Some};
+ghost use Rattle.base.specs.declared.fault.Fault.TheVariants.{OutOfMemory};
+ghost use Rattle.base.specs.declared.step.Reply.TheVariants.{Refused};
+
+// With what the committer has ended once a tick was answered so, where it had ended with this before, if it had.
+fn ended_by(reply: &Reply, before: Option<Fault>) -> Option<Fault>
+    ensures ended { (fault : Fault) → reply.now ≡ Refused fault → fault ≢ OutOfMemory → result ≡ Some fault }
+    ensures goes_on { ((fault : Fault) → reply.now ≡ Refused fault → fault ≡ OutOfMemory) → result ≡ before }
+    ensures either { (result ≡ before) ⊎ ((fault : Fault) × (reply.now ≡ Refused fault) × (fault ≢ OutOfMemory) × (result ≡ Some fault)) }
+{
+    match reply {
+        Reply::Refused(Fault::OutOfMemory) => before,
+        Reply::Refused(fault) => Some(*fault),
+        _ => before,
     }
 }
 

@@ -80,7 +80,8 @@ pub fn stamp<D: Pmem + Drop>(room: &mut OpenedRoom<D>, session: u8) -> Result<bo
 
 /// The timestamp of the commit, once it is covered.
 pub fn poll<D: Pmem + Drop>(room: &mut OpenedRoom<D>, session: u8) -> Result<Option<Ts>, Fault>
-    ensures { Obeys D.state room.old.room room.new.room (Poll session) committed_of result }
+    ensures step { Obeys D.state room.old.room room.new.room (Poll session) committed_of result }
+    ensures ended { room.new.ended ≡ room.old.ended }
 {
     committed_in(room.room.poll(session))
 }
@@ -106,7 +107,8 @@ pub fn abort<D: Pmem + Drop>(room: &mut OpenedRoom<D>, session: u8) -> Result<()
 
 /// Ends a transaction that is covered.
 pub fn end<D: Pmem + Drop>(room: &mut OpenedRoom<D>, session: u8) -> Result<(), Fault>
-    ensures { Obeys D.state room.old.room room.new.room (End session) done_of result }
+    ensures step { Obeys D.state room.old.room room.new.room (End session) done_of result }
+    ensures ended { room.new.ended ≡ room.old.ended }
 {
     room.room.end(session)
 }

@@ -1,7 +1,7 @@
 ghost use Rattle.std.specs.Prelude.{◌≡◌, IsTrue, is_some};
 ghost use Rattle.base.specs.declared.step.Step.TheVariants.{Collect};
 ghost use Rattle.database.specs.declared.turns.Turn.TheVariants.{Stopped};
-ghost use Rattle.database.specs.Obeys.{InRoom, Repeats};
+ghost use Rattle.database.specs.Obeys.{InRoom, Repeats, ended_of};
 ghost use Rattle.database.specs.Ticking.{TicksOnce};
 
 use crate::desk::{Desk, Shared};
@@ -45,7 +45,7 @@ pub enum Turn {
 // A tick of the committer.
 fn tick<D: Pmem + Drop>(desk: &mut Desk<D>) -> Turn
     ensures once { IsTrue (is_some desk.old.room) → TicksOnce D.state desk.old desk.new }
-    ensures stopped { result ≡ Stopped → IsTrue (is_some desk.new.ended) }
+    ensures stopped { result ≡ Stopped → IsTrue (is_some (ended_of desk.new.room)) }
 {
     let Some(room) = &mut desk.room else {
         return Turn::Idle;
@@ -69,7 +69,7 @@ fn rows_of(batch: &Batch) -> u64 {
 /// Visits of the collector, up to the end of a round.
 pub fn collect<D: Pmem + Drop>(desk: &mut Desk<D>) -> Turn
     ensures visits { IsTrue (is_some desk.old.room) → InRoom (λ old new. Repeats D.state old new Collect) desk.old.room desk.new.room }
-    ensures ended { desk.new.ended ≡ desk.old.ended }
+    ensures ended { ended_of desk.new.room ≡ ended_of desk.old.room }
 {
     if !desk.is_round_due() {
         return Turn::Idle;
@@ -86,7 +86,8 @@ pub fn collect<D: Pmem + Drop>(desk: &mut Desk<D>) -> Turn
 
 // A part of a round's visits, or up to its end.
 fn visit_some<D: Pmem + Drop>(room: &mut OpenedRoom<D>) -> Turn
-    ensures { Repeats D.state room.old.room room.new.room Collect }
+    ensures visits { Repeats D.state room.old.room room.new.room Collect }
+    ensures ended { room.new.ended ≡ room.old.ended }
 {
     let visits = (room.geometry().slots() / 4).clamp(LEAST_VISITS, MOST_VISITS);
     for _ in 0..visits {
@@ -100,14 +101,13 @@ fn visit_some<D: Pmem + Drop>(room: &mut OpenedRoom<D>) -> Turn
 }
 
 impl<D: Pmem> Desk<D> {
-    ghost use Rattle.std.specs.Prelude.{◌≡◌, ◌≢◌, ◌<◌, Some, IsTrue, is_some};
+    ghost use Rattle.std.specs.Prelude.{◌≡◌, ◌≢◌, ◌<◌};
     ghost use Rattle.base.specs.declared.fault.Fault.TheVariants.{OutOfMemory};
     ghost use Rattle.database.specs.declared.turns.Turn.TheVariants.{Stopped};
-    ghost use Rattle.database.specs.Committing.{HasEnded, HasLackedMemory};
+    ghost use Rattle.database.specs.Committing.{HasLackedMemory};
 
     // What a tick comes to that isn't refused.
     fn after_tick(&mut self, reply: &Reply) -> Turn
-        ensures ended { self.new.ended ≡ self.old.ended }
         ensures room { self.new.room ≡ self.old.room }
         ensures goes_on { result ≢ Stopped }
     {
@@ -125,23 +125,17 @@ impl<D: Pmem> Desk<D> {
 
     // What a refusal of a tick comes to: want of memory passes, and nothing else does.
     fn after_refusal(&mut self, fault: Fault) -> Turn
-        requires ended { fault ≢ OutOfMemory → HasEnded fault }
         requires lacked { fault ≡ OutOfMemory → HasLackedMemory }
-        ensures ended { fault ≢ OutOfMemory → self.new.ended ≡ Some fault }
-        ensures goes_on { fault ≡ OutOfMemory → self.new.ended ≡ self.old.ended }
         ensures counted { fault ≡ OutOfMemory → 0 < self.new.refusals }
         ensures room { self.new.room ≡ self.old.room }
-        ensures stopped { result ≡ Stopped → IsTrue (is_some self.new.ended) }
+        ensures stopped { result ≡ Stopped → fault ≢ OutOfMemory }
     {
         match fault {
             Fault::OutOfMemory => {
                 self.refusals = self.refusals.saturating_add(1);
                 Turn::LacksMemory
             }
-            _ => {
-                self.ended = Some(fault);
-                Turn::Stopped
-            }
+            _ => Turn::Stopped,
         }
     }
 }
@@ -176,7 +170,7 @@ impl<D: SyncAhead + Drop> Shared<D> {
         rt: &R,
         desk: MutexGuard<'a, Desk<D>>,
     ) -> (MutexGuard<'a, Desk<D>>, Turn)
-        ensures stopped { result.1 ≡ Stopped → IsTrue (is_some (mutex_guard_value result.0).ended) }
+        ensures stopped { result.1 ≡ Stopped → IsTrue (is_some (ended_of (mutex_guard_value result.0).room)) }
     {
         let mut desk = desk;
         if desk.is_syncing {

@@ -4,14 +4,14 @@ use Rattle.database.proofs.committing.finish.Goals as goal
 
 pub returns-in-Ok-end-clause-steps : goal.returns-in-Ok-end-clause-steps
 returns-in-Ok-end-clause-steps g c =
-    (c.poll.new.room.room, obeys-as _ _ _ _ _ _ _ c.poll.ensures (c.in-Ok.is ∙ ap Ok c.in-Some.is), obeys-as _ _ _ _ _ _ _ c.end.ensures c.in-Ok-end.is)
+    (c.poll.new.room.room, obeys-as _ _ _ _ _ _ _ c.poll.ensures.step (c.in-Ok.is ∙ ap Ok c.in-Some.is), obeys-as _ _ _ _ _ _ _ c.end.ensures.step c.in-Ok-end.is)
 
 pub returns-in-Ok-end-clause-covers : goal.returns-in-Ok-end-clause-covers
-returns-in-Ok-end-clause-covers g c = covers-finish _ _ _ _ _ _ _ _ _ c.poll.ensures (c.in-Ok.is ∙ ap Ok c.in-Some.is) c.end.ensures
+returns-in-Ok-end-clause-covers g c = covers-finish _ _ _ _ _ _ _ _ _ c.poll.ensures.step (c.in-Ok.is ∙ ap Ok c.in-Some.is) c.end.ensures.step
 
 pub returns-in-Err-end-clause-steps : goal.returns-in-Err-end-clause-steps
 returns-in-Err-end-clause-steps g c =
-    inr (c.poll.new.room.room, c.in-Some.timestamp, obeys-as _ _ _ _ _ _ _ c.poll.ensures (c.in-Ok.is ∙ ap Ok c.in-Some.is), obeys-as _ _ _ _ _ _ _ c.end.ensures c.in-Err-end.is)
+    inr (c.poll.new.room.room, c.in-Some.timestamp, obeys-as _ _ _ _ _ _ _ c.poll.ensures.step (c.in-Ok.is ∙ ap Ok c.in-Some.is), obeys-as _ _ _ _ _ _ _ c.end.ensures.step c.in-Err-end.is)
 
 pub returns-in-None-clause-steps : goal.returns-in-None-clause-steps
-returns-in-None-clause-steps g c = (obeys-as _ _ _ _ _ _ _ c.poll.ensures (c.in-Ok.is ∙ ap Ok c.in-None.is), stays-polled _ _ _ _ _ _ c.poll.ensures)
+returns-in-None-clause-steps g c = (obeys-as _ _ _ _ _ _ _ c.poll.ensures.step (c.in-Ok.is ∙ ap Ok c.in-None.is), stays-polled _ _ _ _ _ _ c.poll.ensures.step)

@@ -12,15 +12,15 @@ returns-in-Err-stamp_all-clause-steps g c =
 
 pub returns-in-Ok-end-clause-steps : goal.returns-in-Ok-end-clause-steps
 returns-in-Ok-end-clause-steps g c =
-    (c.draw.new.room.room, obeys-as _ _ _ _ _ _ _ c.draw.ensures (c.in-Ok.is ∙ ap Ok c.in-None.is), obeys-as _ _ _ _ _ _ _ c.end.ensures c.in-Ok-end.is)
+    (c.draw.new.room.room, obeys-as _ _ _ _ _ _ _ c.draw.ensures (c.in-Ok.is ∙ ap Ok c.in-None.is), obeys-as _ _ _ _ _ _ _ c.end.ensures.step c.in-Ok-end.is)
 
 pub returns-in-Err-end-clause-steps : goal.returns-in-Err-end-clause-steps
 returns-in-Err-end-clause-steps g c =
-    inr (c.draw.new.room.room, obeys-as _ _ _ _ _ _ _ c.draw.ensures (c.in-Ok.is ∙ ap Ok c.in-None.is), obeys-as _ _ _ _ _ _ _ c.end.ensures c.in-Err-end.is)
+    inr (c.draw.new.room.room, obeys-as _ _ _ _ _ _ _ c.draw.ensures (c.in-Ok.is ∙ ap Ok c.in-None.is), obeys-as _ _ _ _ _ _ _ c.end.ensures.step c.in-Err-end.is)
 
 pub returns-in-Err-end-clause-refused : goal.returns-in-Err-end-clause-refused
 returns-in-Err-end-clause-refused g c =
-    nothing-ended _ _ _ _ _ _ _ (obeys-as _ _ _ _ _ _ _ c.draw.ensures (c.in-Ok.is ∙ ap Ok c.in-None.is)) c.end.ensures
+    nothing-ended _ _ _ _ _ _ _ (obeys-as _ _ _ _ _ _ _ c.draw.ensures (c.in-Ok.is ∙ ap Ok c.in-None.is)) c.end.ensures.step
 
 pub returns-in-Err-clause-refused : goal.returns-in-Err-clause-refused
 returns-in-Err-clause-refused g c = nothing-refused _ _ _ _ _ (obeys-as _ _ _ _ _ _ _ c.draw.ensures c.in-Err.is)

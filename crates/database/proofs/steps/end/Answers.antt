@@ -8,5 +8,5 @@ use Rattle.database.proofs.steps.end.Goals as goal
 pub invariant_of-room : goal.invariant_of-room
 invariant_of-room g c = record { run = run-led g.D.Pmem.state c.args.room.now.room c.end.new.self (End c.args.session) (as_reply (done c.end.result)) c.args.room.now.run c.end.ensures.step }
 
-pub returns : goal.returns
-returns g c = (as_reply (done c.end.result), c.end.ensures.step, reads-done c.end.result)
+pub returns-clause-step : goal.returns-clause-step
+returns-clause-step g c = (as_reply (done c.end.result), c.end.ensures.step, reads-done c.end.result)

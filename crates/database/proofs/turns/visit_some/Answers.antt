@@ -1,15 +1,25 @@
+use Rattle.std.proofs.Common.{refl, ◌∙◌}
 use Rattle.base.specs.declared.step.Step.TheVariants.{Collect}
 use Rattle.database.proofs.Covering.{repeats-none, repeats-then}
 use Rattle.database.proofs.turns.visit_some.Goals as goal
 
 pub loop-init : goal.loop-init
-loop-init g c = repeats-none g.D.Pmem.state c.args.room.now.room Collect (g.met.D.Pmem.orderly c.args.room.now.room.device)
+loop-init g c = record { visits = repeats-none g.D.Pmem.state c.args.room.now.room Collect (g.met.D.Pmem.orderly c.args.room.now.room.device); ended = refl }
 
 pub loop-preserved : goal.loop-preserved
-loop-preserved g c = repeats-then g.D.Pmem.state c.args.room.now.room c.loop.room.room c.visit.new.self.room Collect c.visit.result c.loop.invariant c.visit.ensures.step
+loop-preserved g c = record {
+  visits = repeats-then g.D.Pmem.state c.args.room.now.room c.loop.room.room c.visit.new.self.room Collect c.visit.result c.loop.invariant.visits c.visit.ensures.step;
+  ended = c.visit.ensures.ended ∙ c.loop.invariant.ended;
+}
 
 pub returns-in-SweepEnd : goal.returns-in-SweepEnd
-returns-in-SweepEnd g c = repeats-then g.D.Pmem.state c.args.room.now.room c.loop.room.room c.visit.new.self.room Collect c.visit.result c.loop.invariant c.visit.ensures.step
+returns-in-SweepEnd g c = record {
+  visits = repeats-then g.D.Pmem.state c.args.room.now.room c.loop.room.room c.visit.new.self.room Collect c.visit.result c.loop.invariant.visits c.visit.ensures.step;
+  ended = c.visit.ensures.ended ∙ c.loop.invariant.ended;
+}
 
 pub returns-in-Refused : goal.returns-in-Refused
-returns-in-Refused g c = repeats-then g.D.Pmem.state c.args.room.now.room c.loop.room.room c.visit.new.self.room Collect c.visit.result c.loop.invariant c.visit.ensures.step
+returns-in-Refused g c = record {
+  visits = repeats-then g.D.Pmem.state c.args.room.now.room c.loop.room.room c.visit.new.self.room Collect c.visit.result c.loop.invariant.visits c.visit.ensures.step;
+  ended = c.visit.ensures.ended ∙ c.loop.invariant.ended;
+}

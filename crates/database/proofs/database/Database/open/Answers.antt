@@ -15,7 +15,7 @@ new-requires-in-Ok-open g c = record {
 
 pub put_in-requires : goal.put_in-requires
 put_in-requires g c = record {
-  opened = subst (λ r. IsFresh g.D.Pmem.state r) (sym c.new-in-Ok-open.ensures) (
+  opened = subst (λ r. IsFresh g.D.Pmem.state r) (sym c.new-in-Ok-open.ensures.room) (
     g.D.Pmem.state c.args.device,
     record { at_rest = c.requires.at_rest; may_open = c.in-Ok-open.ensures.may_open; shows = c.in-Ok-open.ensures.ok; images = c.in-Ok-open.ensures.images },
   );

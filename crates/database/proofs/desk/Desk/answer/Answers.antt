@@ -1,7 +1,8 @@
-use Rattle.std.proofs.Common.{inl, inr, subst, Ok, rules}
+use Rattle.std.proofs.Common.{inr, subst, Ok, rules}
 use Rattle.database.specs.Obeys.{Finishes}
+use Rattle.database.specs.Committing.{IsGivenUp}
 use Rattle.database.proofs.Telling.{is-acknowledged}
-use Rattle.database.proofs.Errors.{finish-waits, finish-refused}
+use Rattle.database.proofs.Errors.{finish-waits, finish-refused, stops-after}
 use Rattle.database.proofs.desk.Desk.answer.Goals as goal
 
 pub returns-in-Ok-Some-clause-some : goal.returns-in-Ok-Some-clause-some
@@ -11,11 +12,9 @@ returns-in-Ok-Some-clause-some g c =
 
 pub returns-in-Some-given_up-clause-some : goal.returns-in-Some-given_up-clause-some
 returns-in-Some-given_up-clause-some g c =
-    ∣ inl (
-      finish-waits g.D.Pmem.state c.in-Some.room.room c.finish.new.room.room c.args.session c.in-Some.room.run
-          (subst (λ o. Finishes g.D.Pmem.state c.in-Some.room.room c.finish.new.room.room c.args.session (Ok o)) c.in-Ok-None.field-0-is c.in-Ok-None.ensures.steps),
-      c.in-Some-given_up.ensures.some,
-    ) ∣₁
+    stops-after g.D.Pmem.state c.in-Some.room.room c.finish.new.room.room c.args.session c.in-Some-given_up.error c.in-Some.room.run
+    (subst (λ o. Finishes g.D.Pmem.state c.in-Some.room.room c.finish.new.room.room c.args.session (Ok o)) c.in-Ok-None.field-0-is c.in-Ok-None.ensures.steps)
+    (subst (λ e. IsGivenUp e c.in-Some-given_up.error) c.finish.ensures.ended c.in-Some-given_up.ensures.some)
 
 pub returns-in-None-clause-none : goal.returns-in-None-clause-none
 returns-in-None-clause-none g c there = (
