@@ -1,13 +1,12 @@
 ghost use Rattle.std.specs.Prelude.{◌≡◌, ◌++◌, ◌∷◌, [], List, IfErr, IfOk, OnOk, Some, None};
 ghost use Rattle.std.specs.Io.KnownBytes.{Appends};
-ghost use Rattle.machine.specs.Machine.{Stepped};
 ghost use Rattle.command_line.specs.Lines.{line_of};
 ghost use Rattle.command_line.specs.Numbers.{Text};
-ghost use Rattle.console.specs.BadLine.{BlamesNoLine, IfBadLine, MeetsBadLine, kept_by, kept_in, kept_of};
+ghost use Rattle.console.specs.BadLine.{IfBadLine, MeetsBadLine, kept_by, kept_in, kept_of};
 ghost use Rattle.console.specs.Input.{Reads};
 ghost use Rattle.console.specs.Kept.{Leads};
 ghost use Rattle.console.specs.Refusals.{WantsMemory};
-ghost use Rattle.console.specs.Obeyed.{Commits, Collects, Cycles, ComesTo, Obeys, ObeysLine, ObeysLines, is_answered, is_busy, is_tick, reply_text};
+ghost use Rattle.console.specs.Obeyed.{Commits, Collects, Cycles, ComesTo, ObeysLine, ObeysLines, is_answered, is_busy, is_tick};
 
 use crate::replies::show;
 use crate::rounds::visits_needed;
@@ -54,6 +53,8 @@ pub fn obey_lines<D: Pmem + Drop, R: Read, W: Write>(
     Ok(None)
 }
 
+// Obeys one line and prints the reply. A crash is left to the caller: then this is what it keeps. A device without a fuse fails
+// only where a store takes memory and there is none.
 fn obey_line<D: Pmem + Drop, W: Write>(
     alloc: Global,
     room: &mut Room<D>,
@@ -67,12 +68,18 @@ fn obey_line<D: Pmem + Drop, W: Write>(
     ensures bad_line { IfErr result (IfBadLine (λ at. (at ≡ number) × (line_of line.now ≡ None) × (W.contents output.new ≡ W.contents output.old))) }
     ensures memory { IfErr result WantsMemory }
 {
-    match read_command(alloc, number, line)? {
-        Some(command) => {
-            let keeps = obey(alloc, room, &command, output)?;
-            Ok(keeps)
+    let Some(command) = read_command(alloc, number, line)? else {
+        return Ok(None);
+    };
+    match perform(room, &command) {
+        Outcome::Replied(reply) => {
+            if reply.is_failure() {
+                return Err(Stop::Refused(Fault::OutOfMemory));
+            }
+            show(alloc, &reply, output)?;
+            Ok(None)
         }
-        None => Ok(None),
+        Outcome::Crashed(keeps) => Ok(Some(keeps)),
     }
 }
 
@@ -88,44 +95,12 @@ fn read_command(alloc: Global, number: u64, line: &[u8]) -> Result<Option<Comman
     }
 }
 
-fn step<D: Pmem + Drop>(room: &mut Room<D>, step: Step) -> Reply
-    ensures { Leads D.state room.old room.new (λ q q'. Stepped q step result q') }
-{
-    room.step(step)
-}
-
-// Obeys one command and prints the reply. A crash is left to the caller: then this is what it keeps. A device without a fuse fails
-// only where a store takes memory and there is none.
-fn obey<D: Pmem + Drop, W: Write>(
-    alloc: Global,
-    room: &mut Room<D>,
-    command: &Command,
-    output: &mut W,
-) -> Result<Option<Survivor>, Stop>
-    ensures obeys { IfOk result (λ keeps. (said : Text) × Appends (W.contents output.old) (W.contents output.new) said
-        × Leads D.state room.old room.new (λ q q'. Obeys q command.now said keeps q')) }
-    ensures kept { IfOk result (λ keeps. keeps ≡ kept_by command.now) }
-    ensures blames { IfErr result BlamesNoLine }
-    ensures memory { IfErr result WantsMemory }
-{
-    match perform(room, command) {
-        Outcome::Replied(reply) => {
-            if reply.is_failure() {
-                return Err(Stop::Refused(Fault::OutOfMemory));
-            }
-            show(alloc, &reply, output)?;
-            Ok(None)
-        }
-        Outcome::Crashed(keeps) => Ok(Some(keeps)),
-    }
-}
-
 fn perform<D: Pmem + Drop>(room: &mut Room<D>, command: &Command) -> Outcome
     ensures comes { Leads D.state room.old room.new (λ q q'. ComesTo q command.now result q') }
     ensures kept { kept_of result ≡ kept_by command.now }
 {
     match command {
-        Command::Step(asked) => Outcome::Replied(step(room, Step::from(*asked))),
+        Command::Step(asked) => Outcome::Replied(room.step(Step::from(*asked))),
         Command::LongRow => Outcome::Replied(Reply::Refused(Fault::TooLong)),
         Command::Commit { ticks } => Outcome::Replied(tick(room, *ticks)),
         Command::Collect { visits } => Outcome::Replied(collect(room, *visits)),
@@ -139,12 +114,12 @@ fn perform<D: Pmem + Drop>(room: &mut Room<D>, command: &Command) -> Outcome
 fn tick<D: Pmem + Drop>(room: &mut Room<D>, ticks: u64) -> Reply
     ensures { Leads D.state room.old room.new (λ q q'. Commits q ticks result q') }
 {
-    let mut reply = step(room, Step::Commit);
+    let mut reply = room.step(Step::Commit);
     for _ in 1..ticks {
         if !is_busy(&reply) {
             break;
         }
-        reply = step(room, Step::Commit);
+        reply = room.step(Step::Commit);
     }
     reply
 }
@@ -155,12 +130,12 @@ fn collect<D: Pmem + Drop>(room: &mut Room<D>, visits: u64) -> Reply
     ensures { Leads D.state room.old room.new (λ q q'. Collects q visits result q') }
 {
     let needed = visits_needed(room.geometry(), visits);
-    let mut reply = step(room, Step::Collect);
+    let mut reply = room.step(Step::Collect);
     for _ in 1..needed {
         if !is_answered(&reply) {
             break;
         }
-        reply = step(room, Step::Collect);
+        reply = room.step(Step::Collect);
     }
     reply
 }
@@ -169,12 +144,12 @@ fn collect<D: Pmem + Drop>(room: &mut Room<D>, visits: u64) -> Reply
 fn cycle<D: Pmem + Drop>(room: &mut Room<D>) -> Reply
     ensures { Leads D.state room.old room.new (λ q q'. Cycles q result q') }
 {
-    let mut reply = step(room, Step::Commit);
+    let mut reply = room.step(Step::Commit);
     for _ in 1..u64::MAX {
         if !is_tick(&reply) {
             break;
         }
-        reply = step(room, Step::Commit);
+        reply = room.step(Step::Commit);
     }
     reply
 }

@@ -2,12 +2,13 @@ use Rattle.std.proofs.Common.{◌-◌, false, suc, inl, inr, arith, rules}
 use Rattle.base.specs.declared.step.Step.TheVariants as step
 use Rattle.console.specs.Obeyed.{is_answered}
 use Rattle.console.specs.Rounds.{visits_needed}
+use Rattle.console.proofs.KeptHistory.{leads-step}
 use Rattle.console.proofs.Obeyed.{more-ticks}
 use Rattle.console.proofs.Repeating.{collects-so}
 use Rattle.console.proofs.lines.collect.Goals as goal
 
 pub loop-init : goal.loop-init
-loop-init g c = (0, omega arith, omega arith, c.step-reply.ensures)
+loop-init g c = (0, omega arith, omega arith, leads-step g.D.Pmem.state c.args.room.now c.step-reply.new.self step.Collect _ c.step-reply.ensures.step)
 
 pub loop-preserved : goal.loop-preserved
 loop-preserved g c =
@@ -15,7 +16,7 @@ loop-preserved g c =
       suc before.0,
       omega (arith, before.1),
       omega (arith, before.1, before.2, c.loop-test.true),
-      more-ticks g.D.Pmem.state c.args.room.now c.loop.room c.step-reply-in-loop.new.room step.Collect is_answered before.0 c.loop.reply _ (search rules) before.3 c.step-reply-in-loop.ensures,
+      more-ticks g.D.Pmem.state c.args.room.now c.loop.room c.step-reply-in-loop.new.self step.Collect is_answered before.0 c.loop.reply _ (search rules) before.3 (leads-step g.D.Pmem.state c.loop.room c.step-reply-in-loop.new.self step.Collect _ c.step-reply-in-loop.ensures.step),
     )
 
 pub returns-after-loop : goal.returns-after-loop

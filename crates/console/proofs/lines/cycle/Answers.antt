@@ -1,11 +1,12 @@
 use Rattle.std.proofs.Common.{suc, inl, inr, arith, rules}
 use Rattle.base.specs.declared.step.Step.TheVariants as step
 use Rattle.console.specs.Obeyed.{is_tick}
+use Rattle.console.proofs.KeptHistory.{leads-step}
 use Rattle.console.proofs.Obeyed.{more-ticks, cycles-so}
 use Rattle.console.proofs.lines.cycle.Goals as goal
 
 pub loop-init : goal.loop-init
-loop-init g c = (0, omega arith, omega arith, c.step-reply.ensures)
+loop-init g c = (0, omega arith, omega arith, leads-step g.D.Pmem.state c.args.room.now c.step-reply.new.self step.Commit _ c.step-reply.ensures.step)
 
 pub loop-preserved : goal.loop-preserved
 loop-preserved g c =
@@ -13,7 +14,7 @@ loop-preserved g c =
       suc before.0,
       omega (arith, before.1),
       omega (arith, before.1, before.2, c.loop-test.true),
-      more-ticks g.D.Pmem.state c.args.room.now c.loop.room c.step-reply-in-loop.new.room step.Commit is_tick before.0 c.loop.reply _ (search rules) before.3 c.step-reply-in-loop.ensures,
+      more-ticks g.D.Pmem.state c.args.room.now c.loop.room c.step-reply-in-loop.new.self step.Commit is_tick before.0 c.loop.reply _ (search rules) before.3 (leads-step g.D.Pmem.state c.loop.room c.step-reply-in-loop.new.self step.Commit _ c.step-reply-in-loop.ensures.step),
     )
 
 pub returns-after-loop : goal.returns-after-loop

@@ -1,38 +1,33 @@
-use Rattle.std.proofs.Common.{[], ◌∙◌, ap, refl}
-use Rattle.std.specs.Prelude.{Option, Some}
+use Rattle.std.proofs.Common.{[], ◌∷◌, ◌++◌, ◌∙◌, ap, sym}
+use Rattle.std.specs.Prelude.{Option, Some, None}
 use Rattle.command_line.specs.declared.command.Command.{Command}
-use Rattle.console.proofs.BadLine.{kept-so, skipped-so, passed_on, unblamed}
-use Rattle.console.proofs.Obeyed.{line-read, line-skipped, appends-none}
+use Rattle.console.specs.Obeyed.{reply_text}
+use Rattle.console.proofs.Obeyed.{obeys-reply, obeys-crash, line-read, line-skipped, appends-none}
 use Rattle.console.proofs.lines.obey_line.Goals as goal
 
-pub returns-in_err-command-clause-bad_line : goal.returns-in_err-command-clause-bad_line
-returns-in_err-command-clause-bad_line g c =
-    passed_on c.from_residual.result _ _ _ c.from_residual.ensures.1 (λ at told. (told.0, told.1, refl)) c.in_err-command.ensures.bad_line
-
-pub returns-in_err-keeps-in-Some-clause-bad_line : goal.returns-in_err-keeps-in-Some-clause-bad_line
-returns-in_err-keeps-in-Some-clause-bad_line g c =
-    unblamed c.from_residual-in_err-keeps-in-Some.result _ _ c.from_residual-in_err-keeps-in-Some.ensures.1 c.in_err-keeps-in-Some.ensures.blames
-
-pub returns-in_ok-keeps-in-Some-clause-obeys : goal.returns-in_ok-keeps-in-Some-clause-obeys
-returns-in_ok-keeps-in-Some-clause-obeys g c =
-    let made = c.in_ok-keeps-in-Some.ensures.obeys in (
-      made.0,
-      made.1,
-      line-read g.D.Pmem.state c.args.room.now c.obey.new.room c.args.line.now made.0 c.in-Some.command c.in_ok-keeps-in-Some.keeps
-          (c.in_ok-command.ensures.ok ∙ ap (λ (read : Option Command). Some read) c.in-Some.is) made.2,
-    )
-
-pub returns-in_ok-keeps-in-Some-clause-kept : goal.returns-in_ok-keeps-in-Some-clause-kept
-returns-in_ok-keeps-in-Some-clause-kept g c =
-    kept-so c.args.line.now c.in-Some.command c.in_ok-keeps-in-Some.keeps (c.in_ok-command.ensures.ok ∙ ap (λ (read : Option Command). Some read) c.in-Some.is)
-    c.in_ok-keeps-in-Some.ensures.kept
-
-pub returns-in-None-clause-obeys : goal.returns-in-None-clause-obeys
-returns-in-None-clause-obeys g c = (
+pub returns-in_default-clause-obeys : goal.returns-in_default-clause-obeys
+returns-in_default-clause-obeys g c = (
   [],
   appends-none (g.W.Write.contents c.args.output.now),
-  line-skipped g.D.Pmem.state c.args.room.now c.args.line.now (c.in_ok-command.ensures.ok ∙ ap (λ (read : Option Command). Some read) c.in-None.is),
+  line-skipped g.D.Pmem.state c.args.room.now c.args.line.now (c.in_ok-command.ensures.ok ∙ ap (λ (read : Option Command). Some read) c.in_default.is),
 )
 
-pub returns-in-None-clause-kept : goal.returns-in-None-clause-kept
-returns-in-None-clause-kept g c = skipped-so c.args.line.now (c.in_ok-command.ensures.ok ∙ ap (λ (read : Option Command). Some read) c.in-None.is)
+pub returns-in_ok-show-in-Replied-clause-obeys : goal.returns-in_ok-show-in-Replied-clause-obeys
+returns-in_ok-show-in-Replied-clause-obeys g c =
+    let said = reply_text c.in-Replied.reply ++ 10 ∷ [] in (
+      said,
+      c.in_ok-show-in-Replied.ensures,
+      line-read g.D.Pmem.state c.args.room.now c.perform.new.room c.args.line.now said c.in-Some.command None
+          (c.in_ok-command.ensures.ok ∙ ap (λ (read : Option Command). Some read) c.in-Some.is)
+          (obeys-reply g.D.Pmem.state c.args.room.now c.perform.new.room c.in-Some.command c.perform.result c.in-Replied.reply
+          (sym c.is_failure.ensures ∙ c.if-is_failure.false) c.in-Replied.is c.perform.ensures.comes),
+    )
+
+pub returns-in-Crashed-clause-obeys : goal.returns-in-Crashed-clause-obeys
+returns-in-Crashed-clause-obeys g c = (
+  [],
+  appends-none (g.W.Write.contents c.args.output.now),
+  line-read g.D.Pmem.state c.args.room.now c.perform.new.room c.args.line.now [] c.in-Some.command (Some c.in-Crashed.keeps)
+      (c.in_ok-command.ensures.ok ∙ ap (λ (read : Option Command). Some read) c.in-Some.is)
+      (obeys-crash g.D.Pmem.state c.args.room.now c.perform.new.room c.in-Some.command c.perform.result c.in-Crashed.keeps c.in-Crashed.is c.perform.ensures.comes),
+)
