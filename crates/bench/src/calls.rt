@@ -11,6 +11,11 @@ use std::time::Instant;
 /// So many commits are stamped before each cycle.
 pub const TOGETHER: u8 = 32;
 
+/// How many cycles and how many reads of a kind are timed.
+pub const CYCLES: u64 = 1_000;
+
+pub const READS_OF_A_KIND: u64 = 1_000_000;
+
 // The number of the first session.
 const FIRST: u8 = 2;
 

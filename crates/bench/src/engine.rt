@@ -1,4 +1,4 @@
-ghost use Rattle.std.specs.Prelude.{IfOk};
+ghost use Rattle.std.specs.Prelude.{IfOk, OnOk};
 ghost use Rattle.pmem.specs.Words.{IsAtRest};
 ghost use Rattle.pmem_file.specs.Traces.{device_of};
 
@@ -10,10 +10,10 @@ use base::geometry::Geometry;
 use base::key::Key;
 use pmem::Pmem;
 use pmem_file::{FileDevice, JournaledPmem, Nowhere};
-use pmem_model::SimPmem;
+use pmem_model::{Operations, SimPmem};
 use recovery::format;
 use room::Room;
-use std::alloc::Global;
+use std::alloc::{AllocError, Global};
 use std::fs::File;
 use std::rt::{Clock, Files};
 use std::thread::Threads;
@@ -40,13 +40,41 @@ pub struct Made {
     pub reading: Duration,
 }
 
-/// A room in whose tables each key has a row. Its device counts the operations from its opening on.
-pub fn load_keys<H: Threads + Sync>(
+/// What the load came to on the modelled device, and what that did from its opening on. Each key has a row before.
+pub fn run_modelled<H: Clock + Threads + Sync>(
     rt: &H,
     alloc: Global,
     load: &Load,
-) -> Result<Room<SimPmem>, Error> {
-    Ok(open(rt, alloc, &image_of_keys(rt, alloc, load)?)?)
+) -> Result<(Made, Operations), Error> {
+    let words = image_of_keys(rt, alloc, load)?;
+    run_image(rt, alloc, words.as_slice(), load)
+}
+
+fn run_image<H: Clock + Threads + Sync>(
+    rt: &H,
+    alloc: Global,
+    words: &[u64],
+    load: &Load,
+) -> Result<(Made, Operations), Error> {
+    let device = SimPmem::from_words(alloc, words)?;
+    let (made, device) = run_opened(rt, alloc, device, load)?;
+    Ok((made, device.operations()))
+}
+
+// The load in a room over the device, and the device after it.
+fn run_opened<H: Clock + Threads + Sync, D: Pmem + Drop + Send + Sync>(
+    rt: &H,
+    alloc: Global,
+    device: D,
+    load: &Load,
+) -> Result<(Made, D), Error>
+    requires at_rest { IsAtRest (D.state device) }
+{
+    let mut room = open(rt, alloc, device)?;
+    match run_load(rt, &mut room, load) {
+        Ok(made) => Ok((made, room.into_device())),
+        Err(error) => Err(error),
+    }
 }
 
 /// The words that a close leaves of a room in whose tables each key has a row.
@@ -55,64 +83,56 @@ pub fn image_of_keys<H: Threads + Sync>(
     alloc: Global,
     load: &Load,
 ) -> Result<Vec<u64>, Error> {
-    let mut room = open(rt, alloc, &formatted(alloc, load)?)?;
-    put_each_key(&mut room, load)?;
-    match room.close() {
-        Ok(device) => Ok(device.image()?),
-        Err((fault, _device)) => Err(Error::from(fault)),
+    let words = zeros(alloc, geometry_of(load)?)?;
+    let device = SimPmem::from_words(alloc, words.as_slice())?;
+    Ok(closed(rt, alloc, device, load)?.image()?)
+}
+
+// The device after the close of a room in whose tables each key has a row.
+fn closed<H: Threads + Sync, D: Pmem + Drop + Send + Sync>(
+    rt: &H,
+    alloc: Global,
+    device: D,
+    load: &Load,
+) -> Result<D, Fault> {
+    let mut room = new_room(rt, alloc, device, load)?;
+    match put_each_key(&mut room, load) {
+        Ok(()) => close(room),
+        Err(fault) => Err(fault),
     }
 }
 
-// The words of an empty image with so many slots.
-fn formatted(alloc: Global, load: &Load) -> Result<Vec<u64>, Error> {
-    let geometry = Geometry::new(load.slots, Geometry::LEAST_PLACES, Geometry::MOST_WINDOW)?;
-    let mut device = SimPmem::from_words(alloc, &vec![in alloc; 0; geometry.words() as usize]?)?;
-    format(&mut device, geometry)?;
-    Ok(device.image()?)
-}
-
-fn open<H: Threads + Sync>(rt: &H, alloc: Global, words: &[u64]) -> Result<Room<SimPmem>, Fault> {
-    let device = SimPmem::from_words(alloc, words)?;
-    match Room::open(rt, alloc, device) {
-        Ok(room) => Ok(room),
+fn close<D: Pmem + Drop>(room: Room<D>) -> Result<D, Fault> {
+    match room.close() {
+        Ok(device) => Ok(device),
         Err((fault, _device)) => Err(fault),
     }
 }
 
-/// The same over a device that keeps neither its history nor its image.
-pub fn load_plain<H: Threads + Sync>(
-    rt: &H,
-    alloc: Global,
-    load: &Load,
-) -> Result<Room<JournaledPmem<Nowhere>>, Error> {
-    let mut room = open_plain(rt, alloc, load)?;
-    put_each_key(&mut room, load)?;
-    Ok(room)
+/// A device for the load that keeps neither its history nor its image.
+pub fn plain_device(alloc: Global, load: &Load) -> Result<JournaledPmem<Nowhere>, Error> {
+    let words = zeros(alloc, geometry_of(load)?)?;
+    Ok(plain(alloc, words)?)
 }
 
-/// The same over a device whose image is kept in the file of this name, which is formatted.
-pub fn load_file<H: Files<File = File> + Threads + Sync>(
+/// A device for the load whose image is kept in the file of this name.
+pub fn file_device<H: Files<File = File>>(
     rt: &H,
     alloc: Global,
-    load: &Load,
     name: &str,
-) -> Result<Room<FileDevice>, Error> {
-    let mut room = open_file(rt, alloc, load, name)?;
-    put_each_key(&mut room, load)?;
-    Ok(room)
+    load: &Load,
+) -> Result<FileDevice, Error> {
+    Ok(FileDevice::open(rt, alloc, name, geometry_of(load)?)?)
 }
 
-// Gives each key a row, by batches of 32.
-fn put_each_key<D: Pmem + Drop>(room: &mut Room<D>, load: &Load) -> Result<(), Fault> {
-    let each = Load {
-        commits: load.keys,
-        batch: 32,
-        ..*load
-    };
-    for cycle in 0..cycles(&each) {
-        commit_batch(room, &each, cycle)?;
-    }
-    Ok(())
+// The layout of an image with so many slots.
+fn geometry_of(load: &Load) -> Result<Geometry, Fault> {
+    Geometry::new(load.slots, Geometry::LEAST_PLACES, Geometry::MOST_WINDOW)
+}
+
+/// The words of an image of this layout before it is formatted.
+pub fn zeros(alloc: Global, geometry: Geometry) -> Result<Vec<u64>, AllocError> {
+    vec![in alloc; 0; geometry.words() as usize]
 }
 
 /// A device of these words that keeps its image nowhere.
@@ -125,38 +145,59 @@ pub fn plain(alloc: Global, words: Vec<u64>) -> Result<JournaledPmem<Nowhere>, F
     }
 }
 
-fn open_plain<H: Threads + Sync>(
+/// A room over the device, which is formatted.
+pub fn new_room<H: Threads + Sync, D: Pmem + Drop + Send + Sync>(
     rt: &H,
     alloc: Global,
+    device: D,
     load: &Load,
-) -> Result<Room<JournaledPmem<Nowhere>>, Error> {
-    let geometry = Geometry::new(load.slots, Geometry::LEAST_PLACES, Geometry::MOST_WINDOW)?;
-    let words = vec![in alloc; 0; geometry.words() as usize]?;
-    let mut device = plain(alloc, words)?;
-    if let Err(fault) = format(&mut device, geometry) {
-        return Err(Error::from(fault));
-    }
-    match Room::open(rt, alloc, device) {
-        Ok(room) => Ok(room),
-        Err((fault, _device)) => Err(Error::from(fault)),
+) -> Result<Room<D>, Fault> {
+    let device = formatted(device, load)?;
+    open(rt, alloc, device)
+}
+
+// The device, of an empty image.
+fn formatted<D: Pmem + Drop>(device: D, load: &Load) -> Result<D, Fault>
+    ensures { IfOk result (λ device. IsAtRest (D.state device)) }
+{
+    let mut device = device;
+    match format_for(&mut device, load) {
+        Ok(()) => Ok(device),
+        Err(fault) => Err(fault),
     }
 }
 
-fn open_file<H: Files<File = File> + Threads + Sync>(
+fn format_for<D: Pmem>(device: &mut D, load: &Load) -> Result<(), Fault>
+    ensures { OnOk result (IsAtRest (D.state device.new)) }
+{
+    format(device, geometry_of(load)?)
+}
+
+// A room over the device.
+fn open<H: Threads + Sync, D: Pmem + Drop + Send + Sync>(
     rt: &H,
     alloc: Global,
-    load: &Load,
-    name: &str,
-) -> Result<Room<FileDevice>, Error> {
-    let geometry = Geometry::new(load.slots, Geometry::LEAST_PLACES, Geometry::MOST_WINDOW)?;
-    let mut device = FileDevice::open(rt, alloc, name, geometry)?;
-    if let Err(fault) = format(&mut device, geometry) {
-        return Err(Error::from(fault));
-    }
+    device: D,
+) -> Result<Room<D>, Fault>
+    requires at_rest { IsAtRest (D.state device) }
+{
     match Room::open(rt, alloc, device) {
         Ok(room) => Ok(room),
-        Err((fault, _device)) => Err(Error::from(fault)),
+        Err((fault, _device)) => Err(fault),
     }
+}
+
+/// Gives each key a row, by batches of 32.
+pub fn put_each_key<D: Pmem + Drop>(room: &mut Room<D>, load: &Load) -> Result<(), Fault> {
+    let each = Load {
+        commits: load.keys,
+        batch: 32,
+        ..*load
+    };
+    for cycle in 0..cycles(&each) {
+        commit_batch(room, &each, cycle)?;
+    }
+    Ok(())
 }
 
 /// Makes all updates, each in a session of its own, and then all reads. The collector makes a round as often as a database
@@ -166,16 +207,8 @@ pub fn run_load<H: Clock, D: Pmem + Drop>(
     room: &mut Room<D>,
     load: &Load,
 ) -> Result<Made, Error> {
-    let start = Instant::now(rt)?;
-    let mut ticks: u64 = 0;
-    for cycle in 0..cycles(load) {
-        ticks = ticks.saturating_add(commit_batch(room, load, cycle)?);
-        collect_if_due(room, load, cycle)?;
-    }
-    let committing = start.elapsed(rt)?;
-    let start = Instant::now(rt)?;
-    let rows = read_rows(room, load)?;
-    let reading = start.elapsed(rt)?;
+    let (ticks, committing) = time_commits(rt, room, load)?;
+    let (rows, reading) = time_reads(rt, room, load)?;
     Ok(Made {
         cycles: cycles(load),
         ticks,
@@ -183,6 +216,37 @@ pub fn run_load<H: Clock, D: Pmem + Drop>(
         committing,
         reading,
     })
+}
+
+// How many ticks the updates took, and how long.
+fn time_commits<H: Clock, D: Pmem + Drop>(
+    rt: &H,
+    room: &mut Room<D>,
+    load: &Load,
+) -> Result<(u64, Duration), Error> {
+    let start = Instant::now(rt)?;
+    let ticks = commit_all(room, load)?;
+    Ok((ticks, start.elapsed(rt)?))
+}
+
+fn commit_all<D: Pmem + Drop>(room: &mut Room<D>, load: &Load) -> Result<u64, Fault> {
+    let mut ticks: u64 = 0;
+    for cycle in 0..cycles(load) {
+        ticks = ticks.saturating_add(commit_batch(room, load, cycle)?);
+        collect_if_due(room, load, cycle)?;
+    }
+    Ok(ticks)
+}
+
+// How many rows the reads found, and how long they took.
+fn time_reads<H: Clock, D: Pmem + Drop>(
+    rt: &H,
+    room: &mut Room<D>,
+    load: &Load,
+) -> Result<(u64, Duration), Error> {
+    let start = Instant::now(rt)?;
+    let rows = read_rows(room, load)?;
+    Ok((rows, start.elapsed(rt)?))
 }
 
 /// Makes the round that sweeps, and then so many rounds more, of a room whose slots are free.
@@ -202,11 +266,16 @@ pub fn run_together<H: Clock, D: Pmem + Drop>(
     load: &Load,
 ) -> Result<Duration, Error> {
     let start = Instant::now(rt)?;
+    commit_all_together(room, load)?;
+    Ok(start.elapsed(rt)?)
+}
+
+fn commit_all_together<D: Pmem + Drop>(room: &mut Room<D>, load: &Load) -> Result<(), Fault> {
     for cycle in 0..cycles(load) {
         commit_together(room, load, cycle)?;
         collect_if_due(room, load, cycle)?;
     }
-    Ok(start.elapsed(rt)?)
+    Ok(())
 }
 
 fn cycles(load: &Load) -> u64 {

@@ -1,5 +1,5 @@
 use crate::judge::{Counts, opened_rows};
-use crate::life::{formatted, opened};
+use crate::life::{formatted, leave, opened};
 use asks::Ask::{Begin, End, Put};
 use asks::{Life, TWO_LINES_COVERED, steps};
 use base::fault::Fault;
@@ -162,6 +162,14 @@ const OF_WIDE_COMMIT: &[(Changes, Answer)] = &[
     (&[(88, 1), (90, 7), (91, 131_073), (92, 25_185)], Damaged(3)),
 ];
 
+// The version of a fresh image, its first words, and changes of it.
+const TABLES: &[(u64, Changes, &[(Changes, Answer)])] = &[
+    (2, &[], OF_FRESH),
+    (2, FIRST_COMMIT, OF_FIRST_COMMIT),
+    (2, LONG_COMMITS, OF_LONG_COMMITS),
+    (3, WIDE_COMMIT, OF_WIDE_COMMIT),
+];
+
 // An update of key 7, or its first row.
 const A_COMMIT: Life = &[&[Begin, Put(2, 7, 9)], TWO_LINES_COVERED, &[End(2)]];
 
@@ -174,15 +182,12 @@ fn change(words: &mut [u64], changes: Changes) {
 }
 
 /// Each change of the tables, by a check and by an opening.
-pub fn change_each<R: Threads + Sync>(
-    rt: &R,
-    alloc: Global,
-    counts: &mut Counts,
-) -> Result<(), Fault> {
-    change_table(rt, alloc, (2, &[]), OF_FRESH, counts)?;
-    change_table(rt, alloc, (2, FIRST_COMMIT), OF_FIRST_COMMIT, counts)?;
-    change_table(rt, alloc, (2, LONG_COMMITS), OF_LONG_COMMITS, counts)?;
-    change_table(rt, alloc, (3, WIDE_COMMIT), OF_WIDE_COMMIT, counts)
+pub fn change_each<R: Threads + Sync>(rt: &R, alloc: Global) -> Result<Counts, Fault> {
+    let mut counts = Counts::none();
+    for (version, first, table) in TABLES {
+        change_table(rt, alloc, (*version, first), table, &mut counts)?;
+    }
+    Ok(counts)
 }
 
 // Each change of a table, on a fresh image of this version with these words.
@@ -227,11 +232,8 @@ fn found_beside(checked: &[(Key, Row)], opened: Result<(u64, Vec<(Key, Row)>), F
 }
 
 /// Each shorter part of the fresh image.
-pub fn cut_each<R: Threads + Sync>(
-    rt: &R,
-    alloc: Global,
-    counts: &mut Counts,
-) -> Result<(), Fault> {
+pub fn cut_each<R: Threads + Sync>(rt: &R, alloc: Global) -> Result<Counts, Fault> {
+    let mut counts = Counts::none();
     let words = formatted(alloc, 2, 4)?;
     for length in 0..104 {
         let fault = if length < 8 {
@@ -243,7 +245,7 @@ pub fn cut_each<R: Threads + Sync>(
         counts.images = counts.images.saturating_add(1);
         counts.expect(found == (Some(fault), Some(fault), 0));
     }
-    Ok(())
+    Ok(counts)
 }
 
 // A value that an image may have, or that is just out of range, or any.
@@ -336,12 +338,23 @@ fn used<R: Threads + Sync>(rt: &R, alloc: Global, words: &[u64]) -> Result<bool,
 // The room once it has made the steps, none of which is refused.
 fn committed(room: Room<SimPmem>, steps: &[Step]) -> Result<Room<SimPmem>, Fault> {
     let mut room = room;
-    for step in steps {
-        if let Reply::Refused(fault) = room.step(*step) {
-            return Err(fault);
+    match refusal_of(&mut room, steps) {
+        None => Ok(room),
+        Some(fault) => {
+            leave(room);
+            Err(fault)
         }
     }
-    Ok(room)
+}
+
+// Makes the steps up to the one that is refused. Why it is, if one is.
+fn refusal_of(room: &mut Room<SimPmem>, steps: &[Step]) -> Option<Fault> {
+    for step in steps {
+        if let Reply::Refused(fault) = room.step(*step) {
+            return Some(fault);
+        }
+    }
+    None
 }
 
 fn closed_and_opened<R: Threads + Sync>(
@@ -349,12 +362,26 @@ fn closed_and_opened<R: Threads + Sync>(
     alloc: Global,
     room: Room<SimPmem>,
 ) -> Result<bool, Fault> {
-    let rows = room.tables()?;
+    let rows = room.tables();
+    let words = closed_words(room);
+    are_kept(rt, alloc, &rows?, &words?)
+}
+
+// Does an opening of the words find these rows, and that of the commit among them?
+fn are_kept<R: Threads + Sync>(
+    rt: &R,
+    alloc: Global,
+    rows: &[(Key, Row)],
+    words: &[u64],
+) -> Result<bool, Fault> {
+    let (_, again) = opened_rows(rt, alloc, words)?;
+    Ok(has_commit(rows) && rows == again.as_slice())
+}
+
+// The words that a close leaves.
+fn closed_words(room: Room<SimPmem>) -> Result<Vec<u64>, Fault> {
     match room.close() {
-        Ok(device) => {
-            let (_, again) = opened_rows(rt, alloc, &device.image()?)?;
-            Ok(has_commit(&rows) && rows.as_slice() == again.as_slice())
-        }
+        Ok(device) => device.image(),
         Err((fault, _device)) => Err(fault),
     }
 }

@@ -1,10 +1,11 @@
-use crate::life::opened;
+use crate::life::{leave, opened};
 use asks::Table;
 use base::fault::Fault;
 use base::key::Key;
 use base::row::Row;
 use image_check::check;
 use pmem_model::SimPmem;
+use room::Room;
 use std::alloc::Global;
 use std::thread::Threads;
 
@@ -90,9 +91,18 @@ pub fn opened_rows<R: Threads + Sync>(
     words: &[u64],
 ) -> Result<(u64, Vec<(Key, Row)>), Fault> {
     match opened(rt, alloc, SimPmem::from_words(alloc, words)?) {
-        Ok(room) => Ok((room.status().gate, room.tables()?)),
+        Ok(room) => {
+            let shown = gate_and_rows(&room);
+            leave(room);
+            shown
+        }
         Err((fault, _device)) => Err(fault),
     }
+}
+
+fn gate_and_rows(room: &Room<SimPmem>) -> Result<(u64, Vec<(Key, Row)>), Fault> {
+    let rows = room.tables()?;
+    Ok((room.status().gate, rows))
 }
 
 fn is_one_of(rows: &[(Key, Row)], tables: &[Table]) -> bool {

@@ -49,6 +49,9 @@ pub fn opened<R: Threads + Sync>(
     }
 }
 
+/// Lets a room go: in one place, since each function that drops a room itself is long to prove.
+pub fn leave(_room: Room<SimPmem>) {}
+
 /// Opens a device with these words of which so many operations succeed, makes the steps up to the one that is refused, and
 /// closes the room where that is asked.
 pub fn live<R: Threads + Sync>(
@@ -58,14 +61,8 @@ pub fn live<R: Threads + Sync>(
     asked: (&[Step], bool),
     failing: Option<Failing>,
 ) -> Result<Left, Fault> {
-    let mut device = SimPmem::from_words(alloc, words)?;
-    match failing {
-        Some(Failing::After(fuse)) => device.set_fuse(Some(fuse)),
-        Some(Failing::Once(fault)) => device.set_fault(Some(fault)),
-        None => {}
-    }
     let (steps, closes) = asked;
-    match opened(rt, alloc, device) {
+    match opened(rt, alloc, failing_device(alloc, words, failing)?) {
         Ok(room) => Ok(run(room, steps, closes)),
         Err((Fault::Device, device)) => Ok(Left {
             device,
@@ -76,32 +73,51 @@ pub fn live<R: Threads + Sync>(
     }
 }
 
-// Makes the steps up to the one that is refused, and that one again. The device then failed, or all was refused nothing.
+fn failing_device(
+    alloc: Global,
+    words: &[u64],
+    failing: Option<Failing>,
+) -> Result<SimPmem, Fault> {
+    let mut device = SimPmem::from_words(alloc, words)?;
+    match failing {
+        Some(Failing::After(fuse)) => device.set_fuse(Some(fuse)),
+        Some(Failing::Once(fault)) => device.set_fault(Some(fault)),
+        None => {}
+    }
+    Ok(device)
+}
+
+// Makes the steps up to the one that is refused. Without one the room is closed where that is asked.
 fn run(room: Room<SimPmem>, steps: &[Step], closes: bool) -> Left {
     let mut room = room;
+    match make_each(&mut room, steps) {
+        (acknowledged, None) if closes => closed(room, acknowledged),
+        (acknowledged, refused) => Left {
+            device: room.into_device(),
+            acknowledged,
+            failed: refused == Some(Fault::Device),
+        },
+    }
+}
+
+// How many records were acknowledged, and the fault of the step that was refused, if one was. That one is made again: where it
+// doesn't find that the device failed, the fault is another one.
+fn make_each(room: &mut Room<SimPmem>, steps: &[Step]) -> (usize, Option<Fault>) {
     let mut acknowledged: usize = 0;
     for step in steps {
         match room.step(*step) {
             Reply::Covered(_) => acknowledged = acknowledged.saturating_add(1),
-            Reply::Refused(fault) => {
-                let again = room.step(*step);
-                let failed = matches!(again, Reply::Refused(Fault::Failed));
-                return Left {
-                    device: room.into_device(),
-                    acknowledged,
-                    failed: fault == Fault::Device && failed,
-                };
-            }
+            Reply::Refused(fault) => return (acknowledged, Some(fault_again(room, *step, fault))),
             _ => {}
         }
     }
-    if closes {
-        return closed(room, acknowledged);
-    }
-    Left {
-        device: room.into_device(),
-        acknowledged,
-        failed: false,
+    (acknowledged, None)
+}
+
+fn fault_again(room: &mut Room<SimPmem>, step: Step, fault: Fault) -> Fault {
+    match room.step(step) {
+        Reply::Refused(Fault::Failed) => fault,
+        _ => Fault::WrongState,
     }
 }
 

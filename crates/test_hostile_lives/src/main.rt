@@ -33,11 +33,19 @@ fn main(rt: HostRuntime) -> Result<(), Error> {
     let alloc = rt.alloc();
     let words: Vec<String> = env::args(&rt)?.skip(1).collect(alloc)?;
     let words: Vec<&str> = words.iter().map(|word| word.as_str()).collect(alloc)?;
-    match words.as_slice() {
-        [] => run_all(&rt, alloc),
-        ["refused", "board"] => publish(&rt, alloc),
-        ["refused", name] => live_named(&rt, alloc, name, false),
-        ["refused", name, "reserved"] => live_named(&rt, alloc, name, true),
+    run(&rt, alloc, words.as_slice())
+}
+
+fn run<H: Print + Threads + Wait + Sync>(
+    rt: &H,
+    alloc: Global,
+    words: &[&str],
+) -> Result<(), Error> {
+    match words {
+        [] => run_all(rt, alloc),
+        ["refused", "board"] => publish(rt, alloc),
+        ["refused", name] => live_named(rt, alloc, name, false),
+        ["refused", name, "reserved"] => live_named(rt, alloc, name, true),
         _ => bail!("the words are none, or refused NAME [reserved]"),
     }
 }
@@ -52,14 +60,14 @@ fn run_all<H: Print + Threads + Wait + Sync>(rt: &H, alloc: Global) -> Result<()
 }
 
 fn run_images<H: Print + Threads + Sync>(rt: &H, alloc: Global) -> Result<(), Error> {
-    let mut counts = Counts::none();
-    change_each(rt, alloc, &mut counts)?;
-    print_images(rt, "changed words", &counts)?;
-    let mut counts = Counts::none();
-    cut_each(rt, alloc, &mut counts)?;
-    print_images(rt, "cut images", &counts)?;
+    print_images(rt, "changed words", &change_each(rt, alloc)?)?;
+    print_images(rt, "cut images", &cut_each(rt, alloc)?)?;
     print_images(rt, "changes at random", &at_random(rt, alloc)?)?;
-    let (counts, sound) = fill_at_random(rt, alloc, 2_000)?;
+    print_filled(rt, fill_at_random(rt, alloc, 2_000)?)
+}
+
+fn print_filled<H: Print>(rt: &H, filled: (Counts, u64)) -> Result<(), Error> {
+    let (counts, sound) = filled;
     println!(rt;
         "slots at random: images {} sound {sound} wrong {}",
         counts.images, counts.wrong

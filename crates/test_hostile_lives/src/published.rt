@@ -67,19 +67,25 @@ fn publish_two<J: Naming, H: Print + Wait>(
     readers: Vec<Reader<J>>,
 ) -> Result<(), Error> {
     let (mut board, mut readers) = (board, readers);
-    let Some(reader) = readers.first_mut() else {
-        return Ok(());
-    };
-    publish_next(rt, alloc, &mut board, 1)?;
-    say_token(rt, &board)?;
-    reader.learn(board.token());
-    read_all(rt, reader)?;
-    prune(rt, &mut board)?;
-    reader.learn(board.token());
-    read_all(rt, reader)?;
-    publish_next(rt, alloc, &mut board, 2)?;
-    reader.learn(board.token());
-    read_all(rt, reader)
+    match readers.first_mut() {
+        Some(reader) => publish_both(rt, alloc, &mut board, reader),
+        None => Ok(()),
+    }
+}
+
+fn publish_both<J: Naming, H: Print + Wait>(
+    rt: &H,
+    alloc: Global,
+    board: &mut Board<J, &H>,
+    reader: &mut Reader<J>,
+) -> Result<(), Error> {
+    publish_next(rt, alloc, board, 1)?;
+    say_token(rt, board)?;
+    read_all(rt, board, reader)?;
+    prune(rt, board)?;
+    read_all(rt, board, reader)?;
+    publish_next(rt, alloc, board, 2)?;
+    read_all(rt, board, reader)
 }
 
 fn say_token<J: Naming, H: Print + Wait>(rt: &H, board: &Board<J, &H>) -> Result<(), Error> {
@@ -93,12 +99,23 @@ fn say_token<J: Naming, H: Print + Wait>(rt: &H, board: &Board<J, &H>) -> Result
     Ok(())
 }
 
-fn read_all<J: Naming, H: Print>(rt: &H, reader: &mut Reader<J>) -> Result<(), Error> {
+// The reader learns of what is published, and reads at each stamp.
+fn read_all<J: Naming, H: Print + Wait>(
+    rt: &H,
+    board: &Board<J, &H>,
+    reader: &mut Reader<J>,
+) -> Result<(), Error> {
+    reader.learn(board.token());
     for stamp in 1..5 {
-        match reader.read(stamp, KEY) {
-            Ok(Some(row)) => println!(rt; "read {stamp}: row {:?}", row.as_bytes())?,
-            other => println!(rt; "read {stamp}: {other:?}")?,
-        }
+        say_read(rt, stamp, reader.read(stamp, KEY))?;
+    }
+    Ok(())
+}
+
+fn say_read<H: Print>(rt: &H, stamp: u64, found: Result<Option<Row>, Fault>) -> Result<(), Error> {
+    match found {
+        Ok(Some(row)) => println!(rt; "read {stamp}: row {:?}", row.as_bytes())?,
+        other => println!(rt; "read {stamp}: {other:?}")?,
     }
     Ok(())
 }

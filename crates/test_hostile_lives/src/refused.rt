@@ -1,15 +1,15 @@
 //! Runs of lives that say each reply. Where an allocation is refused, by who runs the program, the call is made once more.
-use crate::life::{crashed_words, fresh_words, opened};
+use crate::life::{crashed_words, fresh_words, leave, opened};
 use crate::runs::Run;
 use anyhow::Error;
-use asks::{Ask, Life, count_of, step_of};
+use asks::{Ask, Life, Past, count_of, step_of};
 use base::fault::Fault;
 use base::geometry::Geometry;
 use base::key::Key;
 use base::row::Row;
 use base::step::{Reply, Stage, Step};
 use pmem_model::{Choice, SimPmem};
-use room::Room;
+use room::{Room, Status};
 use std::alloc::Global;
 use std::thread::Threads;
 
@@ -27,17 +27,44 @@ pub fn live_run<H: Print + Threads + Sync>(
     reserved: bool,
 ) -> Result<(), Error> {
     println!(rt; "run {}", run.name)?;
-    let mut words = fresh_words(alloc, Geometry::new(run.slots, 2, run.window)?)?;
-    for (life, newest) in run.lives {
+    let fresh = fresh_words(alloc, Geometry::new(run.slots, 2, run.window)?)?;
+    let words = live_each(rt, alloc, fresh, run.lives, reserved)?;
+    let device = device_of(alloc, &words, reserved)?;
+    let (_device, _failed) = live_once(rt, alloc, device, &[])?;
+    Ok(())
+}
+
+// The words that the lives leave, up to the one in which the device fails.
+fn live_each<H: Print + Threads + Sync>(
+    rt: &H,
+    alloc: Global,
+    words: Vec<u64>,
+    lives: &[Past],
+    reserved: bool,
+) -> Result<Vec<u64>, Error> {
+    let mut words = words;
+    for (life, newest) in lives {
         let device = device_of(alloc, &words, reserved)?;
-        let (device, failed) = live_once(rt, alloc, device, life)?;
-        words = crashed_words(&device, &choice_of(*newest))?;
+        let (left, failed) = live_and_crash(rt, alloc, device, life, *newest)?;
+        words = left;
         if failed {
             break;
         }
     }
-    let (_device, _failed) = live_once(rt, alloc, device_of(alloc, &words, reserved)?, &[])?;
-    Ok(())
+    Ok(words)
+}
+
+// The words that a life leaves, and whether its device failed.
+fn live_and_crash<H: Print + Threads + Sync>(
+    rt: &H,
+    alloc: Global,
+    device: SimPmem,
+    life: Life,
+    newest: bool,
+) -> Result<(Vec<u64>, bool), Error> {
+    let (device, failed) = live_once(rt, alloc, device, life)?;
+    let words = crashed_words(&device, &choice_of(newest))?;
+    Ok((words, failed))
 }
 
 fn choice_of(newest: bool) -> Choice {
@@ -64,17 +91,31 @@ fn live_once<H: Print + Threads + Sync>(
     life: Life,
 ) -> Result<(SimPmem, bool), Error> {
     match open_twice(rt, alloc, device)? {
-        Ok(room) => {
-            let mut room = room;
-            say_opened(rt, &room)?;
-            let failed = make_each(rt, &mut room, life)?;
-            Ok((room.into_device(), failed))
-        }
+        Ok(room) => live_in(rt, room, life),
         Err((fault, device)) => {
             println!(rt; "opening: {fault:?}")?;
             Ok((device, true))
         }
     }
+}
+
+// A life in this room. What is left of its device, and whether that failed.
+fn live_in<H: Print>(rt: &H, room: Room<SimPmem>, life: Life) -> Result<(SimPmem, bool), Error> {
+    let mut room = room;
+    match say_and_make(rt, &mut room, life) {
+        Ok(failed) => Ok((room.into_device(), failed)),
+        Err(error) => {
+            leave(room);
+            Err(error)
+        }
+    }
+}
+
+// Says what is there, and makes what is asked for: did the device fail?
+fn say_and_make<H: Print>(rt: &H, room: &mut Room<SimPmem>, life: Life) -> Result<bool, Error> {
+    say_status(rt, &room.status())?;
+    say_tables(rt, room)?;
+    make_each(rt, room, life)
 }
 
 // Opens the device, and where memory is wanting once more.
@@ -92,8 +133,7 @@ fn open_twice<H: Print + Threads + Sync>(
     }
 }
 
-fn say_opened<H: Print>(rt: &H, room: &Room<SimPmem>) -> Result<(), Error> {
-    let status = room.status();
+fn say_status<H: Print>(rt: &H, status: &Status) -> Result<(), Error> {
     println!(rt;
         "opened gate {} p {} d {} next {} gaps {}",
         status.gate,
@@ -102,6 +142,11 @@ fn say_opened<H: Print>(rt: &H, room: &Room<SimPmem>) -> Result<(), Error> {
         status.next,
         status.gaps.as_slice().len()
     )?;
+    Ok(())
+}
+
+// Says the rows of all tables. Where memory is wanting they are asked for once more.
+fn say_tables<H: Print>(rt: &H, room: &Room<SimPmem>) -> Result<(), Error> {
     match room.tables() {
         Ok(rows) => say_rows(rt, &rows),
         Err(fault) => {

@@ -27,12 +27,22 @@ pub fn stop_each<R: Threads + Sync>(
     let words = words_before(rt, alloc, story)?;
     let steps = steps(alloc, story.life)?;
     for made in 0..story.operations.saturating_add(1) {
-        let failing = Failing::After(made);
-        stop_once(rt, alloc, told, (&words, &steps), (failing, made), counts)?;
-        let failing = Failing::Once(made);
-        stop_once(rt, alloc, told, (&words, &steps), (failing, made), counts)?;
+        stop_at(rt, alloc, told, (&words, &steps), made, counts)?;
     }
     Ok(())
+}
+
+// Lets the life stop after so many operations, and the one after them fail.
+fn stop_at<R: Threads + Sync>(
+    rt: &R,
+    alloc: Global,
+    told: &Told,
+    life: (&[u64], &[Step]),
+    made: u64,
+    counts: &mut Counts,
+) -> Result<(), Fault> {
+    stop_once(rt, alloc, told, life, (Failing::After(made), made), counts)?;
+    stop_once(rt, alloc, told, life, (Failing::Once(made), made), counts)
 }
 
 // Lets the life stop, which makes so many operations, and judges what it may leave.
@@ -44,7 +54,7 @@ fn stop_once<R: Threads + Sync>(
     stop: (Failing, u64),
     counts: &mut Counts,
 ) -> Result<(), Fault> {
-    let (story, reopens, tables) = told;
+    let (story, _, tables) = told;
     let (words, steps) = life;
     let (failing, made) = stop;
     let left = live(rt, alloc, words, (steps, story.closes), Some(failing))?;
@@ -52,14 +62,35 @@ fn stop_once<R: Threads + Sync>(
     counts.expect(operations(&left.device) == made);
     counts.expect(left.failed == (made < story.operations));
     let allowed = allowed_after(tables, story.ruling(made), left.acknowledged);
-    let images = images_of(alloc, &left.device)?;
-    for words in &images {
-        judge(rt, alloc, words, &allowed, counts);
+    judge_stop(rt, alloc, (told, made), &left.device, &allowed, counts)
+}
+
+// Judges what a stop after so many operations may leave, and the openings of it that are stopped too.
+fn judge_stop<R: Threads + Sync>(
+    rt: &R,
+    alloc: Global,
+    stop: (&Told, u64),
+    device: &SimPmem,
+    allowed: &Allowed,
+    counts: &mut Counts,
+) -> Result<(), Fault> {
+    let ((story, reopens, _), made) = stop;
+    let images = images_of(alloc, device)?;
+    judge_each(rt, alloc, &images, allowed, counts);
+    let again = opened_again(alloc, *reopens, made, device, images)?;
+    open_all(rt, alloc, &again, story.opening(), allowed, counts)
+}
+
+fn judge_each<R: Threads + Sync>(
+    rt: &R,
+    alloc: Global,
+    images: &[Vec<u64>],
+    allowed: &Allowed,
+    counts: &mut Counts,
+) {
+    for words in images {
+        judge(rt, alloc, words, allowed, counts);
     }
-    for words in &opened_again(alloc, *reopens, made, &left.device, images)? {
-        open_each(rt, alloc, words, story.opening(), &allowed, counts)?;
-    }
-    Ok(())
 }
 
 // The images of which the opening is stopped too: each one of these where the story asks for that, or two, or none.
@@ -71,14 +102,12 @@ fn opened_again(
     images: Vec<Vec<u64>>,
 ) -> Result<Vec<Vec<u64>>, Fault> {
     if reopens {
-        return distinct(alloc, images);
+        distinct(alloc, images)
+    } else if made % REOPENED == 0 {
+        two_images(alloc, device)
+    } else {
+        Ok(Vec::new(alloc))
     }
-    let mut two = Vec::new(alloc);
-    if made % REOPENED == 0 {
-        push(&mut two, crashed_words(device, &Choice::Oldest)?)?;
-        push(&mut two, crashed_words(device, &Choice::Newest)?)?;
-    }
-    Ok(two)
 }
 
 // Each image once.
@@ -90,6 +119,18 @@ fn distinct(alloc: Global, images: Vec<Vec<u64>>) -> Result<Vec<Vec<u64>>, Fault
         }
     }
     Ok(found)
+}
+
+// The image of the oldest values, and that of the newest.
+fn two_images(alloc: Global, device: &SimPmem) -> Result<Vec<Vec<u64>>, Fault> {
+    let mut two = Vec::new(alloc);
+    push_image(&mut two, device, &Choice::Oldest)?;
+    push_image(&mut two, device, &Choice::Newest)?;
+    Ok(two)
+}
+
+fn push_image(images: &mut Vec<Vec<u64>>, device: &SimPmem, choice: &Choice) -> Result<(), Fault> {
+    push(images, crashed_words(device, choice)?)
 }
 
 fn push<T: Drop>(items: &mut Vec<T>, item: T) -> Result<(), Fault> {
@@ -111,7 +152,21 @@ fn allowed_after(tables: &[Table], ruling: (usize, usize), acknowledged: usize) 
     }
 }
 
-// Stops an opening of the image after each number of operations, and judges what is left. Without a sweep it makes 39.
+fn open_all<R: Threads + Sync>(
+    rt: &R,
+    alloc: Global,
+    images: &[Vec<u64>],
+    most: u64,
+    allowed: &Allowed,
+    counts: &mut Counts,
+) -> Result<(), Fault> {
+    for words in images {
+        open_each(rt, alloc, words, most, allowed, counts)?;
+    }
+    Ok(())
+}
+
+// Stops an opening of the image after each number of operations, and judges what is left.
 fn open_each<R: Threads + Sync>(
     rt: &R,
     alloc: Global,
@@ -120,18 +175,45 @@ fn open_each<R: Threads + Sync>(
     allowed: &Allowed,
     counts: &mut Counts,
 ) -> Result<(), Fault> {
+    for fuse in 0..opening_of(rt, alloc, words, most, counts)? {
+        open_once(rt, alloc, words, fuse, allowed, counts)?;
+    }
+    Ok(())
+}
+
+// How many operations an opening of the image makes. Without a sweep it makes 39.
+fn opening_of<R: Threads + Sync>(
+    rt: &R,
+    alloc: Global,
+    words: &[u64],
+    most: u64,
+    counts: &mut Counts,
+) -> Result<u64, Fault> {
     let whole = live(rt, alloc, words, (&[], false), None)?;
     let made = operations(&whole.device);
     counts.expect(!whole.failed && 39 <= made && made <= most);
-    for fuse in 0..made {
-        let left = live(rt, alloc, words, (&[], false), Some(Failing::After(fuse)))?;
-        counts.openings = counts.openings.saturating_add(1);
-        counts.expect(left.failed && operations(&left.device) == fuse);
-        let oldest = crashed_words(&left.device, &Choice::Oldest)?;
-        judge(rt, alloc, &oldest, allowed, counts);
-        let newest = crashed_words(&left.device, &Choice::Newest)?;
-        judge(rt, alloc, &newest, allowed, counts);
-    }
+    Ok(made)
+}
+
+// Stops an opening of the image after so many operations, and judges what is left.
+fn open_once<R: Threads + Sync>(
+    rt: &R,
+    alloc: Global,
+    words: &[u64],
+    fuse: u64,
+    allowed: &Allowed,
+    counts: &mut Counts,
+) -> Result<(), Fault> {
+    let left = live(rt, alloc, words, (&[], false), Some(Failing::After(fuse)))?;
+    counts.openings = counts.openings.saturating_add(1);
+    counts.expect(left.failed && operations(&left.device) == fuse);
+    judge_each(
+        rt,
+        alloc,
+        &two_images(alloc, &left.device)?,
+        allowed,
+        counts,
+    );
     Ok(())
 }
 
@@ -139,12 +221,17 @@ fn open_each<R: Threads + Sync>(
 fn images_of(alloc: Global, device: &SimPmem) -> Result<Vec<Vec<u64>>, Fault> {
     let several = with_several(alloc, device)?;
     if several.len() > MOST_WORDS {
-        return images_apart(alloc, device, &several);
+        images_apart(alloc, device, &several)
+    } else {
+        all_images(alloc, device, &several)
     }
+}
+
+fn all_images(alloc: Global, device: &SimPmem, several: &[usize]) -> Result<Vec<Vec<u64>>, Fault> {
     let mut images = Vec::new(alloc);
-    for number in 0..choices(device, &several) {
-        let choice = numbered(alloc, device, &several, number)?;
-        push(&mut images, crashed_words(device, &choice)?)?;
+    for number in 0..choices(device, several) {
+        let choice = numbered(alloc, device, several, number)?;
+        push_image(&mut images, device, &choice)?;
     }
     Ok(images)
 }
@@ -155,16 +242,22 @@ fn images_apart(
     device: &SimPmem,
     several: &[usize],
 ) -> Result<Vec<Vec<u64>>, Fault> {
-    let mut images = Vec::new(alloc);
-    push(&mut images, crashed_words(device, &Choice::Oldest)?)?;
-    push(&mut images, crashed_words(device, &Choice::Newest)?)?;
+    let mut images = two_images(alloc, device)?;
     for word in several {
-        let newest = apart(alloc, device, *word, true)?;
-        push(&mut images, crashed_words(device, &newest)?)?;
-        let oldest = apart(alloc, device, *word, false)?;
-        push(&mut images, crashed_words(device, &oldest)?)?;
+        push_apart(alloc, &mut images, device, *word)?;
     }
     Ok(images)
+}
+
+// The images of which this word alone is the newest, and the oldest.
+fn push_apart(
+    alloc: Global,
+    images: &mut Vec<Vec<u64>>,
+    device: &SimPmem,
+    word: usize,
+) -> Result<(), Fault> {
+    push_image(images, device, &apart(alloc, device, word, true)?)?;
+    push_image(images, device, &apart(alloc, device, word, false)?)
 }
 
 // The words with several survivors.

@@ -1,13 +1,15 @@
 use crate::chance::Chance;
 use crate::counts::Counts;
-use crate::devices::{any_choice, formatted, opened};
-use crate::model::Model;
+use crate::devices::{
+    closed, crashed, formatted, gate_of, leave, left_by_opening, reopened, room_of,
+};
+use crate::model::{Model, Tables};
 use crate::slots::KEYS;
 use anyhow::{Error, bail};
 use base::fault::Fault;
 use base::key::Key;
 use base::step::{Note, Step};
-use pmem_model::{Choice, SimPmem};
+use pmem_model::SimPmem;
 use room::Room;
 use std::alloc::Global;
 use std::thread::Threads;
@@ -86,12 +88,25 @@ pub fn live_all<R: Threads + Sync>(
     let (mut device, geometry) = formatted(alloc, version)?;
     let mut model = Model::new(alloc, geometry);
     for _ in 0..LIVES {
-        device = stopped_openings(rt, alloc, device, &mut model, &mut chance, counts)?;
-        device = next_life(rt, alloc, device, &mut model, &mut chance, counts)?;
-        assert_opening_agrees(rt, alloc, &device, &model)?;
-        counts.lives = counts.lives.saturating_add(1);
+        device = live_once(rt, alloc, device, &mut model, &mut chance, counts)?;
     }
     Ok(())
+}
+
+// Openings that stop, and a life, after which an opening agrees with the model.
+fn live_once<R: Threads + Sync>(
+    rt: &R,
+    alloc: Global,
+    device: SimPmem,
+    model: &mut Model,
+    chance: &mut Chance,
+    counts: &mut Counts,
+) -> Result<SimPmem, Error> {
+    let device = stopped_openings(rt, alloc, device, model, chance, counts)?;
+    let device = next_life(rt, alloc, device, model, chance, counts)?;
+    assert_opening_agrees(rt, alloc, &device, model)?;
+    counts.lives = counts.lives.saturating_add(1);
+    Ok(device)
 }
 
 // Openings that stop, and a crash after each: at most three, one after the other.
@@ -102,14 +117,11 @@ fn stopped_openings<R: Threads + Sync>(
     model: &mut Model,
     chance: &mut Chance,
     counts: &mut Counts,
-) -> Result<SimPmem, Error> {
+) -> Result<SimPmem, Fault> {
     let mut device = device;
     for _ in 0..chance.below(4) {
-        device = stopped_opening(rt, alloc, device, model, chance)?;
-        let gate = gate_of(rt, alloc, &device)?;
-        if model.numbers().0 < gate {
-            model.stop(gate)?;
-        }
+        device = stopped_opening(rt, alloc, device, chance)?;
+        follow_opening(rt, alloc, &device, model)?;
         counts.stops = counts.stops.saturating_add(1);
     }
     Ok(device)
@@ -120,93 +132,23 @@ fn stopped_opening<R: Threads + Sync>(
     rt: &R,
     alloc: Global,
     device: SimPmem,
-    model: &Model,
     chance: &mut Chance,
-) -> Result<SimPmem, Error> {
-    let mut device = device;
-    device.set_fuse(Some(chance.below(MOST_IN_AN_OPENING as u32)));
-    let choice = any_choice(alloc, chance, model.geometry().words())?;
-    let left = match opened(rt, alloc, device) {
-        Ok(room) => room.into_device(),
-        Err((Fault::Device, device)) => device,
-        Err((fault, _device)) => bail!("{fault}"),
-    };
-    Ok(left.crash(&choice)?)
+) -> Result<SimPmem, Fault> {
+    let fuse = chance.below(MOST_IN_AN_OPENING as u32);
+    let left = left_by_opening(rt, alloc, device, fuse)?;
+    crashed(alloc, left, chance)
 }
 
-// Makes steps at random up to the first that finds the device failing. One session stamps seldom, if it is there, so that its
-// commits stay long.
-fn live(
-    room: &mut Room<SimPmem>,
+// The model is stopped too where the gate of the stopped opening survived.
+fn follow_opening<R: Threads + Sync>(
+    rt: &R,
+    alloc: Global,
+    device: &SimPmem,
     model: &mut Model,
-    chance: &mut Chance,
-    counts: &mut Counts,
-) -> Result<(), Error> {
-    let slow = 2 + chance.below(6) as u8;
-    for _ in 0..STEPS {
-        let (step, count) = any_step(chance, model)?;
-        if step == Step::Begin && model.is_full() {
-            continue;
-        }
-        if step == (Step::Stamp { session: slow }) && chance.below(16) > 0 {
-            continue;
-        }
-        if !makes(room, model, step, count, counts)? {
-            return Ok(());
-        }
-    }
-    Ok(())
-}
-
-// Makes the step so often. Did the device work each time?
-fn makes(
-    room: &mut Room<SimPmem>,
-    model: &mut Model,
-    step: Step,
-    count: u64,
-    counts: &mut Counts,
-) -> Result<bool, Error> {
-    for _ in 0..count {
-        let found = noted(room, step);
-        if found == Note::Refused(Fault::Device) {
-            return Ok(false);
-        }
-        let want = model.step(step);
-        if !are_alike(&found, &want) {
-            bail!("{step:?} is answered {found:?}, and {want:?} by the model");
-        }
-        counts.steps = counts.steps.saturating_add(1);
-    }
-    Ok(true)
-}
-
-// The room has the model's numbers, its gaps and its rows.
-fn assert_agrees(room: &Room<SimPmem>, model: &Model) -> Result<(), Error> {
-    let status = room.status();
-    let numbers = (status.gate, status.dirty, status.next);
-    if numbers != model.numbers() {
-        bail!("an opening has the numbers {numbers:?}");
-    }
-    if status.gaps.as_slice() != model.gaps() {
-        bail!("an opening has other gaps than the model");
-    }
-    let mut tables = [None; KEYS];
-    for (key, row) in room.tables()?.iter() {
-        if let Some(place) = tables.get_mut(key.key as usize) {
-            *place = row.as_bytes().first().copied();
-        }
-    }
-    if tables != model.tables() {
-        bail!("an opening has the rows {tables:?}");
-    }
-    Ok(())
-}
-
-// The record of the room names the model's long commits.
-fn assert_same_longs(room: &Room<SimPmem>, model: &Model) -> Result<(), Error> {
-    let (status, longs) = (room.status(), model.longs()?);
-    if status.longs.as_slice() != longs.as_slice() {
-        bail!("a record names other long commits than the model");
+) -> Result<(), Fault> {
+    let gate = gate_of(rt, alloc, device)?;
+    if model.numbers().0 < gate {
+        model.stop(gate)?;
     }
     Ok(())
 }
@@ -236,14 +178,9 @@ fn closed_life<R: Threads + Sync>(
     chance: &mut Chance,
     counts: &mut Counts,
 ) -> Result<SimPmem, Error> {
-    let mut room = room_of(rt, alloc, device)?;
-    live(&mut room, model, chance, counts)?;
-    assert_same_longs(&room, model)?;
+    let device = closed(lived(rt, alloc, device, model, chance, counts)?)?;
     model.close()?;
-    match room.close() {
-        Ok(device) => Ok(device.crash(&Choice::Oldest)?),
-        Err((fault, _device)) => bail!("{fault}"),
-    }
+    Ok(device)
 }
 
 fn crashed_life<R: Threads + Sync>(
@@ -256,40 +193,154 @@ fn crashed_life<R: Threads + Sync>(
 ) -> Result<SimPmem, Error> {
     let mut device = device;
     device.set_fuse(Some(MOST_IN_AN_OPENING + chance.below(400)));
-    let mut room = room_of(rt, alloc, device)?;
-    live(&mut room, model, chance, counts)?;
-    assert_same_longs(&room, model)?;
-    let choice = any_choice(alloc, chance, room.geometry().words())?;
-    let left = room.into_device().crash(&choice)?;
+    let room = lived(rt, alloc, device, model, chance, counts)?;
+    let left = crashed(alloc, room.into_device(), chance)?;
     model.stop(gate_of(rt, alloc, &left)?)?;
     Ok(left)
 }
 
-// The room of a device that opens.
-fn room_of<R: Threads + Sync>(
+// The room of the device after a life.
+fn lived<R: Threads + Sync>(
     rt: &R,
     alloc: Global,
     device: SimPmem,
+    model: &mut Model,
+    chance: &mut Chance,
+    counts: &mut Counts,
 ) -> Result<Room<SimPmem>, Error> {
-    match opened(rt, alloc, device) {
-        Ok(room) => Ok(room),
-        Err((fault, _device)) => bail!("{fault}"),
+    let mut room = room_of(rt, alloc, device)?;
+    match live(&mut room, model, chance, counts) {
+        Ok(()) => Ok(room),
+        Err(error) => {
+            leave(room);
+            Err(error)
+        }
     }
 }
 
-// The gate that an opening of the device leaves.
-fn gate_of<R: Threads + Sync>(rt: &R, alloc: Global, device: &SimPmem) -> Result<u64, Error> {
-    let room = room_of(rt, alloc, device.crash(&Choice::Oldest)?)?;
-    Ok(room.status().gate)
+// Makes steps at random, after which the record of the room names the model's long commits.
+fn live(
+    room: &mut Room<SimPmem>,
+    model: &mut Model,
+    chance: &mut Chance,
+    counts: &mut Counts,
+) -> Result<(), Error> {
+    make_steps(room, model, chance, counts)?;
+    assert_same_longs(room, model)
 }
 
-// An opening of the device agrees with the model.
+// Makes steps at random up to the first that finds the device failing. One session stamps seldom, if it is there, so that its
+// commits stay long.
+fn make_steps(
+    room: &mut Room<SimPmem>,
+    model: &mut Model,
+    chance: &mut Chance,
+    counts: &mut Counts,
+) -> Result<(), Error> {
+    let slow = 2 + chance.below(6) as u8;
+    for _ in 0..STEPS {
+        let (step, count) = any_step(chance, model)?;
+        if is_left_out(&step, slow, model, chance) {
+            continue;
+        }
+        if !makes(room, model, step, count, counts)? {
+            return Ok(());
+        }
+    }
+    Ok(())
+}
+
+// A fifth session isn't begun, and the slow one seldom stamps.
+fn is_left_out(step: &Step, slow: u8, model: &Model, chance: &mut Chance) -> bool {
+    match *step {
+        Step::Begin => model.is_full(),
+        Step::Stamp { session } => session == slow && chance.below(16) > 0,
+        _ => false,
+    }
+}
+
+// Makes the step so often. Did the device work each time?
+fn makes(
+    room: &mut Room<SimPmem>,
+    model: &mut Model,
+    step: Step,
+    count: u64,
+    counts: &mut Counts,
+) -> Result<bool, Error> {
+    for _ in 0..count {
+        let found = noted(room, step);
+        if found == Note::Refused(Fault::Device) {
+            return Ok(false);
+        }
+        let want = model.step(step);
+        assert_alike(&step, &found, &want)?;
+        counts.steps = counts.steps.saturating_add(1);
+    }
+    Ok(true)
+}
+
+fn assert_alike(step: &Step, found: &Note, want: &Note) -> Result<(), Error> {
+    if are_alike(found, want) {
+        return Ok(());
+    }
+    bail!("{step:?} is answered {found:?}, and {want:?} by the model")
+}
+
+// An opening of the device has the model's numbers, its gaps and its rows.
 fn assert_opening_agrees<R: Threads + Sync>(
     rt: &R,
     alloc: Global,
     device: &SimPmem,
     model: &Model,
 ) -> Result<(), Error> {
-    let room = room_of(rt, alloc, device.crash(&Choice::Oldest)?)?;
-    assert_agrees(&room, model)
+    let room = reopened(rt, alloc, device)?;
+    let agrees = assert_agrees(&room, model);
+    leave(room);
+    agrees
+}
+
+// The room has the model's numbers, its gaps and its rows.
+fn assert_agrees(room: &Room<SimPmem>, model: &Model) -> Result<(), Error> {
+    assert_same_status(room, model)?;
+    assert_same_rows(room, model)
+}
+
+fn assert_same_status(room: &Room<SimPmem>, model: &Model) -> Result<(), Error> {
+    let status = room.status();
+    let numbers = (status.gate, status.dirty, status.next);
+    if numbers != model.numbers() {
+        bail!("an opening has the numbers {numbers:?}");
+    }
+    if status.gaps.as_slice() != model.gaps() {
+        bail!("an opening has other gaps than the model");
+    }
+    Ok(())
+}
+
+fn assert_same_rows(room: &Room<SimPmem>, model: &Model) -> Result<(), Error> {
+    let tables = tables_of(room)?;
+    if tables != model.tables() {
+        bail!("an opening has the rows {tables:?}");
+    }
+    Ok(())
+}
+
+// The first byte of each row.
+fn tables_of(room: &Room<SimPmem>) -> Result<Tables, Fault> {
+    let mut tables = [None; KEYS];
+    for (key, row) in room.tables()?.iter() {
+        if let Some(place) = tables.get_mut(key.key as usize) {
+            *place = row.as_bytes().first().copied();
+        }
+    }
+    Ok(tables)
+}
+
+// The record of the room names the model's long commits.
+fn assert_same_longs(room: &Room<SimPmem>, model: &Model) -> Result<(), Error> {
+    let longs = model.longs()?;
+    if room.status().longs.as_slice() != longs.as_slice() {
+        bail!("a record names other long commits than the model");
+    }
+    Ok(())
 }

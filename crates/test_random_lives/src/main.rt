@@ -23,22 +23,31 @@ fn main(rt: HostRuntime) -> Result<(), Error> {
     let alloc = rt.alloc();
     let words: Vec<String> = env::args(&rt)?.skip(1).collect(alloc)?;
     let words: Vec<&str> = words.iter().map(|word| word.as_str()).collect(alloc)?;
-    match words.as_slice() {
+    run(&rt, alloc, words.as_slice())
+}
+
+fn run<H: Print + Eprint + Threads + Sync>(
+    rt: &H,
+    alloc: Global,
+    words: &[&str],
+) -> Result<(), Error> {
+    match words {
         [] => {
-            live_seeds(&rt, alloc, 0, SEEDS)?;
+            live_seeds(rt, alloc, 0, SEEDS)?;
             println!(rt; "{SEEDS} seeds as the model says")?;
+            Ok(())
         }
         [first, count] => {
-            let counts = live_seeds(&rt, alloc, first.parse::<u64>()?, count.parse::<u64>()?)?;
-            let Counts {
-                lives,
-                steps,
-                stops,
-            } = counts;
-            println!(rt; "lives {lives} steps {steps} stops {stops}")?;
+            let (first, count) = (first.parse::<u64>()?, count.parse::<u64>()?);
+            print_counts(rt, &live_seeds(rt, alloc, first, count)?)
         }
         _ => bail!("the words are none, or the first seed and how many"),
     }
+}
+
+fn print_counts<H: Print>(rt: &H, counts: &Counts) -> Result<(), Error> {
+    let (lives, steps) = (counts.lives, counts.steps);
+    println!(rt; "lives {lives} steps {steps} stops {}", counts.stops)?;
     Ok(())
 }
 

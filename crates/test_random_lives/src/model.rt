@@ -138,11 +138,7 @@ impl Model {
     fn tables_after(&self, commits: usize) -> Tables {
         let mut tables = [None; KEYS];
         for commit in self.covered.iter().take(commits) {
-            for (row, write) in tables.iter_mut().zip(commit.writes.iter()) {
-                if let Some(written) = write {
-                    *row = *written;
-                }
-            }
+            write_all(&mut tables, &commit.writes);
         }
         tables
     }
@@ -154,17 +150,16 @@ impl Model {
 
     /// The note of a step. Of the ticks of a cycle it is that of the first.
     pub fn step(&mut self, step: Step) -> Note {
-        let number = match step {
-            Step::Begin => return self.begin(),
-            Step::Commit => return self.tick(),
-            Step::Collect => return self.visit(),
-            Step::Get { session, .. } | Step::Scan { session, .. } => session,
-            Step::Put { session, .. } => session,
-            Step::Delete { session, .. } | Step::Draw { session } => session,
-            Step::Stamp { session } | Step::Poll { session } => session,
-            Step::Abort { session } | Step::End { session } => session,
-        };
-        let at = number.saturating_sub(2) as usize;
+        match step {
+            Step::Begin => self.begin(),
+            Step::Commit => self.tick(),
+            Step::Collect => self.visit(),
+            _ => self.step_of_session(step),
+        }
+    }
+
+    fn step_of_session(&mut self, step: Step) -> Note {
+        let at = session_of(&step).saturating_sub(2) as usize;
         let Some(session) = self.sessions.get(at).copied().flatten() else {
             return Note::Refused(Fault::NoSession);
         };
@@ -262,9 +257,41 @@ impl Model {
         Note::Rows(Rows::new(rows))
     }
 
-    // The first committer wins: a commit that the session doesn't see and that writes one of its keys.
     fn draw(&mut self, at: usize, session: Session) -> (Note, Option<Session>) {
-        let mut drawn = Commit {
+        match self.drawn_by(at, &session) {
+            Ok(None) => {
+                let state = State::ReadOnly;
+                (Note::Done, Some(Session { state, ..session }))
+            }
+            Ok(Some(timestamp)) => {
+                let state = State::Drawn(timestamp);
+                (Note::Drawn(timestamp), Some(Session { state, ..session }))
+            }
+            Err(fault) => (Note::Refused(fault), Some(session)),
+        }
+    }
+
+    // Draws a commit of what the session writes, if it writes anything: its timestamp.
+    fn drawn_by(&mut self, at: usize, session: &Session) -> Result<Option<u64>, Fault> {
+        let drawn = self.commit_of(session)?;
+        if drawn.stamps_left == 0 {
+            return Ok(None);
+        }
+        if self.next == self.dirty {
+            return Err(Fault::WindowFull);
+        }
+        if self.drawn.push(drawn).is_err() {
+            return Err(Fault::OutOfMemory);
+        }
+        let commit = Writer::Commit(drawn.timestamp);
+        self.slots.hand_over(Writer::Session(at), commit);
+        self.next = self.next.saturating_add(1);
+        Ok(Some(drawn.timestamp))
+    }
+
+    // The first committer wins: a commit that the session doesn't see and that writes one of its keys.
+    fn commit_of(&self, session: &Session) -> Result<Commit, Fault> {
+        let mut commit = Commit {
             timestamp: self.next,
             writes: session.writes,
             lines: 0,
@@ -275,36 +302,14 @@ impl Model {
         for ((key, write), row) in (0..).zip(session.writes.iter()).zip(tables.iter()) {
             if let Some(written) = write {
                 if self.is_written_after(session.begun, key) {
-                    let fault = Fault::Conflict(Key {
-                        table: 1,
-                        key: key as u64,
-                    });
-                    return (Note::Refused(fault), Some(session));
+                    return Err(conflict_at(key));
                 }
-                drawn.stamps_left = drawn.stamps_left.saturating_add(1);
-                drawn.lines = drawn
-                    .lines
-                    .saturating_add(self.lines(written.is_some(), row.is_some()));
+                let lines = self.lines(written.is_some(), row.is_some());
+                commit.lines = commit.lines.saturating_add(lines);
+                commit.stamps_left = commit.stamps_left.saturating_add(1);
             }
         }
-        if drawn.stamps_left == 0 {
-            let state = State::ReadOnly;
-            return (Note::Done, Some(Session { state, ..session }));
-        }
-        if self.next == self.dirty {
-            return (Note::Refused(Fault::WindowFull), Some(session));
-        }
-        let state = State::Drawn(self.next);
-        if self.drawn.push(drawn).is_err() {
-            return (Note::Refused(Fault::OutOfMemory), Some(session));
-        }
-        self.slots
-            .hand_over(Writer::Session(at), Writer::Commit(self.next));
-        self.next = self.next.saturating_add(1);
-        (
-            Note::Drawn(drawn.timestamp),
-            Some(Session { state, ..session }),
-        )
+        Ok(commit)
     }
 
     // How many lines a write touches: those of the slot of its row, and the first one of the slot of the row that it ends.
@@ -551,6 +556,31 @@ impl Model {
         }
         self.slots.free_others(kept);
     }
+}
+
+// The tables after what is written.
+fn write_all(tables: &mut Tables, writes: &Writes) {
+    for (row, write) in tables.iter_mut().zip(writes.iter()) {
+        if let Some(written) = write {
+            *row = *written;
+        }
+    }
+}
+
+// The number of the session that makes the step, or 0.
+fn session_of(step: &Step) -> u8 {
+    match *step {
+        Step::Begin | Step::Commit | Step::Collect => 0,
+        Step::Get { session, .. } | Step::Scan { session, .. } => session,
+        Step::Put { session, .. } | Step::Delete { session, .. } => session,
+        Step::Draw { session } | Step::Stamp { session } | Step::Poll { session } => session,
+        Step::Abort { session } | Step::End { session } => session,
+    }
+}
+
+fn conflict_at(key: usize) -> Fault {
+    let key = key as u64;
+    Fault::Conflict(Key { table: 1, key })
 }
 
 // The version that the session at this place writes under a key.

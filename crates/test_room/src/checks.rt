@@ -1,5 +1,5 @@
 //! Images that are checked, and opened too: both agree.
-use crate::fixture::{fresh_words, opened};
+use crate::fixture::{changed_words, fresh_words, opened};
 use crate::numbers::next;
 use base::fault::Fault;
 use image_check::check;
@@ -13,15 +13,17 @@ const LAST_DIRTY: u64 = 4_611_686_018_427_387_887;
 const LAST_GATE: u64 = 4_611_686_018_427_387_903;
 
 // The words of the fresh image with the first commit: table 1, key 7 has the row `6162`.
+const FIRST_COMMIT: &[(usize, u64)] = &[
+    (41, 1),
+    (42, 2),
+    (72, 1),
+    (74, 7),
+    (75, 131_073),
+    (76, 25_185),
+];
+
 fn committed_words() -> [u64; 104] {
-    let mut words = fresh_words();
-    words[41] = 1;
-    words[42] = 2;
-    words[72] = 1;
-    words[74] = 7;
-    words[75] = 131_073;
-    words[76] = 25_185;
-    words
+    changed_words(FIRST_COMMIT)
 }
 
 // A value that an image may have, or that is just out of range, or any.
@@ -38,6 +40,21 @@ fn value(state: &mut u64) -> u64 {
     }
 }
 
+// The fault that a check finds.
+fn checked<H: Threads + Sync>(rt: &H, alloc: Global, words: &[u64]) -> Option<Fault> {
+    check(rt, alloc, words).err()
+}
+
+// The fault that an opening finds.
+fn refused<H: Threads + Sync + Abort>(
+    rt: &H,
+    alloc: Global,
+    words: &[u64],
+) -> Result<Option<Fault>, Fault> {
+    let device = SimPmem::from_words(alloc, words)?;
+    Ok(opened(rt, alloc, device).err())
+}
+
 // What is sound opens, limits of numbers aside, and nothing else does, for the same reason.
 fn assert_agree<H: Threads + Sync + Abort>(
     rt: &H,
@@ -45,9 +62,8 @@ fn assert_agree<H: Threads + Sync + Abort>(
     words: &[u64],
     seed: u64,
 ) -> Result<(), Fault> {
-    let checked = check(rt, alloc, words).err();
-    let device = SimPmem::from_words(alloc, words)?;
-    let opened = opened(rt, alloc, device).err();
+    let checked = checked(rt, alloc, words);
+    let opened = refused(rt, alloc, words)?;
     if checked.is_none() {
         assert!(rt;
             matches!(opened, None | Some(Fault::TimestampsOut)),

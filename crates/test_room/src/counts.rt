@@ -5,11 +5,25 @@ use asks::{Ask, Life, NINE_GAPS, Past};
 use base::fault::Fault;
 use base::geometry::Geometry;
 use pmem_model::{Operations, SimPmem};
+use std::alloc::Global;
+use std::process::Abort;
+use std::thread::Threads;
 
 /// How many operations the device made.
 pub fn operations(device: &SimPmem) -> u128 {
     let made = device.operations();
     made.stores as u128 + made.flushes as u128 + made.fences as u128
+}
+
+/// The device made so many stores, flushes and fences.
+pub fn assert_made(rt: &impl Abort, device: &SimPmem, counts: (u64, u64, u64)) {
+    let (stores, flushes, fences) = counts;
+    let made = Operations {
+        stores,
+        flushes,
+        fences,
+    };
+    assert_eq!(rt; device.operations(), made);
 }
 
 #[test]
@@ -40,18 +54,22 @@ const COUNTED: &[Counted] = &[
     (16, NINE_GAPS, &[], (34, 7, 3)),
 ];
 
+fn assert_counts<R: Threads + Sync + Abort>(
+    rt: &R,
+    alloc: Global,
+    counted: &Counted,
+) -> Result<(), Fault> {
+    let (slots, before, life, counts) = counted;
+    let device = device_after(rt, alloc, *slots, before)?;
+    let device = lived(rt, alloc, device, life)?;
+    assert_made(rt, &device, *counts);
+    Ok(())
+}
+
 #[test]
 fn sweeps_are_counted(rt: HostRuntime) -> Result<(), Fault> {
-    for (slots, before, life, counts) in COUNTED {
-        let device = device_after(&rt, rt.alloc(), *slots, before)?;
-        let device = lived(&rt, rt.alloc(), device, life)?;
-        let (stores, flushes, fences) = *counts;
-        let want = Operations {
-            stores,
-            flushes,
-            fences,
-        };
-        assert_eq!(rt; device.operations(), want);
+    for counted in COUNTED {
+        assert_counts(&rt, rt.alloc(), counted)?;
     }
     Ok(())
 }

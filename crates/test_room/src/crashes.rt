@@ -1,5 +1,5 @@
 use crate::counts::operations;
-use crate::fixture::{device_after, opened, step};
+use crate::fixture::{device_after, leave, open, opened, step};
 use crate::stories::{Opening, Shown};
 use asks::{Story, steps};
 use base::fault::Fault;
@@ -18,18 +18,30 @@ pub fn assert_each_stop<R: Threads + Sync + Abort>(
     alloc: Global,
     shown: &Shown,
 ) -> Result<(), Fault> {
-    let Shown { story, openings } = shown;
+    let story = &shown.story;
     let words = words_before(rt, alloc, story)?;
     let steps = steps(alloc, story.life)?;
     for fuse in 0..story.operations.saturating_add(1) {
-        let device = SimPmem::from_words(alloc, &words)?;
-        let (device, covered) = stopped(rt, alloc, device, fuse, &steps, story.closes);
-        assert!(rt; operations(&device) == fuse as u128, "fuse {fuse}");
-        let gates = gates_after(rt, shown, fuse);
-        assert!(rt; covered < gates.0, "fuse {fuse}");
-        assert_each_choice(rt, alloc, &device, openings, gates)?;
+        assert_stop(rt, alloc, shown, (&words, &steps), fuse)?;
     }
     Ok(())
+}
+
+// Lets the life stop after so many operations, and opens what a crash may leave.
+fn assert_stop<R: Threads + Sync + Abort>(
+    rt: &R,
+    alloc: Global,
+    shown: &Shown,
+    life: (&[u64], &[Step]),
+    fuse: u64,
+) -> Result<(), Fault> {
+    let (words, steps) = life;
+    let device = SimPmem::from_words(alloc, words)?;
+    let (device, covered) = stopped(rt, alloc, device, fuse, steps, shown.story.closes);
+    assert!(rt; operations(&device) == fuse as u128, "fuse {fuse}");
+    let gates = gates_after(rt, shown, fuse);
+    assert!(rt; covered < gates.0, "fuse {fuse}");
+    assert_each_choice(rt, alloc, &device, shown.openings, gates)
 }
 
 /// The words that the lives before the story leave.
@@ -73,11 +85,24 @@ fn assert_each_choice<R: Threads + Sync + Abort>(
     )?;
     for word in 0..device.words() {
         if device.survivors(word) > 1 {
-            for keeps in [false, true] {
-                let choice = apart(alloc, device, word, keeps)?;
-                assert_left(rt, alloc, device, &choice, openings, gates)?;
-            }
+            assert_apart(rt, alloc, device, word, openings, gates)?;
         }
+    }
+    Ok(())
+}
+
+// Opens what is left where this word alone has the oldest value, and where it alone has the newest.
+fn assert_apart<R: Threads + Sync + Abort>(
+    rt: &R,
+    alloc: Global,
+    device: &SimPmem,
+    word: usize,
+    openings: &[Opening],
+    gates: (u64, u64),
+) -> Result<(), Fault> {
+    for keeps in [false, true] {
+        let choice = apart(alloc, device, word, keeps)?;
+        assert_left(rt, alloc, device, &choice, openings, gates)?;
     }
     Ok(())
 }
@@ -107,23 +132,31 @@ pub fn stopped<R: Threads + Sync + Abort>(
 ) -> (SimPmem, u64) {
     let mut device = device;
     device.set_fuse(Some(fuse));
-    assert!(rt; device.at_rest());
-    let mut room = match Room::open(rt, alloc, device) {
-        Ok(room) => room,
+    match open(rt, alloc, device) {
+        Ok(room) => ended(rt, room, steps, closes),
         Err((fault, device)) => {
             assert!(rt; fault == Fault::Device);
-            return (device, 0);
+            (device, 0)
         }
-    };
-    let covered = run(rt, &mut room, steps);
-    if !closes {
-        return (room.into_device(), covered);
     }
+}
+
+fn ended(rt: &impl Abort, room: Room<SimPmem>, steps: &[Step], closes: bool) -> (SimPmem, u64) {
+    let mut room = room;
+    let covered = run(rt, &mut room, steps);
+    if closes {
+        (closed(rt, room), covered)
+    } else {
+        (room.into_device(), covered)
+    }
+}
+
+fn closed(rt: &impl Abort, room: Room<SimPmem>) -> SimPmem {
     match room.close() {
-        Ok(device) => (device, covered),
+        Ok(device) => device,
         Err((fault, device)) => {
             assert!(rt; matches!(fault, Fault::Device | Fault::Failed));
-            (device, covered)
+            device
         }
     }
 }
@@ -169,19 +202,40 @@ pub fn assert_left<R: Threads + Sync + Abort>(
     gates: (u64, u64),
 ) -> Result<(), Fault> {
     let mut room = opened(rt, alloc, device.crash(choice)?)?;
-    let status = room.status();
-    let gate = status.gate;
+    assert_shows_one(rt, &mut room, openings, gates);
+    leave(room);
+    Ok(())
+}
+
+fn assert_shows_one(
+    rt: &impl Abort,
+    room: &mut Room<SimPmem>,
+    openings: &[Opening],
+    gates: (u64, u64),
+) {
+    let gate = room.status().gate;
     assert!(rt; gate == gates.0 || gate == gates.1, "gate {gate}");
-    let numbers = (gate, status.persisted, status.dirty, status.next);
-    for (want, gaps, rows) in openings {
-        if want.0 == gate {
-            assert!(rt; numbers == *want, "gate {gate}");
-            assert_gaps(rt, &status.gaps, gaps);
-            assert_rows(rt, &mut room, rows);
-            return Ok(());
+    assert_shows(rt, room, opening_of(rt, openings, gate));
+}
+
+// The opening that has this gate.
+fn opening_of<'a>(rt: &impl Abort, openings: &'a [Opening], gate: u64) -> &'a Opening {
+    for opening in openings {
+        let (numbers, _, _) = opening;
+        if numbers.0 == gate {
+            return opening;
         }
     }
     panic!(rt; "gate {gate}")
+}
+
+fn assert_shows(rt: &impl Abort, room: &mut Room<SimPmem>, opening: &Opening) {
+    let (want, gaps, rows) = opening;
+    let status = room.status();
+    let numbers = (status.gate, status.persisted, status.dirty, status.next);
+    assert!(rt; numbers == *want, "gate {}", want.0);
+    assert_gaps(rt, &status.gaps, gaps);
+    assert_rows(rt, room, rows);
 }
 
 fn assert_gaps(rt: &impl Abort, gaps: &Gaps, want: &[(u64, u64)]) {

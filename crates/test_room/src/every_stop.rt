@@ -105,10 +105,22 @@ fn stopped_thrice<R: Threads + Sync + Abort>(
 ) -> Result<SimPmem, Fault> {
     let mut device = SimPmem::from_words(alloc, words)?;
     for (fuse, newest) in stops {
-        let (left, _) = stopped(rt, alloc, device, *fuse, &[], false);
-        device = left.crash(&gates_apart(alloc, left.words(), *newest)?)?;
+        device = stopped_once(rt, alloc, device, *fuse, *newest)?;
     }
     Ok(device)
+}
+
+// What an opening leaves that stops after so many operations.
+fn stopped_once<R: Threads + Sync + Abort>(
+    rt: &R,
+    alloc: Global,
+    device: SimPmem,
+    fuse: u64,
+    newest: bool,
+) -> Result<SimPmem, Fault> {
+    let (left, _) = stopped(rt, alloc, device, fuse, &[], false);
+    let choice = gates_apart(alloc, left.words(), newest)?;
+    left.crash(&choice)
 }
 
 // Whichever of three stopped openings survive, the fourth shows what the story says of its gate.

@@ -11,17 +11,28 @@ use std::thread::Threads;
 
 /// The words of the fresh worked image: 4 slots, 2 places and a window of 8.
 pub fn fresh_words() -> [u64; 104] {
+    // Read from its high byte down the first is `WBL-PRF1`.
+    let superblock = [0x5742_4C2D_5052_4631, 2, 4, 2, 8, 104];
     let mut words = [0; 104];
-    // Read from its high byte down it is `WBL-PRF1`.
-    words[0] = 0x5742_4C2D_5052_4631;
-    words[1] = 2;
-    words[2] = 4;
-    words[3] = 2;
-    words[4] = 8;
-    words[5] = 104;
+    words[..6].copy_from_slice(&superblock);
     words[40] = 1;
     words[42] = 1;
     words
+}
+
+/// Those words with changes: a word, and its value.
+pub fn changed_words(changes: &[(usize, u64)]) -> [u64; 104] {
+    let mut words = fresh_words();
+    change(&mut words, changes);
+    words
+}
+
+pub fn change(words: &mut [u64], changes: &[(usize, u64)]) {
+    for (at, value) in changes {
+        if let Some(word) = words.get_mut(*at) {
+            *word = *value;
+        }
+    }
 }
 
 /// A device of this geometry that was formatted.
@@ -36,7 +47,22 @@ pub fn formatted(alloc: Global, geometry: Geometry) -> Result<SimPmem, Fault> {
 
 /// A device with so many slots, 2 places and this window that was formatted and restarted: no operation is counted.
 pub fn fresh(alloc: Global, slots: u64, window: u64) -> Result<SimPmem, Fault> {
-    formatted(alloc, Geometry::new(slots, 2, window)?)?.crash(&Choice::Oldest)
+    restarted(formatted(alloc, Geometry::new(slots, 2, window)?)?)
+}
+
+/// The device after a crash that leaves the oldest values.
+pub fn restarted(device: SimPmem) -> Result<SimPmem, Fault> {
+    device.crash(&Choice::Oldest)
+}
+
+/// The room of a device that is at rest, or the fault with the device.
+pub fn open<R: Threads + Sync + Abort>(
+    rt: &R,
+    alloc: Global,
+    device: SimPmem,
+) -> Result<Room<SimPmem>, (Fault, SimPmem)> {
+    assert!(rt; device.at_rest());
+    Room::open(rt, alloc, device)
 }
 
 /// The room of a device that is at rest.
@@ -45,12 +71,14 @@ pub fn opened<R: Threads + Sync + Abort>(
     alloc: Global,
     device: SimPmem,
 ) -> Result<Room<SimPmem>, Fault> {
-    assert!(rt; device.at_rest());
-    match Room::open(rt, alloc, device) {
+    match open(rt, alloc, device) {
         Ok(room) => Ok(room),
         Err((fault, _device)) => Err(fault),
     }
 }
+
+/// Lets a room go: in one place, since each function that drops a room itself is long to prove.
+pub fn leave(_room: Room<SimPmem>) {}
 
 /// Makes a step, and notes its reply. Want of memory for the note looks like that of a scan, which changes nothing.
 pub fn step(room: &mut Room<SimPmem>, step: Step) -> Note {
@@ -58,6 +86,11 @@ pub fn step(room: &mut Room<SimPmem>, step: Step) -> Note {
         Ok(note) => note,
         Err(_) => Note::Refused(Fault::OutOfMemory),
     }
+}
+
+/// Makes a step, which is answered with this.
+pub fn assert_note(rt: &impl Abort, room: &mut Room<SimPmem>, made: Step, want: Note) {
+    assert!(rt; step(room, made) == want);
 }
 
 /// Opens the device and makes the steps that are asked for, none of which is refused.
@@ -69,11 +102,15 @@ pub fn lived<R: Threads + Sync + Abort>(
 ) -> Result<SimPmem, Fault> {
     let steps = steps(alloc, life)?;
     let mut room = opened(rt, alloc, device)?;
-    for made in steps.iter() {
-        let note = step(&mut room, *made);
+    make_each(rt, &mut room, &steps);
+    Ok(room.into_device())
+}
+
+fn make_each(rt: &impl Abort, room: &mut Room<SimPmem>, steps: &[Step]) {
+    for made in steps {
+        let note = step(room, *made);
         assert!(rt; !matches!(note, Note::Refused(_)), "{note:?}");
     }
-    Ok(room.into_device())
 }
 
 /// A fresh device with so many slots and a window of 8, after these lives.
@@ -84,13 +121,24 @@ pub fn device_after<R: Threads + Sync + Abort>(
     lives: &[Past],
 ) -> Result<SimPmem, Fault> {
     let mut device = fresh(alloc, slots, 8)?;
-    for (life, newest) in lives {
-        let choice = if *newest {
-            Choice::Newest
-        } else {
-            Choice::Oldest
-        };
-        device = lived(rt, alloc, device, life)?.crash(&choice)?;
+    for past in lives {
+        device = device_after_life(rt, alloc, device, past)?;
     }
     Ok(device)
+}
+
+// The device after a life, and a crash that leaves the newest values or the oldest.
+fn device_after_life<R: Threads + Sync + Abort>(
+    rt: &R,
+    alloc: Global,
+    device: SimPmem,
+    past: &Past,
+) -> Result<SimPmem, Fault> {
+    let (life, newest) = past;
+    let device = lived(rt, alloc, device, life)?;
+    if *newest {
+        device.crash(&Choice::Newest)
+    } else {
+        restarted(device)
+    }
 }

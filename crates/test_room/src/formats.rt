@@ -19,7 +19,9 @@ const NEW: Left = Some((1, 0));
 
 /// From the first of these numbers of operations to the second, what a crash leaves that leaves the oldest values, and one
 /// that leaves the newest.
-const STOPS: &[(u64, u64, Left, Left)] = &[
+type Stops = (u64, u64, Left, Left);
+
+const STOPS: &[Stops] = &[
     (0, 0, OLD, OLD),
     (1, 2, OLD, None),
     (3, 160, None, None),
@@ -37,18 +39,31 @@ fn formatted_again(alloc: Global, words: &[u64], fuse: u64) -> Result<SimPmem, F
     }
 }
 
-fn left_by<R: Threads + Sync>(
-    rt: &R,
-    alloc: Global,
-    device: &SimPmem,
-    choice: &Choice,
-) -> Result<Left, Fault> {
-    let image = device.crash(choice)?.image()?;
-    match check(rt, alloc, &image) {
+// The words that a crash of this choice leaves.
+fn image_after(device: &SimPmem, choice: &Choice) -> Result<Vec<u64>, Fault> {
+    device.crash(choice)?.image()
+}
+
+fn left_in<R: Threads + Sync>(rt: &R, alloc: Global, image: &[u64]) -> Result<Left, Fault> {
+    match check(rt, alloc, image) {
         Ok(report) => Ok(Some((report.gate, report.rows.len()))),
         Err(Fault::NotFormatted) => Ok(None),
         Err(fault) => Err(fault),
     }
+}
+
+fn assert_left<R: Threads + Sync + Abort>(
+    rt: &R,
+    alloc: Global,
+    device: &SimPmem,
+    choice: &Choice,
+    fuse: u64,
+    left: Left,
+) -> Result<(), Fault> {
+    let image = image_after(device, choice)?;
+    let found = left_in(rt, alloc, &image)?;
+    assert!(rt; found == left, "fuse {fuse}");
+    Ok(())
 }
 
 // A format that stops after so many operations.
@@ -60,19 +75,30 @@ fn assert_stop<R: Threads + Sync + Abort>(
     left: (Left, Left),
 ) -> Result<(), Fault> {
     let device = formatted_again(alloc, words, fuse)?;
-    let oldest = left_by(rt, alloc, &device, &Choice::Oldest)?;
-    let newest = left_by(rt, alloc, &device, &Choice::Newest)?;
-    assert!(rt; (oldest, newest) == left, "fuse {fuse}");
+    let (oldest, newest) = left;
+    assert_left(rt, alloc, &device, &Choice::Oldest, fuse, oldest)?;
+    assert_left(rt, alloc, &device, &Choice::Newest, fuse, newest)
+}
+
+// Formats that stop after numbers of operations that leave the same.
+fn assert_stops<R: Threads + Sync + Abort>(
+    rt: &R,
+    alloc: Global,
+    words: &[u64],
+    stops: &Stops,
+) -> Result<(), Fault> {
+    let (first, last, oldest, newest) = stops;
+    for fuse in *first..last.saturating_add(1) {
+        assert_stop(rt, alloc, words, fuse, (*oldest, *newest))?;
+    }
     Ok(())
 }
 
 #[test]
 fn format_leaves_the_old_image_or_none_or_the_new(rt: HostRuntime) -> Result<(), Fault> {
     let image = device_after(&rt, rt.alloc(), 4, &[(ONE_ROW, false)])?.image()?;
-    for (first, last, oldest, newest) in STOPS {
-        for fuse in *first..last.saturating_add(1) {
-            assert_stop(&rt, rt.alloc(), &image, fuse, (*oldest, *newest))?;
-        }
+    for stops in STOPS {
+        assert_stops(&rt, rt.alloc(), &image, stops)?;
     }
     Ok(())
 }

@@ -3,7 +3,6 @@
 #![tactic(auto)]
 
 #[cfg(test)]
-#[cfg(test)]
 mod batches;
 #[cfg(test)]
 mod checks;

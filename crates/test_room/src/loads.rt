@@ -1,5 +1,6 @@
 //! An image of 65,536 live slots, which several threads read: how many words of it a `Get` reads, and which bad slot is
 //! reported.
+use crate::fixture::change;
 use base::actor::Actor;
 use base::fault::Fault;
 use base::key::Key;
@@ -78,21 +79,25 @@ fn shared(loads: &Count) -> Result<Count, Fault> {
 
 const SLOTS: u64 = 65_536;
 
+// The superblock and the record of such an image. Read from its high byte down the first word is `WBL-PRF1`.
+const FULL: &[(usize, u64)] = &[
+    (0, 0x5742_4C2D_5052_4631),
+    (1, 2),
+    (2, SLOTS),
+    (3, 2),
+    (4, 8),
+    (5, 72 + 8 * SLOTS),
+    (40, 1),
+    (41, 1),
+    (42, 2),
+];
+
 // An image whose slots all hold a row of commit 1, each of the key of its own number.
 fn full(alloc: Global) -> Result<Vec<u64>, Fault> {
     let Ok(mut words) = vec![in alloc; 0; 72] else {
         return Err(Fault::OutOfMemory);
     };
-    // Read from its high byte down it is `WBL-PRF1`.
-    words[0] = 0x5742_4C2D_5052_4631;
-    words[1] = 2;
-    words[2] = SLOTS;
-    words[3] = 2;
-    words[4] = 8;
-    words[5] = 72 + 8 * SLOTS;
-    words[40] = 1;
-    words[41] = 1;
-    words[42] = 2;
+    change(&mut words, FULL);
     for slot in 0..SLOTS {
         let Ok(()) = words.extend_from_slice(&[1, 0, slot, 65_537, slot % 256, 0, 0, 0]) else {
             return Err(Fault::OutOfMemory);
@@ -116,28 +121,52 @@ fn opened<R: Threads + Sync + Abort>(
     }
 }
 
+// The row of the key of this number.
+fn row_of(room: &mut Room<Counting<SimPmem>>, number: u64) -> Result<Row, Fault> {
+    let reply = room.step(Step::Get {
+        session: 2,
+        key: Key {
+            table: 1,
+            key: number,
+        },
+    });
+    match reply {
+        Reply::Row(Some(row)) => Ok(row),
+        _ => Err(Fault::Failed),
+    }
+}
+
+// The row of a key is found by at most 64 loads.
+fn assert_read(
+    rt: &impl Abort,
+    room: &mut Room<Counting<SimPmem>>,
+    loads: &Count,
+    number: u64,
+) -> Result<(), Fault> {
+    let before = loads.load(Ordering::SeqCst);
+    let row = row_of(room, number)?;
+    assert!(rt; row == Row::new(&[(number % 256) as u8])?);
+    assert!(rt; loads.load(Ordering::SeqCst).saturating_sub(before) <= 64);
+    Ok(())
+}
+
+fn assert_reads(
+    rt: &impl Abort,
+    room: &mut Room<Counting<SimPmem>>,
+    loads: &Count,
+) -> Result<(), Fault> {
+    assert!(rt; matches!(room.step(Step::Begin), Reply::Began(2)));
+    for n in 0..100 {
+        assert_read(rt, room, loads, n * 655)?;
+    }
+    Ok(())
+}
+
 #[test]
 fn get_reads_one_slot_of_many(rt: HostRuntime) -> Result<(), Fault> {
     let loads = counter(rt.alloc())?;
     let mut room = opened(&rt, rt.alloc(), shared(&loads)?)?;
-    assert!(rt; matches!(room.step(Step::Begin), Reply::Began(2)));
-    for n in 0..100 {
-        let number = n * 655;
-        let before = loads.load(Ordering::SeqCst);
-        let reply = room.step(Step::Get {
-            session: 2,
-            key: Key {
-                table: 1,
-                key: number,
-            },
-        });
-        let Reply::Row(Some(row)) = reply else {
-            return Err(Fault::Failed);
-        };
-        assert!(rt; row == Row::new(&[(number % 256) as u8])?);
-        assert!(rt; loads.load(Ordering::SeqCst).saturating_sub(before) <= 64);
-    }
-    Ok(())
+    assert_reads(&rt, &mut room, &loads)
 }
 
 // The fault of such an image with these words changed.
@@ -147,24 +176,29 @@ fn fault_of<R: Threads + Sync>(
     changes: &[(usize, u64)],
 ) -> Result<Option<Fault>, Fault> {
     let mut words = full(alloc)?;
-    for (word, value) in changes {
-        if let Some(there) = words.get_mut(*word) {
-            *there = *value;
-        }
-    }
+    change(&mut words, changes);
     match check(rt, alloc, words.as_slice()) {
         Ok(_) => Ok(None),
         Err(fault) => Ok(Some(fault)),
     }
 }
 
-// Slot 50,000 has a begin that no record commits, slot 40,000 the key of slot 3.
+// Slot 50,000 has a begin that no record commits.
+const AHEAD: (usize, u64) = (400_072, 2);
+
+// Slot 40,000 has the key of slot 3.
+const SECOND: (usize, u64) = (320_074, 3);
+
+const BAD: &[(&[(usize, u64)], Option<Fault>)] = &[
+    (&[], None),
+    (&[AHEAD], Some(Fault::Damaged(50_002))),
+    (&[AHEAD, SECOND], Some(Fault::Damaged(40_002))),
+];
+
 #[test]
 fn lowest_bad_slot_of_many_is_reported(rt: HostRuntime) -> Result<(), Fault> {
-    let ahead = (400_072, 2);
-    let second = (320_074, 3);
-    assert!(rt; fault_of(&rt, rt.alloc(), &[])? == None);
-    assert!(rt; fault_of(&rt, rt.alloc(), &[ahead])? == Some(Fault::Damaged(50_002)));
-    assert!(rt; fault_of(&rt, rt.alloc(), &[ahead, second])? == Some(Fault::Damaged(40_002)));
+    for (changes, fault) in BAD {
+        assert!(rt; fault_of(&rt, rt.alloc(), changes)? == *fault);
+    }
     Ok(())
 }

@@ -1,6 +1,6 @@
 //! Lives in which an allocation may be refused: each in turn, where the tests are run so.
 use crate::counts::operations;
-use crate::fixture::{fresh, opened, step};
+use crate::fixture::{fresh, leave, open, opened, step};
 use asks::Ask::{Begin, Commit, Draw, Put, Scan, Stamp};
 use asks::{Life, steps};
 use base::fault::Fault;
@@ -48,20 +48,31 @@ fn is_covered(rt: &impl Abort, room: &mut Room<SimPmem>, steps: &[Step]) -> bool
 fn first_life<R: Threads + Sync + Abort>(rt: &R, alloc: Global) -> Result<(SimPmem, bool), Fault> {
     let steps = steps(alloc, TWO_COMMITS)?;
     let mut room = opened(rt, alloc, fresh(alloc, 4, 8)?)?;
-    let covered = is_covered(rt, &mut room, steps.as_slice());
-    Ok((room.into_device().crash(&Choice::Newest)?, covered))
+    let covered = is_covered(rt, &mut room, &steps);
+    Ok((room.into_device(), covered))
 }
 
 // The next opening has both commits where they were covered, and else none.
 fn two_lives<R: Threads + Sync + Abort>(rt: &R, alloc: Global) -> Result<(), Fault> {
     let (device, covered) = first_life(rt, alloc)?;
-    let mut room = opened(rt, alloc, device)?;
+    let mut room = opened(rt, alloc, device.crash(&Choice::Newest)?)?;
+    let found = assert_two_commits(rt, &mut room, covered);
+    leave(room);
+    found
+}
+
+fn assert_two_commits(
+    rt: &impl Abort,
+    room: &mut Room<SimPmem>,
+    covered: bool,
+) -> Result<(), Fault> {
     let numbers = if covered { (4, 10) } else { (3, 8) };
-    assert!(rt; (room.status().gate, room.status().persisted) == numbers);
-    if step(&mut room, Step::Begin) != Note::Began(2) {
+    let status = room.status();
+    assert!(rt; (status.gate, status.persisted) == numbers);
+    if step(room, Step::Begin) != Note::Began(2) {
         return Err(Fault::OutOfMemory);
     }
-    assert_two_rows(rt, &mut room, covered)
+    assert_two_rows(rt, room, covered)
 }
 
 // Session 2 reads both rows, or none.
@@ -104,14 +115,22 @@ fn opened_with_reserve<R: Threads + Sync + Abort>(
 ) -> Result<Room<SimPmem>, Fault> {
     let mut device = fresh(alloc, 4, 8)?;
     device.reserve(100)?;
-    assert!(rt; device.at_rest());
-    match Room::open(rt, alloc, device) {
+    match open(rt, alloc, device) {
         Ok(room) => Ok(room),
         Err((fault, device)) => {
             assert!(rt; fault == Fault::OutOfMemory && operations(&device) == 0);
             opened(rt, alloc, device)
         }
     }
+}
+
+// The room makes the steps.
+fn assert_makes(rt: &impl Abort, room: Room<SimPmem>, steps: &[Step]) {
+    let mut room = room;
+    assert!(rt; is_covered(rt, &mut room, steps));
+    let status = room.status();
+    assert!(rt; (status.gate, status.dirty) == (3, 11));
+    assert!(rt; operations(&room.into_device()) == 39 + 20 + 2 + 42);
 }
 
 // The same commits on a device that holds memory for them: a step that is refused memory changes nothing, and can be
@@ -122,11 +141,7 @@ fn refused_memory_changes_nothing(rt: HostRuntime) -> Result<(), Fault> {
         return Ok(());
     };
     match opened_with_reserve(&rt, rt.alloc()) {
-        Ok(mut room) => {
-            assert!(rt; is_covered(&rt, &mut room, steps.as_slice()));
-            assert!(rt; (room.status().gate, room.status().dirty) == (3, 11));
-            assert!(rt; operations(&room.into_device()) == 39 + 20 + 2 + 42);
-        }
+        Ok(room) => assert_makes(&rt, room, &steps),
         Err(fault) => assert_refusal(&rt, Err(fault)),
     }
     Ok(())

@@ -2,20 +2,32 @@ use base::fault::Fault;
 use base::geometry::Geometry;
 use base::key::Key;
 use base::row::Row;
+use std::alloc::Global;
+use std::fmt::Display;
+use std::process::Abort;
 use std::test::Fail;
+
+fn assert_text(
+    rt: &impl Abort,
+    alloc: Global,
+    shown: &impl Display,
+    want: &str,
+) -> Result<(), Fail> {
+    let text = format!(in alloc; "{shown}")?;
+    assert!(rt; text.as_str() == want);
+    Ok(())
+}
 
 #[test]
 fn faults_are_told_by_name_and_by_sentence(rt: HostRuntime) -> Result<(), Fail> {
     let fault = Fault::Damaged(3);
-    let name = fault.text();
-    let text = format!(in rt.alloc(); "{name}")?;
-    let sentence = format!(in rt.alloc(); "{fault}")?;
-    assert!(rt; text.as_str() == "Damaged 3");
-    assert!(rt;
-        sentence.as_str()
-            == "the image is damaged at place or slot 3: take a copy of it from before"
-    );
-    Ok(())
+    assert_text(&rt, rt.alloc(), &fault.text(), "Damaged 3")?;
+    assert_text(
+        &rt,
+        rt.alloc(),
+        &fault,
+        "the image is damaged at place or slot 3: take a copy of it from before",
+    )
 }
 
 #[test]

@@ -1,5 +1,5 @@
 //! Walks over links that form a ring, and over one that leads to another key.
-use crate::fixture::fresh_words;
+use crate::fixture::changed_words;
 use base::fault::Fault;
 use base::geometry::Geometry;
 use base::key::Key;
@@ -36,18 +36,21 @@ fn walked(
 }
 
 // Slot 0 was freed and taken again, so that its version, of commit 3, and that of commit 2 in slot 1 name each other.
+const RING: &[(usize, u64)] = &[
+    (72, 3),
+    (74, 7),
+    (75, 8_590_000_129),
+    (76, 3),
+    (80, 2),
+    (81, 3),
+    (82, 7),
+    (83, 4_295_032_833),
+    (84, 2),
+];
+
 #[test]
 fn ring_of_links_ends(rt: HostRuntime) -> Result<(), Fault> {
-    let mut words = fresh_words();
-    words[72] = 3;
-    words[74] = 7;
-    words[75] = 8_590_000_129;
-    words[76] = 3;
-    words[80] = 2;
-    words[81] = 3;
-    words[82] = 7;
-    words[83] = 4_295_032_833;
-    words[84] = 2;
+    let words = changed_words(RING);
     for (persisted, row) in [(3, Some(3)), (2, Some(2)), (1, None)] {
         assert_eq!(rt; walked(rt.alloc(), &words, 0, persisted)?, row);
     }
@@ -55,17 +58,20 @@ fn ring_of_links_ends(rt: HostRuntime) -> Result<(), Fault> {
 }
 
 // Slot 0 was freed and taken for key 8.
+const OTHER_KEY: &[(usize, u64)] = &[
+    (72, 3),
+    (74, 8),
+    (75, 65_537),
+    (76, 3),
+    (80, 2),
+    (82, 7),
+    (83, 4_295_032_833),
+    (84, 2),
+];
+
 #[test]
 fn link_to_another_key_is_not_followed(rt: HostRuntime) -> Result<(), Fault> {
-    let mut words = fresh_words();
-    words[72] = 3;
-    words[74] = 8;
-    words[75] = 65_537;
-    words[76] = 3;
-    words[80] = 2;
-    words[82] = 7;
-    words[83] = 4_295_032_833;
-    words[84] = 2;
+    let words = changed_words(OTHER_KEY);
     for (persisted, row) in [(3, Some(2)), (0, None)] {
         assert_eq!(rt; walked(rt.alloc(), &words, 1, persisted)?, row);
     }

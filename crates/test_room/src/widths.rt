@@ -1,12 +1,12 @@
 //! Rows in slots of one line and of two.
 use crate::counts::operations;
-use crate::fixture::{formatted, opened, step};
+use crate::fixture::{assert_note, formatted, leave, opened, restarted, step};
 use base::fault::Fault;
 use base::geometry::Geometry;
 use base::key::Key;
 use base::row::Row;
 use base::step::{Note, Step};
-use pmem_model::{Choice, SimPmem};
+use pmem_model::SimPmem;
 use room::Room;
 use std::alloc::Global;
 use std::process::Abort;
@@ -33,26 +33,30 @@ fn get(key: u64) -> Step {
     }
 }
 
-// A room of a fresh device, in which session 2 was begun.
+// A room of this device, in which session 2 was begun.
 fn begun<R: Threads + Sync + Abort>(
     rt: &R,
     alloc: Global,
-    geometry: Geometry,
+    device: SimPmem,
 ) -> Result<Room<SimPmem>, Fault> {
-    let mut room = opened(
-        rt,
-        alloc,
-        formatted(alloc, geometry)?.crash(&Choice::Oldest)?,
-    )?;
-    assert!(rt; step(&mut room, BEGIN) == Note::Began(2));
+    let mut room = opened(rt, alloc, restarted(device)?)?;
+    assert_note(rt, &mut room, BEGIN, Note::Began(2));
     Ok(room)
+}
+
+fn assert_refused(rt: &impl Abort, room: &mut Room<SimPmem>, made: Step, fault: Fault) {
+    assert_note(rt, room, made, Note::Refused(fault));
+}
+
+fn assert_drawn(rt: &impl Abort, room: &mut Room<SimPmem>) {
+    assert!(rt; matches!(step(room, DRAW), Note::Drawn(_)));
 }
 
 // Inserts or updates key 7, and how many ticks the cycle of its commit takes.
 fn ticks_of(rt: &impl Abort, room: &mut Room<SimPmem>, row: Row) -> u64 {
-    assert!(rt; step(room, put(7, row)) == Note::Done);
-    assert!(rt; matches!(step(room, DRAW), Note::Drawn(_)));
-    assert!(rt; step(room, STAMP) == Note::Stamped);
+    assert_note(rt, room, put(7, row), Note::Done);
+    assert_drawn(rt, room);
+    assert_note(rt, room, STAMP, Note::Stamped);
     for ticks in 1..100 {
         if matches!(step(room, Step::Commit), Note::Covered(_)) {
             return ticks;
@@ -61,38 +65,63 @@ fn ticks_of(rt: &impl Abort, room: &mut Room<SimPmem>, row: Row) -> u64 {
     0
 }
 
-#[test]
-fn rows_above_32_bytes_are_too_long_for_one_line(rt: HostRuntime) -> Result<(), Fault> {
+// In slots of one line a row of 33 bytes is refused for its length before its session is full.
+fn assert_too_long(rt: &impl Abort, room: &mut Room<SimPmem>) -> Result<(), Fault> {
     let longer = Row::new(&[5; 33])?;
-    let mut room = begun(&rt, rt.alloc(), Geometry::new(40, 2, 8)?)?;
+    let longest = Row::new(&[5; 32])?;
     for key in 0..32 {
-        assert!(rt; step(&mut room, put(key, longer)) == Note::Refused(Fault::TooLong));
-        assert!(rt; step(&mut room, put(key, Row::new(&[5; 32])?)) == Note::Done);
+        assert_refused(rt, room, put(key, longer), Fault::TooLong);
+        assert_note(rt, room, put(key, longest), Note::Done);
     }
-    assert!(rt; step(&mut room, put(32, longer)) == Note::Refused(Fault::TooLong));
-    assert!(rt; step(&mut room, put(32, Row::new(&[5])?)) == Note::Refused(Fault::WriteSetFull));
-    assert!(rt; matches!(step(&mut room, DRAW), Note::Drawn(_)));
-    assert!(rt; step(&mut room, put(0, longer)) == Note::Refused(Fault::WrongState));
+    assert_refused(rt, room, put(32, longer), Fault::TooLong);
+    assert_refused(rt, room, put(32, Row::new(&[5])?), Fault::WriteSetFull);
+    assert_drawn(rt, room);
+    assert_refused(rt, room, put(0, longer), Fault::WrongState);
     Ok(())
 }
 
 #[test]
+fn rows_above_32_bytes_are_too_long_for_one_line(rt: HostRuntime) -> Result<(), Fault> {
+    let device = formatted(rt.alloc(), Geometry::new(40, 2, 8)?)?;
+    let mut room = begun(&rt, rt.alloc(), device)?;
+    let refused = assert_too_long(&rt, &mut room);
+    leave(room);
+    refused
+}
+
+#[test]
 fn put_of_two_lines_makes_18_operations(rt: HostRuntime) -> Result<(), Fault> {
-    let mut room = begun(&rt, rt.alloc(), Geometry::wide(4, 2, 8)?)?;
-    assert!(rt; step(&mut room, put(7, Row::new(&[5; 96])?)) == Note::Done);
+    let row = Row::new(&[5; 96])?;
+    let device = formatted(rt.alloc(), Geometry::wide(4, 2, 8)?)?;
+    let mut room = begun(&rt, rt.alloc(), device)?;
+    assert_note(&rt, &mut room, put(7, row), Note::Done);
     // An opening makes 39.
     assert_eq!(rt; operations(&room.into_device()), 57);
     Ok(())
 }
 
+// A room of the device, in which key 7 gets a row by a cycle of so many ticks. What is left.
+fn after_cycle<R: Threads + Sync + Abort>(
+    rt: &R,
+    alloc: Global,
+    device: SimPmem,
+    row: Row,
+    ticks: u64,
+) -> Result<SimPmem, Fault> {
+    let mut room = begun(rt, alloc, device)?;
+    assert_eq!(rt; ticks_of(rt, &mut room, row), ticks);
+    Ok(room.into_device())
+}
+
 #[test]
 fn cycle_of_two_lines_keeps_both(rt: HostRuntime) -> Result<(), Fault> {
     let row = Row::new(&[5; 96])?;
-    let mut room = begun(&rt, rt.alloc(), Geometry::wide(4, 2, 8)?)?;
-    assert_eq!(rt; ticks_of(&rt, &mut room, row), 43);
-    let mut room = opened(&rt, rt.alloc(), room.into_device().crash(&Choice::Oldest)?)?;
-    assert!(rt; step(&mut room, BEGIN) == Note::Began(2));
-    assert!(rt; step(&mut room, get(7)) == Note::Row(Some(row)));
-    assert_eq!(rt; ticks_of(&rt, &mut room, Row::new(&[6; 40])?), 44);
+    let shorter = Row::new(&[6; 40])?;
+    let device = formatted(rt.alloc(), Geometry::wide(4, 2, 8)?)?;
+    let device = after_cycle(&rt, rt.alloc(), device, row, 43)?;
+    let mut room = begun(&rt, rt.alloc(), device)?;
+    assert_note(&rt, &mut room, get(7), Note::Row(Some(row)));
+    assert_eq!(rt; ticks_of(&rt, &mut room, shorter), 44);
+    leave(room);
     Ok(())
 }
